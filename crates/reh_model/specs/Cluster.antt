@@ -1,0 +1,48 @@
+-- The cluster: who is registered, the ledgers, which entries each bookie holds, tasks, locks and the clock.
+use Rattle.std.specs.Prelude.{ℕ, Bool, ◌==◌, List, Option, position}
+use Rattle.std.specs.List.{find}
+use Rattle.std.specs.Option.{option_and_then}
+use Rattle.std.specs.Str.{bytes_eq}
+use Rattle.reh_types.specs.Sets as set
+use Rattle.reh_types.specs.Sets.{Set, numbers}
+use Rattle.reh_model.specs.Contents.{Contents}
+use Rattle.reh_model.specs.Metadata.{Metadata}
+
+-- who works at a ledger's task, and from when a fence is due, if that is set
+pub record Lock : Type 0 where
+  pub owner : ℕ
+  pub due : Option ℕ
+
+-- a ledger: its metadata, the bookies that its task is to replace, if it has one, and the task's lock, if it is locked
+pub record Ledger : Type 0 where
+  pub id : ℕ
+  pub metadata : Metadata
+  pub task : Option (Set numbers)
+  pub lock : Option Lock
+
+-- bookies go by their place in the list of names, ledgers by their ids, in the picture's order
+pub record Cluster : Type 0 where
+  pub names : List (List ℕ)
+  pub grace : ℕ
+  -- the registered bookies
+  pub up : Set numbers
+  pub ledgers : List Ledger
+  -- what the bookies hold, registered or not
+  pub held : Contents
+  pub clock : ℕ
+
+-- whether the bookie is registered
+abbrev pub is_up : Cluster → ℕ → Bool
+is_up s bookie = set.contains s.up bookie
+
+-- the bookie of that name
+abbrev pub bookie_named : List (List ℕ) → List ℕ → Option ℕ
+bookie_named names name = position (bytes_eq name) names
+
+-- the ledger of that id
+abbrev pub ledger_at : Cluster → ℕ → Option Ledger
+ledger_at s l = find (λ g. g.id == l) s.ledgers
+
+-- when a fence of the ledger is due, if that is set
+abbrev pub due_of : Ledger → Option ℕ
+due_of g = option_and_then (λ lock. lock.due) g.lock

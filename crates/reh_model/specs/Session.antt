@@ -1,0 +1,97 @@
+-- A session: the surviving events over an opening cluster, and those undone.
+use Rattle.std.specs.Prelude.{◌≡◌, ◌-◌, Bool, true, false, ◌==◌, nat_le, List, [], ◌∷◌, ◌++◌, length, take, drop, Option, None, Some, unwrap_or, Result, Ok, Err}
+use Rattle.std.specs.Bool.{MatchBool}
+use Rattle.reh_types.specs.declared.moves.Event.{Event}
+use Rattle.reh_types.specs.declared.moves.Move.{Move}
+use Rattle.reh_types.specs.declared.moves.Move.TheVariants.{Do, Undo, Redo, Look}
+use Rattle.reh_types.specs.declared.moves.Reply.{Reply}
+use Rattle.reh_types.specs.declared.moves.Reply.TheVariants.{Done, Clock, Refused}
+use Rattle.reh_types.specs.declared.refusals.Refusal.{Refusal}
+use Rattle.reh_types.specs.declared.refusals.Refusal.TheVariants.{NoBookie, AlreadyDown, AlreadyUp, BadTick, ClockEnd, NothingToUndo, NothingToRedo, Full, NoMemory}
+use Rattle.reh_model.specs.Cluster.{Cluster}
+use Rattle.reh_model.specs.Refusals.{first_refusal, refuse_if}
+use Rattle.reh_model.specs.Step.{refusal_of, after}
+
+-- Replays
+
+-- nothing, where there is a refusal
+abbrev pub unless : {A : Type 0} → Option Refusal → Option A → Option A
+unless None result = result
+unless (Some refusal) result = None
+
+-- the cluster after a list of events, if each is accepted in its place
+abbrev pub replay : Cluster → List Event → Option Cluster
+replay s [] = Some s
+replay s (event ∷ events) = unless (refusal_of s event) (replay (after s event) events)
+
+-- Sessions
+
+-- the opening cluster, the surviving events, oldest first, and the undone ones, first what is redone next
+pub record Session : Type 0 where
+  pub opening : Cluster
+  pub done : List Event
+  pub undone : List Event
+
+-- a session with no event yet
+abbrev pub opened : Cluster → Session
+opened s = record { opening = s; done = []; undone = [] }
+
+-- the state of a session: its surviving events, replayed from the opening cluster
+abbrev pub state_of : Session → Cluster
+state_of m = unwrap_or (replay m.opening m.done) m.opening
+
+-- Moves
+
+-- done, unless there is a refusal
+abbrev pub done_unless : Option Refusal → Reply
+done_unless None = Done
+done_unless (Some refusal) = Refused refusal
+
+-- no more events can survive
+abbrev pub full : Session → Option Refusal
+full m = refuse_if (nat_le 100_000 (length m.done)) Full
+
+-- the reply to a move
+abbrev pub reply_to : Session → Move → Reply
+reply_to m (Do event) = done_unless (first_refusal (refusal_of (state_of m) event ∷ full m ∷ []))
+reply_to m Undo = done_unless (refuse_if (length m.done == 0) NothingToUndo)
+reply_to m Redo = done_unless (refuse_if (length m.undone == 0) NothingToRedo)
+reply_to m Look = Clock (state_of m).clock
+
+-- what a move that is done makes of a session: a new event survives and none is undone any more; undo and redo move one event across
+abbrev pub moved : Session → Move → Session
+moved m (Do event) = record m { done = m.done ++ event ∷ []; undone = [] }
+moved m Undo = record m { done = take (length m.done - 1) m.done; undone = drop (length m.done - 1) m.done ++ m.undone }
+moved m Redo = record m { done = m.done ++ take 1 m.undone; undone = drop 1 m.undone }
+moved m Look = m
+
+-- the session after a move and its reply
+abbrev pub session_after : Session → Move → Reply → Session
+session_after m move Done = moved m move
+session_after m move (Clock clock) = m
+session_after m move (Refused refusal) = m
+
+-- Replies that may want memory
+
+-- whether a reply says that there is no memory
+abbrev pub is_no_memory : Reply → Bool
+is_no_memory Done = false
+is_no_memory (Clock clock) = false
+is_no_memory (Refused NoMemory) = true
+is_no_memory (Refused refusal) = false
+
+-- From m a move has this reply, and leaves n: it is the reply above; or, where that is Done, that there is no memory, and nothing changes.
+abbrev pub Answers : Session → Move → Reply → Session → Type 0
+Answers m move reply n = MatchBool (is_no_memory reply) ((reply_to m move ≡ Done) × (n ≡ m)) ((reply ≡ reply_to m move) × (n ≡ session_after m move reply))
+
+-- moves and replies, paired in order, from m to n
+abbrev pub Run : Session → List Move → List Reply → Session → Type 0
+Run m [] [] n = n ≡ m
+Run m (move ∷ moves) (reply ∷ replies) n = (mid : Session) × Answers m move reply mid × Run mid moves replies n
+Run m [] (reply ∷ replies) n = ⊥
+Run m (move ∷ moves) [] n = ⊥
+
+-- a call's result as the reply to its move
+abbrev pub reply_of : Result (Unit {0}) Refusal → Reply
+reply_of (Ok done) = Done
+reply_of (Err refusal) = Refused refusal
