@@ -1,2 +1,4 @@
 pub mod Ranges
 pub mod StripingLaws
+pub mod SessionLaws
+pub mod Examples
