@@ -1,0 +1,4 @@
+pub mod Numbers
+pub mod LinesLemmas
+pub mod Reports
+pub mod Cuts
