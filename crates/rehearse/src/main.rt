@@ -2,6 +2,7 @@
 #![tactic(auto)]
 
 mod inputs;
+mod plays;
 mod scripts;
 mod streams;
 mod texts;
