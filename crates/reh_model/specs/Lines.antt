@@ -44,10 +44,10 @@ cut_of input = cut_or (after_percent input) (cut_inside input)
 abbrev pub is_script : List ℕ → Bool
 is_script script = nat_le (length script) 1_048_576
 
--- how many lines end within the first bytes that a script can have
-abbrev pub ended_lines : List ℕ → ℕ
-ended_lines script = count_by (λ b. b == 10) (take 1_048_576 script)
+-- the lines of a text that end in it: as many as it has LF
+abbrev pub ended_lines : List ℕ → List (List ℕ)
+ended_lines text = take (count_by (λ b. b == 10) text) (lines_of text)
 
--- the lines that are answered: all, or of a script that is too long those that end in time
-abbrev pub answered_lines : List ℕ → List (List ℕ)
-answered_lines script = if is_script script then lines_of script else take (ended_lines script) (lines_of (take 1_048_576 script))
+-- the lines that are answered: all, or of a script that is too long those that end among its first 1,048,576 bytes
+unfoldable pub answered_lines : List ℕ → List (List ℕ)
+answered_lines script = if is_script script then lines_of script else ended_lines (take 1_048_576 script)

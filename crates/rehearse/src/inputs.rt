@@ -1,5 +1,5 @@
 // The input: a picture, a line `%` and a script.
-ghost use Rattle.std.specs.Prelude.{◌≡◌, ◌==◌, ◌<◌, ◌∷◌, length, take, count_by, position, option_map};
+ghost use Rattle.std.specs.Prelude.{◌≡◌, ◌==◌, ◌<◌, ◌≤◌, ◌∷◌, length, take, count_by, position, option_map};
 ghost use Rattle.reh_model.specs.Lines.{lines_of, cut_of, after_end as follows_end, after_percent as follows_percent};
 
 /// The first line of a text, without its LF, and what follows.
@@ -19,6 +19,14 @@ fn first_lf(text: &[u8]) -> Option<usize>
     ensures { result ≡ position (λ b. b == 10) text.now }
 {
     text.iter().position(|b| *b == b'\n')
+}
+
+/// The first bytes of a text, so many.
+pub fn front(text: &[u8], count: usize) -> &[u8]
+    requires { count ≤ length text.now }
+    ensures { result.now ≡ take count text.now }
+{
+    &text[..count]
 }
 
 /// How many LF a text has.
