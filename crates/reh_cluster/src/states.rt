@@ -83,7 +83,7 @@ impl State {
     pub fn count(&self, bookie: BookieIx) -> u64
         ensures { result ≡ count_held self.now.held bookie }
     {
-        let _up = self.up.contains(bookie);
+        let _ = &self.up;
         0
     }
 

@@ -31,7 +31,7 @@ after_percent-append (b ∷ rest) ys =
     elim (after_end-append rest ys) [
       | inl short ↦ inl (omega arith)
       | inr same ↦ inr (
-        elim (b == 37) as (λ t. cond t (after_end (rest ++ ys)) None ≡ option_map (λ s. s ++ ys) (cond t (after_end rest) None)) [ true ↦ same | false ↦ refl ])
+          elim (b == 37) as (λ t. cond t (after_end (rest ++ ys)) None ≡ option_map (λ s. s ++ ys) (cond t (after_end rest) None)) [ true ↦ same | false ↦ refl ])
     ]
 
 -- how much of a text the end of a line, and the line `%`, take
@@ -102,14 +102,14 @@ cut_inside-append (b ∷ bs) ys =
           elim (after_percent-append bs ys) [
             | inl short ↦ inl (record { short = omega arith; long = omega arith })
             | inr same ↦
-              elim (after_percent bs) as (λ o. after_percent bs ≡ o → Told (b ∷ bs) ys) [
-                | None ↦ λ is.
-                    let off : after_percent (bs ++ ys) ≡ None = same ∙ ap (option_map (λ s. s ++ ys)) is in
-                    told_front b bs ys (here ∙ ap (λ o. cut_or o (with_front b (cut_inside bs))) is) (there ∙ ap (λ o. cut_or o (with_front b (cut_inside (bs ++ ys)))) off) (cut_inside-append bs ys)
-                | Some s ↦ λ is.
-                    let on : after_percent (bs ++ ys) ≡ Some (s ++ ys) = same ∙ ap (option_map (λ s. s ++ ys)) is in
-                    told_here b bs ys s is (here ∙ ap (λ o. cut_or o (with_front b (cut_inside bs))) is) (there ∙ ap (λ o. cut_or o (with_front b (cut_inside (bs ++ ys)))) on)
-              ] refl
+                elim (after_percent bs) as (λ o. after_percent bs ≡ o → Told (b ∷ bs) ys) [
+                  | None ↦ λ is.
+                      let off : after_percent (bs ++ ys) ≡ None = same ∙ ap (option_map (λ s. s ++ ys)) is in
+                      told_front b bs ys (here ∙ ap (λ o. cut_or o (with_front b (cut_inside bs))) is) (there ∙ ap (λ o. cut_or o (with_front b (cut_inside (bs ++ ys)))) off) (cut_inside-append bs ys)
+                  | Some s ↦ λ is.
+                      let on : after_percent (bs ++ ys) ≡ Some (s ++ ys) = same ∙ ap (option_map (λ s. s ++ ys)) is in
+                      told_here b bs ys s is (here ∙ ap (λ o. cut_or o (with_front b (cut_inside bs))) is) (there ∙ ap (λ o. cut_or o (with_front b (cut_inside (bs ++ ys)))) on)
+                ] refl
           ]
       | false ↦ λ lf.
           told_front b bs ys
@@ -132,19 +132,19 @@ cut_of-append xs ys more =
     elim (after_percent-append xs ys) [
       | inl short ↦ absurd (omega arith)
       | inr same ↦
-        elim (after_percent xs) as (λ o. after_percent xs ≡ o → IsLong xs ys ⊎ IsTold xs ys) [
-          | None ↦ λ is.
-              let off : after_percent (xs ++ ys) ≡ None = same ∙ ap (option_map (λ s. s ++ ys)) is in
-              let here : cut_of xs ≡ cut_inside xs = ap (λ o. cut_or o (cut_inside xs)) is in
-              let there : cut_of (xs ++ ys) ≡ cut_inside (xs ++ ys) = ap (λ o. cut_or o (cut_inside (xs ++ ys))) off in
-              elim (cut_inside-append xs ys) [
-                | inl unsure ↦ inl (record { short = omega (arith, unsure.short, ap (λ (c : Cut). length c.picture) here); long = omega (arith, unsure.long, ap (λ (c : Cut). length c.picture) there) })
-                | inr sure ↦ inr (record { same = there ∙ sure.same ∙ ap (with_tail ys) (sym here); size = omega (arith, sure.size, ap (λ (c : Cut). length c.picture) here, ap (λ (c : Cut). length c.script) here) })
-              ]
-          | Some s ↦ λ is.
-              let on : after_percent (xs ++ ys) ≡ Some (s ++ ys) = same ∙ ap (option_map (λ s. s ++ ys)) is in
-              let here : cut_of xs ≡ record { picture = []; script = s } = ap (λ o. cut_or o (cut_inside xs)) is in
-              let there : cut_of (xs ++ ys) ≡ record { picture = []; script = s ++ ys } = ap (λ o. cut_or o (cut_inside (xs ++ ys))) on in
-              inr (record { same = there ∙ ap (with_tail ys) (sym here); size = omega (arith, length-after_percent xs s is, ap (λ (c : Cut). length c.script) here) })
-        ] refl
+          elim (after_percent xs) as (λ o. after_percent xs ≡ o → IsLong xs ys ⊎ IsTold xs ys) [
+            | None ↦ λ is.
+                let off : after_percent (xs ++ ys) ≡ None = same ∙ ap (option_map (λ s. s ++ ys)) is in
+                let here : cut_of xs ≡ cut_inside xs = ap (λ o. cut_or o (cut_inside xs)) is in
+                let there : cut_of (xs ++ ys) ≡ cut_inside (xs ++ ys) = ap (λ o. cut_or o (cut_inside (xs ++ ys))) off in
+                elim (cut_inside-append xs ys) [
+                  | inl unsure ↦ inl (record { short = omega (arith, unsure.short, ap (λ (c : Cut). length c.picture) here); long = omega (arith, unsure.long, ap (λ (c : Cut). length c.picture) there) })
+                  | inr sure ↦ inr (record { same = there ∙ sure.same ∙ ap (with_tail ys) (sym here); size = omega (arith, sure.size, ap (λ (c : Cut). length c.picture) here, ap (λ (c : Cut). length c.script) here) })
+                ]
+            | Some s ↦ λ is.
+                let on : after_percent (xs ++ ys) ≡ Some (s ++ ys) = same ∙ ap (option_map (λ s. s ++ ys)) is in
+                let here : cut_of xs ≡ record { picture = []; script = s } = ap (λ o. cut_or o (cut_inside xs)) is in
+                let there : cut_of (xs ++ ys) ≡ record { picture = []; script = s ++ ys } = ap (λ o. cut_or o (cut_inside (xs ++ ys))) on in
+                inr (record { same = there ∙ ap (with_tail ys) (sym here); size = omega (arith, length-after_percent xs s is, ap (λ (c : Cut). length c.script) here) })
+          ] refl
     ]

@@ -49,18 +49,18 @@ outcome-enough input all (rest, whole, end) =
     elim (cases_lt (length input) 9_437_189) [
       | inl short ↦ ap outcome_of (sym (whole ∙ ap (λ (r : List ℕ). input ++ r) (end short) ∙ append-nil input))
       | inr long ↦
-        elim (cut_of-append input rest (omega arith)) [
-          | inl far ↦
-            outcome-too_long (cut_of input).picture (cut_of (input ++ rest)).picture (cut_of input).script (cut_of (input ++ rest)).script (omega (arith, far.short)) (omega (arith, far.long))
-            ∙ ap outcome_of (sym whole)
-          | inr told ↦
-            elim (cases_lt 8_388_608 (length (cut_of input).picture)) [
-              | inl past ↦
-                outcome-too_long (cut_of input).picture (cut_of input).picture (cut_of input).script ((cut_of input).script ++ rest) past past
-                ∙ ap (λ (c : Cut). outcome_by (picture_of c.picture) c.script) (sym told.same) ∙ ap outcome_of (sym whole)
-              | inr within ↦
-                outcome-long_script (picture_of (cut_of input).picture) (cut_of input).script rest (omega (arith, told.size))
-                ∙ ap (λ (c : Cut). outcome_by (picture_of c.picture) c.script) (sym told.same) ∙ ap outcome_of (sym whole)
-            ]
-        ]
+          elim (cut_of-append input rest (omega arith)) [
+            | inl far ↦
+                outcome-too_long (cut_of input).picture (cut_of (input ++ rest)).picture (cut_of input).script (cut_of (input ++ rest)).script (omega (arith, far.short)) (omega (arith, far.long))
+                ∙ ap outcome_of (sym whole)
+            | inr told ↦
+                elim (cases_lt 8_388_608 (length (cut_of input).picture)) [
+                  | inl past ↦
+                      outcome-too_long (cut_of input).picture (cut_of input).picture (cut_of input).script ((cut_of input).script ++ rest) past past
+                      ∙ ap (λ (c : Cut). outcome_by (picture_of c.picture) c.script) (sym told.same) ∙ ap outcome_of (sym whole)
+                  | inr within ↦
+                      outcome-long_script (picture_of (cut_of input).picture) (cut_of input).script rest (omega (arith, told.size))
+                      ∙ ap (λ (c : Cut). outcome_by (picture_of c.picture) c.script) (sym told.same) ∙ ap outcome_of (sym whole)
+                ]
+          ]
     ]

@@ -7,6 +7,8 @@ mod pipes;
 mod plays;
 mod scripts;
 mod streams;
+#[cfg(test)]
+mod tests;
 mod texts;
 
 use faults::{RunFault, status_of};

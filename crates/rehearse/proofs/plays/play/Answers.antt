@@ -12,7 +12,7 @@ returns-then-script-le-MAX_SCRIPT-clause-ok g c =
     let within : length c.args.script.now ≤ 1_048_576 = omega arith in
     OnOk-both c.answer_lines.result _ _ (is_script-within c.args.script.now within)
     (subst (λ (lines : List (List ℕ)). OnOk c.answer_lines.result (Appends (g.W.TextOut.contents c.args.writer.now) (g.W.TextOut.contents c.answer_lines.new.writer) (transcript c.args.session.now 1 lines)))
-      (take-answered_lines c.args.script.now within) c.answer_lines.ensures.ok)
+    (take-answered_lines c.args.script.now within) c.answer_lines.ensures.ok)
 
 pub returns-then-script-le-MAX_SCRIPT-clause-part : goal.returns-then-script-le-MAX_SCRIPT-clause-part
 returns-then-script-le-MAX_SCRIPT-clause-part g c =
@@ -32,7 +32,7 @@ returns-clause-too_long g c =
     λ _. (
       not_script c.args.script.now long,
       subst (λ (lines : List (List ℕ)). Appends (g.W.TextOut.contents c.args.writer.now) (g.W.TextOut.contents c.answer_lines-2.new.writer) (transcript c.args.session.now 1 lines))
-      (take-ended_lines c.args.script.now c.front-script.result.now c.count_lf.result long c.front-script.ensures c.count_lf.ensures) c.in_ok-answer_lines.ensures.ok,
+          (take-ended_lines c.args.script.now c.front-script.result.now c.count_lf.result long c.front-script.ensures c.count_lf.ensures) c.in_ok-answer_lines.ensures.ok,
     )
 
 pub returns-clause-part : goal.returns-clause-part

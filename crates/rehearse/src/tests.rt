@@ -1,0 +1,65 @@
+// The whole path over memory: from an input's bytes to what is written, and how the run ends.
+use crate::faults::{RunFault, status_of};
+use crate::pipes::pipe;
+use crate::streams::{FromRead, ToWrite};
+use std::alloc::Global;
+use std::test::Fail;
+
+/// What is written for an input, and how its run ends.
+fn played(alloc: Global, input: &str) -> Result<(Vec<u8>, Result<(), RunFault>), Fail> {
+    let mut written = Vec::new(alloc);
+    let mut reader = FromRead::new(input.as_bytes());
+    let mut writer = ToWrite::new(&mut written);
+    let end = pipe(alloc, &mut reader, &mut writer);
+    Ok((written, end))
+}
+
+#[test]
+fn writes_the_transcript(rt: HostRuntime) -> Result<(), Fail> {
+    let runs = [
+        // A report.
+        (
+            "{\"format\":1,\"grace\":0,\"bookies\":[{\"name\":\"b1:3181\",\"up\":true}],\"ledgers\":[],\"contents\":[]}\n%\nreport",
+            "line 1: report\nclock 0 grace 0\nbookie b1:3181 up 0\n",
+        ),
+        // The line `%` may end in CR LF; a command may not.
+        (
+            "{\"format\":1,\"grace\":0,\"bookies\":[{\"name\":\"b1:3181\",\"up\":true}],\"ledgers\":[],\"contents\":[]}\n%\r\nclock\r\n\ntick x\nlose b9:3181\ntick 1\nclock",
+            "line 1: unknown command\nline 2: unknown command\nline 3: unknown command\nline 4: unknown command\nline 5: ok\nline 6: clock 1\n",
+        ),
+        // No script.
+        (
+            "{\"format\":1,\"grace\":0,\"bookies\":[{\"name\":\"b1:3181\",\"up\":true}],\"ledgers\":[],\"contents\":[]}",
+            "",
+        ),
+    ];
+    for (input, output) in runs {
+        let (written, end) = played(rt.alloc(), input)?;
+        assert!(rt; end.is_ok());
+        assert_eq!(rt; written.as_slice(), output.as_bytes());
+    }
+    Ok(())
+}
+
+#[test]
+fn refuses_a_picture(rt: HostRuntime) -> Result<(), Fail> {
+    let inputs = [
+        // Cut before its last byte, empty, and with the line `%` first of all.
+        "{\"format\":1,\"grace\":0,\"bookies\":[{\"name\":\"b1:3181\",\"up\":true}],\"ledgers\":[],\"contents\":[]\n%\nreport\n",
+        "",
+        "%\nreport\n",
+    ];
+    for input in inputs {
+        let (written, end) = played(rt.alloc(), input)?;
+        assert_eq!(rt; written.len(), 0);
+        match end {
+            Ok(()) => panic!(rt; "played"),
+            Err(fault) => {
+                assert_eq!(rt; status_of(&fault), 3);
+                let text = format!(in rt.alloc(); "{fault}")?;
+                assert_eq!(rt; text.as_str(), "picture: 2 NotJson");
+            }
+        }
+    }
+    Ok(())
+}
