@@ -1,3 +1,5 @@
 pub mod Ranges
 pub mod StripingLaws
 pub mod MetadataLaws
+pub mod WriteSetLaws
+pub mod ContentsLaws

@@ -1,12 +1,11 @@
 -- The rules of metadata: as tests, and as what holds of well-formed metadata.
-use Rattle.std.proofs.Common.{◌≡◌, ℕ, zero, suc, ◌+◌, ◌^◌, ◌<◌, ◌≤◌, Bool, true, false, not, unwrap_or, get_or, ◌&&◌, List, [], ◌∷◌, map, drop, length, Option, None, Some, nat_eq, nat_lt, nat_le, ◌||◌, All, refl, sym, ap, ◌∙◌, arith}
+use Rattle.std.proofs.Common.{◌≡◌, ℕ, zero, suc, ◌+◌, ◌^◌, ◌<◌, ◌≤◌, Bool, true, false, not, unwrap_or, get_or, ◌&&◌, List, [], ◌∷◌, map, length, Option, None, Some, nat_eq, nat_lt, nat_le, ◌||◌, All, refl, sym, ap, ◌∙◌, arith}
 use Rattle.std.specs.Prelude.{◌==◌, slice_get, slice_index}
-use Rattle.std.specs.List.{list_any, list_all, zip, IsDistinct, AllByRecursion}
+use Rattle.std.specs.List.{list_any, list_all, IsDistinct, AllByRecursion}
 use Rattle.std.specs.List.Sorted.{IsStrictlyIncreasing}
-use Rattle.std.specs.Option.{ForSome, option_map, option_map_or}
+use Rattle.std.specs.Option.{ForSome, option_map_or}
 use Rattle.std.proofs.lemmas.Bool.Decides.{nat_tests}
 use Rattle.std.proofs.lemmas.List.Sums.{AllPass-from_list_all, list_all-from_AllPass}
-use Rattle.reh_types.specs.declared.names.LedgerState.{LedgerState}
 use Rattle.reh_model.specs.Metadata.{Fragment, Metadata, IsMetadata, IsEnsemble, last_of, last_fragment, end_of_state, are_quorums, are_rising, rise_from_zero, are_different, is_ensemble, ends_within}
 
 -- both parts of a test that passes

@@ -1,11 +1,12 @@
 -- A ledger's metadata, with the words of BookKeeper's `LedgerMetadata` and of its documentation of the protocol: the ensemble size, the write
 -- quorum and the ack quorum, the state (OPEN, IN_RECOVERY or CLOSED), and the fragments, each with the ensemble that its entries were written to.
-use Rattle.std.specs.Prelude.{◌≡◌, ℕ, ◌+◌, ◌-◌, ◌^◌, ◌<◌, ◌≤◌, Bool, true, false, not, ◌&&◌, ◌==◌, nat_eq, nat_lt, nat_le, List, [], ◌∷◌, map, drop, length, Option, None, Some, unwrap_or, slice_get, All}
+use Rattle.std.specs.Prelude.{◌≡◌, ℕ, ◌+◌, ◌-◌, ◌^◌, ◌<◌, ◌≤◌, Bool, true, false, not, ◌&&◌, ◌==◌, nat_eq, nat_lt, nat_le, List, [], ◌∷◌, map, drop, length, Option, None, Some, unwrap_or, slice_get, slice_index, All}
 use Rattle.std.specs.List.{list_any, list_all, zip, IsDistinct}
 use Rattle.std.specs.List.Sorted.{IsStrictlyIncreasing}
 use Rattle.std.specs.Option.{ForSome, option_map, option_map_or, option_or}
 use Rattle.reh_types.specs.declared.names.LedgerState.{LedgerState}
 use Rattle.reh_types.specs.declared.names.LedgerState.TheVariants.{Open, InRecovery, Closed}
+use Rattle.reh_model.specs.Striping.{write_set}
 
 -- entries from the first one on, and the bookies that they were written to (BookKeeper: `getAllEnsembles`, by first entry)
 pub record Fragment : Type 0 where
@@ -43,6 +44,10 @@ last_of fragments = slice_get fragments (length fragments - 1)
 
 abbrev pub last_fragment : Metadata → Fragment
 last_fragment m = unwrap_or (last_of m.fragments) (record { first = 0; ensemble = [] })
+
+-- the members that an entry of the fragment was written to, in the order of their ranks
+abbrev pub writes : Metadata → Fragment → ℕ → List ℕ
+writes m fragment entry = map (λ i. slice_index fragment.ensemble i) (write_set entry m.size m.write_quorum)
 
 -- Rules, as tests
 
