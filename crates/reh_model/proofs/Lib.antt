@@ -3,3 +3,4 @@ pub mod StripingLaws
 pub mod MetadataLaws
 pub mod WriteSetLaws
 pub mod ContentsLaws
+pub mod StripedLaws

@@ -1,17 +1,22 @@
 -- Write sets: which members they name, and how many indexes carry an entry.
-use Rattle.std.proofs.Common.{◌≡◌, ◌≢◌, ℕ, zero, suc, ◌+◌, ◌-◌, ◌%◌, ◌<◌, ◌≤◌, Bool, true, false, cond, List, length, min, nat_lt, nat_eq, sym, ap, ◌∙◌, arith, inl, inr}
+use Rattle.std.proofs.Common.{◌≡◌, ◌≢◌, ℕ, zero, suc, ◌+◌, ◌-◌, ◌%◌, ◌<◌, ◌≤◌, Bool, true, false, cond, List, length, min, nat_lt, nat_eq, get_or, All, sym, ap, ◌∙◌, arith, inl, inr}
 use Rattle.std.specs.Prelude.{◌==◌, slice_index, count_by}
 use Rattle.std.specs.List.{list_any, range_with_len, IsDistinct}
 use Rattle.std.proofs.Math.Nat.{mod-eq_of_lt}
 use Rattle.std.proofs.lemmas.Nat.{mod_below}
 use Rattle.std.proofs.lemmas.Bool.{cases_lt}
 use Rattle.std.proofs.lemmas.Bool.Decides.{nat_tests, Decides-eqb}
+use Rattle.std.proofs.lemmas.List.Elements.{All-map}
 use Rattle.std.proofs.lemmas.List.Sums.{sum_by-cons}
 use Rattle.std.proofs.lemmas.Map.Made.{AllPairs-from_IsDistinct}
 use Rattle.reh_model.specs.Striping.{range, ranked, rank_of, is_striped, write_set}
 use Rattle.reh_model.specs.Metadata.{Fragment, Metadata, IsEnsemble, writes}
 use Rattle.reh_model.proofs.Ranges.{list_any-map, list_any-same}
 use Rattle.reh_model.proofs.StripingLaws.{is_striped-rank_of, is_striped-ranks, mod_wrap}
+
+-- the indexes of a write set are those of the ensemble's members
+pub write_set-below : (e n q : ℕ) → 1 ≤ n → All (λ i. i < n) (write_set e n q)
+write_set-below e n q some = All-map (λ i. i < n) (ranked e n) (range 0 q) (λ k d inside. mod_below (e + get_or (range 0 q) k d) n some)
 
 -- different places of a list of different numbers hold different numbers
 same_place : (xs : List ℕ) → IsDistinct nat_eq xs → (i j : ℕ) → i < length xs → j < length xs → (slice_index xs i == slice_index xs j) ≡ (i == j)

@@ -1,5 +1,4 @@
--- A ledger's metadata, with the words of BookKeeper's `LedgerMetadata` and of its documentation of the protocol: the ensemble size, the write
--- quorum and the ack quorum, the state (OPEN, IN_RECOVERY or CLOSED), and the fragments, each with the ensemble that its entries were written to.
+-- A ledger's metadata, in the words of BookKeeper's `LedgerMetadata` and of its page on the protocol.
 use Rattle.std.specs.Prelude.{◌≡◌, ℕ, ◌+◌, ◌-◌, ◌^◌, ◌<◌, ◌≤◌, Bool, true, false, not, ◌&&◌, ◌==◌, nat_eq, nat_lt, nat_le, List, [], ◌∷◌, map, drop, length, Option, None, Some, unwrap_or, slice_get, slice_index, All}
 use Rattle.std.specs.List.{list_any, list_all, zip, IsDistinct}
 use Rattle.std.specs.List.Sorted.{IsStrictlyIncreasing}
@@ -8,12 +7,12 @@ use Rattle.reh_types.specs.declared.names.LedgerState.{LedgerState}
 use Rattle.reh_types.specs.declared.names.LedgerState.TheVariants.{Open, InRecovery, Closed}
 use Rattle.reh_model.specs.Striping.{write_set}
 
--- entries from the first one on, and the bookies that they were written to (BookKeeper: `getAllEnsembles`, by first entry)
+-- entries from the first one on, and the ensemble that they were written to (`getAllEnsembles`: the ensembles by their first entries)
 pub record Fragment : Type 0 where
   pub first : ℕ
   pub ensemble : List ℕ
 
--- the sizes of ensemble, write quorum and ack quorum, and what changes over time
+-- the ensemble size, the write quorum and the ack quorum, and what changes over time
 pub record Metadata : Type 0 where
   pub size : ℕ
   pub write_quorum : ℕ
@@ -22,13 +21,13 @@ pub record Metadata : Type 0 where
   pub version : ℕ
   pub fragments : List Fragment
 
--- whether a writer may still append
+-- whether a writer may still append: OPEN, and no more IN_RECOVERY, which fences it off, or CLOSED
 abbrev pub is_open : LedgerState → Bool
 is_open Open = true
 is_open InRecovery = false
 is_open (Closed end) = false
 
--- where the entries of a ledger end, if it is closed
+-- where the entries of a ledger end, if it is closed: one past its last entry id (`getLastEntryId`)
 abbrev pub end_of_state : LedgerState → Option ℕ
 end_of_state Open = None
 end_of_state InRecovery = None
@@ -51,7 +50,7 @@ writes m fragment entry = map (λ i. slice_index fragment.ensemble i) (write_set
 
 -- Rules, as tests
 
--- 1 <= ack quorum <= write quorum <= ensemble size <= 16
+-- the protocol's order of the quorums, 1 <= ack quorum <= write quorum <= ensemble size, and a limit of 16
 abbrev pub are_quorums : ℕ → ℕ → ℕ → Bool
 are_quorums size write_quorum ack_quorum = nat_le 1 ack_quorum && nat_le ack_quorum write_quorum && nat_le write_quorum size && nat_le size 16
 
@@ -76,7 +75,7 @@ is_ensemble size ensemble = (length ensemble == size) && are_different ensemble
 abbrev pub ends_within : LedgerState → List Fragment → Bool
 ends_within state fragments = option_map_or (λ end. option_map_or (λ last. nat_le last.first end) (last_of fragments) true) (end_of_state state) true
 
--- Well-formed metadata: the rules, and the limits
+-- Well-formed metadata: what the rules say, within the limits
 
 pub record IsEnsemble (size : ℕ) (ensemble : List ℕ) : Type 0 where
   pub whole : length ensemble ≡ size
