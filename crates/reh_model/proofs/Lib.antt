@@ -4,3 +4,5 @@ pub mod MetadataLaws
 pub mod WriteSetLaws
 pub mod ContentsLaws
 pub mod StripedLaws
+pub mod SessionLaws
+pub mod Examples

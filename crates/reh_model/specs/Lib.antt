@@ -6,3 +6,7 @@ pub mod WellFormed
 pub mod Refusals
 pub mod Step
 pub mod Session
+pub mod Lines
+pub mod Script
+pub mod Texts
+pub mod Transcript

@@ -1,10 +1,12 @@
--- What is printed for refusals and replies.
+-- What is printed for refusals, replies and line faults.
 use Rattle.std.specs.Prelude.{ℕ, List, ◌++◌, codes}
 use Rattle.std.specs.Fmt.{decimal}
 use Rattle.reh_types.specs.declared.refusals.Refusal.{Refusal}
 use Rattle.reh_types.specs.declared.refusals.Refusal.TheVariants.{NoBookie, AlreadyDown, AlreadyUp, BadTick, ClockEnd, NothingToUndo, NothingToRedo, Full, NoMemory}
 use Rattle.reh_types.specs.declared.moves.Reply.{Reply}
 use Rattle.reh_types.specs.declared.moves.Reply.TheVariants.{Done, Clock, Refused}
+use Rattle.reh_types.specs.declared.commands.LineFault.{LineFault}
+use Rattle.reh_types.specs.declared.commands.LineFault.TheVariants.{UnknownCommand}
 
 -- the number of a refusal
 abbrev pub refusal_number : Refusal → ℕ
@@ -39,3 +41,7 @@ abbrev pub reply_text : Reply → List ℕ
 reply_text Done = codes "ok"
 reply_text (Clock c) = codes "clock " ++ decimal c
 reply_text (Refused r) = codes "refused " ++ refusal_text r
+
+-- a line that asks for nothing
+abbrev pub line_fault_text : LineFault → List ℕ
+line_fault_text UnknownCommand = codes "unknown command"

@@ -1,0 +1,6 @@
+use Rattle.std.proofs.Common.{arith, ap, length}
+use Rattle.reh_cluster.proofs.NamesLemmas.{IsNames-keys}
+use Rattle.reh_cluster.proofs.names.Names.new.Goals as goal
+
+pub invariant_of-result : goal.invariant_of-result
+invariant_of-result c = IsNames-keys c.new.result.keys (omega (arith, ap length c.new.ensures.empty)) c.new.ensures.unique

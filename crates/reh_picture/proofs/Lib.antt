@@ -1,0 +1,3 @@
+pub mod Jsons
+pub mod Lists
+pub mod BookiesLemmas

@@ -1,0 +1,62 @@
+-- Lists that are walked along, and the places at which a test passes.
+use Rattle.std.proofs.Common.{◌≡◌, ℕ, suc, ◌+◌, ◌<◌, Bool, true, false, ◌||◌, cond, List, [], ◌∷◌, ◌++◌, map, length, take, drop, get_or, refl, sym, ap, ◌∙◌, arith, add-one, append-nil, if◌then◌else◌}
+use Rattle.std.specs.List.{filter, list_any, enumerate_from}
+use Rattle.std.specs.Ordering.{nat_cmp, eq_by_cmp}
+use Rattle.std.proofs.lemmas.List.{map-append, take_more}
+use Rattle.std.proofs.lemmas.List.Folds.{list_any-append}
+use Rattle.std.proofs.Math.Seq.{drop-cons}
+use Rattle.reh_types.specs.Sets as set
+use Rattle.reh_types.specs.Sets.{Set, numbers, contains-empty, contains-from_list, contains-insert, same_set}
+
+-- what is left of a list, and what was passed, from a place on
+module _ {A B : Type 0} (f : A → B) (xs : List A) (i : ℕ) (x : A) (within : i < length xs) (is : x ≡ get_or xs i x) where
+  pub rest_from : map f (drop i xs) ≡ f x ∷ map f (drop (i + 1) xs)
+  rest_from = rw (add-one i) (ap (map f) (drop-cons xs i x within) ∙ ap (λ y. f y ∷ map f (drop (suc i) xs)) (sym is))
+
+  pub passed_to : map f (take (i + 1) xs) ≡ map f (take i xs) ++ f x ∷ []
+  passed_to = ap (map f) (take_more xs i x within) ∙ map-append f (take i xs) _ ∙ ap (λ y. map f (take i xs) ++ f y ∷ []) (sym is)
+
+-- the set of a list and one more
+or_turned : (a b : Bool) → (a || (b || false)) ≡ (b || a)
+or_turned true true = refl
+or_turned true false = refl
+or_turned false true = refl
+or_turned false false = refl
+
+pub from_list-push : (ks : List ℕ) (k : ℕ) → set.from_list {o = numbers} (ks ++ k ∷ []) ≡ set.insert (set.from_list ks) k
+from_list-push ks k =
+    same_set _ _ (λ q.
+    contains-from_list numbers (ks ++ k ∷ []) q
+    ∙ list_any-append (eq_by_cmp nat_cmp q) ks (k ∷ [])
+    ∙ or_turned (list_any (eq_by_cmp nat_cmp q) ks) (eq_by_cmp nat_cmp q k)
+    ∙ ap (λ b. eq_by_cmp nat_cmp q k || b) (sym (contains-from_list numbers ks q))
+    ∙ sym (contains-insert (set.from_list ks) k q))
+
+-- the places at which a test passes, counted from n
+module _ {D : Type 0} (test : D → Bool) where
+  abbrev places : ℕ → List D → List ℕ
+  places n ds = map (λ p. p.0) (filter (λ p. test p.1) (enumerate_from n ds))
+
+  abbrev here : ℕ → D → List ℕ
+  here k d = if test d then k ∷ [] else []
+
+  places-push : (n : ℕ) (ds : List D) (d : D) → places n (ds ++ d ∷ []) ≡ places n ds ++ here (n + length ds) d
+  places-push n [] d =
+      elim (test d) as (λ up. map {A = ℕ × D} {B = ℕ} (λ p. p.0) (cond up ((n, d) ∷ []) []) ≡ (if up then (n + 0) ∷ [] else [])) [ true ↦ ap (λ k. k ∷ []) (omega arith) | false ↦ refl ]
+  places-push n (x ∷ ds) d =
+      let later : places (n + 1) (ds ++ d ∷ []) ≡ places (n + 1) ds ++ here (n + suc (length ds)) d =
+      places-push (n + 1) ds d ∙ ap (λ k. places (n + 1) ds ++ here k d) (omega arith) in
+      elim (test x) as (λ up. map {A = ℕ × D} {B = ℕ} (λ p. p.0) (cond up ((n, x) ∷ filter (λ p. test p.1) (enumerate_from (n + 1) (ds ++ d ∷ []))) (filter (λ p. test p.1) (enumerate_from (n + 1) (ds ++ d ∷ []))))
+      ≡ map {A = ℕ × D} {B = ℕ} (λ p. p.0) (cond up ((n, x) ∷ filter (λ p. test p.1) (enumerate_from (n + 1) ds)) (filter (λ p. test p.1) (enumerate_from (n + 1) ds))) ++ here (n + suc (length ds)) d) [
+        | true ↦ ap (λ ks. n ∷ ks) later
+        | false ↦ later
+      ]
+
+  -- the set of these places, for one more element
+  pub from_list-places : (ds : List D) (d : D) → set.from_list {o = numbers} (places 0 (ds ++ d ∷ [])) ≡ (if test d then set.insert (set.from_list (places 0 ds)) (length ds) else set.from_list (places 0 ds))
+  from_list-places ds d =
+      ap (λ ks. set.from_list ks) (places-push 0 ds d)
+      ∙ elim (test d) as (λ up. set.from_list {o = numbers} (places 0 ds ++ (if up then (0 + length ds) ∷ [] else [])) ≡ (if up then set.insert (set.from_list (places 0 ds)) (length ds) else set.from_list (places 0 ds))) [
+        | true ↦ from_list-push (places 0 ds) (0 + length ds) ∙ ap (set.insert (set.from_list (places 0 ds))) (omega arith)
+        | false ↦ ap (λ ks. set.from_list ks) (append-nil (places 0 ds))
+      ]

@@ -1,0 +1,35 @@
+-- What is printed for faults, and which of several is the first.
+use Rattle.std.specs.Prelude.{ℕ, Bool, List, [], ◌∷◌, ◌++◌, map, codes, if◌then◌else◌, Option, None, Some, Result, ◌≡◌, ◌≢◌, MatchResult}
+use Rattle.std.specs.Char.{is_ascii_graphic}
+use Rattle.std.specs.Option.{option_or}
+use Rattle.reh_picture.specs.declared.faults.PictureFault.{PictureFault}
+use Rattle.reh_picture.specs.declared.faults.PictureFault.TheVariants.{TooLong, NotJson, Missing, WrongKind, BadName, Twice, Limit, NoMemory}
+use Rattle.reh_picture.specs.Fields.{field_name}
+
+-- a byte of a name, or `?` where it is outside 0x21 to 0x7E
+abbrev pub printed_byte : ℕ → ℕ
+printed_byte byte = if is_ascii_graphic byte then byte else 63
+
+-- number, name and value, with a space between each two
+abbrev pub fault_text : PictureFault → List ℕ
+fault_text TooLong = codes "1 TooLong"
+fault_text NotJson = codes "2 NotJson"
+fault_text (Missing field) = codes "3 Missing " ++ field_name field
+fault_text (WrongKind field) = codes "4 WrongKind " ++ field_name field
+fault_text BadName = codes "5 BadName"
+fault_text (Twice name) = codes "6 Twice " ++ map printed_byte name
+fault_text (Limit field) = codes "8 Limit " ++ field_name field
+fault_text NoMemory = codes "10 NoMemory"
+
+-- the fault, unless the condition holds
+abbrev pub fault_unless : Bool → PictureFault → Option PictureFault
+fault_unless condition fault = if condition then None else Some fault
+
+-- the first of these that is a fault
+abbrev pub first_fault : List (Option PictureFault) → Option PictureFault
+first_fault [] = None
+first_fault (check ∷ checks) = option_or check (first_fault checks)
+
+-- The call fails with this fault, and succeeds where there is none; but for want of memory it may always fail.
+abbrev pub FailsWith : {A : Type 0} → Result A PictureFault → Option PictureFault → Type 0
+FailsWith result fault = MatchResult result (λ _. fault ≡ None) (λ found. found ≢ NoMemory → fault ≡ Some found)

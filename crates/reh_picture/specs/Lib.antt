@@ -1,0 +1,5 @@
+pub mod Fields
+pub mod Faults
+pub mod Members
+pub mod Bookies
+pub mod Pictures

@@ -1,0 +1,86 @@
+// The bookies of a picture.
+ghost use Rattle.std.specs.Prelude.{◌≡◌, ℕ, true, ◌<◌, ◌≤◌, [], ◌∷◌, ◌++◌, length, map, IfOk, OnOk};
+ghost use Rattle.std.specs.Char.{is_ascii_graphic};
+ghost use Rattle.std.specs.List.{list_all};
+ghost use Rattle.std.specs.Result.{result_err};
+ghost use Rattle.serde_json.specs.View.{view};
+ghost use Rattle.reh_types.specs.Sets as set;
+ghost use Rattle.reh_picture.specs.Faults.{FailsWith};
+ghost use Rattle.reh_picture.specs.Members.{text_of, flag_of};
+ghost use Rattle.reh_picture.specs.Bookies.{is_name as is_bookie_name, name_fault, bookie_fault, bookies_fault, names_in, registered_in};
+
+use crate::faults::{FaultName, PictureFault};
+use crate::fields::Field;
+use crate::members::{flag, text};
+use reh_cluster::Names;
+use reh_types::{BookieIx, BookieSet};
+use serde_json::Value;
+use std::alloc::Global;
+
+/// The longest name that a bookie may have, in bytes.
+const MAX_NAME: usize = 300;
+
+/// The names of at most 64 bookies, and those that are registered.
+pub(crate) fn read_bookies(
+    alloc: Global,
+    bookies: &[Value],
+) -> Result<(Names, BookieSet), PictureFault>
+    requires { length bookies.now ≤ 64 }
+    ensures count { IfOk result (λ r. length r.0 ≡ length bookies.now) }
+    ensures named { IfOk result (λ r. (b : ℕ) → set.contains r.1 b ≡ true → b < length r.0) }
+    ensures names { IfOk result (λ r. r.0 ≡ names_in (map view bookies.now)) }
+    ensures registered { IfOk result (λ r. r.1 ≡ registered_in (map view bookies.now)) }
+    ensures fault { FailsWith result (bookies_fault [] (map view bookies.now)) }
+{
+    let mut names = Names::new(alloc);
+    let mut up = BookieSet::new();
+    for (i, bookie) in bookies.iter().enumerate() {
+        let registered = read_bookie(alloc, &mut names, bookie)?;
+        if registered {
+            up.insert(BookieIx(i as u8));
+        }
+    }
+    Ok((names, up))
+}
+
+/// Adds one more bookie's name, and says whether the bookie is registered. After an `Err` the names may have its name.
+fn read_bookie(alloc: Global, names: &mut Names, bookie: &Value) -> Result<bool, PictureFault>
+    requires { length names.old < 64 }
+    ensures fault { FailsWith result (bookie_fault names.old (view bookie.now)) }
+    ensures named { OnOk result (names.new ≡ names.old ++ text_of (view bookie.now) Field.Name ∷ []) }
+    ensures registered { IfOk result (λ up. flag_of (view bookie.now) Field.Up ≡ up) }
+{
+    let name = name_of(bookie)?;
+    if !names.add(name)? {
+        return Err(PictureFault::Twice(FaultName::new(alloc, name)?));
+    }
+    flag(bookie, Field::Up)
+}
+
+/// A bookie's name.
+fn name_of(bookie: &Value) -> Result<&str, PictureFault>
+    ensures fault { result_err result ≡ name_fault (view bookie.now) }
+    ensures name { IfOk result (λ name. text_of (view bookie.now) Field.Name ≡ name.now) }
+{
+    if !bookie.is_object() {
+        return Err(PictureFault::WrongKind(Field::Bookie));
+    }
+    let name = text(bookie, Field::Name)?;
+    if !is_name(name.as_bytes()) {
+        return Err(PictureFault::BadName);
+    }
+    Ok(name)
+}
+
+/// Whether a bookie may have this name.
+fn is_name(name: &[u8]) -> bool
+    ensures { result ≡ is_bookie_name name.now }
+{
+    !name.is_empty() && name.len() <= MAX_NAME && is_graphic(name)
+}
+
+fn is_graphic(text: &[u8]) -> bool
+    ensures { result ≡ list_all is_ascii_graphic text.now }
+{
+    text.iter().all(|b| b.is_ascii_graphic())
+}

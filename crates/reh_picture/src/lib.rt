@@ -1,0 +1,14 @@
+// From a picture's bytes to the state that it shows.
+#![tactic(auto)]
+
+mod bookies;
+mod faults;
+mod fields;
+mod members;
+mod pictures;
+#[cfg(test)]
+mod tests;
+
+pub use faults::{FaultName, PictureFault};
+pub use fields::Field;
+pub use pictures::read_picture;

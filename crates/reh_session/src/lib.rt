@@ -1,0 +1,9 @@
+// A session: events on a cluster, with undo and redo.
+#![tactic(auto)]
+
+mod laws;
+mod sessions;
+mod steps;
+
+pub use laws::undo_restores;
+pub use sessions::Session;

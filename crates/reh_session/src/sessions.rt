@@ -1,0 +1,163 @@
+// Sessions, which can undo and redo.
+ghost use Rattle.std.specs.Prelude.{◌≡◌, ◌+◌, ◌≤◌, ◌∷◌, [], ◌++◌, length, take, Some, IsSome, IfOk, IfErr, OnErr, OnOk};
+ghost use Rattle.reh_model.specs.Session.{replay as replayed};
+
+use crate::steps::{apply, check, replay};
+use reh_cluster::State;
+use reh_types::{Event, Move, Refusal, Reply};
+use std::alloc::{AllocError, Global};
+use std::marker::Model;
+
+/// How many events can survive.
+const MAX_EVENTS: usize = 100_000;
+
+/// The events that were made on a cluster, with undo and redo.
+///
+/// Contracts see the opening cluster, the surviving events and the undone ones.
+#[derive(Drop)]
+pub struct Session {
+    opening: State,
+    state: State,
+    events: Vec<Event>,
+    cursor: usize,
+}
+
+impl Model for Session {
+    ghost use Rattle.reh_model.specs.Session as model;
+    ghost use Rattle.reh_session.specs.Kept.{session_of, IsKept};
+
+    ghost Value = { model.Session };
+
+    ghost view = { λ s. session_of s.opening s.events.items s.cursor };
+
+    ghost invariant = { λ s. IsKept s.opening s.state s.events.items s.cursor };
+}
+
+impl Session {
+    ghost use Rattle.reh_types.specs.declared.moves.Move.TheVariants.{Do, Undo, Redo};
+    ghost use Rattle.reh_model.specs.Session.{opened, Answers, Run, reply_of};
+
+    /// A session on this state, with no event. Where there is no memory, the state is dropped.
+    pub fn open(alloc: Global, state: State) -> Result<Session, AllocError>
+        ensures { IfOk result (λ session. session ≡ opened state) }
+    {
+        let opening = state.clone_in()?;
+        Ok(Session {
+            opening,
+            state,
+            events: Vec::new(alloc),
+            cursor: 0,
+        })
+    }
+
+    /// The state now: the surviving events, replayed from the opening state.
+    pub fn state(&self) -> &State
+        ensures { replayed self.now.opening self.now.done ≡ Some result.now }
+    {
+        &self.state
+    }
+
+    /// The surviving events, oldest first.
+    pub fn done(&self) -> &[Event]
+        ensures { result.now ≡ self.now.done }
+    {
+        &self.events[..self.cursor]
+    }
+
+    /// The undone events, of which the first is redone next. All of them can be redone, and with those that survive there are at most 100,000.
+    pub fn undone(&self) -> &[Event]
+        ensures events { result.now ≡ self.now.undone }
+        ensures redoable { IsSome (replayed self.now.opening (self.now.done ++ self.now.undone)) }
+        ensures few { length self.now.done + length self.now.undone ≤ 100_000 }
+    {
+        &self.events[self.cursor..]
+    }
+
+    /// Makes an event, unless it is refused: by the event's own refusals first, then by `Full`, and then for want of memory. A refused event changes nothing.
+    pub fn act(&mut self, event: &Event) -> Result<(), Refusal>
+        ensures { Answers self.old (Do event.now) (reply_of result) self.new }
+    {
+        check(&self.state, event)?;
+        if self.cursor >= MAX_EVENTS {
+            return Err(Refusal::Full);
+        }
+        keep(&mut self.events, self.cursor, *event)?;
+        self.cursor += 1;
+        apply(&mut self.state, event);
+        Ok(())
+    }
+
+    /// Undoes the newest surviving event.
+    pub fn undo(&mut self) -> Result<(), Refusal>
+        ensures { Answers self.old Undo (reply_of result) self.new }
+    {
+        if self.cursor == 0 {
+            return Err(Refusal::NothingToUndo);
+        }
+        let before = &self.events[..self.cursor - 1];
+        let Ok(state) = replay(&self.opening, before) else {
+            return Err(Refusal::NoMemory);
+        };
+        self.state = state;
+        self.cursor -= 1;
+        Ok(())
+    }
+
+    /// Makes the event that was undone last once more. It takes no memory.
+    pub fn redo(&mut self) -> Result<(), Refusal>
+        ensures { Answers self.old Redo (reply_of result) self.new }
+    {
+        if self.cursor == self.events.len() {
+            return Err(Refusal::NothingToRedo);
+        }
+        let event = self.events[self.cursor];
+        apply(&mut self.state, &event);
+        self.cursor += 1;
+        Ok(())
+    }
+
+    /// Makes one move, and answers it.
+    pub fn perform(&mut self, step: &Move) -> Reply
+        ensures { Answers self.old step.now result self.new }
+    {
+        let outcome = match step {
+            Move::Do(event) => self.act(event),
+            Move::Undo => self.undo(),
+            Move::Redo => self.redo(),
+            Move::Look => return Reply::Clock(self.state.clock()),
+        };
+        match outcome {
+            Ok(()) => Reply::Done,
+            Err(refusal) => Reply::Refused(refusal),
+        }
+    }
+
+    /// Makes moves in order. Room for all answers is taken first, and where there is none, nothing changes.
+    /// Later a move for which there is no memory is answered so, and the run goes on.
+    pub fn run(&mut self, moves: &[Move]) -> Result<Vec<Reply>, AllocError>
+        ensures run { IfOk result (λ replies. Run self.old moves.now replies.items self.new) }
+        ensures err { OnErr result (self.new ≡ self.old) }
+    {
+        let mut replies = Vec::with_capacity(*self.events.allocator(), moves.len())?;
+        for step in moves {
+            let reply = self.perform(step);
+            replies.push(reply).unwrap();
+        }
+        Ok(replies)
+    }
+}
+
+/// Puts an event behind the first `cursor` events, and drops what lay there.
+fn keep(events: &mut Vec<Event>, cursor: usize, event: Event) -> Result<(), AllocError>
+    requires { cursor ≤ length events.old.items }
+    ensures ok { OnOk result (events.new.items ≡ take cursor events.old.items ++ event ∷ []) }
+    ensures err { OnErr result (events.new.items ≡ events.old.items) }
+{
+    if cursor < events.len() {
+        events[cursor] = event;
+        events.truncate(cursor + 1);
+        return Ok(());
+    }
+    events.push(event)?;
+    Ok(())
+}

@@ -1,0 +1,50 @@
+-- How a run ends.
+use Rattle.std.proofs.Common.{◌≡◌, ℕ, Bool, true, false, cond, List, [], ◌++◌, Option, None, Some, Result, Ok, Err, IfSome, refl, sym, ap, ◌∙◌, subst, if◌then◌else◌, append-nil}
+use Rattle.std.specs.Prelude.{IsErrAnd, OnOk}
+use Rattle.std.specs.Io.KnownBytes.{Appends, Keeps}
+use Rattle.reh_model.specs.Cluster.{Cluster}
+use Rattle.reh_model.specs.Session.{Session, opened}
+use Rattle.reh_model.specs.Lines.{cut_of, is_script, answered_lines}
+use Rattle.reh_model.specs.Transcript.{transcript}
+use Rattle.reh_picture.specs.declared.faults.PictureFault.{PictureFault}
+use Rattle.reh_picture.specs.Pictures.{picture_of}
+use Rattle.rehearse.specs.declared.plays.PlayFault.{PlayFault}
+use Rattle.rehearse.specs.declared.plays.PlayFault.TheVariants as play
+use Rattle.rehearse.specs.declared.faults.RunFault.{RunFault}
+use Rattle.rehearse.specs.declared.faults.RunFault.TheVariants.{Picture, TooLong}
+use Rattle.rehearse.specs.Faults.{run_fault_of}
+use Rattle.rehearse.specs.Outcomes.{Outcome, outcome_by, outcome_of, ReadsEnough}
+use Rattle.rehearse.specs.Parts.{WritesPart}
+use Rattle.rehearse.proofs.Enough.{outcome-enough}
+
+-- a play's fault is no fault of the picture
+pub play_not_picture : {A : Type 0} (r : Result A RunFault) (p : PlayFault) (fault : PictureFault) → IsErrAnd r (λ e. e ≡ run_fault_of p) → r ≡ Err (Picture fault) → ⊥
+play_not_picture (Ok x) p fault is same = absurd is
+play_not_picture (Err e) play.TooLong fault is same = cc
+play_not_picture (Err e) play.WriteFault fault is same = cc
+play_not_picture (Err e) play.NoMemory fault is same = cc
+
+-- and says that the script is too long where the run does
+pub play_too_long : {A : Type 0} (r : Result A RunFault) (p : PlayFault) → IsErrAnd r (λ e. e ≡ run_fault_of p) → r ≡ Err TooLong → p ≡ play.TooLong
+play_too_long (Ok x) p is same = absurd is
+play_too_long (Err e) play.TooLong is same = refl
+play_too_long (Err e) play.WriteFault is same = cc
+play_too_long (Err e) play.NoMemory is same = cc
+
+-- a picture that is read and a script that is too long
+pub too_long_ends : (input picture script : List ℕ) (state : Cluster) (m : Session) (old new : Option (List ℕ)) → picture ≡ (cut_of input).picture → script ≡ (cut_of input).script → picture_of picture ≡ Ok state → m ≡ opened state
+    → is_script script ≡ false → Appends old new (transcript m 1 (answered_lines script)) → ((outcome_of input).fault ≡ Some TooLong) × Appends old new (outcome_of input).text
+too_long_ends input picture script state m old new first rest read begun long written =
+    let same : outcome_by (Ok state) script ≡ outcome_of input = sym (ap (λ (r : Result Cluster PictureFault). outcome_by r script) read) ∙ (λ i. outcome_by (picture_of (first i)) (rest i)) in (
+      sym (ap (λ (o : Outcome). o.fault) same) ∙ ap (λ (t : Bool). if t then None else Some TooLong) long,
+      subst (λ (o : Outcome). Appends old new o.text) same (subst (λ (m : Session). Appends old new (transcript m 1 (answered_lines script))) begun written),
+    )
+
+-- What holds of the outcome of what was read holds of the outcome of all.
+pub all_ends : (remaining : Option (List ℕ)) (input : List ℕ) (P : Outcome → Type 0) → IfSome remaining (λ all. ReadsEnough input all) → P (outcome_of input) → IfSome remaining (λ all. P (outcome_of all))
+all_ends None input P enough holds = tt
+all_ends (Some all) input P enough holds = subst P (outcome-enough input all enough) holds
+
+pub all_ends_ok : {A E : Type 0} (r : Result A E) (remaining : Option (List ℕ)) (input : List ℕ) (P : Outcome → Type 0) → IfSome remaining (λ all. ReadsEnough input all) → OnOk r (P (outcome_of input)) → OnOk r (IfSome remaining (λ all. P (outcome_of all)))
+all_ends_ok (Ok x) remaining input P enough holds = all_ends remaining input P enough holds
+all_ends_ok (Err e) remaining input P enough holds = holds

@@ -1,0 +1,9 @@
+pub mod Numbers
+pub mod LinesLemmas
+pub mod Reports
+pub mod Cuts
+pub mod Writing
+pub mod Answered
+pub mod Enough
+pub mod Reading
+pub mod Ends

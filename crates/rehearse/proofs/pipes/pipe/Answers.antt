@@ -1,0 +1,31 @@
+use Rattle.std.proofs.Common.{◌≡◌, None, Some}
+use Rattle.std.specs.Io.KnownBytes.{Appends, Keeps}
+use Rattle.rehearse.specs.declared.faults.RunFault.TheVariants.{Picture, TooLong}
+use Rattle.rehearse.specs.Outcomes.{Outcome}
+use Rattle.rehearse.specs.Parts.{WritesPart}
+use Rattle.rehearse.proofs.Ends.{all_ends, all_ends_ok}
+use Rattle.rehearse.proofs.pipes.pipe.Goals as goal
+
+pub returns-clause-ok : goal.returns-clause-ok
+returns-clause-ok g c =
+    all_ends_ok c.transcribe.result _ _
+    (λ (o : Outcome). (o.fault ≡ None) × Appends (g.W.TextOut.contents c.args.writer.now) (g.W.TextOut.contents c.transcribe.new.writer) o.text)
+    c.in_ok-input.ensures.input (rw c.deref.ensures.value at c.transcribe.ensures.ok)
+
+pub returns-clause-picture : goal.returns-clause-picture
+returns-clause-picture g c = λ fault same.
+    all_ends _ _
+    (λ (o : Outcome). (o.fault ≡ Some (Picture fault)) × Keeps (g.W.TextOut.contents c.args.writer.now) (g.W.TextOut.contents c.transcribe.new.writer))
+    c.in_ok-input.ensures.input ((rw c.deref.ensures.value at c.transcribe.ensures.picture) fault same)
+
+pub returns-clause-too_long : goal.returns-clause-too_long
+returns-clause-too_long g c = λ same.
+    all_ends _ _
+    (λ (o : Outcome). (o.fault ≡ Some TooLong) × Appends (g.W.TextOut.contents c.args.writer.now) (g.W.TextOut.contents c.transcribe.new.writer) o.text)
+    c.in_ok-input.ensures.input ((rw c.deref.ensures.value at c.transcribe.ensures.too_long) same)
+
+pub returns-clause-part : goal.returns-clause-part
+returns-clause-part g c =
+    all_ends _ _
+    (λ (o : Outcome). WritesPart o.text (g.W.TextOut.contents c.args.writer.now) (g.W.TextOut.contents c.transcribe.new.writer))
+    c.in_ok-input.ensures.input (rw c.deref.ensures.value at c.transcribe.ensures.part)

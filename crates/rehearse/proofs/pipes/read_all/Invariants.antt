@@ -1,0 +1,13 @@
+use Rattle.std.proofs.Common.{◌≡◌, ◌-◌, false, vec_len}
+use Rattle.std.specs.Io.KnownBytes.{Consumes}
+use Rattle.rehearse.proofs.pipes.read_all.Given as goal
+
+-- the input so far is what the reader gave, and no call has failed
+abbrev pub invariant-loop-block : goal.invariant-loop-block
+invariant-loop-block g l = record {
+  given : Consumes (g.R.TextIn.remaining l.fn.reader) (g.R.TextIn.remaining l.reader) l.input.items;
+  fine : g.R.TextIn.has_failed l.reader ≡ false;
+}
+
+abbrev pub decreases-loop-block : goal.decreases-loop-block
+decreases-loop-block g l = 9_437_189 - vec_len l.input

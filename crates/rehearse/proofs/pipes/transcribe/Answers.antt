@@ -1,0 +1,12 @@
+use Rattle.std.proofs.Common.{ap, Err}
+use Rattle.rehearse.specs.declared.plays.PlayFault.{PlayFault}
+use Rattle.rehearse.proofs.Ends.{play_not_picture, play_too_long, too_long_ends}
+use Rattle.rehearse.proofs.pipes.transcribe.Goals as goal
+
+pub returns-in_err-play-clause-picture : goal.returns-in_err-play-clause-picture
+returns-in_err-play-clause-picture g c = λ fault same. absurd (play_not_picture _ c.in_err-play.field-0.0 fault c.from_residual-in_err-play.ensures.1 same)
+
+pub returns-in_err-play-clause-too_long : goal.returns-in_err-play-clause-too_long
+returns-in_err-play-clause-too_long g c = λ same.
+    let ended = c.in_err-play.ensures.too_long (ap (λ (p : PlayFault). Err p) (play_too_long _ c.in_err-play.field-0.0 c.from_residual-in_err-play.ensures.1 same)) in
+    too_long_ends c.args.input.now _ _ _ _ _ _ c.split_input.ensures.picture c.split_input.ensures.script c.in_ok-state.ensures c.in_ok-session.ensures ended.0 ended.1

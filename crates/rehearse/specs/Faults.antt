@@ -1,0 +1,36 @@
+-- The statuses and texts of faults.
+use Rattle.std.specs.Prelude.{ℕ, List, ◌++◌, codes}
+use Rattle.reh_picture.specs.Faults.{fault_text}
+use Rattle.reh_picture.specs.declared.faults.PictureFault.{PictureFault}
+use Rattle.reh_picture.specs.declared.faults.PictureFault.TheVariants as picture_fault
+use Rattle.rehearse.specs.declared.plays.PlayFault.{PlayFault}
+use Rattle.rehearse.specs.declared.plays.PlayFault.TheVariants as play_fault
+use Rattle.rehearse.specs.declared.faults.RunFault.{RunFault}
+use Rattle.rehearse.specs.declared.faults.RunFault.TheVariants.{Picture, ReadFault, TooLong, WriteFault, NoMemory}
+
+-- the exit status of a run that ends so
+abbrev pub status_number : RunFault → ℕ
+status_number (Picture fault) = 3
+status_number ReadFault = 4
+status_number TooLong = 4
+status_number WriteFault = 5
+status_number NoMemory = 6
+
+-- what standard error shows
+abbrev pub run_fault_text : RunFault → List ℕ
+run_fault_text (Picture fault) = codes "picture: " ++ fault_text fault
+run_fault_text ReadFault = codes "read fault"
+run_fault_text TooLong = codes "script too long"
+run_fault_text WriteFault = codes "write fault"
+run_fault_text NoMemory = codes "no memory"
+
+-- a play's fault as the run's
+abbrev pub run_fault_of : PlayFault → RunFault
+run_fault_of play_fault.TooLong = TooLong
+run_fault_of play_fault.WriteFault = WriteFault
+run_fault_of play_fault.NoMemory = NoMemory
+
+-- a picture's fault as the run's: want of memory is no fault of the picture
+abbrev pub run_fault_of_picture : PictureFault → RunFault
+run_fault_of_picture picture_fault.NoMemory = NoMemory
+run_fault_of_picture fault = Picture fault

@@ -1,0 +1,4 @@
+pub mod Reports
+pub mod Parts
+pub mod Faults
+pub mod Outcomes

@@ -1,0 +1,27 @@
+-- What becomes of an input.
+use Rattle.std.specs.Prelude.{◌≡◌, ℕ, ◌<◌, List, [], ◌++◌, length, Option, None, Some, Result, Ok, Err, if◌then◌else◌}
+use Rattle.reh_model.specs.Cluster.{Cluster}
+use Rattle.reh_model.specs.Session.{opened}
+use Rattle.reh_model.specs.Lines.{cut_of, is_script, answered_lines}
+use Rattle.reh_model.specs.Transcript.{transcript}
+use Rattle.reh_picture.specs.declared.faults.PictureFault.{PictureFault}
+use Rattle.reh_picture.specs.Pictures.{picture_of}
+use Rattle.rehearse.specs.declared.faults.RunFault.{RunFault}
+use Rattle.rehearse.specs.declared.faults.RunFault.TheVariants.{Picture, TooLong}
+
+-- the text that is written, and the fault that ends the run, if there is one
+pub record Outcome : Type 0 where
+  pub text : List ℕ
+  pub fault : Option RunFault
+
+-- of a picture that is read, the answers to the script's lines; of one that is refused, nothing
+abbrev pub outcome_by : Result Cluster PictureFault → List ℕ → Outcome
+outcome_by (Ok state) script = record { text = transcript (opened state) 1 (answered_lines script); fault = if is_script script then None else Some TooLong }
+outcome_by (Err fault) script = record { text = []; fault = Some (Picture fault) }
+
+abbrev pub outcome_of : List ℕ → Outcome
+outcome_of input = outcome_by (picture_of (cut_of input).picture) (cut_of input).script
+
+-- What was read is all that there was, or so many of its first bytes that the others don't matter.
+abbrev pub ReadsEnough : List ℕ → List ℕ → Type 0
+ReadsEnough input all = (rest : List ℕ) × (all ≡ input ++ rest) × (length input < 9_437_189 → rest ≡ [])

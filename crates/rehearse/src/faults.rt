@@ -1,0 +1,95 @@
+// Why a run ends early.
+ghost use Rattle.std.specs.Prelude.{◌≡◌};
+ghost use Rattle.rehearse.specs.Faults.{status_number};
+
+use crate::plays::PlayFault;
+use reh_picture::PictureFault;
+use std::alloc::AllocError;
+use std::error::Error;
+use std::fmt;
+
+/// Why a run ends early. Its text is what standard error shows.
+#[derive(Debug, Drop)]
+pub enum RunFault {
+    /// The picture is refused.
+    Picture(PictureFault),
+    /// A read failed.
+    ReadFault,
+    /// The script is longer than 1,048,576 bytes.
+    TooLong,
+    /// A write failed, or took no byte.
+    WriteFault,
+    /// There is no memory.
+    NoMemory,
+}
+
+/// The exit status of a fault.
+pub fn status_of(fault: &RunFault) -> u8
+    ensures { result ≡ status_number fault.now }
+{
+    match fault {
+        RunFault::Picture(_) => 3,
+        RunFault::ReadFault | RunFault::TooLong => 4,
+        RunFault::WriteFault => 5,
+        RunFault::NoMemory => 6,
+    }
+}
+
+impl fmt::Display for RunFault {
+    ghost use Rattle.std.specs.Prelude.{Some};
+    ghost use Rattle.rehearse.specs.Faults.{run_fault_text};
+
+    ghost output = { λ fault. Some (run_fault_text fault) };
+
+    fn fmt<W: fmt::Write>(&self, f: &mut fmt::Formatter<W>) -> fmt::Result {
+        match self {
+            RunFault::Picture(fault) => write!(f, "picture: {fault}"),
+            RunFault::ReadFault => write!(f, "read fault"),
+            RunFault::TooLong => write!(f, "script too long"),
+            RunFault::WriteFault => write!(f, "write fault"),
+            RunFault::NoMemory => write!(f, "no memory"),
+        }
+    }
+}
+
+impl Error for RunFault {}
+
+impl From<AllocError> for RunFault {
+    ghost use Rattle.std.specs.Prelude.{◌≡◌};
+    ghost use Rattle.rehearse.specs.declared.faults.RunFault.TheVariants.{NoMemory};
+
+    ghost from_gives = { λ _ fault. fault ≡ NoMemory };
+
+    fn from(_want: AllocError) -> RunFault {
+        RunFault::NoMemory
+    }
+}
+
+impl From<PlayFault> for RunFault {
+    ghost use Rattle.std.specs.Prelude.{◌≡◌};
+    ghost use Rattle.rehearse.specs.Faults.{run_fault_of};
+
+    ghost from_gives = { λ play run. run ≡ run_fault_of play };
+
+    fn from(fault: PlayFault) -> RunFault {
+        match fault {
+            PlayFault::TooLong => RunFault::TooLong,
+            PlayFault::WriteFault => RunFault::WriteFault,
+            PlayFault::NoMemory => RunFault::NoMemory,
+        }
+    }
+}
+
+impl From<PictureFault> for RunFault {
+    ghost use Rattle.std.specs.Prelude.{◌≡◌};
+    ghost use Rattle.rehearse.specs.Faults.{run_fault_of_picture};
+
+    ghost from_gives = { λ picture run. run ≡ run_fault_of_picture picture };
+
+    fn from(fault: PictureFault) -> RunFault {
+        match fault {
+            PictureFault::NoMemory => RunFault::NoMemory,
+            fault => RunFault::Picture(fault),
+        }
+    }
+}

@@ -1,0 +1,38 @@
+// Rehearses events on a picture of a cluster: standard input has the picture, a line `%` and a script.
+#![tactic(auto)]
+
+mod faults;
+mod inputs;
+mod pipes;
+mod plays;
+mod scripts;
+mod streams;
+mod texts;
+
+use faults::{RunFault, status_of};
+use pipes::pipe;
+use std::io;
+use std::io::BufWriter;
+use std::process::ExitCode;
+use streams::{FromRead, ToWrite};
+
+fn main(rt: HostRuntime) -> ExitCode {
+    match run(&rt) {
+        Ok(()) => ExitCode::SUCCESS,
+        Err(fault) => {
+            let _ = eprintln!(rt; "{fault}");
+            ExitCode::from(status_of(&fault))
+        }
+    }
+}
+
+/// Plays standard input to standard output. What was answered before a fault is written too.
+fn run(rt: &HostRuntime) -> Result<(), RunFault> {
+    let mut reader = FromRead::new(rt.reader());
+    let buffer = BufWriter::new(rt.alloc(), io::writer(rt)).map_err(|_| RunFault::NoMemory)?;
+    let mut writer = ToWrite::new(buffer);
+    let played = pipe(rt.alloc(), &mut reader, &mut writer);
+    let flushed = writer.flush();
+    played?;
+    flushed.map_err(|_| RunFault::WriteFault)
+}
