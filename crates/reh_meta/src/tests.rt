@@ -1,7 +1,8 @@
 // Metadata of small ledgers, and each rule broken.
 ghost use Rattle.std.specs.Prelude.{◌<◌, ◌≤◌, ◌^◌, length, IfOk, All};
 
-use crate::{Fragment, LedgerMeta, MetaFault, Sizes};
+use crate::MetaFault::{self, BadEnsemble, BadFragment, BadLast, BadQuorum};
+use crate::{Fragment, LedgerMeta, Sizes};
 use reh_types::{BookieIx, LedgerState};
 use std::alloc::{AllocError, Global};
 
@@ -62,40 +63,16 @@ fn meets_each_broken_rule(rt: HostRuntime) -> Result<(), AllocError> {
     let cases = [
         ((3, 2, 2), (0, 4), [0, 3, 2], 6, None),
         ((3, 2, 2), (0, 4), [0, 3, 2], 4, None),
-        ((0, 0, 0), (0, 4), [0, 3, 2], 6, Some(MetaFault::BadQuorum)),
-        ((17, 2, 2), (0, 4), [0, 3, 2], 6, Some(MetaFault::BadQuorum)),
-        ((3, 4, 2), (0, 4), [0, 3, 2], 6, Some(MetaFault::BadQuorum)),
-        ((3, 2, 3), (0, 4), [0, 3, 2], 6, Some(MetaFault::BadQuorum)),
-        ((3, 2, 0), (0, 4), [0, 3, 2], 6, Some(MetaFault::BadQuorum)),
-        (
-            (3, 2, 2),
-            (1, 4),
-            [0, 3, 2],
-            6,
-            Some(MetaFault::BadFragment),
-        ),
-        (
-            (3, 2, 2),
-            (0, 0),
-            [0, 3, 2],
-            6,
-            Some(MetaFault::BadFragment),
-        ),
-        (
-            (4, 2, 2),
-            (0, 4),
-            [0, 3, 2],
-            6,
-            Some(MetaFault::BadEnsemble),
-        ),
-        (
-            (3, 2, 2),
-            (0, 4),
-            [0, 3, 0],
-            6,
-            Some(MetaFault::BadEnsemble),
-        ),
-        ((3, 2, 2), (0, 4), [0, 3, 2], 3, Some(MetaFault::BadLast)),
+        ((0, 0, 0), (0, 4), [0, 3, 2], 6, Some(BadQuorum)),
+        ((17, 2, 2), (0, 4), [0, 3, 2], 6, Some(BadQuorum)),
+        ((3, 4, 2), (0, 4), [0, 3, 2], 6, Some(BadQuorum)),
+        ((3, 2, 3), (0, 4), [0, 3, 2], 6, Some(BadQuorum)),
+        ((3, 2, 0), (0, 4), [0, 3, 2], 6, Some(BadQuorum)),
+        ((3, 2, 2), (1, 4), [0, 3, 2], 6, Some(BadFragment)),
+        ((3, 2, 2), (0, 0), [0, 3, 2], 6, Some(BadFragment)),
+        ((4, 2, 2), (0, 4), [0, 3, 2], 6, Some(BadEnsemble)),
+        ((3, 2, 2), (0, 4), [0, 3, 0], 6, Some(BadEnsemble)),
+        ((3, 2, 2), (0, 4), [0, 3, 2], 3, Some(BadLast)),
     ];
     for (sizes, firsts, members, end, fault) in cases {
         let (ensemble, write_quorum, ack_quorum) = sizes;
@@ -107,10 +84,10 @@ fn meets_each_broken_rule(rt: HostRuntime) -> Result<(), AllocError> {
         let fragments = two_fragments(alloc, firsts, members)?;
         assert!(rt; end <= 6);
         let made = LedgerMeta::try_new(alloc, sizes, LedgerState::Closed { end }, 0, &fragments);
-        assert_eq!(rt; made.err(), fault);
+        assert_eq!(rt; made.err(), fault, "with {members:?} and end {end}");
     }
 
     let none = LedgerMeta::try_new(alloc, SIZES, LedgerState::Open, 0, &[]);
-    assert_eq!(rt; none.err(), Some(MetaFault::BadFragment));
+    assert_eq!(rt; none.err(), Some(BadFragment));
     Ok(())
 }
