@@ -1,0 +1,40 @@
+-- Striped entries: they rise, and which ones they are.
+use Rattle.std.proofs.Common.{◌≡◌, ℕ, ◌+◌, ◌-◌, ◌<◌, ◌≤◌, true, ◌&&◌, nat_eq, nat_lt, nat_le, sym, ap, ◌∙◌, arith}
+use Rattle.std.specs.List.{list_any}
+use Rattle.std.specs.List.Sorted.{IsStrictlyIncreasing}
+use Rattle.std.specs.Ordering.{nat_cmp, eq_by_cmp}
+use Rattle.std.specs.Cmp.{unsigned_tied}
+use Rattle.std.proofs.lemmas.Bool.Decides.{nat_tests}
+use Rattle.std.proofs.lemmas.List.FromFn.{length-range_with_len, get_or-range_with_len}
+use Rattle.std.proofs.lemmas.List.Kept.{IsStrictlyIncreasing-filter}
+use Rattle.reh_types.proofs.BitLaws.{any_filtered}
+use Rattle.reh_model.specs.Striping.{range, is_striped, striped}
+use Rattle.reh_model.proofs.Ranges.{passes_any, any_passes, same_answer, list_any-same}
+
+-- the entries that an index carries rise
+pub IsStrictlyIncreasing-striped : (a b i n q : ℕ) → IsStrictlyIncreasing (striped a b i n q)
+IsStrictlyIncreasing-striped a b i n q = IsStrictlyIncreasing-filter (λ e. is_striped e i n q) (range a b) (λ k inside.
+    omega (arith, length-range_with_len a (b - a), get_or-range_with_len a (b - a) k 0, get_or-range_with_len a (b - a) (k + 1) 0))
+
+within : (e a b : ℕ) → a ≤ e → e < b → (nat_le a e && nat_lt e b) ≡ true
+within e a b from below = grind (arith, nat_tests)
+
+from_within : (e a b : ℕ) → (nat_le a e && nat_lt e b) ≡ true → (a ≤ e) × (e < b)
+from_within e a b inside = (grind (arith, nat_tests, inside), grind (arith, nat_tests, inside))
+
+list_any-range : (e a b : ℕ) → list_any (nat_eq e) (range a b) ≡ (nat_le a e && nat_lt e b)
+list_any-range e a b = same_answer _ _
+    (λ any.
+    let w = any_passes (nat_eq e) a (b - a) any in
+    let same : e ≡ w.at = grind (arith, nat_tests, w.passes) in within e a b (omega arith) (omega arith))
+    (λ inside.
+    let both = from_within e a b inside in
+    let itself : nat_eq e e ≡ true = grind (arith, nat_tests) in
+    passes_any (nat_eq e) a (b - a) e both.0 (omega arith) itself)
+
+-- they are the entries of the range that it carries, and no others
+pub list_any-striped : (e a b i n q : ℕ) → list_any (nat_eq e) (striped a b i n q) ≡ (is_striped e i n q && (nat_le a e && nat_lt e b))
+list_any-striped e a b i n q =
+    list_any-same (nat_eq e) (eq_by_cmp nat_cmp e) (λ x. sym (unsigned_tied e x)) (striped a b i n q)
+    ∙ any_filtered (λ x. is_striped x i n q) e a (b - a)
+    ∙ ap (λ inside. is_striped e i n q && inside) (list_any-same (eq_by_cmp nat_cmp e) (nat_eq e) (λ x. unsigned_tied e x) (range a b) ∙ list_any-range e a b)
