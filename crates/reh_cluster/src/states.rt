@@ -1,53 +1,66 @@
 // The state of a cluster.
-ghost use Rattle.std.specs.Prelude.{◌≡◌, ℕ, true, ◌+◌, ◌<◌, ◌≤◌, length, IfOk};
+ghost use Rattle.std.specs.Prelude.{◌≡◌, ◌+◌, ◌<◌, ◌≤◌, length, IfOk};
+ghost use Rattle.std.specs.List.{find};
+ghost use Rattle.std.specs.Prelude.{◌==◌};
+ghost use Rattle.std.specs.Option.{option_copied};
 ghost use Rattle.reh_types.specs.Sets as set;
-ghost use Rattle.reh_model.specs.Contents.{count_held};
+ghost use Rattle.reh_model.specs.Contents.{count_held, greatest_held};
 ghost use Rattle.reh_model.specs.Cluster as model;
 ghost use Rattle.reh_model.specs.WellFormed.{IsWellFormed};
 
+use crate::ledgers::Ledger;
 use crate::names::Names;
-use reh_types::{BookieIx, BookieSet};
+use reh_held::Held;
+use reh_types::{BookieIx, BookieSet, LedgerId};
 use std::alloc::AllocError;
 use std::marker::Model;
 
-/// The cluster as it stands: names, registered bookies, clock and grace, with no ledger yet.
+/// The cluster as it stands: names, registered bookies, ledgers in picture order with their tasks and locks, contents, clock and grace.
+///
+/// Each value is well-formed by its type; contracts see it as `Cluster` of the definitions.
 #[derive(Drop)]
 pub struct State {
     names: Names,
-    up: BookieSet,
-    clock: u64,
     grace: u64,
+    up: BookieSet,
+    ledgers: Vec<Ledger>,
+    held: Held,
+    clock: u64,
 }
 
 impl Model for State {
     ghost use Rattle.reh_model.specs.Cluster.{Cluster};
-    ghost use Rattle.reh_model.specs.WellFormed.{IsWellFormed};
-    ghost use Rattle.reh_cluster.specs.Register.{cluster_of};
 
     ghost Value = { Cluster };
 
-    ghost view = { λ s. cluster_of s.names s.up s.clock s.grace };
+    ghost use Rattle.reh_cluster.specs.State.{cluster_in, IsWellFormedIn};
 
-    ghost invariant = { λ s. IsWellFormed (cluster_of s.names s.up s.clock s.grace) };
+    ghost view = { cluster_in };
+
+    ghost invariant = { IsWellFormedIn };
 }
 
 impl State {
-    ghost use Rattle.reh_cluster.specs.Register.{cluster_of};
+    ghost use Rattle.reh_cluster.specs.Parts.{cluster_of};
 
-    /// The state at clock 0 with these names, registered bookies, and grace in ticks.
-    pub fn build(names: Names, up: BookieSet, grace: u64) -> State
-        requires some { 0 < length names }
-        requires registered { (b : ℕ) → set.contains up b ≡ true → b < length names }
-        requires grace { grace ≤ 1_000_000 }
-        ensures { result ≡ cluster_of names up 0 grace }
+    /// The state at clock 0 with these names, registered bookies, grace in ticks, ledgers in picture order, and contents.
+    pub fn build(
+        names: Names,
+        up: BookieSet,
+        grace: u64,
+        ledgers: Vec<Ledger>,
+        held: Held,
+    ) -> State
+        requires { IsWellFormed (cluster_of names up grace ledgers.items held.contents) }
+        ensures { result ≡ cluster_of names up grace ledgers.items held.contents }
     {
-        // What all names promise: there are at most 64, each once.
-        let _bookies = names.len();
         State {
             names,
-            up,
-            clock: 0,
             grace,
+            up,
+            ledgers,
+            held,
+            clock: 0,
         }
     }
 
@@ -55,12 +68,13 @@ impl State {
     pub fn clone_in(&self) -> Result<State, AllocError>
         ensures { IfOk result (λ copy. copy ≡ self.now) }
     {
-        let names = self.names.clone_in()?;
         Ok(State {
-            names,
-            up: self.up.copied(),
-            clock: self.clock,
+            names: self.names.clone_in()?,
             grace: self.grace,
+            up: self.up.copied(),
+            ledgers: self.ledgers.clone()?,
+            held: self.held.clone_in()?,
+            clock: self.clock,
         })
     }
 
@@ -79,12 +93,39 @@ impl State {
         self.up.contains(bookie)
     }
 
+    /// The ledgers, in picture order.
+    pub fn ledgers(&self) -> &[Ledger]
+        ensures { result.now ≡ self.now.ledgers }
+    {
+        &self.ledgers
+    }
+
+    /// The ledger of that id, if there is one.
+    pub fn ledger(&self, ledger: LedgerId) -> Option<&Ledger>
+        ensures { option_copied result ≡ model.ledger_at self.now ledger }
+    {
+        find_ledger(&self.ledgers, ledger)
+    }
+
+    /// Whether the bookie, registered or not, holds the entry of the ledger.
+    pub fn holds(&self, bookie: BookieIx, ledger: LedgerId, entry: u32) -> bool
+        ensures { result ≡ model.holds self.now bookie ledger entry }
+    {
+        self.held.holds(bookie, ledger, entry)
+    }
+
     /// How many entries the bookie holds, of all ledgers.
-    pub fn count(&self, bookie: BookieIx) -> u64
+    pub fn count(&self, bookie: BookieIx) -> usize
         ensures { result ≡ count_held self.now.held bookie }
     {
-        let _ = &self.up;
-        0
+        self.held.count(bookie)
+    }
+
+    /// The greatest entry of the ledger that any bookie holds, if there is one.
+    pub fn greatest(&self, ledger: LedgerId) -> Option<u32>
+        ensures { result ≡ greatest_held self.now.held ledger }
+    {
+        self.held.greatest(ledger)
     }
 
     /// The clock, in ticks.
@@ -124,4 +165,11 @@ impl State {
     {
         self.clock += ticks;
     }
+}
+
+/// The ledger of that id among some.
+fn find_ledger(ledgers: &[Ledger], ledger: LedgerId) -> Option<&Ledger>
+    ensures { option_copied result ≡ find (λ g. g.id == ledger) ledgers.now }
+{
+    ledgers.iter().find(|g| g.id() == ledger)
 }

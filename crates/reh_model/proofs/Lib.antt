@@ -6,3 +6,4 @@ pub mod ContentsLaws
 pub mod StripedLaws
 pub mod SessionLaws
 pub mod Examples
+pub mod WellFormedLaws

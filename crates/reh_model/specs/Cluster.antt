@@ -3,15 +3,11 @@ use Rattle.std.specs.Prelude.{ℕ, Bool, ◌==◌, List, Option, position}
 use Rattle.std.specs.List.{find}
 use Rattle.std.specs.Option.{option_and_then}
 use Rattle.std.specs.Str.{bytes_eq}
+use Rattle.reh_types.specs.declared.locks.Lock.{Lock}
 use Rattle.reh_types.specs.Sets as set
 use Rattle.reh_types.specs.Sets.{Set, numbers}
-use Rattle.reh_model.specs.Contents.{Contents}
+use Rattle.reh_model.specs.Contents.{Contents, has}
 use Rattle.reh_model.specs.Metadata.{Metadata}
-
--- who works at a ledger's task, and from when a fence is due, if that is set
-pub record Lock : Type 0 where
-  pub owner : ℕ
-  pub due : Option ℕ
 
 -- a ledger: its metadata, the bookies that its task is to replace, if it has one, and the task's lock, if it is locked
 pub record Ledger : Type 0 where
@@ -46,3 +42,7 @@ ledger_at s l = find (λ g. g.id == l) s.ledgers
 -- when a fence of the ledger is due, if that is set
 abbrev pub due_of : Ledger → Option ℕ
 due_of g = option_and_then (λ lock. lock.due) g.lock
+
+-- whether the bookie, registered or not, holds the entry of the ledger
+abbrev pub holds : Cluster → ℕ → ℕ → ℕ → Bool
+holds s bookie ledger entry = has s.held bookie ledger entry
