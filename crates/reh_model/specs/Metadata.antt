@@ -1,11 +1,13 @@
--- A ledger's metadata: its sizes, its state, and its fragments, each with the ensemble that its entries were written to.
-use Rattle.std.specs.Prelude.{ℕ, ◌+◌, Bool, true, false, List, [], Option, None, Some, unwrap_or, slice_get}
-use Rattle.std.specs.List.{last_or}
-use Rattle.std.specs.Option.{option_map, option_or}
+-- A ledger's metadata, with the words of BookKeeper's `LedgerMetadata` and of its documentation of the protocol: the ensemble size, the write
+-- quorum and the ack quorum, the state (OPEN, IN_RECOVERY or CLOSED), and the fragments, each with the ensemble that its entries were written to.
+use Rattle.std.specs.Prelude.{◌≡◌, ℕ, ◌+◌, ◌-◌, ◌^◌, ◌<◌, ◌≤◌, Bool, true, false, not, ◌&&◌, ◌==◌, nat_eq, nat_lt, nat_le, List, [], ◌∷◌, map, drop, length, Option, None, Some, unwrap_or, slice_get, All}
+use Rattle.std.specs.List.{list_any, list_all, zip, IsDistinct}
+use Rattle.std.specs.List.Sorted.{IsStrictlyIncreasing}
+use Rattle.std.specs.Option.{ForSome, option_map, option_map_or, option_or}
 use Rattle.reh_types.specs.declared.names.LedgerState.{LedgerState}
 use Rattle.reh_types.specs.declared.names.LedgerState.TheVariants.{Open, InRecovery, Closed}
 
--- entries from the first one on, and the bookies that they were written to
+-- entries from the first one on, and the bookies that they were written to (BookKeeper: `getAllEnsembles`, by first entry)
 pub record Fragment : Type 0 where
   pub first : ℕ
   pub ensemble : List ℕ
@@ -36,5 +38,55 @@ abbrev pub stop_of : Metadata → ℕ → Option ℕ
 stop_of m f = option_or (option_map (λ next. next.first) (slice_get m.fragments (f + 1))) (end_of_state m.state)
 
 -- the last fragment, to which a writer appends
+abbrev pub last_of : List Fragment → Option Fragment
+last_of fragments = slice_get fragments (length fragments - 1)
+
 abbrev pub last_fragment : Metadata → Fragment
-last_fragment m = unwrap_or (last_or None m.fragments) (record { first = 0; ensemble = [] })
+last_fragment m = unwrap_or (last_of m.fragments) (record { first = 0; ensemble = [] })
+
+-- Rules, as tests
+
+-- 1 <= ack quorum <= write quorum <= ensemble size <= 16
+abbrev pub are_quorums : ℕ → ℕ → ℕ → Bool
+are_quorums size write_quorum ack_quorum = nat_le 1 ack_quorum && nat_le ack_quorum write_quorum && nat_le write_quorum size && nat_le size 16
+
+-- each fragment begins before the next
+abbrev pub are_rising : List Fragment → Bool
+are_rising fragments = list_all (λ neighbours. nat_lt neighbours.0.first neighbours.1.first) (zip fragments (drop 1 fragments))
+
+-- there is a fragment, the first begins at entry 0, and each begins before the next
+abbrev pub rise_from_zero : List Fragment → Bool
+rise_from_zero fragments = option_map_or (λ fragment. fragment.first == 0) (slice_get fragments 0) false && are_rising fragments
+
+-- no bookie is named twice
+abbrev pub are_different : List ℕ → Bool
+are_different [] = true
+are_different (b ∷ bookies) = not (list_any (λ other. other == b) bookies) && are_different bookies
+
+-- an ensemble of this size: so many different bookies
+abbrev pub is_ensemble : ℕ → List ℕ → Bool
+is_ensemble size ensemble = (length ensemble == size) && are_different ensemble
+
+-- a closed ledger ends at or after the last fragment's first entry
+abbrev pub ends_within : LedgerState → List Fragment → Bool
+ends_within state fragments = option_map_or (λ end. option_map_or (λ last. nat_le last.first end) (last_of fragments) true) (end_of_state state) true
+
+-- Well-formed metadata: the rules, and the limits
+
+pub record IsEnsemble (size : ℕ) (ensemble : List ℕ) : Type 0 where
+  pub whole : length ensemble ≡ size
+  pub different : IsDistinct nat_eq ensemble
+
+pub record IsMetadata (m : Metadata) : Type 0 where
+  pub some_acks : 1 ≤ m.ack_quorum
+  pub acks_within : m.ack_quorum ≤ m.write_quorum
+  pub writes_within : m.write_quorum ≤ m.size
+  pub small : m.size ≤ 16
+  pub version : m.version ≤ 10 ^ 12
+  pub some_fragment : 1 ≤ length m.fragments
+  pub fragments : length m.fragments ≤ 256
+  pub from_zero : ForSome (slice_get m.fragments 0) (λ fragment. fragment.first ≡ 0)
+  pub rising : IsStrictlyIncreasing (map (λ fragment. fragment.first) m.fragments)
+  pub firsts : All (λ fragment. fragment.first < 2 ^ 16) m.fragments
+  pub ensembles : All (λ fragment. IsEnsemble m.size fragment.ensemble) m.fragments
+  pub end : ForSome (end_of_state m.state) (λ end. ((last_fragment m).first ≤ end) × (end ≤ 2 ^ 16))

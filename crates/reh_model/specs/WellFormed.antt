@@ -1,40 +1,19 @@
 -- Which clusters there can be: the limits, the rules of ledgers, and what tasks, locks and due ticks stand on.
-use Rattle.std.specs.Prelude.{◌≡◌, ℕ, true, ◌+◌, ◌*◌, ◌/◌, ◌^◌, ◌<◌, ◌≤◌, List, map, length, sum_by, IsTrue, nat_eq, slice_get, All}
+use Rattle.std.specs.Prelude.{◌≡◌, ℕ, true, ◌+◌, ◌*◌, ◌/◌, ◌^◌, ◌<◌, ◌≤◌, map, length, sum_by, IsTrue, nat_eq, All}
 use Rattle.std.specs.List.{IsDistinct}
-use Rattle.std.specs.List.Sorted.{IsStrictlyIncreasing}
 use Rattle.std.specs.Option.{ForSome, IsSome, option_map_or}
 use Rattle.std.specs.Str.{bytes_eq}
 use Rattle.reh_types.specs.Sets as set
 use Rattle.reh_types.specs.Sets.{Set, numbers}
 use Rattle.reh_model.specs.Contents.{Contents, greatest_held}
-use Rattle.reh_model.specs.Metadata.{Metadata, last_fragment, end_of_state, is_open}
+use Rattle.reh_model.specs.Metadata.{IsMetadata, is_open}
 use Rattle.reh_model.specs.Cluster.{Cluster, Ledger, is_up, due_of, ledger_at}
 
--- an ensemble of that many different bookies
-pub record IsEnsemble (bookies size : ℕ) (ensemble : List ℕ) : Type 0 where
-  pub whole : length ensemble ≡ size
-  pub different : IsDistinct nat_eq ensemble
-  pub known : All (λ b. b < bookies) ensemble
-
--- a ledger's metadata, in a picture with that many bookies
-pub record IsMetadata (bookies : ℕ) (m : Metadata) : Type 0 where
-  pub some_acks : 1 ≤ m.ack_quorum
-  pub acks_within : m.ack_quorum ≤ m.write_quorum
-  pub writes_within : m.write_quorum ≤ m.size
-  pub small : m.size ≤ 16
-  pub version : m.version ≤ 10 ^ 12
-  pub some_fragment : 1 ≤ length m.fragments
-  pub fragments : length m.fragments ≤ 256
-  pub from_zero : ForSome (slice_get m.fragments 0) (λ fragment. fragment.first ≡ 0)
-  pub rising : IsStrictlyIncreasing (map (λ fragment. fragment.first) m.fragments)
-  pub firsts : All (λ fragment. fragment.first < 2 ^ 16) m.fragments
-  pub ensembles : All (λ fragment. IsEnsemble bookies m.size fragment.ensemble) m.fragments
-  pub end : ForSome (end_of_state m.state) (λ end. ((last_fragment m).first ≤ end) × (end ≤ 2 ^ 16))
-
--- a ledger of the cluster: its metadata, its task and its lock
+-- a ledger of the cluster: its metadata, which names bookies of the cluster, its task and its lock
 pub record IsLedger (s : Cluster) (g : Ledger) : Type 0 where
   pub id : g.id ≤ 10 ^ 12
-  pub metadata : IsMetadata (length s.names) g.metadata
+  pub metadata : IsMetadata g.metadata
+  pub members : All (λ fragment. All (λ b. b < length s.names) fragment.ensemble) g.metadata.fragments
   pub task : ForSome g.task (λ task. (0 < set.len task) × All (λ b. b < length s.names) (set.items task))
   pub lock : ForSome g.lock (λ lock. (lock.owner < length s.names) × IsSome g.task)
   pub due : ForSome (due_of g) (λ due. (due ≤ s.clock + s.grace) × IsTrue (is_open g.metadata.state))

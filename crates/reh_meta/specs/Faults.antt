@@ -1,0 +1,43 @@
+-- The first rule that would-be metadata breaks.
+use Rattle.std.specs.Prelude.{ℕ, Bool, if◌then◌else◌, List, [], ◌∷◌, Option, None, Some}
+use Rattle.std.specs.List.{list_all}
+use Rattle.std.specs.Option.{option_or}
+use Rattle.reh_types.specs.declared.names.LedgerState.{LedgerState}
+use Rattle.reh_model.specs.Metadata.{Fragment, Metadata, are_quorums, rise_from_zero, is_ensemble, ends_within}
+use Rattle.reh_meta.specs.declared.faults.MetaFault.{MetaFault}
+use Rattle.reh_meta.specs.declared.faults.MetaFault.TheVariants.{BadQuorum, BadFragment, BadEnsemble, BadLast, NoMemory}
+use Rattle.reh_meta.specs.declared.ledgers.Sizes.{Sizes}
+
+-- the metadata of these parts, whether or not they keep the rules
+abbrev pub metadata_of : Sizes → LedgerState → ℕ → List Fragment → Metadata
+metadata_of sizes state version fragments = record {
+  size = sizes.ensemble;
+  write_quorum = sizes.write_quorum;
+  ack_quorum = sizes.ack_quorum;
+  state = state;
+  version = version;
+  fragments = fragments;
+}
+
+-- the fault, unless the rule is kept
+abbrev pub fault_unless : Bool → MetaFault → Option MetaFault
+fault_unless kept fault = if kept then None else Some fault
+
+-- the first check that gives a fault
+abbrev pub first_fault : List (Option MetaFault) → Option MetaFault
+first_fault [] = None
+first_fault (check ∷ checks) = option_or check (first_fault checks)
+
+-- the first rule that is broken, if there is one
+abbrev pub fault_of : Metadata → Option MetaFault
+fault_of m = first_fault (
+    fault_unless (are_quorums m.size m.write_quorum m.ack_quorum) BadQuorum
+    ∷ fault_unless (rise_from_zero m.fragments) BadFragment
+    ∷ fault_unless (list_all (λ fragment. is_ensemble m.size fragment.ensemble) m.fragments) BadEnsemble
+    ∷ fault_unless (ends_within m.state m.fragments) BadLast
+    ∷ [])
+
+-- the broken rule that a fault tells of; want of memory tells of none
+abbrev pub fault_found : MetaFault → Option MetaFault
+fault_found NoMemory = None
+fault_found fault = Some fault

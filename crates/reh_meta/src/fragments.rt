@@ -1,0 +1,86 @@
+// Fragments of a ledger.
+ghost use Rattle.std.specs.Prelude.{◌≡◌};
+ghost use Rattle.std.specs.List.{list_all};
+ghost use Rattle.reh_model.specs.Metadata as meta;
+
+use reh_types::BookieIx;
+use std::alloc::AllocError;
+use std::marker::Model;
+
+/// Entries of a ledger, from the first one up to the next fragment's first, and the ensemble of
+/// bookies that they were written to.
+#[derive(Drop)]
+pub struct Fragment {
+    /// The id of the first entry.
+    pub first: u32,
+    /// The bookies, by their indexes in the ensemble.
+    pub ensemble: Vec<BookieIx>,
+}
+
+impl Model for Fragment {
+    ghost use Rattle.reh_model.specs.Metadata.{Fragment as FragmentValue};
+
+    ghost Value = { FragmentValue };
+
+    ghost view = { λ a. record { first = a.first; ensemble = a.ensemble.items } };
+}
+
+impl Clone for Fragment {
+    ghost use Rattle.std.specs.Prelude.{◌≡◌};
+
+    ghost is_clone = { λ fragment copy. copy ≡ fragment };
+
+    fn clone(&self) -> Result<Fragment, AllocError> {
+        Ok(Fragment {
+            first: self.first,
+            ensemble: self.ensemble.clone()?,
+        })
+    }
+}
+
+// Whether there is a fragment, the first begins at entry 0, and each begins before the next.
+pub(crate) fn rise_from_zero(fragments: &[Fragment]) -> bool
+    ensures { result ≡ meta.rise_from_zero fragments.now }
+{
+    fragments
+        .first()
+        .is_some_and(|fragment| fragment.first == 0)
+        && are_rising(fragments)
+}
+
+// Whether each fragment begins before the next.
+fn are_rising(fragments: &[Fragment]) -> bool
+    ensures { result ≡ meta.are_rising fragments.now }
+{
+    let next_ones = fragments.iter().skip(1);
+    fragments
+        .iter()
+        .zip(next_ones)
+        .all(|(fragment, next)| fragment.first < next.first)
+}
+
+// Whether each fragment has an ensemble of this size.
+pub(crate) fn have_ensembles(fragments: &[Fragment], size: u64) -> bool
+    ensures { result ≡ list_all (λ fragment. meta.is_ensemble size fragment.ensemble) fragments.now }
+{
+    fragments
+        .iter()
+        .all(|fragment| is_ensemble(&fragment.ensemble, size))
+}
+
+// Whether these are so many different bookies.
+fn is_ensemble(members: &[BookieIx], size: u64) -> bool
+    ensures { result ≡ meta.is_ensemble size members.now }
+{
+    members.len() as u64 == size && are_different(members)
+}
+
+// Whether no bookie is named twice.
+fn are_different(members: &[BookieIx]) -> bool
+    ensures { result ≡ meta.are_different members.now }
+{
+    match members {
+        [] => true,
+        [first, rest @ ..] => !rest.contains(first) && are_different(rest),
+    }
+}

@@ -1,0 +1,199 @@
+// The metadata of a ledger.
+ghost use Rattle.std.specs.Prelude.{◌≡◌, ◌<◌, ◌≤◌, ◌^◌, length, IfOk, IfErr, All};
+ghost use Rattle.std.specs.Option.{ForSome};
+ghost use Rattle.reh_model.specs.Metadata as meta;
+ghost use Rattle.reh_model.specs.Metadata.{IsMetadata, end_of_state, stop_of};
+
+use crate::faults::MetaFault;
+use crate::fragments::{Fragment, have_ensembles, rise_from_zero};
+use reh_types::LedgerState;
+use std::alloc::{AllocError, Global};
+use std::marker::Model;
+
+/// How many bookies an ensemble has, how many of them each entry is written to, and how many of
+/// these must have acknowledged it: BookKeeper's ensemble size, write quorum and ack quorum.
+#[derive(Clone, Copy, PartialEq, Eq, Debug)]
+pub struct Sizes {
+    /// The ensemble size.
+    pub ensemble: u64,
+    /// The write quorum.
+    pub write_quorum: u64,
+    /// The ack quorum.
+    pub ack_quorum: u64,
+}
+
+// Whether `1 <= ack quorum <= write quorum <= ensemble size <= 16`.
+fn are_quorums(sizes: Sizes) -> bool
+    ensures { result ≡ meta.are_quorums sizes.ensemble sizes.write_quorum sizes.ack_quorum }
+{
+    1 <= sizes.ack_quorum
+        && sizes.ack_quorum <= sizes.write_quorum
+        && sizes.write_quorum <= sizes.ensemble
+        && sizes.ensemble <= 16
+}
+
+// Where a ledger's entries end, if it is closed.
+fn end_of_closed(state: LedgerState) -> Option<u32>
+    ensures { result ≡ end_of_state state }
+{
+    match state {
+        LedgerState::Closed { end } => Some(end),
+        LedgerState::Open | LedgerState::InRecovery => None,
+    }
+}
+
+// Whether the ledger, if it is closed, ends at or after the last fragment's first entry.
+fn ends_within(state: LedgerState, fragments: &[Fragment]) -> bool
+    ensures { result ≡ meta.ends_within state fragments.now }
+{
+    match (end_of_closed(state), fragments.last()) {
+        (Some(end), Some(last)) => last.first <= end,
+        _ => true,
+    }
+}
+
+/// The metadata of a ledger, well-formed by its type: each value keeps the limits and rules of
+/// `IsMetadata`. Contracts see it as `Metadata`.
+///
+/// The rules are those of BookKeeper's `LedgerMetadata`: its quorums, and its ensembles by the first
+/// entries of their fragments.
+#[derive(Drop)]
+pub struct LedgerMeta {
+    size: u32,
+    write_quorum: u32,
+    ack_quorum: u32,
+    state: LedgerState,
+    version: u64,
+    fragments: Vec<Fragment>,
+}
+
+impl Model for LedgerMeta {
+    ghost use Rattle.reh_model.specs.Metadata.{Metadata};
+
+    ghost Value = { Metadata };
+
+    ghost use Rattle.reh_meta.specs.LedgerMeta.{metadata_in, IsMetadataIn};
+
+    ghost view = { metadata_in };
+
+    ghost invariant = { IsMetadataIn };
+}
+
+impl LedgerMeta {
+    ghost use Rattle.reh_meta.specs.Faults.{metadata_of, fault_of, fault_found};
+
+    /// The metadata of these parts, if they keep the rules. The fragments are copied.
+    ///
+    /// The fault is the first that applies, in the order of `MetaFault`. The caller keeps the limits: a
+    /// version of at most 10^12, first entries below 65,536, an end of at most 65,536, 256 fragments.
+    pub fn try_new(
+        alloc: Global,
+        sizes: Sizes,
+        state: LedgerState,
+        version: u64,
+        fragments: &[Fragment],
+    ) -> Result<LedgerMeta, MetaFault>
+        requires version { version ≤ 10 ^ 12 }
+        requires end { ForSome (end_of_state state) (λ end. end ≤ 2 ^ 16) }
+        requires count { length fragments.now ≤ 256 }
+        requires firsts { All (λ fragment. fragment.first < 2 ^ 16) fragments.now }
+        ensures made { IfOk result (λ made. made ≡ metadata_of sizes state version fragments.now) }
+        ensures sound { IfOk result (λ made. fault_of made ≡ None) }
+
+        // Want of memory, which tells of no broken rule, comes only where none is.
+        ensures fault { let parts = metadata_of sizes state version fragments.now in
+            IfErr result (λ fault. fault_of parts ≡ fault_found fault) }
+    {
+        if !are_quorums(sizes) {
+            return Err(MetaFault::BadQuorum);
+        }
+        if !rise_from_zero(fragments) {
+            return Err(MetaFault::BadFragment);
+        }
+        if !have_ensembles(fragments, sizes.ensemble) {
+            return Err(MetaFault::BadEnsemble);
+        }
+        if !ends_within(state, fragments) {
+            return Err(MetaFault::BadLast);
+        }
+
+        Ok(LedgerMeta {
+            size: sizes.ensemble as u32,
+            write_quorum: sizes.write_quorum as u32,
+            ack_quorum: sizes.ack_quorum as u32,
+            state,
+            version,
+            fragments: Vec::from_clones(alloc, fragments)?,
+        })
+    }
+
+    /// A copy, on the same allocator.
+    pub fn clone_in(&self) -> Result<LedgerMeta, AllocError>
+        ensures { IfOk result (λ copy. copy ≡ self.now) }
+    {
+        Ok(LedgerMeta {
+            size: self.size,
+            write_quorum: self.write_quorum,
+            ack_quorum: self.ack_quorum,
+            state: self.state,
+            version: self.version,
+            fragments: self.fragments.clone()?,
+        })
+    }
+
+    /// The ensemble size.
+    pub fn size(&self) -> u32
+        ensures size { result ≡ self.now.size }
+        ensures well_formed { IsMetadata self.now }
+    {
+        self.size
+    }
+
+    /// The write quorum: how many bookies an entry is written to.
+    pub fn write_quorum(&self) -> u32
+        ensures { result ≡ self.now.write_quorum }
+    {
+        self.write_quorum
+    }
+
+    /// The ack quorum: how many bookies must have acknowledged an entry.
+    pub fn ack_quorum(&self) -> u32
+        ensures { result ≡ self.now.ack_quorum }
+    {
+        self.ack_quorum
+    }
+
+    /// Where the ledger stands.
+    pub fn state(&self) -> LedgerState
+        ensures { result ≡ self.now.state }
+    {
+        self.state
+    }
+
+    /// The version. Each change of the metadata raises it by 1.
+    pub fn version(&self) -> u64
+        ensures { result ≡ self.now.version }
+    {
+        self.version
+    }
+
+    /// The fragments, in the order of their first entries.
+    pub fn fragments(&self) -> &[Fragment]
+        ensures fragments { result.now ≡ self.now.fragments }
+        ensures well_formed { IsMetadata self.now }
+    {
+        &self.fragments
+    }
+
+    /// The stop of a fragment, if it has one: where the next fragment begins, or for the last one the
+    /// end of a closed ledger.
+    pub fn end_of(&self, fragment: usize) -> Option<u32>
+        requires { fragment < length self.now.fragments }
+        ensures { result ≡ stop_of self.now fragment }
+    {
+        match self.fragments.get(fragment + 1) {
+            Some(next) => Some(next.first),
+            None => end_of_closed(self.state),
+        }
+    }
+}

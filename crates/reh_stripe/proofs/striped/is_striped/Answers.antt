@@ -1,0 +1,14 @@
+use Rattle.std.proofs.Common.{◌≡◌, false, sym, ◌∙◌, ap, arith, nat_lt}
+use Rattle.std.proofs.lemmas.Bool.Decides.{nat_tests}
+use Rattle.reh_model.proofs.StripingLaws.{is_striped-rank_of, is_striped-outside}
+use Rattle.reh_stripe.proofs.striped.is_striped.Goals as goal
+
+pub returns-then-index-size : goal.returns-then-index-size
+returns-then-index-size c =
+    ap (λ r. nat_lt r c.args.quorum) c.rank_of.ensures
+    ∙ sym (is_striped-rank_of c.args.entry c.args.index c.args.size c.args.quorum c.requires.some c.requires.within (omega arith))
+
+pub returns-else-index-size : goal.returns-else-index-size
+returns-else-index-size c =
+    let no : nat_lt c.args.index c.args.size ≡ false = grind (arith, nat_tests) in
+    no ∙ sym (is_striped-outside c.args.entry c.args.index c.args.size c.args.quorum c.requires.within (omega arith))

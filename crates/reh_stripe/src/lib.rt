@@ -1,0 +1,11 @@
+// Which members of an ensemble carry an entry: BookKeeper's round-robin distribution.
+#![tactic(auto)]
+
+mod striped;
+mod writes;
+
+pub use striped::{Striped, is_striped};
+pub use writes::{WriteSet, write_set};
+
+#[cfg(test)]
+mod tests;

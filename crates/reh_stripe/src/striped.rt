@@ -1,0 +1,92 @@
+// The entries that an index of an ensemble carries.
+ghost use Rattle.std.specs.Prelude.{◌≡◌, ◌<◌, ◌≤◌};
+ghost use Rattle.std.specs.Iterator.{YieldsFirst, item_count};
+ghost use Rattle.reh_model.specs.Striping as stripe;
+
+use std::marker::Model;
+
+/// Whether the index of an ensemble carries the entry: whether it is in the entry's write set.
+///
+/// An index that isn't below the size carries none. The size is the ensemble's, the quorum the
+/// write quorum. BookKeeper's `RoundRobinDistributionSchedule::hasEntry`.
+pub fn is_striped(entry: u32, index: u32, size: u32, quorum: u32) -> bool
+    requires some { 1 ≤ quorum }
+    requires within { quorum ≤ size }
+    requires small { size ≤ 16 }
+    ensures { result ≡ stripe.is_striped entry index size quorum }
+{
+    index < size && rank_of(entry, index, size) < quorum
+}
+
+// The rank at which the index carries the entry, if it is below the write quorum.
+fn rank_of(entry: u32, index: u32, size: u32) -> u32
+    requires inside { index < size }
+    requires small { size ≤ 16 }
+    ensures { result ≡ stripe.rank_of entry index size }
+{
+    (index + size - entry % size) % size
+}
+
+/// The entries of a range that an index carries, rising; contracts see those that are left.
+///
+/// Each call of `next` takes the same time, however far the next entry is.
+#[derive(Drop)]
+pub struct Striped {
+    at: u32,
+    stop: u32,
+    index: u32,
+    size: u32,
+    quorum: u32,
+}
+
+impl Model for Striped {
+    ghost use Rattle.std.specs.Prelude.{List, ℕ, ◌≤◌};
+    ghost use Rattle.reh_model.specs.Striping as stripe;
+
+    ghost Value = { List ℕ };
+
+    ghost view = { λ s. stripe.striped s.at s.stop s.index s.size s.quorum };
+
+    ghost invariant = { λ s. (1 ≤ s.quorum) × (s.quorum ≤ s.size) × (s.size ≤ 16) };
+}
+
+impl Striped {
+    /// The entries from the first up to, not including, the stop that the index carries.
+    pub fn new(first: u32, stop: u32, index: u32, size: u32, quorum: u32) -> Striped
+        requires some { 1 ≤ quorum }
+        requires within { quorum ≤ size }
+        requires small { size ≤ 16 }
+        ensures { result ≡ stripe.striped first stop index size quorum }
+    {
+        Striped {
+            at: first,
+            stop,
+            index,
+            size,
+            quorum,
+        }
+    }
+}
+
+impl Iterator for Striped {
+    type Item = u32;
+
+    ghost next_gives = { YieldsFirst (λ s. s) };
+
+    ghost remaining = { item_count (λ s. s) };
+
+    fn next(&mut self) -> Option<u32> {
+        if self.index >= self.size {
+            return None;
+        }
+
+        // the ranks fall by 1 from entry to entry
+        let skipped = rank_of(self.at, self.index, self.size).saturating_sub(self.quorum - 1);
+        if skipped >= self.stop.saturating_sub(self.at) {
+            return None;
+        }
+        let entry = self.at + skipped;
+        self.at = entry + 1;
+        Some(entry)
+    }
+}

@@ -1,0 +1,34 @@
+// Striping as BookKeeper's documentation shows it, and of a small ledger.
+use crate::{Striped, is_striped, write_set};
+
+// Five bookies and a write quorum of three: an entry goes round the ensemble, one bookie further each time.
+#[test]
+fn goes_round_the_ensemble(rt: HostRuntime) {
+    let write_sets = [
+        (0, [0, 1, 2]),
+        (1, [1, 2, 3]),
+        (2, [2, 3, 4]),
+        (3, [3, 4, 0]),
+        (4, [4, 0, 1]),
+        (5, [0, 1, 2]),
+    ];
+    for (entry, indexes) in write_sets {
+        assert!(rt; write_set(entry, 5, 3).eq(indexes), "entry {entry}");
+    }
+}
+
+// Three bookies and a write quorum of two.
+#[test]
+fn stripes_the_entries_of_a_ledger(rt: HostRuntime) {
+    assert!(rt; Striped::new(0, 6, 1, 3, 2).eq([0, 1, 3, 4]));
+    for (entry, carried) in [
+        (0, true),
+        (1, true),
+        (2, false),
+        (3, true),
+        (4, true),
+        (5, false),
+    ] {
+        assert_eq!(rt; is_striped(entry, 1, 3, 2), carried, "entry {entry}");
+    }
+}
