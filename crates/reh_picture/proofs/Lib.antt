@@ -1,3 +1,4 @@
 pub mod Jsons
 pub mod Lists
 pub mod BookiesLemmas
+mod Examples

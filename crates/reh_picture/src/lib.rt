@@ -9,6 +9,6 @@ mod pictures;
 #[cfg(test)]
 mod tests;
 
-pub use faults::{FaultName, PictureFault};
+pub use faults::{FaultName, LedgerFlaw, PictureFault, Repeated};
 pub use fields::Field;
 pub use pictures::read_picture;
