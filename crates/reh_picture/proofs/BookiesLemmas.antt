@@ -46,6 +46,7 @@ named_more false up i n within named = named
 module _ (bookies : List Value) (i : ℕ) (names : List (List ℕ)) (up : Set numbers) (bookie : Value) where
   module _ (read : HasRead bookies i names up) (within : i < length bookies) (is : bookie ≡ get_or bookies i bookie) where
     pub bookie_fault_here : (fault : PictureFault) → bookie_fault names (view bookie) ≡ Some fault → bookies_fault (map view bookies) ≡ Some fault
+    unfolding bookies_fault
     bookie_fault_here fault here = fault_here judge bookies i bookie within is read.left fault (ap (λ ns. bookie_fault ns (view bookie)) (sym read.names_are) ∙ here)
 
     pub HasRead-next : (more : Bool) (later : List (List ℕ)) (after : Set numbers) → bookie_fault names (view bookie) ≡ None → later ≡ names ++ text_of (view bookie) field.Name ∷ []

@@ -40,6 +40,19 @@ module _ (judge : List Data → Data → Option PictureFault) (xs : List Value) 
   pub IsLeft-next : judge (map view (take i xs)) (view x) ≡ None → IsLeft judge xs (i + 1)
   IsLeft-next good = sym (ap (λ check. option_or check (fault_along judge (map view (take (i + 1) xs)) (map view (drop (i + 1) xs)))) good) ∙ from_here
 
+-- Of each of the first elements one thing was made, and none has a fault.
+pub record HasMade {X : Type 0} (judge : List Data → Data → Option PictureFault) (made : Data → X) (xs : List Value) (i : ℕ) (things : List X) : Type 0 where
+  pub things_are : things ≡ map made (map view (take i xs))
+  pub left : IsLeft judge xs i
+
+-- the things, after one more
+pub HasMade-next : {X : Type 0} (judge : List Data → Data → Option PictureFault) (made : Data → X) (xs : List Value) (i : ℕ) (x : Value) → i < length xs → x ≡ get_or xs i x
+    → (things later : List X) → HasMade judge made xs i things → judge (map view (take i xs)) (view x) ≡ None → later ≡ things ++ made (view x) ∷ [] → HasMade judge made xs (i + 1) later
+HasMade-next judge made xs i x within is things later so_far good more = record {
+  things_are = more ∙ ap (λ ts. ts ++ made (view x) ∷ []) so_far.things_are ∙ sym (ap (map made) (passed_to view xs i x within is) ∙ map-append made (map view (take i xs)) _);
+  left = IsLeft-next judge xs i x within is so_far.left good;
+}
+
 -- the set of a list and one more
 or_turned : (a b : Bool) → (a || (b || false)) ≡ (b || a)
 or_turned true true = refl

@@ -42,7 +42,7 @@ abbrev pub names_in : List Data → List (List ℕ)
 names_in bookies = map (λ d. text_of d field.Name) bookies
 
 -- the first fault of all bookies
-abbrev pub bookies_fault : List Data → Option PictureFault
+unfoldable pub bookies_fault : List Data → Option PictureFault
 bookies_fault bookies = fault_along (λ before d. bookie_fault (names_in before) d) [] bookies
 
 -- the places of the bookies that are registered

@@ -44,6 +44,10 @@ range_fault least d =
     ∷ fault_unless (nat_le least (ends_of d).0 && nat_le (ends_of d).0 (ends_of d).1 && nat_le (ends_of d).1 65_535) (Limit field.Entries)
     ∷ [])
 
+-- the first fault of ranges
+unfoldable pub ranges_fault : List Data → Option PictureFault
+ranges_fault ranges = fault_along (λ before d. range_fault (next_after before) d) [] ranges
+
 abbrev pub entries_in : List Data → List ℕ
 entries_in ranges = flat_map (λ d. range (ends_of d).0 ((ends_of d).1 + 1)) ranges
 
@@ -67,11 +71,11 @@ content_fault names ids pairs d =
     ∷ fault_unless (list_any (nat_eq (number_of d field.Ledger)) ids) (BadLedger (number_of d field.Ledger) flaw.Unknown)
     ∷ fault_unless (not (list_any (is_pair (pair_of d)) pairs)) (Twice (repeated.Content (text_of d field.Bookie) (number_of d field.Ledger)))
     ∷ result_err (list_in d field.Entries)
-    ∷ fault_along (λ before r. range_fault (next_after before) r) [] (list_of d field.Entries)
+    ∷ ranges_fault (list_of d field.Entries)
     ∷ [])
 
 -- the first fault of all contents
-abbrev pub contents_fault : List (List ℕ) → List ℕ → List Data → Option PictureFault
+unfoldable pub contents_fault : List (List ℕ) → List ℕ → List Data → Option PictureFault
 contents_fault names ids contents = fault_along (λ before d. content_fault names ids (map pair_of before) d) [] contents
 
 -- (bookie, ledger, entry) for each entry that is held

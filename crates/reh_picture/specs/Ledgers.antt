@@ -35,13 +35,17 @@ member_name d = result_unwrap_or (member_name_in d) []
 abbrev pub member_fault : List (List ℕ) → Data → Option PictureFault
 member_fault names d = first_fault (result_err (member_name_in d) ∷ known_fault names (member_name d) ∷ [])
 
+-- the first fault of an ensemble's members
+unfoldable pub members_fault : List (List ℕ) → List Data → Option PictureFault
+members_fault names members = fault_along (λ _ d. member_fault names d) [] members
+
 abbrev pub fragment_fault : List (List ℕ) → Data → Option PictureFault
 fragment_fault names d =
     first_fault (
     fault_unless (is_object d) (WrongKind field.Fragment)
     ∷ number_fault d field.FirstEntry 0 65_535
     ∷ result_err (list_in d field.Ensemble)
-    ∷ fault_along (λ _ member. member_fault names member) [] (list_of d field.Ensemble)
+    ∷ members_fault names (list_of d field.Ensemble)
     ∷ [])
 
 abbrev pub fragment_in : List (List ℕ) → Data → Fragment
@@ -74,7 +78,29 @@ abbrev pub state_in : Data → LedgerState
 state_in d =
     if is_closed d then Closed (unwrap_or (end_in d) 0) else (if bytes_eq (text_of d field.State) (codes "OPEN") then Open else InRecovery)
 
--- Ledgers
+-- what is wrong with a ledger's state
+abbrev pub state_fault : Data → Option PictureFault
+state_fault d =
+    first_fault (
+    result_err (text_in d field.State)
+    ∷ fault_unless (is_state (text_of d field.State)) (WrongKind field.State)
+    ∷ last_fault d
+    ∷ [])
+
+-- Metadata
+
+-- what is wrong with a ledger's sizes by themselves
+abbrev pub sizes_fault : Data → Option PictureFault
+sizes_fault d =
+    first_fault (
+    result_err (number_in d field.EnsembleSize)
+    ∷ result_err (number_in d field.WriteQuorumSize)
+    ∷ result_err (number_in d field.AckQuorumSize)
+    ∷ [])
+
+-- the first fault of fragments
+unfoldable pub fragments_fault : List (List ℕ) → List Data → Option PictureFault
+fragments_fault names fragments = fault_along (λ _ d. fragment_fault names d) [] fragments
 
 -- the metadata that a ledger's fields name, in a picture whose bookies have these names
 abbrev pub metadata_in : List (List ℕ) → Data → Metadata
@@ -95,6 +121,20 @@ broken_rule ledger meta.BadEnsemble = BadLedger ledger flaw.Ensemble
 broken_rule ledger meta.BadLast = BadLedger ledger flaw.Last
 broken_rule ledger meta.NoMemory = NoMemory
 
+-- the first fault of a ledger's metadata: its fields in their order, and then its rules
+abbrev pub metadata_fault : List (List ℕ) → ℕ → Data → Option PictureFault
+metadata_fault names ledger d =
+    first_fault (
+    state_fault d
+    ∷ sizes_fault d
+    ∷ number_fault d field.Version 0 (10 ^ 12)
+    ∷ list_fault d field.Fragments 0 256
+    ∷ fragments_fault names (list_of d field.Fragments)
+    ∷ option_map (broken_rule ledger) (fault_of (metadata_in names d))
+    ∷ [])
+
+-- Ledgers
+
 -- the first fault of a ledger that follows the ledgers with these ids
 abbrev pub ledger_fault : List (List ℕ) → List ℕ → Data → Option PictureFault
 ledger_fault names ids d =
@@ -102,23 +142,14 @@ ledger_fault names ids d =
     fault_unless (is_object d) (WrongKind field.Ledger)
     ∷ number_fault d field.Id 0 (10 ^ 12)
     ∷ fault_unless (not (list_any (nat_eq (number_of d field.Id)) ids)) (Twice (repeated.Ledger (number_of d field.Id)))
-    ∷ result_err (text_in d field.State)
-    ∷ fault_unless (is_state (text_of d field.State)) (WrongKind field.State)
-    ∷ last_fault d
-    ∷ result_err (number_in d field.EnsembleSize)
-    ∷ result_err (number_in d field.WriteQuorumSize)
-    ∷ result_err (number_in d field.AckQuorumSize)
-    ∷ number_fault d field.Version 0 (10 ^ 12)
-    ∷ list_fault d field.Fragments 0 256
-    ∷ fault_along (λ _ fragment. fragment_fault names fragment) [] (list_of d field.Fragments)
-    ∷ option_map (broken_rule (number_of d field.Id)) (fault_of (metadata_in names d))
+    ∷ metadata_fault names (number_of d field.Id) d
     ∷ [])
 
 abbrev pub ids_in : List Data → List ℕ
 ids_in ledgers = map (λ d. number_of d field.Id) ledgers
 
 -- the first fault of all ledgers
-abbrev pub ledgers_fault : List (List ℕ) → List Data → Option PictureFault
+unfoldable pub ledgers_fault : List (List ℕ) → List Data → Option PictureFault
 ledgers_fault names ledgers = fault_along (λ before d. ledger_fault names (ids_in before) d) [] ledgers
 
 -- the ledger, with no task and no lock

@@ -21,6 +21,7 @@ use std::alloc::Global;
 const MAX_NAME: usize = 300;
 
 /// The names of at most 64 bookies, and those that are registered.
+#[tactic(auto, unfolding(crate::specs::Bookies::bookies_fault))]
 pub(crate) fn read_bookies(
     alloc: Global,
     bookies: &[Value],

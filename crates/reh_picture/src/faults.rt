@@ -4,7 +4,7 @@ ghost use Rattle.reh_picture.specs.Faults.{printed_byte};
 
 use crate::fields::Field;
 use reh_types::LedgerId;
-use std::alloc::{AllocError, Global};
+use std::alloc::{AllocError, AllocFailed, Global};
 use std::fmt;
 use std::marker::Model;
 use thiserror::Error;
@@ -181,6 +181,17 @@ impl From<AllocError> for PictureFault {
     ghost from_gives = { λ _ fault. fault ≡ NoMemory };
 
     fn from(_want: AllocError) -> PictureFault {
+        PictureFault::NoMemory
+    }
+}
+
+impl<T: Drop> From<AllocFailed<T>> for PictureFault {
+    ghost use Rattle.std.specs.Prelude.{◌≡◌};
+    ghost use Rattle.reh_picture.specs.declared.faults.PictureFault.TheVariants.{NoMemory};
+
+    ghost from_gives = { λ _ fault. fault ≡ NoMemory };
+
+    fn from(_want: AllocFailed<T>) -> PictureFault {
         PictureFault::NoMemory
     }
 }

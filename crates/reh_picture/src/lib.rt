@@ -4,6 +4,7 @@
 mod bookies;
 mod faults;
 mod fields;
+mod ledgers;
 mod members;
 mod pictures;
 #[cfg(test)]
