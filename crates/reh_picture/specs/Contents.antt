@@ -3,7 +3,6 @@ use Rattle.std.specs.Prelude.{ℕ, ◌+◌, Bool, not, ◌&&◌, ◌==◌, nat_e
 use Rattle.std.specs.List.{list_any, flat_map, last_or}
 use Rattle.std.specs.Option.{ok_or, option_and_then, option_map, option_map_or}
 use Rattle.std.specs.Result.{result_err, result_unwrap_or}
-use Rattle.std.specs.Str.{bytes_eq}
 use Rattle.serde_json.specs.Data.{Data}
 use Rattle.serde_json.specs.Find.{as_number, as_u64, as_array}
 use Rattle.reh_types.specs.Sets as set
@@ -53,30 +52,40 @@ entries_in ranges = flat_map (λ d. range (ends_of d).0 ((ends_of d).1 + 1)) ran
 
 -- Contents
 
--- what a bookie holds of a ledger goes by the bookie's name and the ledger's id
-abbrev pub pair_of : Data → List ℕ × ℕ
-pair_of d = (text_of d field.Bookie, number_of d field.Ledger)
+-- the bookie and the ledger
+abbrev pub pair_of : List (List ℕ) → Data → ℕ × ℕ
+pair_of names d = (bookie_in names (text_of d field.Bookie), number_of d field.Ledger)
 
-abbrev pub is_pair : List ℕ × ℕ → List ℕ × ℕ → Bool
-is_pair p q = bytes_eq p.0 q.0 && nat_eq p.1 q.1
+abbrev pub pairs_in : List (List ℕ) → List Data → List (ℕ × ℕ)
+pairs_in names contents = map (pair_of names) contents
 
--- The first fault of what a bookie holds of a ledger, after these pairs, in a picture whose bookies have these names and whose ledgers have these ids.
-abbrev pub content_fault : List (List ℕ) → List ℕ → List (List ℕ × ℕ) → Data → Option PictureFault
-content_fault names ids pairs d =
+abbrev pub is_pair : ℕ × ℕ → ℕ × ℕ → Bool
+is_pair p q = nat_eq p.0 q.0 && nat_eq p.1 q.1
+
+-- The first fault of a bookie and a ledger that follow these pairs, in a picture whose bookies have these names and whose ledgers have these ids.
+abbrev pub pair_fault : List (List ℕ) → List ℕ → List (ℕ × ℕ) → Data → Option PictureFault
+pair_fault names ids pairs d =
     first_fault (
     fault_unless (is_object d) (WrongKind field.Content)
     ∷ result_err (text_in d field.Bookie)
     ∷ known_fault names (text_of d field.Bookie)
     ∷ result_err (number_in d field.Ledger)
     ∷ fault_unless (list_any (nat_eq (number_of d field.Ledger)) ids) (BadLedger (number_of d field.Ledger) flaw.Unknown)
-    ∷ fault_unless (not (list_any (is_pair (pair_of d)) pairs)) (Twice (repeated.Content (text_of d field.Bookie) (number_of d field.Ledger)))
+    ∷ fault_unless (not (list_any (is_pair (pair_of names d)) pairs)) (Twice (repeated.Content (text_of d field.Bookie) (number_of d field.Ledger)))
+    ∷ [])
+
+-- the first fault of what a bookie holds of a ledger
+abbrev pub content_fault : List (List ℕ) → List ℕ → List (ℕ × ℕ) → Data → Option PictureFault
+content_fault names ids pairs d =
+    first_fault (
+    pair_fault names ids pairs d
     ∷ result_err (list_in d field.Entries)
     ∷ ranges_fault (list_of d field.Entries)
     ∷ [])
 
 -- the first fault of all contents
 unfoldable pub contents_fault : List (List ℕ) → List ℕ → List Data → Option PictureFault
-contents_fault names ids contents = fault_along (λ before d. content_fault names ids (map pair_of before) d) [] contents
+contents_fault names ids contents = fault_along (λ before d. content_fault names ids (pairs_in names before) d) [] contents
 
 -- (bookie, ledger, entry) for each entry that is held
 abbrev pub copies_in : List (List ℕ) → Data → List (ℕ × ℕ × ℕ)

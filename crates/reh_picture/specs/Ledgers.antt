@@ -122,7 +122,7 @@ broken_rule ledger meta.BadLast = BadLedger ledger flaw.Last
 broken_rule ledger meta.NoMemory = NoMemory
 
 -- the first fault of a ledger's metadata: its fields in their order, and then its rules
-abbrev pub metadata_fault : List (List ℕ) → ℕ → Data → Option PictureFault
+unfoldable pub metadata_fault : List (List ℕ) → ℕ → Data → Option PictureFault
 metadata_fault names ledger d =
     first_fault (
     state_fault d

@@ -7,7 +7,7 @@ ghost use Rattle.reh_model.specs.Metadata.{end_of_state};
 ghost use Rattle.reh_picture.specs.Faults.{FailsWith};
 ghost use Rattle.reh_picture.specs.Members.{number_of};
 ghost use Rattle.reh_picture.specs.Bookies.{known_fault, bookie_in};
-ghost use Rattle.reh_picture.specs.Ledgers.{member_fault, members_fault, member_name, fragment_fault, fragment_in, state_fault, state_in, last_fault, end_in, is_closed, sizes_fault, fragments_fault, metadata_fault, metadata_in, ledger_fault, broken_rule};
+ghost use Rattle.reh_picture.specs.Ledgers.{member_fault, members_fault, member_name, fragment_fault, fragment_in, state_fault, state_in, last_fault, end_in, is_closed, sizes_fault, fragments_fault, metadata_fault, metadata_in, ledger_fault, ledgers_fault, ids_in, broken_rule};
 
 use crate::faults::{FaultName, LedgerFlaw, PictureFault, Repeated};
 use crate::fields::Field;
@@ -26,7 +26,7 @@ const MAX_ID: u64 = 1_000_000_000_000;
 const MAX_VERSION: u64 = 1_000_000_000_000;
 
 /// The greatest id of an entry.
-const MAX_ENTRY: u64 = 65_535;
+pub(crate) const MAX_ENTRY: u64 = 65_535;
 
 /// The most fragments that a ledger may have.
 const MAX_FRAGMENTS: usize = 256;
@@ -171,6 +171,7 @@ fn ledger_fault_of(ledger: LedgerId, fault: MetaFault) -> PictureFault
 }
 
 /// The metadata of a ledger.
+#[tactic(auto, unfolding(crate::specs::Ledgers::metadata_fault))]
 fn read_metadata(
     alloc: Global,
     names: &Names,
@@ -187,4 +188,54 @@ fn read_metadata(
     let fragments = read_fragments(alloc, names, fragments)?;
     LedgerMeta::try_new(alloc, sizes, state, version, &fragments)
         .map_err(|fault| ledger_fault_of(id, fault))
+}
+
+/// The ledgers of a picture, in its order.
+#[derive(Drop)]
+pub(crate) struct Ledgers {
+    /// Their ids.
+    pub(crate) ids: IndexSet<u64>,
+    /// The metadata of each.
+    pub(crate) metadata: Vec<LedgerMeta>,
+}
+
+/// The ledgers.
+#[tactic(auto, unfolding(crate::specs::Ledgers::ledgers_fault))]
+pub(crate) fn read_ledgers(
+    alloc: Global,
+    names: &Names,
+    values: &[Value],
+) -> Result<Ledgers, PictureFault>
+    ensures fault { FailsWith result (ledgers_fault names.now (map view values.now)) }
+    ensures ids { IfOk result (λ ledgers. ledgers.ids.keys ≡ ids_in (map view values.now)) }
+    ensures metadata { IfOk result
+        (λ ledgers. ledgers.metadata.items ≡ map (metadata_in names.now) (map view values.now)) }
+{
+    let mut ids = IndexSet::new(alloc);
+    let mut metadata = Vec::new(alloc);
+    for value in values {
+        metadata.push(read_ledger(alloc, names, &mut ids, value)?)?;
+    }
+    Ok(Ledgers { ids, metadata })
+}
+
+/// One more ledger's metadata; its id joins the ids. After an `Err` they may have it.
+fn read_ledger(
+    alloc: Global,
+    names: &Names,
+    ids: &mut IndexSet<u64>,
+    ledger: &Value,
+) -> Result<LedgerMeta, PictureFault>
+    ensures fault { FailsWith result (ledger_fault names.now ids.old.keys (view ledger.now)) }
+    ensures ids { OnOk result (ids.new.keys ≡ ids.old.keys ++ number_of (view ledger.now) Field.Id ∷ []) }
+    ensures metadata { IfOk result (λ m. m ≡ metadata_in names.now (view ledger.now)) }
+{
+    if !ledger.is_object() {
+        return Err(PictureFault::WrongKind(Field::Ledger));
+    }
+    let id = number_within(ledger, Field::Id, 0, MAX_ID)?;
+    if !ids.insert(id)? {
+        return Err(PictureFault::Twice(Repeated::Ledger(LedgerId(id))));
+    }
+    read_metadata(alloc, names, LedgerId(id), ledger)
 }

@@ -2,6 +2,7 @@
 #![tactic(auto)]
 
 mod bookies;
+mod contents;
 mod faults;
 mod fields;
 mod ledgers;
