@@ -1,25 +1,30 @@
 -- Along the bookies of a picture.
-use Rattle.std.proofs.Common.{◌≡◌, ℕ, ◌+◌, ◌<◌, Bool, true, false, List, [], ◌∷◌, ◌++◌, map, length, take, drop, get_or, None, Some, refl, sym, ap, ◌∙◌, subst, arith, true≢false, length-append, length-take, if◌then◌else◌}
+use Rattle.std.proofs.Common.{◌≡◌, ℕ, ◌+◌, ◌<◌, Bool, true, false, List, [], ◌∷◌, ◌++◌, map, length, take, drop, get_or, Option, None, Some, refl, sym, ap, ◌∙◌, subst, arith, true≢false, length-append, length-take, if◌then◌else◌}
 use Rattle.std.specs.Option.{option_or}
 use Rattle.std.proofs.lemmas.List.{map-append, length-map}
+use Rattle.serde_json.specs.Data.{Data}
 use Rattle.serde_json.specs.View.{view}
 use Rattle.serde_json.specs.declared.value.Value.{Value}
 use Rattle.reh_types.specs.Sets as set
 use Rattle.reh_types.specs.Sets.{Set, numbers, contains-empty, contains-from_list, contains-insert, same_set}
 use Rattle.reh_cluster.proofs.StateLaws.{named-insert}
 use Rattle.reh_picture.specs.declared.faults.PictureFault.{PictureFault}
-use Rattle.reh_picture.specs.declared.fields.Field.TheVariants.{Name, Up}
+use Rattle.reh_picture.specs.declared.fields.Field.TheVariants as field
 use Rattle.reh_picture.specs.Members.{text_of, flag_of}
 use Rattle.reh_picture.specs.Bookies.{bookie_fault, bookies_fault, names_in, registered_in}
-use Rattle.reh_picture.proofs.Lists.{rest_from, passed_to, from_list-places}
+use Rattle.reh_picture.proofs.Lists.{passed_to, from_list-places, IsLeft, IsLeft-next, fault_here}
 
--- What was read of the first bookies: their names and which of them are registered; and the first fault of all is one of those that are left.
+-- a bookie is judged with the names of those before it
+abbrev pub judge : List Data → Data → Option PictureFault
+judge before d = bookie_fault (names_in before) d
+
+-- What was read of the first bookies: their names and which of them are registered, and no fault.
 pub record HasRead (bookies : List Value) (i : ℕ) (names : List (List ℕ)) (up : Set numbers) : Type 0 where
   pub names_are : names ≡ names_in (map view (take i bookies))
   pub up_is : up ≡ registered_in (map view (take i bookies))
   pub named : (b : ℕ) → set.contains up b ≡ true → b < length names
   pub count : length names ≡ i
-  pub rest : bookies_fault names (map view (drop i bookies)) ≡ bookies_fault [] (map view bookies)
+  pub left : IsLeft judge bookies i
 
 -- nothing was read yet
 pub HasRead-none : (bookies : List Value) → HasRead bookies 0 [] set.empty
@@ -29,7 +34,7 @@ HasRead-none bookies = record {
   up_is = refl;
   named = λ b is. absurd (true≢false (sym is ∙ contains-empty numbers b));
   count = refl;
-  rest = refl;
+  left = refl;
 }
 
 -- registered bookies have names, with perhaps one more
@@ -40,27 +45,23 @@ named_more false up i n within named = named
 -- names, and which bookies are registered, after one more bookie
 module _ (bookies : List Value) (i : ℕ) (names : List (List ℕ)) (up : Set numbers) (bookie : Value) where
   module _ (read : HasRead bookies i names up) (within : i < length bookies) (is : bookie ≡ get_or bookies i bookie) where
-    -- its fault is the first of all
-    pub fault_here : (fault : PictureFault) → bookie_fault names (view bookie) ≡ Some fault → bookies_fault [] (map view bookies) ≡ Some fault
-    fault_here fault here =
-        sym read.rest ∙ ap (bookies_fault names) (rest_from view bookies i bookie within is)
-        ∙ ap (λ check. option_or check (bookies_fault (names ++ text_of (view bookie) Name ∷ []) (map view (drop (i + 1) bookies)))) here
+    pub bookie_fault_here : (fault : PictureFault) → bookie_fault names (view bookie) ≡ Some fault → bookies_fault (map view bookies) ≡ Some fault
+    unfolding bookies_fault
+    bookie_fault_here fault here = fault_here judge bookies i bookie within is read.left fault (ap (λ ns. bookie_fault ns (view bookie)) (sym read.names_are) ∙ here)
 
-    pub HasRead-next : (more : Bool) (later : List (List ℕ)) (after : Set numbers) → bookie_fault names (view bookie) ≡ None → later ≡ names ++ text_of (view bookie) Name ∷ []
-        → flag_of (view bookie) Up ≡ more → after ≡ (if more then set.insert up i else up) → HasRead bookies (i + 1) later after
+    pub HasRead-next : (more : Bool) (later : List (List ℕ)) (after : Set numbers) → bookie_fault names (view bookie) ≡ None → later ≡ names ++ text_of (view bookie) field.Name ∷ []
+        → flag_of (view bookie) field.Up ≡ more → after ≡ (if more then set.insert up i else up) → HasRead bookies (i + 1) later after
     HasRead-next more later after good named flag member =
         let ds = map view (take i bookies) in
         let count : length ds ≡ i = length-map (take i bookies) view ∙ length-take i bookies ∙ omega arith in
-        let longer : length later ≡ i + 1 = omega (arith, ap length named, length-append names (text_of (view bookie) Name ∷ []), read.count) in
+        let longer : length later ≡ i + 1 = omega (arith, ap length named, length-append names (text_of (view bookie) field.Name ∷ []), read.count) in
         let passed : map view (take (i + 1) bookies) ≡ ds ++ view bookie ∷ [] = passed_to view bookies i bookie within is in record {
-          names_are = named ∙ ap (λ ns. ns ++ text_of (view bookie) Name ∷ []) read.names_are ∙ sym (ap names_in passed ∙ map-append (λ d. text_of d Name) ds _);
+          names_are = named ∙ ap (λ ns. ns ++ text_of (view bookie) field.Name ∷ []) read.names_are ∙ sym (ap names_in passed ∙ map-append (λ d. text_of d field.Name) ds _);
           up_is = member ∙ ap (λ (s : Set numbers). if more then set.insert s i else s) read.up_is
               ∙ ap (λ k. if more then set.insert (registered_in ds) k else registered_in ds) (sym count)
               ∙ ap (λ (b : Bool). if b then set.insert (registered_in ds) (length ds) else registered_in ds) (sym flag)
-              ∙ sym (ap registered_in passed ∙ from_list-places (λ d. flag_of d Up) ds (view bookie));
+              ∙ sym (ap registered_in passed ∙ from_list-places (λ d. flag_of d field.Up) ds (view bookie));
           named = λ b has. named_more more up i _ (omega arith) (λ k had. let low : k < length names = read.named k had in omega arith) b (subst (λ (s : Set numbers). set.contains s b ≡ true) member has);
           count = longer;
-          rest = ap (λ ns. bookies_fault ns (map view (drop (i + 1) bookies))) named
-              ∙ sym (ap (λ check. option_or check (bookies_fault (names ++ text_of (view bookie) Name ∷ []) (map view (drop (i + 1) bookies)))) good)
-              ∙ sym (ap (bookies_fault names) (rest_from view bookies i bookie within is)) ∙ read.rest;
+          left = IsLeft-next judge bookies i bookie within is read.left (ap (λ ns. bookie_fault ns (view bookie)) (sym read.names_are) ∙ good);
         }

@@ -1,3 +1,5 @@
 pub mod Jsons
 pub mod Lists
 pub mod BookiesLemmas
+pub mod ContentsLemmas
+mod Examples

@@ -1,10 +1,16 @@
 -- Lists that are walked along, and the places at which a test passes.
-use Rattle.std.proofs.Common.{◌≡◌, ℕ, suc, ◌+◌, ◌<◌, Bool, true, false, ◌||◌, cond, List, [], ◌∷◌, ◌++◌, map, length, take, drop, get_or, refl, sym, ap, ◌∙◌, arith, add-one, append-nil, if◌then◌else◌}
+use Rattle.std.proofs.Common.{◌≡◌, ℕ, suc, ◌+◌, ◌<◌, Bool, true, false, ◌||◌, cond, List, [], ◌∷◌, ◌++◌, map, length, take, drop, get_or, Option, None, Some, refl, sym, ap, ◌∙◌, arith, add-one, append-nil, if◌then◌else◌}
 use Rattle.std.specs.List.{filter, list_any, enumerate_from}
 use Rattle.std.specs.Ordering.{nat_cmp, eq_by_cmp}
 use Rattle.std.proofs.lemmas.List.{map-append, take_more}
 use Rattle.std.proofs.lemmas.List.Folds.{list_any-append}
 use Rattle.std.proofs.Math.Seq.{drop-cons}
+use Rattle.std.specs.Option.{option_or}
+use Rattle.serde_json.specs.Data.{Data}
+use Rattle.serde_json.specs.View.{view}
+use Rattle.serde_json.specs.declared.value.Value.{Value}
+use Rattle.reh_picture.specs.declared.faults.PictureFault.{PictureFault}
+use Rattle.reh_picture.specs.Faults.{fault_along}
 use Rattle.reh_types.specs.Sets as set
 use Rattle.reh_types.specs.Sets.{Set, numbers, contains-empty, contains-from_list, contains-insert, same_set}
 
@@ -15,6 +21,37 @@ module _ {A B : Type 0} (f : A → B) (xs : List A) (i : ℕ) (x : A) (within : 
 
   pub passed_to : map f (take (i + 1) xs) ≡ map f (take i xs) ++ f x ∷ []
   passed_to = ap (map f) (take_more xs i x within) ∙ map-append f (take i xs) _ ∙ ap (λ y. map f (take i xs) ++ f y ∷ []) (sym is)
+
+-- The first fault along a list is that of the elements from place i on, each judged with those before it.
+abbrev pub IsLeft : (List Data → Data → Option PictureFault) → List Value → ℕ → Type 0
+IsLeft judge xs i = fault_along judge (map view (take i xs)) (map view (drop i xs)) ≡ fault_along judge [] (map view xs)
+
+module _ (judge : List Data → Data → Option PictureFault) (xs : List Value) (i : ℕ) (x : Value) (within : i < length xs) (is : x ≡ get_or xs i x) (left : IsLeft judge xs i) where
+  from_here : option_or (judge (map view (take i xs)) (view x)) (fault_along judge (map view (take (i + 1) xs)) (map view (drop (i + 1) xs))) ≡ fault_along judge [] (map view xs)
+  from_here =
+      ap (λ before. option_or (judge (map view (take i xs)) (view x)) (fault_along judge before (map view (drop (i + 1) xs)))) (passed_to view xs i x within is)
+      ∙ sym (ap (fault_along judge (map view (take i xs))) (rest_from view xs i x within is)) ∙ left
+
+  -- an element's fault is the first of all
+  pub fault_here : (fault : PictureFault) → judge (map view (take i xs)) (view x) ≡ Some fault → fault_along judge [] (map view xs) ≡ Some fault
+  fault_here fault here = sym from_here ∙ ap (λ check. option_or check (fault_along judge (map view (take (i + 1) xs)) (map view (drop (i + 1) xs)))) here
+
+  -- where it has none, the first is further on
+  pub IsLeft-next : judge (map view (take i xs)) (view x) ≡ None → IsLeft judge xs (i + 1)
+  IsLeft-next good = sym (ap (λ check. option_or check (fault_along judge (map view (take (i + 1) xs)) (map view (drop (i + 1) xs)))) good) ∙ from_here
+
+-- Of each of the first elements one thing was made, and none has a fault.
+pub record HasMade {X : Type 0} (judge : List Data → Data → Option PictureFault) (made : Data → X) (xs : List Value) (i : ℕ) (things : List X) : Type 0 where
+  pub things_are : things ≡ map made (map view (take i xs))
+  pub left : IsLeft judge xs i
+
+-- the things, after one more
+pub HasMade-next : {X : Type 0} (judge : List Data → Data → Option PictureFault) (made : Data → X) (xs : List Value) (i : ℕ) (x : Value) → i < length xs → x ≡ get_or xs i x
+    → (things later : List X) → HasMade judge made xs i things → judge (map view (take i xs)) (view x) ≡ None → later ≡ things ++ made (view x) ∷ [] → HasMade judge made xs (i + 1) later
+HasMade-next judge made xs i x within is things later so_far good more = record {
+  things_are = more ∙ ap (λ ts. ts ++ made (view x) ∷ []) so_far.things_are ∙ sym (ap (map made) (passed_to view xs i x within is) ∙ map-append made (map view (take i xs)) _);
+  left = IsLeft-next judge xs i x within is so_far.left good;
+}
 
 -- the set of a list and one more
 or_turned : (a b : Bool) → (a || (b || false)) ≡ (b || a)

@@ -1,24 +1,47 @@
 -- What is printed for faults, and which of several is the first.
-use Rattle.std.specs.Prelude.{ℕ, Bool, List, [], ◌∷◌, ◌++◌, map, codes, if◌then◌else◌, Option, None, Some, Result, ◌≡◌, ◌≢◌, MatchResult}
+use Rattle.std.specs.Prelude.{◌≡◌, ◌≢◌, ℕ, Bool, List, [], ◌∷◌, ◌++◌, map, codes, if◌then◌else◌, Option, None, Some, Result, MatchResult}
 use Rattle.std.specs.Char.{is_ascii_graphic}
+use Rattle.std.specs.Fmt.{decimal}
 use Rattle.std.specs.Option.{option_or}
+use Rattle.serde_json.specs.Data.{Data}
+use Rattle.reh_picture.specs.declared.faults.LedgerFlaw.{LedgerFlaw}
+use Rattle.reh_picture.specs.declared.faults.LedgerFlaw.TheVariants as flaw
+use Rattle.reh_picture.specs.declared.faults.Repeated.{Repeated}
+use Rattle.reh_picture.specs.declared.faults.Repeated.TheVariants as repeated
 use Rattle.reh_picture.specs.declared.faults.PictureFault.{PictureFault}
-use Rattle.reh_picture.specs.declared.faults.PictureFault.TheVariants.{TooLong, NotJson, Missing, WrongKind, BadName, Twice, Limit, NoMemory}
+use Rattle.reh_picture.specs.declared.faults.PictureFault.TheVariants.{TooLong, NotJson, Missing, WrongKind, BadName, Twice, UnknownBookie, Limit, BadLedger, NoMemory}
 use Rattle.reh_picture.specs.Fields.{field_name}
 
 -- a byte of a name, or `?` where it is outside 0x21 to 0x7E
 abbrev pub printed_byte : ℕ → ℕ
 printed_byte byte = if is_ascii_graphic byte then byte else 63
 
--- number, name and value, with a space between each two
+abbrev pub printed : List ℕ → List ℕ
+printed name = map printed_byte name
+
+abbrev pub repeated_text : Repeated → List ℕ
+repeated_text (repeated.Bookie name) = printed name
+repeated_text (repeated.Ledger ledger) = decimal ledger
+repeated_text (repeated.Content name ledger) = printed name ++ (codes " " ++ decimal ledger)
+
+abbrev pub flaw_name : LedgerFlaw → List ℕ
+flaw_name flaw.Quorum = codes "Quorum"
+flaw_name flaw.Fragment = codes "Fragment"
+flaw_name flaw.Ensemble = codes "Ensemble"
+flaw_name flaw.Last = codes "Last"
+flaw_name flaw.Unknown = codes "Unknown"
+
+-- number, name and values, with a space between each two
 abbrev pub fault_text : PictureFault → List ℕ
 fault_text TooLong = codes "1 TooLong"
 fault_text NotJson = codes "2 NotJson"
 fault_text (Missing field) = codes "3 Missing " ++ field_name field
 fault_text (WrongKind field) = codes "4 WrongKind " ++ field_name field
 fault_text BadName = codes "5 BadName"
-fault_text (Twice name) = codes "6 Twice " ++ map printed_byte name
+fault_text (Twice repeated) = codes "6 Twice " ++ repeated_text repeated
+fault_text (UnknownBookie name) = codes "7 UnknownBookie " ++ printed name
 fault_text (Limit field) = codes "8 Limit " ++ field_name field
+fault_text (BadLedger ledger flaw) = codes "9 BadLedger " ++ (decimal ledger ++ (codes " " ++ flaw_name flaw))
 fault_text NoMemory = codes "10 NoMemory"
 
 -- the fault, unless the condition holds
@@ -29,6 +52,11 @@ fault_unless condition fault = if condition then None else Some fault
 abbrev pub first_fault : List (Option PictureFault) → Option PictureFault
 first_fault [] = None
 first_fault (check ∷ checks) = option_or check (first_fault checks)
+
+-- the first fault along a list, each element judged with those that stand before it
+abbrev pub fault_along : (List Data → Data → Option PictureFault) → List Data → List Data → Option PictureFault
+fault_along judge before [] = None
+fault_along judge before (d ∷ ds) = option_or (judge before d) (fault_along judge (before ++ d ∷ []) ds)
 
 -- The call fails with this fault, and succeeds where there is none; but for want of memory it may always fail.
 abbrev pub FailsWith : {A : Type 0} → Result A PictureFault → Option PictureFault → Type 0

@@ -1,9 +1,9 @@
 -- The members of a picture's objects, each as the kind of value that it must be.
-use Rattle.std.specs.Prelude.{ℕ, Bool, false, nat_le, ◌&&◌, length, List, [], ◌∷◌, option_map, Option, Result, Ok, Err}
+use Rattle.std.specs.Prelude.{ℕ, ℤ, Bool, false, nat_le, ◌&&◌, length, List, [], ◌∷◌, option_map, Option, Result, Ok, Err}
 use Rattle.std.specs.Option.{ok_or, option_and_then, is_some}
 use Rattle.std.specs.Result.{result_unwrap_or, result_err}
 use Rattle.serde_json.specs.Data.{Data, Items, no_items, item}
-use Rattle.serde_json.specs.Find.{get, as_number, as_u64, as_bool, as_str, as_array, as_object}
+use Rattle.serde_json.specs.Find.{get, as_number, as_u64, as_i64, as_bool, as_str, as_array, as_object}
 use Rattle.reh_picture.specs.declared.fields.Field.{Field}
 use Rattle.reh_picture.specs.declared.faults.PictureFault.{PictureFault}
 use Rattle.reh_picture.specs.declared.faults.PictureFault.TheVariants.{Missing, WrongKind, Limit}
@@ -30,6 +30,9 @@ of_kind kind field (Err fault) = Err fault
 
 abbrev pub number_in : Data → Field → Result ℕ PictureFault
 number_in d field = of_kind (λ v. option_and_then as_u64 (as_number v)) field (member_in d field)
+
+abbrev pub integer_in : Data → Field → Result ℤ PictureFault
+integer_in d field = of_kind (λ v. option_and_then as_i64 (as_number v)) field (member_in d field)
 
 abbrev pub flag_in : Data → Field → Result Bool PictureFault
 flag_in d field = of_kind as_bool field (member_in d field)

@@ -9,7 +9,7 @@ ghost use Rattle.reh_picture.specs.Faults.{FailsWith};
 ghost use Rattle.reh_picture.specs.Members.{text_of, flag_of};
 ghost use Rattle.reh_picture.specs.Bookies.{is_name as is_bookie_name, name_fault, bookie_fault, bookies_fault, names_in, registered_in};
 
-use crate::faults::{FaultName, PictureFault};
+use crate::faults::{FaultName, PictureFault, Repeated};
 use crate::fields::Field;
 use crate::members::{flag, text};
 use reh_cluster::Names;
@@ -21,6 +21,7 @@ use std::alloc::Global;
 const MAX_NAME: usize = 300;
 
 /// The names of at most 64 bookies, and those that are registered.
+#[tactic(auto, unfolding(crate::specs::Bookies::bookies_fault))]
 pub(crate) fn read_bookies(
     alloc: Global,
     bookies: &[Value],
@@ -30,7 +31,7 @@ pub(crate) fn read_bookies(
     ensures named { IfOk result (λ r. (b : ℕ) → set.contains r.1 b ≡ true → b < length r.0) }
     ensures names { IfOk result (λ r. r.0 ≡ names_in (map view bookies.now)) }
     ensures registered { IfOk result (λ r. r.1 ≡ registered_in (map view bookies.now)) }
-    ensures fault { FailsWith result (bookies_fault [] (map view bookies.now)) }
+    ensures fault { FailsWith result (bookies_fault (map view bookies.now)) }
 {
     let mut names = Names::new(alloc);
     let mut up = BookieSet::new();
@@ -52,7 +53,8 @@ fn read_bookie(alloc: Global, names: &mut Names, bookie: &Value) -> Result<bool,
 {
     let name = name_of(bookie)?;
     if !names.add(name)? {
-        return Err(PictureFault::Twice(FaultName::new(alloc, name)?));
+        let name = FaultName::new(alloc, name)?;
+        return Err(PictureFault::Twice(Repeated::Bookie(name)));
     }
     flag(bookie, Field::Up)
 }

@@ -3,7 +3,8 @@ ghost use Rattle.std.specs.Prelude.{◌≡◌, IfOk};
 ghost use Rattle.reh_picture.specs.Faults.{printed_byte};
 
 use crate::fields::Field;
-use std::alloc::{AllocError, Global};
+use reh_types::LedgerId;
+use std::alloc::{AllocError, AllocFailed, Global};
 use std::fmt;
 use std::marker::Model;
 use thiserror::Error;
@@ -66,6 +67,64 @@ fn printed(byte: u8) -> char
     }
 }
 
+/// What a picture has twice.
+#[derive(Debug, Drop)]
+pub enum Repeated {
+    /// The name of a bookie.
+    Bookie(FaultName),
+    /// The id of a ledger.
+    Ledger(LedgerId),
+    /// What a bookie holds of a ledger.
+    Content(FaultName, LedgerId),
+}
+
+impl fmt::Display for Repeated {
+    ghost use Rattle.std.specs.Prelude.{Some};
+    ghost use Rattle.reh_picture.specs.Faults.{repeated_text};
+
+    ghost output = { λ repeated. Some (repeated_text repeated) };
+
+    fn fmt<W: fmt::Write>(&self, f: &mut fmt::Formatter<W>) -> fmt::Result {
+        match self {
+            Repeated::Bookie(name) => write!(f, "{name}"),
+            Repeated::Ledger(ledger) => write!(f, "{}", ledger.0),
+            Repeated::Content(name, ledger) => write!(f, "{name} {}", ledger.0),
+        }
+    }
+}
+
+/// What is wrong with a ledger.
+#[derive(Clone, Copy, PartialEq, Eq, Debug)]
+pub enum LedgerFlaw {
+    /// Not `1 <= ack quorum <= write quorum <= ensemble size <= 16`.
+    Quorum,
+    /// There is no fragment, the first doesn't begin at entry 0, or first entries don't rise.
+    Fragment,
+    /// An ensemble is of another size, or names a bookie twice.
+    Ensemble,
+    /// The ledger is closed, and its last entry id is less than the last fragment's first entry minus 1.
+    Last,
+    /// Entries are held of it, and it is no ledger of the picture.
+    Unknown,
+}
+
+impl LedgerFlaw {
+    ghost use Rattle.reh_picture.specs.Faults.{flaw_name};
+
+    /// Its name, as it is printed.
+    pub fn name(self) -> &'static str
+        ensures { result.now ≡ flaw_name self }
+    {
+        match self {
+            LedgerFlaw::Quorum => "Quorum",
+            LedgerFlaw::Fragment => "Fragment",
+            LedgerFlaw::Ensemble => "Ensemble",
+            LedgerFlaw::Last => "Last",
+            LedgerFlaw::Unknown => "Unknown",
+        }
+    }
+}
+
 /// Why a picture is refused. Its text is its number, its name and what it speaks of.
 #[derive(Debug, Drop, Error)]
 pub enum PictureFault {
@@ -79,10 +138,14 @@ pub enum PictureFault {
     WrongKind(Field),
     /// The bookie's name hasn't 1 to 300 bytes, each 0x21 to 0x7E.
     BadName,
-    /// The name is another bookie's already.
-    Twice(FaultName),
+    /// The name, the id or the pair stands in the picture twice.
+    Twice(Repeated),
+    /// No bookie of the picture has the name.
+    UnknownBookie(FaultName),
     /// The field's number, or its number of elements, is none that it may have.
     Limit(Field),
+    /// The ledger breaks a rule, or isn't in the picture.
+    BadLedger(LedgerId, LedgerFlaw),
     /// There is no memory to read the picture.
     NoMemory,
 }
@@ -100,8 +163,12 @@ impl fmt::Display for PictureFault {
             PictureFault::Missing(field) => write!(f, "3 Missing {field}"),
             PictureFault::WrongKind(field) => write!(f, "4 WrongKind {field}"),
             PictureFault::BadName => write!(f, "5 BadName"),
-            PictureFault::Twice(name) => write!(f, "6 Twice {name}"),
+            PictureFault::Twice(repeated) => write!(f, "6 Twice {repeated}"),
+            PictureFault::UnknownBookie(name) => write!(f, "7 UnknownBookie {name}"),
             PictureFault::Limit(field) => write!(f, "8 Limit {field}"),
+            PictureFault::BadLedger(ledger, flaw) => {
+                write!(f, "9 BadLedger {} {}", ledger.0, flaw.name())
+            }
             PictureFault::NoMemory => write!(f, "10 NoMemory"),
         }
     }
@@ -114,6 +181,17 @@ impl From<AllocError> for PictureFault {
     ghost from_gives = { λ _ fault. fault ≡ NoMemory };
 
     fn from(_want: AllocError) -> PictureFault {
+        PictureFault::NoMemory
+    }
+}
+
+impl<T: Drop> From<AllocFailed<T>> for PictureFault {
+    ghost use Rattle.std.specs.Prelude.{◌≡◌};
+    ghost use Rattle.reh_picture.specs.declared.faults.PictureFault.TheVariants.{NoMemory};
+
+    ghost from_gives = { λ _ fault. fault ≡ NoMemory };
+
+    fn from(_want: AllocFailed<T>) -> PictureFault {
         PictureFault::NoMemory
     }
 }

@@ -14,7 +14,7 @@ pub enum Field {
     Grace,
     /// The list of bookies.
     Bookies,
-    /// One bookie.
+    /// One bookie, or the name of the bookie that holds entries.
     Bookie,
     /// A bookie's name.
     Name,
@@ -22,8 +22,36 @@ pub enum Field {
     Up,
     /// The list of ledgers.
     Ledgers,
+    /// One ledger, or the id of the ledger whose entries are held.
+    Ledger,
+    /// A ledger's id.
+    Id,
+    /// Where a ledger stands.
+    State,
+    /// The last entry id of a closed ledger.
+    LastEntryId,
+    /// How many bookies an ensemble has.
+    EnsembleSize,
+    /// How many of them an entry is written to.
+    WriteQuorumSize,
+    /// How many of these must have acknowledged it.
+    AckQuorumSize,
+    /// The version of a ledger's metadata.
+    Version,
+    /// The list of a ledger's fragments.
+    Fragments,
+    /// One fragment.
+    Fragment,
+    /// A fragment's first entry.
+    FirstEntry,
+    /// The list of the bookies of a fragment, by their names.
+    Ensemble,
     /// The list of what the bookies hold.
     Contents,
+    /// What one bookie holds of one ledger.
+    Content,
+    /// The list of ranges of entries.
+    Entries,
 }
 
 impl Field {
@@ -42,7 +70,21 @@ impl Field {
             Field::Name => "name",
             Field::Up => "up",
             Field::Ledgers => "ledgers",
+            Field::Ledger => "ledger",
+            Field::Id => "id",
+            Field::State => "state",
+            Field::LastEntryId => "lastEntryId",
+            Field::EnsembleSize => "ensembleSize",
+            Field::WriteQuorumSize => "writeQuorumSize",
+            Field::AckQuorumSize => "ackQuorumSize",
+            Field::Version => "version",
+            Field::Fragments => "fragments",
+            Field::Fragment => "fragment",
+            Field::FirstEntry => "firstEntry",
+            Field::Ensemble => "ensemble",
             Field::Contents => "contents",
+            Field::Content => "content",
+            Field::Entries => "entries",
         }
     }
 }

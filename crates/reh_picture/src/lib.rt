@@ -2,13 +2,15 @@
 #![tactic(auto)]
 
 mod bookies;
+mod contents;
 mod faults;
 mod fields;
+mod ledgers;
 mod members;
 mod pictures;
 #[cfg(test)]
 mod tests;
 
-pub use faults::{FaultName, PictureFault};
+pub use faults::{FaultName, LedgerFlaw, PictureFault, Repeated};
 pub use fields::Field;
 pub use pictures::read_picture;

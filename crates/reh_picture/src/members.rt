@@ -2,7 +2,7 @@
 ghost use Rattle.std.specs.Prelude.{◌≡◌, ◌≤◌, Ok, Err, map, length, IfOk, IfErr};
 ghost use Rattle.std.specs.Result.{result_err};
 ghost use Rattle.serde_json.specs.View.{view};
-ghost use Rattle.reh_picture.specs.Members.{member_in, number_in, flag_in, text_in, list_in, number_of, list_of, number_fault, list_fault};
+ghost use Rattle.reh_picture.specs.Members.{member_in, number_in, integer_in, flag_in, text_in, list_in, number_of, list_of, number_fault, list_fault};
 
 use crate::faults::PictureFault;
 use crate::fields::Field;
@@ -22,6 +22,15 @@ pub(crate) fn number(object: &Value, field: Field) -> Result<u64, PictureFault>
 {
     member(object, field)?
         .as_u64()
+        .ok_or(PictureFault::WrongKind(field))
+}
+
+/// A member that is a number, which may be below 0.
+pub(crate) fn integer(object: &Value, field: Field) -> Result<i64, PictureFault>
+    ensures { result ≡ integer_in (view object.now) field }
+{
+    member(object, field)?
+        .as_i64()
         .ok_or(PictureFault::WrongKind(field))
 }
 
@@ -46,8 +55,8 @@ pub(crate) fn text(object: &Value, field: Field) -> Result<&str, PictureFault>
 
 /// A member that is a list.
 pub(crate) fn list(object: &Value, field: Field) -> Result<&[Value], PictureFault>
-    ensures ok { IfOk result (λ list. list_in (view object.now) field ≡ Ok (map view list.now)) }
-    ensures err { IfErr result (λ fault. list_in (view object.now) field ≡ Err fault) }
+    ensures fault { result_err result ≡ result_err (list_in (view object.now) field) }
+    ensures list { IfOk result (λ list. list_of (view object.now) field ≡ map view list.now) }
 {
     let list = member(object, field)?
         .as_array()

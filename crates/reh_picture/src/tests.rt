@@ -171,7 +171,7 @@ fn prints_what_is_no_graphic_byte_as_a_question_mark(rt: HostRuntime) -> Result<
     let name = FaultName::new(rt.alloc(), "b\u{e9} 1")?;
     assert_eq!(rt; name.as_str(), "b\u{e9} 1");
     assert_eq!(rt;
-        PictureFault::Twice(name).to_string(rt.alloc())?.as_str(),
+        PictureFault::UnknownBookie(name).to_string(rt.alloc())?.as_str(),
         "6 Twice b???1"
     );
     assert_eq!(rt;

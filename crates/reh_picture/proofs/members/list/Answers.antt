@@ -2,5 +2,5 @@ use Rattle.std.proofs.Common.{arith}
 use Rattle.reh_picture.proofs.Jsons.{elements-items_of}
 use Rattle.reh_picture.proofs.members.list.Goals as goal
 
-pub returns-clause-ok : goal.returns-clause-ok
-returns-clause-ok c = grind (arith, elements-items_of)
+pub returns-clause-list : goal.returns-clause-list
+returns-clause-list c = grind (arith, elements-items_of)

@@ -1,0 +1,11 @@
+use Rattle.std.proofs.Common.{◌≡◌, map, take}
+use Rattle.serde_json.specs.View.{view}
+use Rattle.reh_picture.specs.Ledgers.{ledger_fault, metadata_in, ids_in}
+use Rattle.reh_picture.proofs.Lists.{HasMade}
+use Rattle.reh_picture.proofs.ledgers.read_ledgers.Given as goal
+
+abbrev pub invariant-loop-value : goal.invariant-loop-value
+invariant-loop-value l = record {
+  made : HasMade (λ before d. ledger_fault l.names (ids_in before) d) (metadata_in l.names) l.values l.value-index l.metadata.items;
+  ids : l.ids.keys ≡ ids_in (map view (take l.value-index l.values));
+}

@@ -1,0 +1,95 @@
+-- What the bookies of a picture hold.
+use Rattle.std.specs.Prelude.{ℕ, ◌+◌, Bool, not, ◌&&◌, ◌==◌, nat_eq, nat_le, List, [], ◌∷◌, map, Option, None, Some, Result}
+use Rattle.std.specs.List.{list_any, flat_map, last_or}
+use Rattle.std.specs.Option.{ok_or, option_and_then, option_map, option_map_or}
+use Rattle.std.specs.Result.{result_err, result_unwrap_or}
+use Rattle.serde_json.specs.Data.{Data}
+use Rattle.serde_json.specs.Find.{as_number, as_u64, as_array}
+use Rattle.reh_types.specs.Sets as set
+use Rattle.reh_model.specs.Striping.{range}
+use Rattle.reh_model.specs.Contents as model
+use Rattle.reh_picture.specs.declared.fields.Field.TheVariants as field
+use Rattle.reh_picture.specs.declared.faults.LedgerFlaw.TheVariants as flaw
+use Rattle.reh_picture.specs.declared.faults.Repeated.TheVariants as repeated
+use Rattle.reh_picture.specs.declared.faults.PictureFault.{PictureFault}
+use Rattle.reh_picture.specs.declared.faults.PictureFault.TheVariants.{WrongKind, Twice, Limit, BadLedger}
+use Rattle.reh_picture.specs.Faults.{first_fault, fault_unless, fault_along}
+use Rattle.reh_picture.specs.Members.{elements, is_object, number_in, text_in, list_in, number_of, text_of, list_of}
+use Rattle.reh_picture.specs.Bookies.{bookie_in, known_fault}
+
+-- Ranges of entries
+
+-- two numbers from 0 on, and nothing else
+abbrev pub two_numbers : List Data → Option (ℕ × ℕ)
+two_numbers (a ∷ b ∷ []) = option_and_then (λ first. option_map (λ last. (first, last)) (option_and_then as_u64 (as_number b))) (option_and_then as_u64 (as_number a))
+two_numbers ds = None
+
+-- the first and the last entry of a range
+abbrev pub ends_in : Data → Result (ℕ × ℕ) PictureFault
+ends_in d = ok_or (option_and_then (λ list. two_numbers (elements list)) (as_array d)) (WrongKind field.Entries)
+
+abbrev pub ends_of : Data → ℕ × ℕ
+ends_of d = result_unwrap_or (ends_in d) (0, 0)
+
+-- where a range may begin after those before it
+abbrev pub next_after : List Data → ℕ
+next_after ranges = option_map_or (λ d. (ends_of d).1 + 1) (last_or None ranges) 0
+
+-- what is wrong with a range that must begin at the least entry or after it
+abbrev pub range_fault : ℕ → Data → Option PictureFault
+range_fault least d =
+    first_fault (
+    result_err (ends_in d)
+    ∷ fault_unless (nat_le least (ends_of d).0 && nat_le (ends_of d).0 (ends_of d).1 && nat_le (ends_of d).1 65_535) (Limit field.Entries)
+    ∷ [])
+
+-- the first fault of ranges
+unfoldable pub ranges_fault : List Data → Option PictureFault
+ranges_fault ranges = fault_along (λ before d. range_fault (next_after before) d) [] ranges
+
+abbrev pub entries_in : List Data → List ℕ
+entries_in ranges = flat_map (λ d. range (ends_of d).0 ((ends_of d).1 + 1)) ranges
+
+-- Contents
+
+-- the bookie and the ledger
+abbrev pub pair_of : List (List ℕ) → Data → ℕ × ℕ
+pair_of names d = (bookie_in names (text_of d field.Bookie), number_of d field.Ledger)
+
+abbrev pub pairs_in : List (List ℕ) → List Data → List (ℕ × ℕ)
+pairs_in names contents = map (pair_of names) contents
+
+abbrev pub is_pair : ℕ × ℕ → ℕ × ℕ → Bool
+is_pair p q = nat_eq p.0 q.0 && nat_eq p.1 q.1
+
+-- The first fault of a bookie and a ledger that follow these pairs, in a picture whose bookies have these names and whose ledgers have these ids.
+abbrev pub pair_fault : List (List ℕ) → List ℕ → List (ℕ × ℕ) → Data → Option PictureFault
+pair_fault names ids pairs d =
+    first_fault (
+    fault_unless (is_object d) (WrongKind field.Content)
+    ∷ result_err (text_in d field.Bookie)
+    ∷ known_fault names (text_of d field.Bookie)
+    ∷ result_err (number_in d field.Ledger)
+    ∷ fault_unless (list_any (nat_eq (number_of d field.Ledger)) ids) (BadLedger (number_of d field.Ledger) flaw.Unknown)
+    ∷ fault_unless (not (list_any (is_pair (pair_of names d)) pairs)) (Twice (repeated.Content (text_of d field.Bookie) (number_of d field.Ledger)))
+    ∷ [])
+
+-- the first fault of what a bookie holds of a ledger
+abbrev pub content_fault : List (List ℕ) → List ℕ → List (ℕ × ℕ) → Data → Option PictureFault
+content_fault names ids pairs d =
+    first_fault (
+    pair_fault names ids pairs d
+    ∷ result_err (list_in d field.Entries)
+    ∷ ranges_fault (list_of d field.Entries)
+    ∷ [])
+
+-- the first fault of all contents
+unfoldable pub contents_fault : List (List ℕ) → List ℕ → List Data → Option PictureFault
+contents_fault names ids contents = fault_along (λ before d. content_fault names ids (pairs_in names before) d) [] contents
+
+-- (bookie, ledger, entry) for each entry that is held
+abbrev pub copies_in : List (List ℕ) → Data → List (ℕ × ℕ × ℕ)
+copies_in names d = map (λ e. (bookie_in names (text_of d field.Bookie), number_of d field.Ledger, e)) (entries_in (list_of d field.Entries))
+
+abbrev pub held_in : List (List ℕ) → List Data → model.Contents
+held_in names contents = set.from_list (flat_map (copies_in names) contents)

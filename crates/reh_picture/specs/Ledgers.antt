@@ -1,0 +1,157 @@
+-- The ledgers of a picture.
+use Rattle.std.specs.Prelude.{ℕ, zero, suc, ◌+◌, ◌^◌, ℤ, pos, negsuc, Bool, not, ◌||◌, nat_eq, nat_le, List, [], ◌∷◌, map, codes, if◌then◌else◌, Option, None, Some, unwrap_or, Result}
+use Rattle.std.specs.List.{list_any}
+use Rattle.std.specs.Option.{is_some, ok_or, option_map, option_and_then}
+use Rattle.std.specs.Result.{result_err, result_ok, result_unwrap_or}
+use Rattle.std.specs.Str.{bytes_eq}
+use Rattle.serde_json.specs.Data.{Data}
+use Rattle.serde_json.specs.Find.{as_number, as_i64, as_str}
+use Rattle.reh_types.specs.declared.names.LedgerState.{LedgerState}
+use Rattle.reh_types.specs.declared.names.LedgerState.TheVariants.{Open, InRecovery, Closed}
+use Rattle.reh_model.specs.Metadata.{Metadata, Fragment}
+use Rattle.reh_model.specs.Cluster.{Ledger}
+use Rattle.reh_meta.specs.Faults.{fault_of}
+use Rattle.reh_meta.specs.declared.faults.MetaFault.{MetaFault}
+use Rattle.reh_meta.specs.declared.faults.MetaFault.TheVariants as meta
+use Rattle.reh_picture.specs.declared.fields.Field.TheVariants as field
+use Rattle.reh_picture.specs.declared.faults.LedgerFlaw.TheVariants as flaw
+use Rattle.reh_picture.specs.declared.faults.Repeated.TheVariants as repeated
+use Rattle.reh_picture.specs.declared.faults.PictureFault.{PictureFault}
+use Rattle.reh_picture.specs.declared.faults.PictureFault.TheVariants.{WrongKind, Twice, Limit, BadLedger, NoMemory}
+use Rattle.reh_picture.specs.Faults.{first_fault, fault_unless, fault_along}
+use Rattle.reh_picture.specs.Members.{is_object, number_in, text_in, list_in, integer_in, number_of, text_of, list_of, number_fault, list_fault}
+use Rattle.reh_picture.specs.Bookies.{bookie_in, known_fault}
+
+-- Fragments
+
+-- a member of an ensemble is a text
+abbrev pub member_name_in : Data → Result (List ℕ) PictureFault
+member_name_in d = ok_or (as_str d) (WrongKind field.Ensemble)
+
+abbrev pub member_name : Data → List ℕ
+member_name d = result_unwrap_or (member_name_in d) []
+
+-- the first fault of a member, in a picture whose bookies have these names
+abbrev pub member_fault : List (List ℕ) → Data → Option PictureFault
+member_fault names d = first_fault (result_err (member_name_in d) ∷ known_fault names (member_name d) ∷ [])
+
+-- the first fault of an ensemble's members
+unfoldable pub members_fault : List (List ℕ) → List Data → Option PictureFault
+members_fault names members = fault_along (λ _ d. member_fault names d) [] members
+
+abbrev pub fragment_fault : List (List ℕ) → Data → Option PictureFault
+fragment_fault names d =
+    first_fault (
+    fault_unless (is_object d) (WrongKind field.Fragment)
+    ∷ number_fault d field.FirstEntry 0 65_535
+    ∷ result_err (list_in d field.Ensemble)
+    ∷ members_fault names (list_of d field.Ensemble)
+    ∷ [])
+
+abbrev pub fragment_in : List (List ℕ) → Data → Fragment
+fragment_in names d = record { first = number_of d field.FirstEntry; ensemble = map (λ member. bookie_in names (member_name member)) (list_of d field.Ensemble) }
+
+-- States
+
+abbrev pub is_state : List ℕ → Bool
+is_state text = bytes_eq text (codes "OPEN") || bytes_eq text (codes "IN_RECOVERY") || bytes_eq text (codes "CLOSED")
+
+abbrev pub is_closed : Data → Bool
+is_closed d = bytes_eq (text_of d field.State) (codes "CLOSED")
+
+-- one past a last entry id from -1 to 65,535
+abbrev pub end_after : ℤ → Option ℕ
+end_after (pos last) = if nat_le last 65_535 then Some (last + 1) else None
+end_after (negsuc zero) = Some 0
+end_after (negsuc (suc n)) = None
+
+-- where a closed ledger ends, if that is within the limit
+abbrev pub end_in : Data → Option ℕ
+end_in d = option_and_then end_after (result_ok (integer_in d field.LastEntryId))
+
+-- what is wrong with the last entry id, which only a closed ledger has
+abbrev pub last_fault : Data → Option PictureFault
+last_fault d =
+    if is_closed d then first_fault (result_err (integer_in d field.LastEntryId) ∷ fault_unless (is_some (end_in d)) (Limit field.LastEntryId) ∷ []) else None
+
+abbrev pub state_in : Data → LedgerState
+state_in d =
+    if is_closed d then Closed (unwrap_or (end_in d) 0) else (if bytes_eq (text_of d field.State) (codes "OPEN") then Open else InRecovery)
+
+-- what is wrong with a ledger's state
+abbrev pub state_fault : Data → Option PictureFault
+state_fault d =
+    first_fault (
+    result_err (text_in d field.State)
+    ∷ fault_unless (is_state (text_of d field.State)) (WrongKind field.State)
+    ∷ last_fault d
+    ∷ [])
+
+-- Metadata
+
+-- what is wrong with a ledger's sizes by themselves
+abbrev pub sizes_fault : Data → Option PictureFault
+sizes_fault d =
+    first_fault (
+    result_err (number_in d field.EnsembleSize)
+    ∷ result_err (number_in d field.WriteQuorumSize)
+    ∷ result_err (number_in d field.AckQuorumSize)
+    ∷ [])
+
+-- the first fault of fragments
+unfoldable pub fragments_fault : List (List ℕ) → List Data → Option PictureFault
+fragments_fault names fragments = fault_along (λ _ d. fragment_fault names d) [] fragments
+
+-- the metadata that a ledger's fields name, in a picture whose bookies have these names
+abbrev pub metadata_in : List (List ℕ) → Data → Metadata
+metadata_in names d = record {
+  size = number_of d field.EnsembleSize;
+  write_quorum = number_of d field.WriteQuorumSize;
+  ack_quorum = number_of d field.AckQuorumSize;
+  state = state_in d;
+  version = number_of d field.Version;
+  fragments = map (fragment_in names) (list_of d field.Fragments);
+}
+
+-- a broken rule of metadata, as the fault of the ledger
+abbrev pub broken_rule : ℕ → MetaFault → PictureFault
+broken_rule ledger meta.BadQuorum = BadLedger ledger flaw.Quorum
+broken_rule ledger meta.BadFragment = BadLedger ledger flaw.Fragment
+broken_rule ledger meta.BadEnsemble = BadLedger ledger flaw.Ensemble
+broken_rule ledger meta.BadLast = BadLedger ledger flaw.Last
+broken_rule ledger meta.NoMemory = NoMemory
+
+-- the first fault of a ledger's metadata: its fields in their order, and then its rules
+unfoldable pub metadata_fault : List (List ℕ) → ℕ → Data → Option PictureFault
+metadata_fault names ledger d =
+    first_fault (
+    state_fault d
+    ∷ sizes_fault d
+    ∷ number_fault d field.Version 0 (10 ^ 12)
+    ∷ list_fault d field.Fragments 0 256
+    ∷ fragments_fault names (list_of d field.Fragments)
+    ∷ option_map (broken_rule ledger) (fault_of (metadata_in names d))
+    ∷ [])
+
+-- Ledgers
+
+-- the first fault of a ledger that follows the ledgers with these ids
+abbrev pub ledger_fault : List (List ℕ) → List ℕ → Data → Option PictureFault
+ledger_fault names ids d =
+    first_fault (
+    fault_unless (is_object d) (WrongKind field.Ledger)
+    ∷ number_fault d field.Id 0 (10 ^ 12)
+    ∷ fault_unless (not (list_any (nat_eq (number_of d field.Id)) ids)) (Twice (repeated.Ledger (number_of d field.Id)))
+    ∷ metadata_fault names (number_of d field.Id) d
+    ∷ [])
+
+abbrev pub ids_in : List Data → List ℕ
+ids_in ledgers = map (λ d. number_of d field.Id) ledgers
+
+-- the first fault of all ledgers
+unfoldable pub ledgers_fault : List (List ℕ) → List Data → Option PictureFault
+ledgers_fault names ledgers = fault_along (λ before d. ledger_fault names (ids_in before) d) [] ledgers
+
+-- the ledger, with no task and no lock
+abbrev pub ledger_in : List (List ℕ) → Data → Ledger
+ledger_in names d = record { id = number_of d field.Id; metadata = metadata_in names d; task = None; lock = None }

@@ -1,0 +1,241 @@
+// The ledgers of a picture.
+ghost use Rattle.std.specs.Prelude.{◌≡◌, true, Some, ◌≤◌, ◌<◌, ◌^◌, [], ◌∷◌, ◌++◌, length, map, IfOk, OnOk, All};
+ghost use Rattle.std.specs.Option.{ForSome};
+ghost use Rattle.std.specs.Result.{result_err};
+ghost use Rattle.serde_json.specs.View.{view};
+ghost use Rattle.reh_model.specs.Metadata.{end_of_state};
+ghost use Rattle.reh_picture.specs.Faults.{FailsWith};
+ghost use Rattle.reh_picture.specs.Members.{number_of};
+ghost use Rattle.reh_picture.specs.Bookies.{known_fault, bookie_in};
+ghost use Rattle.reh_picture.specs.Ledgers.{member_fault, members_fault, member_name, fragment_fault, fragment_in, state_fault, state_in, last_fault, end_in, is_closed, sizes_fault, fragments_fault, metadata_fault, metadata_in, ledger_fault, ledgers_fault, ids_in, broken_rule};
+
+use crate::faults::{FaultName, LedgerFlaw, PictureFault, Repeated};
+use crate::fields::Field;
+use crate::members::{integer, list, list_within, number, number_within, text};
+use indexmap::IndexSet;
+use reh_cluster::Names;
+use reh_meta::{Fragment, LedgerMeta, MetaFault, Sizes};
+use reh_types::{BookieIx, LedgerId, LedgerState};
+use serde_json::Value;
+use std::alloc::Global;
+
+/// The greatest id of a ledger.
+const MAX_ID: u64 = 1_000_000_000_000;
+
+/// The greatest version of a ledger's metadata.
+const MAX_VERSION: u64 = 1_000_000_000_000;
+
+/// The greatest id of an entry.
+pub(crate) const MAX_ENTRY: u64 = 65_535;
+
+/// The most fragments that a ledger may have.
+const MAX_FRAGMENTS: usize = 256;
+
+/// The bookie of that name, which must be one of the picture's.
+pub(crate) fn known_bookie(
+    alloc: Global,
+    names: &Names,
+    name: &str,
+) -> Result<BookieIx, PictureFault>
+    ensures fault { FailsWith result (known_fault names.now name.now) }
+    ensures bookie { IfOk result (λ bookie. bookie ≡ bookie_in names.now name.now) }
+{
+    match names.find(name.as_bytes()) {
+        Some(bookie) => Ok(bookie),
+        None => Err(PictureFault::UnknownBookie(FaultName::new(alloc, name)?)),
+    }
+}
+
+/// A member of an ensemble.
+fn read_member(alloc: Global, names: &Names, member: &Value) -> Result<BookieIx, PictureFault>
+    ensures fault { FailsWith result (member_fault names.now (view member.now)) }
+    ensures bookie { IfOk result (λ bookie. bookie ≡ bookie_in names.now (member_name (view member.now))) }
+{
+    let name = member
+        .as_str()
+        .ok_or(PictureFault::WrongKind(Field::Ensemble))?;
+    known_bookie(alloc, names, name)
+}
+
+/// The members of an ensemble.
+#[tactic(auto, unfolding(crate::specs::Ledgers::members_fault))]
+fn read_ensemble(
+    alloc: Global,
+    names: &Names,
+    members: &[Value],
+) -> Result<Vec<BookieIx>, PictureFault>
+    ensures fault { FailsWith result (members_fault names.now (map view members.now)) }
+    ensures ensemble { IfOk result
+        (λ e. e.items ≡ map (λ member. bookie_in names.now (member_name member)) (map view members.now)) }
+{
+    let mut ensemble = Vec::new(alloc);
+    for member in members {
+        ensemble.push(read_member(alloc, names, member)?)?;
+    }
+    Ok(ensemble)
+}
+
+/// A fragment.
+fn read_fragment(alloc: Global, names: &Names, fragment: &Value) -> Result<Fragment, PictureFault>
+    ensures fault { FailsWith result (fragment_fault names.now (view fragment.now)) }
+    ensures fragment { IfOk result (λ f. f ≡ fragment_in names.now (view fragment.now)) }
+    ensures first { IfOk result (λ f. f.first < 2 ^ 16) }
+{
+    if !fragment.is_object() {
+        return Err(PictureFault::WrongKind(Field::Fragment));
+    }
+    let first = number_within(fragment, Field::FirstEntry, 0, MAX_ENTRY)?;
+    let members = list(fragment, Field::Ensemble)?;
+    let ensemble = read_ensemble(alloc, names, members)?;
+    Ok(Fragment {
+        first: first as u32,
+        ensemble,
+    })
+}
+
+/// The fragments of a ledger.
+#[tactic(auto, unfolding(crate::specs::Ledgers::fragments_fault))]
+fn read_fragments(
+    alloc: Global,
+    names: &Names,
+    values: &[Value],
+) -> Result<Vec<Fragment>, PictureFault>
+    ensures fault { FailsWith result (fragments_fault names.now (map view values.now)) }
+    ensures fragments { IfOk result (λ fs. fs.items ≡ map (fragment_in names.now) (map view values.now)) }
+    ensures firsts { IfOk result (λ fs. All (λ f. f.first < 2 ^ 16) fs.items) }
+{
+    let mut fragments = Vec::new(alloc);
+    for value in values {
+        fragments.push(read_fragment(alloc, names, value)?)?;
+    }
+    Ok(fragments)
+}
+
+/// Where a ledger stands.
+fn read_state(ledger: &Value) -> Result<LedgerState, PictureFault>
+    ensures fault { result_err result ≡ state_fault (view ledger.now) }
+    ensures state { IfOk result (λ state. state ≡ state_in (view ledger.now)) }
+    ensures end { IfOk result (λ state. ForSome (end_of_state state) (λ end. end ≤ 2 ^ 16)) }
+{
+    match text(ledger, Field::State)? {
+        "OPEN" => Ok(LedgerState::Open),
+        "IN_RECOVERY" => Ok(LedgerState::InRecovery),
+        "CLOSED" => Ok(LedgerState::Closed {
+            end: read_end(ledger)?,
+        }),
+        _ => Err(PictureFault::WrongKind(Field::State)),
+    }
+}
+
+/// One past the last entry id of a closed ledger.
+fn read_end(ledger: &Value) -> Result<u32, PictureFault>
+    requires { is_closed (view ledger.now) ≡ true }
+    ensures fault { result_err result ≡ last_fault (view ledger.now) }
+    ensures end { IfOk result (λ end. end_in (view ledger.now) ≡ Some end) }
+    ensures limit { IfOk result (λ end. end ≤ 2 ^ 16) }
+{
+    let last = integer(ledger, Field::LastEntryId)?;
+    if last < -1 || last > MAX_ENTRY as i64 {
+        return Err(PictureFault::Limit(Field::LastEntryId));
+    }
+    Ok((last + 1) as u32)
+}
+
+/// The sizes of a ledger.
+fn read_sizes(ledger: &Value) -> Result<Sizes, PictureFault>
+    ensures fault { result_err result ≡ sizes_fault (view ledger.now) }
+    ensures ensemble { IfOk result (λ sizes. sizes.ensemble ≡ number_of (view ledger.now) Field.EnsembleSize) }
+    ensures write_quorum { IfOk result
+        (λ sizes. sizes.write_quorum ≡ number_of (view ledger.now) Field.WriteQuorumSize) }
+    ensures ack_quorum { IfOk result (λ sizes. sizes.ack_quorum ≡ number_of (view ledger.now) Field.AckQuorumSize) }
+{
+    Ok(Sizes {
+        ensemble: number(ledger, Field::EnsembleSize)?,
+        write_quorum: number(ledger, Field::WriteQuorumSize)?,
+        ack_quorum: number(ledger, Field::AckQuorumSize)?,
+    })
+}
+
+/// The fault of a ledger that breaks a rule of metadata.
+fn ledger_fault_of(ledger: LedgerId, fault: MetaFault) -> PictureFault
+    ensures { result ≡ broken_rule ledger fault }
+{
+    let flaw = match fault {
+        MetaFault::BadQuorum => LedgerFlaw::Quorum,
+        MetaFault::BadFragment => LedgerFlaw::Fragment,
+        MetaFault::BadEnsemble => LedgerFlaw::Ensemble,
+        MetaFault::BadLast => LedgerFlaw::Last,
+        MetaFault::NoMemory => return PictureFault::NoMemory,
+    };
+    PictureFault::BadLedger(ledger, flaw)
+}
+
+/// The metadata of a ledger.
+#[tactic(auto, unfolding(crate::specs::Ledgers::metadata_fault))]
+fn read_metadata(
+    alloc: Global,
+    names: &Names,
+    id: LedgerId,
+    ledger: &Value,
+) -> Result<LedgerMeta, PictureFault>
+    ensures fault { FailsWith result (metadata_fault names.now id (view ledger.now)) }
+    ensures metadata { IfOk result (λ m. m ≡ metadata_in names.now (view ledger.now)) }
+{
+    let state = read_state(ledger)?;
+    let sizes = read_sizes(ledger)?;
+    let version = number_within(ledger, Field::Version, 0, MAX_VERSION)?;
+    let fragments = list_within(ledger, Field::Fragments, 0, MAX_FRAGMENTS)?;
+    let fragments = read_fragments(alloc, names, fragments)?;
+    LedgerMeta::try_new(alloc, sizes, state, version, &fragments)
+        .map_err(|fault| ledger_fault_of(id, fault))
+}
+
+/// The ledgers of a picture, in its order.
+#[derive(Drop)]
+pub(crate) struct Ledgers {
+    /// Their ids.
+    pub(crate) ids: IndexSet<u64>,
+    /// The metadata of each.
+    pub(crate) metadata: Vec<LedgerMeta>,
+}
+
+/// The ledgers.
+#[tactic(auto, unfolding(crate::specs::Ledgers::ledgers_fault))]
+pub(crate) fn read_ledgers(
+    alloc: Global,
+    names: &Names,
+    values: &[Value],
+) -> Result<Ledgers, PictureFault>
+    ensures fault { FailsWith result (ledgers_fault names.now (map view values.now)) }
+    ensures ids { IfOk result (λ ledgers. ledgers.ids.keys ≡ ids_in (map view values.now)) }
+    ensures metadata { IfOk result
+        (λ ledgers. ledgers.metadata.items ≡ map (metadata_in names.now) (map view values.now)) }
+{
+    let mut ids = IndexSet::new(alloc);
+    let mut metadata = Vec::new(alloc);
+    for value in values {
+        metadata.push(read_ledger(alloc, names, &mut ids, value)?)?;
+    }
+    Ok(Ledgers { ids, metadata })
+}
+
+/// One more ledger's metadata; its id joins the ids. After an `Err` they may have it.
+fn read_ledger(
+    alloc: Global,
+    names: &Names,
+    ids: &mut IndexSet<u64>,
+    ledger: &Value,
+) -> Result<LedgerMeta, PictureFault>
+    ensures fault { FailsWith result (ledger_fault names.now ids.old.keys (view ledger.now)) }
+    ensures ids { OnOk result (ids.new.keys ≡ ids.old.keys ++ number_of (view ledger.now) Field.Id ∷ []) }
+    ensures metadata { IfOk result (λ m. m ≡ metadata_in names.now (view ledger.now)) }
+{
+    if !ledger.is_object() {
+        return Err(PictureFault::WrongKind(Field::Ledger));
+    }
+    let id = number_within(ledger, Field::Id, 0, MAX_ID)?;
+    if !ids.insert(id)? {
+        return Err(PictureFault::Twice(Repeated::Ledger(LedgerId(id))));
+    }
+    read_metadata(alloc, names, LedgerId(id), ledger)
+}
