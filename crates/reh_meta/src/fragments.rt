@@ -1,5 +1,5 @@
 // Fragments of a ledger.
-ghost use Rattle.std.specs.Prelude.{◌≡◌};
+ghost use Rattle.std.specs.Prelude.{◌≡◌, ◌<◌, length};
 ghost use Rattle.std.specs.List.{list_all};
 ghost use Rattle.reh_model.specs.Metadata as meta;
 
@@ -35,6 +35,16 @@ impl Clone for Fragment {
             first: self.first,
             ensemble: self.ensemble.clone()?,
         })
+    }
+}
+
+impl Fragment {
+    /// Puts another bookie into a place of the ensemble.
+    pub(crate) fn replace(&mut self, index: usize, bookie: BookieIx)
+        requires { index < length self.old.ensemble }
+        ensures { self.new ≡ meta.with_member self.old index bookie }
+    {
+        self.ensemble[index] = bookie;
     }
 }
 

@@ -1,12 +1,13 @@
 // The metadata of a ledger.
-ghost use Rattle.std.specs.Prelude.{◌≡◌, ◌<◌, ◌≤◌, ◌^◌, length, IfOk, IfErr, All};
+ghost use Rattle.std.specs.Prelude.{◌≡◌, ◌==◌, ◌<◌, ◌≤◌, ◌^◌, false, length, IfOk, IfErr, All, slice_get};
+ghost use Rattle.std.specs.List.{list_any};
 ghost use Rattle.std.specs.Option.{ForSome};
 ghost use Rattle.reh_model.specs.Metadata as meta;
 ghost use Rattle.reh_model.specs.Metadata.{IsMetadata, end_of_state, stop_of};
 
 use crate::faults::MetaFault;
 use crate::fragments::{Fragment, have_ensembles, rise_from_zero};
-use reh_types::LedgerState;
+use reh_types::{BookieIx, LedgerState};
 use std::alloc::{AllocError, Global};
 use std::marker::Model;
 
@@ -195,5 +196,34 @@ impl LedgerMeta {
             Some(next) => Some(next.first),
             None => end_of_closed(self.state),
         }
+    }
+
+    /// The metadata at the next version, with another bookie at an index of a fragment's ensemble; all else stays.
+    ///
+    /// This is the change that a replication worker makes once it has copied the fragment's entries: BookKeeper
+    /// writes it as a new version of the ledger's metadata, conditional on the present one. The new member is in no
+    /// place of the ensemble yet, and the version is below 10^12.
+    pub fn with_member(
+        &self,
+        fragment: usize,
+        index: usize,
+        bookie: BookieIx,
+    ) -> Result<LedgerMeta, AllocError>
+        requires fragment { fragment < length self.now.fragments }
+        requires index { index < self.now.size }
+        requires new { ForSome (slice_get self.now.fragments fragment) (λ old. list_any (λ member. member == bookie) old.ensemble ≡ false) }
+        requires version { self.now.version < 10 ^ 12 }
+        ensures { IfOk result (λ changed. changed ≡ meta.next_version (meta.with_member_at self.now fragment index bookie)) }
+    {
+        let mut fragments = self.fragments.clone()?;
+        fragments[fragment].replace(index, bookie);
+        Ok(LedgerMeta {
+            size: self.size,
+            write_quorum: self.write_quorum,
+            ack_quorum: self.ack_quorum,
+            state: self.state,
+            version: self.version + 1,
+            fragments,
+        })
     }
 }

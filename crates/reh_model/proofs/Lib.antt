@@ -1,6 +1,7 @@
 pub mod Ranges
 pub mod StripingLaws
 pub mod MetadataLaws
+pub mod MemberLaws
 pub mod WriteSetLaws
 pub mod ContentsLaws
 pub mod StripedLaws

@@ -1,5 +1,5 @@
 -- A ledger's metadata, in the words of BookKeeper's `LedgerMetadata` and of its page on the protocol.
-use Rattle.std.specs.Prelude.{◌≡◌, ℕ, ◌+◌, ◌-◌, ◌^◌, ◌<◌, ◌≤◌, Bool, true, false, not, ◌&&◌, ◌==◌, nat_eq, nat_lt, nat_le, List, [], ◌∷◌, map, drop, length, Option, None, Some, unwrap_or, slice_get, slice_index, All}
+use Rattle.std.specs.Prelude.{◌≡◌, ℕ, ◌+◌, ◌-◌, ◌^◌, ◌<◌, ◌≤◌, Bool, true, false, not, ◌&&◌, ◌==◌, nat_eq, nat_lt, nat_le, List, [], ◌∷◌, map, drop, length, Option, None, Some, unwrap_or, slice_get, slice_set, slice_index, All}
 use Rattle.std.specs.List.{list_any, list_all, zip, IsDistinct}
 use Rattle.std.specs.List.Sorted.{IsStrictlyIncreasing}
 use Rattle.std.specs.Option.{ForSome, option_map, option_map_or, option_or}
@@ -47,6 +47,18 @@ last_fragment m = unwrap_or (last_of m.fragments) (record { first = 0; ensemble 
 -- the members that an entry of the fragment was written to, in the order of their ranks
 abbrev pub writes : Metadata → Fragment → ℕ → List ℕ
 writes m fragment entry = map (λ i. slice_index fragment.ensemble i) (write_set entry m.size m.write_quorum)
+
+-- the fragment with another member at the index
+abbrev pub with_member : Fragment → ℕ → ℕ → Fragment
+with_member fragment i bookie = record fragment { ensemble = slice_set fragment.ensemble i bookie }
+
+-- the metadata with another member at an index of a fragment: an ensemble change, which keeps the fragment's entries
+abbrev pub with_member_at : Metadata → ℕ → ℕ → ℕ → Metadata
+with_member_at m f i bookie = record m { fragments = option_map_or (λ fragment. slice_set m.fragments f (with_member fragment i bookie)) (slice_get m.fragments f) m.fragments }
+
+-- the metadata at the next version: each change raises it by 1
+abbrev pub next_version : Metadata → Metadata
+next_version m = record m { version = m.version + 1 }
 
 -- Rules, as tests
 
