@@ -1,6 +1,5 @@
 -- Along the bookies of a picture.
-use Rattle.std.proofs.Common.{◌≡◌, ℕ, ◌+◌, ◌<◌, Bool, true, false, List, [], ◌∷◌, ◌++◌, map, length, take, drop, get_or, Option, None, Some, refl, sym, ap, ◌∙◌, subst, arith, true≢false, length-append, length-take, if◌then◌else◌}
-use Rattle.std.specs.Option.{option_or}
+use Rattle.std.proofs.Common.{◌≡◌, ℕ, ◌+◌, ◌<◌, Bool, true, false, List, [], ◌∷◌, ◌++◌, map, length, take, get_or, Option, None, Some, refl, sym, ap, ◌∙◌, subst, arith, true≢false, length-append, length-take, if◌then◌else◌}
 use Rattle.std.proofs.lemmas.List.{map-append, length-map}
 use Rattle.serde_json.specs.Data.{Data}
 use Rattle.serde_json.specs.View.{view}
@@ -11,7 +10,7 @@ use Rattle.reh_cluster.proofs.StateLaws.{named-insert}
 use Rattle.reh_picture.specs.declared.faults.PictureFault.{PictureFault}
 use Rattle.reh_picture.specs.declared.fields.Field.TheVariants as field
 use Rattle.reh_picture.specs.Members.{text_of, flag_of}
-use Rattle.reh_picture.specs.Bookies.{bookie_fault, bookies_fault, names_in, registered_in}
+use Rattle.reh_picture.specs.Bookies.{bookie_fault, each_bookie_fault, names_in, registered_in}
 use Rattle.reh_picture.proofs.Lists.{passed_to, from_list-places, IsLeft, IsLeft-next, fault_here}
 
 -- a bookie is judged with the names of those before it
@@ -45,8 +44,8 @@ named_more false up i n within named = named
 -- names, and which bookies are registered, after one more bookie
 module _ (bookies : List Value) (i : ℕ) (names : List (List ℕ)) (up : Set numbers) (bookie : Value) where
   module _ (read : HasRead bookies i names up) (within : i < length bookies) (is : bookie ≡ get_or bookies i bookie) where
-    pub bookie_fault_here : (fault : PictureFault) → bookie_fault names (view bookie) ≡ Some fault → bookies_fault (map view bookies) ≡ Some fault
-    unfolding bookies_fault
+    pub bookie_fault_here : (fault : PictureFault) → bookie_fault names (view bookie) ≡ Some fault → each_bookie_fault (map view bookies) ≡ Some fault
+    unfolding each_bookie_fault
     bookie_fault_here fault here = fault_here judge bookies i bookie within is read.left fault (ap (λ ns. bookie_fault ns (view bookie)) (sym read.names_are) ∙ here)
 
     pub HasRead-next : (more : Bool) (later : List (List ℕ)) (after : Set numbers) → bookie_fault names (view bookie) ≡ None → later ≡ names ++ text_of (view bookie) field.Name ∷ []

@@ -1,7 +1,10 @@
 -- Along the ranges of entries.
-use Rattle.std.proofs.Common.{◌≡◌, ℕ, ◌+◌, ◌<◌, List, [], ◌∷◌, ◌++◌, length, Option, None, Some, refl, ap, arith}
-use Rattle.std.specs.List.{last_or}
+use Rattle.std.proofs.Common.{◌≡◌, ℕ, suc, ◌+◌, ◌-◌, ◌<◌, ◌≤◌, Bool, true, false, ◌||◌, List, [], ◌∷◌, ◌++◌, length, fold, Option, None, Some, refl, sym, ap, ◌∙◌, arith}
+use Rattle.std.specs.List.{last_or, list_any, range_with_len}
 use Rattle.std.specs.Option.{option_map_or}
+use Rattle.std.specs.Ordering.{eq_by_cmp}
+use Rattle.reh_types.specs.Sets.{Order, Set, contains, insert, empty, from_list, contains-insert, contains-empty, contains-from_list, same_set}
+use Rattle.reh_model.specs.Striping.{range}
 use Rattle.serde_json.specs.Data.{Data}
 use Rattle.reh_picture.specs.Contents.{two_numbers, ends_of, next_after}
 
@@ -18,3 +21,31 @@ pub two_numbers-short : (ds : List Data) → length ds < 2 → None ≡ two_numb
 two_numbers-short [] few = refl
 two_numbers-short (a ∷ []) few = refl
 two_numbers-short (a ∷ b ∷ ds) few = absurd (omega arith)
+
+-- a range is its first number and those from the next one on
+pub range-next : (first stop : ℕ) → first < stop → range first stop ≡ first ∷ range (first + 1) stop
+range-next first stop some = let more : stop - first ≡ suc (stop - (first + 1)) = omega arith in ap (range_with_len first) more
+
+pub range-none : (first stop : ℕ) → stop ≤ first → range first stop ≡ []
+range-none first stop none = let past : stop - first ≡ 0 = omega arith in ap (range_with_len first) past
+
+or_moved : (a b c : Bool) → (a || (b || c)) ≡ ((b || a) || c)
+or_moved true true c = refl
+or_moved true false c = refl
+or_moved false true c = refl
+or_moved false false c = refl
+
+or_false : (a : Bool) → (a || false) ≡ a
+or_false true = refl
+or_false false = refl
+
+-- adding the items of a list one after another makes the set of all
+module _ {K : Type 0} (o : Order K) where
+  contains-fold : (s : Set o) (ks : List K) (q : K) → contains (fold insert s ks) q ≡ (list_any (eq_by_cmp o.cmp q) ks || contains s q)
+  contains-fold s [] q = refl
+  contains-fold s (k ∷ ks) q =
+      contains-fold (insert s k) ks q ∙ ap (λ b. list_any (eq_by_cmp o.cmp q) ks || b) (contains-insert s k q)
+      ∙ or_moved (list_any (eq_by_cmp o.cmp q) ks) (eq_by_cmp o.cmp q k) (contains s q)
+
+  pub from_list-fold : (ks : List K) → fold insert (empty {o = o}) ks ≡ from_list ks
+  from_list-fold ks = same_set _ _ (λ q. contains-fold empty ks q ∙ ap (λ b. list_any (eq_by_cmp o.cmp q) ks || b) (contains-empty o q) ∙ or_false _ ∙ sym (contains-from_list o ks q))

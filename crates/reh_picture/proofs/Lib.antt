@@ -2,4 +2,5 @@ pub mod Jsons
 pub mod Lists
 pub mod BookiesLemmas
 pub mod ContentsLemmas
+pub mod PicturesLemmas
 mod Examples

@@ -14,7 +14,7 @@ use Rattle.reh_picture.specs.declared.faults.Repeated.TheVariants as repeated
 use Rattle.reh_picture.specs.declared.faults.PictureFault.{PictureFault}
 use Rattle.reh_picture.specs.declared.faults.PictureFault.TheVariants.{WrongKind, BadName, Twice, UnknownBookie}
 use Rattle.reh_picture.specs.Faults.{first_fault, fault_unless, fault_along}
-use Rattle.reh_picture.specs.Members.{is_object, text_in, flag_in, text_of, flag_of}
+use Rattle.reh_picture.specs.Members.{is_object, text_in, flag_in, text_of, flag_of, list_of, list_fault}
 
 -- 1 to 300 bytes, each 0x21 to 0x7E
 abbrev pub is_name : List ℕ → Bool
@@ -41,9 +41,13 @@ bookie_fault names d =
 abbrev pub names_in : List Data → List (List ℕ)
 names_in bookies = map (λ d. text_of d field.Name) bookies
 
--- the first fault of all bookies
-unfoldable pub bookies_fault : List Data → Option PictureFault
-bookies_fault bookies = fault_along (λ before d. bookie_fault (names_in before) d) [] bookies
+-- the first fault of bookies
+unfoldable pub each_bookie_fault : List Data → Option PictureFault
+each_bookie_fault bookies = fault_along (λ before d. bookie_fault (names_in before) d) [] bookies
+
+-- what is wrong with a picture's bookies
+unfoldable pub bookies_fault : Data → Option PictureFault
+bookies_fault d = first_fault (list_fault d field.Bookies 1 64 ∷ each_bookie_fault (list_of d field.Bookies) ∷ [])
 
 -- the places of the bookies that are registered
 abbrev pub registered_in : List Data → Set numbers

@@ -1,5 +1,5 @@
 -- What the bookies of a picture hold.
-use Rattle.std.specs.Prelude.{ℕ, ◌+◌, Bool, not, ◌&&◌, ◌==◌, nat_eq, nat_le, List, [], ◌∷◌, map, Option, None, Some, Result}
+use Rattle.std.specs.Prelude.{ℕ, ◌+◌, Bool, not, ◌&&◌, nat_eq, nat_le, List, [], ◌∷◌, map, Option, None, Result}
 use Rattle.std.specs.List.{list_any, flat_map, last_or}
 use Rattle.std.specs.Option.{ok_or, option_and_then, option_map, option_map_or}
 use Rattle.std.specs.Result.{result_err, result_unwrap_or}
@@ -47,14 +47,19 @@ range_fault least d =
 unfoldable pub ranges_fault : List Data → Option PictureFault
 ranges_fault ranges = fault_along (λ before d. range_fault (next_after before) d) [] ranges
 
-abbrev pub entries_in : List Data → List ℕ
-entries_in ranges = flat_map (λ d. range (ends_of d).0 ((ends_of d).1 + 1)) ranges
-
 -- Contents
 
--- the bookie and the ledger
+-- what one bookie holds of one ledger, by the first and the last entry of each range
+pub record Holding : Type 0 where
+  pub bookie : ℕ
+  pub ledger : ℕ
+  pub ranges : List (ℕ × ℕ)
+
+abbrev pub holding_in : List (List ℕ) → Data → Holding
+holding_in names d = record { bookie = bookie_in names (text_of d field.Bookie); ledger = number_of d field.Ledger; ranges = map ends_of (list_of d field.Entries) }
+
 abbrev pub pair_of : List (List ℕ) → Data → ℕ × ℕ
-pair_of names d = (bookie_in names (text_of d field.Bookie), number_of d field.Ledger)
+pair_of names d = ((holding_in names d).bookie, (holding_in names d).ledger)
 
 abbrev pub pairs_in : List (List ℕ) → List Data → List (ℕ × ℕ)
 pairs_in names contents = map (pair_of names) contents
@@ -83,13 +88,21 @@ content_fault names ids pairs d =
     ∷ ranges_fault (list_of d field.Entries)
     ∷ [])
 
--- the first fault of all contents
-unfoldable pub contents_fault : List (List ℕ) → List ℕ → List Data → Option PictureFault
-contents_fault names ids contents = fault_along (λ before d. content_fault names ids (pairs_in names before) d) [] contents
+-- the first fault of contents
+unfoldable pub each_content_fault : List (List ℕ) → List ℕ → List Data → Option PictureFault
+each_content_fault names ids contents = fault_along (λ before d. content_fault names ids (pairs_in names before) d) [] contents
 
--- (bookie, ledger, entry) for each entry that is held
-abbrev pub copies_in : List (List ℕ) → Data → List (ℕ × ℕ × ℕ)
-copies_in names d = map (λ e. (bookie_in names (text_of d field.Bookie), number_of d field.Ledger, e)) (entries_in (list_of d field.Entries))
+-- what is wrong with a picture's contents
+unfoldable pub contents_fault : List (List ℕ) → List ℕ → Data → Option PictureFault
+contents_fault names ids d = first_fault (result_err (list_in d field.Contents) ∷ each_content_fault names ids (list_of d field.Contents) ∷ [])
 
-abbrev pub held_in : List (List ℕ) → List Data → model.Contents
-held_in names contents = set.from_list (flat_map (copies_in names) contents)
+-- (bookie, ledger, entry) for each entry of a range
+abbrev pub copies_of : ℕ → ℕ → ℕ × ℕ → List (ℕ × ℕ × ℕ)
+copies_of bookie ledger ends = map (λ e. (bookie, ledger, e)) (range ends.0 (ends.1 + 1))
+
+-- the same for each entry of what is held
+abbrev pub copies_in : Holding → List (ℕ × ℕ × ℕ)
+copies_in holding = flat_map (copies_of holding.bookie holding.ledger) holding.ranges
+
+abbrev pub held_in : List Holding → model.Contents
+held_in holdings = set.from_list (flat_map copies_in holdings)

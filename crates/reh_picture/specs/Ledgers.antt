@@ -5,7 +5,7 @@ use Rattle.std.specs.Option.{is_some, ok_or, option_map, option_and_then}
 use Rattle.std.specs.Result.{result_err, result_ok, result_unwrap_or}
 use Rattle.std.specs.Str.{bytes_eq}
 use Rattle.serde_json.specs.Data.{Data}
-use Rattle.serde_json.specs.Find.{as_number, as_i64, as_str}
+use Rattle.serde_json.specs.Find.{as_str}
 use Rattle.reh_types.specs.declared.names.LedgerState.{LedgerState}
 use Rattle.reh_types.specs.declared.names.LedgerState.TheVariants.{Open, InRecovery, Closed}
 use Rattle.reh_model.specs.Metadata.{Metadata, Fragment}
@@ -148,9 +148,13 @@ ledger_fault names ids d =
 abbrev pub ids_in : List Data → List ℕ
 ids_in ledgers = map (λ d. number_of d field.Id) ledgers
 
--- the first fault of all ledgers
-unfoldable pub ledgers_fault : List (List ℕ) → List Data → Option PictureFault
-ledgers_fault names ledgers = fault_along (λ before d. ledger_fault names (ids_in before) d) [] ledgers
+-- the first fault of ledgers
+unfoldable pub each_ledger_fault : List (List ℕ) → List Data → Option PictureFault
+each_ledger_fault names ledgers = fault_along (λ before d. ledger_fault names (ids_in before) d) [] ledgers
+
+-- what is wrong with a picture's ledgers
+unfoldable pub ledgers_fault : List (List ℕ) → Data → Option PictureFault
+ledgers_fault names d = first_fault (list_fault d field.Ledgers 0 512 ∷ each_ledger_fault names (list_of d field.Ledgers) ∷ [])
 
 -- the ledger, with no task and no lock
 abbrev pub ledger_in : List (List ℕ) → Data → Ledger

@@ -1,19 +1,20 @@
 -- The cluster that a picture shows, or the picture's first fault.
-use Rattle.std.specs.Prelude.{ℕ, ◌*◌, ◌^◌, nat_lt, nat_le, List, [], ◌∷◌, map, length, sum_by, if◌then◌else◌, Option, None, Some, Result, Ok, Err}
+use Rattle.std.specs.Prelude.{ℕ, ◌*◌, ◌^◌, nat_lt, nat_le, List, [], ◌∷◌, map, length, sum_by, ◌≡◌, if◌then◌else◌, Option, None, Some, Result, Ok, Err}
 use Rattle.std.specs.Str.{is_utf8}
 use Rattle.serde_json.specs.Data.{Data}
 use Rattle.serde_json.specs.Read.{read}
+use Rattle.reh_types.specs.Sets.{Set, numbers}
+use Rattle.reh_model.specs.Metadata.{Metadata}
 use Rattle.reh_model.specs.Cluster.{Cluster}
 use Rattle.reh_model.specs.WellFormed.{words_of}
 use Rattle.reh_picture.specs.declared.fields.Field.TheVariants as field
 use Rattle.reh_picture.specs.declared.faults.PictureFault.{PictureFault}
 use Rattle.reh_picture.specs.declared.faults.PictureFault.TheVariants.{TooLong, NotJson, WrongKind, Limit}
 use Rattle.reh_picture.specs.Faults.{first_fault, fault_unless}
-use Rattle.reh_picture.specs.Members.{is_object, list_in, number_fault, list_fault, number_of, list_of}
+use Rattle.reh_picture.specs.Members.{is_object, number_fault, number_of, list_of}
 use Rattle.reh_picture.specs.Bookies.{bookies_fault, names_in, registered_in}
-use Rattle.reh_picture.specs.Ledgers.{ledgers_fault, ledger_in, ids_in}
-use Rattle.reh_picture.specs.Contents.{contents_fault, held_in}
-use Rattle.std.specs.Result.{result_err}
+use Rattle.reh_picture.specs.Ledgers.{ledgers_fault, ledger_in, metadata_in, ids_in}
+use Rattle.reh_picture.specs.Contents.{Holding, contents_fault, holding_in, held_in}
 
 -- the names of a picture's bookies, and the ids of its ledgers
 
@@ -30,7 +31,7 @@ cluster_in d = record {
   grace = number_of d field.Grace;
   up = registered_in (list_of d field.Bookies);
   ledgers = map (ledger_in (names_of d)) (list_of d field.Ledgers);
-  held = held_in (names_of d) (list_of d field.Contents);
+  held = held_in (map (holding_in (names_of d)) (list_of d field.Contents));
   clock = 0;
 }
 
@@ -38,21 +39,28 @@ cluster_in d = record {
 abbrev pub words_in : Cluster → ℕ
 words_in s = length s.names * sum_by (λ g. words_of s.held g.id) s.ledgers
 
--- the first fault of a picture's fields, in their order
-abbrev pub fields_fault : Data → Option PictureFault
-fields_fault d =
+-- what is wrong before the lists
+unfoldable pub head_fault : Data → Option PictureFault
+head_fault d =
     first_fault (
     fault_unless (is_object d) (WrongKind field.Picture)
     ∷ number_fault d field.Format 1 1
     ∷ number_fault d field.Grace 0 1_000_000
-    ∷ list_fault d field.Bookies 1 64
-    ∷ bookies_fault (list_of d field.Bookies)
-    ∷ list_fault d field.Ledgers 0 512
-    ∷ ledgers_fault (names_of d) (list_of d field.Ledgers)
-    ∷ result_err (list_in d field.Contents)
-    ∷ contents_fault (names_of d) (ids_of d) (list_of d field.Contents)
-    ∷ fault_unless (nat_le (words_in (cluster_in d)) (2 ^ 22)) (Limit field.Contents)
     ∷ [])
+
+-- the first fault of a picture's fields, in their order
+abbrev pub parts_fault : Data → Option PictureFault
+parts_fault d =
+    first_fault (
+    head_fault d
+    ∷ bookies_fault d
+    ∷ ledgers_fault (names_of d) d
+    ∷ contents_fault (names_of d) (ids_of d) d
+    ∷ [])
+
+-- at the end of all, the limit of words
+abbrev pub fields_fault : Data → Option PictureFault
+fields_fault d = first_fault (parts_fault d ∷ fault_unless (nat_le (words_in (cluster_in d)) (2 ^ 22)) (Limit field.Contents) ∷ [])
 
 -- the cluster, unless there is a fault
 abbrev pub unless_fault : Option PictureFault → Cluster → Result Cluster PictureFault
@@ -74,3 +82,12 @@ shown_by (Some d) = picture_in d
 -- what a picture shows
 abbrev pub picture_of : List ℕ → Result Cluster PictureFault
 picture_of bytes = if nat_lt 8_388_608 (length bytes) then Err TooLong else shown_by (json_of bytes)
+
+-- What was read of a picture without a fault of its fields: the parts of the cluster that it shows.
+pub record IsShown (d : Data) (names : List (List ℕ)) (up : Set numbers) (grace : ℕ) (ids : List ℕ) (metadata : List Metadata) (holdings : List Holding) : Type 0 where
+  pub names_are : names ≡ names_of d
+  pub up_is : up ≡ registered_in (list_of d field.Bookies)
+  pub grace_is : grace ≡ number_of d field.Grace
+  pub ids_are : ids ≡ ids_of d
+  pub metadata_are : metadata ≡ map (metadata_in (names_of d)) (list_of d field.Ledgers)
+  pub holdings_are : holdings ≡ map (holding_in (names_of d)) (list_of d field.Contents)

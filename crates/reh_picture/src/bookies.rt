@@ -6,12 +6,12 @@ ghost use Rattle.std.specs.Result.{result_err};
 ghost use Rattle.serde_json.specs.View.{view};
 ghost use Rattle.reh_types.specs.Sets as set;
 ghost use Rattle.reh_picture.specs.Faults.{FailsWith};
-ghost use Rattle.reh_picture.specs.Members.{text_of, flag_of};
-ghost use Rattle.reh_picture.specs.Bookies.{is_name as is_bookie_name, name_fault, bookie_fault, bookies_fault, names_in, registered_in};
+ghost use Rattle.reh_picture.specs.Members.{text_of, flag_of, list_of};
+ghost use Rattle.reh_picture.specs.Bookies.{is_name as is_bookie_name, name_fault, bookie_fault, each_bookie_fault, bookies_fault, names_in, registered_in};
 
 use crate::faults::{FaultName, PictureFault, Repeated};
 use crate::fields::Field;
-use crate::members::{flag, text};
+use crate::members::{flag, list_within, text};
 use reh_cluster::Names;
 use reh_types::{BookieIx, BookieSet};
 use serde_json::Value;
@@ -20,18 +20,31 @@ use std::alloc::Global;
 /// The longest name that a bookie may have, in bytes.
 const MAX_NAME: usize = 300;
 
-/// The names of at most 64 bookies, and those that are registered.
+/// The names of a picture's bookies, and those that are registered.
 #[tactic(auto, unfolding(crate::specs::Bookies::bookies_fault))]
 pub(crate) fn read_bookies(
     alloc: Global,
-    bookies: &[Value],
+    picture: &Value,
 ) -> Result<(Names, BookieSet), PictureFault>
+    ensures fault { FailsWith result (bookies_fault (view picture.now)) }
+    ensures names { IfOk result (λ r. r.0 ≡ names_in (list_of (view picture.now) Field.Bookies)) }
+    ensures registered { IfOk result (λ r. r.1 ≡ registered_in (list_of (view picture.now) Field.Bookies)) }
+    ensures some { IfOk result (λ r. 0 < length r.0) }
+    ensures named { IfOk result (λ r. (b : ℕ) → set.contains r.1 b ≡ true → b < length r.0) }
+{
+    let bookies = list_within(picture, Field::Bookies, 1, BookieSet::LIMIT)?;
+    read_each_bookie(alloc, bookies)
+}
+
+/// The names of at most 64 bookies, and those that are registered.
+#[tactic(auto, unfolding(crate::specs::Bookies::each_bookie_fault))]
+fn read_each_bookie(alloc: Global, bookies: &[Value]) -> Result<(Names, BookieSet), PictureFault>
     requires { length bookies.now ≤ 64 }
     ensures count { IfOk result (λ r. length r.0 ≡ length bookies.now) }
     ensures named { IfOk result (λ r. (b : ℕ) → set.contains r.1 b ≡ true → b < length r.0) }
     ensures names { IfOk result (λ r. r.0 ≡ names_in (map view bookies.now)) }
     ensures registered { IfOk result (λ r. r.1 ≡ registered_in (map view bookies.now)) }
-    ensures fault { FailsWith result (bookies_fault (map view bookies.now)) }
+    ensures fault { FailsWith result (each_bookie_fault (map view bookies.now)) }
 {
     let mut names = Names::new(alloc);
     let mut up = BookieSet::new();

@@ -1,11 +1,12 @@
 // What the bookies of a picture hold.
-ghost use Rattle.std.specs.Prelude.{◌≡◌, ◌≤◌, ◌<◌, ◌^◌, ◌+◌, [], ◌∷◌, ◌++◌, map, IfOk, OnOk, All};
+ghost use Rattle.std.specs.Prelude.{◌≡◌, ◌≤◌, ◌<◌, ◌^◌, ◌+◌, [], ◌∷◌, ◌++◌, map, fold, IfOk, OnOk, All};
 ghost use Rattle.std.specs.Result.{result_err};
 ghost use Rattle.serde_json.specs.View.{view};
+ghost use Rattle.reh_types.specs.Sets as set;
 ghost use Rattle.reh_picture.specs.Faults.{FailsWith};
 ghost use Rattle.reh_picture.specs.Members.{number_of, list_of, text_of};
 ghost use Rattle.reh_picture.specs.Bookies.{bookie_in};
-ghost use Rattle.reh_picture.specs.Contents.{two_numbers as two_numbers_in, ends_in, ends_of, range_fault, ranges_fault, next_after, content_fault, contents_fault, pair_fault, pair_of};
+ghost use Rattle.reh_picture.specs.Contents.{two_numbers as two_numbers_in, ends_in, ends_of, range_fault, ranges_fault, next_after, content_fault, each_content_fault, contents_fault, pair_fault, pair_of, holding_in, copies_of, copies_in, held_in};
 
 use crate::faults::{FaultName, LedgerFlaw, PictureFault, Repeated};
 use crate::fields::Field;
@@ -13,9 +14,11 @@ use crate::ledgers::{MAX_ENTRY, known_bookie};
 use crate::members::{list, number, text};
 use indexmap::IndexSet;
 use reh_cluster::Names;
+use reh_held::Held;
 use reh_types::{BookieIx, LedgerId};
 use serde_json::Value;
-use std::alloc::Global;
+use std::alloc::{AllocError, Global};
+use std::marker::Model;
 
 /// The first and the last entry of a range, as the picture has them.
 fn read_ends(range: &Value) -> Result<(u64, u64), PictureFault>
@@ -69,11 +72,19 @@ fn read_ranges(alloc: Global, values: &[Value]) -> Result<Vec<(u32, u32)>, Pictu
 
 /// What one bookie holds of one ledger.
 #[derive(Drop)]
-pub(crate) struct Holding {
-    pub(crate) bookie: BookieIx,
-    pub(crate) ledger: LedgerId,
-    /// The first and the last entry of each range, rising.
-    pub(crate) ranges: Vec<(u32, u32)>,
+pub struct Holding {
+    bookie: BookieIx,
+    ledger: LedgerId,
+    // The first and the last entry of each range.
+    ranges: Vec<(u32, u32)>,
+}
+
+impl Model for Holding {
+    ghost use Rattle.reh_picture.specs.Contents.{Holding as HoldingValue};
+
+    ghost Value = { HoldingValue };
+
+    ghost view = { λ h. record { bookie = h.bookie; ledger = h.ledger; ranges = h.ranges.items } };
 }
 
 /// The bookie and the ledger of one more holding, which join the pairs. After an `Err` they may be there.
@@ -114,8 +125,7 @@ fn read_holding(
 ) -> Result<Holding, PictureFault>
     ensures fault { FailsWith result (content_fault names.now ids.now.keys pairs.old.keys (view content.now)) }
     ensures pairs { OnOk result (pairs.new.keys ≡ pairs.old.keys ++ pair_of names.now (view content.now) ∷ []) }
-    ensures pair { IfOk result (λ h. (h.bookie, h.ledger) ≡ pair_of names.now (view content.now)) }
-    ensures ranges { IfOk result (λ h. h.ranges.items ≡ map ends_of (list_of (view content.now) Field.Entries)) }
+    ensures holding { IfOk result (λ h. h ≡ holding_in names.now (view content.now)) }
 {
     let (bookie, ledger) = read_pair(alloc, names, ids, pairs, content)?;
     let entries = list(content, Field::Entries)?;
@@ -125,4 +135,75 @@ fn read_holding(
         ledger,
         ranges,
     })
+}
+
+/// What the bookies of a picture hold, as ranges.
+#[tactic(auto, unfolding(crate::specs::Contents::contents_fault))]
+pub(crate) fn read_contents(
+    alloc: Global,
+    names: &Names,
+    ids: &IndexSet<u64>,
+    picture: &Value,
+) -> Result<Vec<Holding>, PictureFault>
+    ensures fault { FailsWith result (contents_fault names.now ids.now.keys (view picture.now)) }
+    ensures holdings { IfOk result
+        (λ hs. hs.items ≡ map (holding_in names.now) (list_of (view picture.now) Field.Contents)) }
+{
+    let contents = list(picture, Field::Contents)?;
+    read_each_content(alloc, names, ids, contents)
+}
+
+/// Holdings, one after another.
+#[tactic(auto, unfolding(crate::specs::Contents::each_content_fault))]
+fn read_each_content(
+    alloc: Global,
+    names: &Names,
+    ids: &IndexSet<u64>,
+    values: &[Value],
+) -> Result<Vec<Holding>, PictureFault>
+    ensures fault { FailsWith result (each_content_fault names.now ids.now.keys (map view values.now)) }
+    ensures holdings { IfOk result (λ hs. hs.items ≡ map (holding_in names.now) (map view values.now)) }
+{
+    let mut pairs = IndexSet::new(alloc);
+    let mut holdings = Vec::new(alloc);
+    for value in values {
+        holdings.push(read_holding(alloc, names, ids, &mut pairs, value)?)?;
+    }
+    Ok(holdings)
+}
+
+/// The contents that are these holdings.
+pub(crate) fn hold(alloc: Global, holdings: &[Holding]) -> Result<Held, AllocError>
+    ensures { IfOk result (λ held. held.contents ≡ held_in holdings.now) }
+{
+    let mut held = Held::new(alloc);
+    for holding in holdings {
+        add_holding(&mut held, holding)?;
+    }
+    Ok(held)
+}
+
+/// Adds what one bookie holds of one ledger. After an `Err` some of it may be there.
+fn add_holding(held: &mut Held, holding: &Holding) -> Result<(), AllocError>
+    ensures { OnOk result (held.new.contents ≡ fold set.insert held.old.contents (copies_in holding.now)) }
+{
+    for ends in &holding.ranges {
+        add_range(held, holding.bookie, holding.ledger, *ends)?;
+    }
+    Ok(())
+}
+
+/// Adds the entries of one range. After an `Err` some of them may be there.
+fn add_range(
+    held: &mut Held,
+    bookie: BookieIx,
+    ledger: LedgerId,
+    ends: (u32, u32),
+) -> Result<(), AllocError>
+    ensures { OnOk result (held.new.contents ≡ fold set.insert held.old.contents (copies_of bookie ledger ends)) }
+{
+    for entry in ends.0..=ends.1 {
+        held.add(bookie, ledger, entry)?;
+    }
+    Ok(())
 }

@@ -5,9 +5,9 @@ ghost use Rattle.std.specs.Result.{result_err};
 ghost use Rattle.serde_json.specs.View.{view};
 ghost use Rattle.reh_model.specs.Metadata.{end_of_state};
 ghost use Rattle.reh_picture.specs.Faults.{FailsWith};
-ghost use Rattle.reh_picture.specs.Members.{number_of};
+ghost use Rattle.reh_picture.specs.Members.{number_of, list_of};
 ghost use Rattle.reh_picture.specs.Bookies.{known_fault, bookie_in};
-ghost use Rattle.reh_picture.specs.Ledgers.{member_fault, members_fault, member_name, fragment_fault, fragment_in, state_fault, state_in, last_fault, end_in, is_closed, sizes_fault, fragments_fault, metadata_fault, metadata_in, ledger_fault, ledgers_fault, ids_in, broken_rule};
+ghost use Rattle.reh_picture.specs.Ledgers.{member_fault, members_fault, member_name, fragment_fault, fragment_in, state_fault, state_in, last_fault, end_in, is_closed, sizes_fault, fragments_fault, metadata_fault, metadata_in, ledger_fault, each_ledger_fault, ledgers_fault, ids_in, broken_rule};
 
 use crate::faults::{FaultName, LedgerFlaw, PictureFault, Repeated};
 use crate::fields::Field;
@@ -18,6 +18,9 @@ use reh_meta::{Fragment, LedgerMeta, MetaFault, Sizes};
 use reh_types::{BookieIx, LedgerId, LedgerState};
 use serde_json::Value;
 use std::alloc::Global;
+
+/// The most ledgers that a picture may have.
+const MAX_LEDGERS: usize = 512;
 
 /// The greatest id of a ledger.
 const MAX_ID: u64 = 1_000_000_000_000;
@@ -186,27 +189,40 @@ fn read_metadata(
     let version = number_within(ledger, Field::Version, 0, MAX_VERSION)?;
     let fragments = list_within(ledger, Field::Fragments, 0, MAX_FRAGMENTS)?;
     let fragments = read_fragments(alloc, names, fragments)?;
-    LedgerMeta::try_new(alloc, sizes, state, version, &fragments)
-        .map_err(|fault| ledger_fault_of(id, fault))
+    LedgerMeta::try_new(alloc, sizes, state, version, &fragments).map_err(|fault| ledger_fault_of(
+        id, fault,
+    ))
 }
 
 /// The ledgers of a picture, in its order.
 #[derive(Drop)]
-pub(crate) struct Ledgers {
+pub struct Ledgers {
     /// Their ids.
     pub(crate) ids: IndexSet<u64>,
     /// The metadata of each.
     pub(crate) metadata: Vec<LedgerMeta>,
 }
 
-/// The ledgers.
+/// The ledgers of a picture.
 #[tactic(auto, unfolding(crate::specs::Ledgers::ledgers_fault))]
 pub(crate) fn read_ledgers(
     alloc: Global,
     names: &Names,
-    values: &[Value],
+    picture: &Value,
 ) -> Result<Ledgers, PictureFault>
-    ensures fault { FailsWith result (ledgers_fault names.now (map view values.now)) }
+    ensures fault { FailsWith result (ledgers_fault names.now (view picture.now)) }
+    ensures ids { IfOk result (λ ledgers. ledgers.ids.keys ≡ ids_in (list_of (view picture.now) Field.Ledgers)) }
+    ensures metadata { IfOk result (λ ledgers.
+        ledgers.metadata.items ≡ map (metadata_in names.now) (list_of (view picture.now) Field.Ledgers)) }
+{
+    let ledgers = list_within(picture, Field::Ledgers, 0, MAX_LEDGERS)?;
+    read_each_ledger(alloc, names, ledgers)
+}
+
+/// Ledgers, one after another.
+#[tactic(auto, unfolding(crate::specs::Ledgers::each_ledger_fault))]
+fn read_each_ledger(alloc: Global, names: &Names, values: &[Value]) -> Result<Ledgers, PictureFault>
+    ensures fault { FailsWith result (each_ledger_fault names.now (map view values.now)) }
     ensures ids { IfOk result (λ ledgers. ledgers.ids.keys ≡ ids_in (map view values.now)) }
     ensures metadata { IfOk result
         (λ ledgers. ledgers.metadata.items ≡ map (metadata_in names.now) (map view values.now)) }

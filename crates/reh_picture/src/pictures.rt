@@ -1,13 +1,19 @@
 // A picture as a whole.
-ghost use Rattle.std.specs.Prelude.{◌≡◌, ◌≢◌, Ok, Err, Some, None, MatchResult, IfOk, IfErr};
+ghost use Rattle.std.specs.Prelude.{◌≡◌, ◌≢◌, ◌≤◌, Ok, Err, Some, None, IfOk, IfErr};
+ghost use Rattle.std.specs.Result.{result_err};
+ghost use Rattle.serde_json.specs.Data.{Data};
 ghost use Rattle.serde_json.specs.View.{view};
-ghost use Rattle.reh_picture.specs.Pictures.{picture_of, picture_in, json_of};
+ghost use Rattle.reh_picture.specs.Members.{number_of};
+ghost use Rattle.reh_picture.specs.Faults.{FailsWith};
+ghost use Rattle.reh_picture.specs.Pictures.{picture_of, head_fault, parts_fault, IsShown, json_of};
 
 use crate::bookies::read_bookies;
+use crate::contents::{Holding, read_contents};
 use crate::faults::PictureFault;
 use crate::fields::Field;
-use crate::members::{list_within, number_within};
-use reh_cluster::State;
+use crate::ledgers::{Ledgers, read_ledgers};
+use crate::members::number_within;
+use reh_cluster::Names;
 use reh_types::BookieSet;
 use serde_json::Value;
 use std::alloc::Global;
@@ -21,17 +27,19 @@ const MAX_PICTURE: usize = 8_388_608;
 /// The greatest grace, in ticks.
 const MAX_GRACE: u64 = 1_000_000;
 
-/// The state that a picture shows, or the picture's first fault.
+/// The parts of the cluster that a picture shows, or the picture's first fault but for the limit of words.
 ///
 /// `NoMemory` comes only where a growth was refused, and may then stand in place of any other answer.
-pub fn read_picture(alloc: Global, bytes: &[u8]) -> Result<State, PictureFault>
-    ensures { MatchResult result (λ state. picture_of bytes.now ≡ Ok state) (λ fault. fault ≢ PictureFault.NoMemory → picture_of bytes.now ≡ Err fault) }
+pub fn read_picture(alloc: Global, bytes: &[u8]) -> Result<Parts, PictureFault>
+    ensures ok { IfOk result (λ p. (d : Data) × (json_of bytes.now ≡ Some d) × (parts_fault d ≡ None) × IsShown d
+        p.names p.up p.grace p.ledgers.ids.keys p.ledgers.metadata.items p.holdings.items) }
+    ensures err { IfErr result (λ fault. fault ≢ PictureFault.NoMemory → picture_of bytes.now ≡ Err fault) }
 {
     if bytes.len() > MAX_PICTURE {
         return Err(PictureFault::TooLong);
     }
     let picture = parse_json(alloc, bytes)?;
-    read_state(alloc, &picture)
+    read_parts(alloc, &picture)
 }
 
 /// The JSON value of a text.
@@ -51,18 +59,45 @@ fn parse_json(alloc: Global, bytes: &[u8]) -> Result<Value, PictureFault>
     }
 }
 
-/// The state that a picture's fields name.
-fn read_state(alloc: Global, picture: &Value) -> Result<State, PictureFault>
-    ensures { MatchResult result (λ state. picture_in (view picture.now) ≡ Ok state) (λ fault. fault ≢ PictureFault.NoMemory → picture_in (view picture.now) ≡ Err fault) }
+/// What a picture shows, before the limit of words is judged.
+#[derive(Drop)]
+pub struct Parts {
+    pub(crate) names: Names,
+    pub(crate) up: BookieSet,
+    pub(crate) grace: u64,
+    pub(crate) ledgers: Ledgers,
+    pub(crate) holdings: Vec<Holding>,
+}
+
+/// The grace of a picture, in ticks.
+#[tactic(auto, unfolding(crate::specs::Pictures::head_fault))]
+fn read_grace(picture: &Value) -> Result<u64, PictureFault>
+    ensures fault { result_err result ≡ head_fault (view picture.now) }
+    ensures grace { IfOk result (λ grace. grace ≡ number_of (view picture.now) Field.Grace) }
+    ensures limit { IfOk result (λ grace. grace ≤ 1_000_000) }
 {
     if !picture.is_object() {
         return Err(PictureFault::WrongKind(Field::Picture));
     }
     number_within(picture, Field::Format, FORMAT, FORMAT)?;
-    let grace = number_within(picture, Field::Grace, 0, MAX_GRACE)?;
-    let bookies = list_within(picture, Field::Bookies, 1, BookieSet::LIMIT)?;
-    let (names, up) = read_bookies(alloc, bookies)?;
-    list_within(picture, Field::Ledgers, 0, 0)?;
-    list_within(picture, Field::Contents, 0, 0)?;
-    Ok(State::build(names, up, grace))
+    number_within(picture, Field::Grace, 0, MAX_GRACE)
+}
+
+/// The parts that a picture's fields name.
+fn read_parts(alloc: Global, picture: &Value) -> Result<Parts, PictureFault>
+    ensures fault { FailsWith result (parts_fault (view picture.now)) }
+    ensures shown { IfOk result (λ p. IsShown (view picture.now)
+        p.names p.up p.grace p.ledgers.ids.keys p.ledgers.metadata.items p.holdings.items) }
+{
+    let grace = read_grace(picture)?;
+    let (names, up) = read_bookies(alloc, picture)?;
+    let ledgers = read_ledgers(alloc, &names, picture)?;
+    let holdings = read_contents(alloc, &names, &ledgers.ids, picture)?;
+    Ok(Parts {
+        names,
+        up,
+        grace,
+        ledgers,
+        holdings,
+    })
 }

@@ -1,6 +1,7 @@
 // Pictures whose state or fault is known.
+use crate::contents::hold;
 use crate::{FaultName, PictureFault, read_picture};
-use reh_types::BookieIx;
+use reh_types::{BookieIx, LedgerId, LedgerState};
 use std::alloc::{AllocError, AllocGlobal};
 use std::test::Fail;
 
@@ -34,15 +35,37 @@ fn reads_names_register_and_grace(rt: HostRuntime) -> Result<(), Fail> {
     let picture =
         r#"{"bookies":[{"up":true,"name":"b1:3181","rack":[7]},{"name":"b2:3181","up":false}],
         "contents":[],"ledgers":[],"grace":1000000,"format":1,"written":{"by":null}}"#;
-    let state = read_picture(rt.alloc(), picture.as_bytes())?;
-    assert_eq!(rt; state.names().len(), 2);
-    assert_eq!(rt; state.names().name(BookieIx(0)), Some("b1:3181"));
-    assert_eq!(rt; state.names().name(BookieIx(1)), Some("b2:3181"));
-    assert_eq!(rt;
-        (state.is_up(BookieIx(0)), state.is_up(BookieIx(1))),
-        (true, false)
+    let parts = read_picture(rt.alloc(), picture.as_bytes())?;
+    assert_eq!(rt; parts.names.len(), 2);
+    assert_eq!(rt; parts.names.name(BookieIx(0)), Some("b1:3181"));
+    assert_eq!(rt; parts.names.name(BookieIx(1)), Some("b2:3181"));
+    assert!(rt; parts.up.contains(BookieIx(0)) && !parts.up.contains(BookieIx(1)));
+    assert_eq!(rt; parts.grace, 1_000_000);
+    Ok(())
+}
+
+/// A closed and an open ledger, and a part of the second's entries.
+const LEDGERS: &str =
+    r#""ledgers":[{"id":7,"state":"CLOSED","lastEntryId":5,"ensembleSize":1,"writeQuorumSize":1,
+    "ackQuorumSize":1,"version":2,"fragments":[{"firstEntry":0,"ensemble":["b1:3181"]}]},
+    {"id":9,"state":"OPEN","ensembleSize":1,"writeQuorumSize":1,"ackQuorumSize":1,"version":0,
+    "fragments":[{"firstEntry":0,"ensemble":["b1:3181"]}]}]"#;
+
+#[test]
+fn reads_ledgers_and_contents(rt: HostRuntime) -> Result<(), Fail> {
+    let contents = r#""contents":[{"bookie":"b1:3181","ledger":9,"entries":[[0,0],[2,4]]}]"#;
+    let picture = format!(in rt.alloc(); "{{{HEAD},\"bookies\":{BOOKIES},{LEDGERS},{contents}}}")?;
+    let parts = read_picture(rt.alloc(), picture.as_bytes())?;
+    let states = [LedgerState::Closed { end: 6 }, LedgerState::Open];
+    assert_eq!(rt; parts.ledgers.ids.as_slice(), [7, 9].as_slice());
+    for (metadata, state) in parts.ledgers.metadata.iter().zip(states) {
+        assert_eq!(rt; metadata.state(), state);
+    }
+    let held = hold(rt.alloc(), &parts.holdings)?;
+    assert_eq!(rt; held.count(BookieIx(0)), 4);
+    assert!(rt;
+        held.holds(BookieIx(0), LedgerId(9), 4) && !held.holds(BookieIx(0), LedgerId(9), 1)
     );
-    assert_eq!(rt; (state.clock(), state.grace()), (0, 1_000_000));
     Ok(())
 }
 
@@ -96,7 +119,7 @@ fn names_the_first_fault(rt: HostRuntime) -> Result<(), Fail> {
             HEAD,
             BOOKIES,
             r#""ledgers":[7],"contents":7"#,
-            "8 Limit ledgers",
+            "4 WrongKind ledger",
         ),
         (HEAD, BOOKIES, r#""ledgers":[]"#, "3 Missing contents"),
         (
@@ -109,7 +132,7 @@ fn names_the_first_fault(rt: HostRuntime) -> Result<(), Fail> {
             HEAD,
             BOOKIES,
             r#""ledgers":[],"contents":[[]]"#,
-            "8 Limit contents",
+            "4 WrongKind content",
         ),
     ] {
         assert_eq!(rt;
@@ -171,8 +194,10 @@ fn prints_what_is_no_graphic_byte_as_a_question_mark(rt: HostRuntime) -> Result<
     let name = FaultName::new(rt.alloc(), "b\u{e9} 1")?;
     assert_eq!(rt; name.as_str(), "b\u{e9} 1");
     assert_eq!(rt;
-        PictureFault::UnknownBookie(name).to_string(rt.alloc())?.as_str(),
-        "6 Twice b???1"
+        PictureFault::UnknownBookie(name)
+            .to_string(rt.alloc())?
+            .as_str(),
+        "7 UnknownBookie b???1"
     );
     assert_eq!(rt;
         PictureFault::from(AllocError)

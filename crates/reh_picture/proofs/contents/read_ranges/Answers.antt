@@ -1,4 +1,4 @@
-use Rattle.std.proofs.Common.{ℕ, ◌+◌, sym, ap, ◌∙◌, ◌++◌, ◌∷◌, [], map, take}
+use Rattle.std.proofs.Common.{ℕ, ◌+◌, sym, ap, ◌∙◌, map, take}
 use Rattle.serde_json.specs.View.{view}
 use Rattle.reh_picture.specs.Contents.{next_after}
 use Rattle.reh_picture.proofs.ContentsLemmas.{next_after-push}

@@ -1,4 +1,4 @@
-use Rattle.std.proofs.Common.{◌≡◌, ◌≤◌, map, take}
+use Rattle.std.proofs.Common.{◌≡◌, map, take}
 use Rattle.serde_json.specs.View.{view}
 use Rattle.reh_picture.specs.Contents.{range_fault, ends_of, next_after}
 use Rattle.reh_picture.proofs.Lists.{HasMade}

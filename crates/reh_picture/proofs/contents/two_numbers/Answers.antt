@@ -1,4 +1,4 @@
-use Rattle.std.proofs.Common.{map, length, ◌<◌, sym, arith}
+use Rattle.std.proofs.Common.{map, arith}
 use Rattle.std.proofs.lemmas.List.{length-map}
 use Rattle.serde_json.specs.View.{view}
 use Rattle.reh_picture.proofs.ContentsLemmas.{two_numbers-short}

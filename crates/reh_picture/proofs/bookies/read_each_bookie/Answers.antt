@@ -1,14 +1,14 @@
 use Rattle.std.proofs.Common.{true, false, ◌∙◌, rules}
-use Rattle.reh_picture.specs.Bookies.{bookies_fault}
+use Rattle.reh_picture.specs.Bookies.{each_bookie_fault}
 use Rattle.reh_picture.proofs.BookiesLemmas.{HasRead-none, HasRead-next, bookie_fault_here}
-use Rattle.reh_picture.proofs.bookies.read_bookies.Goals as goal
-use Rattle.reh_picture.proofs.bookies.read_bookies.Goals.{then-registered, else-registered}
+use Rattle.reh_picture.proofs.bookies.read_each_bookie.Goals as goal
+use Rattle.reh_picture.proofs.bookies.read_each_bookie.Goals.{then-registered, else-registered}
 
 pub loop-i-init : goal.loop-i-init
 loop-i-init c = rw (c.new-names.ensures, c.new-up.ensures) (HasRead-none c.args.bookies.now)
 
 pub returns-in_err-registered-clause-fault : goal.returns-in_err-registered-clause-fault
-unfolding bookies_fault
+unfolding each_bookie_fault
 returns-in_err-registered-clause-fault c =
     search (rules, bookie_fault_here c.args.bookies.now c.loop-i.i c.loop-i.names c.loop-i.up c.index-bookies-i.result c.loop-i.invariant c.loop-i-test.true c.index-bookies-i.is)
 

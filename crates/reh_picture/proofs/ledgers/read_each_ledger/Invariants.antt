@@ -2,7 +2,7 @@ use Rattle.std.proofs.Common.{◌≡◌, map, take}
 use Rattle.serde_json.specs.View.{view}
 use Rattle.reh_picture.specs.Ledgers.{ledger_fault, metadata_in, ids_in}
 use Rattle.reh_picture.proofs.Lists.{HasMade}
-use Rattle.reh_picture.proofs.ledgers.read_ledgers.Given as goal
+use Rattle.reh_picture.proofs.ledgers.read_each_ledger.Given as goal
 
 abbrev pub invariant-loop-value : goal.invariant-loop-value
 invariant-loop-value l = record {

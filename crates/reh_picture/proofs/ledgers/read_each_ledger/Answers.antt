@@ -3,9 +3,9 @@ use Rattle.std.proofs.lemmas.List.{map-append}
 use Rattle.serde_json.specs.View.{view}
 use Rattle.reh_picture.specs.declared.fields.Field.TheVariants as field
 use Rattle.reh_picture.specs.Members.{number_of}
-use Rattle.reh_picture.specs.Ledgers.{ledger_fault, ids_in}
+use Rattle.reh_picture.specs.Ledgers.{ids_in}
 use Rattle.reh_picture.proofs.Lists.{HasMade-next, passed_to}
-use Rattle.reh_picture.proofs.ledgers.read_ledgers.Goals as goal
+use Rattle.reh_picture.proofs.ledgers.read_each_ledger.Goals as goal
 
 pub loop-value-preserved : goal.loop-value-preserved
 loop-value-preserved c =

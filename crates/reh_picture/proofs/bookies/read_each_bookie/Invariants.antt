@@ -1,5 +1,5 @@
 use Rattle.reh_picture.proofs.BookiesLemmas.{HasRead}
-use Rattle.reh_picture.proofs.bookies.read_bookies.Given as goal
+use Rattle.reh_picture.proofs.bookies.read_each_bookie.Given as goal
 
 abbrev pub invariant-loop-i : goal.invariant-loop-i
 invariant-loop-i l = HasRead l.bookies l.i l.names l.up
