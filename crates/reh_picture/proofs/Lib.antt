@@ -1,4 +1,5 @@
 pub mod Jsons
+pub mod Sound
 pub mod Lists
 pub mod BookiesLemmas
 pub mod ContentsLemmas

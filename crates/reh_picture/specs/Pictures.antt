@@ -4,8 +4,7 @@ use Rattle.std.specs.Str.{is_utf8}
 use Rattle.serde_json.specs.Data.{Data}
 use Rattle.serde_json.specs.Read.{read}
 use Rattle.reh_types.specs.Sets.{Set, numbers}
-use Rattle.reh_model.specs.Metadata.{Metadata}
-use Rattle.reh_model.specs.Cluster.{Cluster}
+use Rattle.reh_model.specs.Cluster.{Cluster, Ledger}
 use Rattle.reh_model.specs.WellFormed.{words_of}
 use Rattle.reh_picture.specs.declared.fields.Field.TheVariants as field
 use Rattle.reh_picture.specs.declared.faults.PictureFault.{PictureFault}
@@ -13,7 +12,7 @@ use Rattle.reh_picture.specs.declared.faults.PictureFault.TheVariants.{TooLong, 
 use Rattle.reh_picture.specs.Faults.{first_fault, fault_unless}
 use Rattle.reh_picture.specs.Members.{is_object, number_fault, number_of, list_of}
 use Rattle.reh_picture.specs.Bookies.{bookies_fault, names_in, registered_in}
-use Rattle.reh_picture.specs.Ledgers.{ledgers_fault, ledger_in, metadata_in, ids_in}
+use Rattle.reh_picture.specs.Ledgers.{ledgers_fault, ledger_in, ids_in}
 use Rattle.reh_picture.specs.Contents.{Holding, contents_fault, holding_in, held_in}
 
 -- the names of a picture's bookies, and the ids of its ledgers
@@ -84,10 +83,9 @@ abbrev pub picture_of : List ℕ → Result Cluster PictureFault
 picture_of bytes = if nat_lt 8_388_608 (length bytes) then Err TooLong else shown_by (json_of bytes)
 
 -- What was read of a picture without a fault of its fields: the parts of the cluster that it shows.
-pub record IsShown (d : Data) (names : List (List ℕ)) (up : Set numbers) (grace : ℕ) (ids : List ℕ) (metadata : List Metadata) (holdings : List Holding) : Type 0 where
+pub record IsShown (d : Data) (names : List (List ℕ)) (up : Set numbers) (grace : ℕ) (ledgers : List Ledger) (holdings : List Holding) : Type 0 where
   pub names_are : names ≡ names_of d
   pub up_is : up ≡ registered_in (list_of d field.Bookies)
   pub grace_is : grace ≡ number_of d field.Grace
-  pub ids_are : ids ≡ ids_of d
-  pub metadata_are : metadata ≡ map (metadata_in (names_of d)) (list_of d field.Ledgers)
+  pub ledgers_are : ledgers ≡ map (ledger_in (names_of d)) (list_of d field.Ledgers)
   pub holdings_are : holdings ≡ map (holding_in (names_of d)) (list_of d field.Contents)

@@ -7,13 +7,13 @@ ghost use Rattle.reh_model.specs.Metadata.{end_of_state};
 ghost use Rattle.reh_picture.specs.Faults.{FailsWith};
 ghost use Rattle.reh_picture.specs.Members.{number_of, list_of};
 ghost use Rattle.reh_picture.specs.Bookies.{known_fault, bookie_in};
-ghost use Rattle.reh_picture.specs.Ledgers.{member_fault, members_fault, member_name, fragment_fault, fragment_in, state_fault, state_in, last_fault, end_in, is_closed, sizes_fault, fragments_fault, metadata_fault, metadata_in, ledger_fault, each_ledger_fault, ledgers_fault, ids_in, broken_rule};
+ghost use Rattle.reh_picture.specs.Ledgers.{member_fault, members_fault, member_name, fragment_fault, fragment_in, state_fault, state_in, last_fault, end_in, is_closed, sizes_fault, fragments_fault, metadata_fault, metadata_in, ledger_fault, each_ledger_fault, ledgers_fault, ledger_in, ids_in, broken_rule};
 
 use crate::faults::{FaultName, LedgerFlaw, PictureFault, Repeated};
 use crate::fields::Field;
 use crate::members::{integer, list, list_within, number, number_within, text};
 use indexmap::IndexSet;
-use reh_cluster::Names;
+use reh_cluster::{Ledger, Names};
 use reh_meta::{Fragment, LedgerMeta, MetaFault, Sizes};
 use reh_types::{BookieIx, LedgerId, LedgerState};
 use serde_json::Value;
@@ -199,8 +199,8 @@ fn read_metadata(
 pub struct Ledgers {
     /// Their ids.
     pub(crate) ids: IndexSet<u64>,
-    /// The metadata of each.
-    pub(crate) metadata: Vec<LedgerMeta>,
+    /// The ledgers, with no task.
+    pub(crate) ledgers: Vec<Ledger>,
 }
 
 /// The ledgers of a picture.
@@ -213,7 +213,7 @@ pub(crate) fn read_ledgers(
     ensures fault { FailsWith result (ledgers_fault names.now (view picture.now)) }
     ensures ids { IfOk result (λ ledgers. ledgers.ids.keys ≡ ids_in (list_of (view picture.now) Field.Ledgers)) }
     ensures metadata { IfOk result (λ ledgers.
-        ledgers.metadata.items ≡ map (metadata_in names.now) (list_of (view picture.now) Field.Ledgers)) }
+        ledgers.ledgers.items ≡ map (ledger_in names.now) (list_of (view picture.now) Field.Ledgers)) }
 {
     let ledgers = list_within(picture, Field::Ledgers, 0, MAX_LEDGERS)?;
     read_each_ledger(alloc, names, ledgers)
@@ -224,15 +224,15 @@ pub(crate) fn read_ledgers(
 fn read_each_ledger(alloc: Global, names: &Names, values: &[Value]) -> Result<Ledgers, PictureFault>
     ensures fault { FailsWith result (each_ledger_fault names.now (map view values.now)) }
     ensures ids { IfOk result (λ ledgers. ledgers.ids.keys ≡ ids_in (map view values.now)) }
-    ensures metadata { IfOk result
-        (λ ledgers. ledgers.metadata.items ≡ map (metadata_in names.now) (map view values.now)) }
+    ensures ledgers { IfOk result
+        (λ ledgers. ledgers.ledgers.items ≡ map (ledger_in names.now) (map view values.now)) }
 {
     let mut ids = IndexSet::new(alloc);
-    let mut metadata = Vec::new(alloc);
+    let mut ledgers = Vec::new(alloc);
     for value in values {
-        metadata.push(read_ledger(alloc, names, &mut ids, value)?)?;
+        ledgers.push(read_ledger(alloc, names, &mut ids, value)?)?;
     }
-    Ok(Ledgers { ids, metadata })
+    Ok(Ledgers { ids, ledgers })
 }
 
 /// One more ledger's metadata; its id joins the ids. After an `Err` they may have it.
@@ -241,10 +241,10 @@ fn read_ledger(
     names: &Names,
     ids: &mut IndexSet<u64>,
     ledger: &Value,
-) -> Result<LedgerMeta, PictureFault>
+) -> Result<Ledger, PictureFault>
     ensures fault { FailsWith result (ledger_fault names.now ids.old.keys (view ledger.now)) }
     ensures ids { OnOk result (ids.new.keys ≡ ids.old.keys ++ number_of (view ledger.now) Field.Id ∷ []) }
-    ensures metadata { IfOk result (λ m. m ≡ metadata_in names.now (view ledger.now)) }
+    ensures ledger { IfOk result (λ g. g ≡ ledger_in names.now (view ledger.now)) }
 {
     if !ledger.is_object() {
         return Err(PictureFault::WrongKind(Field::Ledger));
@@ -253,5 +253,6 @@ fn read_ledger(
     if !ids.insert(id)? {
         return Err(PictureFault::Twice(Repeated::Ledger(LedgerId(id))));
     }
-    read_metadata(alloc, names, LedgerId(id), ledger)
+    let metadata = read_metadata(alloc, names, LedgerId(id), ledger)?;
+    Ok(Ledger::new(LedgerId(id), metadata))
 }

@@ -1,20 +1,21 @@
 // A picture as a whole.
-ghost use Rattle.std.specs.Prelude.{◌≡◌, ◌≢◌, ◌≤◌, Ok, Err, Some, None, IfOk, IfErr};
+ghost use Rattle.std.specs.Prelude.{◌≡◌, ◌≢◌, ◌*◌, ◌^◌, ◌≤◌, length, sum_by, Ok, Err, Some, None, MatchResult, IfOk, IfErr};
 ghost use Rattle.std.specs.Result.{result_err};
-ghost use Rattle.serde_json.specs.Data.{Data};
 ghost use Rattle.serde_json.specs.View.{view};
 ghost use Rattle.reh_picture.specs.Members.{number_of};
 ghost use Rattle.reh_picture.specs.Faults.{FailsWith};
-ghost use Rattle.reh_picture.specs.Pictures.{picture_of, head_fault, parts_fault, IsShown, json_of};
+ghost use Rattle.reh_model.specs.WellFormed.{words_of};
+ghost use Rattle.reh_picture.specs.Pictures.{picture_of, head_fault, parts_fault, fields_fault, cluster_in, IsShown, json_of};
 
 use crate::bookies::read_bookies;
-use crate::contents::{Holding, read_contents};
+use crate::contents::{Holding, hold, read_contents};
 use crate::faults::PictureFault;
 use crate::fields::Field;
 use crate::ledgers::{Ledgers, read_ledgers};
 use crate::members::number_within;
-use reh_cluster::Names;
-use reh_types::BookieSet;
+use reh_cluster::{Ledger, Names, State};
+use reh_held::Held;
+use reh_types::{BookieSet, LedgerId};
 use serde_json::Value;
 use std::alloc::Global;
 
@@ -27,19 +28,21 @@ const MAX_PICTURE: usize = 8_388_608;
 /// The greatest grace, in ticks.
 const MAX_GRACE: u64 = 1_000_000;
 
-/// The parts of the cluster that a picture shows, or the picture's first fault but for the limit of words.
+/// The most words of 64 entries that all bookies together take for what they hold.
+const MAX_WORDS: u64 = 4_194_304;
+
+/// The state that a picture shows, or the picture's first fault.
 ///
 /// `NoMemory` comes only where a growth was refused, and may then stand in place of any other answer.
-pub fn read_picture(alloc: Global, bytes: &[u8]) -> Result<Parts, PictureFault>
-    ensures ok { IfOk result (λ p. (d : Data) × (json_of bytes.now ≡ Some d) × (parts_fault d ≡ None) × IsShown d
-        p.names p.up p.grace p.ledgers.ids.keys p.ledgers.metadata.items p.holdings.items) }
-    ensures err { IfErr result (λ fault. fault ≢ PictureFault.NoMemory → picture_of bytes.now ≡ Err fault) }
+pub fn read_picture(alloc: Global, bytes: &[u8]) -> Result<State, PictureFault>
+    ensures { MatchResult result (λ state. picture_of bytes.now ≡ Ok state)
+        (λ fault. fault ≢ PictureFault.NoMemory → picture_of bytes.now ≡ Err fault) }
 {
     if bytes.len() > MAX_PICTURE {
         return Err(PictureFault::TooLong);
     }
     let picture = parse_json(alloc, bytes)?;
-    read_parts(alloc, &picture)
+    read_cluster(alloc, &picture)
 }
 
 /// The JSON value of a text.
@@ -59,14 +62,57 @@ fn parse_json(alloc: Global, bytes: &[u8]) -> Result<Value, PictureFault>
     }
 }
 
+/// The state that a picture's fields name.
+fn read_cluster(alloc: Global, picture: &Value) -> Result<State, PictureFault>
+    ensures fault { FailsWith result (fields_fault (view picture.now)) }
+    ensures state { IfOk result (λ state. state ≡ cluster_in (view picture.now)) }
+{
+    let Parts {
+        names,
+        up,
+        grace,
+        ledgers,
+        holdings,
+    } = read_parts(alloc, picture)?;
+    let held = hold(alloc, &holdings)?;
+    if words_in_all(names.len(), &ledgers, &held) > MAX_WORDS {
+        return Err(PictureFault::Limit(Field::Contents));
+    }
+    Ok(State::build(names, up, grace, ledgers, held))
+}
+
+/// How many words of 64 entries so many bookies take, each as many for a ledger as reach its greatest entry.
+fn words_in_all(bookies: usize, ledgers: &[Ledger], held: &Held) -> u64
+    requires bookies { bookies ≤ 64 }
+    requires ledgers { length ledgers.now ≤ 512 }
+    ensures { result ≡ bookies * sum_by (λ g. words_of held.now.contents g.id) ledgers.now }
+{
+    let mut words = 0;
+    for ledger in ledgers {
+        words += words_in(held, ledger.id());
+    }
+    bookies as u64 * words
+}
+
+/// How many words of 64 entries reach the greatest entry that is held of a ledger.
+fn words_in(held: &Held, ledger: LedgerId) -> u64
+    ensures words { result ≡ words_of held.now.contents ledger }
+    ensures small { result ≤ 2 ^ 26 }
+{
+    match held.greatest(ledger) {
+        Some(greatest) => greatest as u64 / 64 + 1,
+        None => 0,
+    }
+}
+
 /// What a picture shows, before the limit of words is judged.
 #[derive(Drop)]
-pub struct Parts {
-    pub(crate) names: Names,
-    pub(crate) up: BookieSet,
-    pub(crate) grace: u64,
-    pub(crate) ledgers: Ledgers,
-    pub(crate) holdings: Vec<Holding>,
+struct Parts {
+    names: Names,
+    up: BookieSet,
+    grace: u64,
+    ledgers: Vec<Ledger>,
+    holdings: Vec<Holding>,
 }
 
 /// The grace of a picture, in ticks.
@@ -87,12 +133,12 @@ fn read_grace(picture: &Value) -> Result<u64, PictureFault>
 fn read_parts(alloc: Global, picture: &Value) -> Result<Parts, PictureFault>
     ensures fault { FailsWith result (parts_fault (view picture.now)) }
     ensures shown { IfOk result (λ p. IsShown (view picture.now)
-        p.names p.up p.grace p.ledgers.ids.keys p.ledgers.metadata.items p.holdings.items) }
+        p.names p.up p.grace p.ledgers.items p.holdings.items) }
 {
     let grace = read_grace(picture)?;
     let (names, up) = read_bookies(alloc, picture)?;
-    let ledgers = read_ledgers(alloc, &names, picture)?;
-    let holdings = read_contents(alloc, &names, &ledgers.ids, picture)?;
+    let Ledgers { ids, ledgers } = read_ledgers(alloc, &names, picture)?;
+    let holdings = read_contents(alloc, &names, &ids, picture)?;
     Ok(Parts {
         names,
         up,

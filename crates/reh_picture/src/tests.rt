@@ -1,8 +1,7 @@
 // Pictures whose state or fault is known.
-use crate::contents::hold;
 use crate::{FaultName, PictureFault, read_picture};
 use reh_types::{BookieIx, LedgerId, LedgerState};
-use std::alloc::{AllocError, AllocGlobal};
+use std::alloc::{AllocError, AllocGlobal, Global};
 use std::test::Fail;
 
 /// The fields of a picture that has no fault: what stands before the bookies, the bookies, and what stands after.
@@ -35,38 +34,160 @@ fn reads_names_register_and_grace(rt: HostRuntime) -> Result<(), Fail> {
     let picture =
         r#"{"bookies":[{"up":true,"name":"b1:3181","rack":[7]},{"name":"b2:3181","up":false}],
         "contents":[],"ledgers":[],"grace":1000000,"format":1,"written":{"by":null}}"#;
-    let parts = read_picture(rt.alloc(), picture.as_bytes())?;
-    assert_eq!(rt; parts.names.len(), 2);
-    assert_eq!(rt; parts.names.name(BookieIx(0)), Some("b1:3181"));
-    assert_eq!(rt; parts.names.name(BookieIx(1)), Some("b2:3181"));
-    assert!(rt; parts.up.contains(BookieIx(0)) && !parts.up.contains(BookieIx(1)));
-    assert_eq!(rt; parts.grace, 1_000_000);
+    let state = read_picture(rt.alloc(), picture.as_bytes())?;
+    assert_eq!(rt; state.names().len(), 2);
+    assert_eq!(rt; state.names().name(BookieIx(0)), Some("b1:3181"));
+    assert_eq!(rt; state.names().name(BookieIx(1)), Some("b2:3181"));
+    assert!(rt; state.is_up(BookieIx(0)) && !state.is_up(BookieIx(1)));
+    assert_eq!(rt; state.grace(), 1_000_000);
     Ok(())
 }
 
-/// A closed and an open ledger, and a part of the second's entries.
-const LEDGERS: &str =
-    r#""ledgers":[{"id":7,"state":"CLOSED","lastEntryId":5,"ensembleSize":1,"writeQuorumSize":1,
-    "ackQuorumSize":1,"version":2,"fragments":[{"firstEntry":0,"ensemble":["b1:3181"]}]},
-    {"id":9,"state":"OPEN","ensembleSize":1,"writeQuorumSize":1,"ackQuorumSize":1,"version":0,
-    "fragments":[{"firstEntry":0,"ensemble":["b1:3181"]}]}]"#;
+/// Five bookies, a closed ledger and an open one, and what three of the bookies hold.
+const CLUSTER: &str = r#"{"format":1,"grace":3,
+"bookies":[{"name":"b1:3181","up":true},{"name":"b2:3181","up":true},{"name":"b3:3181","up":true},{"name":"b4:3181","up":true},{"name":"b5:3181","up":true}],
+"ledgers":[
+{"id":7,"state":"CLOSED","lastEntryId":5,"ensembleSize":3,"writeQuorumSize":2,"ackQuorumSize":2,"version":0,"fragments":[{"firstEntry":0,"ensemble":["b1:3181","b2:3181","b3:3181"]}]},
+{"id":9,"state":"OPEN","ensembleSize":3,"writeQuorumSize":3,"ackQuorumSize":2,"version":0,"fragments":[{"firstEntry":0,"ensemble":["b1:3181","b2:3181","b3:3181"]}]}],
+"contents":[
+{"bookie":"b1:3181","ledger":7,"entries":[[0,0],[2,3],[5,5]]},
+{"bookie":"b2:3181","ledger":7,"entries":[[0,1],[3,4]]},
+{"bookie":"b3:3181","ledger":7,"entries":[[1,2],[4,5]]},
+{"bookie":"b1:3181","ledger":9,"entries":[[0,4]]},
+{"bookie":"b2:3181","ledger":9,"entries":[[0,3]]},
+{"bookie":"b3:3181","ledger":9,"entries":[[0,3]]}]}"#;
 
 #[test]
 fn reads_ledgers_and_contents(rt: HostRuntime) -> Result<(), Fail> {
-    let contents = r#""contents":[{"bookie":"b1:3181","ledger":9,"entries":[[0,0],[2,4]]}]"#;
-    let picture = format!(in rt.alloc(); "{{{HEAD},\"bookies\":{BOOKIES},{LEDGERS},{contents}}}")?;
-    let parts = read_picture(rt.alloc(), picture.as_bytes())?;
-    let states = [LedgerState::Closed { end: 6 }, LedgerState::Open];
-    assert_eq!(rt; parts.ledgers.ids.as_slice(), [7, 9].as_slice());
-    for (metadata, state) in parts.ledgers.metadata.iter().zip(states) {
-        assert_eq!(rt; metadata.state(), state);
+    let state = read_picture(rt.alloc(), CLUSTER.as_bytes())?;
+    for (bookie, count) in [(0, 9), (1, 8), (2, 8), (3, 0), (4, 0)] {
+        assert_eq!(rt; state.count(BookieIx(bookie)), count, "bookie {bookie}");
     }
-    let held = hold(rt.alloc(), &parts.holdings)?;
-    assert_eq!(rt; held.count(BookieIx(0)), 4);
     assert!(rt;
-        held.holds(BookieIx(0), LedgerId(9), 4) && !held.holds(BookieIx(0), LedgerId(9), 1)
+        state.holds(BookieIx(0), LedgerId(7), 3) && !state.holds(BookieIx(0), LedgerId(7), 4)
     );
+    let closed = state.ledger(LedgerId(7)).expect(&rt, "ledger 7").metadata();
+    assert_eq!(rt; closed.state(), LedgerState::Closed { end: 6 });
+    assert_eq!(rt; closed.size(), 3);
+    assert_eq!(rt; closed.write_quorum(), 2);
+    assert_eq!(rt; closed.ack_quorum(), 2);
+    assert_eq!(rt; closed.version(), 0);
+    let fragment = closed.fragments().first().expect(&rt, "a fragment");
+    assert_eq!(rt;
+        fragment.ensemble.as_slice(),
+        [BookieIx(0), BookieIx(1), BookieIx(2)].as_slice()
+    );
+    let open = state.ledger(LedgerId(9)).expect(&rt, "ledger 9");
+    assert_eq!(rt; open.metadata().state(), LedgerState::Open);
+    assert_eq!(rt; open.metadata().write_quorum(), 3);
+    assert!(rt; open.task().is_none() && open.lock().is_none());
+    assert!(rt; state.ledger(LedgerId(8)).is_none());
     Ok(())
+}
+
+/// What the reader says of the cluster's picture with one text in the place of another.
+fn answer_changed<R: AllocGlobal>(rt: &R, old: &str, new: &str) -> Result<String, AllocError> {
+    let changed = CLUSTER.replacen(rt.alloc(), old, new, 1)?;
+    answer_to(rt, changed.as_bytes())
+}
+
+#[test]
+fn names_the_first_fault_of_ledgers_and_contents(rt: HostRuntime) -> Result<(), Fail> {
+    for (old, new, text) in [
+        ("", "", "read"),
+        (r#""id":7"#, r#""id":-7"#, "4 WrongKind id"),
+        (r#""id":7"#, r#""id":1000000000001"#, "8 Limit id"),
+        (r#""id":9"#, r#""id":7"#, "6 Twice 7"),
+        (r#""CLOSED""#, r#""SHUT""#, "4 WrongKind state"),
+        (r#""lastEntryId":5,"#, "", "3 Missing lastEntryId"),
+        (r#"Id":5"#, r#"Id":5.0"#, "4 WrongKind lastEntryId"),
+        (r#"Id":5"#, r#"Id":-2"#, "8 Limit lastEntryId"),
+        (r#"Id":5"#, r#"Id":65536"#, "8 Limit lastEntryId"),
+        (r#"Id":5"#, r#"Id":-1"#, "read"),
+        (r#""OPEN""#, r#""OPEN","lastEntryId":"none""#, "read"),
+        (r#"Size":3"#, r#"Size":-3"#, "4 WrongKind ensembleSize"),
+        (r#"Size":3"#, r#"Size":17"#, "9 BadLedger 7 Quorum"),
+        (
+            r#"writeQuorumSize":2"#,
+            r#"writeQuorumSize":4"#,
+            "9 BadLedger 7 Quorum",
+        ),
+        (
+            r#""version":0"#,
+            r#""version":1000000000001"#,
+            "8 Limit version",
+        ),
+        (
+            r#""fragments":[{"#,
+            r#""fragments":[7,{"#,
+            "4 WrongKind fragment",
+        ),
+        (
+            r#"firstEntry":0"#,
+            r#"firstEntry":1"#,
+            "9 BadLedger 7 Fragment",
+        ),
+        (
+            r#"firstEntry":0"#,
+            r#"firstEntry":65536"#,
+            "8 Limit firstEntry",
+        ),
+        (r#""b3:3181"]"#, r#""b1:3181"]"#, "9 BadLedger 7 Ensemble"),
+        (r#""b3:3181"]"#, r#""b9:3181"]"#, "7 UnknownBookie b9:3181"),
+        (r#""b3:3181"]"#, r#""",7]"#, "7 UnknownBookie "),
+        (r#""b3:3181"]"#, r#"7,"b9:3181"]"#, "4 WrongKind ensemble"),
+        (
+            r#""b3:3181"]}"#,
+            r#""b3:3181"]},{"firstEntry":7,"ensemble":["b1:3181","b2:3181","b3:3181"]}"#,
+            "9 BadLedger 7 Last",
+        ),
+        (
+            r#"{"bookie":"b1"#,
+            r#"{"bookie":"b9"#,
+            "7 UnknownBookie b9:3181",
+        ),
+        (r#"{"bookie":"b2"#, r#"{"bookie":"b1"#, "6 Twice b1:3181 7"),
+        (r#""ledger":9"#, r#""ledger":8"#, "9 BadLedger 8 Unknown"),
+        ("[[0,4]]", "[[0,4],[5]]", "4 WrongKind entries"),
+        ("[[0,4]]", "[[5,3],[7]]", "8 Limit entries"),
+        ("[[0,4]]", "[[0,4],[4,5]]", "8 Limit entries"),
+        ("[[0,4]]", "[[0,65536]]", "8 Limit entries"),
+        ("[[0,4]]", "[]", "read"),
+    ] {
+        assert_eq!(rt;
+            answer_changed(&rt, old, new)?.as_str(),
+            text,
+            "{old} {new}"
+        );
+    }
+    Ok(())
+}
+
+#[test]
+fn a_picture_that_is_cut_is_no_json(rt: HostRuntime) -> Result<(), Fail> {
+    let picture = CLUSTER.as_bytes();
+    for length in 0..picture.len() {
+        assert_eq!(rt; answer_to(&rt, &picture[..length])?.as_str(), "2 NotJson");
+    }
+    Ok(())
+}
+
+/// Closed ledgers of one fragment, so many, each with an entry at the last place that there can be.
+fn wide_ledgers(alloc: Global, count: usize) -> Result<String, AllocError> {
+    let mut ledgers = String::new(alloc);
+    let mut contents = String::new(alloc);
+    for id in 0..count {
+        let comma = if id == 0 { "" } else { "," };
+        write!(
+            ledgers,
+            "{comma}{{\"id\":{id},\"state\":\"CLOSED\",\"lastEntryId\":65535,\"ensembleSize\":1,\"writeQuorumSize\":1,\"ackQuorumSize\":1,\"version\":0,\"fragments\":[{{\"firstEntry\":0,\"ensemble\":[\"b0\"]}}]}}"
+        )?;
+        write!(
+            contents,
+            "{comma}{{\"bookie\":\"b0\",\"ledger\":{id},\"entries\":[[65535,65535]]}}"
+        )?;
+    }
+    format!(in alloc; "\"ledgers\":[{ledgers}],\"contents\":[{contents}]")
 }
 
 #[test]
@@ -176,6 +297,18 @@ fn holds_the_limits(rt: HostRuntime) -> Result<(), Fail> {
         }
         bookies.push(']')?;
         assert_eq!(rt; answer(&rt, HEAD, bookies.as_str(), TAIL)?.as_str(), text);
+    }
+    let mut bookies = String::from_str(alloc, "[{\"name\":\"b0\",\"up\":true}")?;
+    for i in 1..64 {
+        write!(bookies, ",{{\"name\":\"b{i}\",\"up\":true}}")?;
+    }
+    bookies.push(']')?;
+    for (ledgers, text) in [(64, "read"), (65, "8 Limit contents")] {
+        let tail = wide_ledgers(alloc, ledgers)?;
+        assert_eq!(rt;
+            answer(&rt, HEAD, bookies.as_str(), tail.as_str())?.as_str(),
+            text
+        );
     }
     for (levels, text) in [(126, "read"), (127, "2 NotJson")] {
         let (open, close) = ("[".repeat(alloc, levels)?, "]".repeat(alloc, levels)?);

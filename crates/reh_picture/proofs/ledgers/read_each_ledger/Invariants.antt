@@ -1,11 +1,11 @@
 use Rattle.std.proofs.Common.{◌≡◌, map, take}
 use Rattle.serde_json.specs.View.{view}
-use Rattle.reh_picture.specs.Ledgers.{ledger_fault, metadata_in, ids_in}
+use Rattle.reh_picture.specs.Ledgers.{ledger_fault, ledger_in, ids_in}
 use Rattle.reh_picture.proofs.Lists.{HasMade}
 use Rattle.reh_picture.proofs.ledgers.read_each_ledger.Given as goal
 
 abbrev pub invariant-loop-value : goal.invariant-loop-value
 invariant-loop-value l = record {
-  made : HasMade (λ before d. ledger_fault l.names (ids_in before) d) (metadata_in l.names) l.values l.value-index l.metadata.items;
+  made : HasMade (λ before d. ledger_fault l.names (ids_in before) d) (ledger_in l.names) l.values l.value-index l.ledgers.items;
   ids : l.ids.keys ≡ ids_in (map view (take l.value-index l.values));
 }

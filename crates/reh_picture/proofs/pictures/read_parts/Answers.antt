@@ -8,8 +8,8 @@ use Rattle.reh_picture.proofs.pictures.read_parts.Goals as goal
 pub returns-in_err-holdings-clause-fault : goal.returns-in_err-holdings-clause-fault
 returns-in_err-holdings-clause-fault c =
     let names = c.in_ok-names.ensures in
-    let ledgers = c.in_ok-ledgers.ensures in
+    let ledgers = c.in_ok-ids.ensures in
     let fault = c.in_err-holdings.field-0.0 in
     let first : fault ≢ NoMemory → parts_fault (view c.args.picture.now) ≡ Some fault =
-    λ known. contents_fault_first (view c.args.picture.now) c.in_ok-names.names c.in_ok-ledgers.ledgers.ids.keys (sym c.in_ok-grace.ensures.fault) names.fault names.names ledgers.fault ledgers.ids fault (c.in_err-holdings.ensures.fault known) in
+    λ known. contents_fault_first (view c.args.picture.now) c.in_ok-names.names c.in_ok-ids.field-0.ids.keys (sym c.in_ok-grace.ensures.fault) names.fault names.names ledgers.fault ledgers.ids fault (c.in_err-holdings.ensures.fault known) in
     search (rules, first, c.from_residual-in_err-holdings.ensures)

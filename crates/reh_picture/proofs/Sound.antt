@@ -1,0 +1,419 @@
+-- What a picture without a fault names is a well-formed cluster.
+use Rattle.std.proofs.Common.{◌≡◌, ℕ, zero, suc, ◌+◌, ◌-◌, ◌*◌, ◌^◌, ◌<◌, ◌≤◌, Bool, true, false, not, ◌&&◌, ◌||◌, cond, List, [], ◌∷◌, ◌++◌, map, length, get_or, Option, None, Some, IsSome, is_some, refl, sym, ap, ◌∙◌, subst, arith, nat_lt, nat_eq, unwrap_or, append-nil, append_assoc, if◌then◌else◌, lit≤}
+use Rattle.std.specs.Prelude.{◌==◌, codes, nat_le, ℤ, pos, negsuc, All, sum_by}
+use Rattle.std.specs.List.{list_any, find, flat_map, filter, enumerate_from, range_with_len, IsDistinct, position_or_len}
+use Rattle.std.specs.Option.{option_or, option_map, option_and_then, ForSome}
+use Rattle.std.specs.Ordering.{nat_cmp, eq_by_cmp, is_eq}
+use Rattle.std.specs.Cmp.{IsEquivalence, tied_itself, Equal-is, unsigned_tied}
+use Rattle.std.specs.Result.{result_ok}
+use Rattle.std.specs.Str.{bytes_eq}
+use Rattle.std.proofs.lemmas.Bool.Decides.{nat_tests}
+use Rattle.std.proofs.lemmas.Cmp.{nat_eq_equiv}
+use Rattle.std.proofs.lemmas.List.{map-append, length-map}
+use Rattle.std.proofs.lemmas.List.Folds.{list_any-append}
+use Rattle.std.proofs.lemmas.Map.Keys.{IsDistinct-push}
+use Rattle.std.proofs.lemmas.Slice.Eq.{bytes_eq-Decides}
+use Rattle.serde_json.specs.Data.{Data}
+use Rattle.reh_types.specs.declared.names.LedgerState.TheVariants.{Open, InRecovery, Closed}
+use Rattle.reh_types.specs.Sets as set
+use Rattle.reh_types.specs.Sets.{Set, numbers, triples, triple_cmp, triple_total, contains-from_list, contains-items}
+use Rattle.reh_model.specs.Metadata.{Metadata, Fragment, IsMetadata, end_of_state}
+use Rattle.reh_model.specs.Cluster.{Cluster, Ledger, ledger_at}
+use Rattle.reh_model.specs.WellFormed.{IsLedger, IsCopy, IsWellFormed, words_of}
+use Rattle.reh_model.proofs.Ranges.{Passes, any_passes, list_any-map, same_answer}
+use Rattle.reh_model.proofs.MetadataLaws.{KeepsRules, IsMetadata-from_rules}
+use Rattle.reh_meta.specs.Faults as meta
+use Rattle.reh_meta.specs.declared.faults.MetaFault.{MetaFault}
+use Rattle.reh_picture.specs.declared.fields.Field.{Field}
+use Rattle.reh_picture.specs.declared.fields.Field.TheVariants as field
+use Rattle.reh_picture.specs.declared.faults.PictureFault.{PictureFault}
+use Rattle.reh_picture.specs.declared.faults.PictureFault.TheVariants.{Limit}
+use Rattle.reh_picture.specs.Faults.{fault_unless, fault_along}
+use Rattle.reh_picture.specs.Members.{integer_in, number_of, text_of, flag_of, list_of, number_fault, list_fault}
+use Rattle.reh_picture.specs.Bookies.{bookie_fault, each_bookie_fault, bookies_fault, names_in, registered_in, bookie_in, known_fault}
+use Rattle.reh_picture.specs.Ledgers.{member_name, member_fault, members_fault, fragment_fault, fragment_in, fragments_fault, is_closed, end_after, end_in, state_in, metadata_in, broken_rule, metadata_fault, ledger_fault, ids_in, each_ledger_fault, ledgers_fault, ledger_in}
+use Rattle.reh_picture.specs.Contents.{ends_of, next_after, range_fault, ranges_fault, Holding, holding_in, pairs_in, content_fault, each_content_fault, contents_fault, copies_of, copies_in, held_in}
+use Rattle.reh_model.specs.Contents as model
+use Rattle.reh_cluster.specs.Parts.{cluster_of}
+use Rattle.reh_picture.specs.Pictures.{names_of, ids_of, cluster_in, words_in, head_fault, parts_fault, fields_fault, IsShown}
+
+-- Checks that find nothing
+
+option_or-none : {A : Type 0} (a b : Option A) → option_or a b ≡ None → (a ≡ None) × (b ≡ None)
+option_or-none None b none = (refl, none)
+option_or-none (Some x) b none = cc
+
+fault_unless-none : (c : Bool) (fault : PictureFault) → fault_unless c fault ≡ None → c ≡ true
+fault_unless-none true fault none = refl
+fault_unless-none false fault none = cc
+
+rule-none : (c : Bool) (fault : MetaFault) → meta.fault_unless c fault ≡ None → c ≡ true
+rule-none true fault none = refl
+rule-none false fault none = cc
+
+option_map-none : {A B : Type 0} (f : A → B) (o : Option A) → option_map f o ≡ None → o ≡ None
+option_map-none f None none = refl
+option_map-none f (Some x) none = cc
+
+not-true : (b : Bool) → not b ≡ true → b ≡ false
+not-true true is = cc
+not-true false is = refl
+
+and-true : (a b : Bool) → (a && b) ≡ true → (a ≡ true) × (b ≡ true)
+and-true true b is = (refl, is)
+and-true false b is = cc
+
+-- a number within its bounds
+number_within : (d : Data) (field : Field) (least most : ℕ) → number_fault d field least most ≡ None → (least ≤ number_of d field) × (number_of d field ≤ most)
+number_within d field least most none =
+    let checks = option_or-none _ _ none in
+    let both : (nat_le least (number_of d field) ≡ true) × (nat_le (number_of d field) most ≡ true) = and-true _ _ (fault_unless-none _ _ (option_or-none _ _ checks.1).0) in
+    (grind (arith, nat_tests, both.0), grind (arith, nat_tests, both.1))
+
+-- a list with a number of elements within its bounds
+list_within : (d : Data) (field : Field) (least most : ℕ) → list_fault d field least most ≡ None → (least ≤ length (list_of d field)) × (length (list_of d field) ≤ most)
+list_within d field least most none =
+    let checks = option_or-none _ _ none in
+    let both : (nat_le least (length (list_of d field)) ≡ true) × (nat_le (length (list_of d field)) most ≡ true) = and-true _ _ (fault_unless-none _ _ (option_or-none _ _ checks.1).0) in
+    (grind (arith, nat_tests, both.0), grind (arith, nat_tests, both.1))
+
+-- Along lists
+
+-- what is made of each element is as it should be
+all_made : {X : Type 0} (judge : List Data → Data → Option PictureFault) (make : Data → X) (P : X → Type 0) → ((before : List Data) (d : Data) → judge before d ≡ None → P (make d))
+    → (before ds : List Data) → fault_along judge before ds ≡ None → (k : ℕ) (x : X) → k < length (map make ds) → P (get_or (map make ds) k x)
+all_made judge make P each before [] none k x within = absurd (omega arith)
+all_made judge make P each before (d ∷ ds) none zero x within = each before d (option_or-none _ _ none).0
+all_made judge make P each before (d ∷ ds) none (suc k) x within = all_made judge make P each (before ++ d ∷ []) ds (option_or-none _ _ none).1 k x (omega arith)
+
+-- keys that are each checked against those before them differ
+module _ {K : Type 0} (eq : K → K → Bool) (laws : IsEquivalence eq) (key : Data → K) (judge : List Data → Data → Option PictureFault) (each : (before : List Data) (d : Data) → judge before d ≡ None → list_any (eq (key d)) (map key before) ≡ false) where
+  differ_after : (before ds : List Data) → IsDistinct eq (map key before) → fault_along judge before ds ≡ None → IsDistinct eq (map key (before ++ ds))
+  differ_after before [] differ none = subst (λ (xs : List Data). IsDistinct eq (map key xs)) (sym (append-nil before)) differ
+  differ_after before (d ∷ ds) differ none =
+      let checks = option_or-none _ _ none in
+      let more : IsDistinct eq (map key (before ++ d ∷ [])) = subst (λ (ks : List K). IsDistinct eq ks) (sym (map-append key before (d ∷ []))) (IsDistinct-push laws (map key before) (key d) differ (each before d checks.0)) in
+      subst (λ (xs : List Data). IsDistinct eq (map key xs)) (append_assoc before (d ∷ []) ds) (differ_after (before ++ d ∷ []) ds more checks.1)
+
+  differ : (ds : List Data) → fault_along judge [] ds ≡ None → IsDistinct eq (map key ds)
+  unfolding IsDistinct
+  differ ds none = differ_after [] ds tt none
+
+bytes_eq_equiv : IsEquivalence bytes_eq
+bytes_eq_equiv = record {
+  refl = λ x. (bytes_eq-Decides x x).1 refl;
+  symm = λ x y. same_answer _ _ (λ t. (bytes_eq-Decides y x).1 (sym ((bytes_eq-Decides x y).0 t))) (λ t. (bytes_eq-Decides x y).1 (sym ((bytes_eq-Decides y x).0 t)));
+  congr = λ x y z t. ap (λ (w : List ℕ). bytes_eq w z) ((bytes_eq-Decides x y).0 t);
+}
+
+-- Bookies
+
+bookie_differs : (before : List Data) (d : Data) → bookie_fault (names_in before) d ≡ None → list_any (bytes_eq (text_of d field.Name)) (names_in before) ≡ false
+bookie_differs before d none = not-true _ (fault_unless-none _ _ (option_or-none _ _ (option_or-none _ _ none).1).0)
+
+names_differ : (bookies : List Data) → each_bookie_fault bookies ≡ None → IsDistinct bytes_eq (names_in bookies)
+unfolding each_bookie_fault
+names_differ bookies none = differ bytes_eq bytes_eq_equiv (λ d. text_of d field.Name) (λ before d. bookie_fault (names_in before) d) bookie_differs bookies none
+
+-- a place at which a test passes is within the list
+place_within : (test : Data → Bool) (b n : ℕ) (ds : List Data) → list_any (eq_by_cmp nat_cmp b) (map {A = ℕ × Data} {B = ℕ} (λ p. p.0) (filter (λ p. test p.1) (enumerate_from n ds))) ≡ true → b < n + length ds
+place_within test b n [] any = cc
+place_within test b n (d ∷ ds) any =
+    elim (test d) as (λ t. list_any (eq_by_cmp nat_cmp b) (map {A = ℕ × Data} {B = ℕ} (λ p. p.0) (cond t ((n, d) ∷ filter (λ p. test p.1) (enumerate_from (n + 1) ds)) (filter (λ p. test p.1) (enumerate_from (n + 1) ds)))) ≡ true → b < n + suc (length ds)) [
+      | true ↦ λ any. elim (eq_by_cmp nat_cmp b n) as (λ t. eq_by_cmp nat_cmp b n ≡ t → (t || list_any (eq_by_cmp nat_cmp b) (map {A = ℕ × Data} {B = ℕ} (λ p. p.0) (filter (λ p. test p.1) (enumerate_from (n + 1) ds)))) ≡ true → b < n + suc (length ds)) [
+        | true ↦ λ tied any. let same : b ≡ n = grind (arith, nat_tests, unsigned_tied b n, tied) in omega arith
+        | false ↦ λ tied any. omega (arith, place_within test b (n + 1) ds any)
+      ] refl any
+      | false ↦ λ any. omega (arith, place_within test b (n + 1) ds any)
+    ] any
+
+registered_named : (bookies : List Data) (b : ℕ) → set.contains (registered_in bookies) b ≡ true → b < length (names_in bookies)
+registered_named bookies b is =
+    omega (arith, place_within (λ d. flag_of d field.Up) b 0 bookies (sym (contains-from_list numbers (map (λ p. p.0) (filter (λ p. flag_of p.1 field.Up) (enumerate_from 0 bookies))) b) ∙ is), length-map bookies (λ d. text_of d field.Name))
+
+-- a place, where there is one
+abbrev found : ℕ → Bool → Option ℕ
+found n t = cond t (Some n) None
+
+-- a bookie that is known
+found_within : (n most : ℕ) (t : Bool) → nat_lt n most ≡ t → is_some (found n t) ≡ true → unwrap_or (found n t) 0 < most
+found_within n most true t some = grind (arith, nat_tests, t)
+found_within n most false t some = cc
+
+bookie_known : (names : List (List ℕ)) (name : List ℕ) → known_fault names name ≡ None → bookie_in names name < length names
+bookie_known names name none = found_within (position_or_len (bytes_eq name) names) (length names) (nat_lt (position_or_len (bytes_eq name) names) (length names)) refl (fault_unless-none _ _ none)
+
+-- Ledgers
+
+-- metadata that breaks no rule
+KeepsRules-none : (m : Metadata) → meta.fault_of m ≡ None → KeepsRules m
+KeepsRules-none m none =
+    let first = option_or-none _ _ none in
+    let second = option_or-none _ _ first.1 in
+    let third = option_or-none _ _ second.1 in
+    record {
+      quorums = rule-none _ _ first.0;
+      fragments = rule-none _ _ second.0;
+      ensembles = rule-none _ _ third.0;
+      end = rule-none _ _ (option_or-none _ _ third.1).0;
+    }
+
+end_after-small : (last : ℤ) → unwrap_or (end_after last) 0 ≤ 2 ^ 16
+end_after-small (pos n) = elim (nat_le n 65_535) as (λ t. nat_le n 65_535 ≡ t → unwrap_or (cond t (Some (n + 1)) None) 0 ≤ 2 ^ 16) [ true ↦ λ t. grind (arith, nat_tests, t) | false ↦ λ t. lit≤ tt ] refl
+end_after-small (negsuc zero) = lit≤ tt
+end_after-small (negsuc (suc n)) = lit≤ tt
+
+end_small : (o : Option ℤ) → unwrap_or (option_and_then end_after o) 0 ≤ 2 ^ 16
+end_small None = lit≤ tt
+end_small (Some last) = end_after-small last
+
+state_small : (d : Data) → ForSome (end_of_state (state_in d)) (λ end. end ≤ 2 ^ 16)
+state_small d end is =
+    elim (is_closed d) as (λ t. end_of_state (if t then Closed (unwrap_or (end_in d) 0) else (if bytes_eq (text_of d field.State) (codes "OPEN") then Open else InRecovery)) ≡ Some end → end ≤ 2 ^ 16) [
+      | true ↦ λ is. let same : unwrap_or (end_in d) 0 ≡ end = cc in omega (arith, end_small (result_ok (integer_in d field.LastEntryId)))
+      | false ↦ elim (bytes_eq (text_of d field.State) (codes "OPEN")) as (λ u. end_of_state (if u then Open else InRecovery) ≡ Some end → end ≤ 2 ^ 16) [ true ↦ λ is. cc | false ↦ λ is. cc ]
+    ] is
+
+-- the members of an ensemble are known
+member_known : (names : List (List ℕ)) (before : List Data) (d : Data) → member_fault names d ≡ None → bookie_in names (member_name d) < length names
+member_known names before d none = bookie_known names (member_name d) (option_or-none _ _ (option_or-none _ _ none).1).0
+
+members_known : (names : List (List ℕ)) (members : List Data) → members_fault names members ≡ None → All (λ b. b < length names) (map (λ member. bookie_in names (member_name member)) members)
+unfolding members_fault
+members_known names members none = all_made (λ _ d. member_fault names d) (λ member. bookie_in names (member_name member)) (λ b. b < length names) (member_known names) [] members none
+
+-- a fragment begins within the limit, and names bookies that are known
+pub record IsFragment (bookies : ℕ) (fragment : Fragment) : Type 0 where
+  pub first : fragment.first < 2 ^ 16
+  pub members : All (λ b. b < bookies) fragment.ensemble
+
+fragment_good : (names : List (List ℕ)) (before : List Data) (d : Data) → fragment_fault names d ≡ None → IsFragment (length names) (fragment_in names d)
+fragment_good names before d none =
+    let first = option_or-none _ _ (option_or-none _ _ none).1 in
+    let list = option_or-none _ _ first.1 in
+    record {
+      first = omega (arith, (number_within d field.FirstEntry 0 65_535 first.0).1);
+      members = members_known names (list_of d field.Ensemble) (option_or-none _ _ list.1).0;
+    }
+
+fragments_good : (names : List (List ℕ)) (fragments : List Data) → fragments_fault names fragments ≡ None → All (IsFragment (length names)) (map (fragment_in names) fragments)
+unfolding fragments_fault
+fragments_good names fragments none = all_made (λ _ d. fragment_fault names d) (fragment_in names) (IsFragment (length names)) (fragment_good names) [] fragments none
+
+-- a ledger's metadata
+pub record IsMetadataOf (names : List (List ℕ)) (d : Data) : Type 0 where
+  pub metadata : IsMetadata (metadata_in names d)
+  pub fragments : All (IsFragment (length names)) (metadata_in names d).fragments
+
+metadata_good : (names : List (List ℕ)) (ledger : ℕ) (d : Data) → metadata_fault names ledger d ≡ None → IsMetadataOf names d
+unfolding metadata_fault
+metadata_good names ledger d none =
+    let sizes = option_or-none _ _ (option_or-none _ _ none).1 in
+    let version = option_or-none _ _ sizes.1 in
+    let list = option_or-none _ _ version.1 in
+    let fragments = option_or-none _ _ list.1 in
+    let rules = option_or-none _ _ fragments.1 in
+    let each = fragments_good names (list_of d field.Fragments) fragments.0 in
+    record {
+      metadata = IsMetadata-from_rules (metadata_in names d) (KeepsRules-none _ (option_map-none (broken_rule ledger) _ rules.0))
+          (number_within d field.Version 0 (10 ^ 12) version.0).1 (state_small d)
+          (omega (arith, (list_within d field.Fragments 0 256 list.0).1, length-map (list_of d field.Fragments) (fragment_in names)))
+          (λ k fragment within. (each k fragment within).first);
+      fragments = each;
+    }
+
+-- a ledger in any cluster with these names
+ledger_good : (s : Cluster) (before : List Data) (d : Data) → ledger_fault s.names (ids_in before) d ≡ None → IsLedger s (ledger_in s.names d)
+ledger_good s before d none =
+    let id = option_or-none _ _ (option_or-none _ _ none).1 in
+    let twice = option_or-none _ _ id.1 in
+    let metadata = metadata_good s.names (number_of d field.Id) d (option_or-none _ _ twice.1).0 in
+    record {
+      id = (number_within d field.Id 0 (10 ^ 12) id.0).1;
+      metadata = metadata.metadata;
+      members = λ k fragment within. (metadata.fragments k fragment within).members;
+      task = λ task is. cc;
+      lock = λ lock is. cc;
+      due = λ due is. cc;
+    }
+
+ledgers_good : (s : Cluster) (ledgers : List Data) → each_ledger_fault s.names ledgers ≡ None → All (IsLedger s) (map (ledger_in s.names) ledgers)
+unfolding each_ledger_fault
+ledgers_good s ledgers none = all_made (λ before d. ledger_fault s.names (ids_in before) d) (ledger_in s.names) (IsLedger s) (ledger_good s) [] ledgers none
+
+ledger_differs : (names : List (List ℕ)) (before : List Data) (d : Data) → ledger_fault names (ids_in before) d ≡ None → list_any (nat_eq (number_of d field.Id)) (ids_in before) ≡ false
+ledger_differs names before d none = not-true _ (fault_unless-none _ _ (option_or-none _ _ (option_or-none _ _ (option_or-none _ _ none).1).1).0)
+
+ids_differ : (names : List (List ℕ)) (ledgers : List Data) → each_ledger_fault names ledgers ≡ None → IsDistinct nat_eq (ids_in ledgers)
+unfolding each_ledger_fault
+ids_differ names ledgers none = differ nat_eq nat_eq_equiv (λ d. number_of d field.Id) (λ before d. ledger_fault names (ids_in before) d) (ledger_differs names) ledgers none
+
+-- the ids of the ledgers that are made
+ids_made : (names : List (List ℕ)) (ledgers : List Data) → map {A = Ledger} {B = ℕ} (λ g. g.id) (map (ledger_in names) ledgers) ≡ ids_in ledgers
+ids_made names [] = refl
+ids_made names (d ∷ ds) = ap (λ (ids : List ℕ). number_of d field.Id ∷ ids) (ids_made names ds)
+
+-- a ledger of an id that is there is found
+ledger_found : (names : List (List ℕ)) (l : ℕ) (ledgers : List Data) → list_any (nat_eq l) (ids_in ledgers) ≡ true → is_some (find (λ g. g.id == l) (map (ledger_in names) ledgers)) ≡ true
+ledger_found names l [] any = cc
+ledger_found names l (d ∷ ds) any =
+    elim (nat_eq (number_of d field.Id) l) as (λ t. nat_eq (number_of d field.Id) l ≡ t → is_some (cond t (Some (ledger_in names d)) (find (λ g. g.id == l) (map (ledger_in names) ds))) ≡ true) [
+      | true ↦ λ t. refl
+      | false ↦ λ t. let off : nat_eq l (number_of d field.Id) ≡ false = grind (arith, nat_tests, t) in ledger_found names l ds (ap (λ b. b || list_any (nat_eq l) (ids_in ds)) (sym off) ∙ any)
+    ] refl
+
+-- Contents
+
+abbrev is_triple : ℕ × ℕ × ℕ → ℕ × ℕ × ℕ → Bool
+is_triple q t = eq_by_cmp triple_cmp q t
+
+or-either : (a b : Bool) (P : Type 0) → (a ≡ true → P) → (b ≡ true → P) → (a || b) ≡ true → P
+or-either true b P first second is = first refl
+or-either false b P first second is = second is
+
+-- among two lists, one after the other
+any_of_two : {A : Type 0} (p : A → Bool) (xs ys : List A) (P : Type 0) → (list_any p xs ≡ true → P) → (list_any p ys ≡ true → P) → list_any p (xs ++ ys) ≡ true → P
+any_of_two p xs ys P first second is = or-either (list_any p xs) (list_any p ys) P first second (sym (list_any-append p xs ys) ∙ is)
+
+-- an entry of a range
+copy_in_range : (s : Cluster) (bookie ledger : ℕ) (ends : ℕ × ℕ) (q : ℕ × ℕ × ℕ) → bookie < length s.names → IsSome (ledger_at s ledger) → ends.1 ≤ 65_535 → list_any (is_triple q) (copies_of bookie ledger ends) ≡ true → IsCopy s q
+copy_in_range s bookie ledger ends q known there small any =
+    let w : Passes (λ e. is_triple q (bookie, ledger, e)) ends.0 ((ends.1 + 1) - ends.0) =
+    any_passes (λ e. is_triple q (bookie, ledger, e)) ends.0 ((ends.1 + 1) - ends.0) (sym (list_any-map (is_triple q) (λ e. (bookie, ledger, e)) (range_with_len ends.0 ((ends.1 + 1) - ends.0))) ∙ any) in
+    let same : (bookie, ledger, w.at) ≡ q = sym (triples.exact q (bookie, ledger, w.at) ((Equal-is (triple_cmp q (bookie, ledger, w.at))).0 w.passes)) in
+    let low : w.at < 2 ^ 16 = omega (arith, w.from, w.below) in
+    subst (λ (t : ℕ × ℕ × ℕ). IsCopy s t) same (known, there, low)
+
+-- an entry of ranges without a fault
+copy_in_ranges : (s : Cluster) (bookie ledger : ℕ) (q : ℕ × ℕ × ℕ) → bookie < length s.names → IsSome (ledger_at s ledger) → (before ranges : List Data) → fault_along (λ before d. range_fault (next_after before) d) before ranges ≡ None
+    → list_any (is_triple q) (flat_map (copies_of bookie ledger) (map ends_of ranges)) ≡ true → IsCopy s q
+copy_in_ranges s bookie ledger q known there before [] none any = cc
+copy_in_ranges s bookie ledger q known there before (d ∷ ds) none any =
+    let checks = option_or-none _ _ none in
+    let within : ((nat_le (next_after before) (ends_of d).0 && nat_le (ends_of d).0 (ends_of d).1) ≡ true) × (nat_le (ends_of d).1 65_535 ≡ true) = and-true _ _ (fault_unless-none _ _ (option_or-none _ _ (option_or-none _ _ checks.0).1).0) in
+    any_of_two (is_triple q) (copies_of bookie ledger (ends_of d)) (flat_map (copies_of bookie ledger) (map ends_of ds)) (IsCopy s q)
+    (copy_in_range s bookie ledger (ends_of d) q known there (grind (arith, nat_tests, within.1)))
+    (copy_in_ranges s bookie ledger q known there (before ++ d ∷ []) ds checks.1)
+    any
+
+ranges_copies : (s : Cluster) (bookie ledger : ℕ) (q : ℕ × ℕ × ℕ) → bookie < length s.names → IsSome (ledger_at s ledger) → (ranges : List Data) → ranges_fault ranges ≡ None
+    → list_any (is_triple q) (flat_map (copies_of bookie ledger) (map ends_of ranges)) ≡ true → IsCopy s q
+unfolding ranges_fault
+ranges_copies s bookie ledger q known there ranges none any = copy_in_ranges s bookie ledger q known there [] ranges none any
+
+-- an entry of contents without a fault
+module _ (s : Cluster) (ids : List ℕ) (found : (l : ℕ) → list_any (nat_eq l) ids ≡ true → IsSome (ledger_at s l)) (q : ℕ × ℕ × ℕ) where
+  copy_in_contents : (before contents : List Data) → fault_along (λ before d. content_fault s.names ids (pairs_in s.names before) d) before contents ≡ None → list_any (is_triple q) (flat_map copies_in (map (holding_in s.names) contents)) ≡ true → IsCopy s q
+  copy_in_contents before [] none any = cc
+  copy_in_contents before (d ∷ ds) none any =
+      let checks = option_or-none _ _ none in
+      let content = option_or-none _ _ checks.0 in
+      let bookie = option_or-none _ _ (option_or-none _ _ (option_or-none _ _ content.0).1).1 in
+      let ledger = option_or-none _ _ (option_or-none _ _ bookie.1).1 in
+      any_of_two (is_triple q) (copies_in (holding_in s.names d)) (flat_map copies_in (map (holding_in s.names) ds)) (IsCopy s q)
+      (ranges_copies s (bookie_in s.names (text_of d field.Bookie)) (number_of d field.Ledger) q (bookie_known s.names (text_of d field.Bookie) bookie.0) (found (number_of d field.Ledger) (fault_unless-none _ _ ledger.0))
+      (list_of d field.Entries) (option_or-none _ _ (option_or-none _ _ content.1).1).0)
+      (copy_in_contents (before ++ d ∷ []) ds checks.1)
+      any
+
+  contents_copies : (contents : List Data) → each_content_fault s.names ids contents ≡ None → list_any (is_triple q) (flat_map copies_in (map (holding_in s.names) contents)) ≡ true → IsCopy s q
+  unfolding each_content_fault
+  contents_copies contents none any = copy_in_contents [] contents none any
+
+-- what stands in a list is among its elements
+get_or-among : {A : Type 0} (eq : A → A → Bool) → ((x : A) → eq x x ≡ true) → (xs : List A) (k : ℕ) (d : A) → k < length xs → list_any (eq (get_or xs k d)) xs ≡ true
+get_or-among eq itself [] k d within = absurd (omega arith)
+get_or-among eq itself (x ∷ xs) zero d within = ap (λ b. b || list_any (eq x) xs) (itself x)
+get_or-among eq itself (x ∷ xs) (suc k) d within = or-second (eq (get_or xs k d) x) (list_any (eq (get_or xs k d)) xs) (get_or-among eq itself xs k d (omega arith))
+  where
+    or-second : (a b : Bool) → b ≡ true → (a || b) ≡ true
+    or-second true b is = refl
+    or-second false b is = is
+
+-- the items of a set of triples have what holds of its list
+all_items : (P : ℕ × ℕ × ℕ → Type 0) (ts : List (ℕ × ℕ × ℕ)) → ((q : ℕ × ℕ × ℕ) → list_any (is_triple q) ts ≡ true → P q) → All P (set.items (set.from_list {o = triples} ts))
+all_items P ts each = λ k d within.
+    let q = get_or (set.items (set.from_list {o = triples} ts)) k d in
+    each q (sym (contains-from_list triples ts q) ∙ contains-items (set.from_list {o = triples} ts) q ∙ get_or-among is_triple (λ x. ap is_eq (tied_itself triple_total x)) (set.items (set.from_list {o = triples} ts)) k d within)
+
+-- The cluster
+
+-- the parts of a picture in which nothing is wrong
+pub record IsFaultless (d : Data) : Type 0 where
+  pub grace : number_of d field.Grace ≤ 1_000_000
+  pub some_bookie : 1 ≤ length (list_of d field.Bookies)
+  pub bookies : length (list_of d field.Bookies) ≤ 64
+  pub each_bookie : each_bookie_fault (list_of d field.Bookies) ≡ None
+  pub ledgers : length (list_of d field.Ledgers) ≤ 512
+  pub each_ledger : each_ledger_fault (names_of d) (list_of d field.Ledgers) ≡ None
+  pub each_content : each_content_fault (names_of d) (ids_of d) (list_of d field.Contents) ≡ None
+
+pub IsFaultless-none : (d : Data) → parts_fault d ≡ None → IsFaultless d
+unfolding head_fault bookies_fault ledgers_fault contents_fault
+IsFaultless-none d none =
+    let head = option_or-none _ _ none in
+    let grace = option_or-none _ _ (option_or-none _ _ (option_or-none _ _ head.0).1).1 in
+    let bookies = option_or-none _ _ head.1 in
+    let each_bookie = option_or-none _ _ bookies.0 in
+    let ledgers = option_or-none _ _ bookies.1 in
+    let each_ledger = option_or-none _ _ ledgers.0 in
+    let contents = option_or-none _ _ (option_or-none _ _ ledgers.1).0 in
+    let within = list_within d field.Bookies 1 64 each_bookie.0 in
+    record {
+      grace = (number_within d field.Grace 0 1_000_000 grace.0).1;
+      some_bookie = within.0;
+      bookies = within.1;
+      each_bookie = (option_or-none _ _ each_bookie.1).0;
+      ledgers = (list_within d field.Ledgers 0 512 each_ledger.0).1;
+      each_ledger = (option_or-none _ _ each_ledger.1).0;
+      each_content = (option_or-none _ _ contents.1).0;
+    }
+
+-- such parts within the limit of words are a well-formed cluster
+pub IsWellFormed-cluster_in : (d : Data) → IsFaultless d → words_in (cluster_in d) ≤ 2 ^ 22 → IsWellFormed (cluster_in d)
+IsWellFormed-cluster_in d good words =
+    let s = cluster_in d in
+    let count : length (names_of d) ≡ length (list_of d field.Bookies) = length-map (list_of d field.Bookies) (λ d. text_of d field.Name) in
+    record {
+      some_bookie = omega (arith, count, good.some_bookie);
+      bookies = omega (arith, count, good.bookies);
+      names = names_differ (list_of d field.Bookies) good.each_bookie;
+      grace = good.grace;
+      clock = lit≤ tt;
+      up = registered_named (list_of d field.Bookies);
+      ledgers = omega (arith, length-map (list_of d field.Ledgers) (ledger_in (names_of d)), good.ledgers);
+      different = subst (λ (ids : List ℕ). IsDistinct nat_eq ids) (sym (ids_made (names_of d) (list_of d field.Ledgers))) (ids_differ (names_of d) (list_of d field.Ledgers) good.each_ledger);
+      each = ledgers_good s (list_of d field.Ledgers) good.each_ledger;
+      held = all_items (IsCopy s) (flat_map copies_in (map (holding_in (names_of d)) (list_of d field.Contents)))
+          (λ q. contents_copies s (ids_of d) (λ l there. ledger_found (names_of d) l (list_of d field.Ledgers) there) q (list_of d field.Contents) good.each_content);
+      words = words;
+    }
+
+-- the parts that were read are those of the cluster
+pub cluster_of-shown : (d : Data) (names : List (List ℕ)) (up : Set numbers) (grace : ℕ) (ledgers : List Ledger) (holdings : List Holding) (held : model.Contents) → IsShown d names up grace ledgers holdings → held ≡ held_in holdings → cluster_of names up grace ledgers held ≡ cluster_in d
+cluster_of-shown d names up grace ledgers holdings held shown is = λ i. record {
+  names = shown.names_are i;
+  grace = shown.grace_is i;
+  up = shown.up_is i;
+  ledgers = shown.ledgers_are i;
+  held = (is ∙ ap held_in shown.holdings_are) i;
+  clock = 0;
+}
+
+-- and take as many words
+pub words_in-shown : (d : Data) (names : List (List ℕ)) (up : Set numbers) (grace : ℕ) (ledgers lent : List Ledger) (held : model.Contents) (bookies words : ℕ) → cluster_of names up grace ledgers held ≡ cluster_in d → bookies ≡ length names → lent ≡ ledgers
+    → words ≡ bookies * sum_by (λ g. words_of held g.id) lent → words ≡ words_in (cluster_in d)
+words_in-shown d names up grace ledgers lent held bookies words whole count same is = is ∙ (λ i. count i * sum_by (λ g. words_of held g.id) (same i)) ∙ ap words_in whole
+
+-- the limit of words is judged last
+pub fields_fault-within : (d : Data) → parts_fault d ≡ None → words_in (cluster_in d) ≤ 2 ^ 22 → fields_fault d ≡ None
+fields_fault-within d good within =
+    let test : nat_le (words_in (cluster_in d)) (2 ^ 22) ≡ true = grind (arith, nat_tests) in
+    ap (λ (o : Option PictureFault). option_or o (option_or (fault_unless (nat_le (words_in (cluster_in d)) (2 ^ 22)) (Limit field.Contents)) None)) good
+    ∙ ap (λ (t : Bool). option_or (fault_unless t (Limit field.Contents)) None) test
+
+pub fields_fault-past : (d : Data) → parts_fault d ≡ None → 2 ^ 22 < words_in (cluster_in d) → fields_fault d ≡ Some (Limit field.Contents)
+fields_fault-past d good past =
+    let test : nat_le (words_in (cluster_in d)) (2 ^ 22) ≡ false = grind (arith, nat_tests) in
+    ap (λ (o : Option PictureFault). option_or o (option_or (fault_unless (nat_le (words_in (cluster_in d)) (2 ^ 22)) (Limit field.Contents)) None)) good
+    ∙ ap (λ (t : Bool). option_or (fault_unless t (Limit field.Contents)) None) test
