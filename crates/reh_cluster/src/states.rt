@@ -44,13 +44,7 @@ impl State {
     ghost use Rattle.reh_cluster.specs.Parts.{cluster_of};
 
     /// The state at clock 0 with these names, registered bookies, grace in ticks, ledgers in picture order, and contents.
-    pub fn build(
-        names: Names,
-        up: BookieSet,
-        grace: u64,
-        ledgers: Vec<Ledger>,
-        held: Held,
-    ) -> State
+    pub fn build(names: Names, up: BookieSet, grace: u64, ledgers: Vec<Ledger>, held: Held) -> State
         requires { IsWellFormed (cluster_of names up grace ledgers.items held.contents) }
         ensures { result ≡ cluster_of names up grace ledgers.items held.contents }
     {
