@@ -1,13 +1,19 @@
 -- What is held after copies are added.
-use Rattle.std.proofs.Common.{◌≡◌, ℕ, Bool, true, false, ◌&&◌, ◌||◌, List, [], ◌∷◌, ◌++◌, map, refl, sym, ap, ◌∙◌, nat_eq}
-use Rattle.std.specs.List.{list_any}
+use Rattle.std.proofs.Common.{◌≡◌, ℕ, ◌+◌, Bool, true, false, ◌&&◌, ◌||◌, List, [], ◌∷◌, ◌++◌, map, refl, sym, ap, ◌∙◌, nat_eq, arith}
+use Rattle.std.specs.Prelude.{◌==◌, cond, max, count_by}
+use Rattle.std.specs.List.{list_any, filter, fold, reduce}
+use Rattle.std.specs.Option.{option_map_or}
+use Rattle.std.specs.FinMap.Entries.{put, by_order}
+use Rattle.std.specs.declared.option.Option.{Option}
+use Rattle.std.specs.declared.option.Option.TheVariants.{None, Some}
 use Rattle.std.specs.Ordering.{nat_cmp, eq_by_cmp, is_eq, ordering_then}
 use Rattle.std.specs.Cmp.{unsigned_tied}
+use Rattle.std.proofs.lemmas.List.Sums.{sum_by-cons}
 use Rattle.std.specs.declared.cmp.Ordering.{Ordering}
 use Rattle.std.specs.declared.cmp.Ordering.TheVariants.{Less, Equal, Greater}
 use Rattle.reh_types.specs.Sets as set
-use Rattle.reh_types.specs.Sets.{triples, triple_cmp, same_set, contains-insert, contains-union, contains-from_list}
-use Rattle.reh_model.specs.Contents.{Contents, has, copies_of}
+use Rattle.reh_types.specs.Sets.{triples, triple_cmp, triple_exact, same_set, contains-items, contains-insert, contains-union, contains-from_list, insert, items}
+use Rattle.reh_model.specs.Contents.{Contents, has, copies_of, count_held, greatest_held}
 use Rattle.reh_model.proofs.Ranges.{list_any-map, list_any-same}
 
 both_eq : (r s : Ordering) → is_eq (ordering_then r s) ≡ (is_eq r && is_eq s)
@@ -82,3 +88,90 @@ union-copies_of-push contents w l es x = same_set (set.union contents (copies_of
     ∙ one_more held place (list_any (nat_eq t.2) es) (nat_eq t.2 x)
     ∙ sym (has-insert (set.union contents (copies_of w l es)) w l x t.0 t.1 t.2
     ∙ ap (λ before. (place && nat_eq t.2 x) || before) (has-union-copies_of contents w l es t.0 t.1 t.2)))
+
+-- The greatest entry of a ledger
+
+-- the greater of an entry and what was the greatest, if the entry is of the ledger
+abbrev with_entry : Bool → ℕ → Option ℕ → Option ℕ
+with_entry here e greatest = cond here (Some (option_map_or (λ m. max m e) greatest e)) greatest
+
+with_entry-twice : (here : Bool) (e : ℕ) (greatest : Option ℕ) → with_entry here e greatest ≡ with_entry here e (with_entry here e greatest)
+with_entry-twice true e None = ap Some (omega arith)
+with_entry-twice true e (Some m) = ap Some (omega arith)
+with_entry-twice false e greatest = refl
+
+with_entry-turned : (here there : Bool) (d e : ℕ) (greatest : Option ℕ) → with_entry here d (with_entry there e greatest) ≡ with_entry there e (with_entry here d greatest)
+with_entry-turned true true d e None = ap Some (omega arith)
+with_entry-turned true true d e (Some m) = ap Some (omega arith)
+with_entry-turned true false d e greatest = refl
+with_entry-turned false there d e greatest = refl
+
+fold-max : (x y : ℕ) (es : List ℕ) → fold max (max x y) es ≡ max (fold max y es) x
+fold-max x y [] = omega arith
+fold-max x y (e ∷ es) =
+    let regrouped : max (max x y) e ≡ max x (max y e) = omega arith in
+    ap (λ z. fold max z es) regrouped ∙ fold-max x (max y e) es
+
+reduce-max : (e : ℕ) (es : List ℕ) → reduce max (e ∷ es) ≡ with_entry true e (reduce max es)
+reduce-max e [] = refl
+reduce-max e (d ∷ es) = ap Some (fold-max e d es)
+
+-- the greatest entry of ledger k among the copies
+abbrev greatest_among : ℕ → List (ℕ × ℕ × ℕ) → Option ℕ
+greatest_among k ts = reduce max (map (λ t. t.2) (filter (λ t. t.1 == k) ts))
+
+greatest_among-cons : (k : ℕ) (t : ℕ × ℕ × ℕ) (ts : List (ℕ × ℕ × ℕ)) → greatest_among k (t ∷ ts) ≡ with_entry (t.1 == k) t.2 (greatest_among k ts)
+greatest_among-cons k t ts =
+    elim (t.1 == k) as (λ here. reduce max (map (λ t. t.2) (cond here (t ∷ filter (λ t. t.1 == k) ts) (filter (λ t. t.1 == k) ts))) ≡ with_entry here t.2 (greatest_among k ts)) [
+      | true ↦ reduce-max t.2 (map (λ t. t.2) (filter (λ t. t.1 == k) ts))
+      | false ↦ refl
+    ]
+
+-- the copies that entries with no value list
+abbrev listed : List ((ℕ × ℕ × ℕ) × Unit {0}) → List (ℕ × ℕ × ℕ)
+listed es = map (λ e. e.0) es
+
+greatest_among-put : (k : ℕ) (t : ℕ × ℕ × ℕ) (es : List ((ℕ × ℕ × ℕ) × Unit {0})) → greatest_among k (listed (put triple_cmp t tt es)) ≡ with_entry (t.1 == k) t.2 (greatest_among k (listed es))
+greatest_among-put k t [] = greatest_among-cons k t []
+greatest_among-put k t (e ∷ es) =
+    elim (triple_cmp t e.0) as (λ r. triple_cmp t e.0 ≡ r
+    → greatest_among k (listed (by_order r ((t, tt) ∷ e ∷ es) ((e.0, tt) ∷ es) (e ∷ put triple_cmp t tt es))) ≡ with_entry (t.1 == k) t.2 (greatest_among k (listed (e ∷ es)))) [
+      | Less ↦ λ _. greatest_among-cons k t (listed (e ∷ es))
+      | Equal ↦ λ tie.
+          let same : t ≡ e.0 = triple_exact t e.0 tie in
+          let here = greatest_among-cons k e.0 (listed es) in
+          here
+          ∙ with_entry-twice (e.0.1 == k) e.0.2 (greatest_among k (listed es))
+          ∙ ap (λ (x : ℕ × ℕ × ℕ). with_entry (x.1 == k) x.2 (with_entry (e.0.1 == k) e.0.2 (greatest_among k (listed es)))) (sym same)
+          ∙ ap (with_entry (t.1 == k) t.2) (sym here)
+      | Greater ↦ λ _.
+          greatest_among-cons k e.0 (listed (put triple_cmp t tt es))
+          ∙ ap (with_entry (e.0.1 == k) e.0.2) (greatest_among-put k t es)
+          ∙ with_entry-turned (e.0.1 == k) (t.1 == k) e.0.2 t.2 (greatest_among k (listed es))
+          ∙ ap (with_entry (t.1 == k) t.2) (sym (greatest_among-cons k e.0 (listed es)))
+    ] refl
+
+-- after one copy is added, its ledger's greatest entry is the greater of that and its own, and those of other ledgers stay
+pub greatest_held-insert : (contents : Contents) (w l x k : ℕ)
+    → greatest_held (set.insert contents (w, l, x)) k ≡ cond (l == k) (Some (option_map_or (λ greatest. max greatest x) (greatest_held contents k) x)) (greatest_held contents k)
+unfolding insert items
+greatest_held-insert contents w l x k = greatest_among-put k (w, l, x) contents.list
+
+-- How many entries a bookie holds
+
+count_by-put : (p : ℕ × ℕ × ℕ → Bool) (t : ℕ × ℕ × ℕ) (es : List ((ℕ × ℕ × ℕ) × Unit {0})) → list_any (eq_by_cmp triple_cmp t) (listed es) ≡ false
+    → count_by p (listed (put triple_cmp t tt es)) ≡ cond (p t) 1 0 + count_by p (listed es)
+count_by-put p t [] new = sum_by-cons (λ x. cond (p x) 1 0) t []
+count_by-put p t (e ∷ es) new =
+    let one_more = λ (x : ℕ × ℕ × ℕ) (xs : List (ℕ × ℕ × ℕ)). sum_by-cons (λ y. cond (p y) 1 0) x xs in
+    elim (triple_cmp t e.0) as (λ r. (is_eq r || list_any (eq_by_cmp triple_cmp t) (listed es)) ≡ false
+    → count_by p (listed (by_order r ((t, tt) ∷ e ∷ es) ((e.0, tt) ∷ es) (e ∷ put triple_cmp t tt es))) ≡ cond (p t) 1 0 + count_by p (listed (e ∷ es))) [
+      | Less ↦ λ _. one_more t (listed (e ∷ es))
+      | Equal ↦ λ (held : true ≡ false). cc
+      | Greater ↦ λ new. omega (arith, count_by-put p t es new, one_more e.0 (listed (put triple_cmp t tt es)), one_more e.0 (listed es))
+    ] new
+
+-- after a copy is added that was not held, its bookie holds one more, and others as many as before
+pub count_held-insert_new : (contents : Contents) (w l x b : ℕ) → has contents w l x ≡ false → count_held (set.insert contents (w, l, x)) b ≡ cond (w == b) 1 0 + count_held contents b
+unfolding insert items
+count_held-insert_new contents w l x b new = count_by-put (λ t. t.0 == b) (w, l, x) contents.list (sym (contains-items contents (w, l, x)) ∙ new)
