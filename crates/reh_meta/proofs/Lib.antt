@@ -1,2 +1,1 @@
-pub mod FaultLaws
 pub mod Clones

@@ -187,11 +187,13 @@ impl LedgerMeta {
     }
 
     /// The stop of a fragment, if it has one: where the next fragment begins, or for the last one the
-    /// end of a closed ledger.
+    /// end of a closed ledger. A fragment that isn't there has none.
     pub fn end_of(&self, fragment: usize) -> Option<u32>
-        requires { fragment < length self.now.fragments }
         ensures { result ≡ stop_of self.now fragment }
     {
+        if fragment >= self.fragments.len() {
+            return None;
+        }
         match self.fragments.get(fragment + 1) {
             Some(next) => Some(next.first),
             None => end_of_closed(self.state),

@@ -53,6 +53,23 @@ fn reads_what_it_was_made_of(rt: HostRuntime) -> Result<(), MetaFault> {
     assert_eq!(rt; second.ensemble.get(1).copied(), Some(BookieIx(3)));
     assert_eq!(rt; meta.end_of(0), Some(4));
     assert_eq!(rt; meta.end_of(1), Some(6));
+    assert_eq!(rt; meta.end_of(2), None);
+    Ok(())
+}
+
+#[test]
+fn another_member_comes_at_the_next_version(rt: HostRuntime) -> Result<(), MetaFault> {
+    let alloc = rt.alloc();
+    let fragments = two_fragments(alloc, (0, 4), [0, 3, 2])?;
+    let meta = LedgerMeta::try_new(alloc, SIZES, LedgerState::Open, 1, &fragments)?;
+    let second = meta.fragments().get(1).expect(&rt, "a second fragment");
+    assert!(rt; !second.ensemble.contains(&BookieIx(4)));
+    let changed = meta.with_member(1, 2, BookieIx(4))?;
+
+    assert_eq!(rt; changed.version(), 2);
+    let second = changed.fragments().get(1).expect(&rt, "a second fragment");
+    assert_eq!(rt; second.ensemble.get(2).copied(), Some(BookieIx(4)));
+    assert_eq!(rt; second.ensemble.get(1).copied(), Some(BookieIx(3)));
     Ok(())
 }
 
@@ -73,6 +90,9 @@ fn meets_each_broken_rule(rt: HostRuntime) -> Result<(), AllocError> {
         ((4, 2, 2), (0, 4), [0, 3, 2], 6, Some(BadEnsemble)),
         ((3, 2, 2), (0, 4), [0, 3, 0], 6, Some(BadEnsemble)),
         ((3, 2, 2), (0, 4), [0, 3, 2], 3, Some(BadLast)),
+        ((3, 4, 2), (1, 4), [0, 3, 2], 6, Some(BadQuorum)),
+        ((3, 2, 2), (1, 4), [0, 3, 0], 6, Some(BadFragment)),
+        ((3, 2, 2), (0, 4), [0, 3, 0], 3, Some(BadEnsemble)),
     ];
     for (sizes, firsts, members, end, fault) in cases {
         let (ensemble, write_quorum, ack_quorum) = sizes;

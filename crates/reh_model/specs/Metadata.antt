@@ -1,5 +1,5 @@
 -- A ledger's metadata, in the words of BookKeeper's `LedgerMetadata` and of its page on the protocol.
-use Rattle.std.specs.Prelude.{◌≡◌, ℕ, ◌+◌, ◌-◌, ◌^◌, ◌<◌, ◌≤◌, Bool, true, false, not, ◌&&◌, ◌==◌, nat_eq, nat_lt, nat_le, List, [], ◌∷◌, map, drop, length, Option, None, Some, unwrap_or, slice_get, slice_set, slice_index, All}
+use Rattle.std.specs.Prelude.{◌≡◌, ℕ, ◌+◌, ◌-◌, ◌^◌, ◌<◌, ◌≤◌, Bool, true, false, not, if◌then◌else◌, ◌&&◌, ◌==◌, nat_eq, nat_lt, nat_le, List, [], ◌∷◌, map, drop, length, Option, None, Some, unwrap_or, slice_get, slice_set, slice_index, All}
 use Rattle.std.specs.List.{list_any, list_all, zip, IsDistinct}
 use Rattle.std.specs.List.Sorted.{IsStrictlyIncreasing}
 use Rattle.std.specs.Option.{ForSome, option_map, option_map_or, option_or}
@@ -35,7 +35,7 @@ end_of_state (Closed end) = Some end
 
 -- the first entry past a fragment: where the next one begins, or for the last one the end of a closed ledger
 abbrev pub stop_of : Metadata → ℕ → Option ℕ
-stop_of m f = option_or (option_map (λ next. next.first) (slice_get m.fragments (f + 1))) (end_of_state m.state)
+stop_of m f = if nat_lt f (length m.fragments) then option_or (option_map (λ next. next.first) (slice_get m.fragments (f + 1))) (end_of_state m.state) else None
 
 -- the last fragment, to which a writer appends
 abbrev pub last_of : List Fragment → Option Fragment
