@@ -1,14 +1,16 @@
 -- Sets of the numbers that pass a test.
 use Rattle.std.proofs.Common.{◌≡◌, ◌≢◌, ℕ, zero, suc, ◌+◌, ◌<◌, ◌≤◌, Bool, true, false, cond, ◌&&◌, ◌||◌, ◌∷◌, refl, sym, ap, ◌∙◌, arith, nat_eq, nat_lt, inl, inr}
-use Rattle.std.specs.Prelude.{◌==◌, bit_and, bit_or, not, ◌^◌, ◌*◌, ◌%◌}
+use Rattle.std.specs.Prelude.{◌==◌, bit_and, bit_or, not, ◌^◌, ◌*◌, ◌%◌, max}
 use Rattle.std.specs.Int.{bit_at, bit_not, w64}
 use Rattle.std.specs.List.{filter, list_any, range_with_len}
 use Rattle.std.specs.Ordering.{nat_cmp, eq_by_cmp}
 use Rattle.std.specs.Cmp.{unsigned_tied}
-use Rattle.std.proofs.lemmas.Nat.Bits.{bit_at_set_same, bit_at_set_other, bit_at_clear_same, bit_at_clear_other}
+use Rattle.std.proofs.lemmas.Nat.{or_lt}
+use Rattle.std.proofs.lemmas.Nat.Bits.{bit_at_or, bit_at-lt, same_from_bits_below, bit_at_set_same, bit_at_set_other, bit_at_clear_same, bit_at_clear_other}
 use Rattle.std.proofs.lemmas.Bool.{cases_lt}
 use Rattle.std.proofs.lemmas.Bool.Decides.{nat_tests}
-use Rattle.reh_types.specs.Sets.{numbers, contains, empty, insert, remove, from_list, same_set, contains-from_list, contains-insert, contains-remove}
+use Rattle.reh_types.specs.Sets.{Set, numbers, contains, empty, insert, remove, from_list, union, is_subset, is_empty, same_set, contains-from_list, contains-insert, contains-remove, contains-union}
+use Rattle.reh_types.proofs.SetLaws.{union-from_subset, subset-from_union, is_empty-empty, empty-from_is_empty}
 use Rattle.reh_types.specs.Bookies.{bookies_of}
 
 tie : (e x : ℕ) → eq_by_cmp nat_cmp e x ≡ nat_eq e x
@@ -119,3 +121,54 @@ remove-bookies_of bits k past = same_set (remove (bookies_of bits) k) (bookies_o
           sym (contains-bookies_of bits b ∙ ap (λ c. (bit_at bits b == 1) && c) off ∙ and_false (bit_at bits b == 1))
       | false ↦ λ t. refl
     ] refl)
+
+or_both : (a b c : Bool) → ((a || b) && c) ≡ ((a && c) || (b && c))
+or_both true b true = refl
+or_both true b false = sym (and_false b)
+or_both false b c = refl
+
+one_of_max : (a b : ℕ) → a < 2 → b < 2 → (max a b == 1) ≡ ((a == 1) || (b == 1))
+one_of_max a b a_in b_in = grind (arith, nat_tests)
+
+-- the bits of both words
+pub bookies_of-or : (m n : ℕ) → bookies_of (bit_or m n) ≡ union (bookies_of m) (bookies_of n)
+bookies_of-or m n = same_set (bookies_of (bit_or m n)) (union (bookies_of m) (bookies_of n)) (λ b.
+    contains-bookies_of (bit_or m n) b
+    ∙ ap (λ c. c && nat_lt b 64) (ap (λ (k : ℕ). k == 1) (bit_at_or m n b) ∙ one_of_max (bit_at m b) (bit_at n b) (bit_at-lt m b) (bit_at-lt n b))
+    ∙ or_both (bit_at m b == 1) (bit_at n b == 1) (nat_lt b 64)
+    ∙ sym (contains-union (bookies_of m) (bookies_of n) b ∙ (λ i. contains-bookies_of m b i || contains-bookies_of n b i)))
+
+-- two bits that are tested alike
+same_bit : (a b c : ℕ) → a < 2 → b < 2 → c < 64 → ((a == 1) && nat_lt c 64) ≡ ((b == 1) && nat_lt c 64) → a ≡ b
+same_bit a b c a_in b_in within alike = grind (arith, nat_tests)
+
+-- words of 64 bits that stand for one set are one word
+same_word : (m n : ℕ) → m < 2 ^ 64 → n < 2 ^ 64 → bookies_of m ≡ bookies_of n → m ≡ n
+same_word m n m_in n_in same = same_from_bits_below 64 m n m_in n_in (λ b within.
+    same_bit (bit_at m b) (bit_at n b) b (bit_at-lt m b) (bit_at-lt n b) within
+    (sym (contains-bookies_of m b) ∙ ap (λ (s : Set numbers). contains s b) same ∙ contains-bookies_of n b))
+
+same_test : (a b : Bool) → (a ≡ true → b ≡ true) → (b ≡ true → a ≡ true) → a ≡ b
+same_test true b there back = sym (there refl)
+same_test false true there back = back refl
+same_test false false there back = refl
+
+-- a word adds no bit to another where its bookies are among the other's
+pub is_subset-or : (m n : ℕ) → m < 2 ^ 64 → n < 2 ^ 64 → nat_eq (bit_or m n) n ≡ is_subset (bookies_of m) (bookies_of n)
+is_subset-or m n m_in n_in = same_test (nat_eq (bit_or m n) n) (is_subset (bookies_of m) (bookies_of n))
+    (λ no_more.
+      let same : bit_or m n ≡ n = grind (arith, nat_tests) in
+      subset-from_union (bookies_of m) (bookies_of n) (sym (bookies_of-or m n) ∙ ap bookies_of same))
+    (λ within.
+      let same : bit_or m n ≡ n = same_word (bit_or m n) n (or_lt 64 m n m_in n_in) n_in (bookies_of-or m n ∙ union-from_subset (bookies_of m) (bookies_of n) within) in
+      grind (arith, nat_tests))
+
+-- the word 0 alone has no bookie
+pub is_empty-zero : (m : ℕ) → m < 2 ^ 64 → nat_eq m 0 ≡ is_empty (bookies_of m)
+is_empty-zero m m_in = same_test (nat_eq m 0) (is_empty (bookies_of m))
+    (λ zero.
+      let same : m ≡ 0 = grind (arith, nat_tests) in
+      ap (λ (k : ℕ). is_empty (bookies_of k)) same ∙ ap is_empty bookies_of-zero ∙ is_empty-empty numbers)
+    (λ none.
+      let same : m ≡ 0 = same_word m 0 m_in (omega arith) (empty-from_is_empty (bookies_of m) none ∙ sym bookies_of-zero) in
+      grind (arith, nat_tests))
