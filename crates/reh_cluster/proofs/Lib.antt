@@ -1,2 +1,2 @@
 pub mod NamesLemmas
-pub mod StateLaws
+pub mod MissingLaws

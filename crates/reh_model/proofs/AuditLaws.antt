@@ -10,7 +10,7 @@ use Rattle.std.proofs.lemmas.List.Elements.{All-nil, All-append, All-filter, All
 use Rattle.reh_types.specs.Sets.{Set, numbers, contains, items, empty, from_list, is_empty, len, contains-empty, contains-items, contains-from_list, contains-union}
 use Rattle.reh_types.proofs.SetLaws.{is_empty-union, All-items}
 use Rattle.reh_model.specs.Metadata.{Fragment}
-use Rattle.reh_model.specs.Cluster.{Cluster, Ledger, is_up, task_set}
+use Rattle.reh_model.specs.Cluster.{Cluster, Ledger, task_set}
 use Rattle.reh_model.specs.Audit.{members_of, missing, published}
 use Rattle.reh_model.specs.WellFormed.{IsLedger}
 
@@ -28,11 +28,11 @@ All-flat_map P f [] all = All-nil P
 All-flat_map P f (x ∷ xs) all = All-append P (f x) (flat_map f xs) (All-head (λ x. All P (f x)) x xs all) (All-flat_map P f xs (All-tail (λ x. All P (f x)) x xs all))
 
 -- a missing member is a bookie of the cluster
-missing_named : (s : Cluster) (g : Ledger) → IsLedger s g → (b : ℕ) → contains (missing s g) b ≡ true → b < length s.names
+missing_named : (s : Cluster) (g : Ledger) → IsLedger s g → (b : ℕ) → contains (missing s.up g) b ≡ true → b < length s.names
 missing_named s g was b one =
-    All-found (λ b. b < length s.names) (filter (λ b. not (is_up s b)) (members_of g.metadata))
-    (All-filter (λ b. not (is_up s b)) (λ b. b < length s.names) (members_of g.metadata) (All-flat_map (λ b. b < length s.names) (λ (fragment : Fragment). fragment.ensemble) g.metadata.fragments was.members))
-    b (sym (contains-from_list numbers (filter (λ b. not (is_up s b)) (members_of g.metadata)) b) ∙ one)
+    All-found (λ b. b < length s.names) (filter (λ b. not (contains s.up b)) (members_of g.metadata))
+    (All-filter (λ b. not (contains s.up b)) (λ b. b < length s.names) (members_of g.metadata) (All-flat_map (λ b. b < length s.names) (λ (fragment : Fragment). fragment.ensemble) g.metadata.fragments was.members))
+    b (sym (contains-from_list numbers (filter (λ b. not (contains s.up b)) (members_of g.metadata)) b) ∙ one)
 
 -- so is one that the task names
 task_named : (s : Cluster) (g : Ledger) → IsLedger s g → (b : ℕ) → contains (task_set g) b ≡ true → b < length s.names
@@ -43,20 +43,20 @@ task_named s g was b =
     ] refl
 
 -- what is published names bookies of the cluster
-pub published_named : (s : Cluster) (g : Ledger) → IsLedger s g → All (λ b. b < length s.names) (items (published s g))
-published_named s g was = All-items (λ b. b < length s.names) (published s g) (λ b one.
-    either (contains (task_set g) b) (contains (missing s g) b) (b < length s.names) (task_named s g was b) (missing_named s g was b)
-    (sym (contains-union (task_set g) (missing s g) b) ∙ one))
+pub published_named : (s : Cluster) (g : Ledger) → IsLedger s g → All (λ b. b < length s.names) (items (published s.up g))
+published_named s g was = All-items (λ b. b < length s.names) (published s.up g) (λ b one.
+    either (contains (task_set g) b) (contains (missing s.up g) b) (b < length s.names) (task_named s g was b) (missing_named s g was b)
+    (sym (contains-union (task_set g) (missing s.up g) b) ∙ one))
   where
     either : (p q : Bool) (P : Type 0) → (p ≡ true → P) → (q ≡ true → P) → (p || q) ≡ true → P
     either true q P first second one = first refl
     either false q P first second one = second one
 
 -- where a member is missing, some bookie is published
-pub published_some : (s : Cluster) (g : Ledger) → is_empty (missing s g) ≡ false → 0 < len (published s g)
+pub published_some : (s : Cluster) (g : Ledger) → is_empty (missing s.up g) ≡ false → 0 < len (published s.up g)
 unfolding is_empty
 published_some s g some =
-    elim (is_empty (published s g)) as (λ b. is_empty (published s g) ≡ b → 0 < len (published s g)) [
-      | true ↦ λ none. absurd (true≢false (sym (is_empty-union (task_set g) (missing s g) none) ∙ some))
+    elim (is_empty (published s.up g)) as (λ b. is_empty (published s.up g) ≡ b → 0 < len (published s.up g)) [
+      | true ↦ λ none. absurd (true≢false (sym (is_empty-union (task_set g) (missing s.up g) none) ∙ some))
       | false ↦ λ more. grind (arith, nat_tests)
     ] refl

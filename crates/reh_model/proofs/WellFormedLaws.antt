@@ -1,12 +1,12 @@
 -- An accepted event keeps a cluster well-formed.
-use Rattle.std.proofs.Common.{◌≡◌, ℕ, Bool, true, false, not, ◌&&◌, ◌||◌, ◌+◌, ◌*◌, ◌<◌, ◌≤◌, List, [], ◌∷◌, ◌++◌, map, length, get_or, Option, None, Some, IsSome, is_some, refl, sym, ap, ◌∙◌, subst, true≢false, arith, nat_eq, nat_lt}
+use Rattle.std.proofs.Common.{◌≡◌, ℕ, Bool, true, false, cond, not, ◌&&◌, ◌||◌, ◌+◌, ◌*◌, ◌<◌, ◌≤◌, List, [], ◌∷◌, ◌++◌, map, length, get_or, Option, None, Some, IsSome, is_some, refl, sym, ap, ◌∙◌, subst, true≢false, arith, nat_eq, nat_lt}
 use Rattle.std.specs.Prelude.{◌==◌, ◌^◌, is_none, if◌then◌else◌, All}
 use Rattle.std.specs.List.{IsDistinct, find}
 use Rattle.std.specs.Ordering.{nat_cmp, eq_by_cmp}
 use Rattle.std.specs.Cmp.{unsigned_tied}
 use Rattle.std.proofs.lemmas.Bool.Decides.{nat_tests}
 use Rattle.std.proofs.lemmas.List.{length-map}
-use Rattle.std.proofs.lemmas.List.Elements.{All-map, All-weaker}
+use Rattle.std.proofs.lemmas.List.Elements.{All-head, All-map, All-tail, All-weaker}
 use Rattle.reh_types.specs.declared.moves.Event.{Event}
 use Rattle.reh_types.specs.declared.moves.Event.TheVariants.{Lose, Join, Audit, Acquire, Release, Finish, Expire, Tick}
 use Rattle.reh_types.specs.declared.refusals.Refusal.{Refusal}
@@ -33,7 +33,7 @@ IsLedger-later s t g named later was = record {
 }
 
 -- other bookies are registered
-IsWellFormed-up : (s : Cluster) (up : Set numbers) → IsWellFormed s → ((b : ℕ) → contains up b ≡ true → b < length s.names) → IsWellFormed (record s { up = up })
+pub IsWellFormed-up : (s : Cluster) (up : Set numbers) → IsWellFormed s → ((b : ℕ) → contains up b ≡ true → b < length s.names) → IsWellFormed (record s { up = up })
 IsWellFormed-up s up was named = record {
   some_bookie = was.some_bookie;
   bookies = was.bookies;
@@ -49,7 +49,7 @@ IsWellFormed-up s up was named = record {
 }
 
 -- the clock goes on
-IsWellFormed-clock : (s : Cluster) (clock : ℕ) → IsWellFormed s → s.clock ≤ clock → clock ≤ 1_000_000_000 → IsWellFormed (record s { clock = clock })
+pub IsWellFormed-clock : (s : Cluster) (clock : ℕ) → IsWellFormed s → s.clock ≤ clock → clock ≤ 1_000_000_000 → IsWellFormed (record s { clock = clock })
 IsWellFormed-clock s clock was later in_time = record {
   some_bookie = was.some_bookie;
   bookies = was.bookies;
@@ -133,18 +133,18 @@ IsLedger-locked_by s w g named some was = record {
 }
 
 -- with the missing members in its task
-KeepsId-audited : (s : Cluster) → KeepsId (audited s)
-KeepsId-audited s g = elim (is_empty (missing s g)) as (λ b. (if b then g else record g { task = Some (published s g) }).id ≡ g.id) [ true ↦ refl | false ↦ refl ]
+KeepsId-audited : (up : Set numbers) → KeepsId (audited up)
+KeepsId-audited up g = elim (is_empty (missing up g)) as (λ b. (if b then g else record g { task = Some (published up g) }).id ≡ g.id) [ true ↦ refl | false ↦ refl ]
 
-IsLedger-audited : (s : Cluster) (g : Ledger) → IsLedger s g → IsLedger s (audited s g)
+IsLedger-audited : (s : Cluster) (g : Ledger) → IsLedger s g → IsLedger s (audited s.up g)
 IsLedger-audited s g was =
-    elim (is_empty (missing s g)) as (λ b. is_empty (missing s g) ≡ b → IsLedger s (if b then g else record g { task = Some (published s g) })) [
+    elim (is_empty (missing s.up g)) as (λ b. is_empty (missing s.up g) ≡ b → IsLedger s (if b then g else record g { task = Some (published s.up g) })) [
       | true ↦ λ _. was
       | false ↦ λ some. record {
         id = was.id;
         metadata = was.metadata;
         members = was.members;
-        task = λ task is. let same : published s g ≡ task = cc in subst (λ (t : Set numbers). (0 < len t) × All (λ b. b < length s.names) (items t)) same (published_some s g some, published_named s g was);
+        task = λ task is. let same : published s.up g ≡ task = cc in subst (λ (t : Set numbers). (0 < len t) × All (λ b. b < length s.names) (items t)) same (published_some s g some, published_named s g was);
         lock = λ lock is. ((was.lock lock is).0, refl);
         due = was.due;
       }
@@ -160,14 +160,14 @@ and_second : (a b : Bool) → (a && b) ≡ true → b ≡ true
 and_second true b is = is
 and_second false b is = cc
 
-named-insert : (up : Set numbers) (k n : ℕ) → k < n → ((b : ℕ) → contains up b ≡ true → b < n) → (b : ℕ) → contains (insert up k) b ≡ true → b < n
+pub named-insert : (up : Set numbers) (k n : ℕ) → k < n → ((b : ℕ) → contains up b ≡ true → b < n) → (b : ℕ) → contains (insert up k) b ≡ true → b < n
 named-insert up k n within named b is =
     either (eq_by_cmp nat_cmp b k) (contains up b) (b < n)
     (λ tied. let same : b ≡ k = grind (arith, nat_tests, unsigned_tied b k, tied) in omega arith)
     (named b)
     (sym (contains-insert up k b) ∙ is)
 
-named-remove : (up : Set numbers) (k n : ℕ) → ((b : ℕ) → contains up b ≡ true → b < n) → (b : ℕ) → contains (remove up k) b ≡ true → b < n
+pub named-remove : (up : Set numbers) (k n : ℕ) → ((b : ℕ) → contains up b ≡ true → b < n) → (b : ℕ) → contains (remove up k) b ≡ true → b < n
 named-remove up k n named b is = named b (and_second (not (eq_by_cmp nat_cmp k b)) (contains up b) (sym (contains-remove up k b) ∙ is))
 
 -- Checks that give no refusal
@@ -208,7 +208,7 @@ IsWellFormed-after s (Lose b) was none = IsWellFormed-up s (remove s.up b) was (
 IsWellFormed-after s (Join b) was none =
     let named : b < length s.names = no_bookie-none s b (check-none [] (no_bookie s b) (already_up s b ∷ []) none) in
     IsWellFormed-up s (insert s.up b) was (named-insert s.up b (length s.names) named was.up)
-IsWellFormed-after s Audit was none = IsWellFormed-ledgers s (audited s) was (KeepsId-audited s) (λ g _ is. IsLedger-audited s g is)
+IsWellFormed-after s Audit was none = IsWellFormed-ledgers s (audited s.up) was (KeepsId-audited s.up) (λ g _ is. IsLedger-audited s g is)
 IsWellFormed-after s (Acquire w l) was none = IsWellFormed-change_ledger s l (locked_by w) was (λ g. refl) (λ g found is.
     let checks : Ledger → List (Option Refusal) = λ g. no_task g ∷ locked g ∷ [] in
     let named : w < length s.names = no_bookie-none s w (check-none [] (no_bookie s w) (at_ledger s l checks ∷ []) none) in
@@ -220,3 +220,14 @@ IsWellFormed-after s (Expire w) was none = IsWellFormed-ledgers s (expired w) wa
 IsWellFormed-after s (Tick n) was none =
     let within : s.clock + n ≤ 1_000_000_000 = clock_end-none s n (check-none (bad_tick n ∷ []) (clock_end s n) [] none) in
     IsWellFormed-clock s (s.clock + n) was (omega arith) within
+
+-- A ledger that is found is one of the cluster.
+pub IsLedger-found : (s : Cluster) (l : ℕ) (g : Ledger) → IsWellFormed s → ledger_at s l ≡ Some g → IsLedger s g
+IsLedger-found s l g was found = found_in s.ledgers was.each found where
+  found_in : (gs : List Ledger) → All (IsLedger s) gs → find (λ g. g.id == l) gs ≡ Some g → IsLedger s g
+  found_in [] each found = cc
+  found_in (h ∷ gs) each found =
+      elim (h.id == l) as (λ b. cond b (Some h) (find (λ g. g.id == l) gs) ≡ Some g → IsLedger s g) [
+        | true ↦ λ is. let same : h ≡ g = cc in subst (IsLedger s) same (All-head (IsLedger s) h gs each)
+        | false ↦ λ later. found_in gs (All-tail (IsLedger s) h gs each) later
+      ] found

@@ -46,7 +46,7 @@ clock_end s n = refuse_if (nat_lt 1_000_000_000 (s.clock + n)) ClockEnd
 
 -- no task's set would change
 abbrev pub nothing_to_publish : Cluster → Option Refusal
-nothing_to_publish s = refuse_if (not (list_any (is_news s) s.ledgers)) NothingToPublish
+nothing_to_publish s = refuse_if (not (list_any (is_news s.up) s.ledgers)) NothingToPublish
 
 abbrev pub no_task : Ledger → Option Refusal
 no_task g = refuse_if (is_none g.task) NoTask
@@ -60,7 +60,7 @@ not_owner g w = refuse_if (not (is_locked_by w g)) NotOwner
 
 -- the least fragment with a member that is not registered
 abbrev pub still_under : Cluster → Ledger → Option Refusal
-still_under s g = option_map (λ f. StillUnder f) (first_under s g)
+still_under s g = option_map (λ f. StillUnder f) (first_under s.up g)
 
 abbrev pub no_locks : Cluster → ℕ → Option Refusal
 no_locks s w = refuse_if (not (list_any (is_locked_by w) s.ledgers)) NoLocks

@@ -39,7 +39,7 @@ expired w g = if is_locked_by w g then unlocked g else g
 abbrev pub after : Cluster → Event → Cluster
 after s (Lose b) = record s { up = set.remove s.up b }
 after s (Join b) = record s { up = set.insert s.up b }
-after s Audit = record s { ledgers = map (audited s) s.ledgers }
+after s Audit = record s { ledgers = map (audited s.up) s.ledgers }
 after s (Acquire w l) = change_ledger s l (locked_by w)
 after s (Release w l) = change_ledger s l unlocked
 after s (Finish w l) = change_ledger s l finished
