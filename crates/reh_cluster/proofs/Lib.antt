@@ -1,2 +1,3 @@
 pub mod NamesLemmas
 pub mod MissingLaws
+pub mod MemberLaws

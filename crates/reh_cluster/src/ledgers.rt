@@ -99,20 +99,32 @@ impl Ledger {
         missing_from(self.metadata.fragments(), up)
     }
 
+    /// The bookies that the ledger's task names, none without a task.
+    pub fn task_set(&self) -> BookieSet
+        ensures { result ≡ model.task_set self.now }
+    {
+        match &self.task {
+            Some(bookies) => bookies.copied(),
+            None => BookieSet::new(),
+        }
+    }
+
+    /// The bookies that the ledger's task names after an audit: those that it named, and the missing members.
+    pub fn published(&self, up: &BookieSet) -> BookieSet
+        requires { HasBookies self.now }
+        ensures { result ≡ audit.published up.now self.now }
+    {
+        self.task_set().union(&self.missing(up))
+    }
+
     /// Adds the missing members to the ledger's task, which is made if there is none.
     fn publish(&mut self, up: &BookieSet)
         requires { HasBookies self.old }
         ensures { self.new ≡ audit.audited up.now self.old }
     {
-        let missing = self.missing(up);
-        if missing.is_empty() {
-            return;
+        if !self.missing(up).is_empty() {
+            self.task = Some(self.published(up));
         }
-        let task = match &self.task {
-            Some(bookies) => bookies.union(&missing),
-            None => missing,
-        };
-        self.task = Some(task);
     }
 
     /// The worker locks the ledger's task.

@@ -97,7 +97,8 @@ impl State {
 
     /// The registered bookies.
     pub fn up(&self) -> &BookieSet
-        ensures { result.now ≡ self.now.up }
+        ensures up { result.now ≡ self.now.up }
+        ensures well_formed { IsWellFormed self.now }
     {
         &self.up
     }

@@ -1,9 +1,9 @@
 -- When each refusal applies, as a check that gives the refusal or none.
-use Rattle.std.specs.Prelude.{ℕ, ◌+◌, Bool, not, ◌||◌, ◌==◌, nat_lt, if◌then◌else◌, List, [], ◌∷◌, length, Option, None, Some, is_none}
+use Rattle.std.specs.Prelude.{ℕ, ◌+◌, Bool, not, ◌||◌, ◌==◌, nat_lt, if◌then◌else◌, List, [], ◌∷◌, length, Option, None, Some, is_none, unwrap_or}
 use Rattle.std.specs.List.{list_any}
 use Rattle.std.specs.Option.{option_map, option_or}
 use Rattle.reh_types.specs.declared.refusals.Refusal.{Refusal}
-use Rattle.reh_types.specs.declared.refusals.Refusal.TheVariants.{NoBookie, NoLedger, AlreadyDown, AlreadyUp, NothingToPublish, NoTask, Locked, NotOwner, StillUnder, NoLocks, BadTick, ClockEnd}
+use Rattle.reh_types.specs.declared.refusals.Refusal.TheVariants.{NoBookie, NoLedger, AlreadyDown, AlreadyUp, NothingToPublish, NoTask, Locked, NotOwner, StillUnder, NoLocks, BadTick, ClockEnd, NoMemory}
 use Rattle.reh_model.specs.Cluster.{Cluster, Ledger, is_up, ledger_at, is_locked_by}
 use Rattle.reh_model.specs.Audit.{is_news, first_under}
 
@@ -15,6 +15,10 @@ refuse_if condition refusal = if condition then Some refusal else None
 abbrev pub first_refusal : List (Option Refusal) → Option Refusal
 first_refusal [] = None
 first_refusal (check ∷ checks) = option_or check (first_refusal checks)
+
+-- the refusal; where there is none, want of memory, which comes after all others
+abbrev pub or_no_memory : Option Refusal → Refusal
+or_no_memory refusal = unwrap_or refusal NoMemory
 
 -- the checks of a ledger, or that there is none
 abbrev pub with_ledger : Option Ledger → (Ledger → List (Option Refusal)) → Option Refusal
