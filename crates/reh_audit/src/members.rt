@@ -43,17 +43,12 @@ pub fn under_of(state: &State, ledger: &Ledger) -> Option<u64>
 fn first_under(fragments: &[Fragment], up: &BookieSet) -> Option<usize>
     ensures { result ≡ position (model.is_under up.now) fragments.now }
 {
-    fragments
-        .iter()
-        .position(|fragment| is_under(fragment, up))
+    fragments.iter().position(|fragment| is_under(fragment, up))
 }
 
 /// Whether some member of the fragment isn't registered.
 fn is_under(fragment: &Fragment, up: &BookieSet) -> bool
     ensures { result ≡ model.is_under up.now fragment.now }
 {
-    fragment
-        .ensemble
-        .iter()
-        .any(|member| !up.contains(*member))
+    fragment.ensemble.iter().any(|member| !up.contains(*member))
 }

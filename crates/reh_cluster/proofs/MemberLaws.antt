@@ -1,5 +1,5 @@
 -- The ledgers of a cluster name its bookies, of which there are at most 64.
-use Rattle.std.proofs.Common.{◌≡◌, ℕ, ◌<◌, length, Some, arith}
+use Rattle.std.proofs.Common.{◌≡◌, ℕ, Some, arith}
 use Rattle.reh_model.specs.Cluster.{Cluster, Ledger, ledger_at}
 use Rattle.reh_model.specs.WellFormed.{IsWellFormed}
 use Rattle.reh_model.proofs.WellFormedLaws.{IsLedger-found}

@@ -30,7 +30,7 @@ pub missing_more-ensemble : (up : Set numbers) (fs : List Fragment) (i : ℕ) (d
 missing_more-ensemble up fs i d within =
     ap (λ (ks : List ℕ). from_list {o = numbers} (down up ks))
     (ap (λ (xs : List Fragment). flat_map (λ f. f.ensemble) xs) (take_more fs i d within)
-      ∙ flat_map-append (λ (f : Fragment). f.ensemble) (take i fs) (get_or fs i d ∷ [])
-      ∙ ap (λ (ks : List ℕ). flat_map (λ f. f.ensemble) (take i fs) ++ ks) (append-nil (get_or fs i d).ensemble))
+    ∙ flat_map-append (λ (f : Fragment). f.ensemble) (take i fs) (get_or fs i d ∷ [])
+    ∙ ap (λ (ks : List ℕ). flat_map (λ f. f.ensemble) (take i fs) ++ ks) (append-nil (get_or fs i d).ensemble))
     ∙ ap (λ (ks : List ℕ). from_list {o = numbers} ks) (filter-append (λ b. not (contains up b)) (flat_map (λ f. f.ensemble) (take i fs)) (get_or fs i d).ensemble)
     ∙ from_list-append numbers (down up (flat_map (λ f. f.ensemble) (take i fs))) (down up (get_or fs i d).ensemble)

@@ -9,7 +9,7 @@ ghost use Rattle.reh_model.specs.Cluster as model;
 ghost use Rattle.reh_model.specs.Step.{refusal_of, after};
 ghost use Rattle.reh_model.specs.WellFormed.{IsWellFormed};
 
-use crate::ledgers::{expire_all, place_of, publish_all, Ledger};
+use crate::ledgers::{Ledger, expire_all, place_of, publish_all};
 use crate::names::Names;
 use reh_held::Held;
 use reh_types::{BookieIx, BookieSet, LedgerId};
@@ -46,13 +46,7 @@ impl State {
     ghost use Rattle.reh_cluster.specs.Parts.{cluster_of};
 
     /// The state at clock 0 with these names, registered bookies, grace in ticks, ledgers in picture order, and contents.
-    pub fn build(
-        names: Names,
-        up: BookieSet,
-        grace: u64,
-        ledgers: Vec<Ledger>,
-        held: Held,
-    ) -> State
+    pub fn build(names: Names, up: BookieSet, grace: u64, ledgers: Vec<Ledger>, held: Held) -> State
         requires { IsWellFormed (cluster_of names up grace ledgers.items held.contents) }
         ensures { result ≡ cluster_of names up grace ledgers.items held.contents }
     {

@@ -1,13 +1,12 @@
 -- What an audit publishes: bookies of the cluster, and at least one.
-use Rattle.std.proofs.Common.{◌≡◌, ℕ, ◌<◌, Bool, true, false, not, ◌||◌, List, [], ◌∷◌, Option, None, Some, refl, sym, ap, ◌∙◌, true≢false, arith, length, subst}
-use Rattle.std.specs.Prelude.{◌==◌, unwrap_or}
+use Rattle.std.proofs.Common.{◌≡◌, ℕ, ◌<◌, Bool, true, false, not, ◌||◌, List, [], ◌∷◌, None, Some, refl, sym, ◌∙◌, true≢false, arith, length, subst}
+use Rattle.std.specs.Prelude.{unwrap_or}
 use Rattle.std.specs.List.{All, filter, flat_map, list_any}
-use Rattle.std.specs.Option.{ForSome}
 use Rattle.std.specs.Ordering.{nat_cmp, eq_by_cmp}
 use Rattle.std.specs.Cmp.{unsigned_tied}
 use Rattle.std.proofs.lemmas.Bool.Decides.{nat_tests}
 use Rattle.std.proofs.lemmas.List.Elements.{All-nil, All-append, All-filter, All-head, All-tail}
-use Rattle.reh_types.specs.Sets.{Set, numbers, contains, items, empty, from_list, is_empty, len, contains-empty, contains-items, contains-from_list, contains-union}
+use Rattle.reh_types.specs.Sets.{numbers, contains, items, empty, is_empty, len, contains-empty, contains-items, contains-from_list, contains-union}
 use Rattle.reh_types.proofs.SetLaws.{is_empty-union, All-items}
 use Rattle.reh_model.specs.Metadata.{Fragment}
 use Rattle.reh_model.specs.Cluster.{Cluster, Ledger, task_set}

@@ -1,11 +1,11 @@
 -- Ledgers in picture order: finding the ledger of an id, and changing it.
-use Rattle.std.proofs.Common.{◌≡◌, ℕ, zero, suc, Bool, true, false, cond, List, [], ◌∷◌, map, Option, None, Some, refl, sym, ap, ◌∙◌, subst, arith, nat_eq, is_some, get_or, set, ◌<◌, ◌≤◌, nat_lt}
+use Rattle.std.proofs.Common.{◌≡◌, ℕ, zero, suc, true, false, cond, List, [], ◌∷◌, map, None, Some, refl, sym, ap, ◌∙◌, arith, nat_eq, is_some, get_or, set, ◌<◌, ◌≤◌, nat_lt}
 use Rattle.std.specs.Prelude.{◌==◌, ◌+◌, if◌then◌else◌, sum_by, length, position}
 use Rattle.std.specs.List.{IsDistinct, AllByRecursion, find, position_or_len}
 use Rattle.std.proofs.lemmas.Bool.Decides.{nat_tests}
 use Rattle.std.proofs.lemmas.List.Sums.{sum_by-cons, fails_before_first}
 use Rattle.std.proofs.lemmas.List.Quantifiers.{position-Some}
-use Rattle.reh_model.specs.Cluster.{Cluster, Ledger, ledger_at, change_ledger}
+use Rattle.reh_model.specs.Cluster.{Cluster, Ledger, change_ledger}
 
 -- Changes that keep every id
 
@@ -98,6 +98,7 @@ change_ledger-absent s l change none =
   where
     first : List Ledger → ℕ
     first gs = position_or_len (λ g. g.id == l) gs
+
     none_past : position (λ g. g.id == l) s.ledgers ≡ None → length s.ledgers ≤ first s.ledgers
     none_past none =
         elim (nat_lt (first s.ledgers) (length s.ledgers)) as (λ b. nat_lt (first s.ledgers) (length s.ledgers) ≡ b → cond b (Some (first s.ledgers)) None ≡ None → length s.ledgers ≤ first s.ledgers) [

@@ -1,9 +1,8 @@
 -- Worked runs of the auditor, tasks and locks, on five bookies, a closed and an open ledger.
 use Rattle.std.specs.Prelude.{◌≡◌, refl, ℕ, List, [], ◌∷◌, ◌++◌, codes, map, Option, None, Some}
 use Rattle.std.specs.Option.{option_map}
-use Rattle.reh_types.specs.declared.locks.Lock.{Lock}
 use Rattle.reh_types.specs.declared.moves.Event.{Event}
-use Rattle.reh_types.specs.declared.moves.Event.TheVariants.{Lose, Join, Audit, Acquire, Release, Finish, Expire, Tick}
+use Rattle.reh_types.specs.declared.moves.Event.TheVariants.{Lose, Join, Audit, Acquire, Release, Finish, Expire}
 use Rattle.reh_types.specs.declared.moves.Move.TheVariants.{Do}
 use Rattle.reh_types.specs.declared.moves.Reply.{Reply}
 use Rattle.reh_types.specs.declared.moves.Reply.TheVariants.{Done, Refused}
@@ -37,7 +36,7 @@ five_bookies = record {
   up = from_list (0 ∷ 1 ∷ 2 ∷ 3 ∷ 4 ∷ []);
   ledgers = closed_ledger ∷ open_ledger ∷ [];
   held = from_list (row 0 7 (0 ∷ 2 ∷ 3 ∷ 5 ∷ []) ++ row 1 7 (0 ∷ 1 ∷ 3 ∷ 4 ∷ []) ++ row 2 7 (1 ∷ 2 ∷ 4 ∷ 5 ∷ [])
-    ++ row 0 9 (0 ∷ 1 ∷ 2 ∷ 3 ∷ 4 ∷ []) ++ row 1 9 (0 ∷ 1 ∷ 2 ∷ 3 ∷ []) ++ row 2 9 (0 ∷ 1 ∷ 2 ∷ 3 ∷ []));
+      ++ row 0 9 (0 ∷ 1 ∷ 2 ∷ 3 ∷ 4 ∷ []) ++ row 1 9 (0 ∷ 1 ∷ 2 ∷ 3 ∷ []) ++ row 2 9 (0 ∷ 1 ∷ 2 ∷ 3 ∷ []));
   clock = 0;
 }
 

@@ -1,5 +1,5 @@
 -- An accepted event keeps a cluster well-formed.
-use Rattle.std.proofs.Common.{◌≡◌, ℕ, Bool, true, false, cond, not, ◌&&◌, ◌||◌, ◌+◌, ◌*◌, ◌<◌, ◌≤◌, List, [], ◌∷◌, ◌++◌, map, length, get_or, Option, None, Some, IsSome, is_some, refl, sym, ap, ◌∙◌, subst, true≢false, arith, nat_eq, nat_lt}
+use Rattle.std.proofs.Common.{◌≡◌, ℕ, Bool, true, false, cond, not, ◌&&◌, ◌||◌, ◌+◌, ◌*◌, ◌<◌, ◌≤◌, List, [], ◌∷◌, ◌++◌, map, length, get_or, Option, None, Some, IsSome, refl, sym, ap, ◌∙◌, subst, arith, nat_eq, nat_lt}
 use Rattle.std.specs.Prelude.{◌==◌, ◌^◌, is_none, if◌then◌else◌, All}
 use Rattle.std.specs.List.{IsDistinct, find}
 use Rattle.std.specs.Ordering.{nat_cmp, eq_by_cmp}
@@ -11,7 +11,7 @@ use Rattle.reh_types.specs.declared.moves.Event.{Event}
 use Rattle.reh_types.specs.declared.moves.Event.TheVariants.{Lose, Join, Audit, Acquire, Release, Finish, Expire, Tick}
 use Rattle.reh_types.specs.declared.refusals.Refusal.{Refusal}
 use Rattle.reh_types.specs.Sets.{Set, numbers, contains, insert, remove, is_empty, len, items, contains-insert, contains-remove}
-use Rattle.reh_model.specs.Cluster.{Cluster, Ledger, is_up, ledger_at, change_ledger, is_locked_by}
+use Rattle.reh_model.specs.Cluster.{Cluster, Ledger, ledger_at, change_ledger, is_locked_by}
 use Rattle.reh_model.specs.Audit.{missing, published, audited}
 use Rattle.reh_model.specs.Refusals.{first_refusal, refuse_if, with_ledger, at_ledger, no_bookie, already_up, no_task, locked, bad_tick, clock_end}
 use Rattle.reh_model.specs.Step.{refusal_of, after, locked_by, unlocked, finished, expired}
@@ -78,8 +78,8 @@ IsWellFormed-ledgers s change was keeps each =
       ledgers = omega (arith, length-map s.ledgers change, was.ledgers);
       different = subst (λ (ids : List ℕ). IsDistinct nat_eq ids) (sym (ids-map change keeps s.ledgers)) was.different;
       each = All-map (IsLedger t) change s.ledgers (λ k d within.
-        IsLedger-later s t (change (get_or s.ledgers k d)) (omega arith) (omega arith)
-        (each (get_or s.ledgers k d) (found_itself s.ledgers was.different k d within) (was.each k d within)));
+          IsLedger-later s t (change (get_or s.ledgers k d)) (omega arith) (omega arith)
+          (each (get_or s.ledgers k d) (found_itself s.ledgers was.different k d within) (was.each k d within)));
       held = All-weaker (IsCopy s) (IsCopy t) (λ copy is. (is.0, found-map copy.1 change keeps s.ledgers ∙ is.1, is.2)) (items s.held) was.held;
       words = subst (λ (n : ℕ). length s.names * n ≤ 2 ^ 22) (sym (sum_by-map (words_of s.held) change keeps s.ledgers)) was.words;
     }

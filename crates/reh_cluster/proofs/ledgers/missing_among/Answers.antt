@@ -1,7 +1,7 @@
 use Rattle.std.proofs.Common.{◌≡◌, ◌∙◌, ap, sym, true, false, not, List, ℕ, get_or, arith}
 use Rattle.std.specs.List.{filter}
 use Rattle.std.proofs.lemmas.List.{take_all}
-use Rattle.reh_types.specs.Sets.{Set, numbers, contains, insert, from_list}
+use Rattle.reh_types.specs.Sets.{numbers, contains, insert, from_list}
 use Rattle.reh_types.proofs.SetLaws.{from_list-nil}
 use Rattle.reh_cluster.proofs.MissingLaws.{missing_more-up, missing_more-down}
 use Rattle.reh_cluster.proofs.ledgers.missing_among.Goals as goal

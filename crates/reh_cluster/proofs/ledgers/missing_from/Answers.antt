@@ -1,7 +1,7 @@
 use Rattle.std.proofs.Common.{◌≡◌, ◌∙◌, ap, sym, not, List, ℕ, get_or}
 use Rattle.std.specs.List.{filter, flat_map}
 use Rattle.std.proofs.lemmas.List.{take_all}
-use Rattle.reh_types.specs.Sets.{Set, numbers, contains, union, from_list}
+use Rattle.reh_types.specs.Sets.{numbers, contains, union, from_list}
 use Rattle.reh_types.proofs.SetLaws.{from_list-nil}
 use Rattle.reh_model.specs.Metadata.{Fragment}
 use Rattle.reh_cluster.proofs.MissingLaws.{missing_more-ensemble}

@@ -1,4 +1,4 @@
-use Rattle.std.proofs.Common.{◌≡◌, ◌∙◌, ◌+◌, ◌∷◌, ap, sym, drop, List, Some, None, IsSome, is_some}
+use Rattle.std.proofs.Common.{◌≡◌, ◌∙◌, ◌+◌, ◌∷◌, ap, sym, drop, List, None, is_some}
 use Rattle.std.proofs.lemmas.List.{drop_more}
 use Rattle.reh_types.specs.declared.moves.Event.{Event}
 use Rattle.reh_model.specs.Cluster.{Cluster}
