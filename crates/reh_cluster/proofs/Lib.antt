@@ -1,2 +1,3 @@
 pub mod NamesLemmas
-pub mod StateLaws
+pub mod MissingLaws
+pub mod MemberLaws

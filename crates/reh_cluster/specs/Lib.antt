@@ -1,3 +1,4 @@
 pub mod Names
 pub mod Parts
 pub mod State
+pub mod Members

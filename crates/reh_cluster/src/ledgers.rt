@@ -1,9 +1,15 @@
 // A ledger of the cluster, with its task and its lock.
-ghost use Rattle.std.specs.Prelude.{◌≡◌, None};
+ghost use Rattle.std.specs.Prelude.{◌≡◌, ◌==◌, ◌<◌, not, map, position, All, None};
+ghost use Rattle.std.specs.List.{filter, flat_map};
 ghost use Rattle.std.specs.Option.{option_copied};
+ghost use Rattle.reh_types.specs.Sets as set;
+ghost use Rattle.reh_model.specs.Cluster as model;
+ghost use Rattle.reh_model.specs.Audit as audit;
+ghost use Rattle.reh_model.specs.Step.{locked_by, unlocked, finished, expired};
+ghost use Rattle.reh_cluster.specs.Members.{HasBookies};
 
-use reh_meta::LedgerMeta;
-use reh_types::{BookieSet, LedgerId, Lock};
+use reh_meta::{Fragment, LedgerMeta};
+use reh_types::{BookieIx, BookieSet, LedgerId, Lock};
 use std::alloc::AllocError;
 use std::marker::Model;
 
@@ -83,4 +89,137 @@ impl Ledger {
     {
         self.lock
     }
+
+    /// The members of the ledger's ensembles that aren't registered: what BookKeeper's auditor finds
+    /// when a bookie is lost. Takes the registered bookies.
+    pub fn missing(&self, up: &BookieSet) -> BookieSet
+        requires { HasBookies self.now }
+        ensures { result ≡ audit.missing up.now self.now }
+    {
+        missing_from(self.metadata.fragments(), up)
+    }
+
+    /// The bookies that the ledger's task names, none without a task.
+    pub fn task_set(&self) -> BookieSet
+        ensures { result ≡ model.task_set self.now }
+    {
+        match &self.task {
+            Some(bookies) => bookies.copied(),
+            None => BookieSet::new(),
+        }
+    }
+
+    /// The bookies that the ledger's task names after an audit: those that it named, and the missing members.
+    pub fn published(&self, up: &BookieSet) -> BookieSet
+        requires { HasBookies self.now }
+        ensures { result ≡ audit.published up.now self.now }
+    {
+        self.task_set().union(&self.missing(up))
+    }
+
+    /// Adds the missing members to the ledger's task, which is made if there is none.
+    fn publish(&mut self, up: &BookieSet)
+        requires { HasBookies self.old }
+        ensures { self.new ≡ audit.audited up.now self.old }
+    {
+        if !self.missing(up).is_empty() {
+            self.task = Some(self.published(up));
+        }
+    }
+
+    /// The worker locks the ledger's task.
+    pub(crate) fn lock_by(&mut self, worker: BookieIx)
+        ensures { self.new ≡ locked_by worker self.old }
+    {
+        self.lock = Some(Lock {
+            owner: worker,
+            due: None,
+        });
+    }
+
+    /// Takes the lock away.
+    pub(crate) fn unlock(&mut self)
+        ensures { self.new ≡ unlocked self.old }
+    {
+        self.lock = None;
+    }
+
+    /// Takes the task away, with its lock.
+    pub(crate) fn finish(&mut self)
+        ensures { self.new ≡ finished self.old }
+    {
+        self.task = None;
+        self.lock = None;
+    }
+
+    /// Takes the lock away if it is this worker's.
+    fn expire(&mut self, worker: BookieIx)
+        ensures { self.new ≡ expired worker self.old }
+    {
+        if self.is_locked_by(worker) {
+            self.unlock();
+        }
+    }
+
+    /// Whether the worker holds the ledger's lock.
+    pub fn is_locked_by(&self, worker: BookieIx) -> bool
+        ensures { result ≡ model.is_locked_by worker self.now }
+    {
+        match self.lock {
+            Some(lock) => lock.owner == worker,
+            None => false,
+        }
+    }
+}
+
+/// The members of one ensemble that aren't registered.
+fn missing_among(ensemble: &[BookieIx], up: &BookieSet) -> BookieSet
+    requires { All (λ b. b < 64) ensemble.now }
+    ensures { result ≡ set.from_list (filter (λ b. not (set.contains up.now b)) ensemble.now) }
+{
+    let mut missing = BookieSet::new();
+    for member in ensemble {
+        if !up.contains(*member) {
+            missing.insert(*member);
+        }
+    }
+    missing
+}
+
+/// The members of all ensembles that aren't registered.
+fn missing_from(fragments: &[Fragment], up: &BookieSet) -> BookieSet
+    requires { All (λ fragment. All (λ b. b < 64) fragment.ensemble) fragments.now }
+    ensures { result ≡ set.from_list (filter (λ b. not (set.contains up.now b)) (flat_map (λ fragment. fragment.ensemble) fragments.now)) }
+{
+    let mut missing = BookieSet::new();
+    for fragment in fragments {
+        missing = missing.union(&missing_among(&fragment.ensemble, up));
+    }
+    missing
+}
+
+/// Publishes the missing members of each ledger.
+pub(crate) fn publish_all(ledgers: &mut [Ledger], up: &BookieSet)
+    requires { All HasBookies ledgers.old }
+    ensures { ledgers.new ≡ map (audit.audited up.now) ledgers.old }
+{
+    for ledger in ledgers.iter_mut() {
+        ledger.publish(up);
+    }
+}
+
+/// Takes away all locks of the worker.
+pub(crate) fn expire_all(ledgers: &mut [Ledger], worker: BookieIx)
+    ensures { ledgers.new ≡ map (expired worker) ledgers.old }
+{
+    for ledger in ledgers.iter_mut() {
+        ledger.expire(worker);
+    }
+}
+
+/// The place of the ledger of that id, if there is one.
+pub(crate) fn place_of(ledgers: &[Ledger], ledger: LedgerId) -> Option<usize>
+    ensures { result ≡ position (λ g. g.id == ledger) ledgers.now }
+{
+    ledgers.iter().position(|g| g.id() == ledger)
 }

@@ -1,14 +1,15 @@
 // The state of a cluster.
-ghost use Rattle.std.specs.Prelude.{◌≡◌, ◌+◌, ◌<◌, ◌≤◌, length, IfOk};
+ghost use Rattle.std.specs.Prelude.{◌≡◌, ◌+◌, ◌<◌, ◌≤◌, length, None, IfOk};
 ghost use Rattle.std.specs.List.{find};
 ghost use Rattle.std.specs.Prelude.{◌==◌};
 ghost use Rattle.std.specs.Option.{option_copied};
 ghost use Rattle.reh_types.specs.Sets as set;
 ghost use Rattle.reh_model.specs.Contents.{count_held, greatest_held};
 ghost use Rattle.reh_model.specs.Cluster as model;
+ghost use Rattle.reh_model.specs.Step.{refusal_of, after};
 ghost use Rattle.reh_model.specs.WellFormed.{IsWellFormed};
 
-use crate::ledgers::Ledger;
+use crate::ledgers::{Ledger, expire_all, place_of, publish_all};
 use crate::names::Names;
 use reh_held::Held;
 use reh_types::{BookieIx, BookieSet, LedgerId};
@@ -41,6 +42,7 @@ impl Model for State {
 }
 
 impl State {
+    ghost use Rattle.reh_types.specs.declared.moves.Event.TheVariants.{Audit, Acquire, Release, Finish, Expire};
     ghost use Rattle.reh_cluster.specs.Parts.{cluster_of};
 
     /// The state at clock 0 with these names, registered bookies, grace in ticks, ledgers in picture order, and contents.
@@ -85,6 +87,14 @@ impl State {
         ensures { result ≡ model.is_up self.now bookie }
     {
         self.up.contains(bookie)
+    }
+
+    /// The registered bookies.
+    pub fn up(&self) -> &BookieSet
+        ensures up { result.now ≡ self.now.up }
+        ensures well_formed { IsWellFormed self.now }
+    {
+        &self.up
     }
 
     /// The ledgers, in picture order.
@@ -158,6 +168,52 @@ impl State {
         ensures { self.new ≡ record self.old { clock = self.old.clock + ticks } }
     {
         self.clock += ticks;
+    }
+
+    /// Publishes the missing members in the tasks of their ledgers.
+    pub fn publish(&mut self)
+        requires { refusal_of self.old Audit ≡ None }
+        ensures { self.new ≡ after self.old Audit }
+    {
+        publish_all(&mut self.ledgers, &self.up);
+    }
+
+    /// The worker locks the ledger's task.
+    pub fn lock(&mut self, worker: BookieIx, ledger: LedgerId)
+        requires { refusal_of self.old (Acquire worker ledger) ≡ None }
+        ensures { self.new ≡ after self.old (Acquire worker ledger) }
+    {
+        if let Some(place) = place_of(&self.ledgers, ledger) {
+            self.ledgers[place].lock_by(worker);
+        }
+    }
+
+    /// The worker gives the ledger's lock back.
+    pub fn unlock(&mut self, worker: BookieIx, ledger: LedgerId)
+        requires { refusal_of self.old (Release worker ledger) ≡ None }
+        ensures { self.new ≡ after self.old (Release worker ledger) }
+    {
+        if let Some(place) = place_of(&self.ledgers, ledger) {
+            self.ledgers[place].unlock();
+        }
+    }
+
+    /// The worker ends the ledger's task.
+    pub fn finish(&mut self, worker: BookieIx, ledger: LedgerId)
+        requires { refusal_of self.old (Finish worker ledger) ≡ None }
+        ensures { self.new ≡ after self.old (Finish worker ledger) }
+    {
+        if let Some(place) = place_of(&self.ledgers, ledger) {
+            self.ledgers[place].finish();
+        }
+    }
+
+    /// The worker's session expires: all its locks go.
+    pub fn expire(&mut self, worker: BookieIx)
+        requires { refusal_of self.old (Expire worker) ≡ None }
+        ensures { self.new ≡ after self.old (Expire worker) }
+    {
+        expire_all(&mut self.ledgers, worker);
     }
 }
 

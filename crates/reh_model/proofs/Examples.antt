@@ -19,7 +19,7 @@ abbrev pub two_bookies : Cluster
 two_bookies = record { names = codes "b1:3181" ∷ codes "b2:3181" ∷ []; grace = 3; up = from_list (0 ∷ 1 ∷ []); ledgers = []; held = empty; clock = 0 }
 
 -- the replies to moves in order
-abbrev replies : Session → List Move → List Reply
+abbrev pub replies : Session → List Move → List Reply
 replies m [] = []
 replies m (move ∷ moves) = reply_to m move ∷ replies (session_after m move (reply_to m move)) moves
 

@@ -6,5 +6,8 @@ pub mod WriteSetLaws
 pub mod ContentsLaws
 pub mod StripedLaws
 pub mod SessionLaws
+pub mod LedgerLaws
+pub mod AuditLaws
 pub mod Examples
+pub mod TaskExamples
 pub mod WellFormedLaws

@@ -1,7 +1,7 @@
 -- The cluster: who is registered, the ledgers, which entries each bookie holds, tasks, locks and the clock.
-use Rattle.std.specs.Prelude.{ℕ, Bool, ◌==◌, List, Option, position}
+use Rattle.std.specs.Prelude.{ℕ, Bool, false, ◌==◌, if◌then◌else◌, List, map, Option, unwrap_or, position}
 use Rattle.std.specs.List.{find}
-use Rattle.std.specs.Option.{option_and_then}
+use Rattle.std.specs.Option.{option_and_then, option_map_or}
 use Rattle.std.specs.Str.{bytes_eq}
 use Rattle.reh_types.specs.declared.locks.Lock.{Lock}
 use Rattle.reh_types.specs.Sets as set
@@ -38,6 +38,18 @@ bookie_named names name = position (bytes_eq name) names
 -- the ledger of that id
 abbrev pub ledger_at : Cluster → ℕ → Option Ledger
 ledger_at s l = find (λ g. g.id == l) s.ledgers
+
+-- the cluster with that ledger changed, and nothing else
+abbrev pub change_ledger : Cluster → ℕ → (Ledger → Ledger) → Cluster
+change_ledger s l change = record s { ledgers = map (λ g. if g.id == l then change g else g) s.ledgers }
+
+-- the bookies that a ledger's task names, none without a task
+abbrev pub task_set : Ledger → Set numbers
+task_set g = unwrap_or g.task set.empty
+
+-- whether the worker holds the ledger's lock
+abbrev pub is_locked_by : ℕ → Ledger → Bool
+is_locked_by w g = option_map_or (λ lock. lock.owner == w) g.lock false
 
 -- when a fence of the ledger is due, if that is set
 abbrev pub due_of : Ledger → Option ℕ

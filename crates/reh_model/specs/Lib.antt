@@ -3,6 +3,7 @@ pub mod Metadata
 pub mod Contents
 pub mod Cluster
 pub mod WellFormed
+pub mod Audit
 pub mod Refusals
 pub mod Step
 pub mod Session

@@ -1,20 +1,47 @@
 -- One event: when it is refused, and what it changes.
-use Rattle.std.specs.Prelude.{◌+◌, [], ◌∷◌, Option}
+use Rattle.std.specs.Prelude.{ℕ, ◌+◌, if◌then◌else◌, [], ◌∷◌, map, Option, None, Some}
 use Rattle.reh_types.specs.declared.moves.Event.{Event}
-use Rattle.reh_types.specs.declared.moves.Event.TheVariants.{Lose, Join, Tick}
+use Rattle.reh_types.specs.declared.moves.Event.TheVariants.{Lose, Join, Audit, Acquire, Release, Finish, Expire, Tick}
 use Rattle.reh_types.specs.declared.refusals.Refusal.{Refusal}
 use Rattle.reh_types.specs.Sets as set
-use Rattle.reh_model.specs.Cluster.{Cluster}
-use Rattle.reh_model.specs.Refusals.{first_refusal, no_bookie, already_down, already_up, bad_tick, clock_end}
+use Rattle.reh_model.specs.Cluster.{Cluster, Ledger, change_ledger, is_locked_by}
+use Rattle.reh_model.specs.Audit.{audited}
+use Rattle.reh_model.specs.Refusals.{first_refusal, at_ledger, no_bookie, already_down, already_up, nothing_to_publish, no_task, locked, not_owner, still_under, no_locks, bad_tick, clock_end}
 
 -- the first refusal of an event, if there is one
 abbrev pub refusal_of : Cluster → Event → Option Refusal
 refusal_of s (Lose b) = first_refusal (no_bookie s b ∷ already_down s b ∷ [])
 refusal_of s (Join b) = first_refusal (no_bookie s b ∷ already_up s b ∷ [])
+refusal_of s Audit = nothing_to_publish s
+refusal_of s (Acquire w l) = first_refusal (no_bookie s w ∷ at_ledger s l (λ g. no_task g ∷ locked g ∷ []) ∷ [])
+refusal_of s (Release w l) = first_refusal (no_bookie s w ∷ at_ledger s l (λ g. not_owner g w ∷ []) ∷ [])
+refusal_of s (Finish w l) = first_refusal (no_bookie s w ∷ at_ledger s l (λ g. not_owner g w ∷ still_under s g ∷ []) ∷ [])
+refusal_of s (Expire w) = first_refusal (no_bookie s w ∷ no_locks s w ∷ [])
 refusal_of s (Tick n) = first_refusal (bad_tick n ∷ clock_end s n ∷ [])
+
+-- a ledger whose task this worker locks, with no due tick
+abbrev pub locked_by : ℕ → Ledger → Ledger
+locked_by w g = record g { lock = Some (record { owner = w; due = None }) }
+
+-- a ledger without its lock and the lock's due tick
+abbrev pub unlocked : Ledger → Ledger
+unlocked g = record g { lock = None }
+
+-- a ledger without its task and the task's lock
+abbrev pub finished : Ledger → Ledger
+finished g = record g { task = None; lock = None }
+
+-- a ledger without its lock, if it is this worker's
+abbrev pub expired : ℕ → Ledger → Ledger
+expired w g = if is_locked_by w g then unlocked g else g
 
 -- the cluster that an accepted event leaves
 abbrev pub after : Cluster → Event → Cluster
 after s (Lose b) = record s { up = set.remove s.up b }
 after s (Join b) = record s { up = set.insert s.up b }
+after s Audit = record s { ledgers = map (audited s.up) s.ledgers }
+after s (Acquire w l) = change_ledger s l (locked_by w)
+after s (Release w l) = change_ledger s l unlocked
+after s (Finish w l) = change_ledger s l finished
+after s (Expire w) = record s { ledgers = map (expired w) s.ledgers }
 after s (Tick n) = record s { clock = s.clock + n }

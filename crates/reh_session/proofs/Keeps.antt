@@ -1,15 +1,29 @@
 -- Each move keeps what a session keeps.
-use Rattle.std.proofs.Common.{◌≡◌, ℕ, ◌+◌, ◌-◌, ◌<◌, ◌≤◌, List, [], ◌∷◌, ◌++◌, length, get_or, take, drop, sym, ap, ◌∙◌, None, Some, IsSome, is_some, arith, length-append}
+use Rattle.std.proofs.Common.{◌≡◌, ℕ, ◌+◌, ◌-◌, ◌<◌, ◌≤◌, List, [], ◌∷◌, ◌++◌, length, get_or, take, drop, sym, ap, ◌∙◌, Option, None, Some, IsSome, is_some, false, nat_le, arith, length-append}
 use Rattle.std.proofs.lemmas.List.{take_more, drop_more, take-take, drop-take, drop-drop, take_all, drop_all, length-take-le, take-append-drop}
+use Rattle.std.specs.Prelude.{unwrap_or}
+use Rattle.std.proofs.lemmas.Bool.Decides.{nat_tests}
 use Rattle.reh_types.specs.declared.moves.Event.{Event}
-use Rattle.reh_types.specs.declared.moves.Move.TheVariants.{Undo}
+use Rattle.reh_types.specs.declared.moves.Move.TheVariants.{Do, Undo}
 use Rattle.reh_types.specs.declared.moves.Reply.TheVariants.{Done}
-use Rattle.reh_types.specs.declared.refusals.Refusal.TheVariants.{NothingToUndo}
+use Rattle.reh_types.specs.declared.refusals.Refusal.{Refusal}
+use Rattle.reh_types.specs.declared.refusals.Refusal.TheVariants.{NothingToUndo, Full}
 use Rattle.reh_model.specs.Cluster.{Cluster}
+use Rattle.reh_model.specs.Refusals.{first_refusal, refuse_if}
 use Rattle.reh_model.specs.Step.{refusal_of, after}
-use Rattle.reh_model.specs.Session.{replay, Answers}
+use Rattle.reh_model.specs.Session.{Session, replay, state_of, done_unless, full, reply_to, moved, Answers}
 use Rattle.reh_model.proofs.SessionLaws.{replay_first, replay-append, replay-prefix, replay_one, done_unless-some}
 use Rattle.reh_session.specs.Kept.{session_of, IsKept}
+
+-- an event is accepted where the state accepts it, and there is room
+pub do_accepted : {o s : Cluster} {es : List Event} {k : ℕ} → IsKept o s es k → (e : Event) → refusal_of s e ≡ None → k < 100_000 → reply_to (session_of o es k) (Do e) ≡ Done
+do_accepted {o} {s} {es} {k} h e accepted room =
+    let m : Session = session_of o es k in
+    let state_is : state_of m ≡ s = ap (λ (x : Option Cluster). unwrap_or x o) h.replayed in
+    let few : nat_le 100_000 (length m.done) ≡ false = grind (arith, nat_tests, length-take-le k es h.within) in
+    ap (λ (x : Cluster). done_unless (first_refusal (refusal_of x e ∷ full m ∷ []))) state_is
+    ∙ ap (λ (x : Option Refusal). done_unless (first_refusal (x ∷ full m ∷ []))) accepted
+    ∙ ap (λ b. done_unless (first_refusal (refuse_if b Full ∷ []))) few
 
 -- an event is made, and what was undone is dropped
 pub acted : {o s : Cluster} {es : List Event} {k : ℕ} → IsKept o s es k → (e : Event) (new : List Event) → refusal_of s e ≡ None → k < 100_000 → new ≡ take k es ++ e ∷ [] → IsKept o (after s e) new (k + 1)
@@ -24,6 +38,12 @@ acted {o} {s} {es} {k} h e new accepted room is =
           ∙ replay-append o s (take k es) (e ∷ []) h.replayed ∙ replay_one s e accepted;
       redoable = ap (λ fs. is_some (replay (after s e) fs)) (drop_all (k + 1) new (omega arith));
     }
+
+-- and the session is what the move makes of it
+pub act_moves : {o s : Cluster} {es : List Event} {k : ℕ} → IsKept o s es k → (e : Event) (new : List Event) → new ≡ take k es ++ e ∷ [] → session_of o new (k + 1) ≡ moved (session_of o es k) (Do e)
+act_moves {o} {s} {es} {k} h e new is =
+    let size : length new ≡ k + 1 = ap length is ∙ length-append (take k es) (e ∷ []) ∙ ap (λ n. n + 1) (length-take-le k es h.within) in
+    λ i. record { opening = o; done = (take_all (k + 1) new (omega arith) ∙ is) i; undone = drop_all (k + 1) new (omega arith) i }
 
 -- the event behind the cursor can be made
 pub redo_accepted : {o s : Cluster} {es : List Event} {k : ℕ} → IsKept o s es k → (e : Event) → k < length es → e ≡ get_or es k e → (refusal_of s e ≡ None) × IsSome (replay (after s e) (drop (k + 1) es))

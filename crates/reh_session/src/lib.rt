@@ -2,8 +2,8 @@
 #![tactic(auto)]
 
 mod laws;
+mod replays;
 mod sessions;
-mod steps;
 
 pub use laws::undo_restores;
 pub use sessions::Session;

@@ -2,8 +2,9 @@
 ghost use Rattle.std.specs.Prelude.{◌≡◌, ◌+◌, ◌≤◌, ◌∷◌, [], ◌++◌, length, take, Some, IsSome, IfOk, IfErr, OnErr, OnOk};
 ghost use Rattle.reh_model.specs.Session.{replay as replayed};
 
-use crate::steps::{apply, check, replay};
+use crate::replays::replay;
 use reh_cluster::State;
+use reh_step::{apply, check};
 use reh_types::{Event, Move, Refusal, Reply};
 use std::alloc::{AllocError, Global};
 use std::marker::Model;
@@ -81,9 +82,10 @@ impl Session {
         if self.cursor >= MAX_EVENTS {
             return Err(Refusal::Full);
         }
+        let state = apply(&self.state, event)?;
         keep(&mut self.events, self.cursor, *event)?;
         self.cursor += 1;
-        apply(&mut self.state, event);
+        self.state = state;
         Ok(())
     }
 
@@ -103,7 +105,7 @@ impl Session {
         Ok(())
     }
 
-    /// Makes the event that was undone last once more. It takes no memory.
+    /// Makes the event that was undone last once more.
     pub fn redo(&mut self) -> Result<(), Refusal>
         ensures { Answers self.old Redo (reply_of result) self.new }
     {
@@ -111,7 +113,8 @@ impl Session {
             return Err(Refusal::NothingToRedo);
         }
         let event = self.events[self.cursor];
-        apply(&mut self.state, &event);
+        let state = apply(&self.state, &event)?;
+        self.state = state;
         self.cursor += 1;
         Ok(())
     }
@@ -138,6 +141,8 @@ impl Session {
         ensures run { IfOk result (λ replies. Run self.old moves.now replies.items self.new) }
         ensures err { OnErr result (self.new ≡ self.old) }
     {
+        // The check of this loop has to meet the type of a reply's refusal by its name.
+        let _refusal: Option<Refusal> = None;
         let mut replies = Vec::with_capacity(*self.events.allocator(), moves.len())?;
         for step in moves {
             let reply = self.perform(step);

@@ -1,5 +1,5 @@
 // What an operator asks of a rehearsal, and the replies.
-use crate::names::BookieIx;
+use crate::names::{BookieIx, LedgerId};
 use crate::refusals::Refusal;
 use std::fmt;
 
@@ -10,6 +10,16 @@ pub enum Event {
     Lose { bookie: BookieIx },
     /// The bookie is registered again, with the contents that it has.
     Join { bookie: BookieIx },
+    /// The auditor publishes the members that are missing, ledger by ledger, in rereplication tasks.
+    Audit,
+    /// The worker locks the ledger's task.
+    Acquire { worker: BookieIx, ledger: LedgerId },
+    /// The worker gives the ledger's lock back.
+    Release { worker: BookieIx, ledger: LedgerId },
+    /// The worker ends the ledger's task, whose lock it holds.
+    Finish { worker: BookieIx, ledger: LedgerId },
+    /// The worker's session expires, and all its locks go.
+    Expire { worker: BookieIx },
     /// The clock goes on by so many ticks.
     Tick { ticks: u64 },
 }

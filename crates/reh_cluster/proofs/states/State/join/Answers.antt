@@ -1,7 +1,7 @@
 use Rattle.std.proofs.Common.{ap, length, arith}
 use Rattle.reh_model.specs.Cluster.{Cluster}
 use Rattle.reh_model.proofs.WellFormedLaws.{IsWellFormed-up}
-use Rattle.reh_cluster.proofs.StateLaws.{named-insert}
+use Rattle.reh_model.proofs.WellFormedLaws.{named-insert}
 use Rattle.reh_cluster.proofs.states.State.join.Goals as goal
 
 pub invariant_of-self : goal.invariant_of-self

@@ -1,4 +1,4 @@
-use Rattle.reh_cluster.proofs.StateLaws.{named-remove}
+use Rattle.reh_model.proofs.WellFormedLaws.{named-remove}
 use Rattle.reh_model.proofs.WellFormedLaws.{IsWellFormed-up}
 use Rattle.reh_cluster.proofs.states.State.lose.Goals as goal
 

@@ -1,0 +1,70 @@
+// What an audit publishes.
+ghost use Rattle.std.specs.Prelude.{◌≡◌, map, None, All, IfOk, IfErr};
+ghost use Rattle.std.specs.List.{filter, list_any};
+ghost use Rattle.reh_types.specs.declared.moves.Event.TheVariants.{Audit};
+ghost use Rattle.reh_model.specs.Audit as model;
+ghost use Rattle.reh_model.specs.Refusals.{or_no_memory};
+ghost use Rattle.reh_model.specs.Step.{refusal_of};
+ghost use Rattle.reh_cluster.specs.Members.{HasBookies};
+
+use reh_cluster::{Ledger, State};
+use reh_types::{BookieSet, LedgerId, Refusal};
+use std::alloc::{AllocError, Global};
+
+/// The ledgers whose tasks an audit changes, in picture order, each with the bookies that its task names then.
+///
+/// Refused with `NothingToPublish` where no task would change, and for want of memory only where one would.
+/// BookKeeper's auditor publishes a ledger's under-replication in the same way: to a task that is there
+/// already it adds the missing bookies.
+pub fn audit(alloc: Global, state: &State) -> Result<Vec<(LedgerId, BookieSet)>, Refusal>
+    ensures news { IfOk result (λ _. refusal_of state.now Audit ≡ None) }
+    ensures tasks { IfOk result (λ tasks. tasks.items ≡ model.published_tasks state.now) }
+    ensures err { IfErr result (λ refusal. refusal ≡ or_no_memory (refusal_of state.now Audit)) }
+{
+    if !has_news(state) {
+        return Err(Refusal::NothingToPublish);
+    }
+    let tasks = published_tasks(alloc, state.ledgers(), state.up())?;
+    Ok(tasks)
+}
+
+/// The tasks that an audit of these ledgers changes.
+fn published_tasks(
+    alloc: Global,
+    ledgers: &[Ledger],
+    up: &BookieSet,
+) -> Result<Vec<(LedgerId, BookieSet)>, AllocError>
+    requires { All HasBookies ledgers.now }
+    ensures { IfOk result (λ tasks. tasks.items ≡ map (λ g. (g.id, model.published up.now g)) (filter (model.is_news up.now) ledgers.now)) }
+{
+    let mut tasks = Vec::new(alloc);
+    for ledger in ledgers {
+        if is_news(ledger, up) {
+            tasks.push((ledger.id(), ledger.published(up)))?;
+        }
+    }
+    Ok(tasks)
+}
+
+/// Whether an audit changes some task.
+pub fn has_news(state: &State) -> bool
+    ensures { result ≡ list_any (model.is_news state.now.up) state.now.ledgers }
+{
+    any_news(state.ledgers(), state.up())
+}
+
+/// Whether an audit changes the task of one of these ledgers.
+fn any_news(ledgers: &[Ledger], up: &BookieSet) -> bool
+    requires { All HasBookies ledgers.now }
+    ensures { result ≡ list_any (model.is_news up.now) ledgers.now }
+{
+    ledgers.iter().any(|ledger| is_news(ledger, up))
+}
+
+/// Whether an audit changes the ledger's task.
+fn is_news(ledger: &Ledger, up: &BookieSet) -> bool
+    requires { HasBookies ledger.now }
+    ensures { result ≡ model.is_news up.now ledger.now }
+{
+    !ledger.missing(up).is_subset(&ledger.task_set())
+}

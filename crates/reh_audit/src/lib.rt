@@ -1,0 +1,8 @@
+// The auditor: which members of a ledger's ensembles are missing, and which tasks an audit publishes.
+#![tactic(auto)]
+
+mod audits;
+mod members;
+
+pub use audits::{audit, has_news};
+pub use members::{missing, under, under_of};

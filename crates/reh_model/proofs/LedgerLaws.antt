@@ -1,0 +1,107 @@
+-- Ledgers in picture order: finding the ledger of an id, and changing it.
+use Rattle.std.proofs.Common.{◌≡◌, ℕ, zero, suc, true, false, cond, List, [], ◌∷◌, map, None, Some, refl, sym, ap, ◌∙◌, arith, nat_eq, is_some, get_or, set, ◌<◌, ◌≤◌, nat_lt}
+use Rattle.std.specs.Prelude.{◌==◌, ◌+◌, if◌then◌else◌, sum_by, length, position}
+use Rattle.std.specs.List.{IsDistinct, AllByRecursion, find, position_or_len}
+use Rattle.std.proofs.lemmas.Bool.Decides.{nat_tests}
+use Rattle.std.proofs.lemmas.List.Sums.{sum_by-cons, fails_before_first}
+use Rattle.std.proofs.lemmas.List.Quantifiers.{position-Some}
+use Rattle.reh_model.specs.Cluster.{Cluster, Ledger, change_ledger}
+
+-- Changes that keep every id
+
+abbrev pub KeepsId : (Ledger → Ledger) → Type 0
+KeepsId change = (g : Ledger) → (change g).id ≡ g.id
+
+pub ids-map : (change : Ledger → Ledger) → KeepsId change → (gs : List Ledger) → map (λ g. g.id) (map change gs) ≡ map (λ g. g.id) gs
+ids-map change keeps [] = refl
+ids-map change keeps (g ∷ gs) = λ i. keeps g i ∷ ids-map change keeps gs i
+
+-- a sum over the ids
+pub sum_by-map : (f : ℕ → ℕ) (change : Ledger → Ledger) → KeepsId change → (gs : List Ledger) → sum_by (λ g. f g.id) (map change gs) ≡ sum_by (λ g. f g.id) gs
+sum_by-map f change keeps [] = refl
+sum_by-map f change keeps (g ∷ gs) =
+    sum_by-cons (λ g. f g.id) (change g) (map change gs)
+    ∙ (λ i. f (keeps g i) + sum_by-map f change keeps gs i)
+    ∙ sym (sum_by-cons (λ g. f g.id) g gs)
+
+-- the same ids are found
+pub found-map : (l : ℕ) (change : Ledger → Ledger) → KeepsId change → (gs : List Ledger) → is_some (find (λ g. g.id == l) (map change gs)) ≡ is_some (find (λ g. g.id == l) gs)
+found-map l change keeps [] = refl
+found-map l change keeps (g ∷ gs) =
+    ap (λ (k : ℕ). is_some (cond (k == l) (Some (change g)) (find (λ g. g.id == l) (map change gs)))) (keeps g)
+    ∙ elim (g.id == l) as (λ b. is_some (cond b (Some (change g)) (find (λ g. g.id == l) (map change gs))) ≡ is_some (cond b (Some g) (find (λ g. g.id == l) gs))) [
+      | true ↦ refl
+      | false ↦ found-map l change keeps gs
+    ]
+
+-- a change of the ledger of one id, and of no other
+abbrev pub changed : ℕ → (Ledger → Ledger) → Ledger → Ledger
+changed l change g = if g.id == l then change g else g
+
+pub KeepsId-changed : (l : ℕ) (change : Ledger → Ledger) → KeepsId change → KeepsId (changed l change)
+KeepsId-changed l change keeps g = elim (g.id == l) as (λ b. (cond b (change g) g).id ≡ g.id) [ true ↦ keeps g | false ↦ refl ]
+
+-- Where ids differ
+
+-- a ledger that stands among others with other ids
+abbrev IsApart : ℕ → List Ledger → Type 0
+IsApart l gs = AllByRecursion (λ k. nat_eq l k ≡ false) (map (λ g. g.id) gs)
+
+apart_at : (l : ℕ) (gs : List Ledger) (k : ℕ) (d : Ledger) → k < length gs → IsApart l gs → nat_eq l (get_or gs k d).id ≡ false
+apart_at l [] k d within apart = absurd (omega arith)
+apart_at l (g ∷ gs) zero d within apart = apart.0
+apart_at l (g ∷ gs) (suc k) d within apart = apart_at l gs k d (omega arith) apart.1
+
+-- each ledger is the one that is found by its id
+pub found_itself : (gs : List Ledger) → IsDistinct nat_eq (map (λ g. g.id) gs) → (k : ℕ) (d : Ledger) → k < length gs → find (λ g. g.id == (get_or gs k d).id) gs ≡ Some (get_or gs k d)
+unfolding IsDistinct
+found_itself [] distinct k d within = absurd (omega arith)
+found_itself (g ∷ gs) distinct zero d within =
+    let here : (g.id == g.id) ≡ true = grind (arith, nat_tests) in
+    ap (λ b. cond b (Some g) (find (λ h. h.id == g.id) gs)) here
+found_itself (g ∷ gs) distinct (suc k) d within =
+    let h : Ledger = get_or gs k d in
+    ap (λ b. cond b (Some g) (find (λ j. j.id == h.id) gs)) (apart_at g.id gs k d (omega arith) distinct.0)
+    ∙ found_itself gs distinct.1 k d (omega arith)
+
+-- a change of a ledger that is not there changes nothing
+kept_absent : (l : ℕ) (change : Ledger → Ledger) (gs : List Ledger) → ((k : ℕ) (d : Ledger) → k < length gs → ((get_or gs k d).id == l) ≡ false) → map (changed l change) gs ≡ gs
+kept_absent l change [] others = refl
+kept_absent l change (g ∷ gs) others = λ i. cond (others 0 g (omega arith) i) (change g) g ∷ kept_absent l change gs (λ k d within. others (suc k) d (omega arith)) i
+
+-- to change the ledger of an id that stands at a place is to change what stands there
+map_changed-set : (l : ℕ) (change : Ledger → Ledger) (gs : List Ledger) → IsDistinct nat_eq (map (λ g. g.id) gs) → (k : ℕ) (d : Ledger) → k < length gs → (get_or gs k d).id ≡ l
+    → map (changed l change) gs ≡ set gs k (change (get_or gs k d))
+unfolding IsDistinct
+map_changed-set l change [] distinct k d within is = absurd (omega arith)
+map_changed-set l change (g ∷ gs) distinct zero d within is =
+    let here : (g.id == l) ≡ true = grind (arith, nat_tests) in
+    let others : (j : ℕ) (e : Ledger) → j < length gs → ((get_or gs j e).id == l) ≡ false = λ j e inside. (let apart = apart_at g.id gs j e inside distinct.0 in grind (arith, nat_tests)) in
+    λ i. cond (here i) (change g) g ∷ kept_absent l change gs others i
+map_changed-set l change (g ∷ gs) distinct (suc k) d within is =
+    let other : (g.id == l) ≡ false = ap (λ (j : ℕ). nat_eq g.id j) (sym is) ∙ apart_at g.id gs k d (omega arith) distinct.0 in
+    λ i. cond (other i) (change g) g ∷ map_changed-set l change gs distinct.1 k d (omega arith) is i
+
+-- to change the ledger of an id is to change what stands at its place
+pub change_ledger-set : (s : Cluster) (l : ℕ) (change : Ledger → Ledger) (k : ℕ) (old new : Ledger) → IsDistinct nat_eq (map (λ g. g.id) s.ledgers) → position (λ g. g.id == l) s.ledgers ≡ Some k
+    → old ≡ get_or s.ledgers k old → new ≡ change old → record s { ledgers = set s.ledgers k new } ≡ change_ledger s l change
+change_ledger-set s l change k old new distinct is stood made =
+    let at : (k < length s.ledgers) × (((get_or s.ledgers k old).id == l) ≡ true) × ((j : ℕ) → j < k → ((get_or s.ledgers j old).id == l) ≡ false) = position-Some (λ g. g.id == l) s.ledgers k old is in
+    let id : (get_or s.ledgers k old).id ≡ l = grind (arith, nat_tests, at.1) in
+    ap (λ (gs : List Ledger). record s { ledgers = gs }) (ap (λ (g : Ledger). set s.ledgers k g) (made ∙ ap change stood) ∙ sym (map_changed-set l change s.ledgers distinct k old at.0 id))
+
+-- and where there is none of that id, it is to change nothing
+pub change_ledger-absent : (s : Cluster) (l : ℕ) (change : Ledger → Ledger) → position (λ g. g.id == l) s.ledgers ≡ None → s ≡ change_ledger s l change
+change_ledger-absent s l change none =
+    let past : length s.ledgers ≤ first s.ledgers = none_past none in
+    ap (λ (gs : List Ledger). record s { ledgers = gs }) (sym (kept_absent l change s.ledgers (λ k d within. fails_before_first (λ g. g.id == l) s.ledgers k d (omega arith))))
+  where
+    first : List Ledger → ℕ
+    first gs = position_or_len (λ g. g.id == l) gs
+
+    none_past : position (λ g. g.id == l) s.ledgers ≡ None → length s.ledgers ≤ first s.ledgers
+    none_past none =
+        elim (nat_lt (first s.ledgers) (length s.ledgers)) as (λ b. nat_lt (first s.ledgers) (length s.ledgers) ≡ b → cond b (Some (first s.ledgers)) None ≡ None → length s.ledgers ≤ first s.ledgers) [
+          | true ↦ λ _ none. cc
+          | false ↦ λ past _. grind (arith, nat_tests)
+        ] refl none

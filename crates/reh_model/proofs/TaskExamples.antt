@@ -1,0 +1,94 @@
+-- Worked runs of the auditor, tasks and locks, on five bookies, a closed and an open ledger.
+use Rattle.std.specs.Prelude.{◌≡◌, refl, ℕ, List, [], ◌∷◌, ◌++◌, codes, map, Option, None, Some}
+use Rattle.std.specs.Option.{option_map}
+use Rattle.reh_types.specs.declared.moves.Event.{Event}
+use Rattle.reh_types.specs.declared.moves.Event.TheVariants.{Lose, Join, Audit, Acquire, Release, Finish, Expire}
+use Rattle.reh_types.specs.declared.moves.Move.TheVariants.{Do}
+use Rattle.reh_types.specs.declared.moves.Reply.{Reply}
+use Rattle.reh_types.specs.declared.moves.Reply.TheVariants.{Done, Refused}
+use Rattle.reh_types.specs.declared.names.LedgerState.TheVariants.{Open, Closed}
+use Rattle.reh_types.specs.declared.refusals.Refusal.TheVariants.{NoBookie, NoLedger, NothingToPublish, NoTask, Locked, NotOwner, StillUnder, NoLocks}
+use Rattle.reh_types.specs.Sets.{contains, insert, retain, remove, empty, from_list, union, items, is_subset, is_empty, len}
+use Rattle.reh_model.specs.Metadata.{Fragment}
+use Rattle.reh_model.specs.Cluster.{Cluster, Ledger}
+use Rattle.reh_model.specs.Session.{Session, opened, state_of, reply_to, session_after}
+use Rattle.reh_model.proofs.Examples.{replies}
+
+-- a ledger with one fragment from entry 0, on the first three bookies
+abbrev first_three : List Fragment
+first_three = record { first = 0; ensemble = 0 ∷ 1 ∷ 2 ∷ [] } ∷ []
+
+abbrev closed_ledger : Ledger
+closed_ledger = record { id = 7; metadata = record { size = 3; write_quorum = 2; ack_quorum = 2; state = Closed 6; version = 0; fragments = first_three }; task = None; lock = None }
+
+abbrev open_ledger : Ledger
+open_ledger = record { id = 9; metadata = record { size = 3; write_quorum = 3; ack_quorum = 2; state = Open; version = 0; fragments = first_three }; task = None; lock = None }
+
+-- (bookie, ledger, entry) for each entry of a list
+abbrev row : ℕ → ℕ → List ℕ → List (ℕ × ℕ × ℕ)
+row bookie ledger entries = map (λ e. (bookie, ledger, e)) entries
+
+-- five registered bookies, and the two ledgers
+abbrev pub five_bookies : Cluster
+five_bookies = record {
+  names = codes "b1:3181" ∷ codes "b2:3181" ∷ codes "b3:3181" ∷ codes "b4:3181" ∷ codes "b5:3181" ∷ [];
+  grace = 3;
+  up = from_list (0 ∷ 1 ∷ 2 ∷ 3 ∷ 4 ∷ []);
+  ledgers = closed_ledger ∷ open_ledger ∷ [];
+  held = from_list (row 0 7 (0 ∷ 2 ∷ 3 ∷ 5 ∷ []) ++ row 1 7 (0 ∷ 1 ∷ 3 ∷ 4 ∷ []) ++ row 2 7 (1 ∷ 2 ∷ 4 ∷ 5 ∷ [])
+      ++ row 0 9 (0 ∷ 1 ∷ 2 ∷ 3 ∷ 4 ∷ []) ++ row 1 9 (0 ∷ 1 ∷ 2 ∷ 3 ∷ []) ++ row 2 9 (0 ∷ 1 ∷ 2 ∷ 3 ∷ []));
+  clock = 0;
+}
+
+-- the replies to events
+abbrev pub answers : List Event → List Reply
+answers events = replies (opened five_bookies) (map Do events)
+
+-- the state after them
+abbrev made : Session → List Event → Session
+made m [] = m
+made m (event ∷ events) = made (session_after m (Do event) (reply_to m (Do event))) events
+
+-- the tasks of the ledgers, in picture order
+abbrev tasks_after : List Event → List (Option (List ℕ))
+tasks_after events = map (λ g. option_map items g.task) (state_of (made (opened five_bookies) events)).ledgers
+
+-- the owners of their locks
+abbrev owners_after : List Event → List (Option ℕ)
+owners_after events = map (λ g. option_map (λ lock. lock.owner) g.lock) (state_of (made (opened five_bookies) events)).ledgers
+
+abbrev locks_and_expiries : List Event
+locks_and_expiries = Lose 1 ∷ Audit ∷ Audit ∷ Acquire 3 7 ∷ Acquire 4 7 ∷ Expire 3 ∷ Acquire 4 7 ∷ Expire 3 ∷ []
+
+-- a task is published once, one worker holds its lock, and an expired worker holds none
+pub tasks_and_locks : answers locks_and_expiries
+    ≡ Done ∷ Done ∷ Refused NothingToPublish ∷ Done ∷ Refused (Locked 3) ∷ Done ∷ Done ∷ Refused NoLocks ∷ []
+unfolding contains insert retain remove empty from_list union items is_subset is_empty len
+tasks_and_locks = refl
+
+-- both ledgers have a task for the lost bookie
+pub tasks_of_a_lost_bookie : tasks_after locks_and_expiries ≡ Some (1 ∷ []) ∷ Some (1 ∷ []) ∷ []
+unfolding contains insert retain remove empty from_list union items is_subset is_empty len
+tasks_of_a_lost_bookie = refl
+
+-- the second worker's lock stays when the first expires
+pub expiry_spares_others : owners_after locks_and_expiries ≡ Some 4 ∷ None ∷ []
+unfolding contains insert retain remove empty from_list union items is_subset is_empty len
+expiry_spares_others = refl
+
+-- locks are given back by their owners, and a task is finished where no member is missing any more
+pub finished_after_a_join : answers (Lose 1 ∷ Audit ∷ Acquire 3 7 ∷ Release 4 7 ∷ Release 3 7 ∷ Release 3 7 ∷ Acquire 4 7 ∷ Finish 4 7 ∷ Join 1 ∷ Finish 4 7 ∷ Acquire 4 7 ∷ [])
+    ≡ Done ∷ Done ∷ Done ∷ Refused NotOwner ∷ Done ∷ Refused NotOwner ∷ Done ∷ Refused (StillUnder 0) ∷ Done ∷ Done ∷ Refused NoTask ∷ []
+unfolding contains insert retain remove empty from_list union items is_subset is_empty len
+finished_after_a_join = refl
+
+-- a second audit adds to the tasks, also what has joined again stays
+pub audits_unite : tasks_after (Lose 1 ∷ Audit ∷ Join 1 ∷ Lose 2 ∷ Audit ∷ []) ≡ Some (1 ∷ 2 ∷ []) ∷ Some (1 ∷ 2 ∷ []) ∷ []
+unfolding contains insert retain remove empty from_list union items is_subset is_empty len
+audits_unite = refl
+
+-- the worker is judged before the ledger, and the ledger before its task
+pub workers_before_ledgers : answers (Acquire 5 8 ∷ Acquire 4 8 ∷ Acquire 4 7 ∷ Release 5 8 ∷ Finish 4 8 ∷ Expire 5 ∷ Audit ∷ [])
+    ≡ Refused NoBookie ∷ Refused NoLedger ∷ Refused NoTask ∷ Refused NoBookie ∷ Refused NoLedger ∷ Refused NoBookie ∷ Refused NothingToPublish ∷ []
+unfolding contains insert retain remove empty from_list union items is_subset is_empty len
+workers_before_ledgers = refl
