@@ -204,7 +204,7 @@ fn note_ends(ends: &mut BTreeMap<LedgerId, u32>, holding: &Holding) -> Result<()
     Ok(())
 }
 
-/// Notes that an entry of the ledger is held. After an `Err` the ends are as they were.
+/// Notes that this entry of the ledger is held.
 fn note_end(
     ends: &mut BTreeMap<LedgerId, u32>,
     ledger: LedgerId,
