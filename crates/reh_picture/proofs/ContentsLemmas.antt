@@ -1,5 +1,5 @@
 -- Along the ranges of entries.
-use Rattle.std.proofs.Common.{◌≡◌, ℕ, suc, ◌+◌, ◌-◌, ◌<◌, ◌≤◌, Bool, true, false, ◌||◌, List, [], ◌∷◌, ◌++◌, length, fold, Option, None, Some, refl, sym, ap, ◌∙◌, arith}
+use Rattle.std.proofs.Common.{◌≡◌, ℕ, suc, ◌+◌, ◌-◌, ◌<◌, Bool, true, false, ◌||◌, List, [], ◌∷◌, ◌++◌, length, fold, Option, None, Some, refl, sym, ap, ◌∙◌, arith}
 use Rattle.std.specs.List.{last_or, list_any, range_with_len}
 use Rattle.std.specs.Option.{option_map_or}
 use Rattle.std.specs.Ordering.{eq_by_cmp}
@@ -25,9 +25,6 @@ two_numbers-short (a ∷ b ∷ ds) few = absurd (omega arith)
 -- a range is its first number and those from the next one on
 pub range-next : (first stop : ℕ) → first < stop → range first stop ≡ first ∷ range (first + 1) stop
 range-next first stop some = let more : stop - first ≡ suc (stop - (first + 1)) = omega arith in ap (range_with_len first) more
-
-pub range-none : (first stop : ℕ) → stop ≤ first → range first stop ≡ []
-range-none first stop none = let past : stop - first ≡ 0 = omega arith in ap (range_with_len first) past
 
 or_moved : (a b c : Bool) → (a || (b || c)) ≡ ((b || a) || c)
 or_moved true true c = refl

@@ -3,5 +3,6 @@ pub mod Sound
 pub mod Lists
 pub mod BookiesLemmas
 pub mod ContentsLemmas
+pub mod Greatest
 pub mod PicturesLemmas
 mod Examples

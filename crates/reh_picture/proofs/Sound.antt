@@ -35,7 +35,7 @@ use Rattle.reh_picture.specs.Ledgers.{member_name, member_fault, members_fault, 
 use Rattle.reh_picture.specs.Contents.{ends_of, next_after, range_fault, ranges_fault, Holding, holding_in, pairs_in, content_fault, each_content_fault, contents_fault, copies_of, copies_in, held_in}
 use Rattle.reh_model.specs.Contents as model
 use Rattle.reh_cluster.specs.Parts.{cluster_of}
-use Rattle.reh_picture.specs.Pictures.{names_of, ids_of, cluster_in, words_in, head_fault, parts_fault, fields_fault, IsShown}
+use Rattle.reh_picture.specs.Pictures.{names_of, ids_of, cluster_in, words_in_all, head_fault, parts_fault, fields_fault, IsShown}
 
 -- Checks that find nothing
 
@@ -320,6 +320,23 @@ module _ (s : Cluster) (ids : List ℕ) (found : (l : ℕ) → list_any (nat_eq 
   unfolding each_content_fault
   contents_copies contents none any = copy_in_contents [] contents none any
 
+-- ranges without a fault have a first entry and a last
+range_rises : (before : List Data) (d : Data) → range_fault (next_after before) d ≡ None → (ends_of d).0 ≤ (ends_of d).1
+range_rises before d none =
+    let within : ((nat_le (next_after before) (ends_of d).0 && nat_le (ends_of d).0 (ends_of d).1) ≡ true) × (nat_le (ends_of d).1 65_535 ≡ true) = and-true _ _ (fault_unless-none _ _ (option_or-none _ _ (option_or-none _ _ none).1).0) in
+    let rises : nat_le (ends_of d).0 (ends_of d).1 ≡ true = (and-true _ _ within.0).1 in grind (arith, nat_tests, rises)
+
+ranges_rise : (ranges : List Data) → ranges_fault ranges ≡ None → All (λ range. range.0 ≤ range.1) (map ends_of ranges)
+unfolding ranges_fault
+ranges_rise ranges none = all_made (λ before d. range_fault (next_after before) d) ends_of (λ range. range.0 ≤ range.1) range_rises [] ranges none
+
+content_rises : (names : List (List ℕ)) (ids : List ℕ) (before : List Data) (d : Data) → content_fault names ids (pairs_in names before) d ≡ None → All (λ range. range.0 ≤ range.1) (holding_in names d).ranges
+content_rises names ids before d none = let content = option_or-none _ _ none in ranges_rise (list_of d field.Entries) (option_or-none _ _ (option_or-none _ _ content.1).1).0
+
+pub contents_rise : (names : List (List ℕ)) (ids : List ℕ) (contents : List Data) → each_content_fault names ids contents ≡ None → All (λ holding. All (λ range. range.0 ≤ range.1) holding.ranges) (map (holding_in names) contents)
+unfolding each_content_fault
+contents_rise names ids contents none = all_made (λ before d. content_fault names ids (pairs_in names before) d) (holding_in names) (λ holding. All (λ range. range.0 ≤ range.1) holding.ranges) (content_rises names ids) [] contents none
+
 -- what stands in a list is among its elements
 get_or-among : {A : Type 0} (eq : A → A → Bool) → ((x : A) → eq x x ≡ true) → (xs : List A) (k : ℕ) (d : A) → k < length xs → list_any (eq (get_or xs k d)) xs ≡ true
 get_or-among eq itself [] k d within = absurd (omega arith)
@@ -370,7 +387,7 @@ IsFaultless-none d none =
     }
 
 -- such parts within the limit of words are a well-formed cluster
-pub IsWellFormed-cluster_in : (d : Data) → IsFaultless d → words_in (cluster_in d) ≤ 2 ^ 22 → IsWellFormed (cluster_in d)
+pub IsWellFormed-cluster_in : (d : Data) → IsFaultless d → words_in_all (cluster_in d) ≤ 2 ^ 22 → IsWellFormed (cluster_in d)
 IsWellFormed-cluster_in d good words =
     let s = cluster_in d in
     let count : length (names_of d) ≡ length (list_of d field.Bookies) = length-map (list_of d field.Bookies) (λ d. text_of d field.Name) in
@@ -401,19 +418,19 @@ cluster_of-shown d names up grace ledgers holdings held shown is = λ i. record 
 }
 
 -- and take as many words
-pub words_in-shown : (d : Data) (names : List (List ℕ)) (up : Set numbers) (grace : ℕ) (ledgers lent : List Ledger) (held : model.Contents) (bookies words : ℕ) → cluster_of names up grace ledgers held ≡ cluster_in d → bookies ≡ length names → lent ≡ ledgers
-    → words ≡ bookies * sum_by (λ g. words_of held g.id) lent → words ≡ words_in (cluster_in d)
-words_in-shown d names up grace ledgers lent held bookies words whole count same is = is ∙ (λ i. count i * sum_by (λ g. words_of held g.id) (same i)) ∙ ap words_in whole
+pub words_in_all-shown : (d : Data) (names : List (List ℕ)) (up : Set numbers) (grace : ℕ) (ledgers lent : List Ledger) (held : model.Contents) (bookies words : ℕ) → cluster_of names up grace ledgers held ≡ cluster_in d → bookies ≡ length names → lent ≡ ledgers
+    → words ≡ bookies * sum_by (λ g. words_of held g.id) lent → words ≡ words_in_all (cluster_in d)
+words_in_all-shown d names up grace ledgers lent held bookies words whole count same is = is ∙ (λ i. count i * sum_by (λ g. words_of held g.id) (same i)) ∙ ap words_in_all whole
 
 -- the limit of words is judged last
-pub fields_fault-within : (d : Data) → parts_fault d ≡ None → words_in (cluster_in d) ≤ 2 ^ 22 → fields_fault d ≡ None
+pub fields_fault-within : (d : Data) → parts_fault d ≡ None → words_in_all (cluster_in d) ≤ 2 ^ 22 → fields_fault d ≡ None
 fields_fault-within d good within =
-    let test : nat_le (words_in (cluster_in d)) (2 ^ 22) ≡ true = grind (arith, nat_tests) in
-    ap (λ (o : Option PictureFault). option_or o (option_or (fault_unless (nat_le (words_in (cluster_in d)) (2 ^ 22)) (Limit field.Contents)) None)) good
+    let test : nat_le (words_in_all (cluster_in d)) (2 ^ 22) ≡ true = grind (arith, nat_tests) in
+    ap (λ (o : Option PictureFault). option_or o (option_or (fault_unless (nat_le (words_in_all (cluster_in d)) (2 ^ 22)) (Limit field.Contents)) None)) good
     ∙ ap (λ (t : Bool). option_or (fault_unless t (Limit field.Contents)) None) test
 
-pub fields_fault-past : (d : Data) → parts_fault d ≡ None → 2 ^ 22 < words_in (cluster_in d) → fields_fault d ≡ Some (Limit field.Contents)
+pub fields_fault-past : (d : Data) → parts_fault d ≡ None → 2 ^ 22 < words_in_all (cluster_in d) → fields_fault d ≡ Some (Limit field.Contents)
 fields_fault-past d good past =
-    let test : nat_le (words_in (cluster_in d)) (2 ^ 22) ≡ false = grind (arith, nat_tests) in
-    ap (λ (o : Option PictureFault). option_or o (option_or (fault_unless (nat_le (words_in (cluster_in d)) (2 ^ 22)) (Limit field.Contents)) None)) good
+    let test : nat_le (words_in_all (cluster_in d)) (2 ^ 22) ≡ false = grind (arith, nat_tests) in
+    ap (λ (o : Option PictureFault). option_or o (option_or (fault_unless (nat_le (words_in_all (cluster_in d)) (2 ^ 22)) (Limit field.Contents)) None)) good
     ∙ ap (λ (t : Bool). option_or (fault_unless t (Limit field.Contents)) None) test

@@ -1,5 +1,5 @@
 -- What the bookies of a picture hold.
-use Rattle.std.specs.Prelude.{ℕ, ◌+◌, Bool, not, ◌&&◌, nat_eq, nat_le, List, [], ◌∷◌, map, Option, None, Result}
+use Rattle.std.specs.Prelude.{◌≡◌, ℕ, ◌+◌, Bool, not, ◌&&◌, nat_eq, nat_le, List, [], ◌∷◌, map, Option, None, Result}
 use Rattle.std.specs.List.{list_any, flat_map, last_or}
 use Rattle.std.specs.Option.{ok_or, option_and_then, option_map, option_map_or}
 use Rattle.std.specs.Result.{result_err, result_unwrap_or}
@@ -106,3 +106,7 @@ copies_in holding = flat_map (copies_of holding.bookie holding.ledger) holding.r
 
 abbrev pub held_in : List Holding → model.Contents
 held_in holdings = set.from_list (flat_map copies_in holdings)
+
+-- these are the greatest entries of the ledgers that are held
+abbrev pub IsGreatest : (ℕ → Option ℕ) → model.Contents → Type 0
+IsGreatest ends contents = (ledger : ℕ) → ends ledger ≡ model.greatest_held contents ledger

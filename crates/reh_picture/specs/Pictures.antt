@@ -35,8 +35,8 @@ cluster_in d = record {
 }
 
 -- words of 64 entries that all bookies together take, each as many for a ledger as reach its greatest entry
-abbrev pub words_in : Cluster → ℕ
-words_in s = length s.names * sum_by (λ g. words_of s.held g.id) s.ledgers
+abbrev pub words_in_all : Cluster → ℕ
+words_in_all s = length s.names * sum_by (λ g. words_of s.held g.id) s.ledgers
 
 -- what is wrong before the lists
 unfoldable pub head_fault : Data → Option PictureFault
@@ -59,7 +59,7 @@ parts_fault d =
 
 -- at the end of all, the limit of words
 abbrev pub fields_fault : Data → Option PictureFault
-fields_fault d = first_fault (parts_fault d ∷ fault_unless (nat_le (words_in (cluster_in d)) (2 ^ 22)) (Limit field.Contents) ∷ [])
+fields_fault d = first_fault (parts_fault d ∷ fault_unless (nat_le (words_in_all (cluster_in d)) (2 ^ 22)) (Limit field.Contents) ∷ [])
 
 -- the cluster, unless there is a fault
 abbrev pub unless_fault : Option PictureFault → Cluster → Result Cluster PictureFault

@@ -1,12 +1,16 @@
 // What the bookies of a picture hold.
-ghost use Rattle.std.specs.Prelude.{◌≡◌, ◌≤◌, ◌<◌, ◌^◌, ◌+◌, [], ◌∷◌, ◌++◌, map, fold, IfOk, OnOk, All};
+ghost use Rattle.std.specs.Prelude.{◌≡◌, ◌≤◌, ◌<◌, ◌^◌, ◌+◌, [], ◌∷◌, ◌++◌, ℕ, Some, map, fold, max, cond, nat_eq, IfOk, OnOk, All};
+ghost use Rattle.std.specs.Option.{option_map_or};
+ghost use Rattle.std.specs.BTreeMap.{get};
+ghost use Rattle.std.specs.Ordering.{nat_cmp};
 ghost use Rattle.std.specs.Result.{result_err};
 ghost use Rattle.serde_json.specs.View.{view};
 ghost use Rattle.reh_types.specs.Sets as set;
 ghost use Rattle.reh_picture.specs.Faults.{FailsWith};
 ghost use Rattle.reh_picture.specs.Members.{number_of, list_of, text_of};
 ghost use Rattle.reh_picture.specs.Bookies.{bookie_in};
-ghost use Rattle.reh_picture.specs.Contents.{two_numbers as two_numbers_in, ends_in, ends_of, range_fault, ranges_fault, next_after, content_fault, each_content_fault, contents_fault, pair_fault, pair_of, holding_in, copies_of, copies_in, held_in};
+ghost use Rattle.reh_picture.specs.Contents.{two_numbers as two_numbers_in, ends_in, ends_of, range_fault, ranges_fault, next_after, content_fault, each_content_fault, contents_fault, pair_fault, pair_of, holding_in, copies_of, copies_in, held_in, IsGreatest};
+ghost use Rattle.reh_model.specs.Contents.{Contents};
 
 use crate::faults::{FaultName, LedgerFlaw, PictureFault, Repeated};
 use crate::fields::Field;
@@ -18,6 +22,7 @@ use reh_held::Held;
 use reh_types::{BookieIx, LedgerId};
 use serde_json::Value;
 use std::alloc::{AllocError, Global};
+use std::collections::BTreeMap;
 use std::marker::Model;
 
 /// The first and the last entry of a range, as the picture has them.
@@ -44,8 +49,8 @@ fn two_numbers(list: &[Value]) -> Option<(u64, u64)>
 /// A range of entries that begins at the least entry or after it.
 fn read_range(least: u64, range: &Value) -> Result<(u32, u32), PictureFault>
     ensures fault { result_err result ≡ range_fault least (view range.now) }
-    ensures ends { IfOk result (λ r. r ≡ ends_of (view range.now)) }
-    ensures limit { IfOk result (λ r. (r.0 ≤ r.1) × (r.1 < 2 ^ 16)) }
+    ensures ends { IfOk result (λ ends. ends ≡ ends_of (view range.now)) }
+    ensures limit { IfOk result (λ ends. (ends.0 ≤ ends.1) × (ends.1 < 2 ^ 16)) }
 {
     let (first, last) = read_ends(range)?;
     if first < least || last < first || last > MAX_ENTRY {
@@ -58,7 +63,7 @@ fn read_range(least: u64, range: &Value) -> Result<(u32, u32), PictureFault>
 #[tactic(auto, unfolding(crate::specs::Contents::ranges_fault))]
 fn read_ranges(alloc: Global, values: &[Value]) -> Result<Vec<(u32, u32)>, PictureFault>
     ensures fault { FailsWith result (ranges_fault (map view values.now)) }
-    ensures ranges { IfOk result (λ rs. rs.items ≡ map ends_of (map view values.now)) }
+    ensures ranges { IfOk result (λ ranges. ranges.items ≡ map ends_of (map view values.now)) }
 {
     let mut ranges = Vec::new(alloc);
     let mut least = 0;
@@ -96,7 +101,7 @@ fn read_pair(
     content: &Value,
 ) -> Result<(BookieIx, LedgerId), PictureFault>
     ensures fault { FailsWith result (pair_fault names.now ids.now.keys pairs.old.keys (view content.now)) }
-    ensures pair { IfOk result (λ p. p ≡ pair_of names.now (view content.now)) }
+    ensures pair { IfOk result (λ pair. pair ≡ pair_of names.now (view content.now)) }
     ensures pairs { OnOk result (pairs.new.keys ≡ pairs.old.keys ++ pair_of names.now (view content.now) ∷ []) }
 {
     if !content.is_object() {
@@ -147,7 +152,7 @@ pub(crate) fn read_contents(
 ) -> Result<Vec<Holding>, PictureFault>
     ensures fault { FailsWith result (contents_fault names.now ids.now.keys (view picture.now)) }
     ensures holdings { IfOk result
-        (λ hs. hs.items ≡ map (holding_in names.now) (list_of (view picture.now) Field.Contents)) }
+        (λ holdings. holdings.items ≡ map (holding_in names.now) (list_of (view picture.now) Field.Contents)) }
 {
     let contents = list(picture, Field::Contents)?;
     read_each_content(alloc, names, ids, contents)
@@ -162,7 +167,7 @@ fn read_each_content(
     values: &[Value],
 ) -> Result<Vec<Holding>, PictureFault>
     ensures fault { FailsWith result (each_content_fault names.now ids.now.keys (map view values.now)) }
-    ensures holdings { IfOk result (λ hs. hs.items ≡ map (holding_in names.now) (map view values.now)) }
+    ensures holdings { IfOk result (λ holdings. holdings.items ≡ map (holding_in names.now) (map view values.now)) }
 {
     let mut pairs = IndexSet::new(alloc);
     let mut holdings = Vec::new(alloc);
@@ -170,6 +175,47 @@ fn read_each_content(
         holdings.push(read_holding(alloc, names, ids, &mut pairs, value)?)?;
     }
     Ok(holdings)
+}
+
+/// The greatest entry of each ledger that is held, by the ends of the ranges alone.
+pub(crate) fn greatest_ends(
+    alloc: Global,
+    holdings: &[Holding],
+) -> Result<BTreeMap<LedgerId, u32>, AllocError>
+    requires { All (λ holding. All (λ range. range.0 ≤ range.1) holding.ranges) holdings.now }
+    ensures { IfOk result (λ ends. IsGreatest (get nat_cmp ends) (held_in holdings.now)) }
+{
+    let mut ends = BTreeMap::new(alloc);
+    for holding in holdings {
+        note_ends(&mut ends, holding)?;
+    }
+    Ok(ends)
+}
+
+/// Notes the ends of what one bookie holds of one ledger. After an `Err` some of them may be there.
+fn note_ends(ends: &mut BTreeMap<LedgerId, u32>, holding: &Holding) -> Result<(), AllocError>
+    requires { All (λ range. range.0 ≤ range.1) holding.now.ranges }
+    ensures { OnOk result ((contents : Contents) → IsGreatest (get nat_cmp ends.old) contents
+        → IsGreatest (get nat_cmp ends.new) (fold set.insert contents (copies_in holding.now))) }
+{
+    for range in &holding.ranges {
+        note_end(ends, holding.ledger, range.1)?;
+    }
+    Ok(())
+}
+
+/// Notes that this entry of the ledger is held.
+fn note_end(
+    ends: &mut BTreeMap<LedgerId, u32>,
+    ledger: LedgerId,
+    last: u32,
+) -> Result<(), AllocError>
+    ensures { OnOk result ((q : ℕ) → get nat_cmp ends.new q
+        ≡ cond (nat_eq ledger q) (Some (option_map_or (λ end. max end last) (get nat_cmp ends.old q) last)) (get nat_cmp ends.old q)) }
+{
+    let greatest = ends.get(&ledger).copied().map_or(last, |end| end.max(last));
+    ends.insert(ledger, greatest)?;
+    Ok(())
 }
 
 /// The contents that are these holdings.

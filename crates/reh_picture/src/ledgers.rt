@@ -69,7 +69,7 @@ fn read_ensemble(
 ) -> Result<Vec<BookieIx>, PictureFault>
     ensures fault { FailsWith result (members_fault names.now (map view members.now)) }
     ensures ensemble { IfOk result
-        (λ e. e.items ≡ map (λ member. bookie_in names.now (member_name member)) (map view members.now)) }
+        (λ ensemble. ensemble.items ≡ map (λ member. bookie_in names.now (member_name member)) (map view members.now)) }
 {
     let mut ensemble = Vec::new(alloc);
     for member in members {
@@ -104,8 +104,8 @@ fn read_fragments(
     values: &[Value],
 ) -> Result<Vec<Fragment>, PictureFault>
     ensures fault { FailsWith result (fragments_fault names.now (map view values.now)) }
-    ensures fragments { IfOk result (λ fs. fs.items ≡ map (fragment_in names.now) (map view values.now)) }
-    ensures firsts { IfOk result (λ fs. All (λ f. f.first < 2 ^ 16) fs.items) }
+    ensures fragments { IfOk result (λ fragments. fragments.items ≡ map (fragment_in names.now) (map view values.now)) }
+    ensures firsts { IfOk result (λ fragments. All (λ fragment. fragment.first < 2 ^ 16) fragments.items) }
 {
     let mut fragments = Vec::new(alloc);
     for value in values {

@@ -1,23 +1,24 @@
 // A picture as a whole.
-ghost use Rattle.std.specs.Prelude.{◌≡◌, ◌≢◌, ◌*◌, ◌^◌, ◌≤◌, length, sum_by, Ok, Err, Some, None, MatchResult, IfOk, IfErr};
+ghost use Rattle.std.specs.Prelude.{◌≡◌, ◌≢◌, ◌+◌, ◌*◌, ◌/◌, ◌^◌, ◌≤◌, All, length, sum_by, Ok, Err, Some, None, MatchResult, IfOk, IfErr};
+ghost use Rattle.std.specs.Option.{option_map_or};
 ghost use Rattle.std.specs.Result.{result_err};
 ghost use Rattle.serde_json.specs.View.{view};
 ghost use Rattle.reh_picture.specs.Members.{number_of};
 ghost use Rattle.reh_picture.specs.Faults.{FailsWith};
 ghost use Rattle.reh_model.specs.WellFormed.{words_of};
+ghost use Rattle.reh_picture.specs.Contents.{held_in};
 ghost use Rattle.reh_picture.specs.Pictures.{picture_of, head_fault, parts_fault, fields_fault, cluster_in, IsShown, json_of};
 
 use crate::bookies::read_bookies;
-use crate::contents::{Holding, hold, read_contents};
+use crate::contents::{Holding, greatest_ends, hold, read_contents};
 use crate::faults::PictureFault;
 use crate::fields::Field;
 use crate::ledgers::{Ledgers, read_ledgers};
 use crate::members::number_within;
 use reh_cluster::{Ledger, Names, State};
-use reh_held::Held;
-use reh_types::{BookieSet, LedgerId};
+use reh_types::BookieSet;
 use serde_json::Value;
-use std::alloc::Global;
+use std::alloc::{AllocError, Global};
 
 /// The number of the format.
 const FORMAT: u64 = 1;
@@ -74,32 +75,40 @@ fn read_cluster(alloc: Global, picture: &Value) -> Result<State, PictureFault>
         ledgers,
         holdings,
     } = read_parts(alloc, picture)?;
-    let held = hold(alloc, &holdings)?;
-    if words_in_all(names.len(), &ledgers, &held) > MAX_WORDS {
+    if words_in_all(alloc, names.len(), &ledgers, &holdings)? > MAX_WORDS {
         return Err(PictureFault::Limit(Field::Contents));
     }
+    let held = hold(alloc, &holdings)?;
     Ok(State::build(names, up, grace, ledgers, held))
 }
 
 /// How many words of 64 entries so many bookies take, each as many for a ledger as reach its greatest entry.
-fn words_in_all(bookies: usize, ledgers: &[Ledger], held: &Held) -> u64
+fn words_in_all(
+    alloc: Global,
+    bookies: usize,
+    ledgers: &[Ledger],
+    holdings: &[Holding],
+) -> Result<u64, AllocError>
     requires bookies { bookies ≤ 64 }
     requires ledgers { length ledgers.now ≤ 512 }
-    ensures { result ≡ bookies * sum_by (λ g. words_of held.now.contents g.id) ledgers.now }
+    requires ranges { All (λ holding. All (λ range. range.0 ≤ range.1) holding.ranges) holdings.now }
+    ensures { IfOk result
+        (λ words. words ≡ bookies * sum_by (λ g. words_of (held_in holdings.now) g.id) ledgers.now) }
 {
+    let ends = greatest_ends(alloc, holdings)?;
     let mut words = 0;
     for ledger in ledgers {
-        words += words_in(held, ledger.id());
+        words += words_to(ends.get(&ledger.id()).copied());
     }
-    bookies as u64 * words
+    Ok(bookies as u64 * words)
 }
 
-/// How many words of 64 entries reach the greatest entry that is held of a ledger.
-fn words_in(held: &Held, ledger: LedgerId) -> u64
-    ensures words { result ≡ words_of held.now.contents ledger }
+/// How many words of 64 entries reach the greatest entry, if there is one.
+fn words_to(greatest: Option<u32>) -> u64
+    ensures words { result ≡ option_map_or (λ greatest. greatest / 64 + 1) greatest 0 }
     ensures small { result ≤ 2 ^ 26 }
 {
-    match held.greatest(ledger) {
+    match greatest {
         Some(greatest) => greatest as u64 / 64 + 1,
         None => 0,
     }
