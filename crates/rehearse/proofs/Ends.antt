@@ -40,6 +40,13 @@ too_long_ends input picture script state m old new first rest read begun long wr
       subst (λ (o : Outcome). Appends old new o.text) same (subst (λ (m : Session). Appends old new (transcript m 1 (answered_lines script))) begun written),
     )
 
+-- a picture that is read and some first part of the answers
+pub part_ends : (input picture script : List ℕ) (state : Cluster) (m : Session) (old new : Option (List ℕ)) → picture ≡ (cut_of input).picture → script ≡ (cut_of input).script → picture_of picture ≡ Ok state → m ≡ opened state
+    → WritesPart (transcript m 1 (answered_lines script)) old new → WritesPart (outcome_of input).text old new
+part_ends input picture script state m old new first rest read begun written =
+    let same : outcome_by (Ok state) script ≡ outcome_of input = sym (ap (λ (r : Result Cluster PictureFault). outcome_by r script) read) ∙ (λ i. outcome_by (picture_of (first i)) (rest i)) in
+    subst (λ (o : Outcome). WritesPart o.text old new) same (subst (λ (m : Session). WritesPart (transcript m 1 (answered_lines script)) old new) begun written)
+
 -- What holds of the outcome of what was read holds of the outcome of all.
 pub all_ends : (remaining : Option (List ℕ)) (input : List ℕ) (P : Outcome → Type 0) → IfSome remaining (λ all. ReadsEnough input all) → P (outcome_of input) → IfSome remaining (λ all. P (outcome_of all))
 all_ends None input P enough holds = tt

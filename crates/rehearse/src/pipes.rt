@@ -2,6 +2,7 @@
 ghost use Rattle.std.specs.Prelude.{◌≡◌, ◌≢◌, false, true, IfOk, OnOk, IfSome, None, Some, Err};
 ghost use Rattle.std.specs.Io.KnownBytes.{Appends, Keeps};
 ghost use Rattle.reh_picture.specs.declared.faults.PictureFault.{PictureFault};
+ghost use Rattle.rehearse.specs.Faults.{end_after_flush};
 ghost use Rattle.rehearse.specs.Outcomes.{outcome_of, ReadsEnough};
 ghost use Rattle.rehearse.specs.Parts.{WritesPart};
 
@@ -45,6 +46,19 @@ pub fn pipe<R: TextIn, W: TextOut>(
 {
     let input = read_all(alloc, reader)?;
     transcribe(alloc, &input, writer)
+}
+
+/// How a run ends once its answers were flushed: where a flush failed, answers were lost.
+pub fn after_flush(
+    played: Result<(), RunFault>,
+    flushed: Result<(), StreamFault>,
+) -> Result<(), RunFault>
+    ensures { result ≡ end_after_flush played flushed }
+{
+    match (played, flushed) {
+        (Ok(()) | Err(RunFault::TooLong), Err(StreamFault)) => Err(RunFault::WriteFault),
+        (played, _) => played,
+    }
 }
 
 /// Reads all that there is, or at least `MAX_INPUT` bytes of it.
