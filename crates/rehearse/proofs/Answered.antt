@@ -1,6 +1,6 @@
 -- Which lines of a script are answered.
 use Rattle.std.proofs.Common.{◌≡◌, ℕ, suc, ◌+◌, ◌<◌, ◌≤◌, Bool, true, false, cond, List, [], ◌∷◌, length, take, refl, sym, ap, ◌∙◌, arith}
-use Rattle.std.specs.Prelude.{◌==◌, count_by, Result, Ok, Err, OnOk}
+use Rattle.std.specs.Prelude.{◌==◌, count_by, Result, Ok, Err, OnOk, IsErrAnd}
 use Rattle.std.specs.List.{onto_first}
 use Rattle.std.proofs.lemmas.Bool.Decides.{nat_tests}
 use Rattle.std.proofs.lemmas.List.{take_all}
@@ -50,3 +50,8 @@ take-ended_lines script front count long is counted =
 pub OnOk-both : {A E : Type 0} (r : Result A E) (P Q : Type 0) → P → OnOk r Q → OnOk r (P × Q)
 OnOk-both (Ok x) P Q p q = (p, q)
 OnOk-both (Err e) P Q p q = q
+
+-- the error of a call that is handed on
+pub same_err : {A E : Type 0} (r : Result A E) (p e : E) → IsErrAnd r (λ x. x ≡ p) → r ≡ Err e → p ≡ e
+same_err (Ok x) p e is same = absurd is
+same_err (Err x) p e is same = cc

@@ -1,5 +1,5 @@
 -- How a run ends.
-use Rattle.std.proofs.Common.{◌≡◌, ℕ, Bool, true, false, cond, List, [], ◌++◌, Option, None, Some, Result, Ok, Err, IfSome, refl, sym, ap, ◌∙◌, subst, if◌then◌else◌, append-nil}
+use Rattle.std.proofs.Common.{◌≡◌, ℕ, Bool, true, false, cond, List, [], ◌++◌, take, Option, None, Some, Result, Ok, Err, IfSome, refl, sym, ap, ◌∙◌, subst, if◌then◌else◌, append-nil}
 use Rattle.std.specs.Prelude.{IsErrAnd, OnOk}
 use Rattle.std.specs.Io.KnownBytes.{Appends, Keeps}
 use Rattle.reh_model.specs.Cluster.{Cluster}
@@ -11,8 +11,9 @@ use Rattle.reh_picture.specs.Pictures.{picture_of}
 use Rattle.rehearse.specs.declared.plays.PlayFault.{PlayFault}
 use Rattle.rehearse.specs.declared.plays.PlayFault.TheVariants as play
 use Rattle.rehearse.specs.declared.faults.RunFault.{RunFault}
-use Rattle.rehearse.specs.declared.faults.RunFault.TheVariants.{Picture, TooLong}
+use Rattle.rehearse.specs.declared.faults.RunFault.TheVariants.{Picture, TooLong, NoMemory}
 use Rattle.rehearse.specs.Faults.{run_fault_of}
+use Rattle.rehearse.specs.Answers.{WritesAnswers}
 use Rattle.rehearse.specs.Outcomes.{Outcome, outcome_by, outcome_of, ReadsEnough}
 use Rattle.rehearse.specs.Parts.{WritesPart}
 use Rattle.rehearse.proofs.Enough.{outcome-enough}
@@ -31,6 +32,13 @@ play_too_long (Err e) play.TooLong is same = refl
 play_too_long (Err e) play.WriteFault is same = cc
 play_too_long (Err e) play.NoMemory is same = cc
 
+-- or that there is no memory
+pub play_no_memory : {A : Type 0} (r : Result A RunFault) (p : PlayFault) → IsErrAnd r (λ e. e ≡ run_fault_of p) → r ≡ Err NoMemory → p ≡ play.NoMemory
+play_no_memory (Ok x) p is same = absurd is
+play_no_memory (Err e) play.TooLong is same = cc
+play_no_memory (Err e) play.WriteFault is same = cc
+play_no_memory (Err e) play.NoMemory is same = refl
+
 -- a picture that is read and a script that is too long
 pub too_long_ends : (input picture script : List ℕ) (state : Cluster) (m : Session) (old new : Option (List ℕ)) → picture ≡ (cut_of input).picture → script ≡ (cut_of input).script → picture_of picture ≡ Ok state → m ≡ opened state
     → is_script script ≡ false → Appends old new (transcript m 1 (answered_lines script)) → ((outcome_of input).fault ≡ Some TooLong) × Appends old new (outcome_of input).text
@@ -39,6 +47,36 @@ too_long_ends input picture script state m old new first rest read begun long wr
       sym (ap (λ (o : Outcome). o.fault) same) ∙ ap (λ (t : Bool). if t then None else Some TooLong) long,
       subst (λ (o : Outcome). Appends old new o.text) same (subst (λ (m : Session). Appends old new (transcript m 1 (answered_lines script))) begun written),
     )
+
+-- a picture that is read and some first part of the answers
+pub part_ends : (input picture script : List ℕ) (state : Cluster) (m : Session) (old new : Option (List ℕ)) → picture ≡ (cut_of input).picture → script ≡ (cut_of input).script → picture_of picture ≡ Ok state → m ≡ opened state
+    → WritesPart (transcript m 1 (answered_lines script)) old new → WritesPart (outcome_of input).text old new
+part_ends input picture script state m old new first rest read begun written =
+    let same : outcome_by (Ok state) script ≡ outcome_of input = sym (ap (λ (r : Result Cluster PictureFault). outcome_by r script) read) ∙ (λ i. outcome_by (picture_of (first i)) (rest i)) in
+    subst (λ (o : Outcome). WritesPart o.text old new) same (subst (λ (m : Session). WritesPart (transcript m 1 (answered_lines script)) old new) begun written)
+
+-- a picture that is read and the answers to some first lines
+pub no_memory_ends : (input picture script : List ℕ) (state : Cluster) (m : Session) (old new : Option (List ℕ)) → picture ≡ (cut_of input).picture → script ≡ (cut_of input).script → picture_of picture ≡ Ok state → m ≡ opened state
+    → WritesAnswers (λ count. transcript m 1 (take count (answered_lines script))) old new → WritesAnswers (outcome_of input).answers old new
+no_memory_ends input picture script state m old new first rest read begun written =
+    let same : outcome_by (Ok state) script ≡ outcome_of input = sym (ap (λ (r : Result Cluster PictureFault). outcome_by r script) read) ∙ (λ i. outcome_by (picture_of (first i)) (rest i)) in
+    subst (λ (o : Outcome). WritesAnswers o.answers old new) same (subst (λ (m : Session). WritesAnswers (λ count. transcript m 1 (take count (answered_lines script))) old new) begun written)
+
+no_answers : (r : Result Cluster PictureFault) (script : List ℕ) → [] ≡ (outcome_by r script).answers 0
+no_answers (Ok state) script = refl
+no_answers (Err fault) script = refl
+
+Appends-none : (old : Option (List ℕ)) → Appends old old []
+Appends-none None = tt
+Appends-none (Some xs) = sym (append-nil xs)
+
+-- where nothing was written
+pub nothing_ends : (input : List ℕ) (old : Option (List ℕ)) → WritesAnswers (outcome_of input).answers old old
+nothing_ends input old = (0, subst (λ (t : List ℕ). Appends old old t) (no_answers (picture_of (cut_of input).picture) (cut_of input).script) (Appends-none old))
+
+pub nothing_ends_all : (remaining : Option (List ℕ)) (old : Option (List ℕ)) → IfSome remaining (λ input. WritesAnswers (outcome_of input).answers old old)
+nothing_ends_all None old = tt
+nothing_ends_all (Some all) old = nothing_ends all old
 
 -- What holds of the outcome of what was read holds of the outcome of all.
 pub all_ends : (remaining : Option (List ℕ)) (input : List ℕ) (P : Outcome → Type 0) → IfSome remaining (λ all. ReadsEnough input all) → P (outcome_of input) → IfSome remaining (λ all. P (outcome_of all))

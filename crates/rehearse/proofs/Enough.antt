@@ -40,8 +40,8 @@ outcome-long_script : (r : Result Cluster PictureFault) (script more : List ℕ)
 outcome-long_script (Err fault) script more long = refl
 outcome-long_script (Ok state) script more long =
     let longer : 1_048_576 < length (script ++ more) = omega (arith, length-append script more) in
-    ap (λ (lines : List (List ℕ)). record { text = transcript (opened state) 1 lines; fault = if is_script script then None else Some run_fault.TooLong }) (sym (answered_lines-append script more long))
-    ∙ ap (λ (t : Bool). record { text = transcript (opened state) 1 (answered_lines (script ++ more)); fault = if t then None else Some run_fault.TooLong }) (not_script script long ∙ sym (not_script (script ++ more) longer))
+    ap (λ (lines : List (List ℕ)). record { text = transcript (opened state) 1 lines; answers = λ count. transcript (opened state) 1 (take count lines); fault = if is_script script then None else Some run_fault.TooLong }) (sym (answered_lines-append script more long))
+    ∙ ap (λ (t : Bool). record { text = transcript (opened state) 1 (answered_lines (script ++ more)); answers = λ count. transcript (opened state) 1 (take count (answered_lines (script ++ more))); fault = if t then None else Some run_fault.TooLong }) (not_script script long ∙ sym (not_script (script ++ more) longer))
 
 -- an input that was read far enough has the outcome of all
 pub outcome-enough : (input all : List ℕ) → ReadsEnough input all → outcome_of input ≡ outcome_of all

@@ -3,6 +3,7 @@ pub mod LinesLemmas
 pub mod Reports
 pub mod Cuts
 pub mod Writing
+pub mod Reached
 pub mod Answered
 pub mod Enough
 pub mod Reading

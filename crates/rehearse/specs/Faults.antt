@@ -1,12 +1,20 @@
 -- The statuses and texts of faults.
-use Rattle.std.specs.Prelude.{ℕ, List, ◌++◌, codes}
+use Rattle.std.specs.Prelude.{ℕ, List, ◌++◌, Result, Ok, Err, codes}
 use Rattle.reh_picture.specs.Faults.{fault_text}
 use Rattle.reh_picture.specs.declared.faults.PictureFault.{PictureFault}
 use Rattle.reh_picture.specs.declared.faults.PictureFault.TheVariants as picture_fault
 use Rattle.rehearse.specs.declared.plays.PlayFault.{PlayFault}
 use Rattle.rehearse.specs.declared.plays.PlayFault.TheVariants as play_fault
 use Rattle.rehearse.specs.declared.faults.RunFault.{RunFault}
+use Rattle.rehearse.specs.declared.streams.StreamFault.{StreamFault}
 use Rattle.rehearse.specs.declared.faults.RunFault.TheVariants.{Picture, ReadFault, TooLong, WriteFault, NoMemory}
+
+-- how a run ends once its answers were flushed: a failed flush is a write fault where answers were lost, and any other fault stays
+abbrev pub end_after_flush : Result (Unit {0}) RunFault → Result (Unit {0}) StreamFault → Result (Unit {0}) RunFault
+end_after_flush played (Ok flushed) = played
+end_after_flush (Ok played) (Err lost) = Err WriteFault
+end_after_flush (Err TooLong) (Err lost) = Err WriteFault
+end_after_flush (Err fault) (Err lost) = Err fault
 
 -- the exit status of a run that ends so
 abbrev pub status_number : RunFault → ℕ

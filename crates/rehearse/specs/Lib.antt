@@ -2,3 +2,4 @@ pub mod Reports
 pub mod Parts
 pub mod Faults
 pub mod Outcomes
+pub mod Answers

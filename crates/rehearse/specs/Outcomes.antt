@@ -1,5 +1,5 @@
 -- What becomes of an input.
-use Rattle.std.specs.Prelude.{◌≡◌, ℕ, ◌<◌, List, [], ◌++◌, length, Option, None, Some, Result, Ok, Err, if◌then◌else◌}
+use Rattle.std.specs.Prelude.{◌≡◌, ℕ, ◌<◌, List, [], ◌++◌, length, take, Option, None, Some, Result, Ok, Err, if◌then◌else◌}
 use Rattle.reh_model.specs.Cluster.{Cluster}
 use Rattle.reh_model.specs.Session.{opened}
 use Rattle.reh_model.specs.Lines.{cut_of, is_script, answered_lines}
@@ -9,15 +9,16 @@ use Rattle.reh_picture.specs.Pictures.{picture_of}
 use Rattle.rehearse.specs.declared.faults.RunFault.{RunFault}
 use Rattle.rehearse.specs.declared.faults.RunFault.TheVariants.{Picture, TooLong}
 
--- the text that is written, and the fault that ends the run, if there is one
+-- the text that is written, the answers to its first lines, so many, and the fault that ends the run, if there is one
 pub record Outcome : Type 0 where
   pub text : List ℕ
+  pub answers : ℕ → List ℕ
   pub fault : Option RunFault
 
 -- of a picture that is read, the answers to the script's lines; of one that is refused, nothing
 abbrev pub outcome_by : Result Cluster PictureFault → List ℕ → Outcome
-outcome_by (Ok state) script = record { text = transcript (opened state) 1 (answered_lines script); fault = if is_script script then None else Some TooLong }
-outcome_by (Err fault) script = record { text = []; fault = Some (Picture fault) }
+outcome_by (Ok state) script = record { text = transcript (opened state) 1 (answered_lines script); answers = λ count. transcript (opened state) 1 (take count (answered_lines script)); fault = if is_script script then None else Some TooLong }
+outcome_by (Err fault) script = record { text = []; answers = λ count. []; fault = Some (Picture fault) }
 
 abbrev pub outcome_of : List ℕ → Outcome
 outcome_of input = outcome_by (picture_of (cut_of input).picture) (cut_of input).script

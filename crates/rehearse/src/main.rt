@@ -12,7 +12,7 @@ mod tests;
 mod texts;
 
 use faults::{RunFault, status_of};
-use pipes::pipe;
+use pipes::{after_flush, pipe};
 use std::io;
 use std::io::BufWriter;
 use std::process::ExitCode;
@@ -35,6 +35,5 @@ fn run(rt: &HostRuntime) -> Result<(), RunFault> {
     let mut writer = ToWrite::new(buffer);
     let played = pipe(rt.alloc(), &mut reader, &mut writer);
     let flushed = writer.flush();
-    played?;
-    flushed.map_err(|_| RunFault::WriteFault)
+    after_flush(played, flushed)
 }

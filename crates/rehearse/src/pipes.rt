@@ -2,6 +2,8 @@
 ghost use Rattle.std.specs.Prelude.{◌≡◌, ◌≢◌, false, true, IfOk, OnOk, IfSome, None, Some, Err};
 ghost use Rattle.std.specs.Io.KnownBytes.{Appends, Keeps};
 ghost use Rattle.reh_picture.specs.declared.faults.PictureFault.{PictureFault};
+ghost use Rattle.rehearse.specs.Answers.{WritesAnswers};
+ghost use Rattle.rehearse.specs.Faults.{end_after_flush};
 ghost use Rattle.rehearse.specs.Outcomes.{outcome_of, ReadsEnough};
 ghost use Rattle.rehearse.specs.Parts.{WritesPart};
 
@@ -38,6 +40,7 @@ pub fn pipe<R: TextIn, W: TextOut>(
     // Other faults are those of the streams, and want of memory.
     ensures read { result ≡ Err RunFault.ReadFault → (R.has_failed reader.new ≡ true) × Keeps (W.contents writer.old) (W.contents writer.new) }
     ensures write { result ≡ Err RunFault.WriteFault → W.has_failed writer.new ≡ true }
+    ensures no_memory { result ≡ Err RunFault.NoMemory → IfSome (R.remaining reader.old) (λ input. WritesAnswers (outcome_of input).answers (W.contents writer.old) (W.contents writer.new)) }
     ensures streams { OnOk result ((R.has_failed reader.new ≡ false) × (W.has_failed writer.new ≡ false)) }
 
     // However it ends, nothing else is written.
@@ -45,6 +48,19 @@ pub fn pipe<R: TextIn, W: TextOut>(
 {
     let input = read_all(alloc, reader)?;
     transcribe(alloc, &input, writer)
+}
+
+/// How a run ends once its answers were flushed: where a flush failed, answers were lost.
+pub fn after_flush(
+    played: Result<(), RunFault>,
+    flushed: Result<(), StreamFault>,
+) -> Result<(), RunFault>
+    ensures { result ≡ end_after_flush played flushed }
+{
+    match (played, flushed) {
+        (Ok(()) | Err(RunFault::TooLong), Err(StreamFault)) => Err(RunFault::WriteFault),
+        (played, _) => played,
+    }
 }
 
 /// Reads all that there is, or at least `MAX_INPUT` bytes of it.
@@ -82,6 +98,7 @@ fn transcribe<W: TextOut>(alloc: Global, input: &[u8], writer: &mut W) -> Result
         ((outcome_of input.now).fault ≡ Some RunFault.TooLong) × Appends (W.contents writer.old) (W.contents writer.new) (outcome_of input.now).text }
     ensures read { result ≢ Err RunFault.ReadFault }
     ensures write { result ≡ Err RunFault.WriteFault → W.has_failed writer.new ≡ true }
+    ensures no_memory { result ≡ Err RunFault.NoMemory → WritesAnswers (outcome_of input.now).answers (W.contents writer.old) (W.contents writer.new) }
     ensures fine { OnOk result (W.has_failed writer.new ≡ false) }
     ensures part { WritesPart (outcome_of input.now).text (W.contents writer.old) (W.contents writer.new) }
 {

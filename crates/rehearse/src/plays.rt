@@ -1,10 +1,11 @@
 // Answering the lines of a script.
-ghost use Rattle.std.specs.Prelude.{◌≡◌, ◌≢◌, false, true, take, IfOk, IfErr, OnOk, OnErr, Err, string_bytes};
+ghost use Rattle.std.specs.Prelude.{◌≡◌, ◌≢◌, ◌⊎◌, false, true, take, IfOk, IfErr, OnOk, OnErr, Err, string_bytes};
 ghost use Rattle.std.specs.Io.KnownBytes.{Appends};
 ghost use Rattle.reh_model.specs.Lines.{lines_of, is_script, answered_lines};
 ghost use Rattle.reh_model.specs.Session.{state_of};
 ghost use Rattle.reh_model.specs.Texts.{report_of};
 ghost use Rattle.reh_model.specs.Transcript.{transcript, line_answer, after_command, asked};
+ghost use Rattle.rehearse.specs.Answers.{after_lines, LeadsTo, WritesAnswers};
 ghost use Rattle.rehearse.specs.Parts.{WritesPart};
 
 use crate::inputs::{count_lf, first_line, front};
@@ -55,6 +56,15 @@ pub fn play<W: TextOut>(
     ensures write { result ≡ Err PlayFault.WriteFault → W.has_failed writer.new ≡ true }
     ensures fine { OnOk result (W.has_failed writer.new ≡ false) }
     ensures part { WritesPart (transcript session.old 1 (answered_lines script.now)) (W.contents writer.old) (W.contents writer.new) }
+
+    // Without memory no answer is cut off.
+    ensures no_memory { result ≡ Err PlayFault.NoMemory →
+        WritesAnswers (λ count. transcript session.old 1 (take count (answered_lines script.now))) (W.contents writer.old) (W.contents writer.new) }
+
+    // The session afterwards: after all the lines that are answered, or after some first ones where the play ends at a line.
+    ensures after { OnOk result (session.new ≡ after_lines session.old (answered_lines script.now)) }
+    ensures after_too_long { result ≡ Err PlayFault.TooLong → session.new ≡ after_lines session.old (answered_lines script.now) }
+    ensures leads { LeadsTo session.old (answered_lines script.now) session.new }
 {
     if script.len() <= MAX_SCRIPT {
         return answer_lines(alloc, session, script, script.len(), writer);
@@ -78,6 +88,10 @@ fn answer_lines<W: TextOut>(
     ensures write { result ≡ Err PlayFault.WriteFault → W.has_failed writer.new ≡ true }
     ensures fine { OnOk result (W.has_failed writer.new ≡ false) }
     ensures part { WritesPart (transcript session.old 1 (take lines (lines_of text.now))) (W.contents writer.old) (W.contents writer.new) }
+    ensures no_memory { result ≡ Err PlayFault.NoMemory →
+        WritesAnswers (λ count. transcript session.old 1 (take count (take lines (lines_of text.now)))) (W.contents writer.old) (W.contents writer.new) }
+    ensures after { OnOk result (session.new ≡ after_lines session.old (take lines (lines_of text.now))) }
+    ensures leads { LeadsTo session.old (take lines (lines_of text.now)) session.new }
 {
     let mut rest = text;
     let mut number = 0;
@@ -102,6 +116,7 @@ fn answer(
 ) -> Result<String, PlayFault>
     ensures text { IfOk result (λ text. string_bytes text ≡ line_answer session.old number line.now) }
     ensures after { OnOk result (session.new ≡ after_command session.old (asked session.old line.now)) }
+    ensures left { (session.new ≡ session.old) ⊎ (session.new ≡ after_command session.old (asked session.old line.now)) }
     ensures fault { IfErr result (λ fault. fault ≡ PlayFault.NoMemory) }
 {
     match command(session, line) {

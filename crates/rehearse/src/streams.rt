@@ -95,9 +95,14 @@ impl<W: Write> ToWrite<W> {
 
     /// Hands on what the writer keeps back.
     pub fn flush(&mut self) -> Result<(), StreamFault>
-        ensures { Keeps (W.contents self.old.inner) (W.contents self.new.inner) }
+        ensures bytes { Keeps (W.contents self.old.inner) (W.contents self.new.inner) }
+        ensures failed { self.new.has_failed ≡ (self.old.has_failed || is_err result) }
     {
-        self.inner.flush().map_err(|_| StreamFault)
+        if self.inner.flush().is_err() {
+            self.has_failed = true;
+            return Err(StreamFault);
+        }
+        Ok(())
     }
 }
 

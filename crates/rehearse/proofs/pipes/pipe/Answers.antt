@@ -2,8 +2,9 @@ use Rattle.std.proofs.Common.{◌≡◌, None, Some}
 use Rattle.std.specs.Io.KnownBytes.{Appends, Keeps}
 use Rattle.rehearse.specs.declared.faults.RunFault.TheVariants.{Picture, TooLong}
 use Rattle.rehearse.specs.Outcomes.{Outcome}
+use Rattle.rehearse.specs.Answers.{WritesAnswers}
 use Rattle.rehearse.specs.Parts.{WritesPart}
-use Rattle.rehearse.proofs.Ends.{all_ends, all_ends_ok}
+use Rattle.rehearse.proofs.Ends.{all_ends, all_ends_ok, nothing_ends_all}
 use Rattle.rehearse.proofs.pipes.pipe.Goals as goal
 
 pub returns-clause-ok : goal.returns-clause-ok
@@ -29,3 +30,12 @@ returns-clause-part g c =
     all_ends _ _
     (λ (o : Outcome). WritesPart o.text (g.W.TextOut.contents c.args.writer.now) (g.W.TextOut.contents c.transcribe.new.writer))
     c.in_ok-input.ensures.input (rw c.deref.ensures.value at c.transcribe.ensures.part)
+
+pub returns-clause-no_memory : goal.returns-clause-no_memory
+returns-clause-no_memory g c = λ same.
+    all_ends _ _
+    (λ (o : Outcome). WritesAnswers o.answers (g.W.TextOut.contents c.args.writer.now) (g.W.TextOut.contents c.transcribe.new.writer))
+    c.in_ok-input.ensures.input ((rw c.deref.ensures.value at c.transcribe.ensures.no_memory) same)
+
+pub returns-in_err-input-clause-no_memory : goal.returns-in_err-input-clause-no_memory
+returns-in_err-input-clause-no_memory g c = λ _. nothing_ends_all _ _

@@ -1,6 +1,6 @@
 use Rattle.std.proofs.Common.{ap, Err}
 use Rattle.rehearse.specs.declared.plays.PlayFault.{PlayFault}
-use Rattle.rehearse.proofs.Ends.{play_not_picture, play_too_long, too_long_ends}
+use Rattle.rehearse.proofs.Ends.{play_not_picture, play_too_long, play_no_memory, too_long_ends, part_ends, no_memory_ends, nothing_ends}
 use Rattle.rehearse.proofs.pipes.transcribe.Goals as goal
 
 pub returns-in_err-play-clause-picture : goal.returns-in_err-play-clause-picture
@@ -10,3 +10,18 @@ pub returns-in_err-play-clause-too_long : goal.returns-in_err-play-clause-too_lo
 returns-in_err-play-clause-too_long g c = λ same.
     let ended = c.in_err-play.ensures.too_long (ap (λ (p : PlayFault). Err p) (play_too_long _ c.in_err-play.field-0.0 c.from_residual-in_err-play.ensures.1 same)) in
     too_long_ends c.args.input.now _ _ _ _ _ _ c.split_input.ensures.picture c.split_input.ensures.script c.in_ok-state.ensures c.in_ok-session.ensures ended.0 ended.1
+
+pub returns-clause-part : goal.returns-clause-part
+returns-clause-part g c =
+    part_ends c.args.input.now _ _ _ _ _ _ c.split_input.ensures.picture c.split_input.ensures.script c.in_ok-state.ensures c.in_ok-session.ensures c.play.ensures.part
+
+pub returns-in_err-play-clause-no_memory : goal.returns-in_err-play-clause-no_memory
+returns-in_err-play-clause-no_memory g c = λ same.
+    no_memory_ends c.args.input.now _ _ _ _ _ _ c.split_input.ensures.picture c.split_input.ensures.script c.in_ok-state.ensures c.in_ok-session.ensures
+    (c.in_err-play.ensures.no_memory (ap (λ (p : PlayFault). Err p) (play_no_memory _ c.in_err-play.field-0.0 c.from_residual-in_err-play.ensures.1 same)))
+
+pub returns-in_err-state-clause-no_memory : goal.returns-in_err-state-clause-no_memory
+returns-in_err-state-clause-no_memory g c = λ _. nothing_ends c.args.input.now _
+
+pub returns-in_err-session-clause-no_memory : goal.returns-in_err-session-clause-no_memory
+returns-in_err-session-clause-no_memory g c = λ _. nothing_ends c.args.input.now _

@@ -1,10 +1,14 @@
-use Rattle.std.proofs.Common.{◌≡◌, ◌<◌, ◌≤◌, List, ℕ, length, subst, take, arith}
+use Rattle.std.proofs.Common.{◌≡◌, ◌<◌, ◌≤◌, List, ℕ, length, subst, take, ap, arith}
 use Rattle.std.specs.Io.KnownBytes.{Appends}
-use Rattle.std.specs.Prelude.{OnOk}
+use Rattle.std.specs.Prelude.{OnOk, Err}
+use Rattle.reh_model.specs.Session.{Session}
 use Rattle.reh_model.specs.Lines.{lines_of, answered_lines}
 use Rattle.reh_model.specs.Transcript.{transcript}
+use Rattle.rehearse.specs.declared.plays.PlayFault.{PlayFault}
+use Rattle.rehearse.specs.declared.plays.PlayFault.TheVariants.{NoMemory}
+use Rattle.rehearse.specs.Answers.{after_lines, LeadsTo, WritesAnswers}
 use Rattle.rehearse.specs.Parts.{WritesPart}
-use Rattle.rehearse.proofs.Answered.{is_script-within, not_script, take-answered_lines, take-ended_lines, OnOk-both}
+use Rattle.rehearse.proofs.Answered.{is_script-within, not_script, take-answered_lines, take-ended_lines, OnOk-both, same_err}
 use Rattle.rehearse.proofs.plays.play.Goals as goal
 
 pub returns-then-script-le-MAX_SCRIPT-clause-ok : goal.returns-then-script-le-MAX_SCRIPT-clause-ok
@@ -40,3 +44,46 @@ returns-clause-part g c =
     let long : 1_048_576 < length c.args.script.now = omega arith in
     subst (λ (lines : List (List ℕ)). WritesPart (transcript c.args.session.now 1 lines) (g.W.TextOut.contents c.args.writer.now) (g.W.TextOut.contents c.answer_lines-2.new.writer))
     (take-ended_lines c.args.script.now c.front-script.result.now c.count_lf.result long c.front-script.ensures c.count_lf.ensures) c.answer_lines-2.ensures.part
+
+pub returns-then-script-le-MAX_SCRIPT-clause-no_memory : goal.returns-then-script-le-MAX_SCRIPT-clause-no_memory
+returns-then-script-le-MAX_SCRIPT-clause-no_memory g c =
+    let within : length c.args.script.now ≤ 1_048_576 = omega arith in
+    subst (λ (lines : List (List ℕ)). c.answer_lines.result ≡ Err NoMemory → WritesAnswers (λ count. transcript c.args.session.now 1 (take count lines)) (g.W.TextOut.contents c.args.writer.now) (g.W.TextOut.contents c.answer_lines.new.writer))
+    (take-answered_lines c.args.script.now within) c.answer_lines.ensures.no_memory
+
+pub returns-then-script-le-MAX_SCRIPT-clause-after : goal.returns-then-script-le-MAX_SCRIPT-clause-after
+returns-then-script-le-MAX_SCRIPT-clause-after g c =
+    let within : length c.args.script.now ≤ 1_048_576 = omega arith in
+    subst (λ (lines : List (List ℕ)). OnOk c.answer_lines.result (c.answer_lines.new.session ≡ after_lines c.args.session.now lines))
+    (take-answered_lines c.args.script.now within) c.answer_lines.ensures.after
+
+pub returns-then-script-le-MAX_SCRIPT-clause-leads : goal.returns-then-script-le-MAX_SCRIPT-clause-leads
+returns-then-script-le-MAX_SCRIPT-clause-leads g c =
+    let within : length c.args.script.now ≤ 1_048_576 = omega arith in
+    subst (λ (lines : List (List ℕ)). LeadsTo c.args.session.now lines c.answer_lines.new.session)
+    (take-answered_lines c.args.script.now within) c.answer_lines.ensures.leads
+
+pub returns-in_err-answer_lines-clause-no_memory : goal.returns-in_err-answer_lines-clause-no_memory
+returns-in_err-answer_lines-clause-no_memory g c =
+    let long : 1_048_576 < length c.args.script.now = omega arith in
+    λ same. subst (λ (lines : List (List ℕ)). WritesAnswers (λ count. transcript c.args.session.now 1 (take count lines)) (g.W.TextOut.contents c.args.writer.now) (g.W.TextOut.contents c.answer_lines-2.new.writer))
+    (take-ended_lines c.args.script.now c.front-script.result.now c.count_lf.result long c.front-script.ensures c.count_lf.ensures)
+    (c.in_err-answer_lines.ensures.no_memory (ap (λ (fault : PlayFault). Err fault) (same_err _ c.in_err-answer_lines.field-0.0 _ c.from_residual.ensures.1 same)))
+
+pub returns-in_err-answer_lines-clause-leads : goal.returns-in_err-answer_lines-clause-leads
+returns-in_err-answer_lines-clause-leads g c =
+    let long : 1_048_576 < length c.args.script.now = omega arith in
+    subst (λ (lines : List (List ℕ)). LeadsTo c.args.session.now lines c.answer_lines-2.new.session)
+    (take-ended_lines c.args.script.now c.front-script.result.now c.count_lf.result long c.front-script.ensures c.count_lf.ensures) c.answer_lines-2.ensures.leads
+
+pub returns-clause-after_too_long : goal.returns-clause-after_too_long
+returns-clause-after_too_long g c =
+    let long : 1_048_576 < length c.args.script.now = omega arith in
+    λ _. subst (λ (lines : List (List ℕ)). c.answer_lines-2.new.session ≡ after_lines c.args.session.now lines)
+    (take-ended_lines c.args.script.now c.front-script.result.now c.count_lf.result long c.front-script.ensures c.count_lf.ensures) c.in_ok-answer_lines.ensures.after
+
+pub returns-clause-leads : goal.returns-clause-leads
+returns-clause-leads g c =
+    let long : 1_048_576 < length c.args.script.now = omega arith in
+    subst (λ (lines : List (List ℕ)). LeadsTo c.args.session.now lines c.answer_lines-2.new.session)
+    (take-ended_lines c.args.script.now c.front-script.result.now c.count_lf.result long c.front-script.ensures c.count_lf.ensures) c.answer_lines-2.ensures.leads
