@@ -3,3 +3,5 @@
 
 #[cfg(test)]
 mod register;
+#[cfg(test)]
+mod tasks;

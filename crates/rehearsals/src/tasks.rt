@@ -92,7 +92,10 @@ fn tasks_and_locks(rt: HostRuntime) -> Result<(), Fail> {
         owner: FIFTH,
         due: None,
     };
-    assert_eq!(rt; state.ledger(CLOSED).and_then(|ledger| ledger.lock()), Some(lock));
+    assert_eq!(rt;
+        state.ledger(CLOSED).and_then(|ledger| ledger.lock()),
+        Some(lock)
+    );
     assert_eq!(rt; state.ledger(OPEN).and_then(|ledger| ledger.lock()), None);
     Ok(())
 }
@@ -118,8 +121,16 @@ fn a_task_ends_where_no_member_is_missing(rt: HostRuntime) -> Result<(), Fail> {
         ],
     )?;
     let state = session.state();
-    assert!(rt; state.ledger(CLOSED).is_some_and(|ledger| ledger.task().is_none()));
-    assert!(rt; state.ledger(OPEN).is_some_and(|ledger| ledger.task().is_some()));
+    assert!(rt;
+        state
+            .ledger(CLOSED)
+            .is_some_and(|ledger| ledger.task().is_none())
+    );
+    assert!(rt;
+        state
+            .ledger(OPEN)
+            .is_some_and(|ledger| ledger.task().is_some())
+    );
     Ok(())
 }
 
@@ -167,7 +178,9 @@ fn a_copy_of_the_ledgers_equals_them(rt: HostRuntime) -> Result<(), Fail> {
         assert_eq!(rt; same.metadata().fragments().len(), 1);
         for i in 0..5 {
             assert_eq!(rt;
-                same.metadata().fragments()[0].ensemble.contains(&BookieIx(i)),
+                same.metadata().fragments()[0]
+                    .ensemble
+                    .contains(&BookieIx(i)),
                 i < 3
             );
         }
