@@ -6,7 +6,7 @@ use Rattle.serde_json.specs.View.{view}
 use Rattle.serde_json.specs.declared.value.Value.{Value}
 use Rattle.reh_types.specs.Sets as set
 use Rattle.reh_types.specs.Sets.{Set, numbers, contains-empty, contains-from_list, contains-insert, same_set}
-use Rattle.reh_cluster.proofs.StateLaws.{named-insert}
+use Rattle.reh_model.proofs.WellFormedLaws.{named-insert}
 use Rattle.reh_picture.specs.declared.faults.PictureFault.{PictureFault}
 use Rattle.reh_picture.specs.declared.fields.Field.TheVariants.{Name, Up}
 use Rattle.reh_picture.specs.Members.{text_of, flag_of}
