@@ -90,8 +90,8 @@ impl Ledger {
         self.lock
     }
 
-    /// The members of the ledger's ensembles that aren't registered: what BookKeeper's auditor finds
-    /// when a bookie is lost. Takes the registered bookies.
+    /// The members of the ledger's ensembles that aren't among the registered bookies: what BookKeeper's
+    /// auditor finds where a bookie is lost. Each member has to be one of the 64 bookies that there can be.
     pub fn missing(&self, up: &BookieSet) -> BookieSet
         requires { HasBookies self.now }
         ensures { result ≡ audit.missing up.now self.now }
@@ -109,7 +109,8 @@ impl Ledger {
         }
     }
 
-    /// The bookies that the ledger's task names after an audit: those that it named, and the missing members.
+    /// The bookies that the ledger's task names after an audit: those that it named, and the missing members,
+    /// of which each has to be one of the 64 bookies that there can be.
     pub fn published(&self, up: &BookieSet) -> BookieSet
         requires { HasBookies self.now }
         ensures { result ≡ audit.published up.now self.now }

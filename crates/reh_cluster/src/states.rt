@@ -170,7 +170,9 @@ impl State {
         self.clock += ticks;
     }
 
-    /// Publishes the missing members in the tasks of their ledgers.
+    /// An accepted audit: the missing members of each ledger join its task. It takes no memory.
+    ///
+    /// BookKeeper's auditor does so by `markLedgerUnderreplicated`, which adds to a task that is there.
     pub fn publish(&mut self)
         requires { refusal_of self.old Audit ≡ None }
         ensures { self.new ≡ after self.old Audit }
@@ -178,7 +180,8 @@ impl State {
         publish_all(&mut self.ledgers, &self.up);
     }
 
-    /// The worker locks the ledger's task.
+    /// An accepted acquire: the worker locks the ledger's task, with no due tick
+    /// (BookKeeper's `acquireUnderreplicatedLedger`). It takes no memory.
     pub fn lock(&mut self, worker: BookieIx, ledger: LedgerId)
         requires { refusal_of self.old (Acquire worker ledger) ≡ None }
         ensures { self.new ≡ after self.old (Acquire worker ledger) }
@@ -188,7 +191,8 @@ impl State {
         }
     }
 
-    /// The worker gives the ledger's lock back.
+    /// An accepted release: the worker gives the ledger's lock back, and its due tick goes
+    /// (BookKeeper's `releaseUnderreplicatedLedger`). It takes no memory.
     pub fn unlock(&mut self, worker: BookieIx, ledger: LedgerId)
         requires { refusal_of self.old (Release worker ledger) ≡ None }
         ensures { self.new ≡ after self.old (Release worker ledger) }
@@ -198,7 +202,8 @@ impl State {
         }
     }
 
-    /// The worker ends the ledger's task.
+    /// An accepted finish: the ledger's task goes, and its lock
+    /// (BookKeeper's `markLedgerReplicated`). It takes no memory.
     pub fn finish(&mut self, worker: BookieIx, ledger: LedgerId)
         requires { refusal_of self.old (Finish worker ledger) ≡ None }
         ensures { self.new ≡ after self.old (Finish worker ledger) }
@@ -208,7 +213,8 @@ impl State {
         }
     }
 
-    /// The worker's session expires: all its locks go.
+    /// An accepted expiry: the worker's session ends, and all its locks go, which BookKeeper keeps as
+    /// ephemeral nodes of that session. It takes no memory.
     pub fn expire(&mut self, worker: BookieIx)
         requires { refusal_of self.old (Expire worker) ≡ None }
         ensures { self.new ≡ after self.old (Expire worker) }

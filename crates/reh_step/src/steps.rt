@@ -10,7 +10,8 @@ use std::alloc::{AllocError, Global};
 
 /// The state after the event, or the first refusal that applies to it; the state that it is made on stays as it was.
 ///
-/// Want of memory comes after all other refusals: it is answered only where the event is accepted.
+/// Want of memory comes after all other refusals: it is answered only where the event is accepted. The new
+/// state stands on the old one's allocator.
 /// The events are those of BookKeeper's AutoRecovery: its auditor publishes tasks, and its replication
 /// workers lock them, give their locks back, end them, or lose them with their sessions.
 pub fn step(_alloc: Global, state: &State, event: &Event) -> Result<State, Refusal>
