@@ -1,5 +1,5 @@
 -- Where an input is cut in two, and that its first bytes tell.
-use Rattle.std.proofs.Common.{◌≡◌, ℕ, suc, ◌+◌, ◌<◌, ◌≤◌, Bool, true, false, cond, ◌⊎◌, inl, inr, List, [], ◌∷◌, ◌++◌, length, refl, sym, ap, ◌∙◌, Option, None, Some, arith, length-append}
+use Rattle.std.proofs.Common.{◌≡◌, ℕ, suc, ◌+◌, ◌<◌, ◌≤◌, Bool, true, false, cond, ◌⊎◌, inl, inr, List, [], ◌∷◌, ◌++◌, length, refl, sym, ap, ◌∙◌, None, Some, arith}
 use Rattle.std.specs.Prelude.{◌==◌}
 use Rattle.std.specs.Option.{option_map}
 use Rattle.reh_model.specs.Lines.{Cut, after_end, after_percent, cut_or, with_front, cut_inside, cut_of}
@@ -13,7 +13,7 @@ abbrev pub with_tail : List ℕ → Cut → Cut
 with_tail ys cut = record cut { script = cut.script ++ ys }
 
 -- what follows the end of a line is longer where the text is; one byte may tell too little
-after_end-append : (xs ys : List ℕ) → (length xs ≤ 1) ⊎ (after_end (xs ++ ys) ≡ option_map (λ s. s ++ ys) (after_end xs))
+pub after_end-append : (xs ys : List ℕ) → (length xs ≤ 1) ⊎ (after_end (xs ++ ys) ≡ option_map (λ s. s ++ ys) (after_end xs))
 after_end-append [] ys = inl (omega arith)
 after_end-append (b ∷ []) ys = inl (omega arith)
 after_end-append (b ∷ c ∷ rest) ys = inr (

@@ -1,19 +1,18 @@
 -- What the first bytes of a long input tell of its outcome.
-use Rattle.std.proofs.Common.{◌≡◌, ℕ, ◌+◌, ◌<◌, ◌≤◌, Bool, true, false, cond, inl, inr, List, [], ◌++◌, length, take, refl, sym, ap, ◌∙◌, arith, length-append, append-nil, nat_lt, Ok, Err, Result, if◌then◌else◌, None, Some}
-use Rattle.std.specs.Prelude.{nat_le}
+use Rattle.std.proofs.Common.{◌≡◌, ℕ, ◌<◌, Bool, true, cond, inl, inr, List, ◌++◌, length, take, refl, sym, ap, ◌∙◌, arith, length-append, append-nil, nat_lt, Ok, Err, Result, if◌then◌else◌, None, Some}
 use Rattle.std.proofs.lemmas.Bool.{cases_lt}
 use Rattle.std.proofs.lemmas.Bool.Decides.{nat_tests}
 use Rattle.std.proofs.lemmas.List.{take-append-le}
 use Rattle.reh_model.specs.Cluster.{Cluster}
-use Rattle.reh_model.specs.Lines.{Cut, cut_of, is_script, answered_lines, ended_lines, lines_of}
+use Rattle.reh_model.specs.Lines.{Cut, cut_of, is_script, answered_lines, ended_lines}
 use Rattle.reh_model.specs.Session.{opened}
 use Rattle.reh_model.specs.Transcript.{transcript}
 use Rattle.reh_picture.specs.declared.faults.PictureFault.{PictureFault}
 use Rattle.reh_picture.specs.declared.faults.PictureFault.TheVariants.{TooLong}
 use Rattle.reh_picture.specs.Pictures.{picture_of, shown_by, json_of}
 use Rattle.rehearse.specs.declared.faults.RunFault.TheVariants as run_fault
-use Rattle.rehearse.specs.Outcomes.{Outcome, outcome_by, outcome_of, ReadsEnough}
-use Rattle.rehearse.proofs.Cuts.{cut_of-append, with_tail}
+use Rattle.rehearse.specs.Outcomes.{outcome_by, outcome_of, ReadsEnough}
+use Rattle.rehearse.proofs.Cuts.{cut_of-append}
 use Rattle.rehearse.proofs.Answered.{not_script, answered_lines-long}
 
 -- a picture that is too long

@@ -8,3 +8,4 @@ pub mod Answered
 pub mod Enough
 pub mod Reading
 pub mod Ends
+pub mod Told

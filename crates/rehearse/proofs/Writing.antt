@@ -1,10 +1,9 @@
 -- What is written, a part at a time.
-use Rattle.std.proofs.Common.{◌≡◌, ℕ, suc, ◌+◌, ◌-◌, ◌<◌, ◌≤◌, List, ◌∷◌, ◌++◌, length, take, drop, Option, None, Some, sym, ap, ◌∙◌, arith}
+use Rattle.std.proofs.Common.{◌≡◌, ℕ, suc, ◌+◌, ◌-◌, ◌<◌, List, ◌∷◌, ◌++◌, length, take, drop, Option, None, Some, sym, ap, ◌∙◌, arith}
 use Rattle.std.proofs.lemmas.List.{take_rest, take-append-drop}
 use mathlib.Core.List.{append_assoc}
 use Rattle.std.specs.Io.KnownBytes.{Appends}
 use Rattle.reh_model.specs.Session.{Session}
-use Rattle.reh_model.specs.Lines.{lines_of}
 use Rattle.reh_model.specs.Transcript.{transcript, line_answer, after_command, asked}
 use Rattle.rehearse.specs.Parts.{WritesPart}
 

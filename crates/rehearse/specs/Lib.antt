@@ -3,3 +3,4 @@ pub mod Parts
 pub mod Faults
 pub mod Outcomes
 pub mod Answers
+pub mod Ended

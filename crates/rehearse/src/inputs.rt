@@ -1,6 +1,7 @@
 // The input: a picture, a line `%` and a script.
-ghost use Rattle.std.specs.Prelude.{◌≡◌, ◌==◌, ◌<◌, ◌≤◌, ◌∷◌, length, take, count_by, position, option_map};
+ghost use Rattle.std.specs.Prelude.{◌≡◌, ℕ, ◌==◌, ◌<◌, ◌≤◌, List, ◌∷◌, ◌++◌, length, take, count_by, position, option_map, IfSome};
 ghost use Rattle.reh_model.specs.Lines.{lines_of, cut_of, after_end as follows_end, after_percent as follows_percent};
+ghost use Rattle.rehearse.specs.Ended.{EndsLf};
 
 /// The first line of a text, without its LF, and what follows.
 pub fn first_line(text: &[u8]) -> (&[u8], &[u8])
@@ -52,6 +53,34 @@ pub fn split_input(input: &[u8]) -> (&[u8], &[u8])
         }
     }
     (input, &input[input.len()..])
+}
+
+/// The picture of an input of which these are the first bytes, if they tell it: the line `%` is ended among them.
+pub fn told_picture(first: &[u8]) -> Option<&[u8]>
+    ensures { IfSome result (λ picture. (rest : List ℕ) → (cut_of (first.now ++ rest)).picture ≡ picture.now) }
+{
+    let lines = whole_lines(first);
+    let (picture, _) = split_input(lines);
+    if picture.len() < lines.len() {
+        Some(picture)
+    } else {
+        None
+    }
+}
+
+/// A text up to its last LF.
+fn whole_lines(text: &[u8]) -> &[u8]
+    ensures first { result.now ≡ take (length result.now) text.now }
+    ensures ends { 0 < length result.now → EndsLf result.now }
+{
+    let mut end = text.len();
+    while end > 0 {
+        if text[end - 1] == b'\n' {
+            return &text[..end];
+        }
+        end -= 1;
+    }
+    &text[..0]
 }
 
 /// What follows the line `%`, if the text begins with it.

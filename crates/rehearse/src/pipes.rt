@@ -1,5 +1,5 @@
 // From the bytes of the input to the bytes of the transcript.
-ghost use Rattle.std.specs.Prelude.{◌≡◌, ◌≢◌, false, true, IfOk, OnOk, IfSome, None, Some, Err};
+ghost use Rattle.std.specs.Prelude.{◌≡◌, ◌≢◌, ℕ, List, ◌++◌, false, true, IfOk, OnOk, IfSome, None, Some, Err};
 ghost use Rattle.std.specs.Io.KnownBytes.{Appends, Keeps};
 ghost use Rattle.reh_picture.specs.declared.faults.PictureFault.{PictureFault};
 ghost use Rattle.rehearse.specs.Answers.{WritesAnswers};
@@ -8,7 +8,7 @@ ghost use Rattle.rehearse.specs.Outcomes.{outcome_of, ReadsEnough};
 ghost use Rattle.rehearse.specs.Parts.{WritesPart};
 
 use crate::faults::RunFault;
-use crate::inputs::split_input;
+use crate::inputs::{split_input, told_picture};
 use crate::plays::play;
 use crate::streams::{StreamFault, TextIn, TextOut};
 use reh_picture::read_picture;
@@ -69,7 +69,7 @@ fn read_all<R: TextIn>(alloc: Global, reader: &mut R) -> Result<Vec<u8>, RunFaul
     ensures input { IfOk result (λ input. IfSome (R.remaining reader.old) (λ all. ReadsEnough input.items all)) }
     ensures fine { OnOk result (R.has_failed reader.new ≡ false) }
     ensures read { result ≡ Err RunFault.ReadFault → R.has_failed reader.new ≡ true }
-    ensures picture { (fault : PictureFault) → result ≢ Err (RunFault.Picture fault) }
+    ensures picture { (fault : PictureFault) → result ≡ Err (RunFault.Picture fault) → IfSome (R.remaining reader.old) (λ all. (outcome_of all).fault ≡ Some (RunFault.Picture fault)) }
     ensures too_long { result ≢ Err RunFault.TooLong }
     ensures write { result ≢ Err RunFault.WriteFault }
 {
@@ -78,7 +78,7 @@ fn read_all<R: TextIn>(alloc: Global, reader: &mut R) -> Result<Vec<u8>, RunFaul
     while input.len() < MAX_INPUT {
         let count = match reader.take(&mut block) {
             Ok(count) => count,
-            Err(StreamFault) => return Err(RunFault::ReadFault),
+            Err(StreamFault) => return Err(read_fault(alloc, &input)),
         };
         if count == 0 {
             return Ok(input);
@@ -86,6 +86,21 @@ fn read_all<R: TextIn>(alloc: Global, reader: &mut R) -> Result<Vec<u8>, RunFaul
         input.extend_from_slice(&block[..count])?;
     }
     Ok(input)
+}
+
+/// How an input ends of which a read failed behind these bytes: a picture that they tell is judged first.
+fn read_fault(alloc: Global, first: &[u8]) -> RunFault
+    ensures picture { (fault : PictureFault) → result ≡ RunFault.Picture fault → (rest : List ℕ) → (outcome_of (first.now ++ rest)).fault ≡ Some (RunFault.Picture fault) }
+    ensures too_long { result ≢ RunFault.TooLong }
+    ensures write { result ≢ RunFault.WriteFault }
+{
+    let Some(picture) = told_picture(first) else {
+        return RunFault::ReadFault;
+    };
+    match read_picture(alloc, picture) {
+        Ok(_) => RunFault::ReadFault,
+        Err(fault) => RunFault::from(fault),
+    }
 }
 
 /// Writes the transcript of an input.

@@ -1,8 +1,9 @@
 // The whole path over memory: from an input's bytes to what is written, and how the run ends.
 use crate::faults::{RunFault, status_of};
 use crate::pipes::pipe;
-use crate::streams::{FromRead, ToWrite};
+use crate::streams::{FromRead, StreamFault, TextIn, ToWrite};
 use std::alloc::Global;
+use std::io::Read;
 use std::test::Fail;
 
 /// What is written for an input, and how its run ends.
@@ -58,6 +59,65 @@ fn refuses_a_picture(rt: HostRuntime) -> Result<(), Fail> {
                 assert_eq!(rt; status_of(&fault), 3);
                 let text = format!(in rt.alloc(); "{fault}")?;
                 assert_eq!(rt; text.as_str(), "picture: 2 NotJson");
+            }
+        }
+    }
+    Ok(())
+}
+
+/// A reader of some bytes, which fails behind them.
+#[derive(Drop)]
+struct FailsBehind<'a> {
+    rest: &'a [u8],
+    has_failed: bool,
+}
+
+impl TextIn for FailsBehind<'_> {
+    ghost use Rattle.std.specs.Prelude.{None};
+
+    ghost remaining = { λ s. None };
+
+    ghost has_failed = { λ s. s.has_failed };
+
+    fn take(&mut self, buffer: &mut [u8]) -> Result<usize, StreamFault> {
+        match self.rest.read(buffer) {
+            Ok(count) if count > 0 => Ok(count),
+            _ => {
+                self.has_failed = true;
+                Err(StreamFault)
+            }
+        }
+    }
+}
+
+#[test]
+fn judges_the_picture_before_a_failed_read(rt: HostRuntime) -> Result<(), Fail> {
+    let runs = [
+        // Refused, with the line `%` not ended, and ended.
+        ("{}\n%", "read fault"),
+        ("{}\n%\r", "read fault"),
+        ("{}\n%\n", "picture: 3 Missing format"),
+        ("{}\n%\r\nclo", "picture: 3 Missing format"),
+        // Accepted.
+        (
+            "{\"format\":1,\"grace\":0,\"bookies\":[{\"name\":\"b1:3181\",\"up\":true}],\"ledgers\":[],\"contents\":[]}\n%\nclock\n",
+            "read fault",
+        ),
+    ];
+    for (input, expected) in runs {
+        let mut written = Vec::new(rt.alloc());
+        let mut reader = FailsBehind {
+            rest: input.as_bytes(),
+            has_failed: false,
+        };
+        let mut writer = ToWrite::new(&mut written);
+        let end = pipe(rt.alloc(), &mut reader, &mut writer);
+        assert_eq!(rt; written.len(), 0);
+        match end {
+            Ok(()) => panic!(rt; "played"),
+            Err(fault) => {
+                let text = format!(in rt.alloc(); "{fault}")?;
+                assert_eq!(rt; text.as_str(), expected);
             }
         }
     }

@@ -1,10 +1,13 @@
-use Rattle.std.proofs.Common.{◌≡◌, None, Some}
+use Rattle.std.proofs.Common.{◌≡◌, None, Some, Err, ap}
 use Rattle.std.specs.Io.KnownBytes.{Appends, Keeps}
+use Rattle.rehearse.specs.declared.faults.RunFault.{RunFault}
 use Rattle.rehearse.specs.declared.faults.RunFault.TheVariants.{Picture, TooLong}
-use Rattle.rehearse.specs.Outcomes.{Outcome}
+use Rattle.rehearse.specs.Outcomes.{Outcome, outcome_of}
 use Rattle.rehearse.specs.Answers.{WritesAnswers}
 use Rattle.rehearse.specs.Parts.{WritesPart}
+use Rattle.rehearse.proofs.Answered.{same_err}
 use Rattle.rehearse.proofs.Ends.{all_ends, all_ends_ok, nothing_ends_all}
+use Rattle.rehearse.proofs.Told.{with_kept}
 use Rattle.rehearse.proofs.pipes.pipe.Goals as goal
 
 pub returns-clause-ok : goal.returns-clause-ok
@@ -39,3 +42,8 @@ returns-clause-no_memory g c = λ same.
 
 pub returns-in_err-input-clause-no_memory : goal.returns-in_err-input-clause-no_memory
 returns-in_err-input-clause-no_memory g c = λ _. nothing_ends_all _ _
+
+pub returns-in_err-input-clause-picture : goal.returns-in_err-input-clause-picture
+returns-in_err-input-clause-picture g c = λ fault same.
+    with_kept _ _ (λ input. (outcome_of input).fault ≡ Some (Picture fault))
+    (c.in_err-input.ensures.picture fault (ap (λ (e : RunFault). Err e) (same_err _ c.in_err-input.field-0.0 _ c.from_residual.ensures.1 same)))

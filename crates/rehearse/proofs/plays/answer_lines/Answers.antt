@@ -1,7 +1,7 @@
-use Rattle.std.proofs.Common.{◌++◌, ◌∙◌, string_bytes, arith, rules}
+use Rattle.std.proofs.Common.{◌++◌, string_bytes, arith, rules}
 use Rattle.rehearse.proofs.Writing.{Appends-twice, told_more, part_more}
 use Rattle.reh_model.specs.Lines.{lines_of}
-use Rattle.rehearse.proofs.Reached.{left_next, written_next, after_next, reached_next, leads_to, leads_to_either, writes_answers}
+use Rattle.rehearse.proofs.Reached.{left_next, written_next, after_next, reached_next, leads_to_either, writes_answers}
 use Rattle.rehearse.proofs.plays.answer_lines.Goals as goal
 
 pub returns-then-is_err-clause-part : goal.returns-then-is_err-clause-part

@@ -1,8 +1,6 @@
 use Rattle.std.proofs.Common.{◌≡◌, ◌<◌, ◌≤◌, List, ℕ, length, subst, take, ap, arith}
 use Rattle.std.specs.Io.KnownBytes.{Appends}
 use Rattle.std.specs.Prelude.{OnOk, Err}
-use Rattle.reh_model.specs.Session.{Session}
-use Rattle.reh_model.specs.Lines.{lines_of, answered_lines}
 use Rattle.reh_model.specs.Transcript.{transcript}
 use Rattle.rehearse.specs.declared.plays.PlayFault.{PlayFault}
 use Rattle.rehearse.specs.declared.plays.PlayFault.TheVariants.{NoMemory}
