@@ -1,13 +1,13 @@
 -- The cluster: who is registered, the ledgers, which entries each bookie holds, tasks, locks and the clock.
-use Rattle.std.specs.Prelude.{ℕ, Bool, false, ◌==◌, if◌then◌else◌, List, map, Option, unwrap_or, position}
-use Rattle.std.specs.List.{find}
+use Rattle.std.specs.Prelude.{ℕ, Bool, false, ◌&&◌, ◌==◌, if◌then◌else◌, List, [], map, Option, unwrap_or, position}
+use Rattle.std.specs.List.{find, list_any}
 use Rattle.std.specs.Option.{option_and_then, option_map_or}
 use Rattle.std.specs.Str.{bytes_eq}
 use Rattle.reh_types.specs.declared.locks.Lock.{Lock}
 use Rattle.reh_types.specs.Sets as set
 use Rattle.reh_types.specs.Sets.{Set, numbers}
 use Rattle.reh_model.specs.Contents.{Contents, has}
-use Rattle.reh_model.specs.Metadata.{Metadata}
+use Rattle.reh_model.specs.Metadata.{Metadata, Fragment, writes, striped_of}
 
 -- a ledger: its metadata, the bookies that its task is to replace, if it has one, and the task's lock, if it is locked
 pub record Ledger : Type 0 where
@@ -58,3 +58,11 @@ due_of g = option_and_then (λ lock. lock.due) g.lock
 -- whether the bookie, registered or not, holds the entry of the ledger
 abbrev pub holds : Cluster → ℕ → ℕ → ℕ → Bool
 holds s bookie ledger entry = has s.held bookie ledger entry
+
+-- whether the entry can be read: some registered member of its write set holds it
+abbrev pub is_readable : Cluster → Ledger → Fragment → ℕ → Bool
+is_readable s g fragment entry = list_any (λ b. is_up s b && holds s b g.id entry) (writes g.metadata fragment entry)
+
+-- the entries of a ledger that a fragment stripes onto the index, rising; none where there is no such ledger or fragment, or it has no stop
+abbrev pub striped_at : Cluster → ℕ → ℕ → ℕ → List ℕ
+striped_at s l f i = option_map_or (λ g. striped_of g.metadata f i) (ledger_at s l) []

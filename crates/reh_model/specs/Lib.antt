@@ -7,6 +7,7 @@ pub mod Audit
 pub mod Refusals
 pub mod Step
 pub mod Session
+pub mod Swaps
 pub mod Lines
 pub mod Script
 pub mod Texts

@@ -1,10 +1,11 @@
 -- When each refusal applies, as a check that gives the refusal or none.
-use Rattle.std.specs.Prelude.{ℕ, ◌+◌, Bool, not, ◌||◌, ◌==◌, nat_lt, if◌then◌else◌, List, [], ◌∷◌, length, Option, None, Some, is_none, unwrap_or}
-use Rattle.std.specs.List.{list_any}
+use Rattle.std.specs.Prelude.{ℕ, ◌+◌, ◌^◌, Bool, not, ◌||◌, ◌==◌, nat_lt, if◌then◌else◌, List, [], ◌∷◌, length, Option, None, Some, is_none, unwrap_or, slice_get, slice_index}
+use Rattle.std.specs.List.{find, list_any}
 use Rattle.std.specs.Option.{option_map, option_or}
 use Rattle.reh_types.specs.declared.refusals.Refusal.{Refusal}
-use Rattle.reh_types.specs.declared.refusals.Refusal.TheVariants.{NoBookie, NoLedger, AlreadyDown, AlreadyUp, NothingToPublish, NoTask, Locked, NotOwner, StillUnder, NoLocks, BadTick, ClockEnd, NoMemory}
-use Rattle.reh_model.specs.Cluster.{Cluster, Ledger, is_up, ledger_at, is_locked_by}
+use Rattle.reh_types.specs.declared.refusals.Refusal.TheVariants.{NoBookie, NoLedger, AlreadyDown, AlreadyUp, NothingToPublish, NoTask, Locked, NotOwner, StillUnder, NoLocks, BadTick, ClockEnd, NoFragment, NoIndex, MemberUp, TargetDown, TargetIsMember, NoEndpoint, Stale, NoSource, MissingEntry, VersionEnd, NoMemory}
+use Rattle.reh_model.specs.Metadata.{Fragment, stop_of, striped_of}
+use Rattle.reh_model.specs.Cluster.{Cluster, Ledger, is_up, holds, is_readable, ledger_at, is_locked_by}
 use Rattle.reh_model.specs.Audit.{is_news, first_under}
 
 -- the refusal, where the condition holds
@@ -28,6 +29,15 @@ with_ledger (Some g) checks = first_refusal (checks g)
 -- the checks of the ledger of that id
 abbrev pub at_ledger : Cluster → ℕ → (Ledger → List (Option Refusal)) → Option Refusal
 at_ledger s l checks = with_ledger (ledger_at s l) checks
+
+-- the checks of a fragment, or that there is none
+abbrev pub with_fragment : Option Fragment → (Fragment → List (Option Refusal)) → Option Refusal
+with_fragment None checks = Some NoFragment
+with_fragment (Some fragment) checks = first_refusal (checks fragment)
+
+-- the checks of the ledger's fragment of that number
+abbrev pub at_fragment : Ledger → ℕ → (Fragment → List (Option Refusal)) → Option Refusal
+at_fragment g f checks = with_fragment (slice_get g.metadata.fragments f) checks
 
 -- Bookies and the clock
 
@@ -68,3 +78,39 @@ still_under s g = option_map (λ f. StillUnder f) (first_under s.up g)
 
 abbrev pub no_locks : Cluster → ℕ → Option Refusal
 no_locks s w = refuse_if (not (list_any (is_locked_by w) s.ledgers)) NoLocks
+
+-- Copies and swaps
+
+-- the stored version is not the one that is named
+abbrev pub stale : Ledger → ℕ → Option Refusal
+stale g version = refuse_if (not (g.metadata.version == version)) (Stale g.metadata.version)
+
+abbrev pub no_index : Ledger → ℕ → Option Refusal
+no_index g i = refuse_if (not (nat_lt i g.metadata.size)) NoIndex
+
+abbrev pub member_up : Cluster → Fragment → ℕ → Option Refusal
+member_up s fragment i = refuse_if (is_up s (slice_index fragment.ensemble i)) MemberUp
+
+abbrev pub target_down : Cluster → ℕ → Option Refusal
+target_down s b = refuse_if (not (is_up s b)) TargetDown
+
+abbrev pub target_is_member : Fragment → ℕ → Option Refusal
+target_is_member fragment b = refuse_if (list_any (λ member. member == b) fragment.ensemble) TargetIsMember
+
+abbrev pub no_endpoint : Ledger → ℕ → Option Refusal
+no_endpoint g f = refuse_if (is_none (stop_of g.metadata f)) NoEndpoint
+
+-- why the bookie can't take that index of the fragment's ensemble: there is no such fragment or index, the member there is registered, the bookie is not, it is a member already, or the fragment has no stop
+abbrev pub no_place : Cluster → ℕ → Ledger → ℕ → ℕ → Option Refusal
+no_place s b g f i = at_fragment g f (λ fragment. no_index g i ∷ member_up s fragment i ∷ target_down s b ∷ target_is_member fragment b ∷ no_endpoint g f ∷ [])
+
+-- the least striped entry that can't be read
+abbrev pub no_source : Cluster → Ledger → ℕ → ℕ → Option Refusal
+no_source s g f i = at_fragment g f (λ fragment. option_map (λ e. NoSource e) (find (λ e. not (is_readable s g fragment e)) (striped_of g.metadata f i)) ∷ [])
+
+-- the least striped entry that the bookie lacks
+abbrev pub missing_entry : Cluster → ℕ → Ledger → ℕ → ℕ → Option Refusal
+missing_entry s b g f i = option_map (λ e. MissingEntry e) (find (λ e. not (holds s b g.id e)) (striped_of g.metadata f i))
+
+abbrev pub version_end : Ledger → Option Refusal
+version_end g = refuse_if (g.metadata.version == 10 ^ 12) VersionEnd

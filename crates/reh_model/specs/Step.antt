@@ -1,12 +1,14 @@
 -- One event: when it is refused, and what it changes.
 use Rattle.std.specs.Prelude.{ℕ, ◌+◌, if◌then◌else◌, [], ◌∷◌, map, Option, None, Some}
 use Rattle.reh_types.specs.declared.moves.Event.{Event}
-use Rattle.reh_types.specs.declared.moves.Event.TheVariants.{Lose, Join, Audit, Acquire, Release, Finish, Expire, Tick}
+use Rattle.reh_types.specs.declared.moves.Event.TheVariants.{Lose, Join, Audit, Acquire, Release, Finish, Expire, Tick, Copy, Swap}
 use Rattle.reh_types.specs.declared.refusals.Refusal.{Refusal}
 use Rattle.reh_types.specs.Sets as set
-use Rattle.reh_model.specs.Cluster.{Cluster, Ledger, change_ledger, is_locked_by}
+use Rattle.reh_model.specs.Contents.{copies_of}
+use Rattle.reh_model.specs.Metadata.{with_member_at, next_version}
+use Rattle.reh_model.specs.Cluster.{Cluster, Ledger, change_ledger, is_locked_by, striped_at}
 use Rattle.reh_model.specs.Audit.{audited}
-use Rattle.reh_model.specs.Refusals.{first_refusal, at_ledger, no_bookie, already_down, already_up, nothing_to_publish, no_task, locked, not_owner, still_under, no_locks, bad_tick, clock_end}
+use Rattle.reh_model.specs.Refusals.{first_refusal, at_ledger, no_bookie, already_down, already_up, nothing_to_publish, no_task, locked, not_owner, still_under, no_locks, bad_tick, clock_end, stale, no_place, no_source, missing_entry, version_end}
 
 -- the first refusal of an event, if there is one
 abbrev pub refusal_of : Cluster → Event → Option Refusal
@@ -18,6 +20,8 @@ refusal_of s (Release w l) = first_refusal (no_bookie s w ∷ at_ledger s l (λ 
 refusal_of s (Finish w l) = first_refusal (no_bookie s w ∷ at_ledger s l (λ g. not_owner g w ∷ still_under s g ∷ []) ∷ [])
 refusal_of s (Expire w) = first_refusal (no_bookie s w ∷ no_locks s w ∷ [])
 refusal_of s (Tick n) = first_refusal (bad_tick n ∷ clock_end s n ∷ [])
+refusal_of s (Copy w l f i v) = first_refusal (no_bookie s w ∷ at_ledger s l (λ g. not_owner g w ∷ stale g v ∷ no_place s w g f i ∷ no_source s g f i ∷ []) ∷ [])
+refusal_of s (Swap w l f i v) = first_refusal (no_bookie s w ∷ at_ledger s l (λ g. not_owner g w ∷ stale g v ∷ no_place s w g f i ∷ missing_entry s w g f i ∷ version_end g ∷ []) ∷ [])
 
 -- a ledger whose task this worker locks, with no due tick
 abbrev pub locked_by : ℕ → Ledger → Ledger
@@ -35,6 +39,10 @@ finished g = record g { task = None; lock = None }
 abbrev pub expired : ℕ → Ledger → Ledger
 expired w g = if is_locked_by w g then unlocked g else g
 
+-- a ledger at the next version, with that bookie at an index of a fragment's ensemble
+abbrev pub swapped : ℕ → ℕ → ℕ → Ledger → Ledger
+swapped f i w g = record g { metadata = next_version (with_member_at g.metadata f i w) }
+
 -- the cluster that an accepted event leaves
 abbrev pub after : Cluster → Event → Cluster
 after s (Lose b) = record s { up = set.remove s.up b }
@@ -45,3 +53,5 @@ after s (Release w l) = change_ledger s l unlocked
 after s (Finish w l) = change_ledger s l finished
 after s (Expire w) = record s { ledgers = map (expired w) s.ledgers }
 after s (Tick n) = record s { clock = s.clock + n }
+after s (Copy w l f i v) = record s { held = set.union s.held (copies_of w l (striped_at s l f i)) }
+after s (Swap w l f i v) = change_ledger s l (swapped f i w)
