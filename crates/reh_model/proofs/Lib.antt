@@ -10,4 +10,6 @@ pub mod LedgerLaws
 pub mod AuditLaws
 pub mod Examples
 pub mod TaskExamples
+pub mod RefusalLaws
+pub mod AcceptedLaws
 pub mod WellFormedLaws
