@@ -11,3 +11,4 @@ pub mod AuditLaws
 pub mod Examples
 pub mod TaskExamples
 pub mod WellFormedLaws
+pub mod SwapLaws
