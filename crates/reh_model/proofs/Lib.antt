@@ -10,5 +10,7 @@ pub mod LedgerLaws
 pub mod AuditLaws
 pub mod Examples
 pub mod TaskExamples
+pub mod RefusalLaws
+pub mod AcceptedLaws
 pub mod WellFormedLaws
 pub mod SwapLaws
