@@ -1,10 +1,9 @@
 -- The promise of swaps: an accepted one keeps it, no later event breaks it, and so it holds through undo and redo.
-use Rattle.std.proofs.Common.{◌≡◌, ℕ, Bool, true, false, ◌||◌, cond, not, List, [], ◌∷◌, ◌++◌, map, length, take, drop, ◌-◌, ◌+◌, nat_lt, Option, None, Some, IsSome, is_some, refl, sym, ap, ◌∙◌, subst, true≢false, arith, append-nil}
+use Rattle.std.proofs.Common.{◌≡◌, ℕ, Bool, true, false, ◌||◌, cond, not, List, [], ◌∷◌, ◌++◌, map, length, take, drop, ◌-◌, ◌+◌, nat_lt, Option, None, Some, IsSome, is_some, refl, sym, ap, ◌∙◌, subst, true≢false, append-nil}
 use Rattle.std.specs.Prelude.{◌==◌, if◌then◌else◌, All, slice_get, slice_set, unwrap_or}
 use Rattle.std.specs.Bool.{MatchBool}
 use Rattle.std.specs.List.{find}
 use Rattle.std.specs.Option.{option_map, option_map_or, option_or}
-use Rattle.std.proofs.lemmas.Bool.Decides.{nat_tests}
 use Rattle.std.proofs.lemmas.Option.{same_Some, slice_get-map, get_or_from_slice_get}
 use Rattle.std.proofs.Math.Seq.{map-set_same}
 use Rattle.std.proofs.lemmas.List.{append_assoc, length-map, take-append-drop}
@@ -24,62 +23,36 @@ use Rattle.reh_model.specs.Contents.{has}
 use Rattle.reh_model.specs.Metadata.{Metadata, Fragment, end_of_state, stop_of, striped_of, with_member}
 use Rattle.reh_model.specs.Cluster.{Cluster, Ledger, holds, is_locked_by, ledger_at, striped_at}
 use Rattle.reh_model.specs.Audit.{missing, published, audited}
-use Rattle.reh_model.specs.Refusals.{first_refusal, with_ledger, at_ledger, no_bookie, not_owner, stale, no_place, missing_entry, version_end}
+use Rattle.reh_model.specs.Refusals.{first_refusal, at_ledger, no_bookie, not_owner, stale, no_place, missing_entry, version_end}
 use Rattle.reh_model.specs.Step.{refusal_of, after, locked_by, unlocked, finished, expired, swapped}
 use Rattle.reh_model.specs.Session.{Session, replay, state_of, done_unless, full, reply_to, moved, session_after, is_no_memory, Answers, Run}
 use Rattle.reh_model.specs.Swaps.{HoldsStripe, IsSafe, IsSafeRun, AllSafe}
+use Rattle.reh_model.proofs.RefusalLaws.{check-none, with_ledger-none, find-none}
+use Rattle.reh_model.proofs.AcceptedLaws.{id_found, striped_at-found}
 use Rattle.reh_model.proofs.SessionLaws.{replay_first, replay-append, replay-prefix, replay_one}
 use Rattle.reh_model.proofs.LedgerLaws.{KeepsId, changed, KeepsId-changed}
 use Rattle.reh_model.proofs.ContentsLaws.{has-union-copies_of}
 
--- Checks that give no refusal
+-- Accepted swaps
 
--- a check in the midst of a list that gives none
-check_none : (before : List (Option Refusal)) (check : Option Refusal) (later : List (Option Refusal)) → first_refusal (before ++ check ∷ later) ≡ None → check ≡ None
-check_none [] None later none = refl
-check_none [] (Some refusal) later none = cc
-check_none (None ∷ before) check later none = check_none before check later none
-check_none (Some refusal ∷ before) check later none = cc
-
--- a ledger that is found, and whose checks give none
-record FoundLedger (o : Option Ledger) (checks : Ledger → List (Option Refusal)) : Type 0 where
-  ledger : Ledger
-  is : o ≡ Some ledger
-  passes : first_refusal (checks ledger) ≡ None
-
-found_ledger : (o : Option Ledger) (checks : Ledger → List (Option Refusal)) → with_ledger o checks ≡ None → FoundLedger o checks
-found_ledger None checks none = cc
-found_ledger (Some g) checks none = record { ledger = g; is = refl; passes = none }
-
-id_found : (l : ℕ) (gs : List Ledger) (g : Ledger) → find (λ g. g.id == l) gs ≡ Some g → g.id ≡ l
-id_found l [] g found = cc
-id_found l (h ∷ gs) g found =
-    elim (h.id == l) as (λ b. (h.id == l) ≡ b → cond b (Some h) (find (λ g. g.id == l) gs) ≡ Some g → g.id ≡ l) [
-      | true ↦ λ hit is. let same : h ≡ g = cc in ap (λ (x : Ledger). x.id) (sym same) ∙ (let id : h.id ≡ l = grind (arith, nat_tests) in id)
-      | false ↦ λ _ later. id_found l gs g later
-    ] refl found
-
--- where no entry is found that the bookie lacks, it holds each
-none_missing : (s : Cluster) (w l : ℕ) (es : List ℕ) → option_map (λ e. MissingEntry e) (find (λ e. not (holds s w l e)) es) ≡ None → All (λ e. holds s w l e ≡ true) es
-none_missing s w l [] none = All-nil (λ e. holds s w l e ≡ true)
-none_missing s w l (e ∷ es) none =
-    elim (holds s w l e) as (λ b. holds s w l e ≡ b → option_map (λ e. MissingEntry e) (cond (not b) (Some e) (find (λ e. not (holds s w l e)) es)) ≡ None → All (λ e. holds s w l e ≡ true) (e ∷ es)) [
-      | true ↦ λ here none. All-cons (λ e. holds s w l e ≡ true) e es here (none_missing s w l es none)
-      | false ↦ λ _ none. cc
-    ] refl none
+not_not : (b : Bool) → not b ≡ false → b ≡ true
+not_not true is = refl
+not_not false is = cc
 
 -- No swap that is accepted loses an entry: the worker's bookie holds each one that the fragment stripes onto the index.
-pub accepted_swap : (s : Cluster) (w l f i v : ℕ) → refusal_of s (Swap w l f i v) ≡ None → HoldsStripe s (Swap w l f i v)
-accepted_swap s w l f i v none =
+pub swap_holds : (s : Cluster) (w l f i v : ℕ) → refusal_of s (Swap w l f i v) ≡ None → HoldsStripe s (Swap w l f i v)
+swap_holds s w l f i v none =
     let checks : Ledger → List (Option Refusal) = λ g. not_owner g w ∷ stale g v ∷ no_place s w g f i ∷ missing_entry s w g f i ∷ version_end g ∷ [] in
-    let found : FoundLedger (ledger_at s l) checks = found_ledger (ledger_at s l) checks (check_none (no_bookie s w ∷ []) (at_ledger s l checks) [] none) in
+    let found = with_ledger-none (ledger_at s l) checks (check-none (no_bookie s w ∷ []) (at_ledger s l checks) [] none) in
     let g : Ledger = found.ledger in
-    let id : g.id ≡ l = id_found l s.ledgers g found.is in
-    let lacks : missing_entry s w g f i ≡ None = check_none (not_owner g w ∷ stale g v ∷ no_place s w g f i ∷ []) (missing_entry s w g f i) (version_end g ∷ []) found.passes in
-    let each : All (λ e. holds s w g.id e ≡ true) (striped_of g.metadata f i) = none_missing s w g.id (striped_of g.metadata f i) lacks in
-    let same : striped_at s l f i ≡ striped_of g.metadata f i = ap (λ (o : Option Ledger). option_map_or (λ (g : Ledger). striped_of g.metadata f i) o []) found.is in
-    subst (λ (es : List ℕ). All (λ e. holds s w l e ≡ true) es) (sym same) (subst (λ (k : ℕ). All (λ e. holds s w k e ≡ true) (striped_of g.metadata f i)) id each)
+    let entries : List ℕ = striped_of g.metadata f i in
+    let lacks : missing_entry s w g f i ≡ None = check-none (not_owner g w ∷ stale g v ∷ no_place s w g f i ∷ []) (missing_entry s w g f i) (version_end g ∷ []) found.passes in
+    let each : All (λ e. holds s w g.id e ≡ true) entries =
+    All-weaker (λ e. not (holds s w g.id e) ≡ false) (λ e. holds s w g.id e ≡ true) (λ e is. not_not (holds s w g.id e) is) entries (find-none (λ e. not (holds s w g.id e)) (λ e. MissingEntry e) entries lacks) in
+    subst (λ (es : List ℕ). All (λ e. holds s w l e ≡ true) es) (sym (striped_at-found s l f i g found.is))
+    (subst (λ (k : ℕ). All (λ e. holds s w k e ≡ true) entries) (id_found l s.ledgers g found.is) each)
 
+-- so each accepted event keeps its promise
 pub accepted_safe : (s : Cluster) (event : Event) → refusal_of s event ≡ None → HoldsStripe s event
 accepted_safe s (Lose b) none = tt
 accepted_safe s (Join b) none = tt
@@ -90,7 +63,7 @@ accepted_safe s (Finish w l) none = tt
 accepted_safe s (Expire w) none = tt
 accepted_safe s (Tick n) none = tt
 accepted_safe s (Copy w l f i v) none = tt
-accepted_safe s (Swap w l f i v) none = accepted_swap s w l f i v none
+accepted_safe s (Swap w l f i v) none = swap_holds s w l f i v none
 
 -- Clusters that keep the promise
 
