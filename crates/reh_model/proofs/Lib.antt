@@ -13,3 +13,4 @@ pub mod TaskExamples
 pub mod RefusalLaws
 pub mod AcceptedLaws
 pub mod WellFormedLaws
+pub mod SwapLaws

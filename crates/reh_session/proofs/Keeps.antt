@@ -1,18 +1,23 @@
 -- Each move keeps what a session keeps.
-use Rattle.std.proofs.Common.{◌≡◌, ℕ, ◌+◌, ◌-◌, ◌<◌, ◌≤◌, List, [], ◌∷◌, ◌++◌, length, get_or, take, drop, sym, ap, ◌∙◌, Option, None, Some, IsSome, is_some, false, nat_le, arith, length-append}
-use Rattle.std.proofs.lemmas.List.{take_more, drop_more, take-take, drop-take, drop-drop, take_all, drop_all, length-take-le, take-append-drop}
+use Rattle.std.proofs.Common.{◌≡◌, ℕ, ◌+◌, ◌-◌, ◌<◌, ◌≤◌, List, [], ◌∷◌, ◌++◌, length, get_or, take, drop, sym, ap, subst, ◌∙◌, Option, None, Some, IsSome, is_some, false, nat_le, arith, length-append}
+use Rattle.std.proofs.lemmas.List.{take_more, drop_more, take-take, drop-take, drop-drop, take_all, drop_all, length-take-le, length-drop, take-append-drop}
+use Rattle.std.proofs.Math.Seq.{take-add}
 use Rattle.std.specs.Prelude.{unwrap_or}
 use Rattle.std.proofs.lemmas.Bool.Decides.{nat_tests}
 use Rattle.reh_types.specs.declared.moves.Event.{Event}
-use Rattle.reh_types.specs.declared.moves.Move.TheVariants.{Do, Undo}
+use Rattle.reh_types.specs.declared.moves.Move.{Move}
+use Rattle.reh_types.specs.declared.moves.Move.TheVariants.{Do, Undo, Redo}
+use Rattle.reh_types.specs.declared.moves.Reply.{Reply}
 use Rattle.reh_types.specs.declared.moves.Reply.TheVariants.{Done}
 use Rattle.reh_types.specs.declared.refusals.Refusal.{Refusal}
-use Rattle.reh_types.specs.declared.refusals.Refusal.TheVariants.{NothingToUndo, Full}
+use Rattle.reh_types.specs.declared.refusals.Refusal.TheVariants.{NothingToUndo, NothingToRedo, Full}
 use Rattle.reh_model.specs.Cluster.{Cluster}
 use Rattle.reh_model.specs.Refusals.{first_refusal, refuse_if}
 use Rattle.reh_model.specs.Step.{refusal_of, after}
-use Rattle.reh_model.specs.Session.{Session, replay, state_of, done_unless, full, reply_to, moved, Answers}
+use Rattle.reh_model.specs.Swaps.{AllSafe}
+use Rattle.reh_model.specs.Session.{Session, replay, state_of, done_unless, full, reply_to, moved, Answers, Run}
 use Rattle.reh_model.proofs.SessionLaws.{replay_first, replay-append, replay-prefix, replay_one, done_unless-some}
+use Rattle.reh_model.proofs.SwapLaws.{CanRedoAll, CanRedoAll-run, all_safe}
 use Rattle.reh_session.specs.Kept.{session_of, IsKept}
 
 -- an event is accepted where the state accepts it, and there is room
@@ -110,6 +115,21 @@ undo_answers o es k within some =
       }),
     )
 
+-- redo moves it on by one
+pub redo_answers : (o : Cluster) (es : List Event) (k : ℕ) → k < length es → Answers (session_of o es k) Redo Done (session_of o es (k + 1))
+redo_answers o es k more = (
+  sym (done_unless-some (length (drop k es)) NothingToRedo (omega (arith, length-drop k es))),
+  (λ i. record { opening = o; done = take-add k 1 es i; undone = sym (drop-drop 1 k es) i }),
+)
+
 -- all events can be made again, those that survive and then those that are undone
 pub all_redoable : {o s : Cluster} {es : List Event} {k : ℕ} → IsKept o s es k → IsSome (replay o (take k es ++ drop k es))
 all_redoable {o} {s} {es} {k} h = ap is_some (replay-append o s (take k es) (drop k es) h.replayed) ∙ h.redoable
+
+-- so each surviving swap keeps its promise
+pub kept_safe : {o s : Cluster} {es : List Event} {k : ℕ} → IsKept o s es k → (m : Session) → session_of o es k ≡ m → AllSafe m
+kept_safe h m is = subst AllSafe is (all_safe _ (all_redoable h))
+
+-- and still does after a run
+pub run_safe : {o s : Cluster} {es : List Event} {k : ℕ} → IsKept o s es k → (m n : Session) (moves : List Move) (replies : List Reply) → session_of o es k ≡ m → Run m moves replies n → AllSafe n
+run_safe h m n moves replies is run = all_safe n (CanRedoAll-run m moves replies n run (subst CanRedoAll is (all_redoable h)))

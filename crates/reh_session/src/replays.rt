@@ -14,7 +14,7 @@ pub(crate) fn replay(opening: &State, events: &[Event]) -> Result<State, AllocEr
 {
     let mut state = opening.clone_in()?;
     for event in events {
-        change(&mut state, event);
+        state = change(state, event)?;
     }
     Ok(state)
 }

@@ -1,5 +1,5 @@
 // Sessions, which can undo and redo.
-ghost use Rattle.std.specs.Prelude.{◌≡◌, ◌+◌, ◌≤◌, ◌∷◌, [], ◌++◌, length, take, Some, IsSome, IfOk, IfErr, OnErr, OnOk};
+ghost use Rattle.std.specs.Prelude.{◌≡◌, All, ◌+◌, ◌≤◌, ◌∷◌, [], ◌++◌, length, take, Some, IsSome, IfOk, IfErr, OnErr, OnOk};
 ghost use Rattle.reh_model.specs.Session.{replay as replayed};
 
 use crate::replays::replay;
@@ -36,7 +36,8 @@ impl Model for Session {
 
 impl Session {
     ghost use Rattle.reh_types.specs.declared.moves.Move.TheVariants.{Do, Undo, Redo};
-    ghost use Rattle.reh_model.specs.Session.{opened, Answers, Run, reply_of};
+    ghost use Rattle.reh_model.specs.Session.{opened, state_of, Answers, Run, reply_of};
+    ghost use Rattle.reh_model.specs.Swaps.{HoldsStripe, IsSafe, IsSafeRun, AllSafe};
 
     /// A session on this state, with no event. Where there is no memory, the state is dropped.
     pub fn open(alloc: Global, state: State) -> Result<Session, AllocError>
@@ -51,9 +52,11 @@ impl Session {
         })
     }
 
-    /// The state now: the surviving events, replayed from the opening state.
+    /// The state now: the surviving events, replayed from the opening state. Each swap among them still keeps
+    /// its promise here, whatever was done, undone and redone since.
     pub fn state(&self) -> &State
-        ensures { replayed self.now.opening self.now.done ≡ Some result.now }
+        ensures replays { replayed self.now.opening self.now.done ≡ Some result.now }
+        ensures lasting { All (HoldsStripe result.now) self.now.done }
     {
         &self.state
     }
@@ -75,8 +78,13 @@ impl Session {
     }
 
     /// Makes an event, unless it is refused: by the event's own refusals first, then by `Full`, and then for want of memory. A refused event changes nothing.
+    ///
+    /// No swap that is made loses an entry (`safe`): the worker's bookie holds each one that the fragment stripes
+    /// onto the index. While the swap survives it stays so (`lasting`).
     pub fn act(&mut self, event: &Event) -> Result<(), Refusal>
-        ensures { Answers self.old (Do event.now) (reply_of result) self.new }
+        ensures answers { Answers self.old (Do event.now) (reply_of result) self.new }
+        ensures safe { IsSafe (state_of self.old) (Do event.now) (reply_of result) }
+        ensures lasting { AllSafe self.new }
     {
         check(&self.state, event)?;
         if self.cursor >= MAX_EVENTS {
@@ -91,23 +99,25 @@ impl Session {
 
     /// Undoes the newest surviving event.
     pub fn undo(&mut self) -> Result<(), Refusal>
-        ensures { Answers self.old Undo (reply_of result) self.new }
+        ensures answers { Answers self.old Undo (reply_of result) self.new }
+        ensures lasting { AllSafe self.new }
     {
         if self.cursor == 0 {
             return Err(Refusal::NothingToUndo);
         }
         let before = &self.events[..self.cursor - 1];
-        let Ok(state) = replay(&self.opening, before) else {
+        let Ok(restored) = replay(&self.opening, before) else {
             return Err(Refusal::NoMemory);
         };
-        self.state = state;
+        self.state = restored;
         self.cursor -= 1;
         Ok(())
     }
 
     /// Makes the event that was undone last once more.
     pub fn redo(&mut self) -> Result<(), Refusal>
-        ensures { Answers self.old Redo (reply_of result) self.new }
+        ensures answers { Answers self.old Redo (reply_of result) self.new }
+        ensures lasting { AllSafe self.new }
     {
         if self.cursor == self.events.len() {
             return Err(Refusal::NothingToRedo);
@@ -121,7 +131,9 @@ impl Session {
 
     /// Makes one move, and answers it.
     pub fn perform(&mut self, step: &Move) -> Reply
-        ensures { Answers self.old step.now result self.new }
+        ensures answers { Answers self.old step.now result self.new }
+        ensures safe { IsSafe (state_of self.old) step.now result }
+        ensures lasting { AllSafe self.new }
     {
         let outcome = match step {
             Move::Do(event) => self.act(event),
@@ -136,9 +148,11 @@ impl Session {
     }
 
     /// Makes moves in order. Room for all answers is taken first, and where there is none, nothing changes.
-    /// Later a move for which there is no memory is answered so, and the run goes on.
+    /// Later a move for which there is no memory is answered so, and the run goes on. No swap of the run loses an entry.
     pub fn run(&mut self, moves: &[Move]) -> Result<Vec<Reply>, AllocError>
         ensures run { IfOk result (λ replies. Run self.old moves.now replies.items self.new) }
+        ensures safe { IfOk result (λ replies. IsSafeRun self.old moves.now replies.items) }
+        ensures lasting { AllSafe self.new }
         ensures err { OnErr result (self.new ≡ self.old) }
     {
         // The check of this loop has to meet the type of a reply's refusal by its name.

@@ -16,4 +16,4 @@ loop-event-preserved c =
     drop_more c.args.events.now c.loop-event.event-index e c.loop-event-test.true ∙ ap (λ (x : Event). x ∷ later) (sym c.event-item.is) in
     let all : replay s (e ∷ later) ≡ replay c.args.opening.now c.args.events.now = ap (replay s) (sym rest) ∙ c.loop-event.invariant in
     let first : (refusal_of s e ≡ None) × (replay s (e ∷ later) ≡ replay (after s e) later) = replay_first s e later (ap is_some all ∙ c.requires) in
-    ap (λ (x : Cluster). replay x later) c.change.ensures ∙ sym first.1 ∙ all
+    ap (λ (x : Cluster). replay x later) c.in_ok-state-2.ensures ∙ sym first.1 ∙ all
