@@ -23,6 +23,11 @@ abbrev pub replies : Session → List Move → List Reply
 replies m [] = []
 replies m (move ∷ moves) = reply_to m move ∷ replies (session_after m move (reply_to m move)) moves
 
+-- the session after moves in order
+abbrev pub played : Session → List Move → Session
+played m [] = m
+played m (move ∷ moves) = played (session_after m move (reply_to m move)) moves
+
 -- lines with their LF
 abbrev text_of : List (List ℕ) → List ℕ
 text_of lines = flat_map (λ line. line ++ 10 ∷ []) lines

@@ -10,4 +10,5 @@ pub mod LedgerLaws
 pub mod AuditLaws
 pub mod Examples
 pub mod TaskExamples
+pub mod CopyExamples
 pub mod WellFormedLaws
