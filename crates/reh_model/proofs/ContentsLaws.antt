@@ -1,19 +1,21 @@
 -- What is held after copies are added.
-use Rattle.std.proofs.Common.{◌≡◌, ℕ, ◌+◌, Bool, true, false, ◌&&◌, ◌||◌, List, [], ◌∷◌, ◌++◌, map, refl, sym, ap, ◌∙◌, nat_eq, arith}
-use Rattle.std.specs.Prelude.{◌==◌, cond, max, count_by}
+use Rattle.std.proofs.Common.{◌≡◌, ℕ, ◌+◌, Bool, true, false, ◌≤◌, ◌&&◌, ◌||◌, List, [], ◌∷◌, ◌++◌, map, refl, sym, ap, ◌∙◌, subst, nat_eq, arith}
+use Rattle.std.specs.Prelude.{◌==◌, cond, max, count_by, All}
 use Rattle.std.specs.List.{list_any, filter, fold, reduce}
 use Rattle.std.specs.Option.{option_map_or}
 use Rattle.std.specs.FinMap.Entries.{put, by_order}
 use Rattle.std.specs.declared.option.Option.{Option}
 use Rattle.std.specs.declared.option.Option.TheVariants.{None, Some}
 use Rattle.std.specs.Ordering.{nat_cmp, eq_by_cmp, is_eq, ordering_then}
-use Rattle.std.specs.Cmp.{unsigned_tied}
+use Rattle.std.specs.Cmp.{unsigned_tied, Equal-is}
+use Rattle.std.proofs.lemmas.Bool.Decides.{nat_tests}
+use Rattle.std.proofs.lemmas.List.Elements.{All-head, All-tail}
 use Rattle.std.proofs.lemmas.List.Sums.{sum_by-cons}
 use Rattle.std.specs.declared.cmp.Ordering.{Ordering}
 use Rattle.std.specs.declared.cmp.Ordering.TheVariants.{Less, Equal, Greater}
 use Rattle.reh_types.specs.Sets as set
 use Rattle.reh_types.specs.Sets.{triples, triple_cmp, triple_exact, same_set, contains-items, contains-insert, contains-union, contains-from_list, insert, items}
-use Rattle.reh_model.specs.Contents.{Contents, has, copies_of, count_held, greatest_held}
+use Rattle.reh_model.specs.Contents.{Contents, has, IsHeld, copies_of, count_held, greatest_held}
 use Rattle.reh_model.proofs.Ranges.{list_any-map, list_any-same}
 
 both_eq : (r s : Ordering) → is_eq (ordering_then r s) ≡ (is_eq r && is_eq s)
@@ -76,6 +78,25 @@ union-copies_of-none contents w l = same_set (set.union contents (copies_of w l 
       none true place = refl
       none false true = refl
       none false false = refl
+
+-- the first of some entries may be copied before the others
+first_before : (held place first others : Bool) → (held || (place && (first || others))) ≡ (((place && first) || held) || (place && others))
+first_before true true true others = refl
+first_before true true false others = refl
+first_before true false first others = refl
+first_before false true true others = refl
+first_before false true false others = refl
+first_before false false first others = refl
+
+pub union-copies_of-cons : (contents : Contents) (w l e : ℕ) (es : List ℕ)
+    → set.union contents (copies_of w l (e ∷ es)) ≡ set.union (set.insert contents (w, l, e)) (copies_of w l es)
+union-copies_of-cons contents w l e es = same_set (set.union contents (copies_of w l (e ∷ es))) (set.union (set.insert contents (w, l, e)) (copies_of w l es)) (λ t.
+    let place = nat_eq t.0 w && nat_eq t.1 l in
+    let others = list_any (nat_eq t.2) es in
+    has-union-copies_of contents w l (e ∷ es) t.0 t.1 t.2
+    ∙ first_before (has contents t.0 t.1 t.2) place (nat_eq t.2 e) others
+    ∙ sym (has-union-copies_of (set.insert contents (w, l, e)) w l es t.0 t.1 t.2
+    ∙ ap (λ before. before || (place && others)) (has-insert contents w l e t.0 t.1 t.2)))
 
 -- one entry more is one copy more
 pub union-copies_of-push : (contents : Contents) (w l : ℕ) (es : List ℕ) (x : ℕ)
@@ -156,6 +177,71 @@ pub greatest_held-insert : (contents : Contents) (w l x k : ℕ)
     → greatest_held (set.insert contents (w, l, x)) k ≡ cond (l == k) (Some (option_map_or (λ greatest. max greatest x) (greatest_held contents k) x)) (greatest_held contents k)
 unfolding insert items
 greatest_held-insert contents w l x k = greatest_among-put k (w, l, x) contents.list
+
+-- there is a greatest entry, and it is no less than this one
+pub record IsReached (greatest : Option ℕ) (e : ℕ) : Type 0 where
+  pub value : ℕ
+  pub is : greatest ≡ Some value
+  pub reached : e ≤ value
+
+reached_here : (e : ℕ) (greatest : Option ℕ) → IsReached (with_entry true e greatest) e
+reached_here e None = record { value = e; is = refl; reached = omega arith }
+reached_here e (Some m) = record { value = max m e; is = refl; reached = omega arith }
+
+reached_later : (here : Bool) (d e : ℕ) (greatest : Option ℕ) → IsReached greatest e → IsReached (with_entry here d greatest) e
+reached_later true d e greatest was = record { value = max was.value d; is = ap (with_entry true d) was.is; reached = omega (arith, was.reached) }
+reached_later false d e greatest was = was
+
+reached_among : (q : ℕ × ℕ × ℕ) (ts : List (ℕ × ℕ × ℕ)) → list_any (eq_by_cmp triple_cmp q) ts ≡ true → IsReached (greatest_among q.1 ts) q.2
+reached_among q [] found = cc
+reached_among q (t ∷ ts) found =
+    subst (λ (greatest : Option ℕ). IsReached greatest q.2) (sym (greatest_among-cons q.1 t ts))
+    (elim (eq_by_cmp triple_cmp q t) as (λ b. eq_by_cmp triple_cmp q t ≡ b → (b || list_any (eq_by_cmp triple_cmp q) ts) ≡ true → IsReached (with_entry (t.1 == q.1) t.2 (greatest_among q.1 ts)) q.2) [
+      | true ↦ λ tied _.
+          let same : q ≡ t = triple_exact q t ((Equal-is (triple_cmp q t)).0 tied) in
+          let here : (t.1 == q.1) ≡ true = ap (λ (x : ℕ × ℕ × ℕ). t.1 == x.1) same ∙ grind (arith, nat_tests) in
+          subst (λ b. IsReached (with_entry b t.2 (greatest_among q.1 ts)) q.2) (sym here)
+          (subst (λ (x : ℕ × ℕ × ℕ). IsReached (with_entry true t.2 (greatest_among q.1 ts)) x.2) (sym same) (reached_here t.2 (greatest_among q.1 ts)))
+      | false ↦ λ _ later. reached_later (t.1 == q.1) t.2 q.2 (greatest_among q.1 ts) (reached_among q ts later)
+    ] refl found)
+
+-- an entry that is held is no greater than the greatest
+pub greatest_held-reached : (contents : Contents) (l e : ℕ) → IsHeld contents l e → IsReached (greatest_held contents l) e
+greatest_held-reached contents l e held = reached_among (held.0, l, e) (items contents) (sym (contains-items contents (held.0, l, e)) ∙ held.1)
+
+-- one more copy of an entry that is held changes no greatest entry
+pub greatest_held-copied : (contents : Contents) (w l e k : ℕ) → IsHeld contents l e → greatest_held (set.insert contents (w, l, e)) k ≡ greatest_held contents k
+greatest_held-copied contents w l e k held =
+    greatest_held-insert contents w l e k
+    ∙ elim (l == k) as (λ b. (l == k) ≡ b → cond b (Some (option_map_or (λ greatest. max greatest e) (greatest_held contents k) e)) (greatest_held contents k) ≡ greatest_held contents k) [
+      | true ↦ λ here.
+          let same : l ≡ k = grind (arith, nat_tests) in
+          let greatest = greatest_held-reached contents k e (subst (λ (j : ℕ). IsHeld contents j e) same held) in
+          let kept : max greatest.value e ≡ greatest.value = omega (arith, greatest.reached) in
+          ap (λ (o : Option ℕ). Some (option_map_or (λ greatest. max greatest e) o e)) greatest.is ∙ ap Some kept ∙ sym greatest.is
+      | false ↦ λ _. refl
+    ] refl
+
+-- What some bookie holds
+
+or_true : (a b : Bool) → b ≡ true → (a || b) ≡ true
+or_true true b is = refl
+or_true false b is = is
+
+-- an entry that is held stays held where a copy is added
+pub IsHeld-insert : (contents : Contents) (w k x l e : ℕ) → IsHeld contents l e → IsHeld (set.insert contents (w, k, x)) l e
+IsHeld-insert contents w k x l e held = (held.0, has-insert contents w k x held.0 l e ∙ or_true ((nat_eq held.0 w && nat_eq l k) && nat_eq e x) (has contents held.0 l e) held.1)
+
+-- what holds of each copy holds of one that is there
+pub All-copy : (P : ℕ × ℕ × ℕ → Type 0) (contents : Contents) → All P (items contents) → (t : ℕ × ℕ × ℕ) → set.contains contents t ≡ true → P t
+All-copy P contents all t one = found_in (items contents) all (sym (contains-items contents t) ∙ one) where
+  found_in : (ts : List (ℕ × ℕ × ℕ)) → All P ts → list_any (eq_by_cmp triple_cmp t) ts ≡ true → P t
+  found_in [] all found = cc
+  found_in (u ∷ ts) all found =
+      elim (eq_by_cmp triple_cmp t u) as (λ b. eq_by_cmp triple_cmp t u ≡ b → (b || list_any (eq_by_cmp triple_cmp t) ts) ≡ true → P t) [
+        | true ↦ λ tied _. subst P (sym (triple_exact t u ((Equal-is (triple_cmp t u)).0 tied))) (All-head P u ts all)
+        | false ↦ λ _ later. found_in ts (All-tail P u ts all) later
+      ] refl found
 
 -- How many entries a bookie holds
 

@@ -11,4 +11,6 @@ pub mod AuditLaws
 pub mod Examples
 pub mod TaskExamples
 pub mod CopyExamples
+pub mod RefusalLaws
+pub mod AcceptedLaws
 pub mod WellFormedLaws

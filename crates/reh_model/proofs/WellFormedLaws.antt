@@ -1,23 +1,32 @@
 -- An accepted event keeps a cluster well-formed.
-use Rattle.std.proofs.Common.{◌≡◌, ℕ, Bool, true, false, cond, not, ◌&&◌, ◌||◌, ◌+◌, ◌*◌, ◌<◌, ◌≤◌, List, [], ◌∷◌, ◌++◌, map, length, get_or, Option, None, Some, IsSome, refl, sym, ap, ◌∙◌, subst, arith, nat_eq, nat_lt}
-use Rattle.std.specs.Prelude.{◌==◌, ◌^◌, is_none, if◌then◌else◌, All}
+use Rattle.std.proofs.Common.{◌≡◌, ℕ, Bool, true, false, cond, not, ◌&&◌, ◌||◌, ◌+◌, ◌*◌, ◌<◌, ◌≤◌, List, [], ◌∷◌, map, length, get_or, set, Option, None, Some, IsSome, refl, sym, ap, ◌∙◌, subst, arith, nat_eq}
+use Rattle.std.specs.Prelude.{◌==◌, ◌/◌, ◌^◌, if◌then◌else◌, sum_by, slice_get, All}
 use Rattle.std.specs.List.{IsDistinct, find}
+use Rattle.std.specs.Option.{option_map_or}
 use Rattle.std.specs.Ordering.{nat_cmp, eq_by_cmp}
-use Rattle.std.specs.Cmp.{unsigned_tied}
+use Rattle.std.specs.Cmp.{unsigned_tied, Equal-is}
 use Rattle.std.proofs.lemmas.Bool.Decides.{nat_tests}
 use Rattle.std.proofs.lemmas.List.{length-map}
-use Rattle.std.proofs.lemmas.List.Elements.{All-head, All-map, All-tail, All-weaker}
+use Rattle.std.proofs.lemmas.List.Elements.{All-head, All-map, All-set, All-tail, All-weaker}
+use Rattle.std.proofs.lemmas.Option.{slice_get-get_or, get_or_from_slice_get}
 use Rattle.reh_types.specs.declared.moves.Event.{Event}
-use Rattle.reh_types.specs.declared.moves.Event.TheVariants.{Lose, Join, Audit, Acquire, Release, Finish, Expire, Tick}
+use Rattle.reh_types.specs.declared.moves.Event.TheVariants.{Lose, Join, Audit, Acquire, Release, Finish, Expire, Tick, Copy, Swap}
 use Rattle.reh_types.specs.declared.refusals.Refusal.{Refusal}
-use Rattle.reh_types.specs.Sets.{Set, numbers, contains, insert, remove, is_empty, len, items, contains-insert, contains-remove}
-use Rattle.reh_model.specs.Cluster.{Cluster, Ledger, ledger_at, change_ledger, is_locked_by}
+use Rattle.reh_types.specs.Sets.{Set, numbers, triple_cmp, triple_exact, contains, insert, remove, union, is_empty, len, items, contains-insert, contains-remove}
+use Rattle.reh_types.proofs.SetLaws.{All-items}
+use Rattle.reh_model.specs.Contents.{Contents, IsHeld, copies_of}
+use Rattle.reh_model.specs.Metadata.{Metadata, Fragment, with_member, with_member_at, next_version}
+use Rattle.reh_model.specs.Cluster.{Cluster, Ledger, ledger_at, change_ledger, is_locked_by, striped_at}
 use Rattle.reh_model.specs.Audit.{missing, published, audited}
-use Rattle.reh_model.specs.Refusals.{first_refusal, refuse_if, with_ledger, at_ledger, no_bookie, already_up, no_task, locked, bad_tick, clock_end}
-use Rattle.reh_model.specs.Step.{refusal_of, after, locked_by, unlocked, finished, expired}
+use Rattle.reh_model.specs.Refusals.{first_refusal, at_ledger, no_bookie, already_up, no_task, locked, bad_tick, clock_end}
+use Rattle.reh_model.specs.Step.{refusal_of, after, locked_by, unlocked, finished, expired, swapped}
 use Rattle.reh_model.specs.WellFormed.{IsLedger, IsCopy, IsWellFormed, words_of}
 use Rattle.reh_model.proofs.LedgerLaws.{KeepsId, changed, KeepsId-changed, ids-map, sum_by-map, found-map, found_itself}
+use Rattle.reh_model.proofs.ContentsLaws.{All-copy, IsHeld-insert, greatest_held-copied, union-copies_of-none, union-copies_of-cons}
+use Rattle.reh_model.proofs.MemberLaws.{IsMetadata-set, with_member_at-found}
 use Rattle.reh_model.proofs.AuditLaws.{published_named, published_some}
+use Rattle.reh_model.proofs.RefusalLaws.{check-none, at_ledger-none, no_bookie-none, no_task-none, clock_end-none}
+use Rattle.reh_model.proofs.AcceptedLaws.{IsSwappable, accepted_copy, accepted_swap}
 
 -- Changes
 
@@ -92,6 +101,43 @@ IsWellFormed-change_ledger s l change was keeps each = IsWellFormed-ledgers s (c
       | false ↦ λ _. is
     ] refl)
 
+-- what follows from each of two tests follows where one of them passes
+either : (a b : Bool) (P : Type 0) → (a ≡ true → P) → (b ≡ true → P) → (a || b) ≡ true → P
+either true b P first second is = first refl
+either false b P first second is = second is
+
+-- a bookie takes one more copy of an entry that is held
+pub IsWellFormed-copied : (s : Cluster) (w l e : ℕ) → IsWellFormed s → w < length s.names → IsHeld s.held l e → IsWellFormed (record s { held = insert s.held (w, l, e) })
+IsWellFormed-copied s w l e was named some =
+    let t : Cluster = record s { held = insert s.held (w, l, e) } in
+    let known : IsCopy s (some.0, l, e) = All-copy (IsCopy s) s.held was.held (some.0, l, e) some.1 in
+    record {
+      some_bookie = was.some_bookie;
+      bookies = was.bookies;
+      names = was.names;
+      grace = was.grace;
+      clock = was.clock;
+      up = was.up;
+      ledgers = was.ledgers;
+      different = was.different;
+      each = λ k g k_in. IsLedger-later s t _ (omega arith) (omega arith) (was.each k g k_in);
+      held = All-items (IsCopy t) t.held (λ q one.
+          either (eq_by_cmp triple_cmp q (w, l, e)) (contains s.held q) (IsCopy t q)
+          (λ tied. subst (IsCopy t) (sym (triple_exact q (w, l, e) ((Equal-is (triple_cmp q (w, l, e))).0 tied))) (named, known.1, known.2))
+          (All-copy (IsCopy s) s.held was.held q)
+          (sym (contains-insert s.held (w, l, e) q) ∙ one));
+      words = subst (λ (n : ℕ). length s.names * n ≤ 2 ^ 22) (λ i. sum_by (λ g. option_map_or (λ greatest. greatest / 64 + 1) (sym (greatest_held-copied s.held w l e g.id some) i) 0) s.ledgers) was.words;
+    }
+
+-- and of each of some entries
+pub IsWellFormed-copied_all : (s : Cluster) (w l : ℕ) (es : List ℕ) → IsWellFormed s → w < length s.names → All (λ e. IsHeld s.held l e) es → IsWellFormed (record s { held = union s.held (copies_of w l es) })
+IsWellFormed-copied_all s w l [] was named held = subst (λ (contents : Contents). IsWellFormed (record s { held = contents })) (sym (union-copies_of-none s.held w l)) was
+IsWellFormed-copied_all s w l (e ∷ es) was named held =
+    let t : Cluster = record s { held = insert s.held (w, l, e) } in
+    subst (λ (contents : Contents). IsWellFormed (record s { held = contents })) (sym (union-copies_of-cons s.held w l e es))
+    (IsWellFormed-copied_all t w l es (IsWellFormed-copied s w l e was named (All-head (λ e. IsHeld s.held l e) e es held)) named
+    (All-weaker (λ e. IsHeld s.held l e) (λ e. IsHeld t.held l e) (λ x is. IsHeld-insert s.held w l e l x is) es (All-tail (λ e. IsHeld s.held l e) e es held)))
+
 -- a ledger of the cluster without its lock
 IsLedger-unlocked : (s : Cluster) (g : Ledger) → IsLedger s g → IsLedger s (unlocked g)
 IsLedger-unlocked s g was = record {
@@ -132,6 +178,25 @@ IsLedger-locked_by s w g named some was = record {
   due = λ due is. absurd (cc);
 }
 
+-- with another member in a fragment
+IsLedger-swapped : (s : Cluster) (g : Ledger) (w f i : ℕ) → IsSwappable s g w f i → IsLedger s g → IsLedger s (swapped f i w g)
+IsLedger-swapped s g w f i may was =
+    let m = g.metadata in
+    let nobody : Fragment = record { first = 0; ensemble = [] } in
+    let old : Fragment = get_or m.fragments f nobody in
+    let at : slice_get m.fragments f ≡ Some old = slice_get-get_or m.fragments f nobody may.fragment in
+    let stands : old ≡ get_or m.fragments f old = sym (get_or_from_slice_get m.fragments f old old at) in
+    let same : record m { version = m.version + 1; fragments = set m.fragments f (with_member old i w) } ≡ next_version (with_member_at m f i w) = ap next_version (sym (with_member_at-found m f i w old may.fragment stands)) in
+    subst (λ (n : Metadata). IsLedger s (record g { metadata = n })) same (record {
+      id = was.id;
+      metadata = IsMetadata-set m f i w old stands may.fragment (may.new old at) (omega (arith, may.version)) was.metadata;
+      members = All-set (λ (fragment : Fragment). All (λ b. b < length s.names) fragment.ensemble) m.fragments f (with_member old i w)
+          (All-set (λ b. b < length s.names) old.ensemble i w may.named (was.members f nobody may.fragment)) was.members;
+      task = was.task;
+      lock = was.lock;
+      due = was.due;
+    })
+
 -- with the missing members in its task
 KeepsId-audited : (up : Set numbers) → KeepsId (audited up)
 KeepsId-audited up g = elim (is_empty (missing up g)) as (λ b. (if b then g else record g { task = Some (published up g) }).id ≡ g.id) [ true ↦ refl | false ↦ refl ]
@@ -152,10 +217,6 @@ IsLedger-audited s g was =
 
 -- Bookies that have names
 
-either : (a b : Bool) (P : Type 0) → (a ≡ true → P) → (b ≡ true → P) → (a || b) ≡ true → P
-either true b P first second is = first refl
-either false b P first second is = second is
-
 and_second : (a b : Bool) → (a && b) ≡ true → b ≡ true
 and_second true b is = is
 and_second false b is = cc
@@ -169,38 +230,6 @@ named-insert up k n within named b is =
 
 pub named-remove : (up : Set numbers) (k n : ℕ) → ((b : ℕ) → contains up b ≡ true → b < n) → (b : ℕ) → contains (remove up k) b ≡ true → b < n
 named-remove up k n named b is = named b (and_second (not (eq_by_cmp nat_cmp k b)) (contains up b) (sym (contains-remove up k b) ∙ is))
-
--- Checks that give no refusal
-
--- a check in the midst of a list that gives none
-check-none : (before : List (Option Refusal)) (check : Option Refusal) (later : List (Option Refusal)) → first_refusal (before ++ check ∷ later) ≡ None → check ≡ None
-check-none [] None later none = refl
-check-none [] (Some refusal) later none = cc
-check-none (None ∷ before) check later none = check-none before check later none
-check-none (Some refusal ∷ before) check later none = cc
-
--- the checks of the ledger that is there
-at_ledger-none : (s : Cluster) (l : ℕ) (checks : Ledger → List (Option Refusal)) (g : Ledger) → ledger_at s l ≡ Some g → at_ledger s l checks ≡ None → first_refusal (checks g) ≡ None
-at_ledger-none s l checks g found none = sym (ap (λ o. with_ledger o checks) found) ∙ none
-
-refuse_if-none : (condition : Bool) (refusal : Refusal) → refuse_if condition refusal ≡ None → condition ≡ false
-refuse_if-none true refusal none = cc
-refuse_if-none false refusal none = refl
-
--- the bookie is in the picture
-no_bookie-none : (s : Cluster) (b : ℕ) → no_bookie s b ≡ None → b < length s.names
-no_bookie-none s b none = let named : not (nat_lt b (length s.names)) ≡ false = refuse_if-none _ _ none in grind (arith, nat_tests)
-
--- the ledger has a task
-no_task-none : (g : Ledger) → no_task g ≡ None → IsSome g.task
-no_task-none g none = some g.task (refuse_if-none _ _ none) where
-  some : (o : Option (Set numbers)) → is_none o ≡ false → IsSome o
-  some None none = cc
-  some (Some task) none = refl
-
--- the clock does not pass its end
-clock_end-none : (s : Cluster) (n : ℕ) → clock_end s n ≡ None → s.clock + n ≤ 1_000_000_000
-clock_end-none s n none = let within : nat_lt 1_000_000_000 (s.clock + n) ≡ false = refuse_if-none _ _ none in grind (arith, nat_tests)
 
 -- Each accepted event keeps a cluster well-formed.
 pub IsWellFormed-after : (s : Cluster) (event : Event) → IsWellFormed s → refusal_of s event ≡ None → IsWellFormed (after s event)
@@ -220,6 +249,11 @@ IsWellFormed-after s (Expire w) was none = IsWellFormed-ledgers s (expired w) wa
 IsWellFormed-after s (Tick n) was none =
     let within : s.clock + n ≤ 1_000_000_000 = clock_end-none s n (check-none (bad_tick n ∷ []) (clock_end s n) [] none) in
     IsWellFormed-clock s (s.clock + n) was (omega arith) within
+IsWellFormed-after s (Copy w l f i v) was none =
+    let may = accepted_copy s w l f i v none in
+    IsWellFormed-copied_all s w l (striped_at s l f i) was may.named may.held
+IsWellFormed-after s (Swap w l f i v) was none = IsWellFormed-change_ledger s l (swapped f i w) was (λ g. refl) (λ g found is.
+    IsLedger-swapped s g w f i (accepted_swap s w l f i v g found is.metadata.version none) is)
 
 -- A ledger that is found is one of the cluster.
 pub IsLedger-found : (s : Cluster) (l : ℕ) (g : Ledger) → IsWellFormed s → ledger_at s l ≡ Some g → IsLedger s g
