@@ -12,7 +12,7 @@ use Rattle.reh_types.specs.declared.names.LedgerState.TheVariants.{Closed}
 use Rattle.reh_types.specs.declared.refusals.Refusal.TheVariants.{MissingEntry, StillUnder, Stale, NoSource, VersionEnd}
 use Rattle.reh_types.specs.Sets.{contains, insert, retain, remove, empty, from_list, union, items, is_subset, is_empty, len}
 use Rattle.reh_model.specs.Metadata.{Metadata}
-use Rattle.reh_model.specs.Cluster.{Cluster, Ledger, ledger_at}
+use Rattle.reh_model.specs.Cluster.{Cluster, ledger_at}
 use Rattle.reh_model.specs.Session.{opened, state_of}
 use Rattle.reh_model.proofs.Examples.{replies, played}
 use Rattle.reh_model.proofs.TaskExamples.{five_bookies, closed_ledger, open_ledger}

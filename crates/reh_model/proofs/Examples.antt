@@ -11,7 +11,7 @@ use Rattle.reh_types.specs.declared.refusals.Refusal.TheVariants.{NothingToUndo,
 use Rattle.reh_types.specs.Sets.{contains, insert, retain, remove, empty, from_list, union, items, is_subset, is_empty, len}
 use Rattle.reh_model.specs.Cluster.{Cluster}
 use Rattle.reh_model.specs.Session.{Session, opened, reply_to, session_after}
-use Rattle.reh_model.specs.Lines.{Cut, cut_of, lines_of}
+use Rattle.reh_model.specs.Lines.{cut_of, lines_of}
 use Rattle.reh_model.specs.Transcript.{transcript}
 
 -- two registered bookies, and no ledger
