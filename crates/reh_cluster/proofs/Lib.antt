@@ -1,3 +1,4 @@
 pub mod NamesLemmas
 pub mod MissingLaws
 pub mod MemberLaws
+pub mod ResultLaws

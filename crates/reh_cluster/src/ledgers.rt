@@ -1,11 +1,11 @@
 // A ledger of the cluster, with its task and its lock.
-ghost use Rattle.std.specs.Prelude.{◌≡◌, ◌==◌, ◌<◌, not, map, position, All, None};
-ghost use Rattle.std.specs.List.{filter, flat_map};
-ghost use Rattle.std.specs.Option.{option_copied};
+ghost use Rattle.std.specs.Prelude.{◌≡◌, ◌==◌, ◌<◌, ◌^◌, false, not, map, length, position, slice_get, All, None, OnOk, OnErr};
+ghost use Rattle.std.specs.List.{filter, flat_map, list_any};
+ghost use Rattle.std.specs.Option.{ForSome, option_copied};
 ghost use Rattle.reh_types.specs.Sets as set;
 ghost use Rattle.reh_model.specs.Cluster as model;
 ghost use Rattle.reh_model.specs.Audit as audit;
-ghost use Rattle.reh_model.specs.Step.{locked_by, unlocked, finished, expired};
+ghost use Rattle.reh_model.specs.Step.{locked_by, unlocked, finished, expired, swapped};
 ghost use Rattle.reh_cluster.specs.Members.{HasBookies};
 
 use reh_meta::{Fragment, LedgerMeta};
@@ -151,6 +151,25 @@ impl Ledger {
     {
         self.task = None;
         self.lock = None;
+    }
+
+    /// Puts the bookie at an index of a fragment's ensemble, and the metadata to its next version. Want of memory
+    /// changes nothing. The bookie is in no place of the ensemble yet, and the version is below 10^12.
+    pub(crate) fn replace_member(
+        &mut self,
+        fragment: usize,
+        index: usize,
+        bookie: BookieIx,
+    ) -> Result<(), AllocError>
+        requires fragment { fragment < length self.old.metadata.fragments }
+        requires index { index < self.old.metadata.size }
+        requires new { ForSome (slice_get self.old.metadata.fragments fragment) (λ old. list_any (λ member. member == bookie) old.ensemble ≡ false) }
+        requires version { self.old.metadata.version < 10 ^ 12 }
+        ensures ok { OnOk result (self.new ≡ swapped fragment index bookie self.old) }
+        ensures err { OnErr result (self.new ≡ self.old) }
+    {
+        self.metadata = self.metadata.with_member(fragment, index, bookie)?;
+        Ok(())
     }
 
     /// Takes the lock away if it is this worker's.

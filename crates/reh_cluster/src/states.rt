@@ -1,10 +1,10 @@
 // The state of a cluster.
-ghost use Rattle.std.specs.Prelude.{◌≡◌, ◌+◌, ◌<◌, ◌≤◌, length, None, IfOk};
+ghost use Rattle.std.specs.Prelude.{◌≡◌, ◌+◌, ◌<◌, ◌≤◌, length, None, IfOk, OnOk, OnErr};
 ghost use Rattle.std.specs.List.{find};
 ghost use Rattle.std.specs.Prelude.{◌==◌};
 ghost use Rattle.std.specs.Option.{option_copied};
 ghost use Rattle.reh_types.specs.Sets as set;
-ghost use Rattle.reh_model.specs.Contents.{count_held, greatest_held};
+ghost use Rattle.reh_model.specs.Contents.{IsHeld, count_held, greatest_held};
 ghost use Rattle.reh_model.specs.Cluster as model;
 ghost use Rattle.reh_model.specs.Step.{refusal_of, after};
 ghost use Rattle.reh_model.specs.WellFormed.{IsWellFormed};
@@ -42,7 +42,7 @@ impl Model for State {
 }
 
 impl State {
-    ghost use Rattle.reh_types.specs.declared.moves.Event.TheVariants.{Audit, Acquire, Release, Finish, Expire};
+    ghost use Rattle.reh_types.specs.declared.moves.Event.TheVariants.{Audit, Acquire, Release, Finish, Expire, Swap};
     ghost use Rattle.reh_cluster.specs.Parts.{cluster_of};
 
     /// The state at clock 0 with these names, registered bookies, grace in ticks, ledgers in picture order, and contents.
@@ -220,6 +220,37 @@ impl State {
         ensures { self.new ≡ after self.old (Expire worker) }
     {
         expire_all(&mut self.ledgers, worker);
+    }
+
+    /// The bookie holds the entry of the ledger from now on, which some bookie holds already. Want of memory changes nothing.
+    pub fn hold(&mut self, bookie: BookieIx, ledger: LedgerId, entry: u32) -> Result<(), AllocError>
+        requires bookie { bookie < length self.old.names }
+        requires held { IsHeld self.old.held ledger entry }
+        ensures ok { OnOk result (self.new ≡ record self.old { held = set.insert self.old.held (bookie, ledger, entry) }) }
+        ensures err { OnErr result (self.new ≡ self.old) }
+    {
+        self.held.add(bookie, ledger, entry)
+    }
+
+    /// An accepted swap: the worker's bookie takes that index of the fragment's ensemble, and the ledger's metadata
+    /// goes to its next version. BookKeeper's worker does so by `updateEnsembleInfo`, which writes the ledger's
+    /// metadata conditional on its version. Want of memory changes nothing.
+    pub fn swap(
+        &mut self,
+        worker: BookieIx,
+        ledger: LedgerId,
+        fragment: u64,
+        index: u64,
+        version: u64,
+    ) -> Result<(), AllocError>
+        requires { refusal_of self.old (Swap worker ledger fragment index version) ≡ None }
+        ensures ok { OnOk result (self.new ≡ after self.old (Swap worker ledger fragment index version)) }
+        ensures err { OnErr result (self.new ≡ self.old) }
+    {
+        if let Some(place) = place_of(&self.ledgers, ledger) {
+            self.ledgers[place].replace_member(fragment as usize, index as usize, worker)?;
+        }
+        Ok(())
     }
 }
 

@@ -17,7 +17,7 @@ use Rattle.reh_model.specs.Step.{refusal_of}
 use Rattle.reh_model.proofs.RefusalLaws.{check-none, at_ledger-none, with_ledger-none, with_fragment-none, refuse_if-none, find-none, no_bookie-none, no_index-none, version_end-none}
 
 -- a ledger that is found has the id
-id_found : (l : ℕ) (gs : List Ledger) (g : Ledger) → find (λ g. g.id == l) gs ≡ Some g → g.id ≡ l
+pub id_found : (l : ℕ) (gs : List Ledger) (g : Ledger) → find (λ g. g.id == l) gs ≡ Some g → g.id ≡ l
 id_found l [] g found = cc
 id_found l (h ∷ gs) g found =
     elim (h.id == l) as (λ b. (h.id == l) ≡ b → cond b (Some h) (find (λ g. g.id == l) gs) ≡ Some g → g.id ≡ l) [
@@ -26,7 +26,7 @@ id_found l (h ∷ gs) g found =
     ] refl found
 
 -- the striped entries of a ledger that is found
-striped_at-found : (s : Cluster) (l f i : ℕ) (g : Ledger) → ledger_at s l ≡ Some g → striped_at s l f i ≡ striped_of g.metadata f i
+pub striped_at-found : (s : Cluster) (l f i : ℕ) (g : Ledger) → ledger_at s l ≡ Some g → striped_at s l f i ≡ striped_of g.metadata f i
 striped_at-found s l f i g found = ap (λ (o : Option Ledger). option_map_or (λ g. striped_of g.metadata f i) o []) found
 
 not_not : (b : Bool) → not b ≡ false → b ≡ true

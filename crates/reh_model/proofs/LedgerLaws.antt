@@ -5,7 +5,7 @@ use Rattle.std.specs.List.{IsDistinct, AllByRecursion, find, position_or_len}
 use Rattle.std.proofs.lemmas.Bool.Decides.{nat_tests}
 use Rattle.std.proofs.lemmas.List.Sums.{sum_by-cons, fails_before_first}
 use Rattle.std.proofs.lemmas.List.Quantifiers.{position-Some}
-use Rattle.reh_model.specs.Cluster.{Cluster, Ledger, change_ledger}
+use Rattle.reh_model.specs.Cluster.{Cluster, Ledger, ledger_at, change_ledger}
 
 -- Changes that keep every id
 
@@ -89,6 +89,13 @@ change_ledger-set s l change k old new distinct is stood made =
     let at : (k < length s.ledgers) × (((get_or s.ledgers k old).id == l) ≡ true) × ((j : ℕ) → j < k → ((get_or s.ledgers j old).id == l) ≡ false) = position-Some (λ g. g.id == l) s.ledgers k old is in
     let id : (get_or s.ledgers k old).id ≡ l = grind (arith, nat_tests, at.1) in
     ap (λ (gs : List Ledger). record s { ledgers = gs }) (ap (λ (g : Ledger). set s.ledgers k g) (made ∙ ap change stood) ∙ sym (map_changed-set l change s.ledgers distinct k old at.0 id))
+
+-- what stands at the place of an id is the ledger that is found
+pub ledger_at-position : (s : Cluster) (l k : ℕ) (g : Ledger) → IsDistinct nat_eq (map (λ g. g.id) s.ledgers) → position (λ g. g.id == l) s.ledgers ≡ Some k → g ≡ get_or s.ledgers k g → ledger_at s l ≡ Some g
+ledger_at-position s l k g distinct is stood =
+    let at : (k < length s.ledgers) × (((get_or s.ledgers k g).id == l) ≡ true) × ((j : ℕ) → j < k → ((get_or s.ledgers j g).id == l) ≡ false) = position-Some (λ g. g.id == l) s.ledgers k g is in
+    let id : (get_or s.ledgers k g).id ≡ l = grind (arith, nat_tests, at.1) in
+    ap (λ (j : ℕ). find (λ g. g.id == j) s.ledgers) (sym id) ∙ found_itself s.ledgers distinct k g at.0 ∙ ap Some (sym stood)
 
 -- and where there is none of that id, it is to change nothing
 pub change_ledger-absent : (s : Cluster) (l : ℕ) (change : Ledger → Ledger) → position (λ g. g.id == l) s.ledgers ≡ None → s ≡ change_ledger s l change

@@ -265,3 +265,7 @@ IsLedger-found s l g was found = found_in s.ledgers was.each found where
         | true ↦ λ is. let same : h ≡ g = cc in subst (IsLedger s) same (All-head (IsLedger s) h gs each)
         | false ↦ λ later. found_in gs (All-tail (IsLedger s) h gs each) later
       ] found
+
+-- An accepted swap of a ledger that is found.
+pub swappable-found : (s : Cluster) (w l f i v : ℕ) (g : Ledger) → IsWellFormed s → ledger_at s l ≡ Some g → refusal_of s (Swap w l f i v) ≡ None → IsSwappable s g w f i
+swappable-found s w l f i v g was found none = accepted_swap s w l f i v g found (IsLedger-found s l g was found).metadata.version none

@@ -1,14 +1,19 @@
 // When an event is refused: one function for each event, over checks that they share.
-ghost use Rattle.std.specs.Prelude.{◌≡◌, None, Some, MatchResult};
-ghost use Rattle.reh_types.specs.declared.moves.Event.TheVariants.{Lose, Join, Audit, Acquire, Release, Finish, Expire, Tick};
-ghost use Rattle.std.specs.List.{list_any};
+ghost use Rattle.std.specs.Prelude.{◌≡◌, ◌==◌, ◌&&◌, [], ◌∷◌, length, None, Some, MatchResult, not, slice_get};
+ghost use Rattle.reh_types.specs.declared.moves.Event.TheVariants.{Lose, Join, Audit, Acquire, Release, Finish, Expire, Tick, Copy, Swap};
+ghost use Rattle.std.specs.List.{find, list_any};
+ghost use Rattle.reh_model.specs.Metadata.{striped_of};
+ghost use Rattle.reh_model.specs.Cluster as cluster;
 ghost use Rattle.reh_model.specs.Cluster.{ledger_at, is_locked_by};
 ghost use Rattle.reh_model.specs.Refusals as model;
+ghost use Rattle.reh_model.specs.Refusals.{first_refusal};
 ghost use Rattle.reh_model.specs.Step.{refusal_of};
 ghost use Rattle.reh_step.specs.Decisions.{Decides};
 
 use reh_audit::{has_news, under_of};
 use reh_cluster::{Ledger, State};
+use reh_meta::Fragment;
+use reh_stripe::{Striped, write_set};
 use reh_types::{BookieIx, Event, LedgerId, Refusal};
 
 /// The greatest number of ticks by which the clock goes on at once.
@@ -16,6 +21,9 @@ const MAX_TICKS: u64 = 1_000_000;
 
 /// Where the clock ends.
 const CLOCK_END: u64 = 1_000_000_000;
+
+/// Where a ledger's versions end.
+const VERSION_END: u64 = 1_000_000_000_000;
 
 /// Whether the event is accepted, or else the first refusal that applies. It takes no memory.
 pub fn check(state: &State, event: &Event) -> Result<(), Refusal>
@@ -30,6 +38,20 @@ pub fn check(state: &State, event: &Event) -> Result<(), Refusal>
         Event::Finish { worker, ledger } => check_finish(state, *worker, *ledger),
         Event::Expire { worker } => check_expire(state, *worker),
         Event::Tick { ticks } => check_tick(state, *ticks),
+        Event::Copy {
+            worker,
+            ledger,
+            fragment,
+            index,
+            version,
+        } => check_copy(state, *worker, *ledger, *fragment, *index, *version),
+        Event::Swap {
+            worker,
+            ledger,
+            fragment,
+            index,
+            version,
+        } => check_swap(state, *worker, *ledger, *fragment, *index, *version),
     }
 }
 
@@ -81,17 +103,14 @@ fn check_acquire(state: &State, worker: BookieIx, ledger: LedgerId) -> Result<()
 fn check_release(state: &State, worker: BookieIx, ledger: LedgerId) -> Result<(), Refusal>
     ensures { Decides result (refusal_of state.now (Release worker ledger)) }
 {
-    check_bookie(state, worker)?;
-    let ledger = find_ledger(state, ledger)?;
-    check_owner(ledger, worker)
+    find_owned(state, worker, ledger)?;
+    Ok(())
 }
 
 fn check_finish(state: &State, worker: BookieIx, ledger: LedgerId) -> Result<(), Refusal>
     ensures { Decides result (refusal_of state.now (Finish worker ledger)) }
 {
-    check_bookie(state, worker)?;
-    let ledger = find_ledger(state, ledger)?;
-    check_owner(ledger, worker)?;
+    let ledger = find_owned(state, worker, ledger)?;
     if let Some(fragment) = under_of(state, ledger) {
         return Err(Refusal::StillUnder(fragment));
     }
@@ -120,6 +139,47 @@ fn check_tick(state: &State, ticks: u64) -> Result<(), Refusal>
     Ok(())
 }
 
+fn check_copy(
+    state: &State,
+    worker: BookieIx,
+    ledger: LedgerId,
+    fragment: u64,
+    index: u64,
+    version: u64,
+) -> Result<(), Refusal>
+    ensures { Decides result (refusal_of state.now (Copy worker ledger fragment index version)) }
+{
+    let ledger = find_owned(state, worker, ledger)?;
+    check_version(ledger, version)?;
+    let (fragment, stripe) = check_place(state, worker, ledger, fragment, index)?;
+    if let Some(entry) = first_unreadable(state, ledger, fragment, stripe) {
+        return Err(Refusal::NoSource(entry as u64));
+    }
+    Ok(())
+}
+
+fn check_swap(
+    state: &State,
+    worker: BookieIx,
+    ledger: LedgerId,
+    fragment: u64,
+    index: u64,
+    version: u64,
+) -> Result<(), Refusal>
+    ensures { Decides result (refusal_of state.now (Swap worker ledger fragment index version)) }
+{
+    let ledger = find_owned(state, worker, ledger)?;
+    check_version(ledger, version)?;
+    let (_, stripe) = check_place(state, worker, ledger, fragment, index)?;
+    if let Some(entry) = first_lacked(state, worker, ledger, stripe) {
+        return Err(Refusal::MissingEntry(entry as u64));
+    }
+    if ledger.metadata().version() == VERSION_END {
+        return Err(Refusal::VersionEnd);
+    }
+    Ok(())
+}
+
 // Checks that events share
 
 /// Whether the bookie, or the worker that stands for it, is in the picture.
@@ -143,6 +203,18 @@ fn find_ledger(state: &State, ledger: LedgerId) -> Result<&Ledger, Refusal>
     }
 }
 
+/// The ledger of that id, if the worker holds its lock.
+fn find_owned(state: &State, worker: BookieIx, ledger: LedgerId) -> Result<&Ledger, Refusal>
+    ensures { MatchResult result
+        (λ g. (model.no_bookie state.now worker ≡ None) × (ledger_at state.now ledger ≡ Some g.now) × (model.not_owner g.now worker ≡ None))
+        (λ refusal. first_refusal (model.no_bookie state.now worker ∷ model.at_ledger state.now ledger (λ g. model.not_owner g worker ∷ []) ∷ []) ≡ Some refusal) }
+{
+    check_bookie(state, worker)?;
+    let ledger = find_ledger(state, ledger)?;
+    check_owner(ledger, worker)?;
+    Ok(ledger)
+}
+
 /// Whether the worker holds the ledger's lock.
 fn check_owner(ledger: &Ledger, worker: BookieIx) -> Result<(), Refusal>
     ensures { Decides result (model.not_owner ledger.now worker) }
@@ -159,4 +231,119 @@ fn holds_lock(worker: BookieIx, ledgers: &[Ledger]) -> bool
     ensures { result ≡ list_any (is_locked_by worker) ledgers.now }
 {
     ledgers.iter().any(|ledger| ledger.is_locked_by(worker))
+}
+
+// Copies and swaps
+
+/// Whether the ledger's metadata is at that version.
+fn check_version(ledger: &Ledger, version: u64) -> Result<(), Refusal>
+    ensures { Decides result (model.stale ledger.now version) }
+{
+    let now = ledger.metadata().version();
+    if now == version {
+        Ok(())
+    } else {
+        Err(Refusal::Stale(now))
+    }
+}
+
+/// The fragment of that number, and the entries that it stripes onto the index, if the worker's bookie can take that place.
+///
+/// BookKeeper's replication worker puts its own bookie into the place of a lost member, in a fragment whose entries are fixed.
+fn check_place<'a>(
+    state: &State,
+    worker: BookieIx,
+    ledger: &'a Ledger,
+    fragment: u64,
+    index: u64,
+) -> Result<(&'a Fragment, Striped), Refusal>
+    ensures { MatchResult result
+        (λ place. (model.no_place state.now worker ledger.now fragment index ≡ None) × (slice_get ledger.now.metadata.fragments fragment ≡ Some place.0.now) × (length place.0.now.ensemble ≡ ledger.now.metadata.size) × (place.1 ≡ striped_of ledger.now.metadata fragment index))
+        (λ refusal. model.no_place state.now worker ledger.now fragment index ≡ Some refusal) }
+{
+    let metadata = ledger.metadata();
+    let Some(found) = metadata.fragments().get(fragment as usize) else {
+        return Err(Refusal::NoFragment);
+    };
+    if index >= metadata.size() as u64 {
+        return Err(Refusal::NoIndex);
+    }
+    if state.is_up(found.ensemble[index as usize]) {
+        return Err(Refusal::MemberUp);
+    }
+    if !state.is_up(worker) {
+        return Err(Refusal::TargetDown);
+    }
+    if is_member(found, worker) {
+        return Err(Refusal::TargetIsMember);
+    }
+    let Some(stop) = metadata.end_of(fragment as usize) else {
+        return Err(Refusal::NoEndpoint);
+    };
+    let stripe = Striped::new(
+        found.first,
+        stop,
+        index as u32,
+        metadata.size(),
+        metadata.write_quorum(),
+    );
+    Ok((found, stripe))
+}
+
+/// Whether the bookie is in the fragment's ensemble.
+fn is_member(fragment: &Fragment, bookie: BookieIx) -> bool
+    ensures { result ≡ list_any (λ member. member == bookie) fragment.now.ensemble }
+{
+    fragment.ensemble.contains(&bookie)
+}
+
+/// The least of the entries that can't be read.
+fn first_unreadable(
+    state: &State,
+    ledger: &Ledger,
+    fragment: &Fragment,
+    entries: Striped,
+) -> Option<u32>
+    requires { length fragment.now.ensemble ≡ ledger.now.metadata.size }
+    ensures { result ≡ find (λ e. not (cluster.is_readable state.now ledger.now fragment.now e)) entries }
+{
+    for entry in entries {
+        if !is_readable(state, ledger, fragment, entry) {
+            return Some(entry);
+        }
+    }
+    None
+}
+
+/// The least of the entries that the bookie lacks.
+fn first_lacked(state: &State, bookie: BookieIx, ledger: &Ledger, entries: Striped) -> Option<u32>
+    ensures { result ≡ find (λ e. not (cluster.holds state.now bookie ledger.now.id e)) entries }
+{
+    for entry in entries {
+        if !state.holds(bookie, ledger.id(), entry) {
+            return Some(entry);
+        }
+    }
+    None
+}
+
+/// Whether some registered member of the entry's write set holds it.
+fn is_readable(state: &State, ledger: &Ledger, fragment: &Fragment, entry: u32) -> bool
+    requires { length fragment.now.ensemble ≡ ledger.now.metadata.size }
+    ensures { result ≡ cluster.is_readable state.now ledger.now fragment.now entry }
+{
+    let metadata = ledger.metadata();
+    for index in write_set(entry, metadata.size(), metadata.write_quorum()) {
+        if is_source(state, ledger, fragment.ensemble[index as usize], entry) {
+            return true;
+        }
+    }
+    false
+}
+
+/// Whether the bookie is registered and holds the entry.
+fn is_source(state: &State, ledger: &Ledger, bookie: BookieIx, entry: u32) -> bool
+    ensures { result ≡ (cluster.is_up state.now bookie && cluster.holds state.now bookie ledger.now.id entry) }
+{
+    state.is_up(bookie) && state.holds(bookie, ledger.id(), entry)
 }

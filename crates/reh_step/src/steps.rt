@@ -1,11 +1,15 @@
 // What an event makes of the state.
-ghost use Rattle.std.specs.Prelude.{◌≡◌, None, IfOk, IfErr};
+ghost use Rattle.std.specs.Prelude.{◌≡◌, ◌<◌, [], length, unwrap_or, None, All, IfOk, IfErr, OnOk};
+ghost use Rattle.reh_types.specs.Sets as set;
+ghost use Rattle.reh_model.specs.Contents.{copies_of, IsHeld};
+ghost use Rattle.reh_model.specs.Cluster as cluster;
 ghost use Rattle.reh_model.specs.Refusals.{or_no_memory};
 ghost use Rattle.reh_model.specs.Step.{refusal_of, after};
 
 use crate::decisions::check;
 use reh_cluster::State;
-use reh_types::{Event, Refusal};
+use reh_stripe::Striped;
+use reh_types::{BookieIx, Event, LedgerId, Refusal};
 use std::alloc::{AllocError, Global};
 
 /// The state after the event, or the first refusal that applies to it; the state that it is made on stays as it was.
@@ -29,16 +33,16 @@ pub fn apply(state: &State, event: &Event) -> Result<State, AllocError>
     requires { refusal_of state.now event.now ≡ None }
     ensures { IfOk result (λ next. next ≡ after state.now event.now) }
 {
-    let mut next = state.clone_in()?;
-    change(&mut next, event);
-    Ok(next)
+    let next = state.clone_in()?;
+    change(next, event)
 }
 
-/// Makes an event that is accepted on the state itself. It takes no memory.
-pub fn change(state: &mut State, event: &Event)
-    requires { refusal_of state.old event.now ≡ None }
-    ensures { state.new ≡ after state.old event.now }
+/// Makes an event that is accepted on the state itself. Only a copy and a swap take memory; where there is none, the state is dropped.
+pub fn change(state: State, event: &Event) -> Result<State, AllocError>
+    requires { refusal_of state event.now ≡ None }
+    ensures { IfOk result (λ next. next ≡ after state event.now) }
 {
+    let mut state = state;
     match event {
         Event::Lose { bookie } => state.lose(*bookie),
         Event::Join { bookie } => state.join(*bookie),
@@ -48,5 +52,58 @@ pub fn change(state: &mut State, event: &Event)
         Event::Finish { worker, ledger } => state.finish(*worker, *ledger),
         Event::Expire { worker } => state.expire(*worker),
         Event::Tick { ticks } => state.advance(*ticks),
+        Event::Copy {
+            worker,
+            ledger,
+            fragment,
+            index,
+            ..
+        } => {
+            if let Some(stripe) = stripe_at(&state, *ledger, *fragment, *index) {
+                hold_all(&mut state, *worker, *ledger, stripe)?;
+            }
+        }
+        Event::Swap {
+            worker,
+            ledger,
+            fragment,
+            index,
+            version,
+        } => state.swap(*worker, *ledger, *fragment, *index, *version)?,
     }
+    Ok(state)
+}
+
+/// The entries that the ledger's fragment of that number stripes onto the index, if there is such a fragment and it has a stop.
+fn stripe_at(state: &State, ledger: LedgerId, fragment: u64, index: u64) -> Option<Striped>
+    requires { index < 16 }
+    ensures { cluster.striped_at state.now ledger fragment index ≡ unwrap_or result [] }
+{
+    let metadata = state.ledger(ledger)?.metadata();
+    let first = metadata.fragments().get(fragment as usize)?.first;
+    let stop = metadata.end_of(fragment as usize)?;
+    Some(Striped::new(
+        first,
+        stop,
+        index as u32,
+        metadata.size(),
+        metadata.write_quorum(),
+    ))
+}
+
+/// Adds these entries of the ledger, which some bookie holds, to those that the bookie holds. Want of memory may leave some of them added.
+fn hold_all(
+    state: &mut State,
+    bookie: BookieIx,
+    ledger: LedgerId,
+    entries: Striped,
+) -> Result<(), AllocError>
+    requires bookie { bookie < length state.old.names }
+    requires held { All (λ e. IsHeld state.old.held ledger e) entries }
+    ensures { OnOk result (state.new ≡ record state.old { held = set.union state.old.held (copies_of bookie ledger entries) }) }
+{
+    for entry in entries {
+        state.hold(bookie, ledger, entry)?;
+    }
+    Ok(())
 }

@@ -1,0 +1,52 @@
+use Rattle.std.proofs.Common.{◌≡◌, ◌∙◌, ap, sym, subst, set, List}
+use Rattle.std.specs.Prelude.{◌==◌, position}
+use Rattle.reh_types.specs.declared.moves.Event.TheVariants.{Swap}
+use Rattle.reh_model.specs.Cluster.{Cluster, Ledger, change_ledger}
+use Rattle.reh_model.specs.Step.{refusal_of, swapped}
+use Rattle.reh_model.specs.WellFormed.{IsWellFormed}
+use Rattle.reh_model.proofs.LedgerLaws.{change_ledger-set, change_ledger-absent, ledger_at-position}
+use Rattle.reh_model.proofs.AcceptedLaws.{IsSwappable}
+use Rattle.reh_model.proofs.WellFormedLaws.{IsWellFormed-after, swappable-found}
+use Rattle.reh_cluster.specs.State.{cluster_in}
+use Rattle.reh_cluster.proofs.states.State.swap.Goals as goal
+
+-- what the swap shows of the ledger that stands at the place
+may : (c : goal.After-index_mut) → IsSwappable (cluster_in c.self.inside) c.index_mut.result.now c.args.worker c.args.fragment c.args.index
+may c =
+    swappable-found (cluster_in c.self.inside) c.args.worker c.args.ledger c.args.fragment c.args.index c.args.version c.index_mut.result.now c.self.invariant
+    (ledger_at-position (cluster_in c.self.inside) c.args.ledger c.in-Some.place c.index_mut.result.now c.self.invariant.different
+    (ap (λ (gs : List Ledger). position (λ g. g.id == c.args.ledger) gs) (sym c.deref.ensures.value) ∙ sym c.place_of.ensures ∙ c.in-Some.is)
+    c.index_mut.ensures.value)
+    (ap (λ (s : Cluster). refusal_of s (Swap c.args.worker c.args.ledger c.args.fragment c.args.index c.args.version)) c.self.view_is ∙ c.requires)
+
+changed : (c : goal.In_ok-replace_member) → record (cluster_in c.self.inside) { ledgers = set c.self.inside.ledgers.items c.in-Some.place c.replace_member.new.self } ≡ change_ledger (cluster_in c.self.inside) c.args.ledger (swapped c.args.fragment c.args.index c.args.worker)
+changed c =
+    change_ledger-set (cluster_in c.self.inside) c.args.ledger (swapped c.args.fragment c.args.index c.args.worker) c.in-Some.place c.index_mut.result.now c.replace_member.new.self c.self.invariant.different
+    (ap (λ (gs : List Ledger). position (λ g. g.id == c.args.ledger) gs) (sym c.deref.ensures.value) ∙ sym c.place_of.ensures ∙ c.in-Some.is)
+    c.index_mut.ensures.value c.in_ok-replace_member.ensures.ok
+
+pub replace_member-requires-clause-fragment : goal.replace_member-requires-clause-fragment
+replace_member-requires-clause-fragment c = (may c).fragment
+
+pub replace_member-requires-clause-index : goal.replace_member-requires-clause-index
+replace_member-requires-clause-index c = (may c).index
+
+pub replace_member-requires-clause-new : goal.replace_member-requires-clause-new
+replace_member-requires-clause-new c = (may c).new
+
+pub replace_member-requires-clause-version : goal.replace_member-requires-clause-version
+replace_member-requires-clause-version c = (may c).version
+
+pub invariant_of-self : goal.invariant_of-self
+invariant_of-self c =
+    subst IsWellFormed (sym (changed c))
+    (IsWellFormed-after (cluster_in c.self.inside) (Swap c.args.worker c.args.ledger c.args.fragment c.args.index c.args.version) c.self.invariant
+    (ap (λ (s : Cluster). refusal_of s (Swap c.args.worker c.args.ledger c.args.fragment c.args.index c.args.version)) c.self.view_is ∙ c.requires))
+
+pub returns-in_ok-replace_member-clause-ok : goal.returns-in_ok-replace_member-clause-ok
+returns-in_ok-replace_member-clause-ok c = changed c ∙ ap (λ (s : Cluster). change_ledger s c.args.ledger (swapped c.args.fragment c.args.index c.args.worker)) c.self.view_is
+
+pub returns-in_default-clause-ok : goal.returns-in_default-clause-ok
+returns-in_default-clause-ok c =
+    change_ledger-absent c.args.self.now c.args.ledger (swapped c.args.fragment c.args.index c.args.worker)
+    (ap (λ (gs : List Ledger). position (λ g. g.id == c.args.ledger) gs) (sym (c.deref.ensures.value ∙ ap (λ (s : Cluster). s.ledgers) c.self.view_is)) ∙ sym c.place_of.ensures ∙ c.in_default.is)
