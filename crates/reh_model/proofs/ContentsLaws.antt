@@ -228,9 +228,12 @@ or_true : (a b : Bool) → b ≡ true → (a || b) ≡ true
 or_true true b is = refl
 or_true false b is = is
 
--- an entry that is held stays held where a copy is added
+-- an entry that is held stays held where copies are added
 pub IsHeld-insert : (contents : Contents) (w k x l e : ℕ) → IsHeld contents l e → IsHeld (set.insert contents (w, k, x)) l e
 IsHeld-insert contents w k x l e held = (held.0, has-insert contents w k x held.0 l e ∙ or_true ((nat_eq held.0 w && nat_eq l k) && nat_eq e x) (has contents held.0 l e) held.1)
+
+pub IsHeld-union : (contents more : Contents) (l e : ℕ) → IsHeld contents l e → IsHeld (set.union contents more) l e
+IsHeld-union contents more l e held = (held.0, contains-union contents more (held.0, l, e) ∙ ap (λ b. b || has more held.0 l e) held.1)
 
 -- what holds of each copy holds of one that is there
 pub All-copy : (P : ℕ × ℕ × ℕ → Type 0) (contents : Contents) → All P (items contents) → (t : ℕ × ℕ × ℕ) → set.contains contents t ≡ true → P t
