@@ -1,5 +1,7 @@
 -- Striped entries: they rise, and which ones they are.
-use Rattle.std.proofs.Common.{◌≡◌, ℕ, ◌+◌, ◌-◌, ◌<◌, ◌≤◌, true, ◌&&◌, nat_eq, nat_lt, nat_le, sym, ap, ◌∙◌, arith}
+use Rattle.std.proofs.Common.{◌≡◌, ℕ, ◌+◌, ◌-◌, ◌<◌, ◌≤◌, true, ◌&&◌, nat_eq, nat_lt, nat_le, [], Option, None, Some, refl, sym, ap, ◌∙◌, arith}
+use Rattle.std.specs.Prelude.{slice_get}
+use Rattle.std.specs.Option.{option_map_or}
 use Rattle.std.specs.List.{list_any}
 use Rattle.std.specs.List.Sorted.{IsStrictlyIncreasing}
 use Rattle.std.specs.Ordering.{nat_cmp, eq_by_cmp}
@@ -9,6 +11,8 @@ use Rattle.std.proofs.lemmas.List.FromFn.{length-range_with_len, get_or-range_wi
 use Rattle.std.proofs.lemmas.List.Kept.{IsStrictlyIncreasing-filter}
 use Rattle.reh_types.proofs.BitLaws.{any_filtered}
 use Rattle.reh_model.specs.Striping.{range, is_striped, striped}
+use Rattle.reh_model.specs.Metadata.{Metadata, Fragment, IsMetadata, stop_of, striped_of}
+use Rattle.reh_model.proofs.StripingLaws.{striped-outside}
 use Rattle.reh_model.proofs.Ranges.{passes_any, any_passes, same_answer, list_any-same}
 
 -- the entries that an index carries rise
@@ -38,3 +42,20 @@ list_any-striped e a b i n q =
     list_any-same (nat_eq e) (eq_by_cmp nat_cmp e) (λ x. sym (unsigned_tied e x)) (striped a b i n q)
     ∙ any_filtered (λ x. is_striped x i n q) e a (b - a)
     ∙ ap (λ inside. is_striped e i n q && inside) (list_any-same (eq_by_cmp nat_cmp e) (nat_eq e) (λ x. unsigned_tied e x) (range a b) ∙ list_any-range e a b)
+
+-- what a fragment that is there stripes onto an index up to its stop
+pub striped_of-found : (m : Metadata) (f i stop : ℕ) (fragment : Fragment) → slice_get m.fragments f ≡ Some fragment → stop_of m f ≡ Some stop → striped_of m f i ≡ striped fragment.first stop i m.size m.write_quorum
+striped_of-found m f i stop fragment found ends =
+    let up_to = λ (x : Fragment) (stop : Option ℕ). option_map_or (λ stop. striped x.first stop i m.size m.write_quorum) stop [] in
+    ap (λ (o : Option Fragment). option_map_or (λ x. up_to x (stop_of m f)) o []) found ∙ ap (up_to fragment) ends
+
+-- no index beside the ensemble carries an entry of a fragment
+pub striped_of-outside : (m : Metadata) (f i : ℕ) → IsMetadata m → m.size ≤ i → striped_of m f i ≡ []
+striped_of-outside m f i was outside = of_fragment (slice_get m.fragments f) where
+  of_stop : (fragment : Fragment) (stop : Option ℕ) → option_map_or (λ stop. striped fragment.first stop i m.size m.write_quorum) stop [] ≡ []
+  of_stop fragment None = refl
+  of_stop fragment (Some stop) = striped-outside (stop - fragment.first) fragment.first i m.size m.write_quorum was.writes_within outside
+
+  of_fragment : (o : Option Fragment) → option_map_or (λ fragment. option_map_or (λ stop. striped fragment.first stop i m.size m.write_quorum) (stop_of m f) []) o [] ≡ []
+  of_fragment None = refl
+  of_fragment (Some fragment) = of_stop fragment (stop_of m f)

@@ -76,14 +76,16 @@ pub fn change(state: State, event: &Event) -> Result<State, AllocError>
 
 /// The entries that the ledger's fragment of that number stripes onto the index, if there is such a fragment and it has a stop.
 fn stripe_at(state: &State, ledger: LedgerId, fragment: u64, index: u64) -> Option<Striped>
-    requires { index < 16 }
     ensures { cluster.striped_at state.now ledger fragment index ≡ unwrap_or result [] }
 {
     let metadata = state.ledger(ledger)?.metadata();
-    let first = metadata.fragments().get(fragment as usize)?.first;
+    if index >= metadata.size() as u64 {
+        return None;
+    }
+    let found = metadata.fragments().get(fragment as usize)?;
     let stop = metadata.end_of(fragment as usize)?;
     Some(Striped::new(
-        first,
+        found.first,
         stop,
         index as u32,
         metadata.size(),
