@@ -1,7 +1,7 @@
 -- A list of names that is seen through a function.
-use Rattle.std.proofs.Common.{◌≡◌, ℕ, Bool, List, [], ◌∷◌, map, position, length, nat_lt, cond, not, refl, sym, ap, ◌∙◌, Some, None, ◌||◌, ◌+◌, ◌≤◌, arith, subst, String, false}
+use Rattle.std.proofs.Common.{◌≡◌, ℕ, Bool, List, [], ◌∷◌, map, position, length, nat_lt, cond, not, refl, sym, ap, ◌∙◌, Some, None, ◌+◌, ◌≤◌, arith, subst, String, false}
 use Rattle.std.proofs.lemmas.List.{length-map}
-use Rattle.std.specs.List.{list_any, prefix_len, position_or_len, AllZip, AllByRecursion, IsDistinct}
+use Rattle.std.specs.List.{prefix_len, position_or_len, AllZip, AllByRecursion, IsDistinct}
 use Rattle.std.specs.Str.{IsUtf8, bytes_eq}
 use Rattle.std.specs.String.{string_bytes}
 use Rattle.std.proofs.lemmas.Str.{IsUtf8-string_bytes}
@@ -10,15 +10,9 @@ use Rattle.std.proofs.lemmas.Bool.{false_from_ne_true}
 use Rattle.reh_cluster.specs.Names.{IsNames}
 
 module _ {A B : Type 0} (f : A → B) where
-  module _ (p : B → Bool) where
-    pub prefix_len-map : (xs : List A) → prefix_len p (map f xs) ≡ prefix_len (λ x. p (f x)) xs
-    prefix_len-map [] = refl
-    prefix_len-map (x ∷ xs) = ap (λ n. cond (p (f x)) (1 + n) 0) (prefix_len-map xs)
-
-    -- some name passes the test
-    pub list_any-map : (xs : List A) → list_any p (map f xs) ≡ list_any (λ x. p (f x)) xs
-    list_any-map [] = refl
-    list_any-map (x ∷ xs) = ap (λ b. p (f x) || b) (list_any-map xs)
+  pub prefix_len-map : (p : B → Bool) (xs : List A) → prefix_len p (map f xs) ≡ prefix_len (λ x. p (f x)) xs
+  prefix_len-map p [] = refl
+  prefix_len-map p (x ∷ xs) = ap (λ n. cond (p (f x)) (1 + n) 0) (prefix_len-map p xs)
 
   -- the first name that passes the test
   pub position-map : (p : B → Bool) (xs : List A) → position p (map f xs) ≡ position (λ x. p (f x)) xs

@@ -11,7 +11,7 @@ use Rattle.reh_types.specs.declared.refusals.Refusal.TheVariants.{NothingToUndo,
 use Rattle.reh_types.specs.Sets.{contains, insert, retain, remove, empty, from_list, union, items, is_subset, is_empty, len}
 use Rattle.reh_model.specs.Cluster.{Cluster}
 use Rattle.reh_model.specs.Session.{Session, opened, reply_to, session_after}
-use Rattle.reh_model.specs.Lines.{Cut, cut_of, lines_of}
+use Rattle.reh_model.specs.Lines.{cut_of, lines_of}
 use Rattle.reh_model.specs.Transcript.{transcript}
 
 -- two registered bookies, and no ledger
@@ -22,6 +22,11 @@ two_bookies = record { names = codes "b1:3181" ∷ codes "b2:3181" ∷ []; grace
 abbrev pub replies : Session → List Move → List Reply
 replies m [] = []
 replies m (move ∷ moves) = reply_to m move ∷ replies (session_after m move (reply_to m move)) moves
+
+-- the session after moves in order
+abbrev pub played : Session → List Move → Session
+played m [] = m
+played m (move ∷ moves) = played (session_after m move (reply_to m move)) moves
 
 -- lines with their LF
 abbrev text_of : List (List ℕ) → List ℕ

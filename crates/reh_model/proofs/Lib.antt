@@ -10,6 +10,7 @@ pub mod LedgerLaws
 pub mod AuditLaws
 pub mod Examples
 pub mod TaskExamples
+pub mod CopyExamples
 pub mod RefusalLaws
 pub mod AcceptedLaws
 pub mod WellFormedLaws

@@ -11,17 +11,17 @@ use Rattle.reh_types.specs.declared.refusals.Refusal.TheVariants.{NoBookie, NoLe
 use Rattle.reh_types.specs.Sets.{contains, insert, retain, remove, empty, from_list, union, items, is_subset, is_empty, len}
 use Rattle.reh_model.specs.Metadata.{Fragment}
 use Rattle.reh_model.specs.Cluster.{Cluster, Ledger}
-use Rattle.reh_model.specs.Session.{Session, opened, state_of, reply_to, session_after}
-use Rattle.reh_model.proofs.Examples.{replies}
+use Rattle.reh_model.specs.Session.{opened, state_of}
+use Rattle.reh_model.proofs.Examples.{replies, played}
 
 -- a ledger with one fragment from entry 0, on the first three bookies
 abbrev first_three : List Fragment
 first_three = record { first = 0; ensemble = 0 ∷ 1 ∷ 2 ∷ [] } ∷ []
 
-abbrev closed_ledger : Ledger
+abbrev pub closed_ledger : Ledger
 closed_ledger = record { id = 7; metadata = record { size = 3; write_quorum = 2; ack_quorum = 2; state = Closed 6; version = 0; fragments = first_three }; task = None; lock = None }
 
-abbrev open_ledger : Ledger
+abbrev pub open_ledger : Ledger
 open_ledger = record { id = 9; metadata = record { size = 3; write_quorum = 3; ack_quorum = 2; state = Open; version = 0; fragments = first_three }; task = None; lock = None }
 
 -- (bookie, ledger, entry) for each entry of a list
@@ -45,17 +45,16 @@ abbrev pub answers : List Event → List Reply
 answers events = replies (opened five_bookies) (map Do events)
 
 -- the state after them
-abbrev made : Session → List Event → Session
-made m [] = m
-made m (event ∷ events) = made (session_after m (Do event) (reply_to m (Do event))) events
+abbrev state_after : List Event → Cluster
+state_after events = state_of (played (opened five_bookies) (map Do events))
 
 -- the tasks of the ledgers, in picture order
 abbrev tasks_after : List Event → List (Option (List ℕ))
-tasks_after events = map (λ g. option_map items g.task) (state_of (made (opened five_bookies) events)).ledgers
+tasks_after events = map (λ g. option_map items g.task) (state_after events).ledgers
 
 -- the owners of their locks
 abbrev owners_after : List Event → List (Option ℕ)
-owners_after events = map (λ g. option_map (λ lock. lock.owner) g.lock) (state_of (made (opened five_bookies) events)).ledgers
+owners_after events = map (λ g. option_map (λ lock. lock.owner) g.lock) (state_after events).ledgers
 
 abbrev locks_and_expiries : List Event
 locks_and_expiries = Lose 1 ∷ Audit ∷ Audit ∷ Acquire 3 7 ∷ Acquire 4 7 ∷ Expire 3 ∷ Acquire 4 7 ∷ Expire 3 ∷ []

@@ -1,5 +1,6 @@
 -- Along the ranges of entries.
 use Rattle.std.proofs.Common.{◌≡◌, ℕ, suc, ◌+◌, ◌-◌, ◌<◌, Bool, true, false, ◌||◌, List, [], ◌∷◌, ◌++◌, length, fold, Option, None, Some, refl, sym, ap, ◌∙◌, arith}
+use Rattle.std.proofs.Math.Bool.{or-false}
 use Rattle.std.specs.List.{last_or, list_any, range_with_len}
 use Rattle.std.specs.Option.{option_map_or}
 use Rattle.std.specs.Ordering.{eq_by_cmp}
@@ -32,10 +33,6 @@ or_moved true false c = refl
 or_moved false true c = refl
 or_moved false false c = refl
 
-or_false : (a : Bool) → (a || false) ≡ a
-or_false true = refl
-or_false false = refl
-
 -- adding the items of a list one after another makes the set of all
 module _ {K : Type 0} (o : Order K) where
   contains-fold : (s : Set o) (ks : List K) (q : K) → contains (fold insert s ks) q ≡ (list_any (eq_by_cmp o.cmp q) ks || contains s q)
@@ -45,4 +42,4 @@ module _ {K : Type 0} (o : Order K) where
       ∙ or_moved (list_any (eq_by_cmp o.cmp q) ks) (eq_by_cmp o.cmp q k) (contains s q)
 
   pub from_list-fold : (ks : List K) → fold insert (empty {o = o}) ks ≡ from_list ks
-  from_list-fold ks = same_set _ _ (λ q. contains-fold empty ks q ∙ ap (λ b. list_any (eq_by_cmp o.cmp q) ks || b) (contains-empty o q) ∙ or_false _ ∙ sym (contains-from_list o ks q))
+  from_list-fold ks = same_set _ _ (λ q. contains-fold empty ks q ∙ ap (λ b. list_any (eq_by_cmp o.cmp q) ks || b) (contains-empty o q) ∙ or-false _ ∙ sym (contains-from_list o ks q))

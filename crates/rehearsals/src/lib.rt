@@ -2,6 +2,10 @@
 #![tactic(auto)]
 
 #[cfg(test)]
+mod copies;
+#[cfg(test)]
+mod pictures;
+#[cfg(test)]
 mod register;
 #[cfg(test)]
 mod tasks;

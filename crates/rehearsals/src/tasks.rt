@@ -1,27 +1,14 @@
 // The auditor's tasks and the workers' locks, on five bookies with a closed and an open ledger.
+use crate::pictures::{
+    CLOSED, FIFTH, FOURTH, LOSE, OPEN, SECOND, expect, five_bookies, is_second_alone,
+};
 use reh_audit::{audit, missing, under};
 use reh_cluster::{Ledger, State};
-use reh_picture::read_picture;
 use reh_session::Session;
 use reh_step::step;
-use reh_types::{BookieIx, BookieSet, Event, LedgerId, Lock, Move, Refusal, Reply};
+use reh_types::{BookieIx, BookieSet, Event, LedgerId, Lock, Refusal, Reply};
 use std::process::Abort;
 use std::test::Fail;
-
-const FIVE_BOOKIES: &str =
-    "{\"format\":1,\"grace\":3,\"bookies\":[{\"name\":\"b1:3181\",\"up\":true},{\"name\":\"b2:3181\",\"up\":true},{\"name\":\"b3:3181\",\"up\":true},{\"name\":\"b4:3181\",\"up\":true},{\"name\":\"b5:3181\",\"up\":true}],\"ledgers\":[{\"id\":7,\"state\":\"CLOSED\",\"lastEntryId\":5,\"ensembleSize\":3,\"writeQuorumSize\":2,\"ackQuorumSize\":2,\"version\":0,\"fragments\":[{\"firstEntry\":0,\"ensemble\":[\"b1:3181\",\"b2:3181\",\"b3:3181\"]}]},{\"id\":9,\"state\":\"OPEN\",\"ensembleSize\":3,\"writeQuorumSize\":3,\"ackQuorumSize\":2,\"version\":0,\"fragments\":[{\"firstEntry\":0,\"ensemble\":[\"b1:3181\",\"b2:3181\",\"b3:3181\"]}]}],\"contents\":[{\"bookie\":\"b1:3181\",\"ledger\":7,\"entries\":[[0,0],[2,3],[5,5]]},{\"bookie\":\"b2:3181\",\"ledger\":7,\"entries\":[[0,1],[3,4]]},{\"bookie\":\"b3:3181\",\"ledger\":7,\"entries\":[[1,2],[4,5]]},{\"bookie\":\"b1:3181\",\"ledger\":9,\"entries\":[[0,4]]},{\"bookie\":\"b2:3181\",\"ledger\":9,\"entries\":[[0,3]]},{\"bookie\":\"b3:3181\",\"ledger\":9,\"entries\":[[0,3]]}]}";
-
-const SECOND: BookieIx = BookieIx(1);
-
-const FOURTH: BookieIx = BookieIx(3);
-
-const FIFTH: BookieIx = BookieIx(4);
-
-const CLOSED: LedgerId = LedgerId(7);
-
-const OPEN: LedgerId = LedgerId(9);
-
-const LOSE: Event = Event::Lose { bookie: SECOND };
 
 fn acquire(worker: BookieIx) -> Event {
     Event::Acquire {
@@ -42,28 +29,6 @@ fn finish(worker: BookieIx) -> Event {
         worker,
         ledger: CLOSED,
     }
-}
-
-fn five_bookies<R: AllocGlobal + Abort>(rt: &R) -> Result<State, Fail> {
-    let state = read_picture(rt.alloc(), FIVE_BOOKIES.as_bytes())?;
-    Ok(state)
-}
-
-// Makes the events, and compares each reply.
-fn expect<R: AllocGlobal + Abort>(
-    rt: &R,
-    session: &mut Session,
-    wanted: &[(Event, Reply)],
-) -> Result<(), Fail> {
-    for (i, (event, reply)) in wanted.iter().enumerate() {
-        assert_eq!(rt; session.perform(&Move::Do(*event)), *reply, "event {i}");
-    }
-    Ok(())
-}
-
-// Whether the second bookie alone is in the set.
-fn is_second_alone(bookies: &BookieSet) -> bool {
-    (0..64).all(|i| bookies.contains(BookieIx(i)) == (BookieIx(i) == SECOND))
 }
 
 // Whether the bookie is a member of some ensemble of the ledger.

@@ -3,7 +3,8 @@ use Rattle.std.proofs.lemmas.List.{length-map}
 use Rattle.std.specs.Str.{bytes_eq}
 use Rattle.std.specs.String.{string_bytes}
 use Rattle.std.specs.List.{list_any}
-use Rattle.reh_cluster.proofs.NamesLemmas.{list_any-map, IsNames-keys}
+use Rattle.reh_model.proofs.Ranges.{list_any-map}
+use Rattle.reh_cluster.proofs.NamesLemmas.{IsNames-keys}
 use Rattle.reh_cluster.proofs.names.Names.add.Goals as goal
 
 pub invariant_of-self-2 : goal.invariant_of-self-2
@@ -16,6 +17,6 @@ pub returns-clause-new : goal.returns-clause-new
 returns-clause-new c =
     c.in_ok-added.ensures.added
     ∙ ap not (
-    sym (list_any-map string_bytes (bytes_eq (string_bytes c.in_ok-owned.owned)) c.self.inside.names.keys)
+    sym (list_any-map (bytes_eq (string_bytes c.in_ok-owned.owned)) string_bytes c.self.inside.names.keys)
     ∙ ap (λ ns. list_any (bytes_eq (string_bytes c.in_ok-owned.owned)) ns) c.self.view_is
     ∙ ap (λ n. list_any (bytes_eq n) c.args.self.now) c.in_ok-owned.ensures.ok)

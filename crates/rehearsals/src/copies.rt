@@ -1,0 +1,214 @@
+// Copies and swaps on the five bookies: the second is lost, and the fourth one's worker is to replace it.
+use crate::pictures::{
+    CLOSED, FIRST, FOURTH, LOSE, SECOND, THIRD, changed_bookies, expect, five_bookies,
+    is_second_alone,
+};
+use reh_cluster::State;
+use reh_session::Session;
+use reh_step::step;
+use reh_types::{BookieIx, Event, LedgerId, LedgerState, Lock, Refusal, Reply};
+use std::process::Abort;
+use std::test::Fail;
+
+const LAST_VERSION: u64 = 1_000_000_000_000;
+
+const ACQUIRE: Event = Event::Acquire {
+    worker: FOURTH,
+    ledger: CLOSED,
+};
+
+const FINISH: Event = Event::Finish {
+    worker: FOURTH,
+    ledger: CLOSED,
+};
+
+fn copy(version: u64) -> Event {
+    Event::Copy {
+        worker: FOURTH,
+        ledger: CLOSED,
+        fragment: 0,
+        index: 1,
+        version,
+    }
+}
+
+fn swap(version: u64) -> Event {
+    Event::Swap {
+        worker: FOURTH,
+        ledger: CLOSED,
+        fragment: 0,
+        index: 1,
+        version,
+    }
+}
+
+// A session in which the second bookie is lost and the fourth one's worker has the closed ledger's task.
+fn locked<R: AllocGlobal + Abort>(rt: &R, state: State) -> Result<Session, Fail> {
+    let mut session = Session::open(rt.alloc(), state)?;
+    expect(
+        rt,
+        &mut session,
+        &[
+            (LOSE, Reply::Done),
+            (Event::Audit, Reply::Done),
+            (ACQUIRE, Reply::Done),
+        ],
+    )?;
+    Ok(session)
+}
+
+// Whether these are the entries below 100 that the bookie holds of the closed ledger.
+fn holds_just(state: &State, bookie: BookieIx, entries: &[u32]) -> bool {
+    (0..100).all(|entry| state.holds(bookie, CLOSED, entry) == entries.contains(&entry))
+}
+
+// The version of the closed ledger's metadata, and the ensemble of its one fragment.
+fn expect_ensemble<R: Abort>(rt: &R, state: &State, version: u64, members: [BookieIx; 3]) {
+    let found = state.ledger(CLOSED).expect(rt, "the closed ledger");
+    let metadata = found.metadata();
+    assert_eq!(rt; metadata.version(), version);
+    assert_eq!(rt; metadata.fragments().len(), 1);
+    for fragment in metadata.fragments() {
+        assert_eq!(rt; fragment.ensemble.as_slice(), members.as_slice());
+    }
+}
+
+// The closed ledger is swapped, and its task is still locked.
+fn expect_swapped<R: Abort>(rt: &R, state: &State) {
+    expect_ensemble(rt, state, 1, [FIRST, FOURTH, THIRD]);
+    let found = state.ledger(CLOSED).expect(rt, "the closed ledger");
+    let metadata = found.metadata();
+    assert_eq!(rt; metadata.state(), LedgerState::Closed { end: 6 });
+    assert_eq!(rt; metadata.size(), 3);
+    assert_eq!(rt; metadata.write_quorum(), 2);
+    assert_eq!(rt; metadata.ack_quorum(), 2);
+    assert_eq!(rt; metadata.end_of(0), Some(6));
+    assert!(rt; found.task().is_some_and(is_second_alone));
+    let lock = Lock {
+        owner: FOURTH,
+        due: None,
+    };
+    assert_eq!(rt; found.lock(), Some(lock));
+}
+
+#[test]
+fn a_copy_is_undone(rt: HostRuntime) -> Result<(), Fail> {
+    let state = changed_bookies(
+        &rt,
+        "\"contents\":[",
+        "\"contents\":[{\"bookie\":\"b4:3181\",\"ledger\":7,\"entries\":[[3,3]]},",
+    )?;
+    let mut session = locked(&rt, state)?;
+    expect(&rt, &mut session, &[(copy(0), Reply::Done)])?;
+    assert_eq!(rt; session.state().count(FOURTH), 4);
+    assert!(rt; holds_just(session.state(), FOURTH, &[0, 1, 3, 4]));
+    expect_ensemble(&rt, session.state(), 0, [FIRST, SECOND, THIRD]);
+    assert_eq!(rt; session.undo(), Ok(()));
+    assert_eq!(rt; session.state().count(FOURTH), 1);
+    assert!(rt; holds_just(session.state(), FOURTH, &[3]));
+    Ok(())
+}
+
+#[test]
+fn a_swap_follows_its_copy(rt: HostRuntime) -> Result<(), Fail> {
+    let mut session = locked(&rt, five_bookies(&rt)?)?;
+    expect(
+        &rt,
+        &mut session,
+        &[
+            (swap(0), Reply::Refused(Refusal::MissingEntry(0))),
+            (FINISH, Reply::Refused(Refusal::StillUnder(0))),
+            (copy(0), Reply::Done),
+            (swap(0), Reply::Done),
+            (FINISH, Reply::Done),
+        ],
+    )?;
+    assert_eq!(rt; session.undo(), Ok(()));
+    expect_swapped(&rt, session.state());
+    expect(
+        &rt,
+        &mut session,
+        &[(swap(0), Reply::Refused(Refusal::Stale(1)))],
+    )?;
+    expect_swapped(&rt, session.state());
+    Ok(())
+}
+
+#[test]
+fn a_swap_without_entries_needs_no_copy(rt: HostRuntime) -> Result<(), Fail> {
+    let state = changed_bookies(
+        &rt,
+        "\"ledgers\":[",
+        "\"ledgers\":[{\"id\":5,\"state\":\"CLOSED\",\"lastEntryId\":-1,\"ensembleSize\":3,\"writeQuorumSize\":2,\"ackQuorumSize\":2,\"version\":0,\"fragments\":[{\"firstEntry\":0,\"ensemble\":[\"b1:3181\",\"b2:3181\",\"b3:3181\"]}]},",
+    )?;
+    let mut session = Session::open(rt.alloc(), state)?;
+    let worker = FOURTH;
+    let ledger = LedgerId(5);
+    let swap = Event::Swap {
+        worker,
+        ledger,
+        fragment: 0,
+        index: 1,
+        version: 0,
+    };
+    expect(
+        &rt,
+        &mut session,
+        &[
+            (LOSE, Reply::Done),
+            (Event::Audit, Reply::Done),
+            (Event::Acquire { worker, ledger }, Reply::Done),
+            (swap, Reply::Done),
+            (Event::Finish { worker, ledger }, Reply::Done),
+        ],
+    )?;
+    let found = session.state().ledger(ledger).expect(&rt, "the new ledger");
+    assert_eq!(rt; found.metadata().version(), 1);
+    Ok(())
+}
+
+#[test]
+fn an_entry_without_source_is_not_copied(rt: HostRuntime) -> Result<(), Fail> {
+    let state = changed_bookies(&rt, "[[1,2],[4,5]]", "[[2,2],[4,5]]")?;
+    let mut session = locked(&rt, state)?;
+    expect(
+        &rt,
+        &mut session,
+        &[(copy(0), Reply::Refused(Refusal::NoSource(1)))],
+    )?;
+    assert_eq!(rt; session.state().count(FOURTH), 0);
+    Ok(())
+}
+
+#[test]
+fn the_versions_end(rt: HostRuntime) -> Result<(), Fail> {
+    let state = changed_bookies(&rt, "\"version\":0", "\"version\":1000000000000")?;
+    let mut session = locked(&rt, state)?;
+    expect(
+        &rt,
+        &mut session,
+        &[
+            (copy(LAST_VERSION), Reply::Done),
+            (swap(LAST_VERSION), Reply::Refused(Refusal::VersionEnd)),
+        ],
+    )?;
+    expect_ensemble(&rt, session.state(), LAST_VERSION, [FIRST, SECOND, THIRD]);
+    Ok(())
+}
+
+#[test]
+fn a_step_is_refused(rt: HostRuntime) -> Result<(), Fail> {
+    let session = locked(&rt, five_bookies(&rt)?)?;
+    let state = session.state();
+    let swapped = step(rt.alloc(), state, &swap(0));
+    assert!(rt; matches!(&swapped, Err(Refusal::MissingEntry(0))));
+    let copied = step(rt.alloc(), state, &copy(1));
+    assert!(rt; matches!(&copied, Err(Refusal::Stale(0))));
+    let copied = step(rt.alloc(), state, &copy(0))?;
+    assert_eq!(rt; copied.count(FOURTH), 4);
+    assert_eq!(rt; state.count(FOURTH), 0);
+    let swapped = step(rt.alloc(), &copied, &swap(0))?;
+    expect_ensemble(&rt, &swapped, 1, [FIRST, FOURTH, THIRD]);
+    expect_ensemble(&rt, &copied, 0, [FIRST, SECOND, THIRD]);
+    Ok(())
+}
