@@ -1,14 +1,15 @@
 -- Each move keeps what a session keeps.
-use Rattle.std.proofs.Common.{◌≡◌, ℕ, ◌+◌, ◌-◌, ◌<◌, ◌≤◌, List, [], ◌∷◌, ◌++◌, length, get_or, take, drop, sym, ap, subst, ◌∙◌, Option, None, Some, IsSome, is_some, false, nat_le, arith, length-append}
+use Rattle.std.proofs.Common.{◌≡◌, ℕ, ◌+◌, ◌-◌, ◌<◌, ◌≤◌, List, [], ◌∷◌, ◌++◌, length, get_or, take, drop, sym, ap, subst, ◌∙◌, Option, None, Some, IsSome, is_some, false, nat_le, arith, length-append, refl}
 use Rattle.std.proofs.lemmas.List.{take_more, drop_more, take-take, drop-take, drop-drop, take_all, drop_all, length-take-le, length-drop, take-append-drop}
 use Rattle.std.proofs.Math.Seq.{take-add}
 use Rattle.std.specs.Prelude.{unwrap_or}
+use Rattle.std.specs.Bool.{MatchBool}
 use Rattle.std.proofs.lemmas.Bool.Decides.{nat_tests}
 use Rattle.reh_types.specs.declared.moves.Event.{Event}
 use Rattle.reh_types.specs.declared.moves.Move.{Move}
 use Rattle.reh_types.specs.declared.moves.Move.TheVariants.{Do, Undo, Redo}
 use Rattle.reh_types.specs.declared.moves.Reply.{Reply}
-use Rattle.reh_types.specs.declared.moves.Reply.TheVariants.{Done}
+use Rattle.reh_types.specs.declared.moves.Reply.TheVariants.{Done, Refused}
 use Rattle.reh_types.specs.declared.refusals.Refusal.{Refusal}
 use Rattle.reh_types.specs.declared.refusals.Refusal.TheVariants.{NothingToUndo, NothingToRedo, Full}
 use Rattle.reh_model.specs.Cluster.{Cluster}
@@ -18,6 +19,7 @@ use Rattle.reh_model.specs.Swaps.{AllSafe}
 use Rattle.reh_model.specs.Session.{Session, replay, state_of, done_unless, full, reply_to, moved, Answers, Run}
 use Rattle.reh_model.proofs.SessionLaws.{replay_first, replay-append, replay-prefix, replay_one, done_unless-some}
 use Rattle.reh_model.proofs.SwapLaws.{CanRedoAll, CanRedoAll-run, all_safe}
+use Rattle.reh_session.proofs.Refused.{not_for_memory}
 use Rattle.reh_session.specs.Kept.{session_of, IsKept}
 
 -- an event is accepted where the state accepts it, and there is room
@@ -29,6 +31,14 @@ do_accepted {o} {s} {es} {k} h e accepted room =
     ap (λ (x : Cluster). done_unless (first_refusal (refusal_of x e ∷ full m ∷ []))) state_is
     ∙ ap (λ (x : Option Refusal). done_unless (first_refusal (x ∷ full m ∷ []))) accepted
     ∙ ap (λ b. done_unless (first_refusal (refuse_if b Full ∷ []))) few
+
+-- and it is answered with the state's refusal, if there is one
+pub refused_answers : {o s : Cluster} {es : List Event} {k : ℕ} → IsKept o s es k → (e : Event) (r : Refusal) → refusal_of s e ≡ Some r → (m : Session) → session_of o es k ≡ m → Answers m (Do e) (Refused r) m
+refused_answers {o} {s} {es} {k} h e r refused m is =
+    let state_is : state_of m ≡ s = ap (λ (n : Session). state_of n) (sym is) ∙ ap (λ (x : Option Cluster). unwrap_or x o) h.replayed in
+    let reply : reply_to m (Do e) ≡ Refused r =
+    ap (λ (x : Cluster). done_unless (first_refusal (refusal_of x e ∷ full m ∷ []))) state_is ∙ ap (λ (x : Option Refusal). done_unless (first_refusal (x ∷ full m ∷ []))) refused in
+    subst (λ b. MatchBool b ((reply_to m (Do e) ≡ Done) × (m ≡ m)) ((Refused r ≡ reply_to m (Do e)) × (m ≡ m))) (sym (not_for_memory s e r refused)) (sym reply, refl)
 
 -- an event is made, and what was undone is dropped
 pub acted : {o s : Cluster} {es : List Event} {k : ℕ} → IsKept o s es k → (e : Event) (new : List Event) → refusal_of s e ≡ None → k < 100_000 → new ≡ take k es ++ e ∷ [] → IsKept o (after s e) new (k + 1)

@@ -5,11 +5,14 @@ use Rattle.reh_types.specs.declared.moves.Reply.TheVariants.{Done}
 use Rattle.reh_model.specs.Session.{Session, reply_to, moved}
 use Rattle.reh_model.proofs.SwapLaws.{safe_move}
 use Rattle.reh_session.specs.Kept.{session_of}
-use Rattle.reh_session.proofs.Keeps.{acted, act_moves, do_accepted, kept_safe}
+use Rattle.reh_session.proofs.Keeps.{acted, act_moves, do_accepted, refused_answers, kept_safe}
 use Rattle.reh_session.proofs.sessions.Session.act.Goals as goal
 
 pub invariant_of-self-2 : goal.invariant_of-self-2
 invariant_of-self-2 c = rw c.in_ok-state.ensures (acted c.self.invariant c.args.event.now _ c.in_ok-check.ensures (omega arith) c.in_ok-keep.ensures.ok)
+
+pub returns-in_err-check-clause-answers : goal.returns-in_err-check-clause-answers
+returns-in_err-check-clause-answers c = search (rules, refused_answers c.self.invariant c.args.event.now _ c.in_err-check.ensures _ c.self.view_is)
 
 pub returns-in_err-check-clause-lasting : goal.returns-in_err-check-clause-lasting
 returns-in_err-check-clause-lasting c = kept_safe c.self.invariant _ c.self.view_is
