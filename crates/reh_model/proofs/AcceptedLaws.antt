@@ -8,7 +8,7 @@ use Rattle.std.proofs.lemmas.List.Elements.{All-weaker}
 use Rattle.std.proofs.lemmas.Option.{slice_get_within}
 use Rattle.reh_types.specs.declared.moves.Event.TheVariants.{Copy, Swap}
 use Rattle.reh_types.specs.declared.refusals.Refusal.{Refusal}
-use Rattle.reh_types.specs.declared.refusals.Refusal.TheVariants.{NoSource, MissingEntry}
+use Rattle.reh_types.specs.declared.refusals.Refusal.TheVariants.{NoSource}
 use Rattle.reh_model.specs.Contents.{IsHeld}
 use Rattle.reh_model.specs.Metadata.{Fragment, striped_of, writes}
 use Rattle.reh_model.specs.Cluster.{Cluster, Ledger, is_up, holds, is_readable, ledger_at, striped_at}
@@ -29,7 +29,7 @@ id_found l (h ∷ gs) g found =
 pub striped_at-found : (s : Cluster) (l f i : ℕ) (g : Ledger) → ledger_at s l ≡ Some g → striped_at s l f i ≡ striped_of g.metadata f i
 striped_at-found s l f i g found = ap (λ (o : Option Ledger). option_map_or (λ g. striped_of g.metadata f i) o []) found
 
-not_not : (b : Bool) → not b ≡ false → b ≡ true
+pub not_not : (b : Bool) → not b ≡ false → b ≡ true
 not_not true is = refl
 not_not false is = cc
 
@@ -77,13 +77,12 @@ accepted_copy s w l f i v none =
 abbrev swap_checks : Cluster → ℕ → ℕ → ℕ → ℕ → Ledger → List (Option Refusal)
 swap_checks s w f i v g = not_owner g w ∷ stale g v ∷ no_place s w g f i ∷ missing_entry s w g f i ∷ version_end g ∷ []
 
--- what an accepted swap shows: the bookie is in the picture, the fragment and the index are there, the bookie is no member yet, it holds the striped entries, and there is a next version
+-- what an accepted swap shows: the bookie is in the picture, the fragment and the index are there, the bookie is no member yet, and there is a next version
 pub record IsSwappable (s : Cluster) (g : Ledger) (w f i : ℕ) : Type 0 where
   pub named : w < length s.names
   pub fragment : f < length g.metadata.fragments
   pub index : i < g.metadata.size
   pub new : ForSome (slice_get g.metadata.fragments f) (λ fragment. list_any (λ member. member == w) fragment.ensemble ≡ false)
-  pub copied : All (λ e. holds s w g.id e ≡ true) (striped_of g.metadata f i)
   pub version : g.metadata.version < 10 ^ 12
 
 pub accepted_swap : (s : Cluster) (w l f i v : ℕ) (g : Ledger) → ledger_at s l ≡ Some g → g.metadata.version ≤ 10 ^ 12 → refusal_of s (Swap w l f i v) ≡ None → IsSwappable s g w f i
@@ -93,13 +92,10 @@ accepted_swap s w l f i v g found few none =
     let place = with_fragment-none (slice_get g.metadata.fragments f) _ (check-none (not_owner g w ∷ stale g v ∷ []) (no_place s w g f i) (missing_entry s w g f i ∷ version_end g ∷ []) passes) in
     let old = place.fragment in
     let new : list_any (λ member. member == w) old.ensemble ≡ false = refuse_if-none _ _ (check-none (no_index g i ∷ member_up s old i ∷ target_down s w ∷ []) (target_is_member old w) (no_endpoint g f ∷ []) place.passes) in
-    let lacks = check-none (not_owner g w ∷ stale g v ∷ no_place s w g f i ∷ []) (missing_entry s w g f i) (version_end g ∷ []) passes in
     record {
       named = no_bookie-none s w (check-none [] (no_bookie s w) (at_ledger s l checks ∷ []) none);
       fragment = slice_get_within g.metadata.fragments f old place.is;
       index = no_index-none g i (check-none [] (no_index g i) (member_up s old i ∷ target_down s w ∷ target_is_member old w ∷ no_endpoint g f ∷ []) place.passes);
       new = λ fragment is. let same : old ≡ fragment = cc in subst (λ (x : Fragment). list_any (λ member. member == w) x.ensemble ≡ false) same new;
-      copied = All-weaker (λ e. not (holds s w g.id e) ≡ false) (λ e. holds s w g.id e ≡ true) (λ e is. not_not (holds s w g.id e) is) (striped_of g.metadata f i)
-          (find-none (λ e. not (holds s w g.id e)) (λ e. MissingEntry e) (striped_of g.metadata f i) lacks);
       version = version_end-none g few (check-none (not_owner g w ∷ stale g v ∷ no_place s w g f i ∷ missing_entry s w g f i ∷ []) (version_end g) [] passes);
     }

@@ -10,6 +10,7 @@ use Rattle.std.specs.Ordering.{nat_cmp, eq_by_cmp, is_eq, ordering_then}
 use Rattle.std.specs.Cmp.{unsigned_tied, Equal-is}
 use Rattle.std.proofs.lemmas.Bool.Decides.{nat_tests}
 use Rattle.std.proofs.lemmas.List.Elements.{All-head, All-tail}
+use Rattle.std.proofs.Math.Bool.{or-false}
 use Rattle.std.proofs.lemmas.List.Sums.{sum_by-cons}
 use Rattle.std.specs.declared.cmp.Ordering.{Ordering}
 use Rattle.std.specs.declared.cmp.Ordering.TheVariants.{Less, Equal, Greater}
@@ -52,12 +53,8 @@ pub has-union-copies_of : (contents : Contents) (w l : ℕ) (es : List ℕ) (b k
     → has (set.union contents (copies_of w l es)) b k e ≡ (has contents b k e || ((nat_eq b w && nat_eq k l) && list_any (nat_eq e) es))
 has-union-copies_of contents w l es b k e = contains-union contents (copies_of w l es) (b, k, e) ∙ ap (λ c. has contents b k e || c) (has-copies_of w l es b k e)
 
-or_false : (b : Bool) → (b || false) ≡ b
-or_false true = refl
-or_false false = refl
-
 any_last : (p : ℕ → Bool) (es : List ℕ) (x : ℕ) → list_any p (es ++ x ∷ []) ≡ (list_any p es || p x)
-any_last p [] x = or_false (p x)
+any_last p [] x = or-false (p x)
 any_last p (e ∷ es) x = elim (p e) as (λ here. (here || list_any p (es ++ x ∷ [])) ≡ ((here || list_any p es) || p x)) [ true ↦ refl | false ↦ any_last p es x ]
 
 one_more : (held place copied new : Bool) → (held || (place && (copied || new))) ≡ ((place && new) || (held || (place && copied)))

@@ -12,6 +12,7 @@ pub mod Examples
 pub mod TaskExamples
 pub mod CopyExamples
 pub mod RefusalLaws
+pub mod MemoryLaws
 pub mod AcceptedLaws
 pub mod WellFormedLaws
 pub mod SwapLaws

@@ -28,16 +28,13 @@ use Rattle.reh_model.specs.Step.{refusal_of, after, locked_by, unlocked, finishe
 use Rattle.reh_model.specs.Session.{Session, replay, state_of, done_unless, full, reply_to, moved, session_after, is_no_memory, Answers, Run}
 use Rattle.reh_model.specs.Swaps.{HoldsStripe, IsSafe, IsSafeRun, AllSafe}
 use Rattle.reh_model.proofs.RefusalLaws.{check-none, with_ledger-none, find-none}
-use Rattle.reh_model.proofs.AcceptedLaws.{id_found, striped_at-found}
+use Rattle.reh_model.proofs.AcceptedLaws.{id_found, striped_at-found, not_not}
 use Rattle.reh_model.proofs.SessionLaws.{replay_first, replay-append, replay-prefix, replay_one}
 use Rattle.reh_model.proofs.LedgerLaws.{KeepsId, changed, KeepsId-changed}
 use Rattle.reh_model.proofs.ContentsLaws.{has-union-copies_of}
+use Rattle.reh_model.proofs.WellFormedLaws.{KeepsId-audited, KeepsId-expired}
 
 -- Accepted swaps
-
-not_not : (b : Bool) → not b ≡ false → b ≡ true
-not_not true is = refl
-not_not false is = cc
 
 -- No swap that is accepted loses an entry: the worker's bookie holds each one that the fragment stripes onto the index.
 pub swap_holds : (s : Cluster) (w l f i v : ℕ) → refusal_of s (Swap w l f i v) ≡ None → HoldsStripe s (Swap w l f i v)
@@ -112,13 +109,13 @@ KeepsStriped-changed l change keeps = record {
 
 KeepsStriped-audited : (up : Set numbers) → KeepsStriped (audited up)
 KeepsStriped-audited up = record {
-  id = λ g. elim (is_empty (missing up g)) as (λ b. (if b then g else record g { task = Some (published up g) }).id ≡ g.id) [ true ↦ refl | false ↦ refl ];
+  id = KeepsId-audited up;
   striped = λ g f i. elim (is_empty (missing up g)) as (λ b. striped_of (if b then g else record g { task = Some (published up g) }).metadata f i ≡ striped_of g.metadata f i) [ true ↦ refl | false ↦ refl ];
 }
 
 KeepsStriped-expired : (w : ℕ) → KeepsStriped (expired w)
 KeepsStriped-expired w = record {
-  id = λ g. elim (is_locked_by w g) as (λ b. (if b then unlocked g else g).id ≡ g.id) [ true ↦ refl | false ↦ refl ];
+  id = KeepsId-expired w;
   striped = λ g f i. elim (is_locked_by w g) as (λ b. striped_of (if b then unlocked g else g).metadata f i ≡ striped_of g.metadata f i) [ true ↦ refl | false ↦ refl ];
 }
 

@@ -150,7 +150,7 @@ IsLedger-unlocked s g was = record {
 }
 
 -- without it, if it is this worker's
-KeepsId-expired : (w : ℕ) → KeepsId (expired w)
+pub KeepsId-expired : (w : ℕ) → KeepsId (expired w)
 KeepsId-expired w g = elim (is_locked_by w g) as (λ b. (if b then unlocked g else g).id ≡ g.id) [ true ↦ refl | false ↦ refl ]
 
 IsLedger-expired : (s : Cluster) (w : ℕ) (g : Ledger) → IsLedger s g → IsLedger s (expired w g)
@@ -198,7 +198,7 @@ IsLedger-swapped s g w f i may was =
     })
 
 -- with the missing members in its task
-KeepsId-audited : (up : Set numbers) → KeepsId (audited up)
+pub KeepsId-audited : (up : Set numbers) → KeepsId (audited up)
 KeepsId-audited up g = elim (is_empty (missing up g)) as (λ b. (if b then g else record g { task = Some (published up g) }).id ≡ g.id) [ true ↦ refl | false ↦ refl ]
 
 IsLedger-audited : (s : Cluster) (g : Ledger) → IsLedger s g → IsLedger s (audited s.up g)

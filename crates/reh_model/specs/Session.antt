@@ -7,7 +7,7 @@ use Rattle.reh_types.specs.declared.moves.Move.TheVariants.{Do, Undo, Redo, Look
 use Rattle.reh_types.specs.declared.moves.Reply.{Reply}
 use Rattle.reh_types.specs.declared.moves.Reply.TheVariants.{Done, Clock, Refused}
 use Rattle.reh_types.specs.declared.refusals.Refusal.{Refusal}
-use Rattle.reh_types.specs.declared.refusals.Refusal.TheVariants.{NoBookie, AlreadyDown, AlreadyUp, BadTick, ClockEnd, NothingToUndo, NothingToRedo, Full, NoMemory}
+use Rattle.reh_types.specs.declared.refusals.Refusal.TheVariants.{NothingToUndo, NothingToRedo, Full, NoMemory}
 use Rattle.reh_model.specs.Cluster.{Cluster}
 use Rattle.reh_model.specs.Refusals.{first_refusal, refuse_if}
 use Rattle.reh_model.specs.Step.{refusal_of, after}

@@ -1,5 +1,5 @@
 -- The promise of swaps: no swap that is accepted loses an entry.
-use Rattle.std.specs.Prelude.{◌≡◌, ℕ, true, List, [], ◌∷◌, All}
+use Rattle.std.specs.Prelude.{◌≡◌, true, List, ◌∷◌, All}
 use Rattle.reh_types.specs.declared.moves.Event.{Event}
 use Rattle.reh_types.specs.declared.moves.Event.TheVariants.{Swap}
 use Rattle.reh_types.specs.declared.moves.Move.{Move}

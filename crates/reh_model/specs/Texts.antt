@@ -1,5 +1,5 @@
 -- The report of a cluster.
-use Rattle.std.specs.Prelude.{ℕ, ◌+◌, Bool, List, [], ◌∷◌, ◌++◌, if◌then◌else◌, codes, Option, None, Some}
+use Rattle.std.specs.Prelude.{ℕ, ◌+◌, Bool, List, [], ◌∷◌, ◌++◌, if◌then◌else◌, codes}
 use Rattle.std.specs.Fmt.{decimal}
 use Rattle.reh_model.specs.Contents.{count_held}
 use Rattle.reh_model.specs.Cluster.{Cluster, is_up}

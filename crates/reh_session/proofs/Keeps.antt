@@ -19,7 +19,7 @@ use Rattle.reh_model.specs.Swaps.{AllSafe}
 use Rattle.reh_model.specs.Session.{Session, replay, state_of, done_unless, full, reply_to, moved, Answers, Run}
 use Rattle.reh_model.proofs.SessionLaws.{replay_first, replay-append, replay-prefix, replay_one, done_unless-some}
 use Rattle.reh_model.proofs.SwapLaws.{CanRedoAll, CanRedoAll-run, all_safe}
-use Rattle.reh_session.proofs.Refused.{not_for_memory}
+use Rattle.reh_model.proofs.MemoryLaws.{not_for_memory}
 use Rattle.reh_session.specs.Kept.{session_of, IsKept}
 
 -- an event is accepted where the state accepts it, and there is room
