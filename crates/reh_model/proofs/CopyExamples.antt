@@ -40,7 +40,7 @@ abbrev state_after : Cluster → List Move → Cluster
 state_after s moves = state_of (played (opened s) (locked 7 ++ moves))
 
 -- the entries of a ledger that a bookie holds
-abbrev entries_of : Cluster → ℕ → ℕ → List ℕ
+abbrev pub entries_of : Cluster → ℕ → ℕ → List ℕ
 entries_of s bookie ledger = map (λ t. t.2) (filter (λ t. t.0 == bookie && t.1 == ledger) (items s.held))
 
 -- the metadata, the task and the lock of the closed ledger

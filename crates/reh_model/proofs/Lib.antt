@@ -11,6 +11,7 @@ pub mod AuditLaws
 pub mod Examples
 pub mod TaskExamples
 pub mod CopyExamples
+pub mod PlaceExamples
 pub mod RefusalLaws
 pub mod MemoryLaws
 pub mod AcceptedLaws

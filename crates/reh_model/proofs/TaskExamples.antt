@@ -25,7 +25,7 @@ abbrev pub open_ledger : Ledger
 open_ledger = record { id = 9; metadata = record { size = 3; write_quorum = 3; ack_quorum = 2; state = Open; version = 0; fragments = first_three }; task = None; lock = None }
 
 -- (bookie, ledger, entry) for each entry of a list
-abbrev row : ℕ → ℕ → List ℕ → List (ℕ × ℕ × ℕ)
+abbrev pub row : ℕ → ℕ → List ℕ → List (ℕ × ℕ × ℕ)
 row bookie ledger entries = map (λ e. (bookie, ledger, e)) entries
 
 -- five registered bookies, and the two ledgers
