@@ -16,7 +16,7 @@ use Rattle.reh_model.proofs.Examples.{replies, played}
 use Rattle.reh_model.proofs.TaskExamples.{row}
 use Rattle.reh_model.proofs.CopyExamples.{entries_of}
 
--- entries 0 to 3, 4 to 6 and 7 to 9; with two of three members for each entry, index 0 carries 0 2 3, 5 6 and 8 9, index 1 carries 0 1 3, 4 6 and 7 9, and index 2 carries 1 2, 4 5 and 7 8
+-- entries 0 to 3, 4 to 6 and 7 to 9: index 0 carries 0 2 3, 5 6 and 8 9, index 1 carries 0 1 3, 4 6 and 7 9, and index 2 carries 1 2, 4 5 and 7 8
 abbrev closed_metadata : Metadata
 closed_metadata = record {
   size = 3;
@@ -27,7 +27,7 @@ closed_metadata = record {
   fragments = record { first = 0; ensemble = 0 ∷ 1 ∷ 2 ∷ [] } ∷ record { first = 4; ensemble = 3 ∷ 2 ∷ 1 ∷ [] } ∷ record { first = 7; ensemble = 1 ∷ 3 ∷ 0 ∷ [] } ∷ [];
 }
 
--- entries 0 to 4, and those from 5 on; with two of four members for each entry, index 3 carries 2 3 of the first fragment
+-- entries 0 to 4, and those from 5 on: index 3 carries 2 3 of the first fragment
 abbrev open_metadata : Metadata
 open_metadata = record {
   size = 4;
@@ -99,7 +99,7 @@ all_metadata s = map (λ g. g.metadata) s.ledgers
 abbrev copied : ℕ → ℕ → ℕ → ℕ → ℕ → List ℕ
 copied lost ledger fragment index version = entries_of (state_after (lost ∷ []) 4 ledger (Do (Copy 4 ledger fragment index version) ∷ [])) 4 ledger
 
--- there is no such bookie, before the ledger; no such ledger; no lock, before the version; another version, before the fragment; no such fragment, before the index; no such index; a member that is registered
+-- in this order: bookie, ledger, lock, version, fragment, index, and whether the member there is registered
 pub no_such_place : answers (1 ∷ []) 4 7 (both 6 8 3 3 0 ++ both 5 8 3 3 0 ++ both 5 7 3 3 0 ++ both 4 7 3 2 3 ++ both 4 7 3 3 4 ++ both 4 7 3 1 4 ++ both 4 7 2 3 4 ++ both 4 7 1 3 4
     ++ both 4 7 0 2 4 ++ both 4 7 1 0 4 ++ both 4 7 1 1 4 ++ both 4 7 2 1 4 ++ both 4 7 2 2 4)
     ≡ twice (Refused NoBookie) ++ twice (Refused NoLedger) ++ twice (Refused NotOwner) ++ twice (Refused (Stale 4)) ++ twice (Refused NoFragment) ++ twice (Refused NoFragment) ++ twice (Refused NoIndex) ++ twice (Refused NoIndex)
@@ -133,7 +133,7 @@ pub member_of_another_fragment : answers (1 ∷ []) 0 7 (both 0 7 1 2 4) ++ answ
 unfolding contains insert retain remove empty from_list union items is_subset is_empty len
 member_of_another_fragment = refl
 
--- a swap names the least entry of the fragment that is missing, also where part of it is held; a copy the least that has no source, even one that the bookie holds by then
+-- a swap names the least entry that is missing, also where some are held; a copy the least without a source, even one that the bookie holds by then
 pub entries_of_the_fragment : answers (1 ∷ []) 2 7 (Do (Swap 2 7 2 0 4) ∷ []) ++ answers (1 ∷ []) 4 7 (Do (Swap 4 7 0 1 4) ∷ Do (Copy 4 7 0 1 4) ∷ Do (Swap 4 7 1 2 4) ∷ Do (Lose 3) ∷ both 4 7 1 2 4 ++ Do (Lose 2) ∷ both 4 7 0 2 4)
     ++ answers (1 ∷ []) 4 7 (Do (Copy 4 7 1 2 4) ∷ Do (Lose 3) ∷ both 4 7 1 2 4) ++ answers (1 ∷ 2 ∷ []) 4 7 (both 4 7 1 2 4)
     ≡ (Refused (MissingEntry 8) ∷ []) ++ (Refused (MissingEntry 0) ∷ Done ∷ Refused (MissingEntry 4) ∷ Done ∷ Refused (NoSource 5) ∷ Refused (MissingEntry 4) ∷ Done ∷ Refused (NoSource 1) ∷ Refused (MissingEntry 2) ∷ [])
@@ -166,7 +166,7 @@ unfolding contains insert retain remove empty from_list union items is_subset is
 metadata_after_copy = refl
 
 -- a swap changes one member of one fragment, at the next version; the other ledger's version is its own
-pub metadata_after_swap : map (λ moves. all_metadata (state_after (1 ∷ []) 4 7 moves)) (both 4 7 1 2 4 ∷ both 4 7 2 0 4 ∷ (both 4 7 1 2 4 ++ both 4 7 2 0 5 ++ Do (Acquire 5 9) ∷ both 5 9 0 3 2) ∷ [])
+pub metadata_after_swaps : map (λ moves. all_metadata (state_after (1 ∷ []) 4 7 moves)) (both 4 7 1 2 4 ∷ both 4 7 2 0 4 ∷ (both 4 7 1 2 4 ++ both 4 7 2 0 5 ++ Do (Acquire 5 9) ∷ both 5 9 0 3 2) ∷ [])
     ≡ (swapped_metadata ∷ open_metadata ∷ [])
     ∷ (record closed_metadata {
       version = 5;
@@ -182,7 +182,7 @@ pub metadata_after_swap : map (λ moves. all_metadata (state_after (1 ∷ []) 4 
     } ∷ [])
     ∷ []
 unfolding contains insert retain remove empty from_list union items is_subset is_empty len
-metadata_after_swap = refl
+metadata_after_swaps = refl
 
 -- a swap leaves who is registered, the contents, the tasks, the locks and the clock
 pub state_after_swap : state_after (1 ∷ []) 4 7 (both 4 7 1 2 4)
