@@ -182,6 +182,10 @@ KeepsPromises-after s (Copy w l f i v) = record {
 }
 KeepsPromises-after s (Swap w l f i v) = KeepsPromises-ledgers s (changed l (swapped f i w)) (KeepsStriped-changed l (swapped f i w) (KeepsStriped-swapped f i w))
 
+-- No event changes which entries are striped onto an index.
+pub striped_at-after : (s : Cluster) (event : Event) (l f i : ℕ) → striped_at (after s event) l f i ≡ striped_at s l f i
+striped_at-after s event = (KeepsPromises-after s event).striped
+
 -- No event breaks a swap's promise.
 pub HoldsStripe-after : (s : Cluster) (event later : Event) → HoldsStripe s event → HoldsStripe (after s later) event
 HoldsStripe-after s event later was = HoldsStripe-kept s (after s later) event (KeepsPromises-after s later) was

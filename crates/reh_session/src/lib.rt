@@ -5,5 +5,5 @@ mod laws;
 mod replays;
 mod sessions;
 
-pub use laws::undo_restores;
+pub use laws::{stripes_stay, undo_restores};
 pub use sessions::Session;
