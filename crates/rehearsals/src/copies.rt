@@ -5,8 +5,7 @@ use crate::pictures::{
 };
 use reh_cluster::State;
 use reh_session::Session;
-use reh_step::step;
-use reh_types::{BookieIx, Event, LedgerId, LedgerState, Lock, Refusal, Reply};
+use reh_types::{BookieIx, Event, LedgerId, LedgerState, Lock, Move, Refusal, Reply};
 use std::process::Abort;
 use std::test::Fail;
 
@@ -22,21 +21,38 @@ const FINISH: Event = Event::Finish {
     ledger: CLOSED,
 };
 
-fn copy(version: u64) -> Event {
+const COPY: Event = Event::Copy {
+    worker: FOURTH,
+    ledger: CLOSED,
+    fragment: 0,
+    index: 1,
+    version: 0,
+};
+
+const SWAP: Event = Event::Swap {
+    worker: FOURTH,
+    ledger: CLOSED,
+    fragment: 0,
+    index: 1,
+    version: 0,
+};
+
+// A copy and a swap at the lost bookie's index of a fragment, at that version.
+fn copy_in(fragment: u64, version: u64) -> Event {
     Event::Copy {
         worker: FOURTH,
         ledger: CLOSED,
-        fragment: 0,
+        fragment,
         index: 1,
         version,
     }
 }
 
-fn swap(version: u64) -> Event {
+fn swap_in(fragment: u64, version: u64) -> Event {
     Event::Swap {
         worker: FOURTH,
         ledger: CLOSED,
-        fragment: 0,
+        fragment,
         index: 1,
         version,
     }
@@ -99,7 +115,7 @@ fn a_copy_is_undone(rt: HostRuntime) -> Result<(), Fail> {
         "\"contents\":[{\"bookie\":\"b4:3181\",\"ledger\":7,\"entries\":[[3,3]]},",
     )?;
     let mut session = locked(&rt, state)?;
-    expect(&rt, &mut session, &[(copy(0), Reply::Done)])?;
+    expect(&rt, &mut session, &[(COPY, Reply::Done)])?;
     assert_eq!(rt; session.state().count(FOURTH), 4);
     assert!(rt; holds_just(session.state(), FOURTH, &[0, 1, 3, 4]));
     expect_ensemble(&rt, session.state(), 0, [FIRST, SECOND, THIRD]);
@@ -116,10 +132,10 @@ fn a_swap_follows_its_copy(rt: HostRuntime) -> Result<(), Fail> {
         &rt,
         &mut session,
         &[
-            (swap(0), Reply::Refused(Refusal::MissingEntry(0))),
+            (SWAP, Reply::Refused(Refusal::MissingEntry(0))),
             (FINISH, Reply::Refused(Refusal::StillUnder(0))),
-            (copy(0), Reply::Done),
-            (swap(0), Reply::Done),
+            (COPY, Reply::Done),
+            (SWAP, Reply::Done),
             (FINISH, Reply::Done),
         ],
     )?;
@@ -128,7 +144,7 @@ fn a_swap_follows_its_copy(rt: HostRuntime) -> Result<(), Fail> {
     expect(
         &rt,
         &mut session,
-        &[(swap(0), Reply::Refused(Refusal::Stale(1)))],
+        &[(SWAP, Reply::Refused(Refusal::Stale(1)))],
     )?;
     expect_swapped(&rt, session.state());
     Ok(())
@@ -174,7 +190,7 @@ fn an_entry_without_source_is_not_copied(rt: HostRuntime) -> Result<(), Fail> {
     expect(
         &rt,
         &mut session,
-        &[(copy(0), Reply::Refused(Refusal::NoSource(1)))],
+        &[(COPY, Reply::Refused(Refusal::NoSource(1)))],
     )?;
     assert_eq!(rt; session.state().count(FOURTH), 0);
     Ok(())
@@ -188,27 +204,92 @@ fn the_versions_end(rt: HostRuntime) -> Result<(), Fail> {
         &rt,
         &mut session,
         &[
-            (copy(LAST_VERSION), Reply::Done),
-            (swap(LAST_VERSION), Reply::Refused(Refusal::VersionEnd)),
+            (copy_in(0, LAST_VERSION), Reply::Done),
+            (
+                swap_in(0, LAST_VERSION),
+                Reply::Refused(Refusal::VersionEnd),
+            ),
         ],
     )?;
     expect_ensemble(&rt, session.state(), LAST_VERSION, [FIRST, SECOND, THIRD]);
     Ok(())
 }
 
+const REDONE: [Move; 6] = [
+    Move::Do(COPY),
+    Move::Do(SWAP),
+    Move::Undo,
+    Move::Undo,
+    Move::Redo,
+    Move::Redo,
+];
+
 #[test]
-fn a_step_is_refused(rt: HostRuntime) -> Result<(), Fail> {
-    let session = locked(&rt, five_bookies(&rt)?)?;
-    let state = session.state();
-    let swapped = step(rt.alloc(), state, &swap(0));
-    assert!(rt; matches!(&swapped, Err(Refusal::MissingEntry(0))));
-    let copied = step(rt.alloc(), state, &copy(1));
-    assert!(rt; matches!(&copied, Err(Refusal::Stale(0))));
-    let copied = step(rt.alloc(), state, &copy(0))?;
-    assert_eq!(rt; copied.count(FOURTH), 4);
-    assert_eq!(rt; state.count(FOURTH), 0);
-    let swapped = step(rt.alloc(), &copied, &swap(0))?;
-    expect_ensemble(&rt, &swapped, 1, [FIRST, FOURTH, THIRD]);
-    expect_ensemble(&rt, &copied, 0, [FIRST, SECOND, THIRD]);
+fn a_copy_and_a_swap_are_redone(rt: HostRuntime) -> Result<(), Fail> {
+    let mut session = locked(&rt, five_bookies(&rt)?)?;
+    let replies = session.run(&REDONE)?;
+    assert!(rt; replies.len() == 6 && replies.iter().all(|reply| *reply == Reply::Done));
+    expect_swapped(&rt, session.state());
+    assert!(rt; holds_just(session.state(), FOURTH, &[0, 1, 3, 4]));
+    assert_eq!(rt; session.done().len(), 5);
+    Ok(())
+}
+
+const COPIED_TWICE: [Move; 5] = [
+    Move::Do(COPY),
+    Move::Do(COPY),
+    Move::Undo,
+    Move::Do(COPY),
+    Move::Redo,
+];
+
+#[test]
+fn a_copy_that_adds_nothing_is_an_event(rt: HostRuntime) -> Result<(), Fail> {
+    let mut session = locked(&rt, five_bookies(&rt)?)?;
+    let replies = session.run(&COPIED_TWICE)?;
+    assert_eq!(rt; replies.len(), 5);
+    assert_eq!(rt; replies.get(3).copied(), Some(Reply::Done));
+    assert_eq!(rt;
+        replies.get(4).copied(),
+        Some(Reply::Refused(Refusal::NothingToRedo))
+    );
+    assert_eq!(rt; session.done().len(), 5);
+    assert!(rt; holds_just(session.state(), FOURTH, &[0, 1, 3, 4]));
+    Ok(())
+}
+
+#[test]
+fn a_swap_in_the_second_fragment(rt: HostRuntime) -> Result<(), Fail> {
+    let state = changed_bookies(
+        &rt,
+        "\"fragments\":[",
+        "\"fragments\":[{\"firstEntry\":0,\"ensemble\":[\"b1:3181\",\"b2:3181\",\"b3:3181\"]},{\"firstEntry\":3,\"ensemble\":[\"b1:3181\",\"b2:3181\",\"b3:3181\"]}],\"was\":[",
+    )?;
+    let mut session = locked(&rt, state)?;
+    expect(
+        &rt,
+        &mut session,
+        &[
+            (copy_in(1, 0), Reply::Done),
+            (swap_in(1, 0), Reply::Done),
+            (FINISH, Reply::Refused(Refusal::StillUnder(0))),
+            (copy_in(0, 1), Reply::Done),
+            (swap_in(0, 1), Reply::Done),
+            (FINISH, Reply::Done),
+        ],
+    )?;
+    assert!(rt; holds_just(session.state(), FOURTH, &[0, 1, 3, 4]));
+    let found = session
+        .state()
+        .ledger(CLOSED)
+        .expect(&rt, "the closed ledger");
+    assert_eq!(rt; found.metadata().version(), 2);
+    assert_eq!(rt; found.metadata().fragments().len(), 2);
+    for fragment in found.metadata().fragments() {
+        assert_eq!(rt;
+            fragment.ensemble.as_slice(),
+            [FIRST, FOURTH, THIRD].as_slice()
+        );
+    }
     Ok(())
 }

@@ -40,6 +40,17 @@ fn has_member(ledger: &Ledger, bookie: BookieIx) -> bool {
         .any(|fragment| fragment.ensemble.contains(&bookie))
 }
 
+// Whether the second ledger is what the first one is: at version 0, with one fragment of the first three bookies, and a task for the second.
+fn is_copy(ledger: &Ledger, same: &Ledger) -> bool {
+    same.id() == ledger.id()
+        && same.lock() == ledger.lock()
+        && same.task().is_some_and(is_second_alone)
+        && same.metadata().state() == ledger.metadata().state()
+        && same.metadata().version() == 0
+        && same.metadata().fragments().len() == 1
+        && (0..5).all(|i| has_member(same, BookieIx(i)) == (i < 3))
+}
+
 // The missing members of a ledger that is there.
 fn missing_of<R: Abort>(rt: &R, state: &State, ledger: LedgerId) -> BookieSet {
     assert!(rt; state.ledger(ledger).is_some());
@@ -155,22 +166,10 @@ fn a_copy_of_the_ledgers_equals_them(rt: HostRuntime) -> Result<(), Fail> {
     assert_eq!(rt; copy.clock(), state.clock());
     assert_eq!(rt; copy.grace(), state.grace());
     assert_eq!(rt; copy.ledgers().len(), 2);
-    for (ledger, same) in state.ledgers().iter().zip(copy.ledgers()) {
-        assert_eq!(rt; same.id(), ledger.id());
-        assert_eq!(rt; same.lock(), ledger.lock());
-        assert!(rt; same.task().is_some_and(is_second_alone));
-        assert_eq!(rt; same.metadata().state(), ledger.metadata().state());
-        assert_eq!(rt; same.metadata().version(), 0);
-        assert_eq!(rt; same.metadata().fragments().len(), 1);
-        for i in 0..5 {
-            assert_eq!(rt; has_member(same, BookieIx(i)), i < 3);
-        }
-    }
-    for i in 0..5 {
-        let bookie = BookieIx(i);
-        assert_eq!(rt; copy.is_up(bookie), bookie != SECOND);
-        assert_eq!(rt; copy.count(bookie), state.count(bookie));
-    }
+    let mut ledgers = state.ledgers().iter().zip(copy.ledgers());
+    assert!(rt; ledgers.all(|(ledger, same)| is_copy(ledger, same)));
+    assert!(rt; (0..5).all(|i| copy.is_up(BookieIx(i)) == (BookieIx(i) != SECOND)));
+    assert!(rt; (0..5).all(|i| copy.count(BookieIx(i)) == state.count(BookieIx(i))));
     assert_eq!(rt; copy.greatest(CLOSED), Some(5));
     assert_eq!(rt; copy.greatest(OPEN), Some(4));
     Ok(())
