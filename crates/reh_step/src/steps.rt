@@ -17,7 +17,8 @@ use std::alloc::{AllocError, Global};
 /// Want of memory comes after all other refusals: it is answered only where the event is accepted. The new
 /// state stands on the old one's allocator.
 /// The events are those of BookKeeper's AutoRecovery: its auditor publishes tasks, and its replication
-/// workers lock them, give their locks back, end them, or lose them with their sessions.
+/// workers lock them, give their locks back, end them, or lose them with their sessions. A worker copies a
+/// fragment's entries to its own bookie, and then puts that bookie into the fragment's ensemble.
 pub fn step(_alloc: Global, state: &State, event: &Event) -> Result<State, Refusal>
     ensures accepted { IfOk result (λ _. refusal_of state.now event.now ≡ None) }
     ensures made { IfOk result (λ next. next ≡ after state.now event.now) }
