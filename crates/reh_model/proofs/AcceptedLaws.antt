@@ -1,37 +1,123 @@
--- What an accepted copy and an accepted swap show.
-use Rattle.std.proofs.Common.{◌≡◌, ℕ, Bool, true, false, not, ◌&&◌, ◌||◌, ◌<◌, ◌≤◌, List, [], ◌∷◌, length, Option, None, Some, refl, sym, ap, ◌∙◌, subst, arith, cond}
-use Rattle.std.specs.Prelude.{◌==◌, ◌^◌, All, slice_get}
+-- What an accepted event shows, and a reply that tells of one: this file alone takes lists of checks apart.
+use Rattle.std.proofs.Common.{◌≡◌, ℕ, Bool, true, false, not, ◌&&◌, ◌||◌, ◌+◌, ◌<◌, ◌≤◌, List, [], ◌∷◌, ◌++◌, length, Option, None, Some, IsSome, refl, sym, ap, ◌∙◌, subst, arith, cond, nat_lt, nat_le}
+use Rattle.std.specs.Prelude.{◌==◌, ◌^◌, is_none, All, slice_get}
 use Rattle.std.specs.List.{find, list_any}
-use Rattle.std.specs.Option.{ForSome, option_map_or}
+use Rattle.std.specs.Option.{ForSome, option_map, option_map_or, option_and_then}
 use Rattle.std.proofs.lemmas.Bool.Decides.{nat_tests}
-use Rattle.std.proofs.lemmas.List.Elements.{All-weaker}
+use Rattle.std.proofs.lemmas.List.Elements.{All-nil, All-cons, All-weaker}
 use Rattle.std.proofs.lemmas.Option.{slice_get_within}
-use Rattle.reh_types.specs.declared.moves.Event.TheVariants.{Copy, Swap}
+use Rattle.reh_types.specs.declared.moves.Event.{Event}
+use Rattle.reh_types.specs.declared.moves.Event.TheVariants.{Join, Acquire, Tick, Copy, Swap}
+use Rattle.reh_types.specs.declared.moves.Move.TheVariants.{Do}
+use Rattle.reh_types.specs.declared.moves.Reply.{Reply}
+use Rattle.reh_types.specs.declared.moves.Reply.TheVariants.{Done, Refused}
 use Rattle.reh_types.specs.declared.refusals.Refusal.{Refusal}
-use Rattle.reh_types.specs.declared.refusals.Refusal.TheVariants.{NoSource}
+use Rattle.reh_types.specs.declared.refusals.Refusal.TheVariants.{NoSource, MissingEntry, Full}
+use Rattle.reh_types.specs.Sets.{Set, numbers}
 use Rattle.reh_model.specs.Contents.{IsHeld}
-use Rattle.reh_model.specs.Metadata.{Fragment, striped_of, writes}
-use Rattle.reh_model.specs.Cluster.{Cluster, Ledger, is_up, holds, is_readable, ledger_at, striped_at}
-use Rattle.reh_model.specs.Refusals.{first_refusal, at_ledger, no_bookie, not_owner, stale, no_index, member_up, target_down, target_is_member, no_endpoint, no_place, no_source, missing_entry, version_end}
-use Rattle.reh_model.specs.Step.{refusal_of}
-use Rattle.reh_model.proofs.RefusalLaws.{check-none, at_ledger-none, with_ledger-none, with_fragment-none, refuse_if-none, find-none, no_bookie-none, no_index-none, version_end-none}
+use Rattle.reh_model.specs.Metadata.{Fragment, stop_of, striped_of, writes}
+use Rattle.reh_model.specs.Cluster.{Cluster, Ledger, is_up, holds, is_readable, ledger_at, stop_at, striped_at}
+use Rattle.reh_model.specs.Checks.{first_reason, reason_if}
+use Rattle.reh_model.specs.Refusals.{with_ledger, at_ledger, with_fragment, no_bookie, already_up, no_task, locked, bad_tick, clock_end, stale, not_owner, no_index, member_up, target_down, target_is_member, no_endpoint, no_place, no_source, missing_entry, version_end}
+use Rattle.reh_model.specs.Step.{refusal_of, place_checks, copy_checks, swap_checks}
+use Rattle.reh_model.specs.Session.{Session, state_of, done_unless, full, reply_to}
+use Rattle.reh_model.specs.Swaps.{HoldsStripe}
+use Rattle.reh_model.proofs.LedgerLaws.{id_found, stop_at-found, striped_at-found}
 
--- a ledger that is found has the id
-pub id_found : (l : ℕ) (gs : List Ledger) (g : Ledger) → find (λ g. g.id == l) gs ≡ Some g → g.id ≡ l
-id_found l [] g found = cc
-id_found l (h ∷ gs) g found =
-    elim (h.id == l) as (λ b. (h.id == l) ≡ b → cond b (Some h) (find (λ g. g.id == l) gs) ≡ Some g → g.id ≡ l) [
-      | true ↦ λ here is. let same : h ≡ g = cc in let id : h.id ≡ l = grind (arith, nat_tests) in ap (λ (x : Ledger). x.id) (sym same) ∙ id
-      | false ↦ λ _ later. id_found l gs g later
-    ] refl found
+-- Lists of checks
 
--- the striped entries of a ledger that is found
-pub striped_at-found : (s : Cluster) (l f i : ℕ) (g : Ledger) → ledger_at s l ≡ Some g → striped_at s l f i ≡ striped_of g.metadata f i
-striped_at-found s l f i g found = ap (λ (o : Option Ledger). option_map_or (λ g. striped_of g.metadata f i) o []) found
+-- a check in the midst of a list that gives none
+check-none : (before : List (Option Refusal)) (check : Option Refusal) (later : List (Option Refusal)) → first_reason (before ++ check ∷ later) ≡ None → check ≡ None
+check-none [] None later none = refl
+check-none [] (Some refusal) later none = cc
+check-none (None ∷ before) check later none = check-none before check later none
+check-none (Some refusal ∷ before) check later none = cc
 
-pub not_not : (b : Bool) → not b ≡ false → b ≡ true
+-- the checks of the ledger that is there
+at_ledger-none : (s : Cluster) (l : ℕ) (checks : Ledger → List (Option Refusal)) (g : Ledger) → ledger_at s l ≡ Some g → at_ledger s l checks ≡ None → first_reason (checks g) ≡ None
+at_ledger-none s l checks g found none = sym (ap (λ o. with_ledger o checks) found) ∙ none
+
+-- a ledger is there, and its checks give none
+record FoundLedger (o : Option Ledger) (checks : Ledger → List (Option Refusal)) : Type 0 where
+  ledger : Ledger
+  is : o ≡ Some ledger
+  passes : first_reason (checks ledger) ≡ None
+
+with_ledger-none : (o : Option Ledger) (checks : Ledger → List (Option Refusal)) → with_ledger o checks ≡ None → FoundLedger o checks
+with_ledger-none None checks none = cc
+with_ledger-none (Some g) checks none = record { ledger = g; is = refl; passes = none }
+
+-- a fragment is there, and its checks give none
+record FoundFragment (o : Option Fragment) (checks : Fragment → List (Option Refusal)) : Type 0 where
+  fragment : Fragment
+  is : o ≡ Some fragment
+  passes : first_reason (checks fragment) ≡ None
+
+with_fragment-none : (o : Option Fragment) (checks : Fragment → List (Option Refusal)) → with_fragment o checks ≡ None → FoundFragment o checks
+with_fragment-none None checks none = cc
+with_fragment-none (Some fragment) checks none = record { fragment = fragment; is = refl; passes = none }
+
+-- Single checks
+
+reason_if-none : (condition : Bool) (refusal : Refusal) → reason_if condition refusal ≡ None → condition ≡ false
+reason_if-none true refusal none = cc
+reason_if-none false refusal none = refl
+
+-- where nothing is found to refuse, no element of the list passes the test
+find-none : {X : Type 0} (p : X → Bool) (refusal : X → Refusal) (xs : List X) → option_map refusal (find p xs) ≡ None → All (λ x. p x ≡ false) xs
+find-none p refusal [] none = All-nil (λ x. p x ≡ false)
+find-none p refusal (x ∷ xs) none =
+    elim (p x) as (λ b. p x ≡ b → option_map refusal (cond b (Some x) (find p xs)) ≡ None → All (λ x. p x ≡ false) (x ∷ xs)) [
+      | true ↦ λ _ none. cc
+      | false ↦ λ fails none. All-cons (λ x. p x ≡ false) x xs fails (find-none p refusal xs none)
+    ] refl none
+
+-- the bookie is in the picture
+no_bookie-none : (s : Cluster) (b : ℕ) → no_bookie s b ≡ None → b < length s.names
+no_bookie-none s b none = let named : not (nat_lt b (length s.names)) ≡ false = reason_if-none _ _ none in grind (arith, nat_tests)
+
+-- the ledger has a task
+no_task-none : (g : Ledger) → no_task g ≡ None → IsSome g.task
+no_task-none g none = some g.task (reason_if-none _ _ none) where
+  some : (o : Option (Set numbers)) → is_none o ≡ false → IsSome o
+  some None none = cc
+  some (Some task) none = refl
+
+-- the clock does not pass its end
+clock_end-none : (s : Cluster) (n : ℕ) → clock_end s n ≡ None → s.clock + n ≤ 1_000_000_000
+clock_end-none s n none = let within : nat_lt 1_000_000_000 (s.clock + n) ≡ false = reason_if-none _ _ none in grind (arith, nat_tests)
+
+-- the ensemble has the index
+no_index-none : (g : Ledger) (i : ℕ) → no_index g i ≡ None → i < g.metadata.size
+no_index-none g i none = let within : not (nat_lt i g.metadata.size) ≡ false = reason_if-none _ _ none in grind (arith, nat_tests)
+
+-- there is a next version
+version_end-none : (g : Ledger) → g.metadata.version ≤ 10 ^ 12 → version_end g ≡ None → g.metadata.version < 10 ^ 12
+version_end-none g few none = let apart : (g.metadata.version == 10 ^ 12) ≡ false = reason_if-none _ _ none in grind (arith, nat_tests)
+
+-- whether a condition that must not fail holds
+not_not : (b : Bool) → not b ≡ false → b ≡ true
 not_not true is = refl
 not_not false is = cc
+
+-- Events
+
+-- a bookie that joins is in the picture
+pub accepted_join : (s : Cluster) (b : ℕ) → refusal_of s (Join b) ≡ None → b < length s.names
+accepted_join s b none = no_bookie-none s b (check-none [] (no_bookie s b) (already_up s b ∷ []) none)
+
+-- a worker that locks a ledger is in the picture, and the ledger has a task
+pub accepted_acquire : (s : Cluster) (w l : ℕ) (g : Ledger) → ledger_at s l ≡ Some g → refusal_of s (Acquire w l) ≡ None → (w < length s.names) × IsSome g.task
+accepted_acquire s w l g found none =
+    let checks : Ledger → List (Option Refusal) = λ g. no_task g ∷ locked g ∷ [] in
+    let free : first_reason (checks g) ≡ None = at_ledger-none s l checks g found (check-none (no_bookie s w ∷ []) (at_ledger s l checks) [] none) in (
+      no_bookie-none s w (check-none [] (no_bookie s w) (at_ledger s l checks ∷ []) none),
+      no_task-none g (check-none [] (no_task g) (locked g ∷ []) free),
+    )
+
+-- ticks do not pass the clock's end
+pub accepted_tick : (s : Cluster) (n : ℕ) → refusal_of s (Tick n) ≡ None → s.clock + n ≤ 1_000_000_000
+accepted_tick s n none = clock_end-none s n (check-none (bad_tick n ∷ []) (clock_end s n) [] none)
 
 -- Copies
 
@@ -48,9 +134,6 @@ IsHeld-readable s l e (b ∷ bs) any =
     and_false true = refl
     and_false false = refl
 
-abbrev copy_checks : Cluster → ℕ → ℕ → ℕ → ℕ → Ledger → List (Option Refusal)
-copy_checks s w f i v g = not_owner g w ∷ stale g v ∷ no_place s w g f i ∷ no_source s g f i ∷ []
-
 -- what an accepted copy shows: the bookie is in the picture, and each entry that it takes is held by some bookie
 pub record IsCopyable (s : Cluster) (w l f i : ℕ) : Type 0 where
   pub named : w < length s.names
@@ -58,10 +141,10 @@ pub record IsCopyable (s : Cluster) (w l f i : ℕ) : Type 0 where
 
 pub accepted_copy : (s : Cluster) (w l f i v : ℕ) → refusal_of s (Copy w l f i v) ≡ None → IsCopyable s w l f i
 accepted_copy s w l f i v none =
-    let checks = copy_checks s w f i v in
+    let checks : Ledger → List (Option Refusal) = copy_checks s w f i v in
     let found = with_ledger-none (ledger_at s l) checks (check-none (no_bookie s w ∷ []) (at_ledger s l checks) [] none) in
     let g = found.ledger in
-    let source = with_fragment-none (slice_get g.metadata.fragments f) _ (check-none (not_owner g w ∷ stale g v ∷ no_place s w g f i ∷ []) (no_source s g f i) [] found.passes) in
+    let source = with_fragment-none (slice_get g.metadata.fragments f) _ (check-none (place_checks s w f i v g) (no_source s g f i) [] found.passes) in
     let fragment = source.fragment in
     let entries = striped_of g.metadata f i in
     let readable : All (λ e. not (is_readable s g fragment e) ≡ false) entries = find-none (λ e. not (is_readable s g fragment e)) (λ e. NoSource e) entries (check-none [] _ [] source.passes) in
@@ -74,9 +157,6 @@ accepted_copy s w l f i v none =
 
 -- Swaps
 
-abbrev swap_checks : Cluster → ℕ → ℕ → ℕ → ℕ → Ledger → List (Option Refusal)
-swap_checks s w f i v g = not_owner g w ∷ stale g v ∷ no_place s w g f i ∷ missing_entry s w g f i ∷ version_end g ∷ []
-
 -- what an accepted swap shows: the bookie is in the picture, the fragment and the index are there, the bookie is no member yet, and there is a next version
 pub record IsSwappable (s : Cluster) (g : Ledger) (w f i : ℕ) : Type 0 where
   pub named : w < length s.names
@@ -87,15 +167,59 @@ pub record IsSwappable (s : Cluster) (g : Ledger) (w f i : ℕ) : Type 0 where
 
 pub accepted_swap : (s : Cluster) (w l f i v : ℕ) (g : Ledger) → ledger_at s l ≡ Some g → g.metadata.version ≤ 10 ^ 12 → refusal_of s (Swap w l f i v) ≡ None → IsSwappable s g w f i
 accepted_swap s w l f i v g found few none =
-    let checks = swap_checks s w f i v in
-    let passes : first_refusal (checks g) ≡ None = at_ledger-none s l checks g found (check-none (no_bookie s w ∷ []) (at_ledger s l checks) [] none) in
-    let place = with_fragment-none (slice_get g.metadata.fragments f) _ (check-none (not_owner g w ∷ stale g v ∷ []) (no_place s w g f i) (missing_entry s w g f i ∷ version_end g ∷ []) passes) in
+    let checks : Ledger → List (Option Refusal) = swap_checks s w f i v in
+    let passes : first_reason (checks g) ≡ None = at_ledger-none s l checks g found (check-none (no_bookie s w ∷ []) (at_ledger s l checks) [] none) in
+    let place = with_fragment-none (slice_get g.metadata.fragments f) _ (check-none (not_owner w g ∷ stale g v ∷ []) (no_place s w g f i) (missing_entry s w g f i ∷ version_end g ∷ []) passes) in
     let old = place.fragment in
-    let new : list_any (λ member. member == w) old.ensemble ≡ false = refuse_if-none _ _ (check-none (no_index g i ∷ member_up s old i ∷ target_down s w ∷ []) (target_is_member old w) (no_endpoint g f ∷ []) place.passes) in
+    let new : list_any (λ member. member == w) old.ensemble ≡ false = reason_if-none _ _ (check-none (no_index g i ∷ member_up s old i ∷ target_down s w ∷ []) (target_is_member old w) (no_endpoint g f ∷ []) place.passes) in
     record {
       named = no_bookie-none s w (check-none [] (no_bookie s w) (at_ledger s l checks ∷ []) none);
       fragment = slice_get_within g.metadata.fragments f old place.is;
       index = no_index-none g i (check-none [] (no_index g i) (member_up s old i ∷ target_down s w ∷ target_is_member old w ∷ no_endpoint g f ∷ []) place.passes);
       new = λ fragment is. let same : old ≡ fragment = cc in subst (λ (x : Fragment). list_any (λ member. member == w) x.ensemble ≡ false) same new;
-      version = version_end-none g few (check-none (not_owner g w ∷ stale g v ∷ no_place s w g f i ∷ missing_entry s w g f i ∷ []) (version_end g) [] passes);
+      version = version_end-none g few (check-none (place_checks s w f i v g ++ missing_entry s w g f i ∷ []) (version_end g) [] passes);
     }
+
+-- there is a stop where nothing refuses for the want of one
+no_endpoint-none : (g : Ledger) (f : ℕ) → no_endpoint g f ≡ None → IsSome (stop_of g.metadata f)
+no_endpoint-none g f none = some (stop_of g.metadata f) (reason_if-none _ _ none) where
+  some : (o : Option ℕ) → is_none o ≡ false → IsSome o
+  some None none = cc
+  some (Some stop) none = refl
+
+-- No swap that is accepted loses an entry: the fragment has a stop, and the worker's bookie holds each entry that it stripes onto the index.
+pub accepted_swap_holds : (s : Cluster) (w l f i v : ℕ) → refusal_of s (Swap w l f i v) ≡ None → HoldsStripe s (Swap w l f i v)
+accepted_swap_holds s w l f i v none =
+    let checks : Ledger → List (Option Refusal) = swap_checks s w f i v in
+    let found = with_ledger-none (ledger_at s l) checks (check-none (no_bookie s w ∷ []) (at_ledger s l checks) [] none) in
+    let g : Ledger = found.ledger in
+    let entries : List ℕ = striped_of g.metadata f i in
+    let place = with_fragment-none (slice_get g.metadata.fragments f) _ (check-none (not_owner w g ∷ stale g v ∷ []) (no_place s w g f i) (missing_entry s w g f i ∷ version_end g ∷ []) found.passes) in
+    let ends : IsSome (stop_of g.metadata f) = no_endpoint-none g f (check-none (no_index g i ∷ member_up s place.fragment i ∷ target_down s w ∷ target_is_member place.fragment w ∷ []) (no_endpoint g f) [] place.passes) in
+    let lacks : missing_entry s w g f i ≡ None = check-none (place_checks s w f i v g) (missing_entry s w g f i) (version_end g ∷ []) found.passes in
+    let each : All (λ e. holds s w g.id e ≡ true) entries =
+    All-weaker (λ e. not (holds s w g.id e) ≡ false) (λ e. holds s w g.id e ≡ true) (λ e is. not_not (holds s w g.id e) is) entries (find-none (λ e. not (holds s w g.id e)) (λ e. MissingEntry e) entries lacks) in (
+      subst (λ (o : Option ℕ). IsSome o) (sym (stop_at-found s l f g found.is)) ends,
+      subst (λ (es : List ℕ). All (λ e. holds s w l e ≡ true) es) (sym (striped_at-found s l f i g found.is))
+      (subst (λ (k : ℕ). All (λ e. holds s w k e ≡ true) entries) (id_found l s.ledgers g found.is) each),
+    )
+
+-- A session's moves
+
+-- an event that is done was not refused
+pub done_accepted : (m : Session) (event : Event) → reply_to m (Do event) ≡ Done → refusal_of (state_of m) event ≡ None
+done_accepted m event done = none (refusal_of (state_of m) event) done where
+  none : (o : Option Refusal) → done_unless (first_reason (o ∷ full m ∷ [])) ≡ Done → o ≡ None
+  none None is = refl
+  none (Some refusal) is = cc
+
+-- an event that is refused is answered so
+pub refused_first : (m : Session) (event : Event) (refusal : Refusal) → refusal_of (state_of m) event ≡ Some refusal → reply_to m (Do event) ≡ Refused refusal
+refused_first m event refusal is = ap (λ (o : Option Refusal). done_unless (first_reason (o ∷ full m ∷ []))) is
+
+-- an event that is not refused is done, where there is room
+pub done_within : (m : Session) (event : Event) → refusal_of (state_of m) event ≡ None → length m.done < 100_000 → reply_to m (Do event) ≡ Done
+done_within m event accepted room =
+    let few : nat_le 100_000 (length m.done) ≡ false = grind (arith, nat_tests) in
+    ap (λ (o : Option Refusal). done_unless (first_reason (o ∷ full m ∷ []))) accepted
+    ∙ ap (λ (b : Bool). done_unless (first_reason (reason_if b Full ∷ []))) few

@@ -1,11 +1,13 @@
 -- Ledgers in picture order: finding the ledger of an id, and changing it.
-use Rattle.std.proofs.Common.{◌≡◌, ℕ, zero, suc, true, false, cond, List, [], ◌∷◌, map, None, Some, refl, sym, ap, ◌∙◌, arith, nat_eq, is_some, get_or, set, ◌<◌, ◌≤◌, nat_lt}
+use Rattle.std.proofs.Common.{◌≡◌, ℕ, zero, suc, true, false, cond, List, [], ◌∷◌, map, Option, None, Some, refl, sym, ap, ◌∙◌, arith, nat_eq, is_some, get_or, set, ◌<◌, ◌≤◌, nat_lt}
 use Rattle.std.specs.Prelude.{◌==◌, ◌+◌, if◌then◌else◌, sum_by, length, position}
 use Rattle.std.specs.List.{IsDistinct, AllByRecursion, find, position_or_len}
+use Rattle.std.specs.Option.{option_map, option_map_or, option_and_then}
 use Rattle.std.proofs.lemmas.Bool.Decides.{nat_tests}
 use Rattle.std.proofs.lemmas.List.Sums.{sum_by-cons, fails_before_first}
 use Rattle.std.proofs.lemmas.List.Quantifiers.{position-Some}
-use Rattle.reh_model.specs.Cluster.{Cluster, Ledger, ledger_at, change_ledger}
+use Rattle.reh_model.specs.Metadata.{stop_of, striped_of}
+use Rattle.reh_model.specs.Cluster.{Cluster, Ledger, ledger_at, stop_at, striped_at, change_ledger}
 
 -- Changes that keep every id
 
@@ -24,15 +26,39 @@ sum_by-map f change keeps (g ∷ gs) =
     ∙ (λ i. f (keeps g i) + sum_by-map f change keeps gs i)
     ∙ sym (sum_by-cons (λ g. f g.id) g gs)
 
--- the same ids are found
-pub found-map : (l : ℕ) (change : Ledger → Ledger) → KeepsId change → (gs : List Ledger) → is_some (find (λ g. g.id == l) (map change gs)) ≡ is_some (find (λ g. g.id == l) gs)
-found-map l change keeps [] = refl
-found-map l change keeps (g ∷ gs) =
-    ap (λ (k : ℕ). is_some (cond (k == l) (Some (change g)) (find (λ g. g.id == l) (map change gs)))) (keeps g)
-    ∙ elim (g.id == l) as (λ b. is_some (cond b (Some (change g)) (find (λ g. g.id == l) (map change gs))) ≡ is_some (cond b (Some g) (find (λ g. g.id == l) gs))) [
+-- what is found by an id after a change is what was found before, changed
+pub find-map : (l : ℕ) (change : Ledger → Ledger) → KeepsId change → (gs : List Ledger) → find (λ g. g.id == l) (map change gs) ≡ option_map change (find (λ g. g.id == l) gs)
+find-map l change keeps [] = refl
+find-map l change keeps (g ∷ gs) =
+    ap (λ (k : ℕ). cond (k == l) (Some (change g)) (find (λ g. g.id == l) (map change gs))) (keeps g)
+    ∙ elim (g.id == l) as (λ b. cond b (Some (change g)) (find (λ g. g.id == l) (map change gs)) ≡ option_map change (cond b (Some g) (find (λ g. g.id == l) gs))) [
       | true ↦ refl
-      | false ↦ found-map l change keeps gs
+      | false ↦ find-map l change keeps gs
     ]
+
+-- so the same ids are found
+pub is_found-map : (l : ℕ) (change : Ledger → Ledger) → KeepsId change → (gs : List Ledger) → is_some (find (λ g. g.id == l) (map change gs)) ≡ is_some (find (λ g. g.id == l) gs)
+is_found-map l change keeps gs = ap is_some (find-map l change keeps gs) ∙ same (find (λ g. g.id == l) gs) where
+  same : (o : Option Ledger) → is_some (option_map change o) ≡ is_some o
+  same None = refl
+  same (Some g) = refl
+
+-- a ledger that is found has the id
+pub id_found : (l : ℕ) (gs : List Ledger) (g : Ledger) → find (λ g. g.id == l) gs ≡ Some g → g.id ≡ l
+id_found l [] g found = cc
+id_found l (h ∷ gs) g found =
+    elim (h.id == l) as (λ b. (h.id == l) ≡ b → cond b (Some h) (find (λ g. g.id == l) gs) ≡ Some g → g.id ≡ l) [
+      | true ↦ λ here is. let same : h ≡ g = cc in let id : h.id ≡ l = grind (arith, nat_tests) in ap (λ (x : Ledger). x.id) (sym same) ∙ id
+      | false ↦ λ _ later. id_found l gs g later
+    ] refl found
+
+-- the striped entries of a ledger that is found
+pub striped_at-found : (s : Cluster) (l f i : ℕ) (g : Ledger) → ledger_at s l ≡ Some g → striped_at s l f i ≡ striped_of g.metadata f i
+striped_at-found s l f i g found = ap (λ (o : Option Ledger). option_map_or (λ g. striped_of g.metadata f i) o []) found
+
+-- its stop
+pub stop_at-found : (s : Cluster) (l f : ℕ) (g : Ledger) → ledger_at s l ≡ Some g → stop_at s l f ≡ stop_of g.metadata f
+stop_at-found s l f g found = ap (λ (o : Option Ledger). option_and_then (λ g. stop_of g.metadata f) o) found
 
 -- a change of the ledger of one id, and of no other
 abbrev pub changed : ℕ → (Ledger → Ledger) → Ledger → Ledger

@@ -12,8 +12,6 @@ pub mod Examples
 pub mod TaskExamples
 pub mod CopyExamples
 pub mod PlaceExamples
-pub mod RefusalLaws
-pub mod MemoryLaws
 pub mod AcceptedLaws
 pub mod WellFormedLaws
 pub mod SwapLaws

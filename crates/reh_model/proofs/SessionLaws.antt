@@ -10,9 +10,9 @@ use Rattle.reh_types.specs.declared.moves.Move.TheVariants.{Do, Undo}
 use Rattle.reh_types.specs.declared.moves.Reply.{Reply}
 use Rattle.reh_types.specs.declared.moves.Reply.TheVariants.{Done}
 use Rattle.reh_model.specs.Cluster.{Cluster}
-use Rattle.reh_model.specs.Refusals.{refuse_if}
+use Rattle.reh_model.specs.Checks.{reason_if}
 use Rattle.reh_model.specs.Step.{refusal_of, after}
-use Rattle.reh_model.specs.Session.{Session, unless, replay, done_unless, reply_to, moved, Answers, Run}
+use Rattle.reh_model.specs.Session.{Session, unless, replay, done_unless, reply_to, moved, Performs, Run}
 
 -- Replays
 
@@ -49,7 +49,7 @@ length-push : (es : List Event) (e : Event) → length (es ++ e ∷ []) - 1 ≡ 
 length-push es e = omega (arith, length-append es (e ∷ []))
 
 -- a number that isn't 0 is no reason to refuse
-pub done_unless-some : (n : ℕ) (r : Refusal) → 0 < n → done_unless (refuse_if (n == 0) r) ≡ Done
+pub done_unless-some : (n : ℕ) (r : Refusal) → 0 < n → done_unless (reason_if (n == 0) r) ≡ Done
 done_unless-some n r h = grind arith
 
 pub undo_accepted : (m : Session) (e : Event) → reply_to m (Do e) ≡ Done → reply_to (moved m (Do e)) Undo ≡ Done
@@ -65,13 +65,13 @@ moved-undo m e = λ i. record {
 -- Runs
 
 -- a run goes on by one move
-Run-push : (m n p : Session) (ms : List Move) (rs : List Reply) (move : Move) (r : Reply) → Run m ms rs n → Answers n move r p → Run m (ms ++ move ∷ []) (rs ++ r ∷ []) p
-Run-push m n p [] [] move r h a = (p, subst (λ (x : Session). Answers x move r p) h a, refl)
+Run-push : (m n p : Session) (ms : List Move) (rs : List Reply) (move : Move) (r : Reply) → Run m ms rs n → Performs n move r p → Run m (ms ++ move ∷ []) (rs ++ r ∷ []) p
+Run-push m n p [] [] move r h a = (p, subst (λ (x : Session). Performs x move r p) h a, refl)
 Run-push m n p [] (s ∷ rs) move r h a = absurd h
 Run-push m n p (x ∷ ms) [] move r h a = absurd h
 Run-push m n p (x ∷ ms) (s ∷ rs) move r h a = (h.0, h.1, Run-push h.0 n p ms rs move r h.2 a)
 
 -- the run of the first moves goes on by the next one
-pub Run-next : (m n p : Session) (ms : List Move) (i : ℕ) (rs : List Reply) (move : Move) (r : Reply) → i < length ms → move ≡ get_or ms i move → Run m (take i ms) rs n → Answers n move r p → Run m (take (i + 1) ms) (rs ++ r ∷ []) p
+pub Run-next : (m n p : Session) (ms : List Move) (i : ℕ) (rs : List Reply) (move : Move) (r : Reply) → i < length ms → move ≡ get_or ms i move → Run m (take i ms) rs n → Performs n move r p → Run m (take (i + 1) ms) (rs ++ r ∷ []) p
 Run-next m n p ms i rs move r more is h a =
     subst (λ (xs : List Move). Run m xs (rs ++ r ∷ []) p) (sym (take_more ms i move more ∙ ap (λ (x : Move). take i ms ++ x ∷ []) (sym is))) (Run-push m n p (take i ms) rs move r h a)

@@ -11,22 +11,19 @@ use Rattle.std.proofs.lemmas.List.Elements.{All-head, All-map, All-set, All-tail
 use Rattle.std.proofs.lemmas.Option.{slice_get-get_or, get_or_from_slice_get}
 use Rattle.reh_types.specs.declared.moves.Event.{Event}
 use Rattle.reh_types.specs.declared.moves.Event.TheVariants.{Lose, Join, Audit, Acquire, Release, Finish, Expire, Tick, Copy, Swap}
-use Rattle.reh_types.specs.declared.refusals.Refusal.{Refusal}
 use Rattle.reh_types.specs.Sets.{Set, numbers, triple_cmp, triple_exact, contains, insert, remove, union, is_empty, len, items, contains-insert, contains-remove}
 use Rattle.reh_types.proofs.SetLaws.{All-items}
 use Rattle.reh_model.specs.Contents.{Contents, IsHeld, copies_of}
 use Rattle.reh_model.specs.Metadata.{Metadata, Fragment, with_member, with_member_at, next_version}
 use Rattle.reh_model.specs.Cluster.{Cluster, Ledger, ledger_at, change_ledger, is_locked_by, striped_at}
 use Rattle.reh_model.specs.Audit.{missing, published, audited}
-use Rattle.reh_model.specs.Refusals.{first_refusal, at_ledger, no_bookie, already_up, no_task, locked, bad_tick, clock_end}
 use Rattle.reh_model.specs.Step.{refusal_of, after, locked_by, unlocked, finished, expired, swapped}
 use Rattle.reh_model.specs.WellFormed.{IsLedger, IsCopy, IsWellFormed, words_of}
-use Rattle.reh_model.proofs.LedgerLaws.{KeepsId, changed, KeepsId-changed, ids-map, sum_by-map, found-map, found_itself}
+use Rattle.reh_model.proofs.LedgerLaws.{KeepsId, changed, KeepsId-changed, ids-map, sum_by-map, is_found-map, found_itself}
 use Rattle.reh_model.proofs.ContentsLaws.{All-copy, IsHeld-insert, greatest_held-copied, union-copies_of-none, union-copies_of-cons}
 use Rattle.reh_model.proofs.MemberLaws.{IsMetadata-set, with_member_at-found}
 use Rattle.reh_model.proofs.AuditLaws.{published_named, published_some}
-use Rattle.reh_model.proofs.RefusalLaws.{check-none, at_ledger-none, no_bookie-none, no_task-none, clock_end-none}
-use Rattle.reh_model.proofs.AcceptedLaws.{IsSwappable, accepted_copy, accepted_swap}
+use Rattle.reh_model.proofs.AcceptedLaws.{IsSwappable, accepted_join, accepted_acquire, accepted_tick, accepted_copy, accepted_swap}
 
 -- Changes
 
@@ -89,7 +86,7 @@ IsWellFormed-ledgers s change was keeps each =
       each = All-map (IsLedger t) change s.ledgers (λ k d within.
           IsLedger-later s t (change (get_or s.ledgers k d)) (omega arith) (omega arith)
           (each (get_or s.ledgers k d) (found_itself s.ledgers was.different k d within) (was.each k d within)));
-      held = All-weaker (IsCopy s) (IsCopy t) (λ copy is. (is.0, found-map copy.1 change keeps s.ledgers ∙ is.1, is.2)) (items s.held) was.held;
+      held = All-weaker (IsCopy s) (IsCopy t) (λ copy is. (is.0, is_found-map copy.1 change keeps s.ledgers ∙ is.1, is.2)) (items s.held) was.held;
       words = subst (λ (n : ℕ). length s.names * n ≤ 2 ^ 22) (sym (sum_by-map (words_of s.held) change keeps s.ledgers)) was.words;
     }
 
@@ -234,21 +231,15 @@ named-remove up k n named b is = named b (and_second (not (eq_by_cmp nat_cmp k b
 -- Each accepted event keeps a cluster well-formed.
 pub IsWellFormed-after : (s : Cluster) (event : Event) → IsWellFormed s → refusal_of s event ≡ None → IsWellFormed (after s event)
 IsWellFormed-after s (Lose b) was none = IsWellFormed-up s (remove s.up b) was (named-remove s.up b (length s.names) was.up)
-IsWellFormed-after s (Join b) was none =
-    let named : b < length s.names = no_bookie-none s b (check-none [] (no_bookie s b) (already_up s b ∷ []) none) in
-    IsWellFormed-up s (insert s.up b) was (named-insert s.up b (length s.names) named was.up)
+IsWellFormed-after s (Join b) was none = IsWellFormed-up s (insert s.up b) was (named-insert s.up b (length s.names) (accepted_join s b none) was.up)
 IsWellFormed-after s Audit was none = IsWellFormed-ledgers s (audited s.up) was (KeepsId-audited s.up) (λ g _ is. IsLedger-audited s g is)
 IsWellFormed-after s (Acquire w l) was none = IsWellFormed-change_ledger s l (locked_by w) was (λ g. refl) (λ g found is.
-    let checks : Ledger → List (Option Refusal) = λ g. no_task g ∷ locked g ∷ [] in
-    let named : w < length s.names = no_bookie-none s w (check-none [] (no_bookie s w) (at_ledger s l checks ∷ []) none) in
-    let free : first_refusal (checks g) ≡ None = at_ledger-none s l checks g found (check-none (no_bookie s w ∷ []) (at_ledger s l checks) [] none) in
-    IsLedger-locked_by s w g named (no_task-none g (check-none [] (no_task g) (locked g ∷ []) free)) is)
+    let may = accepted_acquire s w l g found none in
+    IsLedger-locked_by s w g may.0 may.1 is)
 IsWellFormed-after s (Release w l) was none = IsWellFormed-change_ledger s l unlocked was (λ g. refl) (λ g _ is. IsLedger-unlocked s g is)
 IsWellFormed-after s (Finish w l) was none = IsWellFormed-change_ledger s l finished was (λ g. refl) (λ g _ is. IsLedger-finished s g is)
 IsWellFormed-after s (Expire w) was none = IsWellFormed-ledgers s (expired w) was (KeepsId-expired w) (λ g _ is. IsLedger-expired s w g is)
-IsWellFormed-after s (Tick n) was none =
-    let within : s.clock + n ≤ 1_000_000_000 = clock_end-none s n (check-none (bad_tick n ∷ []) (clock_end s n) [] none) in
-    IsWellFormed-clock s (s.clock + n) was (omega arith) within
+IsWellFormed-after s (Tick n) was none = IsWellFormed-clock s (s.clock + n) was (omega arith) (accepted_tick s n none)
 IsWellFormed-after s (Copy w l f i v) was none =
     let may = accepted_copy s w l f i v none in
     IsWellFormed-copied_all s w l (striped_at s l f i) was may.named may.held

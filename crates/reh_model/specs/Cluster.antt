@@ -7,7 +7,7 @@ use Rattle.reh_types.specs.declared.locks.Lock.{Lock}
 use Rattle.reh_types.specs.Sets as set
 use Rattle.reh_types.specs.Sets.{Set, numbers}
 use Rattle.reh_model.specs.Contents.{Contents, has}
-use Rattle.reh_model.specs.Metadata.{Metadata, Fragment, writes, striped_of}
+use Rattle.reh_model.specs.Metadata.{Metadata, Fragment, writes, stop_of, striped_of}
 
 -- a ledger: its metadata, the bookies that its task is to replace, if it has one, and the task's lock, if it is locked
 pub record Ledger : Type 0 where
@@ -62,6 +62,10 @@ holds s bookie ledger entry = has s.held bookie ledger entry
 -- whether the entry can be read: some registered member of its write set holds it
 abbrev pub is_readable : Cluster → Ledger → Fragment → ℕ → Bool
 is_readable s g fragment entry = list_any (λ b. is_up s b && holds s b g.id entry) (writes g.metadata fragment entry)
+
+-- the stop of a ledger's fragment, if there is such a fragment and it has one
+abbrev pub stop_at : Cluster → ℕ → ℕ → Option ℕ
+stop_at s l f = option_and_then (λ g. stop_of g.metadata f) (ledger_at s l)
 
 -- the entries of a ledger that a fragment stripes onto the index, rising; none where there is no such ledger or fragment, or it has no stop
 abbrev pub striped_at : Cluster → ℕ → ℕ → ℕ → List ℕ

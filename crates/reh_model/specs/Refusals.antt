@@ -1,21 +1,13 @@
 -- When each refusal applies, as a check that gives the refusal or none.
-use Rattle.std.specs.Prelude.{ℕ, ◌+◌, ◌^◌, Bool, not, ◌||◌, ◌==◌, nat_lt, if◌then◌else◌, List, [], ◌∷◌, length, Option, None, Some, is_none, unwrap_or, slice_get, slice_index}
+use Rattle.std.specs.Prelude.{ℕ, ◌+◌, ◌^◌, Bool, not, ◌||◌, ◌==◌, nat_lt, List, [], ◌∷◌, length, Option, None, Some, is_none, unwrap_or, slice_get, slice_index}
 use Rattle.std.specs.List.{find, list_any}
-use Rattle.std.specs.Option.{option_map, option_or}
+use Rattle.std.specs.Option.{option_map}
 use Rattle.reh_types.specs.declared.refusals.Refusal.{Refusal}
 use Rattle.reh_types.specs.declared.refusals.Refusal.TheVariants.{NoBookie, NoLedger, AlreadyDown, AlreadyUp, NothingToPublish, NoTask, Locked, NotOwner, StillUnder, NoLocks, BadTick, ClockEnd, NoFragment, NoIndex, MemberUp, TargetDown, TargetIsMember, NoEndpoint, Stale, NoSource, MissingEntry, VersionEnd, NoMemory}
 use Rattle.reh_model.specs.Metadata.{Fragment, stop_of, striped_of}
 use Rattle.reh_model.specs.Cluster.{Cluster, Ledger, is_up, holds, is_readable, ledger_at, is_locked_by}
 use Rattle.reh_model.specs.Audit.{is_news, first_under}
-
--- the refusal, where the condition holds
-abbrev pub refuse_if : Bool → Refusal → Option Refusal
-refuse_if condition refusal = if condition then Some refusal else None
-
--- the first check that gives a refusal
-abbrev pub first_refusal : List (Option Refusal) → Option Refusal
-first_refusal [] = None
-first_refusal (check ∷ checks) = option_or check (first_refusal checks)
+use Rattle.reh_model.specs.Checks.{reason_if, first_reason}
 
 -- the refusal; where there is none, want of memory, which comes after all others
 abbrev pub or_no_memory : Option Refusal → Refusal
@@ -24,7 +16,7 @@ or_no_memory refusal = unwrap_or refusal NoMemory
 -- the checks of a ledger, or that there is none
 abbrev pub with_ledger : Option Ledger → (Ledger → List (Option Refusal)) → Option Refusal
 with_ledger None checks = Some NoLedger
-with_ledger (Some g) checks = first_refusal (checks g)
+with_ledger (Some g) checks = first_reason (checks g)
 
 -- the checks of the ledger of that id
 abbrev pub at_ledger : Cluster → ℕ → (Ledger → List (Option Refusal)) → Option Refusal
@@ -33,7 +25,7 @@ at_ledger s l checks = with_ledger (ledger_at s l) checks
 -- the checks of a fragment, or that there is none
 abbrev pub with_fragment : Option Fragment → (Fragment → List (Option Refusal)) → Option Refusal
 with_fragment None checks = Some NoFragment
-with_fragment (Some fragment) checks = first_refusal (checks fragment)
+with_fragment (Some fragment) checks = first_reason (checks fragment)
 
 -- the checks of the ledger's fragment of that number
 abbrev pub at_fragment : Ledger → ℕ → (Fragment → List (Option Refusal)) → Option Refusal
@@ -42,63 +34,63 @@ at_fragment g f checks = with_fragment (slice_get g.metadata.fragments f) checks
 -- Bookies and the clock
 
 abbrev pub no_bookie : Cluster → ℕ → Option Refusal
-no_bookie s b = refuse_if (not (nat_lt b (length s.names))) NoBookie
+no_bookie s b = reason_if (not (nat_lt b (length s.names))) NoBookie
 
 abbrev pub already_down : Cluster → ℕ → Option Refusal
-already_down s b = refuse_if (not (is_up s b)) AlreadyDown
+already_down s b = reason_if (not (is_up s b)) AlreadyDown
 
 abbrev pub already_up : Cluster → ℕ → Option Refusal
-already_up s b = refuse_if (is_up s b) AlreadyUp
+already_up s b = reason_if (is_up s b) AlreadyUp
 
 abbrev pub bad_tick : ℕ → Option Refusal
-bad_tick n = refuse_if (n == 0 || nat_lt 1_000_000 n) BadTick
+bad_tick n = reason_if (n == 0 || nat_lt 1_000_000 n) BadTick
 
 abbrev pub clock_end : Cluster → ℕ → Option Refusal
-clock_end s n = refuse_if (nat_lt 1_000_000_000 (s.clock + n)) ClockEnd
+clock_end s n = reason_if (nat_lt 1_000_000_000 (s.clock + n)) ClockEnd
 
 -- The auditor, tasks and locks
 
 -- no task's set would change
 abbrev pub nothing_to_publish : Cluster → Option Refusal
-nothing_to_publish s = refuse_if (not (list_any (is_news s.up) s.ledgers)) NothingToPublish
+nothing_to_publish s = reason_if (not (list_any (is_news s.up) s.ledgers)) NothingToPublish
 
 abbrev pub no_task : Ledger → Option Refusal
-no_task g = refuse_if (is_none g.task) NoTask
+no_task g = reason_if (is_none g.task) NoTask
 
 -- its task is locked, by whomever
 abbrev pub locked : Ledger → Option Refusal
 locked g = option_map (λ lock. Locked lock.owner) g.lock
 
-abbrev pub not_owner : Ledger → ℕ → Option Refusal
-not_owner g w = refuse_if (not (is_locked_by w g)) NotOwner
+abbrev pub not_owner : ℕ → Ledger → Option Refusal
+not_owner w g = reason_if (not (is_locked_by w g)) NotOwner
 
 -- the least fragment with a member that is not registered
 abbrev pub still_under : Cluster → Ledger → Option Refusal
 still_under s g = option_map (λ f. StillUnder f) (first_under s.up g)
 
 abbrev pub no_locks : Cluster → ℕ → Option Refusal
-no_locks s w = refuse_if (not (list_any (is_locked_by w) s.ledgers)) NoLocks
+no_locks s w = reason_if (not (list_any (is_locked_by w) s.ledgers)) NoLocks
 
 -- Copies and swaps
 
 -- the stored version is not the one that is named
 abbrev pub stale : Ledger → ℕ → Option Refusal
-stale g version = refuse_if (not (g.metadata.version == version)) (Stale g.metadata.version)
+stale g version = reason_if (not (g.metadata.version == version)) (Stale g.metadata.version)
 
 abbrev pub no_index : Ledger → ℕ → Option Refusal
-no_index g i = refuse_if (not (nat_lt i g.metadata.size)) NoIndex
+no_index g i = reason_if (not (nat_lt i g.metadata.size)) NoIndex
 
 abbrev pub member_up : Cluster → Fragment → ℕ → Option Refusal
-member_up s fragment i = refuse_if (is_up s (slice_index fragment.ensemble i)) MemberUp
+member_up s fragment i = reason_if (is_up s (slice_index fragment.ensemble i)) MemberUp
 
 abbrev pub target_down : Cluster → ℕ → Option Refusal
-target_down s b = refuse_if (not (is_up s b)) TargetDown
+target_down s b = reason_if (not (is_up s b)) TargetDown
 
 abbrev pub target_is_member : Fragment → ℕ → Option Refusal
-target_is_member fragment b = refuse_if (list_any (λ member. member == b) fragment.ensemble) TargetIsMember
+target_is_member fragment b = reason_if (list_any (λ member. member == b) fragment.ensemble) TargetIsMember
 
 abbrev pub no_endpoint : Ledger → ℕ → Option Refusal
-no_endpoint g f = refuse_if (is_none (stop_of g.metadata f)) NoEndpoint
+no_endpoint g f = reason_if (is_none (stop_of g.metadata f)) NoEndpoint
 
 -- why the bookie can't take that index of the fragment's ensemble: there is no such fragment or index, the member there is registered, the bookie is not, it is a member already, or the fragment has no stop
 abbrev pub no_place : Cluster → ℕ → Ledger → ℕ → ℕ → Option Refusal
@@ -113,4 +105,4 @@ abbrev pub missing_entry : Cluster → ℕ → Ledger → ℕ → ℕ → Option
 missing_entry s b g f i = option_map (λ e. MissingEntry e) (find (λ e. not (holds s b g.id e)) (striped_of g.metadata f i))
 
 abbrev pub version_end : Ledger → Option Refusal
-version_end g = refuse_if (g.metadata.version == 10 ^ 12) VersionEnd
+version_end g = reason_if (g.metadata.version == 10 ^ 12) VersionEnd

@@ -1,6 +1,5 @@
 -- A session: the surviving events over an opening cluster, and those undone.
-use Rattle.std.specs.Prelude.{◌≡◌, ◌-◌, Bool, true, false, ◌==◌, nat_le, List, [], ◌∷◌, ◌++◌, length, take, drop, Option, None, Some, unwrap_or, Result, Ok, Err}
-use Rattle.std.specs.Bool.{MatchBool}
+use Rattle.std.specs.Prelude.{◌≡◌, ◌-◌, ◌==◌, nat_le, List, [], ◌∷◌, ◌++◌, length, take, drop, Option, None, Some, unwrap_or, Result, Ok, Err, ◌⊎◌}
 use Rattle.reh_types.specs.declared.moves.Event.{Event}
 use Rattle.reh_types.specs.declared.moves.Move.{Move}
 use Rattle.reh_types.specs.declared.moves.Move.TheVariants.{Do, Undo, Redo, Look}
@@ -9,7 +8,7 @@ use Rattle.reh_types.specs.declared.moves.Reply.TheVariants.{Done, Clock, Refuse
 use Rattle.reh_types.specs.declared.refusals.Refusal.{Refusal}
 use Rattle.reh_types.specs.declared.refusals.Refusal.TheVariants.{NothingToUndo, NothingToRedo, Full, NoMemory}
 use Rattle.reh_model.specs.Cluster.{Cluster}
-use Rattle.reh_model.specs.Refusals.{first_refusal, refuse_if}
+use Rattle.reh_model.specs.Checks.{first_reason, reason_if}
 use Rattle.reh_model.specs.Step.{refusal_of, after}
 
 -- Replays
@@ -49,13 +48,13 @@ done_unless (Some refusal) = Refused refusal
 
 -- no more events can survive
 abbrev pub full : Session → Option Refusal
-full m = refuse_if (nat_le 100_000 (length m.done)) Full
+full m = reason_if (nat_le 100_000 (length m.done)) Full
 
 -- the reply to a move
 abbrev pub reply_to : Session → Move → Reply
-reply_to m (Do event) = done_unless (first_refusal (refusal_of (state_of m) event ∷ full m ∷ []))
-reply_to m Undo = done_unless (refuse_if (length m.done == 0) NothingToUndo)
-reply_to m Redo = done_unless (refuse_if (length m.undone == 0) NothingToRedo)
+reply_to m (Do event) = done_unless (first_reason (refusal_of (state_of m) event ∷ full m ∷ []))
+reply_to m Undo = done_unless (reason_if (length m.done == 0) NothingToUndo)
+reply_to m Redo = done_unless (reason_if (length m.undone == 0) NothingToRedo)
 reply_to m Look = Clock (state_of m).clock
 
 -- what a move that is done makes of a session: a new event survives and none is undone any more; undo and redo move one event across
@@ -73,21 +72,16 @@ session_after m move (Refused refusal) = m
 
 -- Replies that may want memory
 
--- whether a reply says that there is no memory
-abbrev pub is_no_memory : Reply → Bool
-is_no_memory Done = false
-is_no_memory (Clock clock) = false
-is_no_memory (Refused NoMemory) = true
-is_no_memory (Refused refusal) = false
-
--- From m a move has this reply, and leaves n: it is the reply above; or, where that is Done, that there is no memory, and nothing changes.
-abbrev pub Answers : Session → Move → Reply → Session → Type 0
-Answers m move reply n = MatchBool (is_no_memory reply) ((reply_to m move ≡ Done) × (n ≡ m)) ((reply ≡ reply_to m move) × (n ≡ session_after m move reply))
+-- From m a move has this reply, and leaves n: it is the machine's reply, and the session after it; or there is no memory, only where the machine says done, and nothing changes.
+abbrev pub Performs : Session → Move → Reply → Session → Type 0
+Performs m move reply n =
+    ((reply ≡ reply_to m move) × (n ≡ session_after m move reply))
+    ⊎ ((reply ≡ Refused NoMemory) × (reply_to m move ≡ Done) × (n ≡ m))
 
 -- moves and replies, paired in order, from m to n
 abbrev pub Run : Session → List Move → List Reply → Session → Type 0
 Run m [] [] n = n ≡ m
-Run m (move ∷ moves) (reply ∷ replies) n = (mid : Session) × Answers m move reply mid × Run mid moves replies n
+Run m (move ∷ moves) (reply ∷ replies) n = (mid : Session) × Performs m move reply mid × Run mid moves replies n
 Run m [] (reply ∷ replies) n = ⊥
 Run m (move ∷ moves) [] n = ⊥
 

@@ -1,5 +1,5 @@
 -- One event: when it is refused, and what it changes.
-use Rattle.std.specs.Prelude.{ℕ, ◌+◌, if◌then◌else◌, [], ◌∷◌, map, Option, None, Some}
+use Rattle.std.specs.Prelude.{ℕ, ◌+◌, if◌then◌else◌, List, [], ◌∷◌, ◌++◌, map, Option, None, Some}
 use Rattle.reh_types.specs.declared.moves.Event.{Event}
 use Rattle.reh_types.specs.declared.moves.Event.TheVariants.{Lose, Join, Audit, Acquire, Release, Finish, Expire, Tick, Copy, Swap}
 use Rattle.reh_types.specs.declared.refusals.Refusal.{Refusal}
@@ -8,20 +8,33 @@ use Rattle.reh_model.specs.Contents.{copies_of}
 use Rattle.reh_model.specs.Metadata.{with_member_at, next_version}
 use Rattle.reh_model.specs.Cluster.{Cluster, Ledger, change_ledger, is_locked_by, striped_at}
 use Rattle.reh_model.specs.Audit.{audited}
-use Rattle.reh_model.specs.Refusals.{first_refusal, at_ledger, no_bookie, already_down, already_up, nothing_to_publish, no_task, locked, not_owner, still_under, no_locks, bad_tick, clock_end, stale, no_place, no_source, missing_entry, version_end}
+use Rattle.reh_model.specs.Checks.{first_reason}
+use Rattle.reh_model.specs.Refusals.{at_ledger, no_bookie, already_down, already_up, nothing_to_publish, no_task, locked, not_owner, still_under, no_locks, bad_tick, clock_end, stale, no_place, no_source, missing_entry, version_end}
+
+-- what a copy and a swap ask first: the worker holds the ledger's lock, the version is the stored one, and the worker's bookie can take the place
+abbrev pub place_checks : Cluster → ℕ → ℕ → ℕ → ℕ → Ledger → List (Option Refusal)
+place_checks s w f i v g = not_owner w g ∷ stale g v ∷ no_place s w g f i ∷ []
+
+-- a copy finds a source for each entry
+abbrev pub copy_checks : Cluster → ℕ → ℕ → ℕ → ℕ → Ledger → List (Option Refusal)
+copy_checks s w f i v g = place_checks s w f i v g ++ no_source s g f i ∷ []
+
+-- a swap finds each entry on the worker's bookie, and there is a next version
+abbrev pub swap_checks : Cluster → ℕ → ℕ → ℕ → ℕ → Ledger → List (Option Refusal)
+swap_checks s w f i v g = place_checks s w f i v g ++ missing_entry s w g f i ∷ version_end g ∷ []
 
 -- the first refusal of an event, if there is one
 abbrev pub refusal_of : Cluster → Event → Option Refusal
-refusal_of s (Lose b) = first_refusal (no_bookie s b ∷ already_down s b ∷ [])
-refusal_of s (Join b) = first_refusal (no_bookie s b ∷ already_up s b ∷ [])
+refusal_of s (Lose b) = first_reason (no_bookie s b ∷ already_down s b ∷ [])
+refusal_of s (Join b) = first_reason (no_bookie s b ∷ already_up s b ∷ [])
 refusal_of s Audit = nothing_to_publish s
-refusal_of s (Acquire w l) = first_refusal (no_bookie s w ∷ at_ledger s l (λ g. no_task g ∷ locked g ∷ []) ∷ [])
-refusal_of s (Release w l) = first_refusal (no_bookie s w ∷ at_ledger s l (λ g. not_owner g w ∷ []) ∷ [])
-refusal_of s (Finish w l) = first_refusal (no_bookie s w ∷ at_ledger s l (λ g. not_owner g w ∷ still_under s g ∷ []) ∷ [])
-refusal_of s (Expire w) = first_refusal (no_bookie s w ∷ no_locks s w ∷ [])
-refusal_of s (Tick n) = first_refusal (bad_tick n ∷ clock_end s n ∷ [])
-refusal_of s (Copy w l f i v) = first_refusal (no_bookie s w ∷ at_ledger s l (λ g. not_owner g w ∷ stale g v ∷ no_place s w g f i ∷ no_source s g f i ∷ []) ∷ [])
-refusal_of s (Swap w l f i v) = first_refusal (no_bookie s w ∷ at_ledger s l (λ g. not_owner g w ∷ stale g v ∷ no_place s w g f i ∷ missing_entry s w g f i ∷ version_end g ∷ []) ∷ [])
+refusal_of s (Acquire w l) = first_reason (no_bookie s w ∷ at_ledger s l (λ g. no_task g ∷ locked g ∷ []) ∷ [])
+refusal_of s (Release w l) = first_reason (no_bookie s w ∷ at_ledger s l (λ g. not_owner w g ∷ []) ∷ [])
+refusal_of s (Finish w l) = first_reason (no_bookie s w ∷ at_ledger s l (λ g. not_owner w g ∷ still_under s g ∷ []) ∷ [])
+refusal_of s (Expire w) = first_reason (no_bookie s w ∷ no_locks s w ∷ [])
+refusal_of s (Tick n) = first_reason (bad_tick n ∷ clock_end s n ∷ [])
+refusal_of s (Copy w l f i v) = first_reason (no_bookie s w ∷ at_ledger s l (copy_checks s w f i v) ∷ [])
+refusal_of s (Swap w l f i v) = first_reason (no_bookie s w ∷ at_ledger s l (swap_checks s w f i v) ∷ [])
 
 -- a ledger whose task this worker locks, with no due tick
 abbrev pub locked_by : ℕ → Ledger → Ledger

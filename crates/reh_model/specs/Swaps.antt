@@ -1,17 +1,17 @@
 -- The promise of swaps: no swap that is accepted loses an entry.
-use Rattle.std.specs.Prelude.{◌≡◌, true, List, ◌∷◌, All}
+use Rattle.std.specs.Prelude.{◌≡◌, true, List, ◌∷◌, IsSome, All}
 use Rattle.reh_types.specs.declared.moves.Event.{Event}
 use Rattle.reh_types.specs.declared.moves.Event.TheVariants.{Swap}
 use Rattle.reh_types.specs.declared.moves.Move.{Move}
 use Rattle.reh_types.specs.declared.moves.Move.TheVariants.{Do}
 use Rattle.reh_types.specs.declared.moves.Reply.{Reply}
 use Rattle.reh_types.specs.declared.moves.Reply.TheVariants.{Done}
-use Rattle.reh_model.specs.Cluster.{Cluster, holds, striped_at}
+use Rattle.reh_model.specs.Cluster.{Cluster, holds, stop_at, striped_at}
 use Rattle.reh_model.specs.Session.{Session, state_of, session_after}
 
--- what a swap promises of a cluster: the worker's bookie holds there every entry that the fragment stripes onto the index. Other events promise nothing.
+-- what a swap promises of a cluster: the fragment has a stop there, so that its entries are known, and the worker's bookie holds every entry that it stripes onto the index. Other events promise nothing.
 abbrev pub HoldsStripe : Cluster → Event → Type 0
-HoldsStripe s (Swap w l f i v) = All (λ e. holds s w l e ≡ true) (striped_at s l f i)
+HoldsStripe s (Swap w l f i v) = IsSome (stop_at s l f) × All (λ e. holds s w l e ≡ true) (striped_at s l f i)
 HoldsStripe s event = Unit {0}
 
 -- a move with its reply: where a swap is done, it keeps its promise in the state that it is made on
