@@ -1,44 +1,37 @@
 -- Each move keeps what a session keeps.
-use Rattle.std.proofs.Common.{◌≡◌, ℕ, ◌+◌, ◌-◌, ◌<◌, ◌≤◌, List, [], ◌∷◌, ◌++◌, length, get_or, take, drop, sym, ap, subst, ◌∙◌, Option, None, Some, IsSome, is_some, false, nat_le, arith, length-append, refl}
+use Rattle.std.proofs.Common.{◌≡◌, ℕ, ◌+◌, ◌-◌, ◌<◌, ◌≤◌, List, [], ◌∷◌, ◌++◌, length, get_or, take, drop, sym, ap, subst, ◌∙◌, Option, None, Some, IsSome, is_some, inl, arith, length-append, refl}
 use Rattle.std.proofs.lemmas.List.{take_more, drop_more, take-take, drop-take, drop-drop, take_all, drop_all, length-take-le, length-drop, take-append-drop}
 use Rattle.std.proofs.Math.Seq.{take-add}
 use Rattle.std.specs.Prelude.{unwrap_or}
-use Rattle.std.specs.Bool.{MatchBool}
-use Rattle.std.proofs.lemmas.Bool.Decides.{nat_tests}
 use Rattle.reh_types.specs.declared.moves.Event.{Event}
 use Rattle.reh_types.specs.declared.moves.Move.{Move}
 use Rattle.reh_types.specs.declared.moves.Move.TheVariants.{Do, Undo, Redo}
 use Rattle.reh_types.specs.declared.moves.Reply.{Reply}
 use Rattle.reh_types.specs.declared.moves.Reply.TheVariants.{Done, Refused}
 use Rattle.reh_types.specs.declared.refusals.Refusal.{Refusal}
-use Rattle.reh_types.specs.declared.refusals.Refusal.TheVariants.{NothingToUndo, NothingToRedo, Full}
+use Rattle.reh_types.specs.declared.refusals.Refusal.TheVariants.{NothingToUndo, NothingToRedo}
 use Rattle.reh_model.specs.Cluster.{Cluster}
-use Rattle.reh_model.specs.Refusals.{first_refusal, refuse_if}
 use Rattle.reh_model.specs.Step.{refusal_of, after}
 use Rattle.reh_model.specs.Swaps.{AllSafe}
-use Rattle.reh_model.specs.Session.{Session, replay, state_of, done_unless, full, reply_to, moved, Answers, Run}
+use Rattle.reh_model.specs.Session.{Session, replay, state_of, reply_to, moved, Performs, Run}
 use Rattle.reh_model.proofs.SessionLaws.{replay_first, replay-append, replay-prefix, replay_one, done_unless-some}
 use Rattle.reh_model.proofs.SwapLaws.{CanRedoAll, CanRedoAll-run, all_safe}
-use Rattle.reh_model.proofs.MemoryLaws.{not_for_memory}
+use Rattle.reh_model.proofs.AcceptedLaws.{done_within, refused_first}
 use Rattle.reh_session.specs.Kept.{session_of, IsKept}
 
--- an event is accepted where the state accepts it, and there is room
-pub do_accepted : {o s : Cluster} {es : List Event} {k : ℕ} → IsKept o s es k → (e : Event) → refusal_of s e ≡ None → k < 100_000 → reply_to (session_of o es k) (Do e) ≡ Done
-do_accepted {o} {s} {es} {k} h e accepted room =
-    let m : Session = session_of o es k in
-    let state_is : state_of m ≡ s = ap (λ (x : Option Cluster). unwrap_or x o) h.replayed in
-    let few : nat_le 100_000 (length m.done) ≡ false = grind (arith, nat_tests, length-take-le k es h.within) in
-    ap (λ (x : Cluster). done_unless (first_refusal (refusal_of x e ∷ full m ∷ []))) state_is
-    ∙ ap (λ (x : Option Refusal). done_unless (first_refusal (x ∷ full m ∷ []))) accepted
-    ∙ ap (λ b. done_unless (first_refusal (refuse_if b Full ∷ []))) few
+-- the state is that of the session
+state_is : {o s : Cluster} {es : List Event} {k : ℕ} → IsKept o s es k → (m : Session) → session_of o es k ≡ m → state_of m ≡ s
+state_is {o} {s} {es} {k} h m is = ap (λ (n : Session). state_of n) (sym is) ∙ ap (λ (x : Option Cluster). unwrap_or x o) h.replayed
+
+-- an event is done where the state accepts it, and there is room
+pub act_done : {o s : Cluster} {es : List Event} {k : ℕ} → IsKept o s es k → (e : Event) → refusal_of s e ≡ None → k < 100_000 → (m : Session) → session_of o es k ≡ m → reply_to m (Do e) ≡ Done
+act_done {o} {s} {es} {k} h e accepted room m is =
+    let few : length m.done < 100_000 = omega (arith, length-take-le k es h.within, ap (λ (n : Session). length n.done) is) in
+    done_within m e (ap (λ (x : Cluster). refusal_of x e) (state_is h m is) ∙ accepted) few
 
 -- and it is answered with the state's refusal, if there is one
-pub refused_answers : {o s : Cluster} {es : List Event} {k : ℕ} → IsKept o s es k → (e : Event) (r : Refusal) → refusal_of s e ≡ Some r → (m : Session) → session_of o es k ≡ m → Answers m (Do e) (Refused r) m
-refused_answers {o} {s} {es} {k} h e r refused m is =
-    let state_is : state_of m ≡ s = ap (λ (n : Session). state_of n) (sym is) ∙ ap (λ (x : Option Cluster). unwrap_or x o) h.replayed in
-    let reply : reply_to m (Do e) ≡ Refused r =
-    ap (λ (x : Cluster). done_unless (first_refusal (refusal_of x e ∷ full m ∷ []))) state_is ∙ ap (λ (x : Option Refusal). done_unless (first_refusal (x ∷ full m ∷ []))) refused in
-    subst (λ b. MatchBool b ((reply_to m (Do e) ≡ Done) × (m ≡ m)) ((Refused r ≡ reply_to m (Do e)) × (m ≡ m))) (sym (not_for_memory s e r refused)) (sym reply, refl)
+pub act_refused : {o s : Cluster} {es : List Event} {k : ℕ} → IsKept o s es k → (e : Event) (r : Refusal) → refusal_of s e ≡ Some r → (m : Session) → session_of o es k ≡ m → Performs m (Do e) (Refused r) m
+act_refused {o} {s} {es} {k} h e r refused m is = inl (sym (refused_first m e r (ap (λ (x : Cluster). refusal_of x e) (state_is h m is) ∙ refused)), refl)
 
 -- an event is made, and what was undone is dropped
 pub acted : {o s : Cluster} {es : List Event} {k : ℕ} → IsKept o s es k → (e : Event) (new : List Event) → refusal_of s e ≡ None → k < 100_000 → new ≡ take k es ++ e ∷ [] → IsKept o (after s e) new (k + 1)
@@ -114,9 +107,9 @@ undone_one {o} {s} {es} {k} h t some is = record {
 }
 
 -- undo moves the cursor back by one
-pub undo_answers : (o : Cluster) (es : List Event) (k : ℕ) → k ≤ length es → 0 < k → Answers (session_of o es k) Undo Done (session_of o es (k - 1))
-undo_answers o es k within some =
-    let size : length (take k es) ≡ k = length-take-le k es within in (
+pub undo_performs : (o : Cluster) (es : List Event) (k : ℕ) → k ≤ length es → 0 < k → Performs (session_of o es k) Undo Done (session_of o es (k - 1))
+undo_performs o es k within some =
+    let size : length (take k es) ≡ k = length-take-le k es within in inl (
       sym (done_unless-some (length (take k es)) NothingToUndo (omega arith)),
       (λ i. record {
         opening = o;
@@ -126,8 +119,8 @@ undo_answers o es k within some =
     )
 
 -- redo moves it on by one
-pub redo_answers : (o : Cluster) (es : List Event) (k : ℕ) → k < length es → Answers (session_of o es k) Redo Done (session_of o es (k + 1))
-redo_answers o es k more = (
+pub redo_performs : (o : Cluster) (es : List Event) (k : ℕ) → k < length es → Performs (session_of o es k) Redo Done (session_of o es (k + 1))
+redo_performs o es k more = inl (
   sym (done_unless-some (length (drop k es)) NothingToRedo (omega (arith, length-drop k es))),
   (λ i. record { opening = o; done = take-add k 1 es i; undone = sym (drop-drop 1 k es) i }),
 )

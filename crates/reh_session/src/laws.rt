@@ -1,10 +1,10 @@
 // What holds of every session, whatever cluster it opened on.
-ghost use Rattle.std.specs.Prelude.{◌≡◌, ℕ, [], ◌∷◌};
+ghost use Rattle.std.specs.Prelude.{◌≡◌, ℕ, [], ◌∷◌, None, IsSome};
 ghost use Rattle.reh_types.specs.declared.moves.Event.{Event};
 ghost use Rattle.reh_types.specs.declared.moves.Move.TheVariants.{Do, Undo};
 ghost use Rattle.reh_types.specs.declared.moves.Reply.TheVariants.{Done};
-ghost use Rattle.reh_model.specs.Cluster.{Cluster, striped_at};
-ghost use Rattle.reh_model.specs.Step.{after};
+ghost use Rattle.reh_model.specs.Cluster.{Cluster, stop_at, striped_at};
+ghost use Rattle.reh_model.specs.Step.{refusal_of, after};
 ghost use Rattle.reh_model.specs.Session.{Session, state_of, reply_to, moved};
 
 /// An accepted event can be undone, and its undo restores the state and the surviving events; the one event that is undone then is that event.
@@ -14,7 +14,11 @@ pub fn undo_restores()
     ensures state { (m : Session) (event : Event) → state_of (moved (moved m (Do event)) Undo) ≡ state_of m }
 {}
 
-/// No event changes which entries a fragment stripes onto an index: what a swap promised is promised of the same entries later.
+/// An accepted event moves no stop of a fragment that has one, and changes nothing of the entries that such a fragment
+/// stripes onto an index: what a swap promised is promised of the same entries later.
 pub fn stripes_stay()
-    ensures { (s : Cluster) (event : Event) (l f i : ℕ) → striped_at (after s event) l f i ≡ striped_at s l f i }
+    ensures stops { (s : Cluster) (event : Event) → refusal_of s event ≡ None → (l f : ℕ) →
+        IsSome (stop_at s l f) → stop_at (after s event) l f ≡ stop_at s l f }
+    ensures stripes { (s : Cluster) (event : Event) → refusal_of s event ≡ None → (l f i : ℕ) →
+        IsSome (stop_at s l f) → striped_at (after s event) l f i ≡ striped_at s l f i }
 {}

@@ -36,7 +36,7 @@ impl Model for Session {
 
 impl Session {
     ghost use Rattle.reh_types.specs.declared.moves.Move.TheVariants.{Do, Undo, Redo};
-    ghost use Rattle.reh_model.specs.Session.{opened, state_of, Answers, Run, reply_of};
+    ghost use Rattle.reh_model.specs.Session.{opened, state_of, Performs, Run, reply_of};
     ghost use Rattle.reh_model.specs.Swaps.{HoldsStripe, IsSafe, IsSafeRun, AllSafe};
 
     /// A session on this state, with no event. Where there is no memory, the state is dropped.
@@ -82,7 +82,7 @@ impl Session {
     /// No swap that is made loses an entry (`safe`): the worker's bookie holds each one that the fragment stripes
     /// onto the index. While the swap survives it stays so (`lasting`).
     pub fn act(&mut self, event: &Event) -> Result<(), Refusal>
-        ensures answers { Answers self.old (Do event.now) (reply_of result) self.new }
+        ensures answers { Performs self.old (Do event.now) (reply_of result) self.new }
         ensures safe { IsSafe (state_of self.old) (Do event.now) (reply_of result) }
         ensures lasting { AllSafe self.new }
     {
@@ -99,7 +99,7 @@ impl Session {
 
     /// Undoes the newest surviving event.
     pub fn undo(&mut self) -> Result<(), Refusal>
-        ensures answers { Answers self.old Undo (reply_of result) self.new }
+        ensures answers { Performs self.old Undo (reply_of result) self.new }
         ensures lasting { AllSafe self.new }
     {
         if self.cursor == 0 {
@@ -116,7 +116,7 @@ impl Session {
 
     /// Makes the event that was undone last once more.
     pub fn redo(&mut self) -> Result<(), Refusal>
-        ensures answers { Answers self.old Redo (reply_of result) self.new }
+        ensures answers { Performs self.old Redo (reply_of result) self.new }
         ensures lasting { AllSafe self.new }
     {
         if self.cursor == self.events.len() {
@@ -131,7 +131,7 @@ impl Session {
 
     /// Makes one move, and answers it.
     pub fn perform(&mut self, step: &Move) -> Reply
-        ensures answers { Answers self.old step.now result self.new }
+        ensures answers { Performs self.old step.now result self.new }
         ensures safe { IsSafe (state_of self.old) step.now result }
         ensures lasting { AllSafe self.new }
     {

@@ -6,7 +6,7 @@ ghost use Rattle.reh_model.specs.Metadata.{striped_of};
 ghost use Rattle.reh_model.specs.Cluster as cluster;
 ghost use Rattle.reh_model.specs.Cluster.{ledger_at, is_locked_by};
 ghost use Rattle.reh_model.specs.Refusals as model;
-ghost use Rattle.reh_model.specs.Refusals.{first_refusal};
+ghost use Rattle.reh_model.specs.Checks.{first_reason};
 ghost use Rattle.reh_model.specs.Step.{refusal_of};
 ghost use Rattle.reh_step.specs.Decisions.{Decides};
 
@@ -206,8 +206,8 @@ fn find_ledger(state: &State, ledger: LedgerId) -> Result<&Ledger, Refusal>
 /// The ledger of that id, if the worker holds its lock.
 fn find_owned(state: &State, worker: BookieIx, ledger: LedgerId) -> Result<&Ledger, Refusal>
     ensures { MatchResult result
-        (λ g. (model.no_bookie state.now worker ≡ None) × (ledger_at state.now ledger ≡ Some g.now) × (model.not_owner g.now worker ≡ None))
-        (λ refusal. first_refusal (model.no_bookie state.now worker ∷ model.at_ledger state.now ledger (λ g. model.not_owner g worker ∷ []) ∷ []) ≡ Some refusal) }
+        (λ g. (model.no_bookie state.now worker ≡ None) × (ledger_at state.now ledger ≡ Some g.now) × (model.not_owner worker g.now ≡ None))
+        (λ refusal. first_reason (model.no_bookie state.now worker ∷ model.at_ledger state.now ledger (λ g. model.not_owner worker g ∷ []) ∷ []) ≡ Some refusal) }
 {
     check_bookie(state, worker)?;
     let ledger = find_ledger(state, ledger)?;
@@ -217,7 +217,7 @@ fn find_owned(state: &State, worker: BookieIx, ledger: LedgerId) -> Result<&Ledg
 
 /// Whether the worker holds the ledger's lock.
 fn check_owner(ledger: &Ledger, worker: BookieIx) -> Result<(), Refusal>
-    ensures { Decides result (model.not_owner ledger.now worker) }
+    ensures { Decides result (model.not_owner worker ledger.now) }
 {
     if ledger.is_locked_by(worker) {
         Ok(())

@@ -4,7 +4,7 @@ use Rattle.std.proofs.lemmas.Option.{slice_get-get_or}
 use Rattle.reh_model.specs.Striping.{striped}
 use Rattle.reh_model.specs.Metadata.{Metadata, Fragment, IsMetadata, stop_of}
 use Rattle.reh_model.specs.Cluster.{ledger_at}
-use Rattle.reh_model.proofs.AcceptedLaws.{striped_at-found}
+use Rattle.reh_model.proofs.LedgerLaws.{striped_at-found}
 use Rattle.reh_model.proofs.StripedLaws.{striped_of-found, striped_of-outside}
 use Rattle.reh_step.proofs.steps.stripe_at.Goals as goal
 

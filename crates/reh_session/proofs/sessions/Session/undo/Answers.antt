@@ -1,5 +1,5 @@
 use Rattle.std.proofs.Common.{arith, refl}
-use Rattle.reh_session.proofs.Keeps.{undo_replays, undone_one, undo_answers, kept_safe}
+use Rattle.reh_session.proofs.Keeps.{undo_replays, undone_one, undo_performs, kept_safe}
 use Rattle.reh_session.proofs.sessions.Session.undo.Goals as goal
 
 pub replay-requires : goal.replay-requires
@@ -12,7 +12,7 @@ pub returns-in_default-clause-lasting : goal.returns-in_default-clause-lasting
 returns-in_default-clause-lasting c = kept_safe c.self.invariant _ c.self.view_is
 
 pub returns-clause-answers : goal.returns-clause-answers
-returns-clause-answers c = rw (← c.self.view_is) (undo_answers c.self.inside.opening c.self.inside.events.items c.self.inside.cursor c.self.invariant.within (omega arith))
+returns-clause-answers c = rw (← c.self.view_is) (undo_performs c.self.inside.opening c.self.inside.events.items c.self.inside.cursor c.self.invariant.within (omega arith))
 
 pub returns-clause-lasting : goal.returns-clause-lasting
 returns-clause-lasting c = kept_safe (undone_one c.self.invariant c.in-Ok.restored (omega arith) (rw c.deref.ensures.value at c.in-Ok.ensures)) _ refl
