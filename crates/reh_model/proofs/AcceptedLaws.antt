@@ -33,6 +33,41 @@ check-none [] (Some refusal) later none = cc
 check-none (None ∷ before) check later none = check-none before check later none
 check-none (Some refusal ∷ before) check later none = cc
 
+-- more checks come behind those that give a reason,
+first_reason-append : (checks more : List (Option Refusal)) (refusal : Refusal) → first_reason checks ≡ Some refusal → first_reason (checks ++ more) ≡ Some refusal
+first_reason-append [] more refusal is = cc
+first_reason-append (None ∷ checks) more refusal is = first_reason-append checks more refusal is
+first_reason-append (Some other ∷ checks) more refusal is = is
+
+-- also where they are those of a ledger that a worker names,
+pub refused_before : (s : Cluster) (w l : ℕ) (checks more : Ledger → List (Option Refusal)) (refusal : Refusal) → first_reason (no_bookie s w ∷ at_ledger s l checks ∷ []) ≡ Some refusal
+    → first_reason (no_bookie s w ∷ at_ledger s l (λ g. checks g ++ more g) ∷ []) ≡ Some refusal
+refused_before s w l checks more refusal = behind (no_bookie s w) (ledger_at s l) where
+  last : (o : Option Refusal) → first_reason (o ∷ []) ≡ o
+  last None = refl
+  last (Some r) = refl
+
+  behind : (check : Option Refusal) (o : Option Ledger) → first_reason (check ∷ with_ledger o checks ∷ []) ≡ Some refusal → first_reason (check ∷ with_ledger o (λ g. checks g ++ more g) ∷ []) ≡ Some refusal
+  behind (Some r) o is = is
+  behind None None is = is
+  behind None (Some g) is = last (first_reason (checks g ++ more g)) ∙ first_reason-append (checks g) (more g) refusal (sym (last (first_reason (checks g))) ∙ is)
+
+-- and count where those give none
+pub passed_before : (s : Cluster) (w l : ℕ) (g : Ledger) (checks more : Ledger → List (Option Refusal)) → no_bookie s w ≡ None → ledger_at s l ≡ Some g → first_reason (checks g) ≡ None
+    → first_reason (no_bookie s w ∷ at_ledger s l (λ g. checks g ++ more g) ∷ []) ≡ first_reason (more g)
+passed_before s w l g checks more named found none =
+    (λ i. first_reason (named i ∷ with_ledger (found i) (λ g. checks g ++ more g) ∷ []))
+    ∙ last (first_reason (checks g ++ more g)) ∙ behind (checks g) none
+  where
+  last : (o : Option Refusal) → first_reason (o ∷ []) ≡ o
+  last None = refl
+  last (Some r) = refl
+
+  behind : (before : List (Option Refusal)) → first_reason before ≡ None → first_reason (before ++ more g) ≡ first_reason (more g)
+  behind [] none = refl
+  behind (None ∷ before) none = behind before none
+  behind (Some r ∷ before) none = cc
+
 -- the checks of the ledger that is there
 at_ledger-none : (s : Cluster) (l : ℕ) (checks : Ledger → List (Option Refusal)) (g : Ledger) → ledger_at s l ≡ Some g → at_ledger s l checks ≡ None → first_reason (checks g) ≡ None
 at_ledger-none s l checks g found none = sym (ap (λ o. with_ledger o checks) found) ∙ none

@@ -7,7 +7,7 @@ ghost use Rattle.reh_model.specs.Cluster as cluster;
 ghost use Rattle.reh_model.specs.Cluster.{ledger_at, is_locked_by};
 ghost use Rattle.reh_model.specs.Refusals as model;
 ghost use Rattle.reh_model.specs.Checks.{first_reason};
-ghost use Rattle.reh_model.specs.Step.{refusal_of};
+ghost use Rattle.reh_model.specs.Step.{refusal_of, place_checks};
 ghost use Rattle.reh_step.specs.Decisions.{Decides};
 
 use reh_audit::{has_news, under_of};
@@ -149,9 +149,8 @@ fn check_copy(
 ) -> Result<(), Refusal>
     ensures { Decides result (refusal_of state.now (Copy worker ledger fragment index version)) }
 {
-    let ledger = find_owned(state, worker, ledger)?;
-    check_version(ledger, version)?;
-    let (fragment, stripe) = check_place(state, worker, ledger, fragment, index)?;
+    let (ledger, fragment, stripe) =
+        find_place(state, worker, ledger, fragment, index, version)?;
     if let Some(entry) = first_unreadable(state, ledger, fragment, stripe) {
         return Err(Refusal::NoSource(entry as u64));
     }
@@ -168,9 +167,7 @@ fn check_swap(
 ) -> Result<(), Refusal>
     ensures { Decides result (refusal_of state.now (Swap worker ledger fragment index version)) }
 {
-    let ledger = find_owned(state, worker, ledger)?;
-    check_version(ledger, version)?;
-    let (_, stripe) = check_place(state, worker, ledger, fragment, index)?;
+    let (ledger, _, stripe) = find_place(state, worker, ledger, fragment, index, version)?;
     if let Some(entry) = first_lacked(state, worker, ledger, stripe) {
         return Err(Refusal::MissingEntry(entry as u64));
     }
@@ -234,6 +231,31 @@ fn holds_lock(worker: BookieIx, ledgers: &[Ledger]) -> bool
 }
 
 // Copies and swaps
+
+/// What a copy and a swap ask first: the ledger whose lock the worker holds, at that version, its fragment of that
+/// number, and the entries that this stripes onto the index, if the worker's bookie can take that place.
+fn find_place(
+    state: &State,
+    worker: BookieIx,
+    ledger: LedgerId,
+    fragment: u64,
+    index: u64,
+    version: u64,
+) -> Result<(&Ledger, &Fragment, Striped), Refusal>
+    ensures { MatchResult result
+        (λ place. (model.no_bookie state.now worker ≡ None) × (ledger_at state.now ledger ≡ Some place.0.now)
+            × (first_reason (place_checks state.now worker fragment index version place.0.now) ≡ None)
+            × (slice_get place.0.now.metadata.fragments fragment ≡ Some place.1.now)
+            × (length place.1.now.ensemble ≡ place.0.now.metadata.size)
+            × (place.2 ≡ striped_of place.0.now.metadata fragment index))
+        (λ refusal. first_reason (model.no_bookie state.now worker
+            ∷ model.at_ledger state.now ledger (place_checks state.now worker fragment index version) ∷ []) ≡ Some refusal) }
+{
+    let ledger = find_owned(state, worker, ledger)?;
+    check_version(ledger, version)?;
+    let (fragment, stripe) = check_place(state, worker, ledger, fragment, index)?;
+    Ok((ledger, fragment, stripe))
+}
 
 /// Whether the ledger's metadata is at that version.
 fn check_version(ledger: &Ledger, version: u64) -> Result<(), Refusal>
