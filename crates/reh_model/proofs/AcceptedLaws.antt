@@ -6,6 +6,7 @@ use Rattle.std.specs.Option.{ForSome, option_map_or}
 use Rattle.std.proofs.lemmas.Bool.Decides.{nat_tests}
 use Rattle.std.proofs.lemmas.List.Elements.{All-weaker}
 use Rattle.std.proofs.lemmas.Option.{slice_get_within}
+use Rattle.reh_types.specs.declared.limits.TheConstants.{MAX_VERSION}
 use Rattle.reh_types.specs.declared.moves.Event.TheVariants.{Copy, Swap}
 use Rattle.reh_types.specs.declared.refusals.Refusal.{Refusal}
 use Rattle.reh_types.specs.declared.refusals.Refusal.TheVariants.{NoSource}
@@ -83,9 +84,9 @@ pub record IsSwappable (s : Cluster) (g : Ledger) (w f i : ℕ) : Type 0 where
   pub fragment : f < length g.metadata.fragments
   pub index : i < g.metadata.size
   pub new : ForSome (slice_get g.metadata.fragments f) (λ fragment. list_any (λ member. member == w) fragment.ensemble ≡ false)
-  pub version : g.metadata.version < 10 ^ 12
+  pub version : g.metadata.version < MAX_VERSION
 
-pub accepted_swap : (s : Cluster) (w l f i v : ℕ) (g : Ledger) → ledger_at s l ≡ Some g → g.metadata.version ≤ 10 ^ 12 → refusal_of s (Swap w l f i v) ≡ None → IsSwappable s g w f i
+pub accepted_swap : (s : Cluster) (w l f i v : ℕ) (g : Ledger) → ledger_at s l ≡ Some g → g.metadata.version ≤ MAX_VERSION → refusal_of s (Swap w l f i v) ≡ None → IsSwappable s g w f i
 accepted_swap s w l f i v g found few none =
     let checks = swap_checks s w f i v in
     let passes : first_refusal (checks g) ≡ None = at_ledger-none s l checks g found (check-none (no_bookie s w ∷ []) (at_ledger s l checks) [] none) in

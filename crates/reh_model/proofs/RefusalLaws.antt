@@ -5,6 +5,7 @@ use Rattle.std.specs.List.{find}
 use Rattle.std.specs.Option.{option_map}
 use Rattle.std.proofs.lemmas.Bool.Decides.{nat_tests}
 use Rattle.std.proofs.lemmas.List.Elements.{All-nil, All-cons}
+use Rattle.reh_types.specs.declared.limits.TheConstants.{CLOCK_END, MAX_VERSION}
 use Rattle.reh_types.specs.declared.refusals.Refusal.{Refusal}
 use Rattle.reh_types.specs.Sets.{Set, numbers}
 use Rattle.reh_model.specs.Metadata.{Fragment}
@@ -71,13 +72,13 @@ no_task-none g none = some g.task (refuse_if-none _ _ none) where
   some (Some task) none = refl
 
 -- the clock does not pass its end
-pub clock_end-none : (s : Cluster) (n : ℕ) → clock_end s n ≡ None → s.clock + n ≤ 1_000_000_000
-clock_end-none s n none = let within : nat_lt 1_000_000_000 (s.clock + n) ≡ false = refuse_if-none _ _ none in grind (arith, nat_tests)
+pub clock_end-none : (s : Cluster) (n : ℕ) → clock_end s n ≡ None → s.clock + n ≤ CLOCK_END
+clock_end-none s n none = let within : nat_lt CLOCK_END (s.clock + n) ≡ false = refuse_if-none _ _ none in grind (arith, nat_tests)
 
 -- the ensemble has the index
 pub no_index-none : (g : Ledger) (i : ℕ) → no_index g i ≡ None → i < g.metadata.size
 no_index-none g i none = let within : not (nat_lt i g.metadata.size) ≡ false = refuse_if-none _ _ none in grind (arith, nat_tests)
 
 -- there is a next version
-pub version_end-none : (g : Ledger) → g.metadata.version ≤ 10 ^ 12 → version_end g ≡ None → g.metadata.version < 10 ^ 12
-version_end-none g few none = let apart : (g.metadata.version == 10 ^ 12) ≡ false = refuse_if-none _ _ none in grind (arith, nat_tests)
+pub version_end-none : (g : Ledger) → g.metadata.version ≤ MAX_VERSION → version_end g ≡ None → g.metadata.version < MAX_VERSION
+version_end-none g few none = let apart : (g.metadata.version == MAX_VERSION) ≡ false = refuse_if-none _ _ none in grind (arith, nat_tests)
