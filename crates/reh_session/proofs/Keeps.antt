@@ -5,6 +5,7 @@ use Rattle.std.proofs.Math.Seq.{take-add}
 use Rattle.std.specs.Prelude.{unwrap_or}
 use Rattle.std.specs.Bool.{MatchBool}
 use Rattle.std.proofs.lemmas.Bool.Decides.{nat_tests}
+use Rattle.reh_types.specs.declared.limits.TheConstants.{MAX_EVENTS}
 use Rattle.reh_types.specs.declared.moves.Event.{Event}
 use Rattle.reh_types.specs.declared.moves.Move.{Move}
 use Rattle.reh_types.specs.declared.moves.Move.TheVariants.{Do, Undo, Redo}
@@ -23,11 +24,11 @@ use Rattle.reh_model.proofs.MemoryLaws.{not_for_memory}
 use Rattle.reh_session.specs.Kept.{session_of, IsKept}
 
 -- an event is accepted where the state accepts it, and there is room
-pub do_accepted : {o s : Cluster} {es : List Event} {k : ℕ} → IsKept o s es k → (e : Event) → refusal_of s e ≡ None → k < 100_000 → reply_to (session_of o es k) (Do e) ≡ Done
+pub do_accepted : {o s : Cluster} {es : List Event} {k : ℕ} → IsKept o s es k → (e : Event) → refusal_of s e ≡ None → k < MAX_EVENTS → reply_to (session_of o es k) (Do e) ≡ Done
 do_accepted {o} {s} {es} {k} h e accepted room =
     let m : Session = session_of o es k in
     let state_is : state_of m ≡ s = ap (λ (x : Option Cluster). unwrap_or x o) h.replayed in
-    let few : nat_le 100_000 (length m.done) ≡ false = grind (arith, nat_tests, length-take-le k es h.within) in
+    let few : nat_le MAX_EVENTS (length m.done) ≡ false = grind (arith, nat_tests, length-take-le k es h.within) in
     ap (λ (x : Cluster). done_unless (first_refusal (refusal_of x e ∷ full m ∷ []))) state_is
     ∙ ap (λ (x : Option Refusal). done_unless (first_refusal (x ∷ full m ∷ []))) accepted
     ∙ ap (λ b. done_unless (first_refusal (refuse_if b Full ∷ []))) few
@@ -41,7 +42,7 @@ refused_answers {o} {s} {es} {k} h e r refused m is =
     subst (λ b. MatchBool b ((reply_to m (Do e) ≡ Done) × (m ≡ m)) ((Refused r ≡ reply_to m (Do e)) × (m ≡ m))) (sym (not_for_memory s e r refused)) (sym reply, refl)
 
 -- an event is made, and what was undone is dropped
-pub acted : {o s : Cluster} {es : List Event} {k : ℕ} → IsKept o s es k → (e : Event) (new : List Event) → refusal_of s e ≡ None → k < 100_000 → new ≡ take k es ++ e ∷ [] → IsKept o (after s e) new (k + 1)
+pub acted : {o s : Cluster} {es : List Event} {k : ℕ} → IsKept o s es k → (e : Event) (new : List Event) → refusal_of s e ≡ None → k < MAX_EVENTS → new ≡ take k es ++ e ∷ [] → IsKept o (after s e) new (k + 1)
 acted {o} {s} {es} {k} h e new accepted room is =
     let front : length (take k es) ≡ k = length-take-le k es h.within in
     let size : length new ≡ k + 1 = ap length is ∙ length-append (take k es) (e ∷ []) ∙ ap (λ n. n + 1) front in
