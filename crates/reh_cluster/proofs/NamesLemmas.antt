@@ -7,6 +7,7 @@ use Rattle.std.specs.String.{string_bytes}
 use Rattle.std.proofs.lemmas.Str.{IsUtf8-string_bytes}
 use Rattle.std.proofs.lemmas.Slice.Eq.{bytes_eq-Decides}
 use Rattle.std.proofs.lemmas.Bool.{false_from_ne_true}
+use Rattle.reh_types.specs.declared.limits.TheConstants.{MAX_BOOKIES}
 use Rattle.reh_cluster.specs.Names.{IsNames}
 
 module _ {A B : Type 0} (f : A → B) where
@@ -61,6 +62,6 @@ module _ {A B : Type 0} (f : A → B) (e : B → B → Bool) where
   IsDistinct-map [] different = tt
   IsDistinct-map (x ∷ xs) different = (away-map x xs different.0, IsDistinct-map xs different.1)
 
--- the bytes of at most 64 texts that differ
-pub IsNames-keys : {Z : Type 0} (keys : List (String Z)) → length keys ≤ 64 → IsDistinct (λ a b. bytes_eq (string_bytes a) (string_bytes b)) keys → IsNames (map string_bytes keys)
+-- the bytes of texts that differ, no more than there can be bookies
+pub IsNames-keys : {Z : Type 0} (keys : List (String Z)) → length keys ≤ MAX_BOOKIES → IsDistinct (λ a b. bytes_eq (string_bytes a) (string_bytes b)) keys → IsNames (map string_bytes keys)
 IsNames-keys keys few different = record { few = omega (arith, length-map keys string_bytes); different = IsDistinct-map string_bytes bytes_eq keys different }

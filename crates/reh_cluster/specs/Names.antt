@@ -2,8 +2,9 @@
 use Rattle.std.specs.Prelude.{ℕ, ◌≤◌, List, length}
 use Rattle.std.specs.List.{IsDistinct}
 use Rattle.std.specs.Str.{bytes_eq}
+use Rattle.reh_types.specs.declared.limits.TheConstants.{MAX_BOOKIES}
 
--- at most 64 names, each once
+-- names of as many bookies as there can be, each once
 pub record IsNames (names : List (List ℕ)) : Type 0 where
-  pub few : length names ≤ 64
+  pub few : length names ≤ MAX_BOOKIES
   pub different : IsDistinct bytes_eq names

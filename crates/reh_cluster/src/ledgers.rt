@@ -1,7 +1,8 @@
 // A ledger of the cluster, with its task and its lock.
-ghost use Rattle.std.specs.Prelude.{◌≡◌, ◌==◌, ◌<◌, ◌^◌, false, not, map, length, position, slice_get, All, None, OnOk, OnErr};
+ghost use Rattle.std.specs.Prelude.{◌≡◌, ◌==◌, ◌<◌, false, not, map, length, position, slice_get, All, None, OnOk, OnErr};
 ghost use Rattle.std.specs.List.{filter, flat_map, list_any};
 ghost use Rattle.std.specs.Option.{ForSome, option_copied};
+ghost use Rattle.reh_types.specs.declared.limits.TheConstants.{MAX_BOOKIES, MAX_VERSION};
 ghost use Rattle.reh_types.specs.Sets as set;
 ghost use Rattle.reh_model.specs.Cluster as model;
 ghost use Rattle.reh_model.specs.Audit as audit;
@@ -164,7 +165,7 @@ impl Ledger {
         requires fragment { fragment < length self.old.metadata.fragments }
         requires index { index < self.old.metadata.size }
         requires new { ForSome (slice_get self.old.metadata.fragments fragment) (λ old. list_any (λ member. member == bookie) old.ensemble ≡ false) }
-        requires version { self.old.metadata.version < 10 ^ 12 }
+        requires version { self.old.metadata.version < MAX_VERSION }
         ensures ok { OnOk result (self.new ≡ swapped fragment index bookie self.old) }
         ensures err { OnErr result (self.new ≡ self.old) }
     {
@@ -194,7 +195,7 @@ impl Ledger {
 
 /// The members of one ensemble that aren't registered.
 fn missing_among(ensemble: &[BookieIx], up: &BookieSet) -> BookieSet
-    requires { All (λ b. b < 64) ensemble.now }
+    requires { All (λ b. b < MAX_BOOKIES) ensemble.now }
     ensures { result ≡ set.from_list (filter (λ b. not (set.contains up.now b)) ensemble.now) }
 {
     let mut missing = BookieSet::new();
@@ -208,7 +209,7 @@ fn missing_among(ensemble: &[BookieIx], up: &BookieSet) -> BookieSet
 
 /// The members of all ensembles that aren't registered.
 fn missing_from(fragments: &[Fragment], up: &BookieSet) -> BookieSet
-    requires { All (λ fragment. All (λ b. b < 64) fragment.ensemble) fragments.now }
+    requires { All (λ fragment. All (λ b. b < MAX_BOOKIES) fragment.ensemble) fragments.now }
     ensures { result ≡ set.from_list (filter (λ b. not (set.contains up.now b)) (flat_map (λ fragment. fragment.ensemble) fragments.now)) }
 {
     let mut missing = BookieSet::new();

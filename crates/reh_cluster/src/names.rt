@@ -2,6 +2,7 @@
 ghost use Rattle.std.specs.Prelude.{◌≡◌, ◌==◌, ◌<◌, ◌≤◌, [], ◌∷◌, ◌++◌, length, slice_get, option_map, IfOk, OnErr, if◌then◌else◌, not};
 ghost use Rattle.std.specs.List.{list_any, IsDistinct};
 ghost use Rattle.std.specs.Str.{bytes_eq};
+ghost use Rattle.reh_types.specs.declared.limits.TheConstants.{MAX_BOOKIES};
 ghost use Rattle.reh_model.specs.Cluster.{bookie_named};
 
 use indexmap::IndexSet;
@@ -39,7 +40,7 @@ impl Names {
     /// How many names there are.
     pub fn len(&self) -> usize
         ensures count { result ≡ length self.now }
-        ensures limit { length self.now ≤ 64 }
+        ensures limit { length self.now ≤ MAX_BOOKIES }
         ensures different { IsDistinct bytes_eq self.now }
     {
         self.names.len()
@@ -54,7 +55,7 @@ impl Names {
 
     /// Adds a name as the last, and says whether it was new; one that is there already changes nothing.
     pub fn add(&mut self, name: &str) -> Result<bool, AllocError>
-        requires { length self.old < 64 }
+        requires { length self.old < MAX_BOOKIES }
         ensures new { IfOk result (λ new. new ≡ not (list_any (bytes_eq name.now) self.old)) }
         ensures added { IfOk result (λ new. self.new ≡ (if new then self.old ++ name.now ∷ [] else self.old)) }
         ensures err { OnErr result (self.new ≡ self.old) }

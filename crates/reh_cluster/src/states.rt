@@ -3,6 +3,7 @@ ghost use Rattle.std.specs.Prelude.{◌≡◌, ◌+◌, ◌<◌, ◌≤◌, leng
 ghost use Rattle.std.specs.List.{find};
 ghost use Rattle.std.specs.Prelude.{◌==◌};
 ghost use Rattle.std.specs.Option.{option_copied};
+ghost use Rattle.reh_types.specs.declared.limits.TheConstants.{CLOCK_END};
 ghost use Rattle.reh_types.specs.Sets as set;
 ghost use Rattle.reh_model.specs.Contents.{IsHeld, count_held, greatest_held};
 ghost use Rattle.reh_model.specs.Cluster as model;
@@ -135,7 +136,7 @@ impl State {
     /// The clock, in ticks.
     pub fn clock(&self) -> u64
         ensures clock { result ≡ self.now.clock }
-        ensures limit { self.now.clock ≤ 1_000_000_000 }
+        ensures limit { self.now.clock ≤ CLOCK_END }
     {
         self.clock
     }
@@ -164,7 +165,7 @@ impl State {
 
     /// Lets the clock go on by so many ticks.
     pub fn advance(&mut self, ticks: u64)
-        requires { self.old.clock + ticks ≤ 1_000_000_000 }
+        requires { self.old.clock + ticks ≤ CLOCK_END }
         ensures { self.new ≡ record self.old { clock = self.old.clock + ticks } }
     {
         self.clock += ticks;

@@ -1,13 +1,14 @@
 // The metadata of a ledger.
-ghost use Rattle.std.specs.Prelude.{◌≡◌, ◌==◌, ◌<◌, ◌≤◌, ◌^◌, false, length, IfOk, IfErr, All, slice_get};
+ghost use Rattle.std.specs.Prelude.{◌≡◌, ◌==◌, ◌<◌, ◌≤◌, false, length, IfOk, IfErr, All, slice_get};
 ghost use Rattle.std.specs.List.{list_any};
 ghost use Rattle.std.specs.Option.{ForSome};
+ghost use Rattle.reh_types.specs.declared.limits.TheConstants.{ENTRY_END, MAX_FRAGMENTS, MAX_VERSION};
 ghost use Rattle.reh_model.specs.Metadata as meta;
 ghost use Rattle.reh_model.specs.Metadata.{IsMetadata, end_of_state, stop_of};
 
 use crate::faults::MetaFault;
 use crate::fragments::{Fragment, have_ensembles, rise_from_zero};
-use reh_types::{BookieIx, LedgerState};
+use reh_types::{BookieIx, LedgerState, MAX_ENSEMBLE_SIZE};
 use std::alloc::{AllocError, Global};
 use std::marker::Model;
 
@@ -30,7 +31,7 @@ fn are_quorums(sizes: Sizes) -> bool
     1 <= sizes.ack_quorum
         && sizes.ack_quorum <= sizes.write_quorum
         && sizes.write_quorum <= sizes.ensemble
-        && sizes.ensemble <= 16
+        && sizes.ensemble <= MAX_ENSEMBLE_SIZE
 }
 
 // Where a ledger's entries end, if it is closed.
@@ -94,10 +95,10 @@ impl LedgerMeta {
         version: u64,
         fragments: &[Fragment],
     ) -> Result<LedgerMeta, MetaFault>
-        requires version { version ≤ 10 ^ 12 }
-        requires end { ForSome (end_of_state state) (λ end. end ≤ 2 ^ 16) }
-        requires count { length fragments.now ≤ 256 }
-        requires firsts { All (λ fragment. fragment.first < 2 ^ 16) fragments.now }
+        requires version { version ≤ MAX_VERSION }
+        requires end { ForSome (end_of_state state) (λ end. end ≤ ENTRY_END) }
+        requires count { length fragments.now ≤ MAX_FRAGMENTS }
+        requires firsts { All (λ fragment. fragment.first < ENTRY_END) fragments.now }
         ensures made { IfOk result (λ made. made ≡ metadata_of sizes state version fragments.now) }
         ensures sound { IfOk result (λ made. fault_of made ≡ None) }
 
@@ -214,7 +215,7 @@ impl LedgerMeta {
         requires fragment { fragment < length self.now.fragments }
         requires index { index < self.now.size }
         requires new { ForSome (slice_get self.now.fragments fragment) (λ old. list_any (λ member. member == bookie) old.ensemble ≡ false) }
-        requires version { self.now.version < 10 ^ 12 }
+        requires version { self.now.version < MAX_VERSION }
         ensures { IfOk result (λ changed. changed ≡ meta.next_version (meta.with_member_at self.now fragment index bookie)) }
     {
         let mut fragments = self.fragments.clone()?;

@@ -1,11 +1,12 @@
 -- What an accepted event shows, and a reply that tells of one: this file alone takes lists of checks apart.
 use Rattle.std.proofs.Common.{◌≡◌, ℕ, Bool, true, false, not, ◌&&◌, ◌||◌, ◌+◌, ◌<◌, ◌≤◌, List, [], ◌∷◌, ◌++◌, length, Option, None, Some, IsSome, refl, sym, ap, ◌∙◌, subst, arith, cond, nat_lt, nat_le}
-use Rattle.std.specs.Prelude.{◌==◌, ◌^◌, is_none, All, slice_get}
+use Rattle.std.specs.Prelude.{◌==◌, is_none, All, slice_get}
 use Rattle.std.specs.List.{find, list_any}
 use Rattle.std.specs.Option.{ForSome, option_map, option_map_or, option_and_then}
 use Rattle.std.proofs.lemmas.Bool.Decides.{nat_tests}
 use Rattle.std.proofs.lemmas.List.Elements.{All-nil, All-cons, All-weaker}
 use Rattle.std.proofs.lemmas.Option.{slice_get_within}
+use Rattle.reh_types.specs.declared.limits.TheConstants.{CLOCK_END, MAX_EVENTS, MAX_VERSION}
 use Rattle.reh_types.specs.declared.moves.Event.{Event}
 use Rattle.reh_types.specs.declared.moves.Event.TheVariants.{Join, Acquire, Tick, Copy, Swap}
 use Rattle.reh_types.specs.declared.moves.Move.TheVariants.{Do}
@@ -119,16 +120,16 @@ no_task-none g none = some g.task (reason_if-none _ _ none) where
   some (Some task) none = refl
 
 -- the clock does not pass its end
-clock_end-none : (s : Cluster) (n : ℕ) → clock_end s n ≡ None → s.clock + n ≤ 1_000_000_000
-clock_end-none s n none = let within : nat_lt 1_000_000_000 (s.clock + n) ≡ false = reason_if-none _ _ none in grind (arith, nat_tests)
+clock_end-none : (s : Cluster) (n : ℕ) → clock_end s n ≡ None → s.clock + n ≤ CLOCK_END
+clock_end-none s n none = let within : nat_lt CLOCK_END (s.clock + n) ≡ false = reason_if-none _ _ none in grind (arith, nat_tests)
 
 -- the ensemble has the index
 no_index-none : (g : Ledger) (i : ℕ) → no_index g i ≡ None → i < g.metadata.size
 no_index-none g i none = let within : not (nat_lt i g.metadata.size) ≡ false = reason_if-none _ _ none in grind (arith, nat_tests)
 
 -- there is a next version
-version_end-none : (g : Ledger) → g.metadata.version ≤ 10 ^ 12 → version_end g ≡ None → g.metadata.version < 10 ^ 12
-version_end-none g few none = let apart : (g.metadata.version == 10 ^ 12) ≡ false = reason_if-none _ _ none in grind (arith, nat_tests)
+version_end-none : (g : Ledger) → g.metadata.version ≤ MAX_VERSION → version_end g ≡ None → g.metadata.version < MAX_VERSION
+version_end-none g few none = let apart : (g.metadata.version == MAX_VERSION) ≡ false = reason_if-none _ _ none in grind (arith, nat_tests)
 
 -- whether a condition that must not fail holds
 not_not : (b : Bool) → not b ≡ false → b ≡ true
@@ -151,7 +152,7 @@ accepted_acquire s w l g found none =
     )
 
 -- ticks do not pass the clock's end
-pub accepted_tick : (s : Cluster) (n : ℕ) → refusal_of s (Tick n) ≡ None → s.clock + n ≤ 1_000_000_000
+pub accepted_tick : (s : Cluster) (n : ℕ) → refusal_of s (Tick n) ≡ None → s.clock + n ≤ CLOCK_END
 accepted_tick s n none = clock_end-none s n (check-none (bad_tick n ∷ []) (clock_end s n) [] none)
 
 -- Copies
@@ -198,9 +199,9 @@ pub record IsSwappable (s : Cluster) (g : Ledger) (w f i : ℕ) : Type 0 where
   pub fragment : f < length g.metadata.fragments
   pub index : i < g.metadata.size
   pub new : ForSome (slice_get g.metadata.fragments f) (λ fragment. list_any (λ member. member == w) fragment.ensemble ≡ false)
-  pub version : g.metadata.version < 10 ^ 12
+  pub version : g.metadata.version < MAX_VERSION
 
-pub accepted_swap : (s : Cluster) (w l f i v : ℕ) (g : Ledger) → ledger_at s l ≡ Some g → g.metadata.version ≤ 10 ^ 12 → refusal_of s (Swap w l f i v) ≡ None → IsSwappable s g w f i
+pub accepted_swap : (s : Cluster) (w l f i v : ℕ) (g : Ledger) → ledger_at s l ≡ Some g → g.metadata.version ≤ MAX_VERSION → refusal_of s (Swap w l f i v) ≡ None → IsSwappable s g w f i
 accepted_swap s w l f i v g found few none =
     let checks : Ledger → List (Option Refusal) = swap_checks s w f i v in
     let passes : first_reason (checks g) ≡ None = at_ledger-none s l checks g found (check-none (no_bookie s w ∷ []) (at_ledger s l checks) [] none) in
@@ -253,8 +254,8 @@ pub refused_first : (m : Session) (event : Event) (refusal : Refusal) → refusa
 refused_first m event refusal is = ap (λ (o : Option Refusal). done_unless (first_reason (o ∷ full m ∷ []))) is
 
 -- an event that is not refused is done, where there is room
-pub done_within : (m : Session) (event : Event) → refusal_of (state_of m) event ≡ None → length m.done < 100_000 → reply_to m (Do event) ≡ Done
+pub done_within : (m : Session) (event : Event) → refusal_of (state_of m) event ≡ None → length m.done < MAX_EVENTS → reply_to m (Do event) ≡ Done
 done_within m event accepted room =
-    let few : nat_le 100_000 (length m.done) ≡ false = grind (arith, nat_tests) in
+    let few : nat_le MAX_EVENTS (length m.done) ≡ false = grind (arith, nat_tests) in
     ap (λ (o : Option Refusal). done_unless (first_reason (o ∷ full m ∷ []))) accepted
     ∙ ap (λ (b : Bool). done_unless (first_reason (reason_if b Full ∷ []))) few

@@ -9,6 +9,7 @@ use Rattle.std.proofs.lemmas.Bool.Decides.{nat_tests}
 use Rattle.std.proofs.lemmas.List.{length-set}
 use Rattle.std.proofs.lemmas.Option.{slice_get-get_or}
 use Rattle.std.proofs.lemmas.List.Elements.{All-set}
+use Rattle.reh_types.specs.declared.limits.TheConstants.{ENTRY_END, MAX_VERSION}
 use Rattle.reh_model.specs.Metadata.{Metadata, Fragment, IsEnsemble, IsMetadata, last_fragment, with_member, with_member_at}
 
 or-none : (a b : Bool) → (a || b) ≡ false → (a ≡ false) × (b ≡ false)
@@ -47,7 +48,7 @@ first-slice_get (x ∷ xs) zero = refl
 first-slice_get (x ∷ xs) (suc k) = first-slice_get xs k
 
 -- another bookie that is no member yet: the metadata stays well-formed
-pub IsMetadata-set : (m : Metadata) (f i b : ℕ) (fragment : Fragment) → fragment ≡ get_or m.fragments f fragment → f < length m.fragments → list_any (λ member. member == b) fragment.ensemble ≡ false → m.version + 1 ≤ 10 ^ 12
+pub IsMetadata-set : (m : Metadata) (f i b : ℕ) (fragment : Fragment) → fragment ≡ get_or m.fragments f fragment → f < length m.fragments → list_any (λ member. member == b) fragment.ensemble ≡ false → m.version + 1 ≤ MAX_VERSION
     → IsMetadata m → IsMetadata (record m { version = m.version + 1; fragments = set m.fragments f (with_member fragment i b) })
 IsMetadata-set m f i b fragment at within new version was =
     let changed = with_member fragment i b in
@@ -67,7 +68,7 @@ IsMetadata-set m f i b fragment at within new version was =
       fragments = omega (arith, size, was.fragments);
       from_zero = from_zero-set m.fragments f changed fragment same_first was.from_zero;
       rising = subst (λ (ns : List ℕ). IsStrictlyIncreasing ns) (sym same) was.rising;
-      firsts = All-set (λ x. x.first < 2 ^ 16) m.fragments f changed (subst (λ (x : Fragment). x.first < 2 ^ 16) (sym at) (was.firsts f fragment within)) was.firsts;
+      firsts = All-set (λ x. x.first < ENTRY_END) m.fragments f changed (subst (λ (x : Fragment). x.first < ENTRY_END) (sym at) (was.firsts f fragment within)) was.firsts;
       ensembles = All-set (λ x. IsEnsemble m.size x.ensemble) m.fragments f changed
           (record { whole = length-set fragment.ensemble i b ∙ ensemble.whole; different = IsDistinct-set fragment.ensemble i b new ensemble.different }) was.ensembles;
       end = λ end is. let kept = was.end end is in (omega (arith, kept.0, last), kept.1);

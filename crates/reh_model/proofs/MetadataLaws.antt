@@ -6,6 +6,7 @@ use Rattle.std.specs.List.Sorted.{IsStrictlyIncreasing}
 use Rattle.std.specs.Option.{ForSome, option_map_or}
 use Rattle.std.proofs.lemmas.Bool.Decides.{nat_tests}
 use Rattle.std.proofs.lemmas.List.Sums.{AllPass-from_list_all, list_all-from_AllPass}
+use Rattle.reh_types.specs.declared.limits.TheConstants.{ENTRY_END, MAX_ENSEMBLE_SIZE, MAX_FRAGMENTS, MAX_VERSION}
 use Rattle.reh_model.specs.Metadata.{Fragment, Metadata, IsMetadata, IsEnsemble, last_of, last_fragment, end_of_state, are_quorums, are_rising, rise_from_zero, are_different, is_ensemble, ends_within}
 
 -- both parts of a test that passes
@@ -17,11 +18,11 @@ pub record AreQuorums (size write_quorum ack_quorum : ℕ) : Type 0 where
   pub some_acks : 1 ≤ ack_quorum
   pub acks_within : ack_quorum ≤ write_quorum
   pub writes_within : write_quorum ≤ size
-  pub small : size ≤ 16
+  pub small : size ≤ MAX_ENSEMBLE_SIZE
 
 are_quorums-is : (n w a : ℕ) → are_quorums n w a ≡ true → AreQuorums n w a
 are_quorums-is n w a passes =
-    let small : ((nat_le 1 a && nat_le a w && nat_le w n) ≡ true) × (nat_le n 16 ≡ true) = both _ _ passes in
+    let small : ((nat_le 1 a && nat_le a w && nat_le w n) ≡ true) × (nat_le n MAX_ENSEMBLE_SIZE ≡ true) = both _ _ passes in
     let writes : ((nat_le 1 a && nat_le a w) ≡ true) × (nat_le w n ≡ true) = both _ _ small.0 in
     let acks : (nat_le 1 a ≡ true) × (nat_le a w ≡ true) = both _ _ writes.0 in
     record { some_acks = grind (arith, nat_tests, acks.0); acks_within = grind (arith, nat_tests, acks.1); writes_within = grind (arith, nat_tests, writes.1); small = grind (arith, nat_tests, small.1) }
@@ -98,7 +99,7 @@ pub record KeepsRules (m : Metadata) : Type 0 where
   pub end : ends_within m.state m.fragments ≡ true
 
 -- metadata within the limits that keeps the rules is well-formed
-pub IsMetadata-from_rules : (m : Metadata) → KeepsRules m → m.version ≤ 10 ^ 12 → ForSome (end_of_state m.state) (λ end. end ≤ 2 ^ 16) → length m.fragments ≤ 256 → All (λ fragment. fragment.first < 2 ^ 16) m.fragments → IsMetadata m
+pub IsMetadata-from_rules : (m : Metadata) → KeepsRules m → m.version ≤ MAX_VERSION → ForSome (end_of_state m.state) (λ end. end ≤ ENTRY_END) → length m.fragments ≤ MAX_FRAGMENTS → All (λ fragment. fragment.first < ENTRY_END) m.fragments → IsMetadata m
 IsMetadata-from_rules m rules version end count firsts =
     let quorums = are_quorums-is m.size m.write_quorum m.ack_quorum rules.quorums in
     let rise = rise_from_zero-is m.fragments rules.fragments in
@@ -122,12 +123,12 @@ IsMetadata-from_rules m rules version end count firsts =
 and_true : (a b : Bool) → a ≡ true → b ≡ true → (a && b) ≡ true
 and_true a b first second = λ i. first i && second i
 
-are_quorums-passes : (n w a : ℕ) → 1 ≤ a → a ≤ w → w ≤ n → n ≤ 16 → are_quorums n w a ≡ true
+are_quorums-passes : (n w a : ℕ) → 1 ≤ a → a ≤ w → w ≤ n → n ≤ MAX_ENSEMBLE_SIZE → are_quorums n w a ≡ true
 are_quorums-passes n w a some_acks acks_within writes_within small =
     let some_acks : nat_le 1 a ≡ true = grind (arith, nat_tests) in
     let acks : nat_le a w ≡ true = grind (arith, nat_tests) in
     let writes : nat_le w n ≡ true = grind (arith, nat_tests) in
-    let small : nat_le n 16 ≡ true = grind (arith, nat_tests) in
+    let small : nat_le n MAX_ENSEMBLE_SIZE ≡ true = grind (arith, nat_tests) in
     λ i. some_acks i && acks i && writes i && small i
 
 none_equal-passes : (b : ℕ) (bs : List ℕ) → AllByRecursion (λ other. nat_eq b other ≡ false) bs → not (list_any (λ other. other == b) bs) ≡ true

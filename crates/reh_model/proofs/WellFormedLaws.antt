@@ -9,6 +9,7 @@ use Rattle.std.proofs.lemmas.Bool.Decides.{nat_tests}
 use Rattle.std.proofs.lemmas.List.{length-map}
 use Rattle.std.proofs.lemmas.List.Elements.{All-head, All-map, All-set, All-tail, All-weaker}
 use Rattle.std.proofs.lemmas.Option.{slice_get-get_or, get_or_from_slice_get}
+use Rattle.reh_types.specs.declared.limits.TheConstants.{CLOCK_END, ENTRIES_IN_WORD, MAX_WORDS}
 use Rattle.reh_types.specs.declared.moves.Event.{Event}
 use Rattle.reh_types.specs.declared.moves.Event.TheVariants.{Lose, Join, Audit, Acquire, Release, Finish, Expire, Tick, Copy, Swap}
 use Rattle.reh_types.specs.Sets.{Set, numbers, triple_cmp, triple_exact, contains, insert, remove, union, is_empty, len, items, contains-insert, contains-remove}
@@ -55,7 +56,7 @@ IsWellFormed-up s up was named = record {
 }
 
 -- the clock goes on
-pub IsWellFormed-clock : (s : Cluster) (clock : ℕ) → IsWellFormed s → s.clock ≤ clock → clock ≤ 1_000_000_000 → IsWellFormed (record s { clock = clock })
+pub IsWellFormed-clock : (s : Cluster) (clock : ℕ) → IsWellFormed s → s.clock ≤ clock → clock ≤ CLOCK_END → IsWellFormed (record s { clock = clock })
 IsWellFormed-clock s clock was later in_time = record {
   some_bookie = was.some_bookie;
   bookies = was.bookies;
@@ -87,7 +88,7 @@ IsWellFormed-ledgers s change was keeps each =
           IsLedger-later s t (change (get_or s.ledgers k d)) (omega arith) (omega arith)
           (each (get_or s.ledgers k d) (found_itself s.ledgers was.different k d within) (was.each k d within)));
       held = All-weaker (IsCopy s) (IsCopy t) (λ copy is. (is.0, is_found-map copy.1 change keeps s.ledgers ∙ is.1, is.2)) (items s.held) was.held;
-      words = subst (λ (n : ℕ). length s.names * n ≤ 2 ^ 22) (sym (sum_by-map (words_of s.held) change keeps s.ledgers)) was.words;
+      words = subst (λ (n : ℕ). length s.names * n ≤ MAX_WORDS) (sym (sum_by-map (words_of s.held) change keeps s.ledgers)) was.words;
     }
 
 -- one ledger is changed
@@ -123,7 +124,7 @@ IsWellFormed-copied s w l e was named some =
           (λ tied. subst (IsCopy t) (sym (triple_exact q (w, l, e) ((Equal-is (triple_cmp q (w, l, e))).0 tied))) (named, known.1, known.2))
           (All-copy (IsCopy s) s.held was.held q)
           (sym (contains-insert s.held (w, l, e) q) ∙ one));
-      words = subst (λ (n : ℕ). length s.names * n ≤ 2 ^ 22) (λ i. sum_by (λ g. option_map_or (λ greatest. greatest / 64 + 1) (sym (greatest_held-copied s.held w l e g.id some) i) 0) s.ledgers) was.words;
+      words = subst (λ (n : ℕ). length s.names * n ≤ MAX_WORDS) (λ i. sum_by (λ g. option_map_or (λ greatest. greatest / ENTRIES_IN_WORD + 1) (sym (greatest_held-copied s.held w l e g.id some) i) 0) s.ledgers) was.words;
     }
 
 -- and of each of some entries

@@ -1,6 +1,7 @@
 -- The input of a rehearsal: a picture, a line `%`, and a script, which is a list of lines.
 use Rattle.std.specs.Prelude.{ℕ, Bool, ◌==◌, nat_le, List, [], ◌∷◌, length, take, count_by, Option, Some, None, if◌then◌else◌}
 use Rattle.std.specs.List.{onto_first}
+use Rattle.reh_types.specs.declared.limits.TheConstants.{MAX_SCRIPT_BYTES}
 
 -- the lines of a text; each ends at an LF or at the end, and an LF that ends the text begins no further line
 abbrev pub lines_of : List ℕ → List (List ℕ)
@@ -42,7 +43,7 @@ cut_of input = cut_or (after_percent input) (cut_inside input)
 
 -- whether a script has no more bytes than a script can have
 abbrev pub is_script : List ℕ → Bool
-is_script script = nat_le (length script) 1_048_576
+is_script script = nat_le (length script) MAX_SCRIPT_BYTES
 
 -- the lines of a text that end in it: as many as it has LF
 abbrev pub ended_lines : List ℕ → List (List ℕ)
@@ -50,4 +51,4 @@ ended_lines text = take (count_by (λ b. b == 10) text) (lines_of text)
 
 -- the lines that are answered: all, or of a script that is too long those that end among its first 1,048,576 bytes
 unfoldable pub answered_lines : List ℕ → List (List ℕ)
-answered_lines script = if is_script script then lines_of script else ended_lines (take 1_048_576 script)
+answered_lines script = if is_script script then lines_of script else ended_lines (take MAX_SCRIPT_BYTES script)

@@ -1,8 +1,9 @@
 -- A ledger's metadata, in the words of BookKeeper's `LedgerMetadata` and of its page on the protocol.
-use Rattle.std.specs.Prelude.{◌≡◌, ℕ, ◌+◌, ◌-◌, ◌^◌, ◌<◌, ◌≤◌, Bool, true, false, not, if◌then◌else◌, ◌&&◌, ◌==◌, nat_eq, nat_lt, nat_le, List, [], ◌∷◌, map, drop, length, Option, None, Some, unwrap_or, slice_get, slice_set, slice_index, All}
+use Rattle.std.specs.Prelude.{◌≡◌, ℕ, ◌+◌, ◌-◌, ◌<◌, ◌≤◌, Bool, true, false, not, if◌then◌else◌, ◌&&◌, ◌==◌, nat_eq, nat_lt, nat_le, List, [], ◌∷◌, map, drop, length, Option, None, Some, unwrap_or, slice_get, slice_set, slice_index, All}
 use Rattle.std.specs.List.{list_any, list_all, zip, IsDistinct}
 use Rattle.std.specs.List.Sorted.{IsStrictlyIncreasing}
 use Rattle.std.specs.Option.{ForSome, option_map, option_map_or, option_or}
+use Rattle.reh_types.specs.declared.limits.TheConstants.{ENTRY_END, MAX_ENSEMBLE_SIZE, MAX_FRAGMENTS, MAX_VERSION}
 use Rattle.reh_types.specs.declared.names.LedgerState.{LedgerState}
 use Rattle.reh_types.specs.declared.names.LedgerState.TheVariants.{Open, InRecovery, Closed}
 use Rattle.reh_model.specs.Striping.{write_set, striped}
@@ -66,9 +67,9 @@ next_version m = record m { version = m.version + 1 }
 
 -- Rules, as tests
 
--- the protocol's order of the quorums, 1 <= ack quorum <= write quorum <= ensemble size, and a limit of 16
+-- the protocol's order of the quorums, 1 <= ack quorum <= write quorum <= ensemble size, and its limit
 abbrev pub are_quorums : ℕ → ℕ → ℕ → Bool
-are_quorums size write_quorum ack_quorum = nat_le 1 ack_quorum && nat_le ack_quorum write_quorum && nat_le write_quorum size && nat_le size 16
+are_quorums size write_quorum ack_quorum = nat_le 1 ack_quorum && nat_le ack_quorum write_quorum && nat_le write_quorum size && nat_le size MAX_ENSEMBLE_SIZE
 
 -- each fragment begins before the next
 abbrev pub are_rising : List Fragment → Bool
@@ -101,12 +102,12 @@ pub record IsMetadata (m : Metadata) : Type 0 where
   pub some_acks : 1 ≤ m.ack_quorum
   pub acks_within : m.ack_quorum ≤ m.write_quorum
   pub writes_within : m.write_quorum ≤ m.size
-  pub small : m.size ≤ 16
-  pub version : m.version ≤ 10 ^ 12
+  pub small : m.size ≤ MAX_ENSEMBLE_SIZE
+  pub version : m.version ≤ MAX_VERSION
   pub some_fragment : 1 ≤ length m.fragments
-  pub fragments : length m.fragments ≤ 256
+  pub fragments : length m.fragments ≤ MAX_FRAGMENTS
   pub from_zero : ForSome (slice_get m.fragments 0) (λ fragment. fragment.first ≡ 0)
   pub rising : IsStrictlyIncreasing (map (λ fragment. fragment.first) m.fragments)
-  pub firsts : All (λ fragment. fragment.first < 2 ^ 16) m.fragments
+  pub firsts : All (λ fragment. fragment.first < ENTRY_END) m.fragments
   pub ensembles : All (λ fragment. IsEnsemble m.size fragment.ensemble) m.fragments
-  pub end : ForSome (end_of_state m.state) (λ end. ((last_fragment m).first ≤ end) × (end ≤ 2 ^ 16))
+  pub end : ForSome (end_of_state m.state) (λ end. ((last_fragment m).first ≤ end) × (end ≤ ENTRY_END))

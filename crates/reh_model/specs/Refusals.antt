@@ -1,7 +1,8 @@
 -- When each refusal applies, as a check that gives the refusal or none.
-use Rattle.std.specs.Prelude.{ℕ, ◌+◌, ◌^◌, Bool, not, ◌||◌, ◌==◌, nat_lt, List, [], ◌∷◌, length, Option, None, Some, is_none, unwrap_or, slice_get, slice_index}
+use Rattle.std.specs.Prelude.{ℕ, ◌+◌, Bool, not, ◌||◌, ◌==◌, nat_lt, List, [], ◌∷◌, length, Option, None, Some, is_none, unwrap_or, slice_get, slice_index}
 use Rattle.std.specs.List.{find, list_any}
 use Rattle.std.specs.Option.{option_map}
+use Rattle.reh_types.specs.declared.limits.TheConstants.{CLOCK_END, MAX_TICKS, MAX_VERSION}
 use Rattle.reh_types.specs.declared.refusals.Refusal.{Refusal}
 use Rattle.reh_types.specs.declared.refusals.Refusal.TheVariants.{NoBookie, NoLedger, AlreadyDown, AlreadyUp, NothingToPublish, NoTask, Locked, NotOwner, StillUnder, NoLocks, BadTick, ClockEnd, NoFragment, NoIndex, MemberUp, TargetDown, TargetIsMember, NoEndpoint, Stale, NoSource, MissingEntry, VersionEnd, NoMemory}
 use Rattle.reh_model.specs.Metadata.{Fragment, stop_of, striped_of}
@@ -43,10 +44,10 @@ abbrev pub already_up : Cluster → ℕ → Option Refusal
 already_up s b = reason_if (is_up s b) AlreadyUp
 
 abbrev pub bad_tick : ℕ → Option Refusal
-bad_tick n = reason_if (n == 0 || nat_lt 1_000_000 n) BadTick
+bad_tick n = reason_if (n == 0 || nat_lt MAX_TICKS n) BadTick
 
 abbrev pub clock_end : Cluster → ℕ → Option Refusal
-clock_end s n = reason_if (nat_lt 1_000_000_000 (s.clock + n)) ClockEnd
+clock_end s n = reason_if (nat_lt CLOCK_END (s.clock + n)) ClockEnd
 
 -- The auditor, tasks and locks
 
@@ -105,4 +106,4 @@ abbrev pub missing_entry : Cluster → ℕ → Ledger → ℕ → ℕ → Option
 missing_entry s b g f i = option_map (λ e. MissingEntry e) (find (λ e. not (holds s b g.id e)) (striped_of g.metadata f i))
 
 abbrev pub version_end : Ledger → Option Refusal
-version_end g = reason_if (g.metadata.version == 10 ^ 12) VersionEnd
+version_end g = reason_if (g.metadata.version == MAX_VERSION) VersionEnd

@@ -1,5 +1,6 @@
 -- A session: the surviving events over an opening cluster, and those undone.
 use Rattle.std.specs.Prelude.{◌≡◌, ◌-◌, ◌==◌, nat_le, List, [], ◌∷◌, ◌++◌, length, take, drop, Option, None, Some, unwrap_or, Result, Ok, Err, ◌⊎◌}
+use Rattle.reh_types.specs.declared.limits.TheConstants.{MAX_EVENTS}
 use Rattle.reh_types.specs.declared.moves.Event.{Event}
 use Rattle.reh_types.specs.declared.moves.Move.{Move}
 use Rattle.reh_types.specs.declared.moves.Move.TheVariants.{Do, Undo, Redo, Look}
@@ -48,7 +49,7 @@ done_unless (Some refusal) = Refused refusal
 
 -- no more events can survive
 abbrev pub full : Session → Option Refusal
-full m = reason_if (nat_le 100_000 (length m.done)) Full
+full m = reason_if (nat_le MAX_EVENTS (length m.done)) Full
 
 -- the reply to a move
 abbrev pub reply_to : Session → Move → Reply

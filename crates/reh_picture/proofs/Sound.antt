@@ -1,5 +1,5 @@
 -- What a picture without a fault names is a well-formed cluster.
-use Rattle.std.proofs.Common.{◌≡◌, ℕ, zero, suc, ◌+◌, ◌-◌, ◌*◌, ◌^◌, ◌<◌, ◌≤◌, Bool, true, false, not, ◌&&◌, ◌||◌, cond, List, [], ◌∷◌, ◌++◌, map, length, get_or, Option, None, Some, IsSome, is_some, refl, sym, ap, ◌∙◌, subst, arith, nat_lt, nat_eq, unwrap_or, append-nil, append_assoc, if◌then◌else◌, lit≤}
+use Rattle.std.proofs.Common.{◌≡◌, ℕ, zero, suc, ◌+◌, ◌-◌, ◌*◌, ◌<◌, ◌≤◌, Bool, true, false, not, ◌&&◌, ◌||◌, cond, List, [], ◌∷◌, ◌++◌, map, length, get_or, Option, None, Some, IsSome, is_some, refl, sym, ap, ◌∙◌, subst, arith, nat_lt, nat_eq, unwrap_or, append-nil, append_assoc, if◌then◌else◌, lit≤}
 use Rattle.std.specs.Prelude.{◌==◌, codes, nat_le, ℤ, pos, negsuc, All, sum_by}
 use Rattle.std.specs.List.{list_any, find, flat_map, filter, enumerate_from, range_with_len, IsDistinct, position_or_len}
 use Rattle.std.specs.Option.{option_or, option_map, option_and_then, ForSome}
@@ -14,6 +14,7 @@ use Rattle.std.proofs.lemmas.List.Folds.{list_any-append}
 use Rattle.std.proofs.lemmas.Map.Keys.{IsDistinct-push}
 use Rattle.std.proofs.lemmas.Slice.Eq.{bytes_eq-Decides}
 use Rattle.serde_json.specs.Data.{Data}
+use Rattle.reh_types.specs.declared.limits.TheConstants.{ENTRY_END, MAX_BOOKIES, MAX_ENTRY_ID, MAX_FRAGMENTS, MAX_GRACE, MAX_LEDGERS, MAX_LEDGER_ID, MAX_VERSION, MAX_WORDS}
 use Rattle.reh_types.specs.declared.names.LedgerState.TheVariants.{Open, InRecovery, Closed}
 use Rattle.reh_types.specs.Sets as set
 use Rattle.reh_types.specs.Sets.{Set, numbers, triples, triple_cmp, triple_total, contains-from_list, contains-items}
@@ -158,20 +159,20 @@ KeepsRules-none m none =
       end = rule-none _ _ (option_or-none _ _ third.1).0;
     }
 
-end_after-small : (last : ℤ) → unwrap_or (end_after last) 0 ≤ 2 ^ 16
-end_after-small (pos n) = elim (nat_le n 65_535) as (λ t. nat_le n 65_535 ≡ t → unwrap_or (cond t (Some (n + 1)) None) 0 ≤ 2 ^ 16) [ true ↦ λ t. grind (arith, nat_tests, t) | false ↦ λ t. lit≤ tt ] refl
+end_after-small : (last : ℤ) → unwrap_or (end_after last) 0 ≤ ENTRY_END
+end_after-small (pos n) = elim (nat_le n MAX_ENTRY_ID) as (λ t. nat_le n MAX_ENTRY_ID ≡ t → unwrap_or (cond t (Some (n + 1)) None) 0 ≤ ENTRY_END) [ true ↦ λ t. grind (arith, nat_tests, t) | false ↦ λ t. lit≤ tt ] refl
 end_after-small (negsuc zero) = lit≤ tt
 end_after-small (negsuc (suc n)) = lit≤ tt
 
-end_small : (o : Option ℤ) → unwrap_or (option_and_then end_after o) 0 ≤ 2 ^ 16
+end_small : (o : Option ℤ) → unwrap_or (option_and_then end_after o) 0 ≤ ENTRY_END
 end_small None = lit≤ tt
 end_small (Some last) = end_after-small last
 
-state_small : (d : Data) → ForSome (end_of_state (state_in d)) (λ end. end ≤ 2 ^ 16)
+state_small : (d : Data) → ForSome (end_of_state (state_in d)) (λ end. end ≤ ENTRY_END)
 state_small d end is =
-    elim (is_closed d) as (λ t. end_of_state (if t then Closed (unwrap_or (end_in d) 0) else (if bytes_eq (text_of d field.State) (codes "OPEN") then Open else InRecovery)) ≡ Some end → end ≤ 2 ^ 16) [
+    elim (is_closed d) as (λ t. end_of_state (if t then Closed (unwrap_or (end_in d) 0) else (if bytes_eq (text_of d field.State) (codes "OPEN") then Open else InRecovery)) ≡ Some end → end ≤ ENTRY_END) [
       | true ↦ λ is. let same : unwrap_or (end_in d) 0 ≡ end = cc in omega (arith, end_small (result_ok (integer_in d field.LastEntryId)))
-      | false ↦ elim (bytes_eq (text_of d field.State) (codes "OPEN")) as (λ u. end_of_state (if u then Open else InRecovery) ≡ Some end → end ≤ 2 ^ 16) [ true ↦ λ is. cc | false ↦ λ is. cc ]
+      | false ↦ elim (bytes_eq (text_of d field.State) (codes "OPEN")) as (λ u. end_of_state (if u then Open else InRecovery) ≡ Some end → end ≤ ENTRY_END) [ true ↦ λ is. cc | false ↦ λ is. cc ]
     ] is
 
 -- the members of an ensemble are known
@@ -184,7 +185,7 @@ members_known names members none = all_made (λ _ d. member_fault names d) (λ m
 
 -- a fragment begins within the limit, and names bookies that are known
 pub record IsFragment (bookies : ℕ) (fragment : Fragment) : Type 0 where
-  pub first : fragment.first < 2 ^ 16
+  pub first : fragment.first < ENTRY_END
   pub members : All (λ b. b < bookies) fragment.ensemble
 
 fragment_good : (names : List (List ℕ)) (before : List Data) (d : Data) → fragment_fault names d ≡ None → IsFragment (length names) (fragment_in names d)
@@ -192,7 +193,7 @@ fragment_good names before d none =
     let first = option_or-none _ _ (option_or-none _ _ none).1 in
     let list = option_or-none _ _ first.1 in
     record {
-      first = omega (arith, (number_within d field.FirstEntry 0 65_535 first.0).1);
+      first = omega (arith, (number_within d field.FirstEntry 0 MAX_ENTRY_ID first.0).1);
       members = members_known names (list_of d field.Ensemble) (option_or-none _ _ list.1).0;
     }
 
@@ -216,8 +217,8 @@ metadata_good names ledger d none =
     let each = fragments_good names (list_of d field.Fragments) fragments.0 in
     record {
       metadata = IsMetadata-from_rules (metadata_in names d) (KeepsRules-none _ (option_map-none (broken_rule ledger) _ rules.0))
-          (number_within d field.Version 0 (10 ^ 12) version.0).1 (state_small d)
-          (omega (arith, (list_within d field.Fragments 0 256 list.0).1, length-map (list_of d field.Fragments) (fragment_in names)))
+          (number_within d field.Version 0 MAX_VERSION version.0).1 (state_small d)
+          (omega (arith, (list_within d field.Fragments 0 MAX_FRAGMENTS list.0).1, length-map (list_of d field.Fragments) (fragment_in names)))
           (λ k fragment within. (each k fragment within).first);
       fragments = each;
     }
@@ -229,7 +230,7 @@ ledger_good s before d none =
     let twice = option_or-none _ _ id.1 in
     let metadata = metadata_good s.names (number_of d field.Id) d (option_or-none _ _ twice.1).0 in
     record {
-      id = (number_within d field.Id 0 (10 ^ 12) id.0).1;
+      id = (number_within d field.Id 0 MAX_LEDGER_ID id.0).1;
       metadata = metadata.metadata;
       members = λ k fragment within. (metadata.fragments k fragment within).members;
       task = λ task is. cc;
@@ -276,12 +277,12 @@ any_of_two : {A : Type 0} (p : A → Bool) (xs ys : List A) (P : Type 0) → (li
 any_of_two p xs ys P first second is = or-either (list_any p xs) (list_any p ys) P first second (sym (list_any-append p xs ys) ∙ is)
 
 -- an entry of a range
-copy_in_range : (s : Cluster) (bookie ledger : ℕ) (ends : ℕ × ℕ) (q : ℕ × ℕ × ℕ) → bookie < length s.names → IsSome (ledger_at s ledger) → ends.1 ≤ 65_535 → list_any (is_triple q) (copies_of bookie ledger ends) ≡ true → IsCopy s q
+copy_in_range : (s : Cluster) (bookie ledger : ℕ) (ends : ℕ × ℕ) (q : ℕ × ℕ × ℕ) → bookie < length s.names → IsSome (ledger_at s ledger) → ends.1 ≤ MAX_ENTRY_ID → list_any (is_triple q) (copies_of bookie ledger ends) ≡ true → IsCopy s q
 copy_in_range s bookie ledger ends q known there small any =
     let w : Passes (λ e. is_triple q (bookie, ledger, e)) ends.0 ((ends.1 + 1) - ends.0) =
     any_passes (λ e. is_triple q (bookie, ledger, e)) ends.0 ((ends.1 + 1) - ends.0) (sym (list_any-map (is_triple q) (λ e. (bookie, ledger, e)) (range_with_len ends.0 ((ends.1 + 1) - ends.0))) ∙ any) in
     let same : (bookie, ledger, w.at) ≡ q = sym (triples.exact q (bookie, ledger, w.at) ((Equal-is (triple_cmp q (bookie, ledger, w.at))).0 w.passes)) in
-    let low : w.at < 2 ^ 16 = omega (arith, w.from, w.below) in
+    let low : w.at < ENTRY_END = omega (arith, w.from, w.below) in
     subst (λ (t : ℕ × ℕ × ℕ). IsCopy s t) same (known, there, low)
 
 -- an entry of ranges without a fault
@@ -290,7 +291,7 @@ copy_in_ranges : (s : Cluster) (bookie ledger : ℕ) (q : ℕ × ℕ × ℕ) →
 copy_in_ranges s bookie ledger q known there before [] none any = cc
 copy_in_ranges s bookie ledger q known there before (d ∷ ds) none any =
     let checks = option_or-none _ _ none in
-    let within : ((nat_le (next_after before) (ends_of d).0 && nat_le (ends_of d).0 (ends_of d).1) ≡ true) × (nat_le (ends_of d).1 65_535 ≡ true) = and-true _ _ (fault_unless-none _ _ (option_or-none _ _ (option_or-none _ _ checks.0).1).0) in
+    let within : ((nat_le (next_after before) (ends_of d).0 && nat_le (ends_of d).0 (ends_of d).1) ≡ true) × (nat_le (ends_of d).1 MAX_ENTRY_ID ≡ true) = and-true _ _ (fault_unless-none _ _ (option_or-none _ _ (option_or-none _ _ checks.0).1).0) in
     any_of_two (is_triple q) (copies_of bookie ledger (ends_of d)) (flat_map (copies_of bookie ledger) (map ends_of ds)) (IsCopy s q)
     (copy_in_range s bookie ledger (ends_of d) q known there (grind (arith, nat_tests, within.1)))
     (copy_in_ranges s bookie ledger q known there (before ++ d ∷ []) ds checks.1)
@@ -323,7 +324,7 @@ module _ (s : Cluster) (ids : List ℕ) (found : (l : ℕ) → list_any (nat_eq 
 -- ranges without a fault have a first entry and a last
 range_rises : (before : List Data) (d : Data) → range_fault (next_after before) d ≡ None → (ends_of d).0 ≤ (ends_of d).1
 range_rises before d none =
-    let within : ((nat_le (next_after before) (ends_of d).0 && nat_le (ends_of d).0 (ends_of d).1) ≡ true) × (nat_le (ends_of d).1 65_535 ≡ true) = and-true _ _ (fault_unless-none _ _ (option_or-none _ _ (option_or-none _ _ none).1).0) in
+    let within : ((nat_le (next_after before) (ends_of d).0 && nat_le (ends_of d).0 (ends_of d).1) ≡ true) × (nat_le (ends_of d).1 MAX_ENTRY_ID ≡ true) = and-true _ _ (fault_unless-none _ _ (option_or-none _ _ (option_or-none _ _ none).1).0) in
     let rises : nat_le (ends_of d).0 (ends_of d).1 ≡ true = (and-true _ _ within.0).1 in grind (arith, nat_tests, rises)
 
 ranges_rise : (ranges : List Data) → ranges_fault ranges ≡ None → All (λ range. range.0 ≤ range.1) (map ends_of ranges)
@@ -357,11 +358,11 @@ all_items P ts each = λ k d within.
 
 -- the parts of a picture in which nothing is wrong
 pub record IsFaultless (d : Data) : Type 0 where
-  pub grace : number_of d field.Grace ≤ 1_000_000
+  pub grace : number_of d field.Grace ≤ MAX_GRACE
   pub some_bookie : 1 ≤ length (list_of d field.Bookies)
-  pub bookies : length (list_of d field.Bookies) ≤ 64
+  pub bookies : length (list_of d field.Bookies) ≤ MAX_BOOKIES
   pub each_bookie : each_bookie_fault (list_of d field.Bookies) ≡ None
-  pub ledgers : length (list_of d field.Ledgers) ≤ 512
+  pub ledgers : length (list_of d field.Ledgers) ≤ MAX_LEDGERS
   pub each_ledger : each_ledger_fault (names_of d) (list_of d field.Ledgers) ≡ None
   pub each_content : each_content_fault (names_of d) (ids_of d) (list_of d field.Contents) ≡ None
 
@@ -375,19 +376,19 @@ IsFaultless-none d none =
     let ledgers = option_or-none _ _ bookies.1 in
     let each_ledger = option_or-none _ _ ledgers.0 in
     let contents = option_or-none _ _ (option_or-none _ _ ledgers.1).0 in
-    let within = list_within d field.Bookies 1 64 each_bookie.0 in
+    let within = list_within d field.Bookies 1 MAX_BOOKIES each_bookie.0 in
     record {
-      grace = (number_within d field.Grace 0 1_000_000 grace.0).1;
+      grace = (number_within d field.Grace 0 MAX_GRACE grace.0).1;
       some_bookie = within.0;
       bookies = within.1;
       each_bookie = (option_or-none _ _ each_bookie.1).0;
-      ledgers = (list_within d field.Ledgers 0 512 each_ledger.0).1;
+      ledgers = (list_within d field.Ledgers 0 MAX_LEDGERS each_ledger.0).1;
       each_ledger = (option_or-none _ _ each_ledger.1).0;
       each_content = (option_or-none _ _ contents.1).0;
     }
 
 -- such parts within the limit of words are a well-formed cluster
-pub IsWellFormed-cluster_in : (d : Data) → IsFaultless d → words_in_all (cluster_in d) ≤ 2 ^ 22 → IsWellFormed (cluster_in d)
+pub IsWellFormed-cluster_in : (d : Data) → IsFaultless d → words_in_all (cluster_in d) ≤ MAX_WORDS → IsWellFormed (cluster_in d)
 IsWellFormed-cluster_in d good words =
     let s = cluster_in d in
     let count : length (names_of d) ≡ length (list_of d field.Bookies) = length-map (list_of d field.Bookies) (λ d. text_of d field.Name) in
@@ -423,14 +424,14 @@ pub words_in_all-shown : (d : Data) (names : List (List ℕ)) (up : Set numbers)
 words_in_all-shown d names up grace ledgers lent held bookies words whole count same is = is ∙ (λ i. count i * sum_by (λ g. words_of held g.id) (same i)) ∙ ap words_in_all whole
 
 -- the limit of words is judged last
-pub fields_fault-within : (d : Data) → parts_fault d ≡ None → words_in_all (cluster_in d) ≤ 2 ^ 22 → fields_fault d ≡ None
+pub fields_fault-within : (d : Data) → parts_fault d ≡ None → words_in_all (cluster_in d) ≤ MAX_WORDS → fields_fault d ≡ None
 fields_fault-within d good within =
-    let test : nat_le (words_in_all (cluster_in d)) (2 ^ 22) ≡ true = grind (arith, nat_tests) in
-    ap (λ (o : Option PictureFault). option_or o (option_or (fault_unless (nat_le (words_in_all (cluster_in d)) (2 ^ 22)) (Limit field.Contents)) None)) good
+    let test : nat_le (words_in_all (cluster_in d)) MAX_WORDS ≡ true = grind (arith, nat_tests) in
+    ap (λ (o : Option PictureFault). option_or o (option_or (fault_unless (nat_le (words_in_all (cluster_in d)) MAX_WORDS) (Limit field.Contents)) None)) good
     ∙ ap (λ (t : Bool). option_or (fault_unless t (Limit field.Contents)) None) test
 
-pub fields_fault-past : (d : Data) → parts_fault d ≡ None → 2 ^ 22 < words_in_all (cluster_in d) → fields_fault d ≡ Some (Limit field.Contents)
+pub fields_fault-past : (d : Data) → parts_fault d ≡ None → MAX_WORDS < words_in_all (cluster_in d) → fields_fault d ≡ Some (Limit field.Contents)
 fields_fault-past d good past =
-    let test : nat_le (words_in_all (cluster_in d)) (2 ^ 22) ≡ false = grind (arith, nat_tests) in
-    ap (λ (o : Option PictureFault). option_or o (option_or (fault_unless (nat_le (words_in_all (cluster_in d)) (2 ^ 22)) (Limit field.Contents)) None)) good
+    let test : nat_le (words_in_all (cluster_in d)) MAX_WORDS ≡ false = grind (arith, nat_tests) in
+    ap (λ (o : Option PictureFault). option_or o (option_or (fault_unless (nat_le (words_in_all (cluster_in d)) MAX_WORDS) (Limit field.Contents)) None)) good
     ∙ ap (λ (t : Bool). option_or (fault_unless t (Limit field.Contents)) None) test

@@ -6,6 +6,7 @@ use Rattle.std.specs.Option.{is_some}
 use Rattle.std.specs.Result.{result_err}
 use Rattle.std.specs.Str.{bytes_eq}
 use Rattle.serde_json.specs.Data.{Data}
+use Rattle.reh_types.specs.declared.limits.TheConstants.{MAX_BOOKIES, MAX_NAME_BYTES}
 use Rattle.reh_types.specs.Sets as set
 use Rattle.reh_types.specs.Sets.{Set, numbers}
 use Rattle.reh_model.specs.Cluster.{bookie_named}
@@ -16,9 +17,9 @@ use Rattle.reh_picture.specs.declared.faults.PictureFault.TheVariants.{WrongKind
 use Rattle.reh_picture.specs.Faults.{first_fault, fault_unless, fault_along}
 use Rattle.reh_picture.specs.Members.{is_object, text_in, flag_in, text_of, flag_of, list_of, list_fault}
 
--- 1 to 300 bytes, each 0x21 to 0x7E
+-- from 1 byte to the most, each 0x21 to 0x7E
 abbrev pub is_name : List ℕ → Bool
-is_name name = nat_le 1 (length name) && nat_le (length name) 300 && list_all is_ascii_graphic name
+is_name name = nat_le 1 (length name) && nat_le (length name) MAX_NAME_BYTES && list_all is_ascii_graphic name
 
 -- what is wrong with a bookie's name by itself
 abbrev pub name_fault : Data → Option PictureFault
@@ -47,7 +48,7 @@ each_bookie_fault bookies = fault_along (λ before d. bookie_fault (names_in bef
 
 -- what is wrong with a picture's bookies
 unfoldable pub bookies_fault : Data → Option PictureFault
-bookies_fault d = first_fault (list_fault d field.Bookies 1 64 ∷ each_bookie_fault (list_of d field.Bookies) ∷ [])
+bookies_fault d = first_fault (list_fault d field.Bookies 1 MAX_BOOKIES ∷ each_bookie_fault (list_of d field.Bookies) ∷ [])
 
 -- the places of the bookies that are registered
 abbrev pub registered_in : List Data → Set numbers

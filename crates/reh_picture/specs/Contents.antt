@@ -4,6 +4,7 @@ use Rattle.std.specs.List.{list_any, flat_map, last_or}
 use Rattle.std.specs.Option.{ok_or, option_and_then, option_map, option_map_or}
 use Rattle.std.specs.Result.{result_err, result_unwrap_or}
 use Rattle.serde_json.specs.Data.{Data}
+use Rattle.reh_types.specs.declared.limits.TheConstants.{MAX_ENTRY_ID}
 use Rattle.serde_json.specs.Find.{as_number, as_u64, as_array}
 use Rattle.reh_types.specs.Sets as set
 use Rattle.reh_model.specs.Striping.{range}
@@ -40,7 +41,7 @@ abbrev pub range_fault : ℕ → Data → Option PictureFault
 range_fault least d =
     first_fault (
     result_err (ends_in d)
-    ∷ fault_unless (nat_le least (ends_of d).0 && nat_le (ends_of d).0 (ends_of d).1 && nat_le (ends_of d).1 65_535) (Limit field.Entries)
+    ∷ fault_unless (nat_le least (ends_of d).0 && nat_le (ends_of d).0 (ends_of d).1 && nat_le (ends_of d).1 MAX_ENTRY_ID) (Limit field.Entries)
     ∷ [])
 
 -- the first fault of ranges

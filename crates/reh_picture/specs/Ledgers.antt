@@ -1,10 +1,11 @@
 -- The ledgers of a picture.
-use Rattle.std.specs.Prelude.{ℕ, zero, suc, ◌+◌, ◌^◌, ℤ, pos, negsuc, Bool, not, ◌||◌, nat_eq, nat_le, List, [], ◌∷◌, map, codes, if◌then◌else◌, Option, None, Some, unwrap_or, Result}
+use Rattle.std.specs.Prelude.{ℕ, zero, suc, ◌+◌, ℤ, pos, negsuc, Bool, not, ◌||◌, nat_eq, nat_le, List, [], ◌∷◌, map, codes, if◌then◌else◌, Option, None, Some, unwrap_or, Result}
 use Rattle.std.specs.List.{list_any}
 use Rattle.std.specs.Option.{is_some, ok_or, option_map, option_and_then}
 use Rattle.std.specs.Result.{result_err, result_ok, result_unwrap_or}
 use Rattle.std.specs.Str.{bytes_eq}
 use Rattle.serde_json.specs.Data.{Data}
+use Rattle.reh_types.specs.declared.limits.TheConstants.{MAX_ENTRY_ID, MAX_FRAGMENTS, MAX_LEDGERS, MAX_LEDGER_ID, MAX_VERSION}
 use Rattle.serde_json.specs.Find.{as_str}
 use Rattle.reh_types.specs.declared.names.LedgerState.{LedgerState}
 use Rattle.reh_types.specs.declared.names.LedgerState.TheVariants.{Open, InRecovery, Closed}
@@ -43,7 +44,7 @@ abbrev pub fragment_fault : List (List ℕ) → Data → Option PictureFault
 fragment_fault names d =
     first_fault (
     fault_unless (is_object d) (WrongKind field.Fragment)
-    ∷ number_fault d field.FirstEntry 0 65_535
+    ∷ number_fault d field.FirstEntry 0 MAX_ENTRY_ID
     ∷ result_err (list_in d field.Ensemble)
     ∷ members_fault names (list_of d field.Ensemble)
     ∷ [])
@@ -59,9 +60,9 @@ is_state text = bytes_eq text (codes "OPEN") || bytes_eq text (codes "IN_RECOVER
 abbrev pub is_closed : Data → Bool
 is_closed d = bytes_eq (text_of d field.State) (codes "CLOSED")
 
--- one past a last entry id from -1 to 65,535
+-- one past a last entry id from -1 to the greatest
 abbrev pub end_after : ℤ → Option ℕ
-end_after (pos last) = if nat_le last 65_535 then Some (last + 1) else None
+end_after (pos last) = if nat_le last MAX_ENTRY_ID then Some (last + 1) else None
 end_after (negsuc zero) = Some 0
 end_after (negsuc (suc n)) = None
 
@@ -127,8 +128,8 @@ metadata_fault names ledger d =
     first_fault (
     state_fault d
     ∷ sizes_fault d
-    ∷ number_fault d field.Version 0 (10 ^ 12)
-    ∷ list_fault d field.Fragments 0 256
+    ∷ number_fault d field.Version 0 MAX_VERSION
+    ∷ list_fault d field.Fragments 0 MAX_FRAGMENTS
     ∷ fragments_fault names (list_of d field.Fragments)
     ∷ option_map (broken_rule ledger) (fault_of (metadata_in names d))
     ∷ [])
@@ -140,7 +141,7 @@ abbrev pub ledger_fault : List (List ℕ) → List ℕ → Data → Option Pictu
 ledger_fault names ids d =
     first_fault (
     fault_unless (is_object d) (WrongKind field.Ledger)
-    ∷ number_fault d field.Id 0 (10 ^ 12)
+    ∷ number_fault d field.Id 0 MAX_LEDGER_ID
     ∷ fault_unless (not (list_any (nat_eq (number_of d field.Id)) ids)) (Twice (repeated.Ledger (number_of d field.Id)))
     ∷ metadata_fault names (number_of d field.Id) d
     ∷ [])
@@ -154,7 +155,7 @@ each_ledger_fault names ledgers = fault_along (λ before d. ledger_fault names (
 
 -- what is wrong with a picture's ledgers
 unfoldable pub ledgers_fault : List (List ℕ) → Data → Option PictureFault
-ledgers_fault names d = first_fault (list_fault d field.Ledgers 0 512 ∷ each_ledger_fault names (list_of d field.Ledgers) ∷ [])
+ledgers_fault names d = first_fault (list_fault d field.Ledgers 0 MAX_LEDGERS ∷ each_ledger_fault names (list_of d field.Ledgers) ∷ [])
 
 -- the ledger, with no task and no lock
 abbrev pub ledger_in : List (List ℕ) → Data → Ledger

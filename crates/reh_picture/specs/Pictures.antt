@@ -1,7 +1,8 @@
 -- The cluster that a picture shows, or the picture's first fault.
-use Rattle.std.specs.Prelude.{ℕ, ◌*◌, ◌^◌, nat_lt, nat_le, List, [], ◌∷◌, map, length, sum_by, ◌≡◌, if◌then◌else◌, Option, None, Some, Result, Ok, Err}
+use Rattle.std.specs.Prelude.{ℕ, ◌*◌, nat_lt, nat_le, List, [], ◌∷◌, map, length, sum_by, ◌≡◌, if◌then◌else◌, Option, None, Some, Result, Ok, Err}
 use Rattle.std.specs.Str.{is_utf8}
 use Rattle.serde_json.specs.Data.{Data}
+use Rattle.reh_types.specs.declared.limits.TheConstants.{MAX_GRACE, MAX_PICTURE_BYTES, MAX_WORDS}
 use Rattle.serde_json.specs.Read.{read}
 use Rattle.reh_types.specs.Sets.{Set, numbers}
 use Rattle.reh_model.specs.Cluster.{Cluster, Ledger}
@@ -34,7 +35,7 @@ cluster_in d = record {
   clock = 0;
 }
 
--- words of 64 entries that all bookies together take, each as many for a ledger as reach its greatest entry
+-- words of entries that all bookies together take, each as many for a ledger as reach its greatest entry
 abbrev pub words_in_all : Cluster → ℕ
 words_in_all s = length s.names * sum_by (λ g. words_of s.held g.id) s.ledgers
 
@@ -44,7 +45,7 @@ head_fault d =
     first_fault (
     fault_unless (is_object d) (WrongKind field.Picture)
     ∷ number_fault d field.Format 1 1
-    ∷ number_fault d field.Grace 0 1_000_000
+    ∷ number_fault d field.Grace 0 MAX_GRACE
     ∷ [])
 
 -- the first fault of a picture's fields, in their order
@@ -59,7 +60,7 @@ parts_fault d =
 
 -- at the end of all, the limit of words
 abbrev pub fields_fault : Data → Option PictureFault
-fields_fault d = first_fault (parts_fault d ∷ fault_unless (nat_le (words_in_all (cluster_in d)) (2 ^ 22)) (Limit field.Contents) ∷ [])
+fields_fault d = first_fault (parts_fault d ∷ fault_unless (nat_le (words_in_all (cluster_in d)) MAX_WORDS) (Limit field.Contents) ∷ [])
 
 -- the cluster, unless there is a fault
 abbrev pub unless_fault : Option PictureFault → Cluster → Result Cluster PictureFault
@@ -80,7 +81,7 @@ shown_by (Some d) = picture_in d
 
 -- what a picture shows
 abbrev pub picture_of : List ℕ → Result Cluster PictureFault
-picture_of bytes = if nat_lt 8_388_608 (length bytes) then Err TooLong else shown_by (json_of bytes)
+picture_of bytes = if nat_lt MAX_PICTURE_BYTES (length bytes) then Err TooLong else shown_by (json_of bytes)
 
 -- What was read of a picture without a fault of its fields: the parts of the cluster that it shows.
 pub record IsShown (d : Data) (names : List (List ℕ)) (up : Set numbers) (grace : ℕ) (ledgers : List Ledger) (holdings : List Holding) : Type 0 where

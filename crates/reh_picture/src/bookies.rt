@@ -4,6 +4,7 @@ ghost use Rattle.std.specs.Char.{is_ascii_graphic};
 ghost use Rattle.std.specs.List.{list_all};
 ghost use Rattle.std.specs.Result.{result_err};
 ghost use Rattle.serde_json.specs.View.{view};
+ghost use Rattle.reh_types.specs.declared.limits.TheConstants.{MAX_BOOKIES};
 ghost use Rattle.reh_types.specs.Sets as set;
 ghost use Rattle.reh_picture.specs.Faults.{FailsWith};
 ghost use Rattle.reh_picture.specs.Members.{text_of, flag_of, list_of};
@@ -13,12 +14,9 @@ use crate::faults::{FaultName, PictureFault, Repeated};
 use crate::fields::Field;
 use crate::members::{flag, list_within, text};
 use reh_cluster::Names;
-use reh_types::{BookieIx, BookieSet};
+use reh_types::{BookieIx, BookieSet, MAX_BOOKIES, MAX_NAME_BYTES};
 use serde_json::Value;
 use std::alloc::Global;
-
-/// The longest name that a bookie may have, in bytes.
-const MAX_NAME: usize = 300;
 
 /// The names of a picture's bookies, and those that are registered.
 #[tactic(auto, unfolding(crate::specs::Bookies::bookies_fault))]
@@ -32,14 +30,14 @@ pub(crate) fn read_bookies(
     ensures some { IfOk result (λ r. 0 < length r.0) }
     ensures named { IfOk result (λ r. (b : ℕ) → set.contains r.1 b ≡ true → b < length r.0) }
 {
-    let bookies = list_within(picture, Field::Bookies, 1, BookieSet::LIMIT)?;
+    let bookies = list_within(picture, Field::Bookies, 1, MAX_BOOKIES)?;
     read_each_bookie(alloc, bookies)
 }
 
 /// The names of at most 64 bookies, and those that are registered.
 #[tactic(auto, unfolding(crate::specs::Bookies::each_bookie_fault))]
 fn read_each_bookie(alloc: Global, bookies: &[Value]) -> Result<(Names, BookieSet), PictureFault>
-    requires { length bookies.now ≤ 64 }
+    requires { length bookies.now ≤ MAX_BOOKIES }
     ensures count { IfOk result (λ r. length r.0 ≡ length bookies.now) }
     ensures named { IfOk result (λ r. (b : ℕ) → set.contains r.1 b ≡ true → b < length r.0) }
     ensures names { IfOk result (λ r. r.0 ≡ names_in (map view bookies.now)) }
@@ -59,7 +57,7 @@ fn read_each_bookie(alloc: Global, bookies: &[Value]) -> Result<(Names, BookieSe
 
 /// Adds one more bookie's name, and says whether the bookie is registered. After an `Err` the names may have its name.
 fn read_bookie(alloc: Global, names: &mut Names, bookie: &Value) -> Result<bool, PictureFault>
-    requires { length names.old < 64 }
+    requires { length names.old < MAX_BOOKIES }
     ensures fault { FailsWith result (bookie_fault names.old (view bookie.now)) }
     ensures named { OnOk result (names.new ≡ names.old ++ text_of (view bookie.now) Field.Name ∷ []) }
     ensures registered { IfOk result (λ up. flag_of (view bookie.now) Field.Up ≡ up) }
@@ -91,7 +89,7 @@ fn name_of(bookie: &Value) -> Result<&str, PictureFault>
 fn is_name(name: &[u8]) -> bool
     ensures { result ≡ is_bookie_name name.now }
 {
-    !name.is_empty() && name.len() <= MAX_NAME && is_graphic(name)
+    !name.is_empty() && name.len() <= MAX_NAME_BYTES && is_graphic(name)
 }
 
 fn is_graphic(text: &[u8]) -> bool

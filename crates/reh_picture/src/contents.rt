@@ -1,10 +1,11 @@
 // What the bookies of a picture hold.
-ghost use Rattle.std.specs.Prelude.{◌≡◌, ◌≤◌, ◌<◌, ◌^◌, ◌+◌, [], ◌∷◌, ◌++◌, ℕ, Some, map, fold, max, cond, nat_eq, IfOk, OnOk, All};
+ghost use Rattle.std.specs.Prelude.{◌≡◌, ◌≤◌, ◌<◌, ◌+◌, [], ◌∷◌, ◌++◌, ℕ, Some, map, fold, max, cond, nat_eq, IfOk, OnOk, All};
 ghost use Rattle.std.specs.Option.{option_map_or};
 ghost use Rattle.std.specs.BTreeMap.{get};
 ghost use Rattle.std.specs.Ordering.{nat_cmp};
 ghost use Rattle.std.specs.Result.{result_err};
 ghost use Rattle.serde_json.specs.View.{view};
+ghost use Rattle.reh_types.specs.declared.limits.TheConstants.{ENTRY_END};
 ghost use Rattle.reh_types.specs.Sets as set;
 ghost use Rattle.reh_picture.specs.Faults.{FailsWith};
 ghost use Rattle.reh_picture.specs.Members.{number_of, list_of, text_of};
@@ -14,12 +15,12 @@ ghost use Rattle.reh_model.specs.Contents.{Contents};
 
 use crate::faults::{FaultName, LedgerFlaw, PictureFault, Repeated};
 use crate::fields::Field;
-use crate::ledgers::{MAX_ENTRY, known_bookie};
+use crate::ledgers::known_bookie;
 use crate::members::{list, number, text};
 use indexmap::IndexSet;
 use reh_cluster::Names;
 use reh_held::Held;
-use reh_types::{BookieIx, LedgerId};
+use reh_types::{BookieIx, LedgerId, MAX_ENTRY_ID};
 use serde_json::Value;
 use std::alloc::{AllocError, Global};
 use std::collections::BTreeMap;
@@ -50,10 +51,10 @@ fn two_numbers(list: &[Value]) -> Option<(u64, u64)>
 fn read_range(least: u64, range: &Value) -> Result<(u32, u32), PictureFault>
     ensures fault { result_err result ≡ range_fault least (view range.now) }
     ensures ends { IfOk result (λ ends. ends ≡ ends_of (view range.now)) }
-    ensures limit { IfOk result (λ ends. (ends.0 ≤ ends.1) × (ends.1 < 2 ^ 16)) }
+    ensures limit { IfOk result (λ ends. (ends.0 ≤ ends.1) × (ends.1 < ENTRY_END)) }
 {
     let (first, last) = read_ends(range)?;
-    if first < least || last < first || last > MAX_ENTRY {
+    if first < least || last < first || last > MAX_ENTRY_ID {
         return Err(PictureFault::Limit(Field::Entries));
     }
     Ok((first as u32, last as u32))

@@ -1,8 +1,9 @@
 // The ledgers of a picture.
-ghost use Rattle.std.specs.Prelude.{◌≡◌, true, Some, ◌≤◌, ◌<◌, ◌^◌, [], ◌∷◌, ◌++◌, length, map, IfOk, OnOk, All};
+ghost use Rattle.std.specs.Prelude.{◌≡◌, true, Some, ◌≤◌, ◌<◌, [], ◌∷◌, ◌++◌, length, map, IfOk, OnOk, All};
 ghost use Rattle.std.specs.Option.{ForSome};
 ghost use Rattle.std.specs.Result.{result_err};
 ghost use Rattle.serde_json.specs.View.{view};
+ghost use Rattle.reh_types.specs.declared.limits.TheConstants.{ENTRY_END};
 ghost use Rattle.reh_model.specs.Metadata.{end_of_state};
 ghost use Rattle.reh_picture.specs.Faults.{FailsWith};
 ghost use Rattle.reh_picture.specs.Members.{number_of, list_of};
@@ -15,24 +16,12 @@ use crate::members::{integer, list, list_within, number, number_within, text};
 use indexmap::IndexSet;
 use reh_cluster::{Ledger, Names};
 use reh_meta::{Fragment, LedgerMeta, MetaFault, Sizes};
-use reh_types::{BookieIx, LedgerId, LedgerState};
+use reh_types::{
+    BookieIx, LedgerId, LedgerState, MAX_ENTRY_ID, MAX_FRAGMENTS, MAX_LEDGER_ID, MAX_LEDGERS,
+    MAX_VERSION,
+};
 use serde_json::Value;
 use std::alloc::Global;
-
-/// The most ledgers that a picture may have.
-const MAX_LEDGERS: usize = 512;
-
-/// The greatest id of a ledger.
-const MAX_ID: u64 = 1_000_000_000_000;
-
-/// The greatest version of a ledger's metadata.
-const MAX_VERSION: u64 = 1_000_000_000_000;
-
-/// The greatest id of an entry.
-pub(crate) const MAX_ENTRY: u64 = 65_535;
-
-/// The most fragments that a ledger may have.
-const MAX_FRAGMENTS: usize = 256;
 
 /// The bookie of that name, which must be one of the picture's.
 pub(crate) fn known_bookie(
@@ -82,12 +71,12 @@ fn read_ensemble(
 fn read_fragment(alloc: Global, names: &Names, fragment: &Value) -> Result<Fragment, PictureFault>
     ensures fault { FailsWith result (fragment_fault names.now (view fragment.now)) }
     ensures fragment { IfOk result (λ f. f ≡ fragment_in names.now (view fragment.now)) }
-    ensures first { IfOk result (λ f. f.first < 2 ^ 16) }
+    ensures first { IfOk result (λ f. f.first < ENTRY_END) }
 {
     if !fragment.is_object() {
         return Err(PictureFault::WrongKind(Field::Fragment));
     }
-    let first = number_within(fragment, Field::FirstEntry, 0, MAX_ENTRY)?;
+    let first = number_within(fragment, Field::FirstEntry, 0, MAX_ENTRY_ID)?;
     let members = list(fragment, Field::Ensemble)?;
     let ensemble = read_ensemble(alloc, names, members)?;
     Ok(Fragment {
@@ -105,7 +94,7 @@ fn read_fragments(
 ) -> Result<Vec<Fragment>, PictureFault>
     ensures fault { FailsWith result (fragments_fault names.now (map view values.now)) }
     ensures fragments { IfOk result (λ fragments. fragments.items ≡ map (fragment_in names.now) (map view values.now)) }
-    ensures firsts { IfOk result (λ fragments. All (λ fragment. fragment.first < 2 ^ 16) fragments.items) }
+    ensures firsts { IfOk result (λ fragments. All (λ fragment. fragment.first < ENTRY_END) fragments.items) }
 {
     let mut fragments = Vec::new(alloc);
     for value in values {
@@ -118,7 +107,7 @@ fn read_fragments(
 fn read_state(ledger: &Value) -> Result<LedgerState, PictureFault>
     ensures fault { result_err result ≡ state_fault (view ledger.now) }
     ensures state { IfOk result (λ state. state ≡ state_in (view ledger.now)) }
-    ensures end { IfOk result (λ state. ForSome (end_of_state state) (λ end. end ≤ 2 ^ 16)) }
+    ensures end { IfOk result (λ state. ForSome (end_of_state state) (λ end. end ≤ ENTRY_END)) }
 {
     match text(ledger, Field::State)? {
         "OPEN" => Ok(LedgerState::Open),
@@ -135,10 +124,10 @@ fn read_end(ledger: &Value) -> Result<u32, PictureFault>
     requires { is_closed (view ledger.now) ≡ true }
     ensures fault { result_err result ≡ last_fault (view ledger.now) }
     ensures end { IfOk result (λ end. end_in (view ledger.now) ≡ Some end) }
-    ensures limit { IfOk result (λ end. end ≤ 2 ^ 16) }
+    ensures limit { IfOk result (λ end. end ≤ ENTRY_END) }
 {
     let last = integer(ledger, Field::LastEntryId)?;
-    if last < -1 || last > MAX_ENTRY as i64 {
+    if last < -1 || last > MAX_ENTRY_ID as i64 {
         return Err(PictureFault::Limit(Field::LastEntryId));
     }
     Ok((last + 1) as u32)
@@ -249,7 +238,7 @@ fn read_ledger(
     if !ledger.is_object() {
         return Err(PictureFault::WrongKind(Field::Ledger));
     }
-    let id = number_within(ledger, Field::Id, 0, MAX_ID)?;
+    let id = number_within(ledger, Field::Id, 0, MAX_LEDGER_ID)?;
     if !ids.insert(id)? {
         return Err(PictureFault::Twice(Repeated::Ledger(LedgerId(id))));
     }

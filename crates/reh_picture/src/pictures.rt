@@ -3,6 +3,7 @@ ghost use Rattle.std.specs.Prelude.{◌≡◌, ◌≢◌, ◌+◌, ◌*◌, ◌/
 ghost use Rattle.std.specs.Option.{option_map_or};
 ghost use Rattle.std.specs.Result.{result_err};
 ghost use Rattle.serde_json.specs.View.{view};
+ghost use Rattle.reh_types.specs.declared.limits.TheConstants.{ENTRIES_IN_WORD, MAX_BOOKIES, MAX_GRACE, MAX_LEDGERS};
 ghost use Rattle.reh_picture.specs.Members.{number_of};
 ghost use Rattle.reh_picture.specs.Faults.{FailsWith};
 ghost use Rattle.reh_model.specs.WellFormed.{words_of};
@@ -16,21 +17,12 @@ use crate::fields::Field;
 use crate::ledgers::{Ledgers, read_ledgers};
 use crate::members::number_within;
 use reh_cluster::{Ledger, Names, State};
-use reh_types::BookieSet;
+use reh_types::{BookieSet, ENTRIES_IN_WORD, MAX_GRACE, MAX_PICTURE_BYTES, MAX_WORDS};
 use serde_json::Value;
 use std::alloc::{AllocError, Global};
 
 /// The number of the format.
 const FORMAT: u64 = 1;
-
-/// The longest picture, in bytes.
-const MAX_PICTURE: usize = 8_388_608;
-
-/// The greatest grace, in ticks.
-const MAX_GRACE: u64 = 1_000_000;
-
-/// The most words of 64 entries that all bookies together take for what they hold.
-const MAX_WORDS: u64 = 4_194_304;
 
 /// The state that a picture shows, or the picture's first fault.
 ///
@@ -39,7 +31,7 @@ pub fn read_picture(alloc: Global, bytes: &[u8]) -> Result<State, PictureFault>
     ensures { MatchResult result (λ state. picture_of bytes.now ≡ Ok state)
         (λ fault. fault ≢ PictureFault.NoMemory → picture_of bytes.now ≡ Err fault) }
 {
-    if bytes.len() > MAX_PICTURE {
+    if bytes.len() > MAX_PICTURE_BYTES {
         return Err(PictureFault::TooLong);
     }
     let picture = parse_json(alloc, bytes)?;
@@ -82,15 +74,15 @@ fn read_cluster(alloc: Global, picture: &Value) -> Result<State, PictureFault>
     Ok(State::build(names, up, grace, ledgers, held))
 }
 
-/// How many words of 64 entries so many bookies take, each as many for a ledger as reach its greatest entry.
+/// How many words of entries so many bookies take, each as many for a ledger as reach its greatest entry.
 fn words_in_all(
     alloc: Global,
     bookies: usize,
     ledgers: &[Ledger],
     holdings: &[Holding],
 ) -> Result<u64, AllocError>
-    requires bookies { bookies ≤ 64 }
-    requires ledgers { length ledgers.now ≤ 512 }
+    requires bookies { bookies ≤ MAX_BOOKIES }
+    requires ledgers { length ledgers.now ≤ MAX_LEDGERS }
     requires ranges { All (λ holding. All (λ range. range.0 ≤ range.1) holding.ranges) holdings.now }
     ensures { IfOk result
         (λ words. words ≡ bookies * sum_by (λ g. words_of (held_in holdings.now) g.id) ledgers.now) }
@@ -103,13 +95,13 @@ fn words_in_all(
     Ok(bookies as u64 * words)
 }
 
-/// How many words of 64 entries reach the greatest entry, if there is one.
+/// How many words of entries reach the greatest entry, if there is one.
 fn words_to(greatest: Option<u32>) -> u64
-    ensures words { result ≡ option_map_or (λ greatest. greatest / 64 + 1) greatest 0 }
+    ensures words { result ≡ option_map_or (λ greatest. greatest / ENTRIES_IN_WORD + 1) greatest 0 }
     ensures small { result ≤ 2 ^ 26 }
 {
     match greatest {
-        Some(greatest) => greatest as u64 / 64 + 1,
+        Some(greatest) => greatest as u64 / ENTRIES_IN_WORD + 1,
         None => 0,
     }
 }
@@ -129,7 +121,7 @@ struct Parts {
 fn read_grace(picture: &Value) -> Result<u64, PictureFault>
     ensures fault { result_err result ≡ head_fault (view picture.now) }
     ensures grace { IfOk result (λ grace. grace ≡ number_of (view picture.now) Field.Grace) }
-    ensures limit { IfOk result (λ grace. grace ≤ 1_000_000) }
+    ensures limit { IfOk result (λ grace. grace ≤ MAX_GRACE) }
 {
     if !picture.is_object() {
         return Err(PictureFault::WrongKind(Field::Picture));

@@ -3,6 +3,7 @@ use Rattle.std.proofs.Common.{◌≡◌, ℕ, ◌+◌, ◌-◌, ◌<◌, ◌≤�
 use Rattle.std.proofs.lemmas.List.{take_more, drop_more, take-take, drop-take, drop-drop, take_all, drop_all, length-take-le, length-drop, take-append-drop}
 use Rattle.std.proofs.Math.Seq.{take-add}
 use Rattle.std.specs.Prelude.{unwrap_or}
+use Rattle.reh_types.specs.declared.limits.TheConstants.{MAX_EVENTS}
 use Rattle.reh_types.specs.declared.moves.Event.{Event}
 use Rattle.reh_types.specs.declared.moves.Move.{Move}
 use Rattle.reh_types.specs.declared.moves.Move.TheVariants.{Do, Undo, Redo}
@@ -24,9 +25,9 @@ state_is : {o s : Cluster} {es : List Event} {k : ℕ} → IsKept o s es k → (
 state_is {o} {s} {es} {k} h m is = ap (λ (n : Session). state_of n) (sym is) ∙ ap (λ (x : Option Cluster). unwrap_or x o) h.replayed
 
 -- an event is done where the state accepts it, and there is room
-pub act_done : {o s : Cluster} {es : List Event} {k : ℕ} → IsKept o s es k → (e : Event) → refusal_of s e ≡ None → k < 100_000 → (m : Session) → session_of o es k ≡ m → reply_to m (Do e) ≡ Done
+pub act_done : {o s : Cluster} {es : List Event} {k : ℕ} → IsKept o s es k → (e : Event) → refusal_of s e ≡ None → k < MAX_EVENTS → (m : Session) → session_of o es k ≡ m → reply_to m (Do e) ≡ Done
 act_done {o} {s} {es} {k} h e accepted room m is =
-    let few : length m.done < 100_000 = omega (arith, length-take-le k es h.within, ap (λ (n : Session). length n.done) is) in
+    let few : length m.done < MAX_EVENTS = omega (arith, length-take-le k es h.within, ap (λ (n : Session). length n.done) is) in
     done_within m e (ap (λ (x : Cluster). refusal_of x e) (state_is h m is) ∙ accepted) few
 
 -- and it is answered with the state's refusal, if there is one
@@ -34,7 +35,7 @@ pub act_refused : {o s : Cluster} {es : List Event} {k : ℕ} → IsKept o s es 
 act_refused {o} {s} {es} {k} h e r refused m is = inl (sym (refused_first m e r (ap (λ (x : Cluster). refusal_of x e) (state_is h m is) ∙ refused)), refl)
 
 -- an event is made, and what was undone is dropped
-pub acted : {o s : Cluster} {es : List Event} {k : ℕ} → IsKept o s es k → (e : Event) (new : List Event) → refusal_of s e ≡ None → k < 100_000 → new ≡ take k es ++ e ∷ [] → IsKept o (after s e) new (k + 1)
+pub acted : {o s : Cluster} {es : List Event} {k : ℕ} → IsKept o s es k → (e : Event) (new : List Event) → refusal_of s e ≡ None → k < MAX_EVENTS → new ≡ take k es ++ e ∷ [] → IsKept o (after s e) new (k + 1)
 acted {o} {s} {es} {k} h e new accepted room is =
     let front : length (take k es) ≡ k = length-take-le k es h.within in
     let size : length new ≡ k + 1 = ap length is ∙ length-append (take k es) (e ∷ []) ∙ ap (λ n. n + 1) front in

@@ -1,5 +1,6 @@
 -- What a session keeps: its opening state, its present state, and one list of events with a cursor.
 use Rattle.std.specs.Prelude.{◌≡◌, ℕ, ◌≤◌, List, length, take, drop, Some, IsSome}
+use Rattle.reh_types.specs.declared.limits.TheConstants.{MAX_EVENTS}
 use Rattle.reh_types.specs.declared.moves.Event.{Event}
 use Rattle.reh_model.specs.Cluster.{Cluster}
 use Rattle.reh_model.specs.Session.{Session, replay}
@@ -11,6 +12,6 @@ session_of opening events cursor = record { opening = opening; done = take curso
 -- the state is the replay of the surviving events, and the undone ones can be redone
 pub record IsKept (opening state : Cluster) (events : List Event) (cursor : ℕ) : Type 0 where
   pub within : cursor ≤ length events
-  pub few : length events ≤ 100_000
+  pub few : length events ≤ MAX_EVENTS
   pub replayed : replay opening (take cursor events) ≡ Some state
   pub redoable : IsSome (replay state (drop cursor events))

@@ -1,16 +1,14 @@
 // Sessions, which can undo and redo.
 ghost use Rattle.std.specs.Prelude.{◌≡◌, All, ◌+◌, ◌≤◌, ◌∷◌, [], ◌++◌, length, take, Some, IsSome, IfOk, IfErr, OnErr, OnOk};
+ghost use Rattle.reh_types.specs.declared.limits.TheConstants.{MAX_EVENTS};
 ghost use Rattle.reh_model.specs.Session.{replay as replayed};
 
 use crate::replays::replay;
 use reh_cluster::State;
 use reh_step::{apply, check};
-use reh_types::{Event, Move, Refusal, Reply};
+use reh_types::{Event, MAX_EVENTS, Move, Refusal, Reply};
 use std::alloc::{AllocError, Global};
 use std::marker::Model;
-
-/// How many events can survive.
-const MAX_EVENTS: usize = 100_000;
 
 /// The events that were made on a cluster, with undo and redo.
 ///
@@ -72,7 +70,7 @@ impl Session {
     pub fn undone(&self) -> &[Event]
         ensures events { result.now ≡ self.now.undone }
         ensures redoable { IsSome (replayed self.now.opening (self.now.done ++ self.now.undone)) }
-        ensures few { length self.now.done + length self.now.undone ≤ 100_000 }
+        ensures few { length self.now.done + length self.now.undone ≤ MAX_EVENTS }
     {
         &self.events[self.cursor..]
     }

@@ -14,16 +14,7 @@ use reh_audit::{has_news, under_of};
 use reh_cluster::{Ledger, State};
 use reh_meta::Fragment;
 use reh_stripe::{Striped, write_set};
-use reh_types::{BookieIx, Event, LedgerId, Refusal};
-
-/// The greatest number of ticks by which the clock goes on at once.
-const MAX_TICKS: u64 = 1_000_000;
-
-/// Where the clock ends.
-const CLOCK_END: u64 = 1_000_000_000;
-
-/// Where a ledger's versions end.
-const VERSION_END: u64 = 1_000_000_000_000;
+use reh_types::{BookieIx, CLOCK_END, Event, LedgerId, MAX_TICKS, MAX_VERSION, Refusal};
 
 /// Whether the event is accepted, or else the first refusal that applies. It takes no memory.
 pub fn check(state: &State, event: &Event) -> Result<(), Refusal>
@@ -171,7 +162,7 @@ fn check_swap(
     if let Some(entry) = first_lacked(state, worker, ledger, stripe) {
         return Err(Refusal::MissingEntry(entry as u64));
     }
-    if ledger.metadata().version() == VERSION_END {
+    if ledger.metadata().version() == MAX_VERSION {
         return Err(Refusal::VersionEnd);
     }
     Ok(())

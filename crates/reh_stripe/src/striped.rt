@@ -1,6 +1,7 @@
 // The entries that an index of an ensemble carries.
 ghost use Rattle.std.specs.Prelude.{◌≡◌, ◌<◌, ◌≤◌};
 ghost use Rattle.std.specs.Iterator.{YieldsFirst, item_count};
+ghost use Rattle.reh_types.specs.declared.limits.TheConstants.{MAX_ENSEMBLE_SIZE};
 ghost use Rattle.reh_model.specs.Striping as stripe;
 
 use std::marker::Model;
@@ -12,7 +13,7 @@ use std::marker::Model;
 pub fn is_striped(entry: u32, index: u32, size: u32, quorum: u32) -> bool
     requires some { 1 ≤ quorum }
     requires within { quorum ≤ size }
-    requires small { size ≤ 16 }
+    requires small { size ≤ MAX_ENSEMBLE_SIZE }
     ensures { result ≡ stripe.is_striped entry index size quorum }
 {
     index < size && rank_of(entry, index, size) < quorum
@@ -21,7 +22,7 @@ pub fn is_striped(entry: u32, index: u32, size: u32, quorum: u32) -> bool
 // The rank at which the index carries the entry, if it is below the write quorum.
 fn rank_of(entry: u32, index: u32, size: u32) -> u32
     requires inside { index < size }
-    requires small { size ≤ 16 }
+    requires small { size ≤ MAX_ENSEMBLE_SIZE }
     ensures { result ≡ stripe.rank_of entry index size }
 {
     (index + size - entry % size) % size
@@ -41,13 +42,14 @@ pub struct Striped {
 
 impl Model for Striped {
     ghost use Rattle.std.specs.Prelude.{List, ℕ, ◌≤◌};
+    ghost use Rattle.reh_types.specs.declared.limits.TheConstants.{MAX_ENSEMBLE_SIZE};
     ghost use Rattle.reh_model.specs.Striping as stripe;
 
     ghost Value = { List ℕ };
 
     ghost view = { λ s. stripe.striped s.at s.stop s.index s.size s.quorum };
 
-    ghost invariant = { λ s. (1 ≤ s.quorum) × (s.quorum ≤ s.size) × (s.size ≤ 16) };
+    ghost invariant = { λ s. (1 ≤ s.quorum) × (s.quorum ≤ s.size) × (s.size ≤ MAX_ENSEMBLE_SIZE) };
 }
 
 impl Striped {
@@ -55,7 +57,7 @@ impl Striped {
     pub fn new(first: u32, stop: u32, index: u32, size: u32, quorum: u32) -> Striped
         requires some { 1 ≤ quorum }
         requires within { quorum ≤ size }
-        requires small { size ≤ 16 }
+        requires small { size ≤ MAX_ENSEMBLE_SIZE }
         ensures { result ≡ stripe.striped first stop index size quorum }
     {
         Striped {

@@ -1,6 +1,7 @@
 // The write set of an entry.
 ghost use Rattle.std.specs.Prelude.{◌≡◌, ◌≤◌};
 ghost use Rattle.std.specs.Iterator.{YieldsFirst, item_count};
+ghost use Rattle.reh_types.specs.declared.limits.TheConstants.{MAX_ENSEMBLE_SIZE};
 ghost use Rattle.reh_model.specs.Striping as stripe;
 
 use std::marker::Model;
@@ -17,13 +18,14 @@ pub struct WriteSet {
 
 impl Model for WriteSet {
     ghost use Rattle.std.specs.Prelude.{List, ℕ, ◌+◌, ◌≤◌, ◌<◌, map};
+    ghost use Rattle.reh_types.specs.declared.limits.TheConstants.{MAX_ENSEMBLE_SIZE};
     ghost use Rattle.reh_model.specs.Striping.{ranked, range};
 
     ghost Value = { List ℕ };
 
     ghost view = { λ w. map (ranked w.start w.size) (range w.rank w.quorum) };
 
-    ghost invariant = { λ w. (w.start < w.size) × (w.quorum ≤ w.size) × (w.size ≤ 16) };
+    ghost invariant = { λ w. (w.start < w.size) × (w.quorum ≤ w.size) × (w.size ≤ MAX_ENSEMBLE_SIZE) };
 }
 
 /// The indexes of an ensemble that carry the entry, as many as the write quorum, in the order of
@@ -34,7 +36,7 @@ impl Model for WriteSet {
 pub fn write_set(entry: u32, size: u32, quorum: u32) -> WriteSet
     requires some { 1 ≤ quorum }
     requires within { quorum ≤ size }
-    requires small { size ≤ 16 }
+    requires small { size ≤ MAX_ENSEMBLE_SIZE }
     ensures { result ≡ stripe.write_set entry size quorum }
 {
     WriteSet {

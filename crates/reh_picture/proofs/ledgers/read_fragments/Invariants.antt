@@ -1,11 +1,12 @@
-use Rattle.std.proofs.Common.{◌<◌, ◌^◌}
+use Rattle.std.proofs.Common.{◌<◌}
 use Rattle.std.specs.Prelude.{All}
 use Rattle.reh_picture.specs.Ledgers.{fragment_fault, fragment_in}
+use Rattle.reh_types.specs.declared.limits.TheConstants.{ENTRY_END}
 use Rattle.reh_picture.proofs.Lists.{HasMade}
 use Rattle.reh_picture.proofs.ledgers.read_fragments.Given as goal
 
 abbrev pub invariant-loop-value : goal.invariant-loop-value
 invariant-loop-value l = record {
   made : HasMade (λ _ fragment. fragment_fault l.names fragment) (fragment_in l.names) l.values l.value-index l.fragments.items;
-  firsts : All (λ f. f.first < 2 ^ 16) l.fragments.items;
+  firsts : All (λ f. f.first < ENTRY_END) l.fragments.items;
 }
