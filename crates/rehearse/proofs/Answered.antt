@@ -4,23 +4,24 @@ use Rattle.std.specs.Prelude.{◌==◌, count_by, Result, Ok, Err, OnOk, IsErrAn
 use Rattle.std.specs.List.{onto_first}
 use Rattle.std.proofs.lemmas.Bool.Decides.{nat_tests}
 use Rattle.std.proofs.lemmas.List.{take_all}
+use Rattle.reh_types.specs.declared.limits.TheConstants.{MAX_SCRIPT_BYTES}
 use Rattle.reh_model.specs.Lines.{lines_of, is_script, ended_lines, answered_lines}
 
-pub is_script-within : (script : List ℕ) → length script ≤ 1_048_576 → is_script script ≡ true
+pub is_script-within : (script : List ℕ) → length script ≤ MAX_SCRIPT_BYTES → is_script script ≡ true
 is_script-within script within = grind (arith, nat_tests)
 
-pub not_script : (script : List ℕ) → 1_048_576 < length script → is_script script ≡ false
+pub not_script : (script : List ℕ) → MAX_SCRIPT_BYTES < length script → is_script script ≡ false
 not_script script long = grind (arith, nat_tests)
 
 -- of a script that is too long
-pub answered_lines-long : (script : List ℕ) → is_script script ≡ false → answered_lines script ≡ ended_lines (take 1_048_576 script)
+pub answered_lines-long : (script : List ℕ) → is_script script ≡ false → answered_lines script ≡ ended_lines (take MAX_SCRIPT_BYTES script)
 unfolding answered_lines
-answered_lines-long script long = ap (λ (t : Bool). cond t (lines_of script) (ended_lines (take 1_048_576 script))) long
+answered_lines-long script long = ap (λ (t : Bool). cond t (lines_of script) (ended_lines (take MAX_SCRIPT_BYTES script))) long
 
 -- of any other
 answered_lines-short : (script : List ℕ) → is_script script ≡ true → answered_lines script ≡ lines_of script
 unfolding answered_lines
-answered_lines-short script short = ap (λ (t : Bool). cond t (lines_of script) (ended_lines (take 1_048_576 script))) short
+answered_lines-short script short = ap (λ (t : Bool). cond t (lines_of script) (ended_lines (take MAX_SCRIPT_BYTES script))) short
 
 length-onto_first : (b : ℕ) (lines : List (List ℕ)) → length (onto_first b lines) ≤ length lines + 1
 length-onto_first b [] = omega arith
@@ -39,11 +40,11 @@ length-lines_of (b ∷ bs) =
     first lines few = omega (arith, length-onto_first b lines)
 
 -- so many lines are all
-pub take-answered_lines : (script : List ℕ) → length script ≤ 1_048_576 → take (length script) (lines_of script) ≡ answered_lines script
+pub take-answered_lines : (script : List ℕ) → length script ≤ MAX_SCRIPT_BYTES → take (length script) (lines_of script) ≡ answered_lines script
 take-answered_lines script within = take_all (length script) (lines_of script) (length-lines_of script) ∙ sym (answered_lines-short script (is_script-within script within))
 
 -- as many lines as there are LF
-pub take-ended_lines : (script front : List ℕ) (count : ℕ) → 1_048_576 < length script → front ≡ take 1_048_576 script → count ≡ count_by (λ b. b == 10) front → take count (lines_of front) ≡ answered_lines script
+pub take-ended_lines : (script front : List ℕ) (count : ℕ) → MAX_SCRIPT_BYTES < length script → front ≡ take MAX_SCRIPT_BYTES script → count ≡ count_by (λ b. b == 10) front → take count (lines_of front) ≡ answered_lines script
 take-ended_lines script front count long is counted =
     ap (λ (n : ℕ). take n (lines_of front)) counted ∙ ap ended_lines is ∙ sym (answered_lines-long script (not_script script long))
 

@@ -2,6 +2,7 @@
 use Rattle.std.proofs.Common.{ℕ, ◌≤◌, List, ◌++◌, length, Option, None, Some, IfSome, sym, ap, ◌∙◌, arith}
 use mathlib.Core.List.{append_assoc}
 use Rattle.std.specs.Io.KnownBytes.{Consumes, IsAtEnd}
+use Rattle.rehearse.specs.declared.pipes.TheConstants.{MAX_INPUT}
 use Rattle.rehearse.specs.Outcomes.{ReadsEnough}
 
 -- bytes are taken twice
@@ -18,7 +19,7 @@ enough_at_end (Some all) None input given end = absurd given
 enough_at_end (Some all) (Some rest) input given end = (rest, given, λ short. end)
 
 -- so many bytes are enough
-pub enough_bytes : (old new : Option (List ℕ)) (input : List ℕ) → Consumes old new input → 9_437_189 ≤ length input → IfSome old (λ all. ReadsEnough input all)
+pub enough_bytes : (old new : Option (List ℕ)) (input : List ℕ) → Consumes old new input → MAX_INPUT ≤ length input → IfSome old (λ all. ReadsEnough input all)
 enough_bytes None new input given long = tt
 enough_bytes (Some all) None input given long = absurd given
 enough_bytes (Some all) (Some rest) input given long = (rest, given, λ short. absurd (omega arith))

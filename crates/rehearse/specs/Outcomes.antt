@@ -6,6 +6,7 @@ use Rattle.reh_model.specs.Lines.{cut_of, is_script, answered_lines}
 use Rattle.reh_model.specs.Transcript.{transcript}
 use Rattle.reh_picture.specs.declared.faults.PictureFault.{PictureFault}
 use Rattle.reh_picture.specs.Pictures.{picture_of}
+use Rattle.rehearse.specs.declared.pipes.TheConstants.{MAX_INPUT}
 use Rattle.rehearse.specs.declared.faults.RunFault.{RunFault}
 use Rattle.rehearse.specs.declared.faults.RunFault.TheVariants.{Picture, TooLong}
 
@@ -25,4 +26,4 @@ outcome_of input = outcome_by (picture_of (cut_of input).picture) (cut_of input)
 
 -- What was read is all that there was, or so many of its first bytes that the others don't matter.
 abbrev pub ReadsEnough : List ℕ → List ℕ → Type 0
-ReadsEnough input all = (rest : List ℕ) × (all ≡ input ++ rest) × (length input < 9_437_189 → rest ≡ [])
+ReadsEnough input all = (rest : List ℕ) × (all ≡ input ++ rest) × (length input < MAX_INPUT → rest ≡ [])

@@ -13,10 +13,11 @@ use crate::plays::play;
 use crate::streams::{StreamFault, TextIn, TextOut};
 use reh_picture::read_picture;
 use reh_session::Session;
+use reh_types::{MAX_PICTURE_BYTES, MAX_SCRIPT_BYTES};
 use std::alloc::Global;
 
-/// So many bytes are enough to know a picture or a script that is too long: a picture of 8,388,608 bytes, LF, `%`, CR, LF, and a script of one byte more than there can be.
-const MAX_INPUT: usize = 9_437_189;
+/// So many bytes are enough to know a picture or a script that is too long: a picture of the most bytes, LF, `%`, CR, LF, and a script of one byte more than there can be.
+const MAX_INPUT: usize = MAX_PICTURE_BYTES + 4 + MAX_SCRIPT_BYTES + 1;
 
 /// Reads a picture, a line `%` and a script, and writes the transcript: a reply for each line of the script.
 ///

@@ -13,11 +13,8 @@ use crate::scripts::parse_line;
 use crate::streams::{StreamFault, TextOut};
 use crate::texts::report_text;
 use reh_session::Session;
-use reh_types::{Command, LineFault, Refusal, Reply};
+use reh_types::{Command, LineFault, MAX_SCRIPT_BYTES, Refusal, Reply};
 use std::alloc::{AllocError, Global};
-
-/// The bytes of a script that are played: its first 1,048,576.
-const MAX_SCRIPT: usize = 1_048_576;
 
 /// Why the lines of a script are not all answered.
 #[derive(Clone, Copy, PartialEq, Eq, Debug)]
@@ -66,10 +63,10 @@ pub fn play<W: TextOut>(
     ensures after_too_long { result ≡ Err PlayFault.TooLong → session.new ≡ after_lines session.old (answered_lines script.now) }
     ensures leads { LeadsTo session.old (answered_lines script.now) session.new }
 {
-    if script.len() <= MAX_SCRIPT {
+    if script.len() <= MAX_SCRIPT_BYTES {
         return answer_lines(alloc, session, script, script.len(), writer);
     }
-    let script = front(script, MAX_SCRIPT);
+    let script = front(script, MAX_SCRIPT_BYTES);
     answer_lines(alloc, session, script, count_lf(script), writer)?;
     Err(PlayFault::TooLong)
 }

@@ -1,5 +1,6 @@
 // What is printed of a state.
 ghost use Rattle.std.specs.Prelude.{◌≡◌, ◌<◌, ◌++◌, IfOk, OnOk, string_bytes, slice_get};
+ghost use Rattle.reh_types.specs.declared.limits.TheConstants.{MAX_BOOKIES};
 ghost use Rattle.reh_model.specs.Texts.{report_of};
 ghost use Rattle.rehearse.specs.Reports.{line_at};
 
@@ -22,7 +23,7 @@ pub fn report_text(alloc: Global, state: &State) -> Result<String, AllocError>
 
 /// Adds the line of the i-th bookie, if there is one.
 fn push_bookie(text: &mut String, state: &State, i: usize) -> Result<(), AllocError>
-    requires { i < 64 }
+    requires { i < MAX_BOOKIES }
     ensures { OnOk result (string_bytes text.new ≡ string_bytes text.old ++ line_at state.now i (slice_get state.now.names i)) }
 {
     let bookie = BookieIx(i as u8);

@@ -1,5 +1,6 @@
 use Rattle.std.proofs.Common.{◌≡◌, ◌-◌, false, vec_len}
 use Rattle.std.specs.Io.KnownBytes.{Consumes}
+use Rattle.rehearse.specs.declared.pipes.TheConstants.{MAX_INPUT}
 use Rattle.rehearse.proofs.pipes.read_all.Given as goal
 
 -- the input so far is what the reader gave, and no call has failed
@@ -10,4 +11,4 @@ invariant-loop-alloc g l = record {
 }
 
 abbrev pub decreases-loop-alloc : goal.decreases-loop-alloc
-decreases-loop-alloc g l = 9_437_189 - vec_len l.input
+decreases-loop-alloc g l = MAX_INPUT - vec_len l.input
