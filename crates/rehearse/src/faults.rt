@@ -70,8 +70,8 @@ impl From<AllocError> for RunFault {
 /// A call on standard input or output that failed, or want of memory for its buffer.
 impl From<io::Error> for RunFault {
     ghost use Rattle.std.specs.Prelude.{◌≡◌, ◌≢◌};
-    ghost use Rattle.std_io.specs.IoError.{error_kind};
-    ghost use Rattle.std_io.specs.declared.io.kind.ErrorKind.TheVariants.{OutOfMemory};
+    ghost use Rattle.std.specs.IoError.{error_kind};
+    ghost use Rattle.std.specs.declared.io.ErrorKind.TheVariants.{OutOfMemory};
     ghost use Rattle.rehearse.specs.declared.faults.RunFault.TheVariants.{NoMemory, WriteFault};
 
     ghost from_gives = { λ error fault. (error_kind error ≡ OutOfMemory → fault ≡ NoMemory)
