@@ -191,7 +191,24 @@ impl<T: Drop> From<AllocFailed<T>> for PictureFault {
 
     ghost from_gives = { λ _ fault. fault ≡ NoMemory };
 
-    fn from(_want: AllocFailed<T>) -> PictureFault {
-        PictureFault::NoMemory
+    fn from(want: AllocFailed<T>) -> PictureFault {
+        PictureFault::from(AllocError::from(want))
+    }
+}
+
+/// A text that isn't JSON, or want of memory to read it.
+impl From<serde_json::Error> for PictureFault {
+    ghost use Rattle.std.specs.Prelude.{◌≡◌};
+    ghost use Rattle.serde_json.specs.Errors.{IsMemory};
+    ghost use Rattle.reh_picture.specs.declared.faults.PictureFault.TheVariants.{NoMemory, NotJson};
+
+    ghost from_gives = { λ error fault. (IsMemory error → fault ≡ NoMemory) × (¬ IsMemory error → fault ≡ NotJson) };
+
+    fn from(error: serde_json::Error) -> PictureFault {
+        if error.is_memory() {
+            PictureFault::NoMemory
+        } else {
+            PictureFault::NotJson
+        }
     }
 }

@@ -43,16 +43,7 @@ fn parse_json(alloc: Global, bytes: &[u8]) -> Result<Value, PictureFault>
     ensures ok { IfOk result (λ v. json_of bytes.now ≡ Some (view v)) }
     ensures err { IfErr result (λ fault. fault ≢ PictureFault.NoMemory → (fault ≡ PictureFault.NotJson) × (json_of bytes.now ≡ None)) }
 {
-    match Value::from_slice(alloc, bytes) {
-        Ok(value) => Ok(value),
-        Err(e) => {
-            if e.is_memory() {
-                Err(PictureFault::NoMemory)
-            } else {
-                Err(PictureFault::NotJson)
-            }
-        }
-    }
+    Ok(Value::from_slice(alloc, bytes)?)
 }
 
 /// The state that a picture's fields name.

@@ -104,9 +104,7 @@ impl Session {
             return Err(Refusal::NothingToUndo);
         }
         let before = &self.events[..self.cursor - 1];
-        let Ok(restored) = replay(&self.opening, before) else {
-            return Err(Refusal::NoMemory);
-        };
+        let restored = replay(&self.opening, before)?;
         self.state = restored;
         self.cursor -= 1;
         Ok(())

@@ -7,6 +7,8 @@ use reh_picture::PictureFault;
 use std::alloc::AllocError;
 use std::error::Error;
 use std::fmt;
+use std::io;
+use std::io::ErrorKind;
 
 /// Why a run ends early. Its text is what standard error shows.
 #[derive(Debug, Drop)]
@@ -62,6 +64,24 @@ impl From<AllocError> for RunFault {
 
     fn from(_want: AllocError) -> RunFault {
         RunFault::NoMemory
+    }
+}
+
+/// A call on standard input or output that failed, or want of memory for its buffer.
+impl From<io::Error> for RunFault {
+    ghost use Rattle.std.specs.Prelude.{◌≡◌, ◌≢◌};
+    ghost use Rattle.std.specs.IoError.{error_kind};
+    ghost use Rattle.std.specs.declared.io.ErrorKind.TheVariants.{OutOfMemory};
+    ghost use Rattle.rehearse.specs.declared.faults.RunFault.TheVariants.{NoMemory, WriteFault};
+
+    ghost from_gives = { λ error fault. (error_kind error ≡ OutOfMemory → fault ≡ NoMemory)
+        × (error_kind error ≢ OutOfMemory → fault ≡ WriteFault) };
+
+    fn from(error: io::Error) -> RunFault {
+        match error.kind() {
+            ErrorKind::OutOfMemory => RunFault::NoMemory,
+            _ => RunFault::WriteFault,
+        }
     }
 }
 

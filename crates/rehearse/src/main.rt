@@ -31,7 +31,7 @@ fn main(rt: HostRuntime) -> ExitCode {
 /// Plays standard input to standard output. What was answered before a fault is written too.
 fn run(rt: &HostRuntime) -> Result<(), RunFault> {
     let mut reader = FromRead::new(rt.reader());
-    let buffer = BufWriter::new(rt.alloc(), io::writer(rt)).map_err(|_| RunFault::NoMemory)?;
+    let buffer = BufWriter::new(rt.alloc(), io::writer(rt))?;
     let mut writer = ToWrite::new(buffer);
     let played = pipe(rt.alloc(), &mut reader, &mut writer);
     let flushed = writer.flush();

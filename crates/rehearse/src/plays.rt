@@ -118,11 +118,10 @@ fn answer(
 {
     match command(session, line) {
         Ok(Command::Make(step)) => {
-            let reply = session.perform(&step);
-            if reply == Reply::Refused(Refusal::NoMemory) {
-                return Err(PlayFault::NoMemory);
+            match session.perform(&step) {
+                Reply::Refused(Refusal::NoMemory) => Err(PlayFault::NoMemory),
+                reply => Ok(format!(in alloc; "line {number}: {reply}\n")?),
             }
-            Ok(format!(in alloc; "line {number}: {reply}\n")?)
         }
         Ok(Command::Report) => {
             let report = report(alloc, session)?;

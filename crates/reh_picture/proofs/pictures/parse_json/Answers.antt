@@ -1,9 +1,14 @@
-use Rattle.std.proofs.Common.{true≢false, sym, ◌∙◌, refl}
+use Rattle.std.proofs.lemmas.Result.{err_from_is_err_and}
+use Rattle.serde_json.specs.Errors.{IsMemory}
 use Rattle.reh_picture.proofs.Jsons.{json_some, json_none}
 use Rattle.reh_picture.proofs.pictures.parse_json.Goals as goal
 
-pub returns-in-Ok-clause-ok : goal.returns-in-Ok-clause-ok
-returns-in-Ok-clause-ok c = json_some _ _ c.in-Ok.ensures.ok.0 c.in-Ok.ensures.ok.1
+pub returns-in_err-from_slice-clause-err : goal.returns-in_err-from_slice-clause-err
+returns-in_err-from_slice-clause-err c =
+    let known = err_from_is_err_and c.from_residual.result c.from_residual.ensures.1 in
+    rw known.1 (λ named.
+    let other : ¬ IsMemory c.in_err-from_slice.field-0.0 = λ memory. named (known.2.0 memory) in
+    (known.2.1 other, json_none c.args.bytes.now (c.in_err-from_slice.ensures.err other)))
 
-pub returns-else-is_memory-clause-err : goal.returns-else-is_memory-clause-err
-returns-else-is_memory-clause-err c = λ _. (refl, json_none c.args.bytes.now (c.in-Err.ensures.err (λ memory. true≢false (sym (c.is_memory.ensures.1 memory) ∙ c.if-is_memory.false))))
+pub returns-clause-ok : goal.returns-clause-ok
+returns-clause-ok c = json_some _ _ c.in_ok-from_slice.ensures.ok.0 c.in_ok-from_slice.ensures.ok.1
