@@ -8,6 +8,6 @@ use Rattle.reh_cluster.specs.Members.{HasBookies}
 -- the ledger that is found
 pub HasBookies-found : (s : Cluster) (l : ℕ) (g : Ledger) → IsWellFormed s → ledger_at s l ≡ Some g → HasBookies g
 HasBookies-found s l g is found = λ f fragment f_in k b k_in.
-    let few = is.bookies in
+    let few = is.names.few in
     let named = (IsLedger-found s l g is found).members f fragment f_in k b k_in in
     omega arith

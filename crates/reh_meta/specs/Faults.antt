@@ -1,9 +1,9 @@
 -- The first rule that would-be metadata breaks.
-use Rattle.std.specs.Prelude.{ℕ, Bool, if◌then◌else◌, List, [], ◌∷◌, Option, None, Some}
+use Rattle.std.specs.Prelude.{ℕ, List, [], ◌∷◌, Option, None, Some}
 use Rattle.std.specs.List.{list_all}
-use Rattle.std.specs.Option.{option_or}
 use Rattle.reh_types.specs.declared.names.LedgerState.{LedgerState}
 use Rattle.reh_model.specs.Metadata.{Fragment, Metadata, are_quorums, rise_from_zero, is_ensemble, ends_within}
+use Rattle.reh_model.specs.Checks.{reason_unless, first_reason}
 use Rattle.reh_meta.specs.declared.faults.MetaFault.{MetaFault}
 use Rattle.reh_meta.specs.declared.faults.MetaFault.TheVariants.{BadQuorum, BadFragment, BadEnsemble, BadLast, NoMemory}
 use Rattle.reh_meta.specs.declared.ledgers.Sizes.{Sizes}
@@ -19,22 +19,13 @@ metadata_of sizes state version fragments = record {
   fragments = fragments;
 }
 
--- the fault, unless the rule is kept
-abbrev pub fault_unless : Bool → MetaFault → Option MetaFault
-fault_unless kept fault = if kept then None else Some fault
-
--- the first check that gives a fault
-abbrev pub first_fault : List (Option MetaFault) → Option MetaFault
-first_fault [] = None
-first_fault (check ∷ checks) = option_or check (first_fault checks)
-
 -- the first rule that is broken, if there is one
 abbrev pub fault_of : Metadata → Option MetaFault
-fault_of m = first_fault (
-    fault_unless (are_quorums m.size m.write_quorum m.ack_quorum) BadQuorum
-    ∷ fault_unless (rise_from_zero m.fragments) BadFragment
-    ∷ fault_unless (list_all (λ fragment. is_ensemble m.size fragment.ensemble) m.fragments) BadEnsemble
-    ∷ fault_unless (ends_within m.state m.fragments) BadLast
+fault_of m = first_reason (
+    reason_unless (are_quorums m.size m.write_quorum m.ack_quorum) BadQuorum
+    ∷ reason_unless (rise_from_zero m.fragments) BadFragment
+    ∷ reason_unless (list_all (λ fragment. is_ensemble m.size fragment.ensemble) m.fragments) BadEnsemble
+    ∷ reason_unless (ends_within m.state m.fragments) BadLast
     ∷ [])
 
 -- the broken rule that a fault tells of; want of memory tells of none

@@ -1,10 +1,10 @@
--- What an accepted event shows, and a reply that tells of one: this file alone takes lists of checks apart.
+-- What an accepted event shows, and what the replies of a session tell of its event: this file alone takes the checks of events apart.
 use Rattle.std.proofs.Common.{◌≡◌, ℕ, Bool, true, false, not, ◌&&◌, ◌||◌, ◌+◌, ◌<◌, ◌≤◌, List, [], ◌∷◌, ◌++◌, length, Option, None, Some, IsSome, refl, sym, ap, ◌∙◌, subst, arith, cond, nat_lt, nat_le}
 use Rattle.std.specs.Prelude.{◌==◌, is_none, All, slice_get}
 use Rattle.std.specs.List.{find, list_any}
 use Rattle.std.specs.Option.{ForSome, option_map, option_map_or, option_and_then}
 use Rattle.std.proofs.lemmas.Bool.Decides.{nat_tests}
-use Rattle.std.proofs.lemmas.List.Elements.{All-nil, All-cons, All-weaker}
+use Rattle.std.proofs.lemmas.List.Elements.{All-weaker}
 use Rattle.std.proofs.lemmas.Option.{slice_get_within}
 use Rattle.reh_types.specs.declared.limits.TheConstants.{CLOCK_END, MAX_EVENTS, MAX_VERSION}
 use Rattle.reh_types.specs.declared.moves.Event.{Event}
@@ -23,51 +23,26 @@ use Rattle.reh_model.specs.Refusals.{with_ledger, at_ledger, with_fragment, no_b
 use Rattle.reh_model.specs.Step.{refusal_of, place_checks, copy_checks, swap_checks}
 use Rattle.reh_model.specs.Session.{Session, state_of, done_unless, full, reply_to}
 use Rattle.reh_model.specs.Swaps.{HoldsStripe}
+use Rattle.reh_model.proofs.CheckLaws.{reason_if-none, find-none, check-none, first_reason-only, first_reason-found, first_reason-passed}
 use Rattle.reh_model.proofs.LedgerLaws.{id_found, stop_at-found, striped_at-found}
 
--- Lists of checks
+-- The checks of a ledger and of a fragment
 
--- a check in the midst of a list that gives none
-check-none : (before : List (Option Refusal)) (check : Option Refusal) (later : List (Option Refusal)) → first_reason (before ++ check ∷ later) ≡ None → check ≡ None
-check-none [] None later none = refl
-check-none [] (Some refusal) later none = cc
-check-none (None ∷ before) check later none = check-none before check later none
-check-none (Some refusal ∷ before) check later none = cc
-
--- more checks come behind those that give a reason,
-first_reason-append : (checks more : List (Option Refusal)) (refusal : Refusal) → first_reason checks ≡ Some refusal → first_reason (checks ++ more) ≡ Some refusal
-first_reason-append [] more refusal is = cc
-first_reason-append (None ∷ checks) more refusal is = first_reason-append checks more refusal is
-first_reason-append (Some other ∷ checks) more refusal is = is
-
--- also where they are those of a ledger that a worker names,
+-- behind the checks of a ledger that give a reason, more do not count,
 pub refused_before : (s : Cluster) (w l : ℕ) (checks more : Ledger → List (Option Refusal)) (refusal : Refusal) → first_reason (no_bookie s w ∷ at_ledger s l checks ∷ []) ≡ Some refusal
     → first_reason (no_bookie s w ∷ at_ledger s l (λ g. checks g ++ more g) ∷ []) ≡ Some refusal
 refused_before s w l checks more refusal = behind (no_bookie s w) (ledger_at s l) where
-  last : (o : Option Refusal) → first_reason (o ∷ []) ≡ o
-  last None = refl
-  last (Some r) = refl
-
   behind : (check : Option Refusal) (o : Option Ledger) → first_reason (check ∷ with_ledger o checks ∷ []) ≡ Some refusal → first_reason (check ∷ with_ledger o (λ g. checks g ++ more g) ∷ []) ≡ Some refusal
   behind (Some r) o is = is
   behind None None is = is
-  behind None (Some g) is = last (first_reason (checks g ++ more g)) ∙ first_reason-append (checks g) (more g) refusal (sym (last (first_reason (checks g))) ∙ is)
+  behind None (Some g) is = first_reason-only (first_reason (checks g ++ more g)) ∙ first_reason-found (checks g) (more g) refusal (sym (first_reason-only (first_reason (checks g))) ∙ is)
 
--- and count where those give none
+-- and they alone count where those give none
 pub passed_before : (s : Cluster) (w l : ℕ) (g : Ledger) (checks more : Ledger → List (Option Refusal)) → no_bookie s w ≡ None → ledger_at s l ≡ Some g → first_reason (checks g) ≡ None
     → first_reason (no_bookie s w ∷ at_ledger s l (λ g. checks g ++ more g) ∷ []) ≡ first_reason (more g)
 passed_before s w l g checks more named found none =
     (λ i. first_reason (named i ∷ with_ledger (found i) (λ g. checks g ++ more g) ∷ []))
-    ∙ last (first_reason (checks g ++ more g)) ∙ behind (checks g) none
-  where
-  last : (o : Option Refusal) → first_reason (o ∷ []) ≡ o
-  last None = refl
-  last (Some r) = refl
-
-  behind : (before : List (Option Refusal)) → first_reason before ≡ None → first_reason (before ++ more g) ≡ first_reason (more g)
-  behind [] none = refl
-  behind (None ∷ before) none = behind before none
-  behind (Some r ∷ before) none = cc
+    ∙ first_reason-only (first_reason (checks g ++ more g)) ∙ first_reason-passed (checks g) (more g) none
 
 -- the checks of the ledger that is there
 at_ledger-none : (s : Cluster) (l : ℕ) (checks : Ledger → List (Option Refusal)) (g : Ledger) → ledger_at s l ≡ Some g → at_ledger s l checks ≡ None → first_reason (checks g) ≡ None
@@ -94,19 +69,6 @@ with_fragment-none None checks none = cc
 with_fragment-none (Some fragment) checks none = record { fragment = fragment; is = refl; passes = none }
 
 -- Single checks
-
-reason_if-none : (condition : Bool) (refusal : Refusal) → reason_if condition refusal ≡ None → condition ≡ false
-reason_if-none true refusal none = cc
-reason_if-none false refusal none = refl
-
--- where nothing is found to refuse, no element of the list passes the test
-find-none : {X : Type 0} (p : X → Bool) (refusal : X → Refusal) (xs : List X) → option_map refusal (find p xs) ≡ None → All (λ x. p x ≡ false) xs
-find-none p refusal [] none = All-nil (λ x. p x ≡ false)
-find-none p refusal (x ∷ xs) none =
-    elim (p x) as (λ b. p x ≡ b → option_map refusal (cond b (Some x) (find p xs)) ≡ None → All (λ x. p x ≡ false) (x ∷ xs)) [
-      | true ↦ λ _ none. cc
-      | false ↦ λ fails none. All-cons (λ x. p x ≡ false) x xs fails (find-none p refusal xs none)
-    ] refl none
 
 -- the bookie is in the picture
 no_bookie-none : (s : Cluster) (b : ℕ) → no_bookie s b ≡ None → b < length s.names

@@ -1,5 +1,5 @@
 -- What an audit publishes: bookies of the cluster, and at least one.
-use Rattle.std.proofs.Common.{◌≡◌, ℕ, ◌<◌, Bool, true, false, not, ◌||◌, List, [], ◌∷◌, None, Some, refl, sym, ◌∙◌, true≢false, arith, length, subst}
+use Rattle.std.proofs.Common.{◌+◌, ◌≡◌, ℕ, ◌<◌, Bool, true, false, not, ◌||◌, List, [], ◌∷◌, None, Some, refl, sym, ◌∙◌, true≢false, arith, length, subst}
 use Rattle.std.specs.Prelude.{unwrap_or}
 use Rattle.std.specs.List.{All, filter, flat_map, list_any}
 use Rattle.std.specs.Ordering.{nat_cmp, eq_by_cmp}
@@ -27,14 +27,14 @@ All-flat_map P f [] all = All-nil P
 All-flat_map P f (x ∷ xs) all = All-append P (f x) (flat_map f xs) (All-head (λ x. All P (f x)) x xs all) (All-flat_map P f xs (All-tail (λ x. All P (f x)) x xs all))
 
 -- a missing member is a bookie of the cluster
-missing_named : (s : Cluster) (g : Ledger) → IsLedger s g → (b : ℕ) → contains (missing s.up g) b ≡ true → b < length s.names
+missing_named : (s : Cluster) (g : Ledger) → IsLedger (length s.names) (s.clock + s.grace) g → (b : ℕ) → contains (missing s.up g) b ≡ true → b < length s.names
 missing_named s g was b one =
     All-found (λ b. b < length s.names) (filter (λ b. not (contains s.up b)) (members_of g.metadata))
     (All-filter (λ b. not (contains s.up b)) (λ b. b < length s.names) (members_of g.metadata) (All-flat_map (λ b. b < length s.names) (λ (fragment : Fragment). fragment.ensemble) g.metadata.fragments was.members))
     b (sym (contains-from_list numbers (filter (λ b. not (contains s.up b)) (members_of g.metadata)) b) ∙ one)
 
 -- so is one that the task names
-task_named : (s : Cluster) (g : Ledger) → IsLedger s g → (b : ℕ) → contains (task_set g) b ≡ true → b < length s.names
+task_named : (s : Cluster) (g : Ledger) → IsLedger (length s.names) (s.clock + s.grace) g → (b : ℕ) → contains (task_set g) b ≡ true → b < length s.names
 task_named s g was b =
     elim g.task as (λ o. g.task ≡ o → contains (unwrap_or o empty) b ≡ true → b < length s.names) [
       | None ↦ λ _ one. absurd (true≢false (sym one ∙ contains-empty numbers b))
@@ -42,7 +42,7 @@ task_named s g was b =
     ] refl
 
 -- what is published names bookies of the cluster
-pub published_named : (s : Cluster) (g : Ledger) → IsLedger s g → All (λ b. b < length s.names) (items (published s.up g))
+pub published_named : (s : Cluster) (g : Ledger) → IsLedger (length s.names) (s.clock + s.grace) g → All (λ b. b < length s.names) (items (published s.up g))
 published_named s g was = All-items (λ b. b < length s.names) (published s.up g) (λ b one.
     either (contains (task_set g) b) (contains (missing s.up g) b) (b < length s.names) (task_named s g was b) (missing_named s g was b)
     (sym (contains-union (task_set g) (missing s.up g) b) ∙ one))

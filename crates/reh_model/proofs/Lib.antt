@@ -12,6 +12,7 @@ pub mod Examples
 pub mod TaskExamples
 pub mod CopyExamples
 pub mod PlaceExamples
+pub mod CheckLaws
 pub mod AcceptedLaws
 pub mod WellFormedLaws
 pub mod SwapLaws

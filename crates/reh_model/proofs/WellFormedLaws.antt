@@ -28,73 +28,63 @@ use Rattle.reh_model.proofs.AcceptedLaws.{IsSwappable, accepted_join, accepted_a
 
 -- Changes
 
--- a ledger in a cluster with as many bookies, whose clock is no earlier
-IsLedger-later : (s t : Cluster) (g : Ledger) → length s.names ≤ length t.names → s.clock + s.grace ≤ t.clock + t.grace → IsLedger s g → IsLedger t g
-IsLedger-later s t g named later was = record {
-  id = was.id;
-  metadata = was.metadata;
-  members = λ f fragment f_in. λ k b k_in. let known = was.members f fragment f_in k b k_in in omega arith;
-  task = λ task is. let kept = was.task task is in (kept.0, λ k b k_in. let known = kept.1 k b k_in in omega arith);
-  lock = λ lock is. let kept = was.lock lock is in (omega (arith, kept.0), kept.1);
-  due = λ due is. let kept = was.due due is in (omega (arith, kept.0), kept.1);
-}
+-- a ledger of the cluster
+abbrev pub IsLedgerOf : Cluster → Ledger → Type 0
+IsLedgerOf s g = IsLedger (length s.names) (s.clock + s.grace) g
 
 -- other bookies are registered
 pub IsWellFormed-up : (s : Cluster) (up : Set numbers) → IsWellFormed s → ((b : ℕ) → contains up b ≡ true → b < length s.names) → IsWellFormed (record s { up = up })
-IsWellFormed-up s up was named = record {
-  some_bookie = was.some_bookie;
-  bookies = was.bookies;
-  names = was.names;
-  grace = was.grace;
-  clock = was.clock;
-  up = named;
-  ledgers = was.ledgers;
-  different = was.different;
-  each = λ k g k_in. IsLedger-later s (record s { up = up }) _ (omega arith) (omega arith) (was.each k g k_in);
-  held = was.held;
-  words = was.words;
+IsWellFormed-up s up was named = record { names = was.names; grace = was.grace; clock = was.clock; up = named; ledgers = was.ledgers; contents = was.contents }
+
+-- later due ticks can stand
+IsLedger-later : (bookies latest later : ℕ) (g : Ledger) → latest ≤ later → IsLedger bookies latest g → IsLedger bookies later g
+IsLedger-later bookies latest later g goes_on was = record {
+  id = was.id;
+  metadata = was.metadata;
+  members = was.members;
+  task = was.task;
+  lock = was.lock;
+  due = λ due is. let kept = was.due due is in (omega (arith, kept.0), kept.1);
 }
 
 -- the clock goes on
 pub IsWellFormed-clock : (s : Cluster) (clock : ℕ) → IsWellFormed s → s.clock ≤ clock → clock ≤ CLOCK_END → IsWellFormed (record s { clock = clock })
 IsWellFormed-clock s clock was later in_time = record {
-  some_bookie = was.some_bookie;
-  bookies = was.bookies;
   names = was.names;
   grace = was.grace;
   clock = in_time;
   up = was.up;
-  ledgers = was.ledgers;
-  different = was.different;
-  each = λ k g k_in. IsLedger-later s (record s { clock = clock }) _ (omega arith) (omega arith) (was.each k g k_in);
-  held = was.held;
-  words = was.words;
+  ledgers = record {
+    few = was.ledgers.few;
+    different = was.ledgers.different;
+    each = λ k g k_in. IsLedger-later (length s.names) (s.clock + s.grace) (clock + s.grace) _ (omega arith) (was.ledgers.each k g k_in);
+  };
+  contents = was.contents;
 }
 
 -- ledgers are changed, and keep their ids
-IsWellFormed-ledgers : (s : Cluster) (change : Ledger → Ledger) → IsWellFormed s → KeepsId change → ((g : Ledger) → ledger_at s g.id ≡ Some g → IsLedger s g → IsLedger s (change g)) → IsWellFormed (record s { ledgers = map change s.ledgers })
-IsWellFormed-ledgers s change was keeps each =
-    let t : Cluster = record s { ledgers = map change s.ledgers } in
-    record {
-      some_bookie = was.some_bookie;
-      bookies = was.bookies;
-      names = was.names;
-      grace = was.grace;
-      clock = was.clock;
-      up = was.up;
-      ledgers = omega (arith, length-map s.ledgers change, was.ledgers);
-      different = subst (λ (ids : List ℕ). IsDistinct nat_eq ids) (sym (ids-map change keeps s.ledgers)) was.different;
-      each = All-map (IsLedger t) change s.ledgers (λ k d within.
-          IsLedger-later s t (change (get_or s.ledgers k d)) (omega arith) (omega arith)
-          (each (get_or s.ledgers k d) (found_itself s.ledgers was.different k d within) (was.each k d within)));
-      held = All-weaker (IsCopy s) (IsCopy t) (λ copy is. (is.0, is_found-map copy.1 change keeps s.ledgers ∙ is.1, is.2)) (items s.held) was.held;
-      words = subst (λ (n : ℕ). length s.names * n ≤ MAX_WORDS) (sym (sum_by-map (words_of s.held) change keeps s.ledgers)) was.words;
-    }
+IsWellFormed-ledgers : (s : Cluster) (change : Ledger → Ledger) → IsWellFormed s → KeepsId change → ((g : Ledger) → ledger_at s g.id ≡ Some g → IsLedgerOf s g → IsLedgerOf s (change g)) → IsWellFormed (record s { ledgers = map change s.ledgers })
+IsWellFormed-ledgers s change was keeps each = record {
+  names = was.names;
+  grace = was.grace;
+  clock = was.clock;
+  up = was.up;
+  ledgers = record {
+    few = omega (arith, length-map s.ledgers change, was.ledgers.few);
+    different = subst (λ (ids : List ℕ). IsDistinct nat_eq ids) (sym (ids-map change keeps s.ledgers)) was.ledgers.different;
+    each = All-map (IsLedgerOf s) change s.ledgers (λ k d within.
+        each (get_or s.ledgers k d) (found_itself s.ledgers was.ledgers.different k d within) (was.ledgers.each k d within));
+  };
+  contents = record {
+    copies = All-weaker (IsCopy (length s.names) s.ledgers) (IsCopy (length s.names) (map change s.ledgers)) (λ copy is. (is.0, is_found-map copy.1 change keeps s.ledgers ∙ is.1, is.2)) (items s.held) was.contents.copies;
+    words = subst (λ (n : ℕ). length s.names * n ≤ MAX_WORDS) (sym (sum_by-map (words_of s.held) change keeps s.ledgers)) was.contents.words;
+  };
+}
 
 -- one ledger is changed
-IsWellFormed-change_ledger : (s : Cluster) (l : ℕ) (change : Ledger → Ledger) → IsWellFormed s → KeepsId change → ((g : Ledger) → ledger_at s l ≡ Some g → IsLedger s g → IsLedger s (change g)) → IsWellFormed (change_ledger s l change)
+IsWellFormed-change_ledger : (s : Cluster) (l : ℕ) (change : Ledger → Ledger) → IsWellFormed s → KeepsId change → ((g : Ledger) → ledger_at s l ≡ Some g → IsLedgerOf s g → IsLedgerOf s (change g)) → IsWellFormed (change_ledger s l change)
 IsWellFormed-change_ledger s l change was keeps each = IsWellFormed-ledgers s (changed l change) was (KeepsId-changed l change keeps) (λ g found is.
-    elim (g.id == l) as (λ b. (g.id == l) ≡ b → IsLedger s (if b then change g else g)) [
+    elim (g.id == l) as (λ b. (g.id == l) ≡ b → IsLedgerOf s (if b then change g else g)) [
       | true ↦ λ hit. let same : g.id ≡ l = grind (arith, nat_tests) in each g (ap (λ (k : ℕ). ledger_at s k) (sym same) ∙ found) is
       | false ↦ λ _. is
     ] refl)
@@ -107,24 +97,22 @@ either false b P first second is = second is
 -- a bookie takes one more copy of an entry that is held
 pub IsWellFormed-copied : (s : Cluster) (w l e : ℕ) → IsWellFormed s → w < length s.names → IsHeld s.held l e → IsWellFormed (record s { held = insert s.held (w, l, e) })
 IsWellFormed-copied s w l e was named some =
-    let t : Cluster = record s { held = insert s.held (w, l, e) } in
-    let known : IsCopy s (some.0, l, e) = All-copy (IsCopy s) s.held was.held (some.0, l, e) some.1 in
+    let can_be : ℕ × ℕ × ℕ → Type 0 = IsCopy (length s.names) s.ledgers in
+    let known : can_be (some.0, l, e) = All-copy can_be s.held was.contents.copies (some.0, l, e) some.1 in
     record {
-      some_bookie = was.some_bookie;
-      bookies = was.bookies;
       names = was.names;
       grace = was.grace;
       clock = was.clock;
       up = was.up;
       ledgers = was.ledgers;
-      different = was.different;
-      each = λ k g k_in. IsLedger-later s t _ (omega arith) (omega arith) (was.each k g k_in);
-      held = All-items (IsCopy t) t.held (λ q one.
-          either (eq_by_cmp triple_cmp q (w, l, e)) (contains s.held q) (IsCopy t q)
-          (λ tied. subst (IsCopy t) (sym (triple_exact q (w, l, e) ((Equal-is (triple_cmp q (w, l, e))).0 tied))) (named, known.1, known.2))
-          (All-copy (IsCopy s) s.held was.held q)
-          (sym (contains-insert s.held (w, l, e) q) ∙ one));
-      words = subst (λ (n : ℕ). length s.names * n ≤ MAX_WORDS) (λ i. sum_by (λ g. option_map_or (λ greatest. greatest / ENTRIES_IN_WORD + 1) (sym (greatest_held-copied s.held w l e g.id some) i) 0) s.ledgers) was.words;
+      contents = record {
+        copies = All-items can_be (insert s.held (w, l, e)) (λ q one.
+            either (eq_by_cmp triple_cmp q (w, l, e)) (contains s.held q) (can_be q)
+            (λ tied. subst can_be (sym (triple_exact q (w, l, e) ((Equal-is (triple_cmp q (w, l, e))).0 tied))) (named, known.1, known.2))
+            (All-copy can_be s.held was.contents.copies q)
+            (sym (contains-insert s.held (w, l, e) q) ∙ one));
+        words = subst (λ (n : ℕ). length s.names * n ≤ MAX_WORDS) (λ i. sum_by (λ g. option_map_or (λ greatest. greatest / ENTRIES_IN_WORD + 1) (sym (greatest_held-copied s.held w l e g.id some) i) 0) s.ledgers) was.contents.words;
+      };
     }
 
 -- and of each of some entries
@@ -137,7 +125,7 @@ IsWellFormed-copied_all s w l (e ∷ es) was named held =
     (All-weaker (λ e. IsHeld s.held l e) (λ e. IsHeld t.held l e) (λ x is. IsHeld-insert s.held w l e l x is) es (All-tail (λ e. IsHeld s.held l e) e es held)))
 
 -- a ledger of the cluster without its lock
-IsLedger-unlocked : (s : Cluster) (g : Ledger) → IsLedger s g → IsLedger s (unlocked g)
+IsLedger-unlocked : (s : Cluster) (g : Ledger) → IsLedgerOf s g → IsLedgerOf s (unlocked g)
 IsLedger-unlocked s g was = record {
   id = was.id;
   metadata = was.metadata;
@@ -151,11 +139,11 @@ IsLedger-unlocked s g was = record {
 pub KeepsId-expired : (w : ℕ) → KeepsId (expired w)
 KeepsId-expired w g = elim (is_locked_by w g) as (λ b. (if b then unlocked g else g).id ≡ g.id) [ true ↦ refl | false ↦ refl ]
 
-IsLedger-expired : (s : Cluster) (w : ℕ) (g : Ledger) → IsLedger s g → IsLedger s (expired w g)
-IsLedger-expired s w g was = elim (is_locked_by w g) as (λ b. IsLedger s (if b then unlocked g else g)) [ true ↦ IsLedger-unlocked s g was | false ↦ was ]
+IsLedger-expired : (s : Cluster) (w : ℕ) (g : Ledger) → IsLedgerOf s g → IsLedgerOf s (expired w g)
+IsLedger-expired s w g was = elim (is_locked_by w g) as (λ b. IsLedgerOf s (if b then unlocked g else g)) [ true ↦ IsLedger-unlocked s g was | false ↦ was ]
 
 -- without its task
-IsLedger-finished : (s : Cluster) (g : Ledger) → IsLedger s g → IsLedger s (finished g)
+IsLedger-finished : (s : Cluster) (g : Ledger) → IsLedgerOf s g → IsLedgerOf s (finished g)
 IsLedger-finished s g was = record {
   id = was.id;
   metadata = was.metadata;
@@ -166,7 +154,7 @@ IsLedger-finished s g was = record {
 }
 
 -- with a worker's lock on its task
-IsLedger-locked_by : (s : Cluster) (w : ℕ) (g : Ledger) → w < length s.names → IsSome g.task → IsLedger s g → IsLedger s (locked_by w g)
+IsLedger-locked_by : (s : Cluster) (w : ℕ) (g : Ledger) → w < length s.names → IsSome g.task → IsLedgerOf s g → IsLedgerOf s (locked_by w g)
 IsLedger-locked_by s w g named some was = record {
   id = was.id;
   metadata = was.metadata;
@@ -177,7 +165,7 @@ IsLedger-locked_by s w g named some was = record {
 }
 
 -- with another member in a fragment
-IsLedger-swapped : (s : Cluster) (g : Ledger) (w f i : ℕ) → IsSwappable s g w f i → IsLedger s g → IsLedger s (swapped f i w g)
+IsLedger-swapped : (s : Cluster) (g : Ledger) (w f i : ℕ) → IsSwappable s g w f i → IsLedgerOf s g → IsLedgerOf s (swapped f i w g)
 IsLedger-swapped s g w f i may was =
     let m = g.metadata in
     let nobody : Fragment = record { first = 0; ensemble = [] } in
@@ -185,7 +173,7 @@ IsLedger-swapped s g w f i may was =
     let at : slice_get m.fragments f ≡ Some old = slice_get-get_or m.fragments f nobody may.fragment in
     let stands : old ≡ get_or m.fragments f old = sym (get_or_from_slice_get m.fragments f old old at) in
     let same : record m { version = m.version + 1; fragments = set m.fragments f (with_member old i w) } ≡ next_version (with_member_at m f i w) = ap next_version (sym (with_member_at-found m f i w old may.fragment stands)) in
-    subst (λ (n : Metadata). IsLedger s (record g { metadata = n })) same (record {
+    subst (λ (n : Metadata). IsLedgerOf s (record g { metadata = n })) same (record {
       id = was.id;
       metadata = IsMetadata-set m f i w old stands may.fragment (may.new old at) (omega (arith, may.version)) was.metadata;
       members = All-set (λ (fragment : Fragment). All (λ b. b < length s.names) fragment.ensemble) m.fragments f (with_member old i w)
@@ -199,9 +187,9 @@ IsLedger-swapped s g w f i may was =
 pub KeepsId-audited : (up : Set numbers) → KeepsId (audited up)
 KeepsId-audited up g = elim (is_empty (missing up g)) as (λ b. (if b then g else record g { task = Some (published up g) }).id ≡ g.id) [ true ↦ refl | false ↦ refl ]
 
-IsLedger-audited : (s : Cluster) (g : Ledger) → IsLedger s g → IsLedger s (audited s.up g)
+IsLedger-audited : (s : Cluster) (g : Ledger) → IsLedgerOf s g → IsLedgerOf s (audited s.up g)
 IsLedger-audited s g was =
-    elim (is_empty (missing s.up g)) as (λ b. is_empty (missing s.up g) ≡ b → IsLedger s (if b then g else record g { task = Some (published s.up g) })) [
+    elim (is_empty (missing s.up g)) as (λ b. is_empty (missing s.up g) ≡ b → IsLedgerOf s (if b then g else record g { task = Some (published s.up g) })) [
       | true ↦ λ _. was
       | false ↦ λ some. record {
         id = was.id;
@@ -248,14 +236,14 @@ IsWellFormed-after s (Swap w l f i v) was none = IsWellFormed-change_ledger s l 
     IsLedger-swapped s g w f i (accepted_swap s w l f i v g found is.metadata.version none) is)
 
 -- A ledger that is found is one of the cluster.
-pub IsLedger-found : (s : Cluster) (l : ℕ) (g : Ledger) → IsWellFormed s → ledger_at s l ≡ Some g → IsLedger s g
-IsLedger-found s l g was found = found_in s.ledgers was.each found where
-  found_in : (gs : List Ledger) → All (IsLedger s) gs → find (λ g. g.id == l) gs ≡ Some g → IsLedger s g
+pub IsLedger-found : (s : Cluster) (l : ℕ) (g : Ledger) → IsWellFormed s → ledger_at s l ≡ Some g → IsLedgerOf s g
+IsLedger-found s l g was found = found_in s.ledgers was.ledgers.each found where
+  found_in : (gs : List Ledger) → All (IsLedgerOf s) gs → find (λ g. g.id == l) gs ≡ Some g → IsLedgerOf s g
   found_in [] each found = cc
   found_in (h ∷ gs) each found =
-      elim (h.id == l) as (λ b. cond b (Some h) (find (λ g. g.id == l) gs) ≡ Some g → IsLedger s g) [
-        | true ↦ λ is. let same : h ≡ g = cc in subst (IsLedger s) same (All-head (IsLedger s) h gs each)
-        | false ↦ λ later. found_in gs (All-tail (IsLedger s) h gs each) later
+      elim (h.id == l) as (λ b. cond b (Some h) (find (λ g. g.id == l) gs) ≡ Some g → IsLedgerOf s g) [
+        | true ↦ λ is. let same : h ≡ g = cc in subst (IsLedgerOf s) same (All-head (IsLedgerOf s) h gs each)
+        | false ↦ λ later. found_in gs (All-tail (IsLedgerOf s) h gs each) later
       ] found
 
 -- An accepted swap of a ledger that is found.

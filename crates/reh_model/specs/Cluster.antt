@@ -36,8 +36,11 @@ abbrev pub bookie_named : List (List ℕ) → List ℕ → Option ℕ
 bookie_named names name = position (bytes_eq name) names
 
 -- the ledger of that id
+abbrev pub ledger_among : List Ledger → ℕ → Option Ledger
+ledger_among ledgers l = find (λ g. g.id == l) ledgers
+
 abbrev pub ledger_at : Cluster → ℕ → Option Ledger
-ledger_at s l = find (λ g. g.id == l) s.ledgers
+ledger_at s l = ledger_among s.ledgers l
 
 -- the cluster with that ledger changed, and nothing else
 abbrev pub change_ledger : Cluster → ℕ → (Ledger → Ledger) → Cluster

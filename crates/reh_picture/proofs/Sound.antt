@@ -20,8 +20,10 @@ use Rattle.reh_types.specs.Sets as set
 use Rattle.reh_types.specs.Sets.{Set, numbers, triples, triple_cmp, triple_total, contains-from_list, contains-items}
 use Rattle.reh_model.specs.Metadata.{Metadata, Fragment, IsMetadata, end_of_state}
 use Rattle.reh_model.specs.Cluster.{Cluster, Ledger, ledger_at}
-use Rattle.reh_model.specs.WellFormed.{IsLedger, IsCopy, IsWellFormed, words_of}
+use Rattle.reh_model.specs.WellFormed.{IsCopy, IsWellFormed, words_of}
+use Rattle.reh_model.proofs.WellFormedLaws.{IsLedgerOf}
 use Rattle.reh_model.proofs.Ranges.{Passes, any_passes, list_any-map, same_answer}
+use Rattle.reh_model.proofs.CheckLaws.{both-none, reason_unless-none}
 use Rattle.reh_model.proofs.MetadataLaws.{KeepsRules, IsMetadata-from_rules}
 use Rattle.reh_meta.specs.Faults as meta
 use Rattle.reh_meta.specs.declared.faults.MetaFault.{MetaFault}
@@ -29,7 +31,8 @@ use Rattle.reh_picture.specs.declared.fields.Field.{Field}
 use Rattle.reh_picture.specs.declared.fields.Field.TheVariants as field
 use Rattle.reh_picture.specs.declared.faults.PictureFault.{PictureFault}
 use Rattle.reh_picture.specs.declared.faults.PictureFault.TheVariants.{Limit}
-use Rattle.reh_picture.specs.Faults.{fault_unless, fault_along}
+use Rattle.reh_model.specs.Checks.{reason_unless}
+use Rattle.reh_picture.specs.Faults.{fault_along}
 use Rattle.reh_picture.specs.Members.{integer_in, number_of, text_of, flag_of, list_of, number_fault, list_fault}
 use Rattle.reh_picture.specs.Bookies.{bookie_fault, each_bookie_fault, bookies_fault, names_in, registered_in, bookie_in, known_fault}
 use Rattle.reh_picture.specs.Ledgers.{member_name, member_fault, members_fault, fragment_fault, fragment_in, fragments_fault, is_closed, end_after, end_in, state_in, metadata_in, broken_rule, metadata_fault, ledger_fault, ids_in, each_ledger_fault, ledgers_fault, ledger_in}
@@ -38,19 +41,7 @@ use Rattle.reh_model.specs.Contents as model
 use Rattle.reh_cluster.specs.Parts.{cluster_of}
 use Rattle.reh_picture.specs.Pictures.{names_of, ids_of, cluster_in, words_in_all, head_fault, parts_fault, fields_fault, IsShown}
 
--- Checks that find nothing
-
-option_or-none : {A : Type 0} (a b : Option A) → option_or a b ≡ None → (a ≡ None) × (b ≡ None)
-option_or-none None b none = (refl, none)
-option_or-none (Some x) b none = cc
-
-fault_unless-none : (c : Bool) (fault : PictureFault) → fault_unless c fault ≡ None → c ≡ true
-fault_unless-none true fault none = refl
-fault_unless-none false fault none = cc
-
-rule-none : (c : Bool) (fault : MetaFault) → meta.fault_unless c fault ≡ None → c ≡ true
-rule-none true fault none = refl
-rule-none false fault none = cc
+-- Tests
 
 option_map-none : {A B : Type 0} (f : A → B) (o : Option A) → option_map f o ≡ None → o ≡ None
 option_map-none f None none = refl
@@ -67,15 +58,15 @@ and-true false b is = cc
 -- a number within its bounds
 number_within : (d : Data) (field : Field) (least most : ℕ) → number_fault d field least most ≡ None → (least ≤ number_of d field) × (number_of d field ≤ most)
 number_within d field least most none =
-    let checks = option_or-none _ _ none in
-    let both : (nat_le least (number_of d field) ≡ true) × (nat_le (number_of d field) most ≡ true) = and-true _ _ (fault_unless-none _ _ (option_or-none _ _ checks.1).0) in
+    let checks = both-none _ _ none in
+    let both : (nat_le least (number_of d field) ≡ true) × (nat_le (number_of d field) most ≡ true) = and-true _ _ (reason_unless-none _ _ (both-none _ _ checks.1).0) in
     (grind (arith, nat_tests, both.0), grind (arith, nat_tests, both.1))
 
 -- a list with a number of elements within its bounds
 list_within : (d : Data) (field : Field) (least most : ℕ) → list_fault d field least most ≡ None → (least ≤ length (list_of d field)) × (length (list_of d field) ≤ most)
 list_within d field least most none =
-    let checks = option_or-none _ _ none in
-    let both : (nat_le least (length (list_of d field)) ≡ true) × (nat_le (length (list_of d field)) most ≡ true) = and-true _ _ (fault_unless-none _ _ (option_or-none _ _ checks.1).0) in
+    let checks = both-none _ _ none in
+    let both : (nat_le least (length (list_of d field)) ≡ true) × (nat_le (length (list_of d field)) most ≡ true) = and-true _ _ (reason_unless-none _ _ (both-none _ _ checks.1).0) in
     (grind (arith, nat_tests, both.0), grind (arith, nat_tests, both.1))
 
 -- Along lists
@@ -84,15 +75,15 @@ list_within d field least most none =
 all_made : {X : Type 0} (judge : List Data → Data → Option PictureFault) (make : Data → X) (P : X → Type 0) → ((before : List Data) (d : Data) → judge before d ≡ None → P (make d))
     → (before ds : List Data) → fault_along judge before ds ≡ None → (k : ℕ) (x : X) → k < length (map make ds) → P (get_or (map make ds) k x)
 all_made judge make P each before [] none k x within = absurd (omega arith)
-all_made judge make P each before (d ∷ ds) none zero x within = each before d (option_or-none _ _ none).0
-all_made judge make P each before (d ∷ ds) none (suc k) x within = all_made judge make P each (before ++ d ∷ []) ds (option_or-none _ _ none).1 k x (omega arith)
+all_made judge make P each before (d ∷ ds) none zero x within = each before d (both-none _ _ none).0
+all_made judge make P each before (d ∷ ds) none (suc k) x within = all_made judge make P each (before ++ d ∷ []) ds (both-none _ _ none).1 k x (omega arith)
 
 -- keys that are each checked against those before them differ
 module _ {K : Type 0} (eq : K → K → Bool) (laws : IsEquivalence eq) (key : Data → K) (judge : List Data → Data → Option PictureFault) (each : (before : List Data) (d : Data) → judge before d ≡ None → list_any (eq (key d)) (map key before) ≡ false) where
   differ_after : (before ds : List Data) → IsDistinct eq (map key before) → fault_along judge before ds ≡ None → IsDistinct eq (map key (before ++ ds))
   differ_after before [] differ none = subst (λ (xs : List Data). IsDistinct eq (map key xs)) (sym (append-nil before)) differ
   differ_after before (d ∷ ds) differ none =
-      let checks = option_or-none _ _ none in
+      let checks = both-none _ _ none in
       let more : IsDistinct eq (map key (before ++ d ∷ [])) = subst (λ (ks : List K). IsDistinct eq ks) (sym (map-append key before (d ∷ []))) (IsDistinct-push laws (map key before) (key d) differ (each before d checks.0)) in
       subst (λ (xs : List Data). IsDistinct eq (map key xs)) (append_assoc before (d ∷ []) ds) (differ_after (before ++ d ∷ []) ds more checks.1)
 
@@ -110,7 +101,7 @@ bytes_eq_equiv = record {
 -- Bookies
 
 bookie_differs : (before : List Data) (d : Data) → bookie_fault (names_in before) d ≡ None → list_any (bytes_eq (text_of d field.Name)) (names_in before) ≡ false
-bookie_differs before d none = not-true _ (fault_unless-none _ _ (option_or-none _ _ (option_or-none _ _ none).1).0)
+bookie_differs before d none = not-true _ (reason_unless-none _ _ (both-none _ _ (both-none _ _ none).1).0)
 
 names_differ : (bookies : List Data) → each_bookie_fault bookies ≡ None → IsDistinct bytes_eq (names_in bookies)
 unfolding each_bookie_fault
@@ -142,21 +133,21 @@ found_within n most true t some = grind (arith, nat_tests, t)
 found_within n most false t some = cc
 
 bookie_known : (names : List (List ℕ)) (name : List ℕ) → known_fault names name ≡ None → bookie_in names name < length names
-bookie_known names name none = found_within (position_or_len (bytes_eq name) names) (length names) (nat_lt (position_or_len (bytes_eq name) names) (length names)) refl (fault_unless-none _ _ none)
+bookie_known names name none = found_within (position_or_len (bytes_eq name) names) (length names) (nat_lt (position_or_len (bytes_eq name) names) (length names)) refl (reason_unless-none _ _ none)
 
 -- Ledgers
 
 -- metadata that breaks no rule
 KeepsRules-none : (m : Metadata) → meta.fault_of m ≡ None → KeepsRules m
 KeepsRules-none m none =
-    let first = option_or-none _ _ none in
-    let second = option_or-none _ _ first.1 in
-    let third = option_or-none _ _ second.1 in
+    let first = both-none _ _ none in
+    let second = both-none _ _ first.1 in
+    let third = both-none _ _ second.1 in
     record {
-      quorums = rule-none _ _ first.0;
-      fragments = rule-none _ _ second.0;
-      ensembles = rule-none _ _ third.0;
-      end = rule-none _ _ (option_or-none _ _ third.1).0;
+      quorums = reason_unless-none _ _ first.0;
+      fragments = reason_unless-none _ _ second.0;
+      ensembles = reason_unless-none _ _ third.0;
+      end = reason_unless-none _ _ (both-none _ _ third.1).0;
     }
 
 end_after-small : (last : ℤ) → unwrap_or (end_after last) 0 ≤ ENTRY_END
@@ -177,7 +168,7 @@ state_small d end is =
 
 -- the members of an ensemble are known
 member_known : (names : List (List ℕ)) (before : List Data) (d : Data) → member_fault names d ≡ None → bookie_in names (member_name d) < length names
-member_known names before d none = bookie_known names (member_name d) (option_or-none _ _ (option_or-none _ _ none).1).0
+member_known names before d none = bookie_known names (member_name d) (both-none _ _ (both-none _ _ none).1).0
 
 members_known : (names : List (List ℕ)) (members : List Data) → members_fault names members ≡ None → All (λ b. b < length names) (map (λ member. bookie_in names (member_name member)) members)
 unfolding members_fault
@@ -190,11 +181,11 @@ pub record IsFragment (bookies : ℕ) (fragment : Fragment) : Type 0 where
 
 fragment_good : (names : List (List ℕ)) (before : List Data) (d : Data) → fragment_fault names d ≡ None → IsFragment (length names) (fragment_in names d)
 fragment_good names before d none =
-    let first = option_or-none _ _ (option_or-none _ _ none).1 in
-    let list = option_or-none _ _ first.1 in
+    let first = both-none _ _ (both-none _ _ none).1 in
+    let list = both-none _ _ first.1 in
     record {
       first = omega (arith, (number_within d field.FirstEntry 0 MAX_ENTRY_ID first.0).1);
-      members = members_known names (list_of d field.Ensemble) (option_or-none _ _ list.1).0;
+      members = members_known names (list_of d field.Ensemble) (both-none _ _ list.1).0;
     }
 
 fragments_good : (names : List (List ℕ)) (fragments : List Data) → fragments_fault names fragments ≡ None → All (IsFragment (length names)) (map (fragment_in names) fragments)
@@ -209,11 +200,11 @@ pub record IsMetadataOf (names : List (List ℕ)) (d : Data) : Type 0 where
 metadata_good : (names : List (List ℕ)) (ledger : ℕ) (d : Data) → metadata_fault names ledger d ≡ None → IsMetadataOf names d
 unfolding metadata_fault
 metadata_good names ledger d none =
-    let sizes = option_or-none _ _ (option_or-none _ _ none).1 in
-    let version = option_or-none _ _ sizes.1 in
-    let list = option_or-none _ _ version.1 in
-    let fragments = option_or-none _ _ list.1 in
-    let rules = option_or-none _ _ fragments.1 in
+    let sizes = both-none _ _ (both-none _ _ none).1 in
+    let version = both-none _ _ sizes.1 in
+    let list = both-none _ _ version.1 in
+    let fragments = both-none _ _ list.1 in
+    let rules = both-none _ _ fragments.1 in
     let each = fragments_good names (list_of d field.Fragments) fragments.0 in
     record {
       metadata = IsMetadata-from_rules (metadata_in names d) (KeepsRules-none _ (option_map-none (broken_rule ledger) _ rules.0))
@@ -224,11 +215,11 @@ metadata_good names ledger d none =
     }
 
 -- a ledger in any cluster with these names
-ledger_good : (s : Cluster) (before : List Data) (d : Data) → ledger_fault s.names (ids_in before) d ≡ None → IsLedger s (ledger_in s.names d)
+ledger_good : (s : Cluster) (before : List Data) (d : Data) → ledger_fault s.names (ids_in before) d ≡ None → IsLedgerOf s (ledger_in s.names d)
 ledger_good s before d none =
-    let id = option_or-none _ _ (option_or-none _ _ none).1 in
-    let twice = option_or-none _ _ id.1 in
-    let metadata = metadata_good s.names (number_of d field.Id) d (option_or-none _ _ twice.1).0 in
+    let id = both-none _ _ (both-none _ _ none).1 in
+    let twice = both-none _ _ id.1 in
+    let metadata = metadata_good s.names (number_of d field.Id) d (both-none _ _ twice.1).0 in
     record {
       id = (number_within d field.Id 0 MAX_LEDGER_ID id.0).1;
       metadata = metadata.metadata;
@@ -238,12 +229,12 @@ ledger_good s before d none =
       due = λ due is. cc;
     }
 
-ledgers_good : (s : Cluster) (ledgers : List Data) → each_ledger_fault s.names ledgers ≡ None → All (IsLedger s) (map (ledger_in s.names) ledgers)
+ledgers_good : (s : Cluster) (ledgers : List Data) → each_ledger_fault s.names ledgers ≡ None → All (IsLedgerOf s) (map (ledger_in s.names) ledgers)
 unfolding each_ledger_fault
-ledgers_good s ledgers none = all_made (λ before d. ledger_fault s.names (ids_in before) d) (ledger_in s.names) (IsLedger s) (ledger_good s) [] ledgers none
+ledgers_good s ledgers none = all_made (λ before d. ledger_fault s.names (ids_in before) d) (ledger_in s.names) (IsLedgerOf s) (ledger_good s) [] ledgers none
 
 ledger_differs : (names : List (List ℕ)) (before : List Data) (d : Data) → ledger_fault names (ids_in before) d ≡ None → list_any (nat_eq (number_of d field.Id)) (ids_in before) ≡ false
-ledger_differs names before d none = not-true _ (fault_unless-none _ _ (option_or-none _ _ (option_or-none _ _ (option_or-none _ _ none).1).1).0)
+ledger_differs names before d none = not-true _ (reason_unless-none _ _ (both-none _ _ (both-none _ _ (both-none _ _ none).1).1).0)
 
 ids_differ : (names : List (List ℕ)) (ledgers : List Data) → each_ledger_fault names ledgers ≡ None → IsDistinct nat_eq (ids_in ledgers)
 unfolding each_ledger_fault
@@ -277,54 +268,54 @@ any_of_two : {A : Type 0} (p : A → Bool) (xs ys : List A) (P : Type 0) → (li
 any_of_two p xs ys P first second is = or-either (list_any p xs) (list_any p ys) P first second (sym (list_any-append p xs ys) ∙ is)
 
 -- an entry of a range
-copy_in_range : (s : Cluster) (bookie ledger : ℕ) (ends : ℕ × ℕ) (q : ℕ × ℕ × ℕ) → bookie < length s.names → IsSome (ledger_at s ledger) → ends.1 ≤ MAX_ENTRY_ID → list_any (is_triple q) (copies_of bookie ledger ends) ≡ true → IsCopy s q
+copy_in_range : (s : Cluster) (bookie ledger : ℕ) (ends : ℕ × ℕ) (q : ℕ × ℕ × ℕ) → bookie < length s.names → IsSome (ledger_at s ledger) → ends.1 ≤ MAX_ENTRY_ID → list_any (is_triple q) (copies_of bookie ledger ends) ≡ true → IsCopy (length s.names) s.ledgers q
 copy_in_range s bookie ledger ends q known there small any =
     let w : Passes (λ e. is_triple q (bookie, ledger, e)) ends.0 ((ends.1 + 1) - ends.0) =
     any_passes (λ e. is_triple q (bookie, ledger, e)) ends.0 ((ends.1 + 1) - ends.0) (sym (list_any-map (is_triple q) (λ e. (bookie, ledger, e)) (range_with_len ends.0 ((ends.1 + 1) - ends.0))) ∙ any) in
     let same : (bookie, ledger, w.at) ≡ q = sym (triples.exact q (bookie, ledger, w.at) ((Equal-is (triple_cmp q (bookie, ledger, w.at))).0 w.passes)) in
     let low : w.at < ENTRY_END = omega (arith, w.from, w.below) in
-    subst (λ (t : ℕ × ℕ × ℕ). IsCopy s t) same (known, there, low)
+    subst (λ (t : ℕ × ℕ × ℕ). IsCopy (length s.names) s.ledgers t) same (known, there, low)
 
 -- an entry of ranges without a fault
 copy_in_ranges : (s : Cluster) (bookie ledger : ℕ) (q : ℕ × ℕ × ℕ) → bookie < length s.names → IsSome (ledger_at s ledger) → (before ranges : List Data) → fault_along (λ before d. range_fault (next_after before) d) before ranges ≡ None
-    → list_any (is_triple q) (flat_map (copies_of bookie ledger) (map ends_of ranges)) ≡ true → IsCopy s q
+    → list_any (is_triple q) (flat_map (copies_of bookie ledger) (map ends_of ranges)) ≡ true → IsCopy (length s.names) s.ledgers q
 copy_in_ranges s bookie ledger q known there before [] none any = cc
 copy_in_ranges s bookie ledger q known there before (d ∷ ds) none any =
-    let checks = option_or-none _ _ none in
-    let within : ((nat_le (next_after before) (ends_of d).0 && nat_le (ends_of d).0 (ends_of d).1) ≡ true) × (nat_le (ends_of d).1 MAX_ENTRY_ID ≡ true) = and-true _ _ (fault_unless-none _ _ (option_or-none _ _ (option_or-none _ _ checks.0).1).0) in
-    any_of_two (is_triple q) (copies_of bookie ledger (ends_of d)) (flat_map (copies_of bookie ledger) (map ends_of ds)) (IsCopy s q)
+    let checks = both-none _ _ none in
+    let within : ((nat_le (next_after before) (ends_of d).0 && nat_le (ends_of d).0 (ends_of d).1) ≡ true) × (nat_le (ends_of d).1 MAX_ENTRY_ID ≡ true) = and-true _ _ (reason_unless-none _ _ (both-none _ _ (both-none _ _ checks.0).1).0) in
+    any_of_two (is_triple q) (copies_of bookie ledger (ends_of d)) (flat_map (copies_of bookie ledger) (map ends_of ds)) (IsCopy (length s.names) s.ledgers q)
     (copy_in_range s bookie ledger (ends_of d) q known there (grind (arith, nat_tests, within.1)))
     (copy_in_ranges s bookie ledger q known there (before ++ d ∷ []) ds checks.1)
     any
 
 ranges_copies : (s : Cluster) (bookie ledger : ℕ) (q : ℕ × ℕ × ℕ) → bookie < length s.names → IsSome (ledger_at s ledger) → (ranges : List Data) → ranges_fault ranges ≡ None
-    → list_any (is_triple q) (flat_map (copies_of bookie ledger) (map ends_of ranges)) ≡ true → IsCopy s q
+    → list_any (is_triple q) (flat_map (copies_of bookie ledger) (map ends_of ranges)) ≡ true → IsCopy (length s.names) s.ledgers q
 unfolding ranges_fault
 ranges_copies s bookie ledger q known there ranges none any = copy_in_ranges s bookie ledger q known there [] ranges none any
 
 -- an entry of contents without a fault
 module _ (s : Cluster) (ids : List ℕ) (found : (l : ℕ) → list_any (nat_eq l) ids ≡ true → IsSome (ledger_at s l)) (q : ℕ × ℕ × ℕ) where
-  copy_in_contents : (before contents : List Data) → fault_along (λ before d. content_fault s.names ids (pairs_in s.names before) d) before contents ≡ None → list_any (is_triple q) (flat_map copies_in (map (holding_in s.names) contents)) ≡ true → IsCopy s q
+  copy_in_contents : (before contents : List Data) → fault_along (λ before d. content_fault s.names ids (pairs_in s.names before) d) before contents ≡ None → list_any (is_triple q) (flat_map copies_in (map (holding_in s.names) contents)) ≡ true → IsCopy (length s.names) s.ledgers q
   copy_in_contents before [] none any = cc
   copy_in_contents before (d ∷ ds) none any =
-      let checks = option_or-none _ _ none in
-      let content = option_or-none _ _ checks.0 in
-      let bookie = option_or-none _ _ (option_or-none _ _ (option_or-none _ _ content.0).1).1 in
-      let ledger = option_or-none _ _ (option_or-none _ _ bookie.1).1 in
-      any_of_two (is_triple q) (copies_in (holding_in s.names d)) (flat_map copies_in (map (holding_in s.names) ds)) (IsCopy s q)
-      (ranges_copies s (bookie_in s.names (text_of d field.Bookie)) (number_of d field.Ledger) q (bookie_known s.names (text_of d field.Bookie) bookie.0) (found (number_of d field.Ledger) (fault_unless-none _ _ ledger.0))
-      (list_of d field.Entries) (option_or-none _ _ (option_or-none _ _ content.1).1).0)
+      let checks = both-none _ _ none in
+      let content = both-none _ _ checks.0 in
+      let bookie = both-none _ _ (both-none _ _ (both-none _ _ content.0).1).1 in
+      let ledger = both-none _ _ (both-none _ _ bookie.1).1 in
+      any_of_two (is_triple q) (copies_in (holding_in s.names d)) (flat_map copies_in (map (holding_in s.names) ds)) (IsCopy (length s.names) s.ledgers q)
+      (ranges_copies s (bookie_in s.names (text_of d field.Bookie)) (number_of d field.Ledger) q (bookie_known s.names (text_of d field.Bookie) bookie.0) (found (number_of d field.Ledger) (reason_unless-none _ _ ledger.0))
+      (list_of d field.Entries) (both-none _ _ (both-none _ _ content.1).1).0)
       (copy_in_contents (before ++ d ∷ []) ds checks.1)
       any
 
-  contents_copies : (contents : List Data) → each_content_fault s.names ids contents ≡ None → list_any (is_triple q) (flat_map copies_in (map (holding_in s.names) contents)) ≡ true → IsCopy s q
+  contents_copies : (contents : List Data) → each_content_fault s.names ids contents ≡ None → list_any (is_triple q) (flat_map copies_in (map (holding_in s.names) contents)) ≡ true → IsCopy (length s.names) s.ledgers q
   unfolding each_content_fault
   contents_copies contents none any = copy_in_contents [] contents none any
 
 -- ranges without a fault have a first entry and a last
 range_rises : (before : List Data) (d : Data) → range_fault (next_after before) d ≡ None → (ends_of d).0 ≤ (ends_of d).1
 range_rises before d none =
-    let within : ((nat_le (next_after before) (ends_of d).0 && nat_le (ends_of d).0 (ends_of d).1) ≡ true) × (nat_le (ends_of d).1 MAX_ENTRY_ID ≡ true) = and-true _ _ (fault_unless-none _ _ (option_or-none _ _ (option_or-none _ _ none).1).0) in
+    let within : ((nat_le (next_after before) (ends_of d).0 && nat_le (ends_of d).0 (ends_of d).1) ≡ true) × (nat_le (ends_of d).1 MAX_ENTRY_ID ≡ true) = and-true _ _ (reason_unless-none _ _ (both-none _ _ (both-none _ _ none).1).0) in
     let rises : nat_le (ends_of d).0 (ends_of d).1 ≡ true = (and-true _ _ within.0).1 in grind (arith, nat_tests, rises)
 
 ranges_rise : (ranges : List Data) → ranges_fault ranges ≡ None → All (λ range. range.0 ≤ range.1) (map ends_of ranges)
@@ -332,7 +323,7 @@ unfolding ranges_fault
 ranges_rise ranges none = all_made (λ before d. range_fault (next_after before) d) ends_of (λ range. range.0 ≤ range.1) range_rises [] ranges none
 
 content_rises : (names : List (List ℕ)) (ids : List ℕ) (before : List Data) (d : Data) → content_fault names ids (pairs_in names before) d ≡ None → All (λ range. range.0 ≤ range.1) (holding_in names d).ranges
-content_rises names ids before d none = let content = option_or-none _ _ none in ranges_rise (list_of d field.Entries) (option_or-none _ _ (option_or-none _ _ content.1).1).0
+content_rises names ids before d none = let content = both-none _ _ none in ranges_rise (list_of d field.Entries) (both-none _ _ (both-none _ _ content.1).1).0
 
 pub contents_rise : (names : List (List ℕ)) (ids : List ℕ) (contents : List Data) → each_content_fault names ids contents ≡ None → All (λ holding. All (λ range. range.0 ≤ range.1) holding.ranges) (map (holding_in names) contents)
 unfolding each_content_fault
@@ -369,22 +360,22 @@ pub record IsFaultless (d : Data) : Type 0 where
 pub IsFaultless-none : (d : Data) → parts_fault d ≡ None → IsFaultless d
 unfolding head_fault bookies_fault ledgers_fault contents_fault
 IsFaultless-none d none =
-    let head = option_or-none _ _ none in
-    let grace = option_or-none _ _ (option_or-none _ _ (option_or-none _ _ head.0).1).1 in
-    let bookies = option_or-none _ _ head.1 in
-    let each_bookie = option_or-none _ _ bookies.0 in
-    let ledgers = option_or-none _ _ bookies.1 in
-    let each_ledger = option_or-none _ _ ledgers.0 in
-    let contents = option_or-none _ _ (option_or-none _ _ ledgers.1).0 in
+    let head = both-none _ _ none in
+    let grace = both-none _ _ (both-none _ _ (both-none _ _ head.0).1).1 in
+    let bookies = both-none _ _ head.1 in
+    let each_bookie = both-none _ _ bookies.0 in
+    let ledgers = both-none _ _ bookies.1 in
+    let each_ledger = both-none _ _ ledgers.0 in
+    let contents = both-none _ _ (both-none _ _ ledgers.1).0 in
     let within = list_within d field.Bookies 1 MAX_BOOKIES each_bookie.0 in
     record {
       grace = (number_within d field.Grace 0 MAX_GRACE grace.0).1;
       some_bookie = within.0;
       bookies = within.1;
-      each_bookie = (option_or-none _ _ each_bookie.1).0;
+      each_bookie = (both-none _ _ each_bookie.1).0;
       ledgers = (list_within d field.Ledgers 0 MAX_LEDGERS each_ledger.0).1;
-      each_ledger = (option_or-none _ _ each_ledger.1).0;
-      each_content = (option_or-none _ _ contents.1).0;
+      each_ledger = (both-none _ _ each_ledger.1).0;
+      each_content = (both-none _ _ contents.1).0;
     }
 
 -- such parts within the limit of words are a well-formed cluster
@@ -393,18 +384,24 @@ IsWellFormed-cluster_in d good words =
     let s = cluster_in d in
     let count : length (names_of d) ≡ length (list_of d field.Bookies) = length-map (list_of d field.Bookies) (λ d. text_of d field.Name) in
     record {
-      some_bookie = omega (arith, count, good.some_bookie);
-      bookies = omega (arith, count, good.bookies);
-      names = names_differ (list_of d field.Bookies) good.each_bookie;
+      names = record {
+        some = omega (arith, count, good.some_bookie);
+        few = omega (arith, count, good.bookies);
+        different = names_differ (list_of d field.Bookies) good.each_bookie;
+      };
       grace = good.grace;
       clock = lit≤ tt;
       up = registered_named (list_of d field.Bookies);
-      ledgers = omega (arith, length-map (list_of d field.Ledgers) (ledger_in (names_of d)), good.ledgers);
-      different = subst (λ (ids : List ℕ). IsDistinct nat_eq ids) (sym (ids_made (names_of d) (list_of d field.Ledgers))) (ids_differ (names_of d) (list_of d field.Ledgers) good.each_ledger);
-      each = ledgers_good s (list_of d field.Ledgers) good.each_ledger;
-      held = all_items (IsCopy s) (flat_map copies_in (map (holding_in (names_of d)) (list_of d field.Contents)))
-          (λ q. contents_copies s (ids_of d) (λ l there. ledger_found (names_of d) l (list_of d field.Ledgers) there) q (list_of d field.Contents) good.each_content);
-      words = words;
+      ledgers = record {
+        few = omega (arith, length-map (list_of d field.Ledgers) (ledger_in (names_of d)), good.ledgers);
+        different = subst (λ (ids : List ℕ). IsDistinct nat_eq ids) (sym (ids_made (names_of d) (list_of d field.Ledgers))) (ids_differ (names_of d) (list_of d field.Ledgers) good.each_ledger);
+        each = ledgers_good s (list_of d field.Ledgers) good.each_ledger;
+      };
+      contents = record {
+        copies = all_items (IsCopy (length s.names) s.ledgers) (flat_map copies_in (map (holding_in (names_of d)) (list_of d field.Contents)))
+            (λ q. contents_copies s (ids_of d) (λ l there. ledger_found (names_of d) l (list_of d field.Ledgers) there) q (list_of d field.Contents) good.each_content);
+        words = words;
+      };
     }
 
 -- the parts that were read are those of the cluster
@@ -427,11 +424,11 @@ words_in_all-shown d names up grace ledgers lent held bookies words whole count 
 pub fields_fault-within : (d : Data) → parts_fault d ≡ None → words_in_all (cluster_in d) ≤ MAX_WORDS → fields_fault d ≡ None
 fields_fault-within d good within =
     let test : nat_le (words_in_all (cluster_in d)) MAX_WORDS ≡ true = grind (arith, nat_tests) in
-    ap (λ (o : Option PictureFault). option_or o (option_or (fault_unless (nat_le (words_in_all (cluster_in d)) MAX_WORDS) (Limit field.Contents)) None)) good
-    ∙ ap (λ (t : Bool). option_or (fault_unless t (Limit field.Contents)) None) test
+    ap (λ (o : Option PictureFault). option_or o (option_or (reason_unless (nat_le (words_in_all (cluster_in d)) MAX_WORDS) (Limit field.Contents)) None)) good
+    ∙ ap (λ (t : Bool). option_or (reason_unless t (Limit field.Contents)) None) test
 
 pub fields_fault-past : (d : Data) → parts_fault d ≡ None → MAX_WORDS < words_in_all (cluster_in d) → fields_fault d ≡ Some (Limit field.Contents)
 fields_fault-past d good past =
     let test : nat_le (words_in_all (cluster_in d)) MAX_WORDS ≡ false = grind (arith, nat_tests) in
-    ap (λ (o : Option PictureFault). option_or o (option_or (fault_unless (nat_le (words_in_all (cluster_in d)) MAX_WORDS) (Limit field.Contents)) None)) good
-    ∙ ap (λ (t : Bool). option_or (fault_unless t (Limit field.Contents)) None) test
+    ap (λ (o : Option PictureFault). option_or o (option_or (reason_unless (nat_le (words_in_all (cluster_in d)) MAX_WORDS) (Limit field.Contents)) None)) good
+    ∙ ap (λ (t : Bool). option_or (reason_unless t (Limit field.Contents)) None) test

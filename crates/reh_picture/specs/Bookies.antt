@@ -14,7 +14,8 @@ use Rattle.reh_picture.specs.declared.fields.Field.TheVariants as field
 use Rattle.reh_picture.specs.declared.faults.Repeated.TheVariants as repeated
 use Rattle.reh_picture.specs.declared.faults.PictureFault.{PictureFault}
 use Rattle.reh_picture.specs.declared.faults.PictureFault.TheVariants.{WrongKind, BadName, Twice, UnknownBookie}
-use Rattle.reh_picture.specs.Faults.{first_fault, fault_unless, fault_along}
+use Rattle.reh_model.specs.Checks.{first_reason, reason_unless}
+use Rattle.reh_picture.specs.Faults.{fault_along}
 use Rattle.reh_picture.specs.Members.{is_object, text_in, flag_in, text_of, flag_of, list_of, list_fault}
 
 -- from 1 byte to the most, each 0x21 to 0x7E
@@ -24,18 +25,18 @@ is_name name = nat_le 1 (length name) && nat_le (length name) MAX_NAME_BYTES && 
 -- what is wrong with a bookie's name by itself
 abbrev pub name_fault : Data → Option PictureFault
 name_fault d =
-    first_fault (
-    fault_unless (is_object d) (WrongKind field.Bookie)
+    first_reason (
+    reason_unless (is_object d) (WrongKind field.Bookie)
     ∷ result_err (text_in d field.Name)
-    ∷ fault_unless (is_name (text_of d field.Name)) BadName
+    ∷ reason_unless (is_name (text_of d field.Name)) BadName
     ∷ [])
 
 -- the first fault of a bookie that follows the bookies with these names
 abbrev pub bookie_fault : List (List ℕ) → Data → Option PictureFault
 bookie_fault names d =
-    first_fault (
+    first_reason (
     name_fault d
-    ∷ fault_unless (not (list_any (bytes_eq (text_of d field.Name)) names)) (Twice (repeated.Bookie (text_of d field.Name)))
+    ∷ reason_unless (not (list_any (bytes_eq (text_of d field.Name)) names)) (Twice (repeated.Bookie (text_of d field.Name)))
     ∷ result_err (flag_in d field.Up)
     ∷ [])
 
@@ -48,7 +49,7 @@ each_bookie_fault bookies = fault_along (λ before d. bookie_fault (names_in bef
 
 -- what is wrong with a picture's bookies
 unfoldable pub bookies_fault : Data → Option PictureFault
-bookies_fault d = first_fault (list_fault d field.Bookies 1 MAX_BOOKIES ∷ each_bookie_fault (list_of d field.Bookies) ∷ [])
+bookies_fault d = first_reason (list_fault d field.Bookies 1 MAX_BOOKIES ∷ each_bookie_fault (list_of d field.Bookies) ∷ [])
 
 -- the places of the bookies that are registered
 abbrev pub registered_in : List Data → Set numbers
@@ -60,4 +61,4 @@ bookie_in names name = unwrap_or (bookie_named names name) 0
 
 -- what is wrong with a name that must be a bookie's
 abbrev pub known_fault : List (List ℕ) → List ℕ → Option PictureFault
-known_fault names name = fault_unless (is_some (bookie_named names name)) (UnknownBookie name)
+known_fault names name = reason_unless (is_some (bookie_named names name)) (UnknownBookie name)

@@ -14,7 +14,8 @@ use Rattle.reh_picture.specs.declared.faults.LedgerFlaw.TheVariants as flaw
 use Rattle.reh_picture.specs.declared.faults.Repeated.TheVariants as repeated
 use Rattle.reh_picture.specs.declared.faults.PictureFault.{PictureFault}
 use Rattle.reh_picture.specs.declared.faults.PictureFault.TheVariants.{WrongKind, Twice, Limit, BadLedger}
-use Rattle.reh_picture.specs.Faults.{first_fault, fault_unless, fault_along}
+use Rattle.reh_model.specs.Checks.{first_reason, reason_unless}
+use Rattle.reh_picture.specs.Faults.{fault_along}
 use Rattle.reh_picture.specs.Members.{elements, is_object, number_in, text_in, list_in, number_of, text_of, list_of}
 use Rattle.reh_picture.specs.Bookies.{bookie_in, known_fault}
 
@@ -39,9 +40,9 @@ next_after ranges = option_map_or (λ d. (ends_of d).1 + 1) (last_or None ranges
 -- what is wrong with a range that must begin at the least entry or after it
 abbrev pub range_fault : ℕ → Data → Option PictureFault
 range_fault least d =
-    first_fault (
+    first_reason (
     result_err (ends_in d)
-    ∷ fault_unless (nat_le least (ends_of d).0 && nat_le (ends_of d).0 (ends_of d).1 && nat_le (ends_of d).1 MAX_ENTRY_ID) (Limit field.Entries)
+    ∷ reason_unless (nat_le least (ends_of d).0 && nat_le (ends_of d).0 (ends_of d).1 && nat_le (ends_of d).1 MAX_ENTRY_ID) (Limit field.Entries)
     ∷ [])
 
 -- the first fault of ranges
@@ -71,19 +72,19 @@ is_pair p q = nat_eq p.0 q.0 && nat_eq p.1 q.1
 -- The first fault of a bookie and a ledger that follow these pairs, in a picture whose bookies have these names and whose ledgers have these ids.
 abbrev pub pair_fault : List (List ℕ) → List ℕ → List (ℕ × ℕ) → Data → Option PictureFault
 pair_fault names ids pairs d =
-    first_fault (
-    fault_unless (is_object d) (WrongKind field.Content)
+    first_reason (
+    reason_unless (is_object d) (WrongKind field.Content)
     ∷ result_err (text_in d field.Bookie)
     ∷ known_fault names (text_of d field.Bookie)
     ∷ result_err (number_in d field.Ledger)
-    ∷ fault_unless (list_any (nat_eq (number_of d field.Ledger)) ids) (BadLedger (number_of d field.Ledger) flaw.Unknown)
-    ∷ fault_unless (not (list_any (is_pair (pair_of names d)) pairs)) (Twice (repeated.Content (text_of d field.Bookie) (number_of d field.Ledger)))
+    ∷ reason_unless (list_any (nat_eq (number_of d field.Ledger)) ids) (BadLedger (number_of d field.Ledger) flaw.Unknown)
+    ∷ reason_unless (not (list_any (is_pair (pair_of names d)) pairs)) (Twice (repeated.Content (text_of d field.Bookie) (number_of d field.Ledger)))
     ∷ [])
 
 -- the first fault of what a bookie holds of a ledger
 abbrev pub content_fault : List (List ℕ) → List ℕ → List (ℕ × ℕ) → Data → Option PictureFault
 content_fault names ids pairs d =
-    first_fault (
+    first_reason (
     pair_fault names ids pairs d
     ∷ result_err (list_in d field.Entries)
     ∷ ranges_fault (list_of d field.Entries)
@@ -95,7 +96,7 @@ each_content_fault names ids contents = fault_along (λ before d. content_fault 
 
 -- what is wrong with a picture's contents
 unfoldable pub contents_fault : List (List ℕ) → List ℕ → Data → Option PictureFault
-contents_fault names ids d = first_fault (result_err (list_in d field.Contents) ∷ each_content_fault names ids (list_of d field.Contents) ∷ [])
+contents_fault names ids d = first_reason (result_err (list_in d field.Contents) ∷ each_content_fault names ids (list_of d field.Contents) ∷ [])
 
 -- (bookie, ledger, entry) for each entry of a range
 abbrev pub copies_of : ℕ → ℕ → ℕ × ℕ → List (ℕ × ℕ × ℕ)

@@ -44,15 +44,6 @@ fault_text (Limit field) = codes "8 Limit " ++ field_name field
 fault_text (BadLedger ledger flaw) = codes "9 BadLedger " ++ (decimal ledger ++ (codes " " ++ flaw_name flaw))
 fault_text NoMemory = codes "10 NoMemory"
 
--- the fault, unless the condition holds
-abbrev pub fault_unless : Bool → PictureFault → Option PictureFault
-fault_unless condition fault = if condition then None else Some fault
-
--- the first of these that is a fault
-abbrev pub first_fault : List (Option PictureFault) → Option PictureFault
-first_fault [] = None
-first_fault (check ∷ checks) = option_or check (first_fault checks)
-
 -- the first fault along a list, each element judged with those that stand before it
 abbrev pub fault_along : (List Data → Data → Option PictureFault) → List Data → List Data → Option PictureFault
 fault_along judge before [] = None

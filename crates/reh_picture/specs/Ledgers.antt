@@ -19,7 +19,8 @@ use Rattle.reh_picture.specs.declared.faults.LedgerFlaw.TheVariants as flaw
 use Rattle.reh_picture.specs.declared.faults.Repeated.TheVariants as repeated
 use Rattle.reh_picture.specs.declared.faults.PictureFault.{PictureFault}
 use Rattle.reh_picture.specs.declared.faults.PictureFault.TheVariants.{WrongKind, Twice, Limit, BadLedger, NoMemory}
-use Rattle.reh_picture.specs.Faults.{first_fault, fault_unless, fault_along}
+use Rattle.reh_model.specs.Checks.{first_reason, reason_unless}
+use Rattle.reh_picture.specs.Faults.{fault_along}
 use Rattle.reh_picture.specs.Members.{is_object, number_in, text_in, list_in, integer_in, number_of, text_of, list_of, number_fault, list_fault}
 use Rattle.reh_picture.specs.Bookies.{bookie_in, known_fault}
 
@@ -34,7 +35,7 @@ member_name d = result_unwrap_or (member_name_in d) []
 
 -- the first fault of a member, in a picture whose bookies have these names
 abbrev pub member_fault : List (List ℕ) → Data → Option PictureFault
-member_fault names d = first_fault (result_err (member_name_in d) ∷ known_fault names (member_name d) ∷ [])
+member_fault names d = first_reason (result_err (member_name_in d) ∷ known_fault names (member_name d) ∷ [])
 
 -- the first fault of an ensemble's members
 unfoldable pub members_fault : List (List ℕ) → List Data → Option PictureFault
@@ -42,8 +43,8 @@ members_fault names members = fault_along (λ _ d. member_fault names d) [] memb
 
 abbrev pub fragment_fault : List (List ℕ) → Data → Option PictureFault
 fragment_fault names d =
-    first_fault (
-    fault_unless (is_object d) (WrongKind field.Fragment)
+    first_reason (
+    reason_unless (is_object d) (WrongKind field.Fragment)
     ∷ number_fault d field.FirstEntry 0 MAX_ENTRY_ID
     ∷ result_err (list_in d field.Ensemble)
     ∷ members_fault names (list_of d field.Ensemble)
@@ -73,7 +74,7 @@ end_in d = option_and_then end_after (result_ok (integer_in d field.LastEntryId)
 -- what is wrong with the last entry id, which only a closed ledger has
 abbrev pub last_fault : Data → Option PictureFault
 last_fault d =
-    if is_closed d then first_fault (result_err (integer_in d field.LastEntryId) ∷ fault_unless (is_some (end_in d)) (Limit field.LastEntryId) ∷ []) else None
+    if is_closed d then first_reason (result_err (integer_in d field.LastEntryId) ∷ reason_unless (is_some (end_in d)) (Limit field.LastEntryId) ∷ []) else None
 
 abbrev pub state_in : Data → LedgerState
 state_in d =
@@ -82,9 +83,9 @@ state_in d =
 -- what is wrong with a ledger's state
 abbrev pub state_fault : Data → Option PictureFault
 state_fault d =
-    first_fault (
+    first_reason (
     result_err (text_in d field.State)
-    ∷ fault_unless (is_state (text_of d field.State)) (WrongKind field.State)
+    ∷ reason_unless (is_state (text_of d field.State)) (WrongKind field.State)
     ∷ last_fault d
     ∷ [])
 
@@ -93,7 +94,7 @@ state_fault d =
 -- what is wrong with a ledger's sizes by themselves
 abbrev pub sizes_fault : Data → Option PictureFault
 sizes_fault d =
-    first_fault (
+    first_reason (
     result_err (number_in d field.EnsembleSize)
     ∷ result_err (number_in d field.WriteQuorumSize)
     ∷ result_err (number_in d field.AckQuorumSize)
@@ -125,7 +126,7 @@ broken_rule ledger meta.NoMemory = NoMemory
 -- the first fault of a ledger's metadata: its fields in their order, and then its rules
 unfoldable pub metadata_fault : List (List ℕ) → ℕ → Data → Option PictureFault
 metadata_fault names ledger d =
-    first_fault (
+    first_reason (
     state_fault d
     ∷ sizes_fault d
     ∷ number_fault d field.Version 0 MAX_VERSION
@@ -139,10 +140,10 @@ metadata_fault names ledger d =
 -- the first fault of a ledger that follows the ledgers with these ids
 abbrev pub ledger_fault : List (List ℕ) → List ℕ → Data → Option PictureFault
 ledger_fault names ids d =
-    first_fault (
-    fault_unless (is_object d) (WrongKind field.Ledger)
+    first_reason (
+    reason_unless (is_object d) (WrongKind field.Ledger)
     ∷ number_fault d field.Id 0 MAX_LEDGER_ID
-    ∷ fault_unless (not (list_any (nat_eq (number_of d field.Id)) ids)) (Twice (repeated.Ledger (number_of d field.Id)))
+    ∷ reason_unless (not (list_any (nat_eq (number_of d field.Id)) ids)) (Twice (repeated.Ledger (number_of d field.Id)))
     ∷ metadata_fault names (number_of d field.Id) d
     ∷ [])
 
@@ -155,7 +156,7 @@ each_ledger_fault names ledgers = fault_along (λ before d. ledger_fault names (
 
 -- what is wrong with a picture's ledgers
 unfoldable pub ledgers_fault : List (List ℕ) → Data → Option PictureFault
-ledgers_fault names d = first_fault (list_fault d field.Ledgers 0 MAX_LEDGERS ∷ each_ledger_fault names (list_of d field.Ledgers) ∷ [])
+ledgers_fault names d = first_reason (list_fault d field.Ledgers 0 MAX_LEDGERS ∷ each_ledger_fault names (list_of d field.Ledgers) ∷ [])
 
 -- the ledger, with no task and no lock
 abbrev pub ledger_in : List (List ℕ) → Data → Ledger

@@ -8,7 +8,7 @@ use Rattle.reh_picture.specs.declared.fields.Field.{Field}
 use Rattle.reh_picture.specs.declared.faults.PictureFault.{PictureFault}
 use Rattle.reh_picture.specs.declared.faults.PictureFault.TheVariants.{Missing, WrongKind, Limit}
 use Rattle.reh_picture.specs.Fields.{field_name}
-use Rattle.reh_picture.specs.Faults.{first_fault, fault_unless}
+use Rattle.reh_model.specs.Checks.{first_reason, reason_unless}
 
 -- the elements of a JSON list
 abbrev pub elements : Items → List Data
@@ -60,9 +60,9 @@ list_of d field = result_unwrap_or (list_in d field) []
 -- what is wrong with a member that must be a number within these bounds
 abbrev pub number_fault : Data → Field → ℕ → ℕ → Option PictureFault
 number_fault d field least most =
-    first_fault (result_err (number_in d field) ∷ fault_unless (nat_le least (number_of d field) && nat_le (number_of d field) most) (Limit field) ∷ [])
+    first_reason (result_err (number_in d field) ∷ reason_unless (nat_le least (number_of d field) && nat_le (number_of d field) most) (Limit field) ∷ [])
 
 -- what is wrong with a member that must be a list with a number of elements within these bounds
 abbrev pub list_fault : Data → Field → ℕ → ℕ → Option PictureFault
 list_fault d field least most =
-    first_fault (result_err (list_in d field) ∷ fault_unless (nat_le least (length (list_of d field)) && nat_le (length (list_of d field)) most) (Limit field) ∷ [])
+    first_reason (result_err (list_in d field) ∷ reason_unless (nat_le least (length (list_of d field)) && nat_le (length (list_of d field)) most) (Limit field) ∷ [])

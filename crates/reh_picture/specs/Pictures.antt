@@ -10,7 +10,7 @@ use Rattle.reh_model.specs.WellFormed.{words_of}
 use Rattle.reh_picture.specs.declared.fields.Field.TheVariants as field
 use Rattle.reh_picture.specs.declared.faults.PictureFault.{PictureFault}
 use Rattle.reh_picture.specs.declared.faults.PictureFault.TheVariants.{TooLong, NotJson, WrongKind, Limit}
-use Rattle.reh_picture.specs.Faults.{first_fault, fault_unless}
+use Rattle.reh_model.specs.Checks.{first_reason, reason_unless}
 use Rattle.reh_picture.specs.Members.{is_object, number_fault, number_of, list_of}
 use Rattle.reh_picture.specs.Bookies.{bookies_fault, names_in, registered_in}
 use Rattle.reh_picture.specs.Ledgers.{ledgers_fault, ledger_in, ids_in}
@@ -42,8 +42,8 @@ words_in_all s = length s.names * sum_by (λ g. words_of s.held g.id) s.ledgers
 -- what is wrong before the lists
 unfoldable pub head_fault : Data → Option PictureFault
 head_fault d =
-    first_fault (
-    fault_unless (is_object d) (WrongKind field.Picture)
+    first_reason (
+    reason_unless (is_object d) (WrongKind field.Picture)
     ∷ number_fault d field.Format 1 1
     ∷ number_fault d field.Grace 0 MAX_GRACE
     ∷ [])
@@ -51,7 +51,7 @@ head_fault d =
 -- the first fault of a picture's fields, in their order
 abbrev pub parts_fault : Data → Option PictureFault
 parts_fault d =
-    first_fault (
+    first_reason (
     head_fault d
     ∷ bookies_fault d
     ∷ ledgers_fault (names_of d) d
@@ -60,7 +60,7 @@ parts_fault d =
 
 -- at the end of all, the limit of words
 abbrev pub fields_fault : Data → Option PictureFault
-fields_fault d = first_fault (parts_fault d ∷ fault_unless (nat_le (words_in_all (cluster_in d)) MAX_WORDS) (Limit field.Contents) ∷ [])
+fields_fault d = first_reason (parts_fault d ∷ reason_unless (nat_le (words_in_all (cluster_in d)) MAX_WORDS) (Limit field.Contents) ∷ [])
 
 -- the cluster, unless there is a fault
 abbrev pub unless_fault : Option PictureFault → Cluster → Result Cluster PictureFault

@@ -11,7 +11,7 @@ use Rattle.reh_cluster.proofs.states.State.finish.Goals as goal
 
 changed : (c : goal.After-self-1) → record (cluster_in c.self.inside) { ledgers = set c.self.inside.ledgers.items c.in-Some.place c.finish.new.self } ≡ change_ledger (cluster_in c.self.inside) c.args.ledger finished
 changed c =
-    change_ledger-set (cluster_in c.self.inside) c.args.ledger finished c.in-Some.place c.index_mut.result.now c.finish.new.self c.self.invariant.different
+    change_ledger-set (cluster_in c.self.inside) c.args.ledger finished c.in-Some.place c.index_mut.result.now c.finish.new.self c.self.invariant.ledgers.different
     (ap (λ (gs : List Ledger). position (λ g. g.id == c.args.ledger) gs) (sym c.deref.ensures.value) ∙ sym c.place_of.ensures ∙ c.in-Some.is)
     c.index_mut.ensures.value c.finish.ensures
 

@@ -11,7 +11,7 @@ use Rattle.reh_cluster.proofs.states.State.lock.Goals as goal
 
 changed : (c : goal.After-self-1) → record (cluster_in c.self.inside) { ledgers = set c.self.inside.ledgers.items c.in-Some.place c.lock_by.new.self } ≡ change_ledger (cluster_in c.self.inside) c.args.ledger (locked_by c.args.worker)
 changed c =
-    change_ledger-set (cluster_in c.self.inside) c.args.ledger (locked_by c.args.worker) c.in-Some.place c.index_mut.result.now c.lock_by.new.self c.self.invariant.different
+    change_ledger-set (cluster_in c.self.inside) c.args.ledger (locked_by c.args.worker) c.in-Some.place c.index_mut.result.now c.lock_by.new.self c.self.invariant.ledgers.different
     (ap (λ (gs : List Ledger). position (λ g. g.id == c.args.ledger) gs) (sym c.deref.ensures.value) ∙ sym c.place_of.ensures ∙ c.in-Some.is)
     c.index_mut.ensures.value c.lock_by.ensures
 

@@ -14,14 +14,14 @@ use Rattle.reh_cluster.proofs.states.State.swap.Goals as goal
 may : (c : goal.After-index_mut) → IsSwappable (cluster_in c.self.inside) c.index_mut.result.now c.args.worker c.args.fragment c.args.index
 may c =
     swappable-found (cluster_in c.self.inside) c.args.worker c.args.ledger c.args.fragment c.args.index c.args.version c.index_mut.result.now c.self.invariant
-    (ledger_at-position (cluster_in c.self.inside) c.args.ledger c.in-Some.place c.index_mut.result.now c.self.invariant.different
+    (ledger_at-position (cluster_in c.self.inside) c.args.ledger c.in-Some.place c.index_mut.result.now c.self.invariant.ledgers.different
     (ap (λ (gs : List Ledger). position (λ g. g.id == c.args.ledger) gs) (sym c.deref.ensures.value) ∙ sym c.place_of.ensures ∙ c.in-Some.is)
     c.index_mut.ensures.value)
     (ap (λ (s : Cluster). refusal_of s (Swap c.args.worker c.args.ledger c.args.fragment c.args.index c.args.version)) c.self.view_is ∙ c.requires)
 
 changed : (c : goal.In_ok-replace_member) → record (cluster_in c.self.inside) { ledgers = set c.self.inside.ledgers.items c.in-Some.place c.replace_member.new.self } ≡ change_ledger (cluster_in c.self.inside) c.args.ledger (swapped c.args.fragment c.args.index c.args.worker)
 changed c =
-    change_ledger-set (cluster_in c.self.inside) c.args.ledger (swapped c.args.fragment c.args.index c.args.worker) c.in-Some.place c.index_mut.result.now c.replace_member.new.self c.self.invariant.different
+    change_ledger-set (cluster_in c.self.inside) c.args.ledger (swapped c.args.fragment c.args.index c.args.worker) c.in-Some.place c.index_mut.result.now c.replace_member.new.self c.self.invariant.ledgers.different
     (ap (λ (gs : List Ledger). position (λ g. g.id == c.args.ledger) gs) (sym c.deref.ensures.value) ∙ sym c.place_of.ensures ∙ c.in-Some.is)
     c.index_mut.ensures.value c.in_ok-replace_member.ensures.ok
 
