@@ -6,9 +6,8 @@ use crate::plays::PlayFault;
 use reh_picture::PictureFault;
 use std::alloc::AllocError;
 use std::error::Error;
-use std::fmt;
-use std::io;
 use std::io::ErrorKind;
+use std::{fmt, io};
 
 /// Why a run ends early. Its text is what standard error shows.
 #[derive(Debug, Drop)]
