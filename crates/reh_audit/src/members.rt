@@ -14,7 +14,7 @@ use reh_types::{BookieSet, LedgerId};
 /// ledger's metadata.
 pub fn missing(state: &State, ledger: LedgerId) -> BookieSet
     requires { IsSome (ledger_at state.now ledger) }
-    ensures { ForSome (ledger_at state.now ledger) (λ g. result ≡ model.missing state.now.up g) }
+    ensures { ForSome (ledger_at state.now ledger) (λ g. result ≡ model.missing_members state.now.up g) }
 {
     let up = state.up();
     let found = state.ledger(ledger).unwrap();

@@ -2,3 +2,4 @@ pub mod NamesLemmas
 pub mod MissingLaws
 pub mod MemberLaws
 pub mod ResultLaws
+pub mod ChangeLaws

@@ -6,7 +6,7 @@ ghost use Rattle.reh_types.specs.declared.limits.TheConstants.{MAX_BOOKIES, MAX_
 ghost use Rattle.reh_types.specs.Sets as set;
 ghost use Rattle.reh_model.specs.Cluster as model;
 ghost use Rattle.reh_model.specs.Audit as audit;
-ghost use Rattle.reh_model.specs.Step.{locked_by, unlocked, finished, expired, swapped};
+ghost use Rattle.reh_model.specs.Step.{locked_ledger, unlocked_ledger, finished_ledger, expired_ledger, swapped_ledger};
 ghost use Rattle.reh_cluster.specs.Members.{HasBookies};
 
 use reh_meta::{Fragment, LedgerMeta};
@@ -95,7 +95,7 @@ impl Ledger {
     /// auditor finds where a bookie is lost. Each member has to be one of the 64 bookies that there can be.
     pub fn missing(&self, up: &BookieSet) -> BookieSet
         requires { HasBookies self.now }
-        ensures { result ≡ audit.missing up.now self.now }
+        ensures { result ≡ audit.missing_members up.now self.now }
     {
         missing_from(self.metadata.fragments(), up)
     }
@@ -114,7 +114,7 @@ impl Ledger {
     /// of which each has to be one of the 64 bookies that there can be.
     pub fn published(&self, up: &BookieSet) -> BookieSet
         requires { HasBookies self.now }
-        ensures { result ≡ audit.published up.now self.now }
+        ensures { result ≡ audit.published_members up.now self.now }
     {
         self.task_set().union(&self.missing(up))
     }
@@ -122,7 +122,7 @@ impl Ledger {
     /// Adds the missing members to the ledger's task, which is made if there is none.
     fn publish(&mut self, up: &BookieSet)
         requires { HasBookies self.old }
-        ensures { self.new ≡ audit.audited up.now self.old }
+        ensures { self.new ≡ audit.audited_ledger up.now self.old }
     {
         if !self.missing(up).is_empty() {
             self.task = Some(self.published(up));
@@ -131,7 +131,7 @@ impl Ledger {
 
     /// The worker locks the ledger's task.
     pub(crate) fn lock_by(&mut self, worker: BookieIx)
-        ensures { self.new ≡ locked_by worker self.old }
+        ensures { self.new ≡ locked_ledger worker self.old }
     {
         self.lock = Some(Lock {
             owner: worker,
@@ -141,14 +141,14 @@ impl Ledger {
 
     /// Takes the lock away.
     pub(crate) fn unlock(&mut self)
-        ensures { self.new ≡ unlocked self.old }
+        ensures { self.new ≡ unlocked_ledger self.old }
     {
         self.lock = None;
     }
 
     /// Takes the task away, with its lock.
     pub(crate) fn finish(&mut self)
-        ensures { self.new ≡ finished self.old }
+        ensures { self.new ≡ finished_ledger self.old }
     {
         self.task = None;
         self.lock = None;
@@ -166,7 +166,7 @@ impl Ledger {
         requires index { index < self.old.metadata.size }
         requires new { ForSome (slice_get self.old.metadata.fragments fragment) (λ old. list_any (λ member. member == bookie) old.ensemble ≡ false) }
         requires version { self.old.metadata.version < MAX_VERSION }
-        ensures ok { OnOk result (self.new ≡ swapped fragment index bookie self.old) }
+        ensures ok { OnOk result (self.new ≡ swapped_ledger fragment index bookie self.old) }
         ensures err { OnErr result (self.new ≡ self.old) }
     {
         self.metadata = self.metadata.with_member(fragment, index, bookie)?;
@@ -175,7 +175,7 @@ impl Ledger {
 
     /// Takes the lock away if it is this worker's.
     fn expire(&mut self, worker: BookieIx)
-        ensures { self.new ≡ expired worker self.old }
+        ensures { self.new ≡ expired_ledger worker self.old }
     {
         if self.is_locked_by(worker) {
             self.unlock();
@@ -222,7 +222,7 @@ fn missing_from(fragments: &[Fragment], up: &BookieSet) -> BookieSet
 /// Publishes the missing members of each ledger.
 pub(crate) fn publish_all(ledgers: &mut [Ledger], up: &BookieSet)
     requires { All HasBookies ledgers.old }
-    ensures { ledgers.new ≡ map (audit.audited up.now) ledgers.old }
+    ensures { ledgers.new ≡ map (audit.audited_ledger up.now) ledgers.old }
 {
     for ledger in ledgers.iter_mut() {
         ledger.publish(up);
@@ -231,7 +231,7 @@ pub(crate) fn publish_all(ledgers: &mut [Ledger], up: &BookieSet)
 
 /// Takes away all locks of the worker.
 pub(crate) fn expire_all(ledgers: &mut [Ledger], worker: BookieIx)
-    ensures { ledgers.new ≡ map (expired worker) ledgers.old }
+    ensures { ledgers.new ≡ map (expired_ledger worker) ledgers.old }
 {
     for ledger in ledgers.iter_mut() {
         ledger.expire(worker);

@@ -13,7 +13,7 @@ abbrev pub contents_of : Inside → Contents
 contents_of a = set.from_list a.copies.keys
 
 -- the maps say what the copies do
-pub record IsKept (a : Inside) : Type 0 where
+pub record HasTallies (a : Inside) : Type 0 where
   -- the greatest entry of each ledger, if it has one
   pub greatest : (ledger : ℕ) → unwrap_or (get nat_cmp a.greatest ledger) None ≡ greatest_held (contents_of a) ledger
   -- how many entries each bookie holds

@@ -26,11 +26,11 @@ impl Model for Held {
 
     ghost Value = { HeldValue };
 
-    ghost use Rattle.reh_held.specs.Kept.{contents_of, IsKept};
+    ghost use Rattle.reh_held.specs.Kept.{contents_of, HasTallies};
 
     ghost view = { λ a. record { contents = contents_of a } };
 
-    ghost invariant = { IsKept };
+    ghost invariant = { HasTallies };
 }
 
 impl Held {

@@ -16,15 +16,15 @@ use Rattle.reh_types.specs.declared.refusals.Refusal.{Refusal}
 use Rattle.reh_types.specs.declared.refusals.Refusal.TheVariants.{NoSource, MissingEntry, Full}
 use Rattle.reh_types.specs.Sets.{Set, numbers}
 use Rattle.reh_model.specs.Contents.{IsHeld}
-use Rattle.reh_model.specs.Metadata.{Fragment, stop_of, striped_of, writes}
-use Rattle.reh_model.specs.Cluster.{Cluster, Ledger, is_up, holds, is_readable, ledger_at, stop_at, striped_at}
+use Rattle.reh_model.specs.Metadata.{Fragment, stop_of, stripe_of, writes}
+use Rattle.reh_model.specs.Cluster.{Cluster, Ledger, is_up, holds, is_readable, ledger_at, stop_at, stripe_at}
 use Rattle.reh_model.specs.Checks.{first_reason, reason_if}
-use Rattle.reh_model.specs.Refusals.{with_ledger, at_ledger, with_fragment, no_bookie, already_up, no_task, locked, bad_tick, clock_end, stale, not_owner, no_index, member_up, target_down, target_is_member, no_endpoint, no_place, no_source, missing_entry, version_end}
+use Rattle.reh_model.specs.Refusals.{with_ledger, at_ledger, with_fragment, no_bookie, already_up, no_task, lock_held, bad_tick, clock_end, stale_version, not_owner, no_index, member_up, target_down, target_is_member, no_endpoint, no_place, no_source, missing_entry, version_end}
 use Rattle.reh_model.specs.Step.{refusal_of, place_checks, copy_checks, swap_checks}
-use Rattle.reh_model.specs.Session.{Session, state_of, done_unless, full, reply_to}
+use Rattle.reh_model.specs.Session.{Session, state_of, done_unless, no_room, reply_to}
 use Rattle.reh_model.specs.Swaps.{HoldsStripe}
 use Rattle.reh_model.proofs.CheckLaws.{reason_if-none, find-none, check-none, first_reason-only, first_reason-found, first_reason-passed}
-use Rattle.reh_model.proofs.LedgerLaws.{id_found, stop_at-found, striped_at-found}
+use Rattle.reh_model.proofs.LedgerLaws.{id_found, stop_at-found, stripe_at-found}
 
 -- The checks of a ledger and of a fragment
 
@@ -107,10 +107,10 @@ accepted_join s b none = no_bookie-none s b (check-none [] (no_bookie s b) (alre
 -- a worker that locks a ledger is in the picture, and the ledger has a task
 pub accepted_acquire : (s : Cluster) (w l : ℕ) (g : Ledger) → ledger_at s l ≡ Some g → refusal_of s (Acquire w l) ≡ None → (w < length s.names) × IsSome g.task
 accepted_acquire s w l g found none =
-    let checks : Ledger → List (Option Refusal) = λ g. no_task g ∷ locked g ∷ [] in
+    let checks : Ledger → List (Option Refusal) = λ g. no_task g ∷ lock_held g ∷ [] in
     let free : first_reason (checks g) ≡ None = at_ledger-none s l checks g found (check-none (no_bookie s w ∷ []) (at_ledger s l checks) [] none) in (
       no_bookie-none s w (check-none [] (no_bookie s w) (at_ledger s l checks ∷ []) none),
-      no_task-none g (check-none [] (no_task g) (locked g ∷ []) free),
+      no_task-none g (check-none [] (no_task g) (lock_held g ∷ []) free),
     )
 
 -- ticks do not pass the clock's end
@@ -135,7 +135,7 @@ IsHeld-readable s l e (b ∷ bs) any =
 -- what an accepted copy shows: the bookie is in the picture, and each entry that it takes is held by some bookie
 pub record IsCopyable (s : Cluster) (w l f i : ℕ) : Type 0 where
   pub named : w < length s.names
-  pub held : All (λ e. IsHeld s.held l e) (striped_at s l f i)
+  pub held : All (λ e. IsHeld s.held l e) (stripe_at s l f i)
 
 pub accepted_copy : (s : Cluster) (w l f i v : ℕ) → refusal_of s (Copy w l f i v) ≡ None → IsCopyable s w l f i
 accepted_copy s w l f i v none =
@@ -144,13 +144,13 @@ accepted_copy s w l f i v none =
     let g = found.ledger in
     let source = with_fragment-none (slice_get g.metadata.fragments f) _ (check-none (place_checks s w f i v g) (no_source s g f i) [] found.passes) in
     let fragment = source.fragment in
-    let entries = striped_of g.metadata f i in
+    let entries = stripe_of g.metadata f i in
     let readable : All (λ e. not (is_readable s g fragment e) ≡ false) entries = find-none (λ e. not (is_readable s g fragment e)) (λ e. NoSource e) entries (check-none [] _ [] source.passes) in
     let held : All (λ e. IsHeld s.held g.id e) entries =
     All-weaker (λ e. not (is_readable s g fragment e) ≡ false) (λ e. IsHeld s.held g.id e) (λ e is. IsHeld-readable s g.id e (writes g.metadata fragment e) (not_not (is_readable s g fragment e) is)) entries readable in
     record {
       named = no_bookie-none s w (check-none [] (no_bookie s w) (at_ledger s l checks ∷ []) none);
-      held = subst (λ (es : List ℕ). All (λ e. IsHeld s.held l e) es) (sym (striped_at-found s l f i g found.is)) (subst (λ (k : ℕ). All (λ e. IsHeld s.held k e) entries) (id_found l s.ledgers g found.is) held);
+      held = subst (λ (es : List ℕ). All (λ e. IsHeld s.held l e) es) (sym (stripe_at-found s l f i g found.is)) (subst (λ (k : ℕ). All (λ e. IsHeld s.held k e) entries) (id_found l s.ledgers g found.is) held);
     }
 
 -- Swaps
@@ -167,7 +167,7 @@ pub accepted_swap : (s : Cluster) (w l f i v : ℕ) (g : Ledger) → ledger_at s
 accepted_swap s w l f i v g found few none =
     let checks : Ledger → List (Option Refusal) = swap_checks s w f i v in
     let passes : first_reason (checks g) ≡ None = at_ledger-none s l checks g found (check-none (no_bookie s w ∷ []) (at_ledger s l checks) [] none) in
-    let place = with_fragment-none (slice_get g.metadata.fragments f) _ (check-none (not_owner w g ∷ stale g v ∷ []) (no_place s w g f i) (missing_entry s w g f i ∷ version_end g ∷ []) passes) in
+    let place = with_fragment-none (slice_get g.metadata.fragments f) _ (check-none (not_owner w g ∷ stale_version g v ∷ []) (no_place s w g f i) (missing_entry s w g f i ∷ version_end g ∷ []) passes) in
     let old = place.fragment in
     let new : list_any (λ member. member == w) old.ensemble ≡ false = reason_if-none _ _ (check-none (no_index g i ∷ member_up s old i ∷ target_down s w ∷ []) (target_is_member old w) (no_endpoint g f ∷ []) place.passes) in
     record {
@@ -191,14 +191,14 @@ accepted_swap_holds s w l f i v none =
     let checks : Ledger → List (Option Refusal) = swap_checks s w f i v in
     let found = with_ledger-none (ledger_at s l) checks (check-none (no_bookie s w ∷ []) (at_ledger s l checks) [] none) in
     let g : Ledger = found.ledger in
-    let entries : List ℕ = striped_of g.metadata f i in
-    let place = with_fragment-none (slice_get g.metadata.fragments f) _ (check-none (not_owner w g ∷ stale g v ∷ []) (no_place s w g f i) (missing_entry s w g f i ∷ version_end g ∷ []) found.passes) in
+    let entries : List ℕ = stripe_of g.metadata f i in
+    let place = with_fragment-none (slice_get g.metadata.fragments f) _ (check-none (not_owner w g ∷ stale_version g v ∷ []) (no_place s w g f i) (missing_entry s w g f i ∷ version_end g ∷ []) found.passes) in
     let ends : IsSome (stop_of g.metadata f) = no_endpoint-none g f (check-none (no_index g i ∷ member_up s place.fragment i ∷ target_down s w ∷ target_is_member place.fragment w ∷ []) (no_endpoint g f) [] place.passes) in
     let lacks : missing_entry s w g f i ≡ None = check-none (place_checks s w f i v g) (missing_entry s w g f i) (version_end g ∷ []) found.passes in
     let each : All (λ e. holds s w g.id e ≡ true) entries =
     All-weaker (λ e. not (holds s w g.id e) ≡ false) (λ e. holds s w g.id e ≡ true) (λ e is. not_not (holds s w g.id e) is) entries (find-none (λ e. not (holds s w g.id e)) (λ e. MissingEntry e) entries lacks) in (
       subst (λ (o : Option ℕ). IsSome o) (sym (stop_at-found s l f g found.is)) ends,
-      subst (λ (es : List ℕ). All (λ e. holds s w l e ≡ true) es) (sym (striped_at-found s l f i g found.is))
+      subst (λ (es : List ℕ). All (λ e. holds s w l e ≡ true) es) (sym (stripe_at-found s l f i g found.is))
       (subst (λ (k : ℕ). All (λ e. holds s w k e ≡ true) entries) (id_found l s.ledgers g found.is) each),
     )
 
@@ -207,17 +207,17 @@ accepted_swap_holds s w l f i v none =
 -- an event that is done was not refused
 pub done_accepted : (m : Session) (event : Event) → reply_to m (Do event) ≡ Done → refusal_of (state_of m) event ≡ None
 done_accepted m event done = none (refusal_of (state_of m) event) done where
-  none : (o : Option Refusal) → done_unless (first_reason (o ∷ full m ∷ [])) ≡ Done → o ≡ None
+  none : (o : Option Refusal) → done_unless (first_reason (o ∷ no_room m ∷ [])) ≡ Done → o ≡ None
   none None is = refl
   none (Some refusal) is = cc
 
 -- an event that is refused is answered so
 pub refused_first : (m : Session) (event : Event) (refusal : Refusal) → refusal_of (state_of m) event ≡ Some refusal → reply_to m (Do event) ≡ Refused refusal
-refused_first m event refusal is = ap (λ (o : Option Refusal). done_unless (first_reason (o ∷ full m ∷ []))) is
+refused_first m event refusal is = ap (λ (o : Option Refusal). done_unless (first_reason (o ∷ no_room m ∷ []))) is
 
 -- an event that is not refused is done, where there is room
 pub done_within : (m : Session) (event : Event) → refusal_of (state_of m) event ≡ None → length m.done < MAX_EVENTS → reply_to m (Do event) ≡ Done
 done_within m event accepted room =
     let few : nat_le MAX_EVENTS (length m.done) ≡ false = grind (arith, nat_tests) in
-    ap (λ (o : Option Refusal). done_unless (first_reason (o ∷ full m ∷ []))) accepted
+    ap (λ (o : Option Refusal). done_unless (first_reason (o ∷ no_room m ∷ []))) accepted
     ∙ ap (λ (b : Bool). done_unless (first_reason (reason_if b Full ∷ []))) few

@@ -10,7 +10,7 @@ use Rattle.reh_types.specs.Sets.{numbers, contains, items, empty, is_empty, len,
 use Rattle.reh_types.proofs.SetLaws.{is_empty-union, All-items}
 use Rattle.reh_model.specs.Metadata.{Fragment}
 use Rattle.reh_model.specs.Cluster.{Cluster, Ledger, task_set}
-use Rattle.reh_model.specs.Audit.{members_of, missing, published}
+use Rattle.reh_model.specs.Audit.{members_of, missing_members, published_members}
 use Rattle.reh_model.specs.WellFormed.{IsLedger}
 
 -- what holds of each number of a list holds of one that is found there
@@ -27,7 +27,7 @@ All-flat_map P f [] all = All-nil P
 All-flat_map P f (x ∷ xs) all = All-append P (f x) (flat_map f xs) (All-head (λ x. All P (f x)) x xs all) (All-flat_map P f xs (All-tail (λ x. All P (f x)) x xs all))
 
 -- a missing member is a bookie of the cluster
-missing_named : (s : Cluster) (g : Ledger) → IsLedger (length s.names) (s.clock + s.grace) g → (b : ℕ) → contains (missing s.up g) b ≡ true → b < length s.names
+missing_named : (s : Cluster) (g : Ledger) → IsLedger (length s.names) (s.clock + s.grace) g → (b : ℕ) → contains (missing_members s.up g) b ≡ true → b < length s.names
 missing_named s g was b one =
     All-found (λ b. b < length s.names) (filter (λ b. not (contains s.up b)) (members_of g.metadata))
     (All-filter (λ b. not (contains s.up b)) (λ b. b < length s.names) (members_of g.metadata) (All-flat_map (λ b. b < length s.names) (λ (fragment : Fragment). fragment.ensemble) g.metadata.fragments was.members))
@@ -42,20 +42,20 @@ task_named s g was b =
     ] refl
 
 -- what is published names bookies of the cluster
-pub published_named : (s : Cluster) (g : Ledger) → IsLedger (length s.names) (s.clock + s.grace) g → All (λ b. b < length s.names) (items (published s.up g))
-published_named s g was = All-items (λ b. b < length s.names) (published s.up g) (λ b one.
-    either (contains (task_set g) b) (contains (missing s.up g) b) (b < length s.names) (task_named s g was b) (missing_named s g was b)
-    (sym (contains-union (task_set g) (missing s.up g) b) ∙ one))
+pub published_named : (s : Cluster) (g : Ledger) → IsLedger (length s.names) (s.clock + s.grace) g → All (λ b. b < length s.names) (items (published_members s.up g))
+published_named s g was = All-items (λ b. b < length s.names) (published_members s.up g) (λ b one.
+    either (contains (task_set g) b) (contains (missing_members s.up g) b) (b < length s.names) (task_named s g was b) (missing_named s g was b)
+    (sym (contains-union (task_set g) (missing_members s.up g) b) ∙ one))
   where
     either : (p q : Bool) (P : Type 0) → (p ≡ true → P) → (q ≡ true → P) → (p || q) ≡ true → P
     either true q P first second one = first refl
     either false q P first second one = second one
 
 -- where a member is missing, some bookie is published
-pub published_some : (s : Cluster) (g : Ledger) → is_empty (missing s.up g) ≡ false → 0 < len (published s.up g)
+pub published_some : (s : Cluster) (g : Ledger) → is_empty (missing_members s.up g) ≡ false → 0 < len (published_members s.up g)
 unfolding is_empty
 published_some s g some =
-    elim (is_empty (published s.up g)) as (λ b. is_empty (published s.up g) ≡ b → 0 < len (published s.up g)) [
-      | true ↦ λ none. absurd (true≢false (sym (is_empty-union (task_set g) (missing s.up g) none) ∙ some))
+    elim (is_empty (published_members s.up g)) as (λ b. is_empty (published_members s.up g) ≡ b → 0 < len (published_members s.up g)) [
+      | true ↦ λ none. absurd (true≢false (sym (is_empty-union (task_set g) (missing_members s.up g) none) ∙ some))
       | false ↦ λ more. grind (arith, nat_tests)
     ] refl

@@ -13,13 +13,13 @@ use Rattle.reh_types.specs.declared.refusals.Refusal.TheVariants.{MissingEntry, 
 use Rattle.reh_types.specs.Sets.{contains, insert, retain, remove, empty, from_list, union, items, is_subset, is_empty, len}
 use Rattle.reh_model.specs.Metadata.{Metadata}
 use Rattle.reh_model.specs.Cluster.{Cluster, ledger_at}
-use Rattle.reh_model.specs.Session.{opened, state_of}
-use Rattle.reh_model.proofs.Examples.{replies, played}
+use Rattle.reh_model.specs.Session.{opened_session, state_of}
+use Rattle.reh_model.proofs.Examples.{replies, played_session}
 use Rattle.reh_model.proofs.TaskExamples.{five_bookies, closed_ledger, open_ledger}
 
 -- the second bookie is lost, and the fourth bookie's worker locks the ledger's task
-abbrev locked : ℕ → List Move
-locked ledger = Do (Lose 1) ∷ Do Audit ∷ Do (Acquire 3 ledger) ∷ []
+abbrev lock_held : ℕ → List Move
+lock_held ledger = Do (Lose 1) ∷ Do Audit ∷ Do (Acquire 3 ledger) ∷ []
 
 -- what that worker then does for the lost member
 abbrev copy : Move
@@ -33,11 +33,11 @@ finish = Do (Finish 3 7)
 
 -- the replies to the moves behind those that lock the closed ledger's task
 abbrev answers : Cluster → List Move → List Reply
-answers s moves = replies (played (opened s) (locked 7)) moves
+answers s moves = replies (played_session (opened_session s) (lock_held 7)) moves
 
 -- the state after them
 abbrev state_after : Cluster → List Move → Cluster
-state_after s moves = state_of (played (opened s) (locked 7 ++ moves))
+state_after s moves = state_of (played_session (opened_session s) (lock_held 7 ++ moves))
 
 -- the entries of a ledger that a bookie holds
 abbrev pub entries_of : Cluster → ℕ → ℕ → List ℕ
@@ -70,7 +70,7 @@ abbrev at_last_version : Cluster
 at_last_version = record five_bookies { ledgers = record closed_ledger { metadata = record closed_ledger.metadata { version = 10 ^ 12 } } ∷ open_ledger ∷ [] }
 
 -- a copy is made and undone
-pub copy_and_undo : replies (opened one_held) (locked 7 ++ copy ∷ Undo ∷ []) ≡ Done ∷ Done ∷ Done ∷ Done ∷ Done ∷ []
+pub copy_and_undo : replies (opened_session one_held) (lock_held 7 ++ copy ∷ Undo ∷ []) ≡ Done ∷ Done ∷ Done ∷ Done ∷ Done ∷ []
 unfolding contains insert retain remove empty from_list union items is_subset is_empty len
 copy_and_undo = refl
 
@@ -107,12 +107,12 @@ unfolding contains insert retain remove empty from_list union items is_subset is
 lock_after_swap = refl
 
 -- a ledger without entries needs no copy
-pub swap_without_entries : replies (opened one_empty) (locked 5 ++ Do (Swap 3 5 0 1 0) ∷ Do (Finish 3 5) ∷ []) ≡ Done ∷ Done ∷ Done ∷ Done ∷ Done ∷ []
+pub swap_without_entries : replies (opened_session one_empty) (lock_held 5 ++ Do (Swap 3 5 0 1 0) ∷ Do (Finish 3 5) ∷ []) ≡ Done ∷ Done ∷ Done ∷ Done ∷ Done ∷ []
 unfolding contains insert retain remove empty from_list union items is_subset is_empty len
 swap_without_entries = refl
 
 -- and is at the next version then
-pub version_without_entries : option_map (λ g. g.metadata.version) (ledger_at (state_of (played (opened one_empty) (locked 5 ++ Do (Swap 3 5 0 1 0) ∷ Do (Finish 3 5) ∷ []))) 5)
+pub version_without_entries : option_map (λ g. g.metadata.version) (ledger_at (state_of (played_session (opened_session one_empty) (lock_held 5 ++ Do (Swap 3 5 0 1 0) ∷ Do (Finish 3 5) ∷ []))) 5)
     ≡ Some 1
 unfolding contains insert retain remove empty from_list union items is_subset is_empty len
 version_without_entries = refl

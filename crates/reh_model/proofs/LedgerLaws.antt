@@ -6,8 +6,8 @@ use Rattle.std.specs.Option.{option_map, option_map_or, option_and_then}
 use Rattle.std.proofs.lemmas.Bool.Decides.{nat_tests}
 use Rattle.std.proofs.lemmas.List.Sums.{sum_by-cons, fails_before_first}
 use Rattle.std.proofs.lemmas.List.Quantifiers.{position-Some}
-use Rattle.reh_model.specs.Metadata.{stop_of, striped_of}
-use Rattle.reh_model.specs.Cluster.{Cluster, Ledger, ledger_at, stop_at, striped_at, change_ledger}
+use Rattle.reh_model.specs.Metadata.{stop_of, stripe_of}
+use Rattle.reh_model.specs.Cluster.{Cluster, Ledger, ledger_at, stop_at, stripe_at, change_ledger}
 
 -- Changes that keep every id
 
@@ -53,8 +53,8 @@ id_found l (h ∷ gs) g found =
     ] refl found
 
 -- the striped entries of a ledger that is found
-pub striped_at-found : (s : Cluster) (l f i : ℕ) (g : Ledger) → ledger_at s l ≡ Some g → striped_at s l f i ≡ striped_of g.metadata f i
-striped_at-found s l f i g found = ap (λ (o : Option Ledger). option_map_or (λ g. striped_of g.metadata f i) o []) found
+pub stripe_at-found : (s : Cluster) (l f i : ℕ) (g : Ledger) → ledger_at s l ≡ Some g → stripe_at s l f i ≡ stripe_of g.metadata f i
+stripe_at-found s l f i g found = ap (λ (o : Option Ledger). option_map_or (λ g. stripe_of g.metadata f i) o []) found
 
 -- its stop
 pub stop_at-found : (s : Cluster) (l f : ℕ) (g : Ledger) → ledger_at s l ≡ Some g → stop_at s l f ≡ stop_of g.metadata f

@@ -11,8 +11,8 @@ use Rattle.reh_types.specs.declared.refusals.Refusal.TheVariants.{NoBookie, NoLe
 use Rattle.reh_types.specs.Sets.{contains, insert, retain, remove, empty, from_list, union, items, is_subset, is_empty, len}
 use Rattle.reh_model.specs.Metadata.{Metadata}
 use Rattle.reh_model.specs.Cluster.{Cluster, Ledger}
-use Rattle.reh_model.specs.Session.{Session, opened, state_of}
-use Rattle.reh_model.proofs.Examples.{replies, played}
+use Rattle.reh_model.specs.Session.{Session, opened_session, state_of}
+use Rattle.reh_model.proofs.Examples.{replies, played_session}
 use Rattle.reh_model.proofs.TaskExamples.{row}
 use Rattle.reh_model.proofs.CopyExamples.{entries_of}
 
@@ -66,16 +66,16 @@ abbrev at_last_version : Cluster
 at_last_version = record six_bookies { ledgers = untasked 7 (record closed_metadata { version = 10 ^ 12 }) ∷ [] }
 
 -- some bookies are lost, and a worker locks a ledger's task
-abbrev locked : List ℕ → ℕ → ℕ → List Event
-locked lost worker ledger = map Lose lost ++ Audit ∷ Acquire worker ledger ∷ []
+abbrev losses_and_lock : List ℕ → ℕ → ℕ → List Event
+losses_and_lock lost worker ledger = map Lose lost ++ Audit ∷ Acquire worker ledger ∷ []
 
 -- the replies to the moves behind those
 abbrev answers : List ℕ → ℕ → ℕ → List Move → List Reply
-answers lost worker ledger moves = replies (played (opened six_bookies) (map Do (locked lost worker ledger))) moves
+answers lost worker ledger moves = replies (played_session (opened_session six_bookies) (map Do (losses_and_lock lost worker ledger))) moves
 
 -- the session and the state after them
 abbrev session_of : List ℕ → ℕ → ℕ → List Move → Session
-session_of lost worker ledger moves = played (opened six_bookies) (map Do (locked lost worker ledger) ++ moves)
+session_of lost worker ledger moves = played_session (opened_session six_bookies) (map Do (losses_and_lock lost worker ledger) ++ moves)
 
 abbrev state_after : List ℕ → ℕ → ℕ → List Move → Cluster
 state_after lost worker ledger moves = state_of (session_of lost worker ledger moves)
@@ -96,8 +96,8 @@ abbrev all_metadata : Cluster → List Metadata
 all_metadata s = map (λ g. g.metadata) s.ledgers
 
 -- what a worker's bookie that held nothing of the ledger holds of it after a copy
-abbrev copied : ℕ → ℕ → ℕ → ℕ → ℕ → List ℕ
-copied lost ledger fragment index version = entries_of (state_after (lost ∷ []) 4 ledger (Do (Copy 4 ledger fragment index version) ∷ [])) 4 ledger
+abbrev entries_copied : ℕ → ℕ → ℕ → ℕ → ℕ → List ℕ
+entries_copied lost ledger fragment index version = entries_of (state_after (lost ∷ []) 4 ledger (Do (Copy 4 ledger fragment index version) ∷ [])) 4 ledger
 
 -- in this order: bookie, ledger, lock, version, fragment, index, and whether the member there is registered
 pub no_such_place : answers (1 ∷ []) 4 7 (both 6 8 3 3 0 ++ both 5 8 3 3 0 ++ both 5 7 3 3 0 ++ both 4 7 3 2 3 ++ both 4 7 3 3 4 ++ both 4 7 3 1 4 ++ both 4 7 2 3 4 ++ both 4 7 1 3 4
@@ -142,13 +142,13 @@ unfolding contains insert retain remove empty from_list union items is_subset is
 entries_of_the_fragment = refl
 
 -- what is missing comes before the last version
-pub missing_at_the_last_version : replies (played (opened at_last_version) (map Do (locked (1 ∷ []) 4 7))) (Do (Swap 4 7 2 0 (10 ^ 12)) ∷ both 4 7 2 0 (10 ^ 12))
+pub missing_at_the_last_version : replies (played_session (opened_session at_last_version) (map Do (losses_and_lock (1 ∷ []) 4 7))) (Do (Swap 4 7 2 0 (10 ^ 12)) ∷ both 4 7 2 0 (10 ^ 12))
     ≡ Refused (MissingEntry 8) ∷ Done ∷ Refused VersionEnd ∷ []
 unfolding contains insert retain remove empty from_list union items is_subset is_empty len
 missing_at_the_last_version = refl
 
 -- each index of each closed fragment, and one of the open ledger
-pub copied_entries : copied 0 7 0 0 4 ∷ copied 1 7 0 1 4 ∷ copied 2 7 0 2 4 ∷ copied 3 7 1 0 4 ∷ copied 2 7 1 1 4 ∷ copied 1 7 1 2 4 ∷ copied 1 7 2 0 4 ∷ copied 3 7 2 1 4 ∷ copied 0 7 2 2 4 ∷ copied 1 9 0 3 2 ∷ []
+pub copied_entries : entries_copied 0 7 0 0 4 ∷ entries_copied 1 7 0 1 4 ∷ entries_copied 2 7 0 2 4 ∷ entries_copied 3 7 1 0 4 ∷ entries_copied 2 7 1 1 4 ∷ entries_copied 1 7 1 2 4 ∷ entries_copied 1 7 2 0 4 ∷ entries_copied 3 7 2 1 4 ∷ entries_copied 0 7 2 2 4 ∷ entries_copied 1 9 0 3 2 ∷ []
     ≡ (0 ∷ 2 ∷ 3 ∷ []) ∷ (0 ∷ 1 ∷ 3 ∷ []) ∷ (1 ∷ 2 ∷ []) ∷ (5 ∷ 6 ∷ []) ∷ (4 ∷ 6 ∷ []) ∷ (4 ∷ 5 ∷ []) ∷ (8 ∷ 9 ∷ []) ∷ (7 ∷ 9 ∷ []) ∷ (7 ∷ 8 ∷ []) ∷ (2 ∷ 3 ∷ []) ∷ []
 unfolding contains insert retain remove empty from_list union items is_subset is_empty len
 copied_entries = refl

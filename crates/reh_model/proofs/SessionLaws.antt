@@ -12,7 +12,7 @@ use Rattle.reh_types.specs.declared.moves.Reply.TheVariants.{Done}
 use Rattle.reh_model.specs.Cluster.{Cluster}
 use Rattle.reh_model.specs.Checks.{reason_if}
 use Rattle.reh_model.specs.Step.{refusal_of, after}
-use Rattle.reh_model.specs.Session.{Session, unless, replay, done_unless, reply_to, moved, Performs, Run}
+use Rattle.reh_model.specs.Session.{Session, unless, replay, done_unless, reply_to, moved_session, Performs, Run}
 
 -- Replays
 
@@ -52,11 +52,11 @@ length-push es e = omega (arith, length-append es (e ∷ []))
 pub done_unless-some : (n : ℕ) (r : Refusal) → 0 < n → done_unless (reason_if (n == 0) r) ≡ Done
 done_unless-some n r h = grind arith
 
-pub undo_accepted : (m : Session) (e : Event) → reply_to m (Do e) ≡ Done → reply_to (moved m (Do e)) Undo ≡ Done
+pub undo_accepted : (m : Session) (e : Event) → reply_to m (Do e) ≡ Done → reply_to (moved_session m (Do e)) Undo ≡ Done
 undo_accepted m e h = done_unless-some (length (m.done ++ e ∷ [])) _ (omega (arith, length-append m.done (e ∷ [])))
 
-pub moved-undo : (m : Session) (e : Event) → moved (moved m (Do e)) Undo ≡ record m { undone = e ∷ [] }
-moved-undo m e = λ i. record {
+pub moved_session-undo : (m : Session) (e : Event) → moved_session (moved_session m (Do e)) Undo ≡ record m { undone = e ∷ [] }
+moved_session-undo m e = λ i. record {
   opening = m.opening;
   done = (ap (λ n. take n (m.done ++ e ∷ [])) (length-push m.done e) ∙ take_at m.done (e ∷ []) (length m.done) refl) i;
   undone = (ap (λ n. drop n (m.done ++ e ∷ []) ++ []) (length-push m.done e) ∙ ap (λ es. es ++ []) (drop_at m.done (e ∷ []) (length m.done) refl)) i;

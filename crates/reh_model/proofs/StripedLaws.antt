@@ -10,14 +10,14 @@ use Rattle.std.proofs.lemmas.Bool.Decides.{nat_tests}
 use Rattle.std.proofs.lemmas.List.FromFn.{length-range_with_len, get_or-range_with_len}
 use Rattle.std.proofs.lemmas.List.Kept.{IsStrictlyIncreasing-filter}
 use Rattle.reh_types.proofs.BitLaws.{any_filtered}
-use Rattle.reh_model.specs.Striping.{range, is_striped, striped}
-use Rattle.reh_model.specs.Metadata.{Metadata, Fragment, IsMetadata, stop_of, striped_of}
-use Rattle.reh_model.proofs.StripingLaws.{striped-outside}
+use Rattle.reh_model.specs.Striping.{range, is_striped, striped_entries}
+use Rattle.reh_model.specs.Metadata.{Metadata, Fragment, IsMetadata, stop_of, stripe_of}
+use Rattle.reh_model.proofs.StripingLaws.{striped_entries-outside}
 use Rattle.reh_model.proofs.Ranges.{passes_any, any_passes, same_answer, list_any-same}
 
 -- the entries that an index carries rise
-pub IsStrictlyIncreasing-striped : (a b i n q : ℕ) → IsStrictlyIncreasing (striped a b i n q)
-IsStrictlyIncreasing-striped a b i n q = IsStrictlyIncreasing-filter (λ e. is_striped e i n q) (range a b) (λ k inside.
+pub IsStrictlyIncreasing-striped_entries : (a b i n q : ℕ) → IsStrictlyIncreasing (striped_entries a b i n q)
+IsStrictlyIncreasing-striped_entries a b i n q = IsStrictlyIncreasing-filter (λ e. is_striped e i n q) (range a b) (λ k inside.
     omega (arith, length-range_with_len a (b - a), get_or-range_with_len a (b - a) k 0, get_or-range_with_len a (b - a) (k + 1) 0))
 
 within : (e a b : ℕ) → a ≤ e → e < b → (nat_le a e && nat_lt e b) ≡ true
@@ -37,25 +37,25 @@ list_any-range e a b = same_answer _ _
     passes_any (nat_eq e) a (b - a) e both.0 (omega arith) itself)
 
 -- they are the entries of the range that it carries, and no others
-pub list_any-striped : (e a b i n q : ℕ) → list_any (nat_eq e) (striped a b i n q) ≡ (is_striped e i n q && (nat_le a e && nat_lt e b))
-list_any-striped e a b i n q =
-    list_any-same (nat_eq e) (eq_by_cmp nat_cmp e) (λ x. sym (unsigned_tied e x)) (striped a b i n q)
+pub list_any-striped_entries : (e a b i n q : ℕ) → list_any (nat_eq e) (striped_entries a b i n q) ≡ (is_striped e i n q && (nat_le a e && nat_lt e b))
+list_any-striped_entries e a b i n q =
+    list_any-same (nat_eq e) (eq_by_cmp nat_cmp e) (λ x. sym (unsigned_tied e x)) (striped_entries a b i n q)
     ∙ any_filtered (λ x. is_striped x i n q) e a (b - a)
     ∙ ap (λ inside. is_striped e i n q && inside) (list_any-same (eq_by_cmp nat_cmp e) (nat_eq e) (λ x. unsigned_tied e x) (range a b) ∙ list_any-range e a b)
 
 -- what a fragment that is there stripes onto an index up to its stop
-pub striped_of-found : (m : Metadata) (f i stop : ℕ) (fragment : Fragment) → slice_get m.fragments f ≡ Some fragment → stop_of m f ≡ Some stop → striped_of m f i ≡ striped fragment.first stop i m.size m.write_quorum
-striped_of-found m f i stop fragment found ends =
-    let up_to = λ (x : Fragment) (stop : Option ℕ). option_map_or (λ stop. striped x.first stop i m.size m.write_quorum) stop [] in
+pub stripe_of-found : (m : Metadata) (f i stop : ℕ) (fragment : Fragment) → slice_get m.fragments f ≡ Some fragment → stop_of m f ≡ Some stop → stripe_of m f i ≡ striped_entries fragment.first stop i m.size m.write_quorum
+stripe_of-found m f i stop fragment found ends =
+    let up_to = λ (x : Fragment) (stop : Option ℕ). option_map_or (λ stop. striped_entries x.first stop i m.size m.write_quorum) stop [] in
     ap (λ (o : Option Fragment). option_map_or (λ x. up_to x (stop_of m f)) o []) found ∙ ap (up_to fragment) ends
 
 -- no index beside the ensemble carries an entry of a fragment
-pub striped_of-outside : (m : Metadata) (f i : ℕ) → IsMetadata m → m.size ≤ i → striped_of m f i ≡ []
-striped_of-outside m f i was outside = of_fragment (slice_get m.fragments f) where
-  of_stop : (fragment : Fragment) (stop : Option ℕ) → option_map_or (λ stop. striped fragment.first stop i m.size m.write_quorum) stop [] ≡ []
+pub stripe_of-outside : (m : Metadata) (f i : ℕ) → IsMetadata m → m.size ≤ i → stripe_of m f i ≡ []
+stripe_of-outside m f i was outside = of_fragment (slice_get m.fragments f) where
+  of_stop : (fragment : Fragment) (stop : Option ℕ) → option_map_or (λ stop. striped_entries fragment.first stop i m.size m.write_quorum) stop [] ≡ []
   of_stop fragment None = refl
-  of_stop fragment (Some stop) = striped-outside (stop - fragment.first) fragment.first i m.size m.write_quorum was.writes_within outside
+  of_stop fragment (Some stop) = striped_entries-outside (stop - fragment.first) fragment.first i m.size m.write_quorum was.writes_within outside
 
-  of_fragment : (o : Option Fragment) → option_map_or (λ fragment. option_map_or (λ stop. striped fragment.first stop i m.size m.write_quorum) (stop_of m f) []) o [] ≡ []
+  of_fragment : (o : Option Fragment) → option_map_or (λ fragment. option_map_or (λ stop. striped_entries fragment.first stop i m.size m.write_quorum) (stop_of m f) []) o [] ≡ []
   of_fragment None = refl
   of_fragment (Some fragment) = of_stop fragment (stop_of m f)

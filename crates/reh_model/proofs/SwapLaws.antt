@@ -15,19 +15,19 @@ use Rattle.reh_types.specs.declared.moves.Move.TheVariants.{Do, Undo, Redo, Look
 use Rattle.reh_types.specs.declared.moves.Reply.{Reply}
 use Rattle.reh_types.specs.declared.moves.Reply.TheVariants.{Done, Clock, Refused}
 use Rattle.reh_types.specs.Sets.{Set, numbers, is_empty}
-use Rattle.reh_model.specs.Striping.{striped}
+use Rattle.reh_model.specs.Striping.{striped_entries}
 use Rattle.reh_model.specs.Contents.{Contents, has}
-use Rattle.reh_model.specs.Metadata.{Metadata, Fragment, end_of_state, stop_of, striped_of, with_member}
-use Rattle.reh_model.specs.Cluster.{Cluster, Ledger, holds, is_locked_by, ledger_at, stop_at, striped_at}
-use Rattle.reh_model.specs.Audit.{missing, published, audited}
-use Rattle.reh_model.specs.Step.{refusal_of, after, locked_by, unlocked, finished, expired, swapped}
-use Rattle.reh_model.specs.Session.{Session, replay, state_of, reply_to, moved, session_after, Performs, Run}
+use Rattle.reh_model.specs.Metadata.{Metadata, Fragment, end_of_state, stop_of, stripe_of, with_member}
+use Rattle.reh_model.specs.Cluster.{Cluster, Ledger, holds, is_locked_by, ledger_at, stop_at, stripe_at}
+use Rattle.reh_model.specs.Audit.{missing_members, published_members, audited_ledger}
+use Rattle.reh_model.specs.Step.{refusal_of, after, locked_ledger, unlocked_ledger, finished_ledger, expired_ledger, swapped_ledger}
+use Rattle.reh_model.specs.Session.{Session, replay, state_of, reply_to, moved_session, session_after, Performs, Run}
 use Rattle.reh_model.specs.Swaps.{HoldsStripe, IsSafe, IsSafeRun, AllSafe}
 use Rattle.reh_model.proofs.AcceptedLaws.{accepted_swap_holds, done_accepted}
 use Rattle.reh_model.proofs.SessionLaws.{replay_first, replay-append, replay-prefix, replay_one}
 use Rattle.reh_model.proofs.LedgerLaws.{KeepsId, changed, KeepsId-changed, find-map}
 use Rattle.reh_model.proofs.ContentsLaws.{has-union-copies_of}
-use Rattle.reh_model.proofs.WellFormedLaws.{KeepsId-audited, KeepsId-expired}
+use Rattle.reh_model.proofs.WellFormedLaws.{KeepsId-audited_ledger, KeepsId-expired_ledger}
 
 -- Accepted swaps
 
@@ -49,7 +49,7 @@ accepted_safe s (Swap w l f i v) none = accepted_swap_holds s w l f i v none
 -- a fragment that has a stop keeps it, and the entries that it stripes onto each index, and what was held is held
 record KeepsPromises (s t : Cluster) : Type 0 where
   stop : (l f : ℕ) → IsSome (stop_at s l f) → stop_at t l f ≡ stop_at s l f
-  striped : (l f i : ℕ) → IsSome (stop_at s l f) → striped_at t l f i ≡ striped_at s l f i
+  stripe : (l f i : ℕ) → IsSome (stop_at s l f) → stripe_at t l f i ≡ stripe_at s l f i
   held : (b l e : ℕ) → holds s b l e ≡ true → holds t b l e ≡ true
 
 HoldsStripe-kept : (s t : Cluster) (event : Event) → KeepsPromises s t → HoldsStripe s event → HoldsStripe t event
@@ -64,15 +64,15 @@ HoldsStripe-kept s t (Tick n) keeps was = tt
 HoldsStripe-kept s t (Copy w l f i v) keeps was = tt
 HoldsStripe-kept s t (Swap w l f i v) keeps was = (
   subst (λ (o : Option ℕ). IsSome o) (sym (keeps.stop l f was.0)) was.0,
-  subst (λ (es : List ℕ). All (λ e. holds t w l e ≡ true) es) (sym (keeps.striped l f i was.0))
-  (All-weaker (λ e. holds s w l e ≡ true) (λ e. holds t w l e ≡ true) (keeps.held w l) (striped_at s l f i) was.1),
+  subst (λ (es : List ℕ). All (λ e. holds t w l e ≡ true) es) (sym (keeps.stripe l f i was.0))
+  (All-weaker (λ e. holds s w l e ≡ true) (λ e. holds t w l e ≡ true) (keeps.held w l) (stripe_at s l f i) was.1),
 )
 
 -- nothing of a cluster's fragments and contents is changed
 KeepsPromises-apart : (s t : Cluster) → t.ledgers ≡ s.ledgers → t.held ≡ s.held → KeepsPromises s t
 KeepsPromises-apart s t ledgers held = record {
   stop = λ l f _. ap (λ (gs : List Ledger). option_and_then (λ g. stop_of g.metadata f) (find (λ g. g.id == l) gs)) ledgers;
-  striped = λ l f i _. ap (λ (gs : List Ledger). option_map_or (λ g. striped_of g.metadata f i) (find (λ g. g.id == l) gs) []) ledgers;
+  stripe = λ l f i _. ap (λ (gs : List Ledger). option_map_or (λ g. stripe_of g.metadata f i) (find (λ g. g.id == l) gs) []) ledgers;
   held = λ b l e is. ap (λ (contents : Contents). has contents b l e) held ∙ is;
 }
 
@@ -80,12 +80,12 @@ KeepsPromises-apart s t ledgers held = record {
 record KeepsStripes (change : Ledger → Ledger) : Type 0 where
   id : KeepsId change
   stop : (g : Ledger) (f : ℕ) → IsSome (stop_of g.metadata f) → stop_of (change g).metadata f ≡ stop_of g.metadata f
-  striped : (g : Ledger) (f i : ℕ) → IsSome (stop_of g.metadata f) → striped_of (change g).metadata f i ≡ striped_of g.metadata f i
+  stripe : (g : Ledger) (f i : ℕ) → IsSome (stop_of g.metadata f) → stripe_of (change g).metadata f i ≡ stripe_of g.metadata f i
 
 KeepsPromises-ledgers : (s : Cluster) (change : Ledger → Ledger) → KeepsStripes change → KeepsPromises s (record s { ledgers = map change s.ledgers })
 KeepsPromises-ledgers s change keeps = record {
   stop = λ l f some. ap (λ (o : Option Ledger). option_and_then (λ g. stop_of g.metadata f) o) (find-map l change keeps.id s.ledgers) ∙ stop f (ledger_at s l) some;
-  striped = λ l f i some. ap (λ (o : Option Ledger). option_map_or (λ g. striped_of g.metadata f i) o []) (find-map l change keeps.id s.ledgers) ∙ striped f i (ledger_at s l) some;
+  stripe = λ l f i some. ap (λ (o : Option Ledger). option_map_or (λ g. stripe_of g.metadata f i) o []) (find-map l change keeps.id s.ledgers) ∙ stripe f i (ledger_at s l) some;
   held = λ b l e is. is;
 } where
   stop : (f : ℕ) (o : Option Ledger) → IsSome (option_and_then (λ (g : Ledger). stop_of g.metadata f) o)
@@ -93,33 +93,33 @@ KeepsPromises-ledgers s change keeps = record {
   stop f None some = refl
   stop f (Some g) some = keeps.stop g f some
 
-  striped : (f i : ℕ) (o : Option Ledger) → IsSome (option_and_then (λ (g : Ledger). stop_of g.metadata f) o)
-      → option_map_or (λ (g : Ledger). striped_of g.metadata f i) (option_map change o) [] ≡ option_map_or (λ (g : Ledger). striped_of g.metadata f i) o []
-  striped f i None some = refl
-  striped f i (Some g) some = keeps.striped g f i some
+  stripe : (f i : ℕ) (o : Option Ledger) → IsSome (option_and_then (λ (g : Ledger). stop_of g.metadata f) o)
+      → option_map_or (λ (g : Ledger). stripe_of g.metadata f i) (option_map change o) [] ≡ option_map_or (λ (g : Ledger). stripe_of g.metadata f i) o []
+  stripe f i None some = refl
+  stripe f i (Some g) some = keeps.stripe g f i some
 
 -- a change of a ledger that leaves its metadata
 KeepsStripes-apart : (change : Ledger → Ledger) → KeepsId change → ((g : Ledger) → (change g).metadata ≡ g.metadata) → KeepsStripes change
 KeepsStripes-apart change id same = record {
   id = id;
   stop = λ g f _. ap (λ (m : Metadata). stop_of m f) (same g);
-  striped = λ g f i _. ap (λ (m : Metadata). striped_of m f i) (same g);
+  stripe = λ g f i _. ap (λ (m : Metadata). stripe_of m f i) (same g);
 }
 
 KeepsStripes-changed : (l : ℕ) (change : Ledger → Ledger) → KeepsStripes change → KeepsStripes (changed l change)
 KeepsStripes-changed l change keeps = record {
   id = KeepsId-changed l change keeps.id;
   stop = λ g f some. elim (g.id == l) as (λ b. stop_of (cond b (change g) g).metadata f ≡ stop_of g.metadata f) [ true ↦ keeps.stop g f some | false ↦ refl ];
-  striped = λ g f i some. elim (g.id == l) as (λ b. striped_of (cond b (change g) g).metadata f i ≡ striped_of g.metadata f i) [ true ↦ keeps.striped g f i some | false ↦ refl ];
+  stripe = λ g f i some. elim (g.id == l) as (λ b. stripe_of (cond b (change g) g).metadata f i ≡ stripe_of g.metadata f i) [ true ↦ keeps.stripe g f i some | false ↦ refl ];
 }
 
-KeepsStripes-audited : (up : Set numbers) → KeepsStripes (audited up)
-KeepsStripes-audited up = KeepsStripes-apart (audited up) (KeepsId-audited up) (λ g.
-    elim (is_empty (missing up g)) as (λ b. (if b then g else record g { task = Some (published up g) }).metadata ≡ g.metadata) [ true ↦ refl | false ↦ refl ])
+KeepsStripes-audited_ledger : (up : Set numbers) → KeepsStripes (audited_ledger up)
+KeepsStripes-audited_ledger up = KeepsStripes-apart (audited_ledger up) (KeepsId-audited_ledger up) (λ g.
+    elim (is_empty (missing_members up g)) as (λ b. (if b then g else record g { task = Some (published_members up g) }).metadata ≡ g.metadata) [ true ↦ refl | false ↦ refl ])
 
-KeepsStripes-expired : (w : ℕ) → KeepsStripes (expired w)
-KeepsStripes-expired w = KeepsStripes-apart (expired w) (KeepsId-expired w) (λ g.
-    elim (is_locked_by w g) as (λ b. (if b then unlocked g else g).metadata ≡ g.metadata) [ true ↦ refl | false ↦ refl ])
+KeepsStripes-expired_ledger : (w : ℕ) → KeepsStripes (expired_ledger w)
+KeepsStripes-expired_ledger w = KeepsStripes-apart (expired_ledger w) (KeepsId-expired_ledger w) (λ g.
+    elim (is_locked_by w g) as (λ b. (if b then unlocked_ledger g else g).metadata ≡ g.metadata) [ true ↦ refl | false ↦ refl ])
 
 -- A swap changes no fragment's first entry, and so none of the striped ones.
 
@@ -131,7 +131,7 @@ abbrev stop_by : List ℕ → LedgerState → ℕ → Option ℕ
 stop_by firsts state f = if nat_lt f (length firsts) then option_or (slice_get firsts (f + 1)) (end_of_state state) else None
 
 abbrev striped_by : List ℕ → LedgerState → ℕ → ℕ → ℕ → ℕ → List ℕ
-striped_by firsts state size quorum f i = option_map_or (λ first. option_map_or (λ stop. striped first stop i size quorum) (stop_by firsts state f) []) (slice_get firsts f) []
+striped_by firsts state size quorum f i = option_map_or (λ first. option_map_or (λ stop. striped_entries first stop i size quorum) (stop_by firsts state f) []) (slice_get firsts f) []
 
 by_first : (striped_from : ℕ → List ℕ) (o : Option Fragment) → option_map_or (λ fragment. striped_from fragment.first) o [] ≡ option_map_or striped_from (option_map (λ fragment. fragment.first) o) []
 by_first striped_from None = refl
@@ -142,9 +142,9 @@ stop_of-firsts m f =
     let first : Fragment → ℕ = λ fragment. fragment.first in
     λ j. if nat_lt f (sym (length-map m.fragments first) j) then option_or (sym (slice_get-map first m.fragments (f + 1)) j) (end_of_state m.state) else None
 
-striped_of-firsts : (m : Metadata) (f i : ℕ) → striped_of m f i ≡ striped_by (firsts_of m.fragments) m.state m.size m.write_quorum f i
-striped_of-firsts m f i =
-    let striped_to : Option ℕ → ℕ → List ℕ = λ stop first. option_map_or (λ stop. striped first stop i m.size m.write_quorum) stop [] in
+stripe_of-firsts : (m : Metadata) (f i : ℕ) → stripe_of m f i ≡ striped_by (firsts_of m.fragments) m.state m.size m.write_quorum f i
+stripe_of-firsts m f i =
+    let striped_to : Option ℕ → ℕ → List ℕ = λ stop first. option_map_or (λ stop. striped_entries first stop i m.size m.write_quorum) stop [] in
     by_first (striped_to (stop_of m f)) (slice_get m.fragments f)
     ∙ (λ j. option_map_or (striped_to (stop_of-firsts m f j)) (sym (slice_get-map (λ fragment. fragment.first) m.fragments f) j) [])
 
@@ -156,17 +156,17 @@ firsts-with_member (x ∷ xs) f i b =
       | Some fragment ↦ λ is. map-set_same (λ (y : Fragment). y.first) (x ∷ xs) f (with_member fragment i b) fragment (ap (λ (y : Fragment). y.first) (sym (get_or_from_slice_get (x ∷ xs) f fragment fragment is)))
     ] refl
 
-KeepsStripes-swapped : (f i b : ℕ) → KeepsStripes (swapped f i b)
-KeepsStripes-swapped f i b = record {
+KeepsStripes-swapped_ledger : (f i b : ℕ) → KeepsStripes (swapped_ledger f i b)
+KeepsStripes-swapped_ledger f i b = record {
   id = λ g. refl;
   stop = λ g h _.
-      stop_of-firsts (swapped f i b g).metadata h
+      stop_of-firsts (swapped_ledger f i b g).metadata h
       ∙ ap (λ (firsts : List ℕ). stop_by firsts g.metadata.state h) (firsts-with_member g.metadata.fragments f i b)
       ∙ sym (stop_of-firsts g.metadata h);
-  striped = λ g h j _.
-      striped_of-firsts (swapped f i b g).metadata h j
+  stripe = λ g h j _.
+      stripe_of-firsts (swapped_ledger f i b g).metadata h j
       ∙ ap (λ (firsts : List ℕ). striped_by firsts g.metadata.state g.metadata.size g.metadata.write_quorum h j) (firsts-with_member g.metadata.fragments f i b)
-      ∙ sym (striped_of-firsts g.metadata h j);
+      ∙ sym (stripe_of-firsts g.metadata h j);
 }
 
 -- copies only add to what is held
@@ -178,26 +178,26 @@ or_before false b is = absurd (true≢false (sym is))
 KeepsPromises-after : (s : Cluster) (event : Event) → refusal_of s event ≡ None → KeepsPromises s (after s event)
 KeepsPromises-after s (Lose b) accepted = KeepsPromises-apart s (after s (Lose b)) refl refl
 KeepsPromises-after s (Join b) accepted = KeepsPromises-apart s (after s (Join b)) refl refl
-KeepsPromises-after s Audit accepted = KeepsPromises-ledgers s (audited s.up) (KeepsStripes-audited s.up)
-KeepsPromises-after s (Acquire w l) accepted = KeepsPromises-ledgers s (changed l (locked_by w)) (KeepsStripes-changed l (locked_by w) (KeepsStripes-apart (locked_by w) (λ g. refl) (λ g. refl)))
-KeepsPromises-after s (Release w l) accepted = KeepsPromises-ledgers s (changed l unlocked) (KeepsStripes-changed l unlocked (KeepsStripes-apart unlocked (λ g. refl) (λ g. refl)))
-KeepsPromises-after s (Finish w l) accepted = KeepsPromises-ledgers s (changed l finished) (KeepsStripes-changed l finished (KeepsStripes-apart finished (λ g. refl) (λ g. refl)))
-KeepsPromises-after s (Expire w) accepted = KeepsPromises-ledgers s (expired w) (KeepsStripes-expired w)
+KeepsPromises-after s Audit accepted = KeepsPromises-ledgers s (audited_ledger s.up) (KeepsStripes-audited_ledger s.up)
+KeepsPromises-after s (Acquire w l) accepted = KeepsPromises-ledgers s (changed l (locked_ledger w)) (KeepsStripes-changed l (locked_ledger w) (KeepsStripes-apart (locked_ledger w) (λ g. refl) (λ g. refl)))
+KeepsPromises-after s (Release w l) accepted = KeepsPromises-ledgers s (changed l unlocked_ledger) (KeepsStripes-changed l unlocked_ledger (KeepsStripes-apart unlocked_ledger (λ g. refl) (λ g. refl)))
+KeepsPromises-after s (Finish w l) accepted = KeepsPromises-ledgers s (changed l finished_ledger) (KeepsStripes-changed l finished_ledger (KeepsStripes-apart finished_ledger (λ g. refl) (λ g. refl)))
+KeepsPromises-after s (Expire w) accepted = KeepsPromises-ledgers s (expired_ledger w) (KeepsStripes-expired_ledger w)
 KeepsPromises-after s (Tick n) accepted = KeepsPromises-apart s (after s (Tick n)) refl refl
 KeepsPromises-after s (Copy w l f i v) accepted = record {
   stop = λ k g _. refl;
-  striped = λ k g j _. refl;
-  held = λ b k e is. has-union-copies_of s.held w l (striped_at s l f i) b k e ∙ or_before (has s.held b k e) _ is;
+  stripe = λ k g j _. refl;
+  held = λ b k e is. has-union-copies_of s.held w l (stripe_at s l f i) b k e ∙ or_before (has s.held b k e) _ is;
 }
-KeepsPromises-after s (Swap w l f i v) accepted = KeepsPromises-ledgers s (changed l (swapped f i w)) (KeepsStripes-changed l (swapped f i w) (KeepsStripes-swapped f i w))
+KeepsPromises-after s (Swap w l f i v) accepted = KeepsPromises-ledgers s (changed l (swapped_ledger f i w)) (KeepsStripes-changed l (swapped_ledger f i w) (KeepsStripes-swapped_ledger f i w))
 
 -- No accepted event moves the stop of a fragment that has one,
 pub stop_at-after : (s : Cluster) (event : Event) → refusal_of s event ≡ None → (l f : ℕ) → IsSome (stop_at s l f) → stop_at (after s event) l f ≡ stop_at s l f
 stop_at-after s event accepted = (KeepsPromises-after s event accepted).stop
 
 -- or changes which entries such a fragment stripes onto an index.
-pub striped_at-after : (s : Cluster) (event : Event) → refusal_of s event ≡ None → (l f i : ℕ) → IsSome (stop_at s l f) → striped_at (after s event) l f i ≡ striped_at s l f i
-striped_at-after s event accepted = (KeepsPromises-after s event accepted).striped
+pub stripe_at-after : (s : Cluster) (event : Event) → refusal_of s event ≡ None → (l f i : ℕ) → IsSome (stop_at s l f) → stripe_at (after s event) l f i ≡ stripe_at s l f i
+stripe_at-after s event accepted = (KeepsPromises-after s event accepted).stripe
 
 -- No accepted event breaks a swap's promise,
 HoldsStripe-after : (s : Cluster) (event later : Event) → refusal_of s later ≡ None → HoldsStripe s event → HoldsStripe (after s later) event
@@ -238,19 +238,19 @@ pub all_safe : (m : Session) → CanRedoAll m → AllSafe m
 all_safe m can = lasting m.opening (state_of m) m.done (replay_is m can)
 
 -- a move that is done keeps that all can be redone
-CanRedoAll-moved : (m : Session) (move : Move) → reply_to m move ≡ Done → CanRedoAll m → CanRedoAll (moved m move)
-CanRedoAll-moved m (Do event) is can =
+CanRedoAll-moved_session : (m : Session) (move : Move) → reply_to m move ≡ Done → CanRedoAll m → CanRedoAll (moved_session m move)
+CanRedoAll-moved_session m (Do event) is can =
     ap (λ (es : List Event). is_some (replay m.opening es)) (append-nil (m.done ++ event ∷ []))
     ∙ ap is_some (replay-append m.opening (state_of m) m.done (event ∷ []) (replay_is m can) ∙ replay_one (state_of m) event (done_accepted m event is))
-CanRedoAll-moved m Undo is can =
+CanRedoAll-moved_session m Undo is can =
     ap (λ (es : List Event). is_some (replay m.opening es))
     (sym (append_assoc (take (length m.done - 1) m.done) (drop (length m.done - 1) m.done) m.undone) ∙ ap (λ (es : List Event). es ++ m.undone) (take-append-drop (length m.done - 1) m.done))
     ∙ can
-CanRedoAll-moved m Redo is can =
+CanRedoAll-moved_session m Redo is can =
     ap (λ (es : List Event). is_some (replay m.opening es))
     (append_assoc m.done (take 1 m.undone) (drop 1 m.undone) ∙ ap (λ (es : List Event). m.done ++ es) (take-append-drop 1 m.undone))
     ∙ can
-CanRedoAll-moved m Look is can = can
+CanRedoAll-moved_session m Look is can = can
 
 -- what a move leaves, where memory is wanted too
 left_by : (m n : Session) (move : Move) (reply : Reply) → Performs m move reply n → n ≡ session_after m move reply
@@ -263,7 +263,7 @@ done_by m n move (inl answered) = sym answered.0
 done_by m n move (inr wanted) = wanted.1
 
 CanRedoAll-after : (m : Session) (move : Move) (reply : Reply) (n : Session) → Performs m move reply n → CanRedoAll m → CanRedoAll (session_after m move reply)
-CanRedoAll-after m move Done n performs can = CanRedoAll-moved m move (done_by m n move performs) can
+CanRedoAll-after m move Done n performs can = CanRedoAll-moved_session m move (done_by m n move performs) can
 CanRedoAll-after m move (Clock clock) n performs can = can
 CanRedoAll-after m move (Refused refusal) n performs can = can
 

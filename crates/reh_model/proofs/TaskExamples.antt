@@ -11,8 +11,8 @@ use Rattle.reh_types.specs.declared.refusals.Refusal.TheVariants.{NoBookie, NoLe
 use Rattle.reh_types.specs.Sets.{contains, insert, retain, remove, empty, from_list, union, items, is_subset, is_empty, len}
 use Rattle.reh_model.specs.Metadata.{Fragment}
 use Rattle.reh_model.specs.Cluster.{Cluster, Ledger}
-use Rattle.reh_model.specs.Session.{opened, state_of}
-use Rattle.reh_model.proofs.Examples.{replies, played}
+use Rattle.reh_model.specs.Session.{opened_session, state_of}
+use Rattle.reh_model.proofs.Examples.{replies, played_session}
 
 -- a ledger with one fragment from entry 0, on the first three bookies
 abbrev first_three : List Fragment
@@ -42,11 +42,11 @@ five_bookies = record {
 
 -- the replies to events
 abbrev pub answers : List Event → List Reply
-answers events = replies (opened five_bookies) (map Do events)
+answers events = replies (opened_session five_bookies) (map Do events)
 
 -- the state after them
 abbrev state_after : List Event → Cluster
-state_after events = state_of (played (opened five_bookies) (map Do events))
+state_after events = state_of (played_session (opened_session five_bookies) (map Do events))
 
 -- the tasks of the ledgers, in picture order
 abbrev tasks_after : List Event → List (Option (List ℕ))

@@ -16,9 +16,9 @@ use Rattle.reh_types.specs.Sets.{Set, numbers, triple_cmp, triple_exact, contain
 use Rattle.reh_types.proofs.SetLaws.{All-items}
 use Rattle.reh_model.specs.Contents.{Contents, IsHeld, copies_of}
 use Rattle.reh_model.specs.Metadata.{Metadata, Fragment, with_member, with_member_at, next_version}
-use Rattle.reh_model.specs.Cluster.{Cluster, Ledger, ledger_at, change_ledger, is_locked_by, striped_at}
-use Rattle.reh_model.specs.Audit.{missing, published, audited}
-use Rattle.reh_model.specs.Step.{refusal_of, after, locked_by, unlocked, finished, expired, swapped}
+use Rattle.reh_model.specs.Cluster.{Cluster, Ledger, ledger_at, change_ledger, is_locked_by, stripe_at}
+use Rattle.reh_model.specs.Audit.{missing_members, published_members, audited_ledger}
+use Rattle.reh_model.specs.Step.{refusal_of, after, locked_ledger, unlocked_ledger, finished_ledger, expired_ledger, swapped_ledger}
 use Rattle.reh_model.specs.WellFormed.{IsLedger, IsCopy, IsWellFormed, words_of}
 use Rattle.reh_model.proofs.LedgerLaws.{KeepsId, changed, KeepsId-changed, ids-map, sum_by-map, is_found-map, found_itself}
 use Rattle.reh_model.proofs.ContentsLaws.{All-copy, IsHeld-insert, greatest_held-copied, union-copies_of-none, union-copies_of-cons}
@@ -125,8 +125,8 @@ IsWellFormed-copied_all s w l (e ∷ es) was named held =
     (All-weaker (λ e. IsHeld s.held l e) (λ e. IsHeld t.held l e) (λ x is. IsHeld-insert s.held w l e l x is) es (All-tail (λ e. IsHeld s.held l e) e es held)))
 
 -- a ledger of the cluster without its lock
-IsLedger-unlocked : (s : Cluster) (g : Ledger) → IsLedgerOf s g → IsLedgerOf s (unlocked g)
-IsLedger-unlocked s g was = record {
+IsLedger-unlocked_ledger : (s : Cluster) (g : Ledger) → IsLedgerOf s g → IsLedgerOf s (unlocked_ledger g)
+IsLedger-unlocked_ledger s g was = record {
   id = was.id;
   metadata = was.metadata;
   members = was.members;
@@ -136,15 +136,15 @@ IsLedger-unlocked s g was = record {
 }
 
 -- without it, if it is this worker's
-pub KeepsId-expired : (w : ℕ) → KeepsId (expired w)
-KeepsId-expired w g = elim (is_locked_by w g) as (λ b. (if b then unlocked g else g).id ≡ g.id) [ true ↦ refl | false ↦ refl ]
+pub KeepsId-expired_ledger : (w : ℕ) → KeepsId (expired_ledger w)
+KeepsId-expired_ledger w g = elim (is_locked_by w g) as (λ b. (if b then unlocked_ledger g else g).id ≡ g.id) [ true ↦ refl | false ↦ refl ]
 
-IsLedger-expired : (s : Cluster) (w : ℕ) (g : Ledger) → IsLedgerOf s g → IsLedgerOf s (expired w g)
-IsLedger-expired s w g was = elim (is_locked_by w g) as (λ b. IsLedgerOf s (if b then unlocked g else g)) [ true ↦ IsLedger-unlocked s g was | false ↦ was ]
+IsLedger-expired_ledger : (s : Cluster) (w : ℕ) (g : Ledger) → IsLedgerOf s g → IsLedgerOf s (expired_ledger w g)
+IsLedger-expired_ledger s w g was = elim (is_locked_by w g) as (λ b. IsLedgerOf s (if b then unlocked_ledger g else g)) [ true ↦ IsLedger-unlocked_ledger s g was | false ↦ was ]
 
 -- without its task
-IsLedger-finished : (s : Cluster) (g : Ledger) → IsLedgerOf s g → IsLedgerOf s (finished g)
-IsLedger-finished s g was = record {
+IsLedger-finished_ledger : (s : Cluster) (g : Ledger) → IsLedgerOf s g → IsLedgerOf s (finished_ledger g)
+IsLedger-finished_ledger s g was = record {
   id = was.id;
   metadata = was.metadata;
   members = was.members;
@@ -154,8 +154,8 @@ IsLedger-finished s g was = record {
 }
 
 -- with a worker's lock on its task
-IsLedger-locked_by : (s : Cluster) (w : ℕ) (g : Ledger) → w < length s.names → IsSome g.task → IsLedgerOf s g → IsLedgerOf s (locked_by w g)
-IsLedger-locked_by s w g named some was = record {
+IsLedger-locked_ledger : (s : Cluster) (w : ℕ) (g : Ledger) → w < length s.names → IsSome g.task → IsLedgerOf s g → IsLedgerOf s (locked_ledger w g)
+IsLedger-locked_ledger s w g named some was = record {
   id = was.id;
   metadata = was.metadata;
   members = was.members;
@@ -165,8 +165,8 @@ IsLedger-locked_by s w g named some was = record {
 }
 
 -- with another member in a fragment
-IsLedger-swapped : (s : Cluster) (g : Ledger) (w f i : ℕ) → IsSwappable s g w f i → IsLedgerOf s g → IsLedgerOf s (swapped f i w g)
-IsLedger-swapped s g w f i may was =
+IsLedger-swapped_ledger : (s : Cluster) (g : Ledger) (w f i : ℕ) → IsSwappable s g w f i → IsLedgerOf s g → IsLedgerOf s (swapped_ledger f i w g)
+IsLedger-swapped_ledger s g w f i may was =
     let m = g.metadata in
     let nobody : Fragment = record { first = 0; ensemble = [] } in
     let old : Fragment = get_or m.fragments f nobody in
@@ -184,18 +184,18 @@ IsLedger-swapped s g w f i may was =
     })
 
 -- with the missing members in its task
-pub KeepsId-audited : (up : Set numbers) → KeepsId (audited up)
-KeepsId-audited up g = elim (is_empty (missing up g)) as (λ b. (if b then g else record g { task = Some (published up g) }).id ≡ g.id) [ true ↦ refl | false ↦ refl ]
+pub KeepsId-audited_ledger : (up : Set numbers) → KeepsId (audited_ledger up)
+KeepsId-audited_ledger up g = elim (is_empty (missing_members up g)) as (λ b. (if b then g else record g { task = Some (published_members up g) }).id ≡ g.id) [ true ↦ refl | false ↦ refl ]
 
-IsLedger-audited : (s : Cluster) (g : Ledger) → IsLedgerOf s g → IsLedgerOf s (audited s.up g)
-IsLedger-audited s g was =
-    elim (is_empty (missing s.up g)) as (λ b. is_empty (missing s.up g) ≡ b → IsLedgerOf s (if b then g else record g { task = Some (published s.up g) })) [
+IsLedger-audited_ledger : (s : Cluster) (g : Ledger) → IsLedgerOf s g → IsLedgerOf s (audited_ledger s.up g)
+IsLedger-audited_ledger s g was =
+    elim (is_empty (missing_members s.up g)) as (λ b. is_empty (missing_members s.up g) ≡ b → IsLedgerOf s (if b then g else record g { task = Some (published_members s.up g) })) [
       | true ↦ λ _. was
       | false ↦ λ some. record {
         id = was.id;
         metadata = was.metadata;
         members = was.members;
-        task = λ task is. let same : published s.up g ≡ task = cc in subst (λ (t : Set numbers). (0 < len t) × All (λ b. b < length s.names) (items t)) same (published_some s g some, published_named s g was);
+        task = λ task is. let same : published_members s.up g ≡ task = cc in subst (λ (t : Set numbers). (0 < len t) × All (λ b. b < length s.names) (items t)) same (published_some s g some, published_named s g was);
         lock = λ lock is. ((was.lock lock is).0, refl);
         due = was.due;
       }
@@ -221,19 +221,19 @@ named-remove up k n named b is = named b (and_second (not (eq_by_cmp nat_cmp k b
 pub IsWellFormed-after : (s : Cluster) (event : Event) → IsWellFormed s → refusal_of s event ≡ None → IsWellFormed (after s event)
 IsWellFormed-after s (Lose b) was none = IsWellFormed-up s (remove s.up b) was (named-remove s.up b (length s.names) was.up)
 IsWellFormed-after s (Join b) was none = IsWellFormed-up s (insert s.up b) was (named-insert s.up b (length s.names) (accepted_join s b none) was.up)
-IsWellFormed-after s Audit was none = IsWellFormed-ledgers s (audited s.up) was (KeepsId-audited s.up) (λ g _ is. IsLedger-audited s g is)
-IsWellFormed-after s (Acquire w l) was none = IsWellFormed-change_ledger s l (locked_by w) was (λ g. refl) (λ g found is.
+IsWellFormed-after s Audit was none = IsWellFormed-ledgers s (audited_ledger s.up) was (KeepsId-audited_ledger s.up) (λ g _ is. IsLedger-audited_ledger s g is)
+IsWellFormed-after s (Acquire w l) was none = IsWellFormed-change_ledger s l (locked_ledger w) was (λ g. refl) (λ g found is.
     let may = accepted_acquire s w l g found none in
-    IsLedger-locked_by s w g may.0 may.1 is)
-IsWellFormed-after s (Release w l) was none = IsWellFormed-change_ledger s l unlocked was (λ g. refl) (λ g _ is. IsLedger-unlocked s g is)
-IsWellFormed-after s (Finish w l) was none = IsWellFormed-change_ledger s l finished was (λ g. refl) (λ g _ is. IsLedger-finished s g is)
-IsWellFormed-after s (Expire w) was none = IsWellFormed-ledgers s (expired w) was (KeepsId-expired w) (λ g _ is. IsLedger-expired s w g is)
+    IsLedger-locked_ledger s w g may.0 may.1 is)
+IsWellFormed-after s (Release w l) was none = IsWellFormed-change_ledger s l unlocked_ledger was (λ g. refl) (λ g _ is. IsLedger-unlocked_ledger s g is)
+IsWellFormed-after s (Finish w l) was none = IsWellFormed-change_ledger s l finished_ledger was (λ g. refl) (λ g _ is. IsLedger-finished_ledger s g is)
+IsWellFormed-after s (Expire w) was none = IsWellFormed-ledgers s (expired_ledger w) was (KeepsId-expired_ledger w) (λ g _ is. IsLedger-expired_ledger s w g is)
 IsWellFormed-after s (Tick n) was none = IsWellFormed-clock s (s.clock + n) was (omega arith) (accepted_tick s n none)
 IsWellFormed-after s (Copy w l f i v) was none =
     let may = accepted_copy s w l f i v none in
-    IsWellFormed-copied_all s w l (striped_at s l f i) was may.named may.held
-IsWellFormed-after s (Swap w l f i v) was none = IsWellFormed-change_ledger s l (swapped f i w) was (λ g. refl) (λ g found is.
-    IsLedger-swapped s g w f i (accepted_swap s w l f i v g found is.metadata.version none) is)
+    IsWellFormed-copied_all s w l (stripe_at s l f i) was may.named may.held
+IsWellFormed-after s (Swap w l f i v) was none = IsWellFormed-change_ledger s l (swapped_ledger f i w) was (λ g. refl) (λ g found is.
+    IsLedger-swapped_ledger s g w f i (accepted_swap s w l f i v g found is.metadata.version none) is)
 
 -- A ledger that is found is one of the cluster.
 pub IsLedger-found : (s : Cluster) (l : ℕ) (g : Ledger) → IsWellFormed s → ledger_at s l ≡ Some g → IsLedgerOf s g

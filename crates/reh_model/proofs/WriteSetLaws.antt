@@ -9,14 +9,14 @@ use Rattle.std.proofs.lemmas.Bool.Decides.{nat_tests, Decides-eqb}
 use Rattle.std.proofs.lemmas.List.Elements.{All-map}
 use Rattle.std.proofs.lemmas.List.Sums.{sum_by-cons}
 use Rattle.std.proofs.lemmas.Map.Made.{AllPairs-from_IsDistinct}
-use Rattle.reh_model.specs.Striping.{range, ranked, rank_of, is_striped, write_set}
+use Rattle.reh_model.specs.Striping.{range, index_at, rank_of, is_striped, write_set}
 use Rattle.reh_model.specs.Metadata.{Fragment, Metadata, IsEnsemble, writes}
 use Rattle.reh_model.proofs.Ranges.{list_any-map, list_any-same}
 use Rattle.reh_model.proofs.StripingLaws.{is_striped-rank_of, is_striped-ranks, mod_wrap}
 
 -- the indexes of a write set are those of the ensemble's members
 pub write_set-below : (e n q : ℕ) → 1 ≤ n → All (λ i. i < n) (write_set e n q)
-write_set-below e n q some = All-map (λ i. i < n) (ranked e n) (range 0 q) (λ k d inside. mod_below (e + get_or (range 0 q) k d) n some)
+write_set-below e n q some = All-map (λ i. i < n) (index_at e n) (range 0 q) (λ k d inside. mod_below (e + get_or (range 0 q) k d) n some)
 
 -- different places of a list of different numbers hold different numbers
 same_place : (xs : List ℕ) → IsDistinct nat_eq xs → (i j : ℕ) → i < length xs → j < length xs → (slice_index xs i == slice_index xs j) ≡ (i == j)
@@ -35,10 +35,10 @@ pub writes-member : (m : Metadata) (fragment : Fragment) (entry index : ℕ) →
 writes-member m fragment entry index ensemble inside =
     let member : ℕ → ℕ = λ i. slice_index fragment.ensemble i in
     list_any-map (λ b. b == member index) member (write_set entry m.size m.write_quorum)
-    ∙ list_any-map (λ i. member i == member index) (ranked entry m.size) (range 0 m.write_quorum)
-    ∙ list_any-same (λ rank. member (ranked entry m.size rank) == member index) (λ rank. ranked entry m.size rank == index) (λ rank.
-    let below : ranked entry m.size rank < m.size = mod_below (entry + rank) m.size (omega arith) in
-    same_place fragment.ensemble ensemble.different (ranked entry m.size rank) index (omega (arith, ensemble.whole)) (omega (arith, ensemble.whole))) (range 0 m.write_quorum)
+    ∙ list_any-map (λ i. member i == member index) (index_at entry m.size) (range 0 m.write_quorum)
+    ∙ list_any-same (λ rank. member (index_at entry m.size rank) == member index) (λ rank. index_at entry m.size rank == index) (λ rank.
+    let below : index_at entry m.size rank < m.size = mod_below (entry + rank) m.size (omega arith) in
+    same_place fragment.ensemble ensemble.different (index_at entry m.size rank) index (omega (arith, ensemble.whole)) (omega (arith, ensemble.whole))) (range 0 m.write_quorum)
     ∙ sym (is_striped-ranks entry index m.size m.write_quorum)
 
 -- how many indexes carry an entry: first those from the index of rank 0 on, then those before it

@@ -11,8 +11,8 @@ abbrev pub members_of : Metadata → List ℕ
 members_of m = flat_map (λ fragment. fragment.ensemble) m.fragments
 
 -- the members of the ledger's ensembles that are not among the registered bookies
-abbrev pub missing : Set numbers → Ledger → Set numbers
-missing up g = set.from_list (filter (λ b. not (set.contains up b)) (members_of g.metadata))
+abbrev pub missing_members : Set numbers → Ledger → Set numbers
+missing_members up g = set.from_list (filter (λ b. not (set.contains up b)) (members_of g.metadata))
 
 -- whether some member of the fragment is not registered
 abbrev pub is_under : Set numbers → Fragment → Bool
@@ -24,16 +24,16 @@ first_under up g = position (is_under up) g.metadata.fragments
 
 -- whether an audit changes the ledger's task: not all missing members are in it
 abbrev pub is_news : Set numbers → Ledger → Bool
-is_news up g = not (set.is_subset (missing up g) (task_set g))
+is_news up g = not (set.is_subset (missing_members up g) (task_set g))
 
 -- the bookies that the ledger's task names after an audit
-abbrev pub published : Set numbers → Ledger → Set numbers
-published up g = set.union (task_set g) (missing up g)
+abbrev pub published_members : Set numbers → Ledger → Set numbers
+published_members up g = set.union (task_set g) (missing_members up g)
 
 -- a ledger after an audit: its task united with the missing members, where there are any
-abbrev pub audited : Set numbers → Ledger → Ledger
-audited up g = if set.is_empty (missing up g) then g else record g { task = Some (published up g) }
+abbrev pub audited_ledger : Set numbers → Ledger → Ledger
+audited_ledger up g = if set.is_empty (missing_members up g) then g else record g { task = Some (published_members up g) }
 
 -- the ledgers whose tasks an audit changes, in picture order, each with the bookies that its task names then
 abbrev pub published_tasks : Cluster → List (ℕ × Set numbers)
-published_tasks s = map (λ g. (g.id, published s.up g)) (filter (is_news s.up) s.ledgers)
+published_tasks s = map (λ g. (g.id, published_members s.up g)) (filter (is_news s.up) s.ledgers)

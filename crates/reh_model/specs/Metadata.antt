@@ -6,7 +6,7 @@ use Rattle.std.specs.Option.{ForSome, option_map, option_map_or, option_or}
 use Rattle.reh_types.specs.declared.limits.TheConstants.{ENTRY_END, MAX_ENSEMBLE_SIZE, MAX_FRAGMENTS, MAX_VERSION}
 use Rattle.reh_types.specs.declared.names.LedgerState.{LedgerState}
 use Rattle.reh_types.specs.declared.names.LedgerState.TheVariants.{Open, InRecovery, Closed}
-use Rattle.reh_model.specs.Striping.{write_set, striped}
+use Rattle.reh_model.specs.Striping.{write_set, striped_entries}
 
 -- entries from the first one on, and the ensemble that they were written to (`getAllEnsembles`: the ensembles by their first entries)
 pub record Fragment : Type 0 where
@@ -50,8 +50,8 @@ abbrev pub writes : Metadata → Fragment → ℕ → List ℕ
 writes m fragment entry = map (λ i. slice_index fragment.ensemble i) (write_set entry m.size m.write_quorum)
 
 -- the entries that the fragment of that number stripes onto the index, rising; none where there is no such fragment, or it has no stop
-abbrev pub striped_of : Metadata → ℕ → ℕ → List ℕ
-striped_of m f i = option_map_or (λ fragment. option_map_or (λ stop. striped fragment.first stop i m.size m.write_quorum) (stop_of m f) []) (slice_get m.fragments f) []
+abbrev pub stripe_of : Metadata → ℕ → ℕ → List ℕ
+stripe_of m f i = option_map_or (λ fragment. option_map_or (λ stop. striped_entries fragment.first stop i m.size m.write_quorum) (stop_of m f) []) (slice_get m.fragments f) []
 
 -- the fragment with another member at the index
 abbrev pub with_member : Fragment → ℕ → ℕ → Fragment

@@ -5,7 +5,7 @@ use Rattle.std.specs.Option.{option_map}
 use Rattle.reh_types.specs.declared.limits.TheConstants.{CLOCK_END, MAX_TICKS, MAX_VERSION}
 use Rattle.reh_types.specs.declared.refusals.Refusal.{Refusal}
 use Rattle.reh_types.specs.declared.refusals.Refusal.TheVariants.{NoBookie, NoLedger, AlreadyDown, AlreadyUp, NothingToPublish, NoTask, Locked, NotOwner, StillUnder, NoLocks, BadTick, ClockEnd, NoFragment, NoIndex, MemberUp, TargetDown, TargetIsMember, NoEndpoint, Stale, NoSource, MissingEntry, VersionEnd, NoMemory}
-use Rattle.reh_model.specs.Metadata.{Fragment, stop_of, striped_of}
+use Rattle.reh_model.specs.Metadata.{Fragment, stop_of, stripe_of}
 use Rattle.reh_model.specs.Cluster.{Cluster, Ledger, is_up, holds, is_readable, ledger_at, is_locked_by}
 use Rattle.reh_model.specs.Audit.{is_news, first_under}
 use Rattle.reh_model.specs.Checks.{reason_if, first_reason}
@@ -59,8 +59,8 @@ abbrev pub no_task : Ledger → Option Refusal
 no_task g = reason_if (is_none g.task) NoTask
 
 -- its task is locked, by whomever
-abbrev pub locked : Ledger → Option Refusal
-locked g = option_map (λ lock. Locked lock.owner) g.lock
+abbrev pub lock_held : Ledger → Option Refusal
+lock_held g = option_map (λ lock. Locked lock.owner) g.lock
 
 abbrev pub not_owner : ℕ → Ledger → Option Refusal
 not_owner w g = reason_if (not (is_locked_by w g)) NotOwner
@@ -75,8 +75,8 @@ no_locks s w = reason_if (not (list_any (is_locked_by w) s.ledgers)) NoLocks
 -- Copies and swaps
 
 -- the stored version is not the one that is named
-abbrev pub stale : Ledger → ℕ → Option Refusal
-stale g version = reason_if (not (g.metadata.version == version)) (Stale g.metadata.version)
+abbrev pub stale_version : Ledger → ℕ → Option Refusal
+stale_version g version = reason_if (not (g.metadata.version == version)) (Stale g.metadata.version)
 
 abbrev pub no_index : Ledger → ℕ → Option Refusal
 no_index g i = reason_if (not (nat_lt i g.metadata.size)) NoIndex
@@ -99,11 +99,11 @@ no_place s b g f i = at_fragment g f (λ fragment. no_index g i ∷ member_up s 
 
 -- the least striped entry that can't be read
 abbrev pub no_source : Cluster → Ledger → ℕ → ℕ → Option Refusal
-no_source s g f i = at_fragment g f (λ fragment. option_map (λ e. NoSource e) (find (λ e. not (is_readable s g fragment e)) (striped_of g.metadata f i)) ∷ [])
+no_source s g f i = at_fragment g f (λ fragment. option_map (λ e. NoSource e) (find (λ e. not (is_readable s g fragment e)) (stripe_of g.metadata f i)) ∷ [])
 
 -- the least striped entry that the bookie lacks
 abbrev pub missing_entry : Cluster → ℕ → Ledger → ℕ → ℕ → Option Refusal
-missing_entry s b g f i = option_map (λ e. MissingEntry e) (find (λ e. not (holds s b g.id e)) (striped_of g.metadata f i))
+missing_entry s b g f i = option_map (λ e. MissingEntry e) (find (λ e. not (holds s b g.id e)) (stripe_of g.metadata f i))
 
 abbrev pub version_end : Ledger → Option Refusal
 version_end g = reason_if (g.metadata.version == MAX_VERSION) VersionEnd

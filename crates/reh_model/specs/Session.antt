@@ -33,8 +33,8 @@ pub record Session : Type 0 where
   pub undone : List Event
 
 -- a session with no event yet
-abbrev pub opened : Cluster → Session
-opened s = record { opening = s; done = []; undone = [] }
+abbrev pub opened_session : Cluster → Session
+opened_session s = record { opening = s; done = []; undone = [] }
 
 -- the state of a session: its surviving events, replayed from the opening cluster
 abbrev pub state_of : Session → Cluster
@@ -48,26 +48,26 @@ done_unless None = Done
 done_unless (Some refusal) = Refused refusal
 
 -- no more events can survive
-abbrev pub full : Session → Option Refusal
-full m = reason_if (nat_le MAX_EVENTS (length m.done)) Full
+abbrev pub no_room : Session → Option Refusal
+no_room m = reason_if (nat_le MAX_EVENTS (length m.done)) Full
 
 -- the reply to a move
 abbrev pub reply_to : Session → Move → Reply
-reply_to m (Do event) = done_unless (first_reason (refusal_of (state_of m) event ∷ full m ∷ []))
+reply_to m (Do event) = done_unless (first_reason (refusal_of (state_of m) event ∷ no_room m ∷ []))
 reply_to m Undo = done_unless (reason_if (length m.done == 0) NothingToUndo)
 reply_to m Redo = done_unless (reason_if (length m.undone == 0) NothingToRedo)
 reply_to m Look = Clock (state_of m).clock
 
 -- what a move that is done makes of a session: a new event survives and none is undone any more; undo and redo move one event across
-abbrev pub moved : Session → Move → Session
-moved m (Do event) = record m { done = m.done ++ event ∷ []; undone = [] }
-moved m Undo = record m { done = take (length m.done - 1) m.done; undone = drop (length m.done - 1) m.done ++ m.undone }
-moved m Redo = record m { done = m.done ++ take 1 m.undone; undone = drop 1 m.undone }
-moved m Look = m
+abbrev pub moved_session : Session → Move → Session
+moved_session m (Do event) = record m { done = m.done ++ event ∷ []; undone = [] }
+moved_session m Undo = record m { done = take (length m.done - 1) m.done; undone = drop (length m.done - 1) m.done ++ m.undone }
+moved_session m Redo = record m { done = m.done ++ take 1 m.undone; undone = drop 1 m.undone }
+moved_session m Look = m
 
 -- the session after a move and its reply
 abbrev pub session_after : Session → Move → Reply → Session
-session_after m move Done = moved m move
+session_after m move Done = moved_session m move
 session_after m move (Clock clock) = m
 session_after m move (Refused refusal) = m
 

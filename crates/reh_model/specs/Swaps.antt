@@ -6,12 +6,12 @@ use Rattle.reh_types.specs.declared.moves.Move.{Move}
 use Rattle.reh_types.specs.declared.moves.Move.TheVariants.{Do}
 use Rattle.reh_types.specs.declared.moves.Reply.{Reply}
 use Rattle.reh_types.specs.declared.moves.Reply.TheVariants.{Done}
-use Rattle.reh_model.specs.Cluster.{Cluster, holds, stop_at, striped_at}
+use Rattle.reh_model.specs.Cluster.{Cluster, holds, stop_at, stripe_at}
 use Rattle.reh_model.specs.Session.{Session, state_of, session_after}
 
 -- what a swap promises of a cluster: the fragment has a stop there, so that its entries are known, and the worker's bookie holds every entry that it stripes onto the index. Other events promise nothing.
 abbrev pub HoldsStripe : Cluster → Event → Type 0
-HoldsStripe s (Swap w l f i v) = IsSome (stop_at s l f) × All (λ e. holds s w l e ≡ true) (striped_at s l f i)
+HoldsStripe s (Swap w l f i v) = IsSome (stop_at s l f) × All (λ e. holds s w l e ≡ true) (stripe_at s l f i)
 HoldsStripe s event = Unit {0}
 
 -- a move with its reply: where a swap is done, it keeps its promise in the state that it is made on

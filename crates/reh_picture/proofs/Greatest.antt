@@ -10,7 +10,7 @@ use Rattle.reh_types.specs.Sets as set
 use Rattle.reh_types.specs.Sets.{triples}
 use Rattle.reh_model.specs.Contents.{Contents, greatest_held}
 use Rattle.reh_model.proofs.ContentsLaws.{greatest_held-insert}
-use Rattle.reh_picture.specs.Contents.{copies_of, IsGreatest}
+use Rattle.reh_picture.specs.Contents.{copies_within, IsGreatest}
 
 -- the greater of an end and what was the greatest, if the end is of the ledger
 abbrev pub with_end : Bool → ℕ → Option ℕ → Option ℕ
@@ -33,9 +33,9 @@ greatest-run s w l first (suc n) k =
     ∙ ap (λ e. with_end (nat_eq l k) e (greatest_held s k)) (omega arith)
 
 -- after a range is added, its end counts
-pub greatest-copies_of : (s : Contents) (w l : ℕ) (ends : ℕ × ℕ) (k : ℕ) → ends.0 ≤ ends.1
-    → greatest_held (fold set.insert s (copies_of w l ends)) k ≡ with_end (nat_eq l k) ends.1 (greatest_held s k)
-greatest-copies_of s w l ends k some =
+pub greatest-copies_within : (s : Contents) (w l : ℕ) (ends : ℕ × ℕ) (k : ℕ) → ends.0 ≤ ends.1
+    → greatest_held (fold set.insert s (copies_within w l ends)) k ≡ with_end (nat_eq l k) ends.1 (greatest_held s k)
+greatest-copies_within s w l ends k some =
     let long : (ends.1 + 1) - ends.0 ≡ suc (ends.1 - ends.0) = omega arith in
     ap (λ n. greatest_held (fold set.insert s (map (λ e. (w, l, e)) (range_with_len ends.0 n))) k) long
     ∙ greatest-run s w l ends.0 (ends.1 - ends.0) k
@@ -44,21 +44,21 @@ greatest-copies_of s w l ends k some =
 -- ends that say the greatest entries go on saying them, after one more range
 pub IsGreatest-range : (before after : ℕ → Option ℕ) (s : Contents) (w l : ℕ) (ends : ℕ × ℕ) → ends.0 ≤ ends.1 → IsGreatest before s
     → ((q : ℕ) → after q ≡ cond (nat_eq l q) (Some (option_map_or (λ end. max end ends.1) (before q) ends.1)) (before q))
-    → IsGreatest after (fold set.insert s (copies_of w l ends))
-IsGreatest-range before after s w l ends some is noted k = noted k ∙ ap (with_end (nat_eq l k) ends.1) (is k) ∙ sym (greatest-copies_of s w l ends k some)
+    → IsGreatest after (fold set.insert s (copies_within w l ends))
+IsGreatest-range before after s w l ends some is noted k = noted k ∙ ap (with_end (nat_eq l k) ends.1) (is k) ∙ sym (greatest-copies_within s w l ends k some)
 
 -- the same along the ranges of a holding
 pub IsGreatest-next : (before after : ℕ → Option ℕ) (s : Contents) (w l : ℕ) (ranges of_holding : List (ℕ × ℕ)) (i : ℕ) (d : ℕ × ℕ) → i < length ranges
     → ranges ≡ of_holding → All (λ range. range.0 ≤ range.1) of_holding
-    → IsGreatest before (fold set.insert s (flat_map (copies_of w l) (take i ranges)))
+    → IsGreatest before (fold set.insert s (flat_map (copies_within w l) (take i ranges)))
     → ((q : ℕ) → after q ≡ cond (nat_eq l q) (Some (option_map_or (λ end. max end (get_or ranges i d).1) (before q) (get_or ranges i d).1)) (before q))
-    → IsGreatest after (fold set.insert s (flat_map (copies_of w l) (take (i + 1) ranges)))
+    → IsGreatest after (fold set.insert s (flat_map (copies_within w l) (take (i + 1) ranges)))
 IsGreatest-next before after s w l ranges of_holding i d within same some is noted =
     let range = get_or ranges i d in
     let each : All (λ (range : ℕ × ℕ). range.0 ≤ range.1) ranges = subst (λ (rs : List (ℕ × ℕ)). All (λ range. range.0 ≤ range.1) rs) (sym same) some in
-    let so_far = fold set.insert s (flat_map (copies_of w l) (take i ranges)) in
-    let one_more : fold set.insert s (flat_map (copies_of w l) (take (i + 1) ranges)) ≡ fold set.insert so_far (copies_of w l range) =
-    ap (λ (rs : List (ℕ × ℕ)). fold set.insert s (flat_map (copies_of w l) rs)) (take_more ranges i d within)
-    ∙ ap (fold set.insert s) (flat_map-append (copies_of w l) (take i ranges) (range ∷ []) ∙ ap (λ ts. flat_map (copies_of w l) (take i ranges) ++ ts) (append-nil (copies_of w l range)))
-    ∙ fold-append set.insert s (flat_map (copies_of w l) (take i ranges)) (copies_of w l range) in
+    let so_far = fold set.insert s (flat_map (copies_within w l) (take i ranges)) in
+    let one_more : fold set.insert s (flat_map (copies_within w l) (take (i + 1) ranges)) ≡ fold set.insert so_far (copies_within w l range) =
+    ap (λ (rs : List (ℕ × ℕ)). fold set.insert s (flat_map (copies_within w l) rs)) (take_more ranges i d within)
+    ∙ ap (fold set.insert s) (flat_map-append (copies_within w l) (take i ranges) (range ∷ []) ∙ ap (λ ts. flat_map (copies_within w l) (take i ranges) ++ ts) (append-nil (copies_within w l range)))
+    ∙ fold-append set.insert s (flat_map (copies_within w l) (take i ranges)) (copies_within w l range) in
     subst (λ (t : Contents). IsGreatest after t) (sym one_more) (IsGreatest-range before after so_far w l range (each i d within) is noted)

@@ -35,11 +35,11 @@ use Rattle.reh_model.specs.Checks.{reason_unless}
 use Rattle.reh_picture.specs.Faults.{fault_along}
 use Rattle.reh_picture.specs.Members.{integer_in, number_of, text_of, flag_of, list_of, number_fault, list_fault}
 use Rattle.reh_picture.specs.Bookies.{bookie_fault, each_bookie_fault, bookies_fault, names_in, registered_in, bookie_in, known_fault}
-use Rattle.reh_picture.specs.Ledgers.{member_name, member_fault, members_fault, fragment_fault, fragment_in, fragments_fault, is_closed, end_after, end_in, state_in, metadata_in, broken_rule, metadata_fault, ledger_fault, ids_in, each_ledger_fault, ledgers_fault, ledger_in}
-use Rattle.reh_picture.specs.Contents.{ends_of, next_after, range_fault, ranges_fault, Holding, holding_in, pairs_in, content_fault, each_content_fault, contents_fault, copies_of, copies_in, held_in}
+use Rattle.reh_picture.specs.Ledgers.{member_name, member_fault, members_fault, fragment_fault, fragment_in, fragments_fault, is_closed, end_after, end_in, state_in, pictured_metadata, broken_rule, metadata_fault, ledger_fault, ids_in, each_ledger_fault, ledgers_fault, ledger_in}
+use Rattle.reh_picture.specs.Contents.{ends_of, next_after, range_fault, ranges_fault, Holding, holding_in, pairs_in, content_fault, each_content_fault, contents_fault, copies_within, copies_in, held_in}
 use Rattle.reh_model.specs.Contents as model
 use Rattle.reh_cluster.specs.Parts.{cluster_of}
-use Rattle.reh_picture.specs.Pictures.{names_of, ids_of, cluster_in, words_in_all, head_fault, parts_fault, fields_fault, IsShown}
+use Rattle.reh_picture.specs.Pictures.{names_of, ids_of, pictured_cluster, words_in_all, head_fault, parts_fault, fields_fault, IsShown}
 
 -- Tests
 
@@ -194,8 +194,8 @@ fragments_good names fragments none = all_made (λ _ d. fragment_fault names d) 
 
 -- a ledger's metadata
 pub record IsMetadataOf (names : List (List ℕ)) (d : Data) : Type 0 where
-  pub metadata : IsMetadata (metadata_in names d)
-  pub fragments : All (IsFragment (length names)) (metadata_in names d).fragments
+  pub metadata : IsMetadata (pictured_metadata names d)
+  pub fragments : All (IsFragment (length names)) (pictured_metadata names d).fragments
 
 metadata_good : (names : List (List ℕ)) (ledger : ℕ) (d : Data) → metadata_fault names ledger d ≡ None → IsMetadataOf names d
 unfolding metadata_fault
@@ -207,7 +207,7 @@ metadata_good names ledger d none =
     let rules = both-none _ _ fragments.1 in
     let each = fragments_good names (list_of d field.Fragments) fragments.0 in
     record {
-      metadata = IsMetadata-from_rules (metadata_in names d) (KeepsRules-none _ (option_map-none (broken_rule ledger) _ rules.0))
+      metadata = IsMetadata-from_rules (pictured_metadata names d) (KeepsRules-none _ (option_map-none (broken_rule ledger) _ rules.0))
           (number_within d field.Version 0 MAX_VERSION version.0).1 (state_small d)
           (omega (arith, (list_within d field.Fragments 0 MAX_FRAGMENTS list.0).1, length-map (list_of d field.Fragments) (fragment_in names)))
           (λ k fragment within. (each k fragment within).first);
@@ -268,7 +268,7 @@ any_of_two : {A : Type 0} (p : A → Bool) (xs ys : List A) (P : Type 0) → (li
 any_of_two p xs ys P first second is = or-either (list_any p xs) (list_any p ys) P first second (sym (list_any-append p xs ys) ∙ is)
 
 -- an entry of a range
-copy_in_range : (s : Cluster) (bookie ledger : ℕ) (ends : ℕ × ℕ) (q : ℕ × ℕ × ℕ) → bookie < length s.names → IsSome (ledger_at s ledger) → ends.1 ≤ MAX_ENTRY_ID → list_any (is_triple q) (copies_of bookie ledger ends) ≡ true → IsCopy (length s.names) s.ledgers q
+copy_in_range : (s : Cluster) (bookie ledger : ℕ) (ends : ℕ × ℕ) (q : ℕ × ℕ × ℕ) → bookie < length s.names → IsSome (ledger_at s ledger) → ends.1 ≤ MAX_ENTRY_ID → list_any (is_triple q) (copies_within bookie ledger ends) ≡ true → IsCopy (length s.names) s.ledgers q
 copy_in_range s bookie ledger ends q known there small any =
     let w : Passes (λ e. is_triple q (bookie, ledger, e)) ends.0 ((ends.1 + 1) - ends.0) =
     any_passes (λ e. is_triple q (bookie, ledger, e)) ends.0 ((ends.1 + 1) - ends.0) (sym (list_any-map (is_triple q) (λ e. (bookie, ledger, e)) (range_with_len ends.0 ((ends.1 + 1) - ends.0))) ∙ any) in
@@ -278,18 +278,18 @@ copy_in_range s bookie ledger ends q known there small any =
 
 -- an entry of ranges without a fault
 copy_in_ranges : (s : Cluster) (bookie ledger : ℕ) (q : ℕ × ℕ × ℕ) → bookie < length s.names → IsSome (ledger_at s ledger) → (before ranges : List Data) → fault_along (λ before d. range_fault (next_after before) d) before ranges ≡ None
-    → list_any (is_triple q) (flat_map (copies_of bookie ledger) (map ends_of ranges)) ≡ true → IsCopy (length s.names) s.ledgers q
+    → list_any (is_triple q) (flat_map (copies_within bookie ledger) (map ends_of ranges)) ≡ true → IsCopy (length s.names) s.ledgers q
 copy_in_ranges s bookie ledger q known there before [] none any = cc
 copy_in_ranges s bookie ledger q known there before (d ∷ ds) none any =
     let checks = both-none _ _ none in
     let within : ((nat_le (next_after before) (ends_of d).0 && nat_le (ends_of d).0 (ends_of d).1) ≡ true) × (nat_le (ends_of d).1 MAX_ENTRY_ID ≡ true) = and-true _ _ (reason_unless-none _ _ (both-none _ _ (both-none _ _ checks.0).1).0) in
-    any_of_two (is_triple q) (copies_of bookie ledger (ends_of d)) (flat_map (copies_of bookie ledger) (map ends_of ds)) (IsCopy (length s.names) s.ledgers q)
+    any_of_two (is_triple q) (copies_within bookie ledger (ends_of d)) (flat_map (copies_within bookie ledger) (map ends_of ds)) (IsCopy (length s.names) s.ledgers q)
     (copy_in_range s bookie ledger (ends_of d) q known there (grind (arith, nat_tests, within.1)))
     (copy_in_ranges s bookie ledger q known there (before ++ d ∷ []) ds checks.1)
     any
 
 ranges_copies : (s : Cluster) (bookie ledger : ℕ) (q : ℕ × ℕ × ℕ) → bookie < length s.names → IsSome (ledger_at s ledger) → (ranges : List Data) → ranges_fault ranges ≡ None
-    → list_any (is_triple q) (flat_map (copies_of bookie ledger) (map ends_of ranges)) ≡ true → IsCopy (length s.names) s.ledgers q
+    → list_any (is_triple q) (flat_map (copies_within bookie ledger) (map ends_of ranges)) ≡ true → IsCopy (length s.names) s.ledgers q
 unfolding ranges_fault
 ranges_copies s bookie ledger q known there ranges none any = copy_in_ranges s bookie ledger q known there [] ranges none any
 
@@ -379,9 +379,9 @@ IsFaultless-none d none =
     }
 
 -- such parts within the limit of words are a well-formed cluster
-pub IsWellFormed-cluster_in : (d : Data) → IsFaultless d → words_in_all (cluster_in d) ≤ MAX_WORDS → IsWellFormed (cluster_in d)
-IsWellFormed-cluster_in d good words =
-    let s = cluster_in d in
+pub IsWellFormed-pictured_cluster : (d : Data) → IsFaultless d → words_in_all (pictured_cluster d) ≤ MAX_WORDS → IsWellFormed (pictured_cluster d)
+IsWellFormed-pictured_cluster d good words =
+    let s = pictured_cluster d in
     let count : length (names_of d) ≡ length (list_of d field.Bookies) = length-map (list_of d field.Bookies) (λ d. text_of d field.Name) in
     record {
       names = record {
@@ -405,7 +405,7 @@ IsWellFormed-cluster_in d good words =
     }
 
 -- the parts that were read are those of the cluster
-pub cluster_of-shown : (d : Data) (names : List (List ℕ)) (up : Set numbers) (grace : ℕ) (ledgers : List Ledger) (holdings : List Holding) (held : model.Contents) → IsShown d names up grace ledgers holdings → held ≡ held_in holdings → cluster_of names up grace ledgers held ≡ cluster_in d
+pub cluster_of-shown : (d : Data) (names : List (List ℕ)) (up : Set numbers) (grace : ℕ) (ledgers : List Ledger) (holdings : List Holding) (held : model.Contents) → IsShown d names up grace ledgers holdings → held ≡ held_in holdings → cluster_of names up grace ledgers held ≡ pictured_cluster d
 cluster_of-shown d names up grace ledgers holdings held shown is = λ i. record {
   names = shown.names_are i;
   grace = shown.grace_is i;
@@ -416,19 +416,19 @@ cluster_of-shown d names up grace ledgers holdings held shown is = λ i. record 
 }
 
 -- and take as many words
-pub words_in_all-shown : (d : Data) (names : List (List ℕ)) (up : Set numbers) (grace : ℕ) (ledgers lent : List Ledger) (held : model.Contents) (bookies words : ℕ) → cluster_of names up grace ledgers held ≡ cluster_in d → bookies ≡ length names → lent ≡ ledgers
-    → words ≡ bookies * sum_by (λ g. words_of held g.id) lent → words ≡ words_in_all (cluster_in d)
+pub words_in_all-shown : (d : Data) (names : List (List ℕ)) (up : Set numbers) (grace : ℕ) (ledgers lent : List Ledger) (held : model.Contents) (bookies words : ℕ) → cluster_of names up grace ledgers held ≡ pictured_cluster d → bookies ≡ length names → lent ≡ ledgers
+    → words ≡ bookies * sum_by (λ g. words_of held g.id) lent → words ≡ words_in_all (pictured_cluster d)
 words_in_all-shown d names up grace ledgers lent held bookies words whole count same is = is ∙ (λ i. count i * sum_by (λ g. words_of held g.id) (same i)) ∙ ap words_in_all whole
 
 -- the limit of words is judged last
-pub fields_fault-within : (d : Data) → parts_fault d ≡ None → words_in_all (cluster_in d) ≤ MAX_WORDS → fields_fault d ≡ None
+pub fields_fault-within : (d : Data) → parts_fault d ≡ None → words_in_all (pictured_cluster d) ≤ MAX_WORDS → fields_fault d ≡ None
 fields_fault-within d good within =
-    let test : nat_le (words_in_all (cluster_in d)) MAX_WORDS ≡ true = grind (arith, nat_tests) in
-    ap (λ (o : Option PictureFault). option_or o (option_or (reason_unless (nat_le (words_in_all (cluster_in d)) MAX_WORDS) (Limit field.Contents)) None)) good
+    let test : nat_le (words_in_all (pictured_cluster d)) MAX_WORDS ≡ true = grind (arith, nat_tests) in
+    ap (λ (o : Option PictureFault). option_or o (option_or (reason_unless (nat_le (words_in_all (pictured_cluster d)) MAX_WORDS) (Limit field.Contents)) None)) good
     ∙ ap (λ (t : Bool). option_or (reason_unless t (Limit field.Contents)) None) test
 
-pub fields_fault-past : (d : Data) → parts_fault d ≡ None → MAX_WORDS < words_in_all (cluster_in d) → fields_fault d ≡ Some (Limit field.Contents)
+pub fields_fault-past : (d : Data) → parts_fault d ≡ None → MAX_WORDS < words_in_all (pictured_cluster d) → fields_fault d ≡ Some (Limit field.Contents)
 fields_fault-past d good past =
-    let test : nat_le (words_in_all (cluster_in d)) MAX_WORDS ≡ false = grind (arith, nat_tests) in
-    ap (λ (o : Option PictureFault). option_or o (option_or (reason_unless (nat_le (words_in_all (cluster_in d)) MAX_WORDS) (Limit field.Contents)) None)) good
+    let test : nat_le (words_in_all (pictured_cluster d)) MAX_WORDS ≡ false = grind (arith, nat_tests) in
+    ap (λ (o : Option PictureFault). option_or o (option_or (reason_unless (nat_le (words_in_all (pictured_cluster d)) MAX_WORDS) (Limit field.Contents)) None)) good
     ∙ ap (λ (t : Bool). option_or (reason_unless t (Limit field.Contents)) None) test

@@ -99,12 +99,12 @@ unfoldable pub contents_fault : List (List ℕ) → List ℕ → Data → Option
 contents_fault names ids d = first_reason (result_err (list_in d field.Contents) ∷ each_content_fault names ids (list_of d field.Contents) ∷ [])
 
 -- (bookie, ledger, entry) for each entry of a range
-abbrev pub copies_of : ℕ → ℕ → ℕ × ℕ → List (ℕ × ℕ × ℕ)
-copies_of bookie ledger ends = map (λ e. (bookie, ledger, e)) (range ends.0 (ends.1 + 1))
+abbrev pub copies_within : ℕ → ℕ → ℕ × ℕ → List (ℕ × ℕ × ℕ)
+copies_within bookie ledger ends = map (λ e. (bookie, ledger, e)) (range ends.0 (ends.1 + 1))
 
 -- the same for each entry of what is held
 abbrev pub copies_in : Holding → List (ℕ × ℕ × ℕ)
-copies_in holding = flat_map (copies_of holding.bookie holding.ledger) holding.ranges
+copies_in holding = flat_map (copies_within holding.bookie holding.ledger) holding.ranges
 
 abbrev pub held_in : List Holding → model.Contents
 held_in holdings = set.from_list (flat_map copies_in holdings)

@@ -105,8 +105,8 @@ unfoldable pub fragments_fault : List (List ℕ) → List Data → Option Pictur
 fragments_fault names fragments = fault_along (λ _ d. fragment_fault names d) [] fragments
 
 -- the metadata that a ledger's fields name, in a picture whose bookies have these names
-abbrev pub metadata_in : List (List ℕ) → Data → Metadata
-metadata_in names d = record {
+abbrev pub pictured_metadata : List (List ℕ) → Data → Metadata
+pictured_metadata names d = record {
   size = number_of d field.EnsembleSize;
   write_quorum = number_of d field.WriteQuorumSize;
   ack_quorum = number_of d field.AckQuorumSize;
@@ -132,7 +132,7 @@ metadata_fault names ledger d =
     ∷ number_fault d field.Version 0 MAX_VERSION
     ∷ list_fault d field.Fragments 0 MAX_FRAGMENTS
     ∷ fragments_fault names (list_of d field.Fragments)
-    ∷ option_map (broken_rule ledger) (fault_of (metadata_in names d))
+    ∷ option_map (broken_rule ledger) (fault_of (pictured_metadata names d))
     ∷ [])
 
 -- Ledgers
@@ -160,4 +160,4 @@ ledgers_fault names d = first_reason (list_fault d field.Ledgers 0 MAX_LEDGERS �
 
 -- the ledger, with no task and no lock
 abbrev pub ledger_in : List (List ℕ) → Data → Ledger
-ledger_in names d = record { id = number_of d field.Id; metadata = metadata_in names d; task = None; lock = None }
+ledger_in names d = record { id = number_of d field.Id; metadata = pictured_metadata names d; task = None; lock = None }

@@ -25,8 +25,8 @@ abbrev pub ids_of : Data → List ℕ
 ids_of d = ids_in (list_of d field.Ledgers)
 
 -- the cluster that the fields name, with no task and no lock, at clock 0
-abbrev pub cluster_in : Data → Cluster
-cluster_in d = record {
+abbrev pub pictured_cluster : Data → Cluster
+pictured_cluster d = record {
   names = names_of d;
   grace = number_of d field.Grace;
   up = registered_in (list_of d field.Bookies);
@@ -60,7 +60,7 @@ parts_fault d =
 
 -- at the end of all, the limit of words
 abbrev pub fields_fault : Data → Option PictureFault
-fields_fault d = first_reason (parts_fault d ∷ reason_unless (nat_le (words_in_all (cluster_in d)) MAX_WORDS) (Limit field.Contents) ∷ [])
+fields_fault d = first_reason (parts_fault d ∷ reason_unless (nat_le (words_in_all (pictured_cluster d)) MAX_WORDS) (Limit field.Contents) ∷ [])
 
 -- the cluster, unless there is a fault
 abbrev pub unless_fault : Option PictureFault → Cluster → Result Cluster PictureFault
@@ -68,7 +68,7 @@ unless_fault None s = Ok s
 unless_fault (Some fault) s = Err fault
 
 abbrev pub picture_in : Data → Result Cluster PictureFault
-picture_in d = unless_fault (fields_fault d) (cluster_in d)
+picture_in d = unless_fault (fields_fault d) (pictured_cluster d)
 
 -- what bytes are as JSON
 abbrev pub json_of : List ℕ → Option Data

@@ -10,7 +10,7 @@ ghost use Rattle.reh_types.specs.Sets as set;
 ghost use Rattle.reh_picture.specs.Faults.{FailsWith};
 ghost use Rattle.reh_picture.specs.Members.{number_of, list_of, text_of};
 ghost use Rattle.reh_picture.specs.Bookies.{bookie_in};
-ghost use Rattle.reh_picture.specs.Contents.{two_numbers as two_numbers_in, ends_in, ends_of, range_fault, ranges_fault, next_after, content_fault, each_content_fault, contents_fault, pair_fault, pair_of, holding_in, copies_of, copies_in, held_in, IsGreatest};
+ghost use Rattle.reh_picture.specs.Contents.{two_numbers as two_numbers_in, ends_in, ends_of, range_fault, ranges_fault, next_after, content_fault, each_content_fault, contents_fault, pair_fault, pair_of, holding_in, copies_within, copies_in, held_in, IsGreatest};
 ghost use Rattle.reh_model.specs.Contents.{Contents};
 
 use crate::faults::{FaultName, LedgerFlaw, PictureFault, Repeated};
@@ -247,7 +247,7 @@ fn add_range(
     ledger: LedgerId,
     ends: (u32, u32),
 ) -> Result<(), AllocError>
-    ensures { OnOk result (held.new.contents ≡ fold set.insert held.old.contents (copies_of bookie ledger ends)) }
+    ensures { OnOk result (held.new.contents ≡ fold set.insert held.old.contents (copies_within bookie ledger ends)) }
 {
     for entry in ends.0..=ends.1 {
         held.add(bookie, ledger, entry)?;

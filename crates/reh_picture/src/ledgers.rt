@@ -8,7 +8,7 @@ ghost use Rattle.reh_model.specs.Metadata.{end_of_state};
 ghost use Rattle.reh_picture.specs.Faults.{FailsWith};
 ghost use Rattle.reh_picture.specs.Members.{number_of, list_of};
 ghost use Rattle.reh_picture.specs.Bookies.{known_fault, bookie_in};
-ghost use Rattle.reh_picture.specs.Ledgers.{member_fault, members_fault, member_name, fragment_fault, fragment_in, state_fault, state_in, last_fault, end_in, is_closed, sizes_fault, fragments_fault, metadata_fault, metadata_in, ledger_fault, each_ledger_fault, ledgers_fault, ledger_in, ids_in, broken_rule};
+ghost use Rattle.reh_picture.specs.Ledgers.{member_fault, members_fault, member_name, fragment_fault, fragment_in, state_fault, state_in, last_fault, end_in, is_closed, sizes_fault, fragments_fault, metadata_fault, pictured_metadata, ledger_fault, each_ledger_fault, ledgers_fault, ledger_in, ids_in, broken_rule};
 
 use crate::faults::{FaultName, LedgerFlaw, PictureFault, Repeated};
 use crate::fields::Field;
@@ -171,7 +171,7 @@ fn read_metadata(
     ledger: &Value,
 ) -> Result<LedgerMeta, PictureFault>
     ensures fault { FailsWith result (metadata_fault names.now id (view ledger.now)) }
-    ensures metadata { IfOk result (λ m. m ≡ metadata_in names.now (view ledger.now)) }
+    ensures metadata { IfOk result (λ m. m ≡ pictured_metadata names.now (view ledger.now)) }
 {
     let state = read_state(ledger)?;
     let sizes = read_sizes(ledger)?;

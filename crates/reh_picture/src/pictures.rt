@@ -8,7 +8,7 @@ ghost use Rattle.reh_picture.specs.Members.{number_of};
 ghost use Rattle.reh_picture.specs.Faults.{FailsWith};
 ghost use Rattle.reh_model.specs.WellFormed.{words_of};
 ghost use Rattle.reh_picture.specs.Contents.{held_in};
-ghost use Rattle.reh_picture.specs.Pictures.{picture_of, head_fault, parts_fault, fields_fault, cluster_in, IsShown, json_of};
+ghost use Rattle.reh_picture.specs.Pictures.{picture_of, head_fault, parts_fault, fields_fault, pictured_cluster, IsShown, json_of};
 
 use crate::bookies::read_bookies;
 use crate::contents::{Holding, greatest_ends, hold, read_contents};
@@ -49,7 +49,7 @@ fn parse_json(alloc: Global, bytes: &[u8]) -> Result<Value, PictureFault>
 /// The state that a picture's fields name.
 fn read_cluster(alloc: Global, picture: &Value) -> Result<State, PictureFault>
     ensures fault { FailsWith result (fields_fault (view picture.now)) }
-    ensures state { IfOk result (λ state. state ≡ cluster_in (view picture.now)) }
+    ensures state { IfOk result (λ state. state ≡ pictured_cluster (view picture.now)) }
 {
     let Parts {
         names,

@@ -14,7 +14,7 @@ use Rattle.reh_types.specs.declared.refusals.Refusal.TheVariants.{NothingToUndo,
 use Rattle.reh_model.specs.Cluster.{Cluster}
 use Rattle.reh_model.specs.Step.{refusal_of, after}
 use Rattle.reh_model.specs.Swaps.{AllSafe}
-use Rattle.reh_model.specs.Session.{Session, replay, state_of, reply_to, moved, Performs, Run}
+use Rattle.reh_model.specs.Session.{Session, replay, state_of, reply_to, moved_session, Performs, Run}
 use Rattle.reh_model.proofs.SessionLaws.{replay_first, replay-append, replay-prefix, replay_one, done_unless-some}
 use Rattle.reh_model.proofs.SwapLaws.{CanRedoAll, CanRedoAll-run, all_safe}
 use Rattle.reh_model.proofs.AcceptedLaws.{done_within, refused_first}
@@ -49,7 +49,7 @@ acted {o} {s} {es} {k} h e new accepted room is =
     }
 
 -- and the session is what the move makes of it
-pub act_moves : {o s : Cluster} {es : List Event} {k : ℕ} → IsKept o s es k → (e : Event) (new : List Event) → new ≡ take k es ++ e ∷ [] → session_of o new (k + 1) ≡ moved (session_of o es k) (Do e)
+pub act_moves : {o s : Cluster} {es : List Event} {k : ℕ} → IsKept o s es k → (e : Event) (new : List Event) → new ≡ take k es ++ e ∷ [] → session_of o new (k + 1) ≡ moved_session (session_of o es k) (Do e)
 act_moves {o} {s} {es} {k} h e new is =
     let size : length new ≡ k + 1 = ap length is ∙ length-append (take k es) (e ∷ []) ∙ ap (λ n. n + 1) (length-take-le k es h.within) in
     λ i. record { opening = o; done = (take_all (k + 1) new (omega arith) ∙ is) i; undone = drop_all (k + 1) new (omega arith) i }

@@ -3,15 +3,15 @@ ghost use Rattle.std.specs.Prelude.{◌≡◌, ℕ, [], ◌∷◌, None, IsSome}
 ghost use Rattle.reh_types.specs.declared.moves.Event.{Event};
 ghost use Rattle.reh_types.specs.declared.moves.Move.TheVariants.{Do, Undo};
 ghost use Rattle.reh_types.specs.declared.moves.Reply.TheVariants.{Done};
-ghost use Rattle.reh_model.specs.Cluster.{Cluster, stop_at, striped_at};
+ghost use Rattle.reh_model.specs.Cluster.{Cluster, stop_at, stripe_at};
 ghost use Rattle.reh_model.specs.Step.{refusal_of, after};
-ghost use Rattle.reh_model.specs.Session.{Session, state_of, reply_to, moved};
+ghost use Rattle.reh_model.specs.Session.{Session, state_of, reply_to, moved_session};
 
 /// An accepted event can be undone, and its undo restores the state and the surviving events; the one event that is undone then is that event.
 pub fn undo_restores()
-    ensures can_undo { (m : Session) (event : Event) → reply_to m (Do event) ≡ Done → reply_to (moved m (Do event)) Undo ≡ Done }
-    ensures events { (m : Session) (event : Event) → moved (moved m (Do event)) Undo ≡ record m { undone = event ∷ [] } }
-    ensures state { (m : Session) (event : Event) → state_of (moved (moved m (Do event)) Undo) ≡ state_of m }
+    ensures can_undo { (m : Session) (event : Event) → reply_to m (Do event) ≡ Done → reply_to (moved_session m (Do event)) Undo ≡ Done }
+    ensures events { (m : Session) (event : Event) → moved_session (moved_session m (Do event)) Undo ≡ record m { undone = event ∷ [] } }
+    ensures state { (m : Session) (event : Event) → state_of (moved_session (moved_session m (Do event)) Undo) ≡ state_of m }
 {}
 
 /// An accepted event moves no stop of a fragment that has one, and changes nothing of the entries that such a fragment
@@ -20,5 +20,5 @@ pub fn stripes_stay()
     ensures stops { (s : Cluster) (event : Event) → refusal_of s event ≡ None → (l f : ℕ) →
         IsSome (stop_at s l f) → stop_at (after s event) l f ≡ stop_at s l f }
     ensures stripes { (s : Cluster) (event : Event) → refusal_of s event ≡ None → (l f i : ℕ) →
-        IsSome (stop_at s l f) → striped_at (after s event) l f i ≡ striped_at s l f i }
+        IsSome (stop_at s l f) → stripe_at (after s event) l f i ≡ stripe_at s l f i }
 {}

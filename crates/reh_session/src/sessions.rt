@@ -34,12 +34,12 @@ impl Model for Session {
 
 impl Session {
     ghost use Rattle.reh_types.specs.declared.moves.Move.TheVariants.{Do, Undo, Redo};
-    ghost use Rattle.reh_model.specs.Session.{opened, state_of, Performs, Run, reply_of};
+    ghost use Rattle.reh_model.specs.Session.{opened_session, state_of, Performs, Run, reply_of};
     ghost use Rattle.reh_model.specs.Swaps.{HoldsStripe, IsSafe, IsSafeRun, AllSafe};
 
     /// A session on this state, with no event. Where there is no memory, the state is dropped.
     pub fn open(alloc: Global, state: State) -> Result<Session, AllocError>
-        ensures { IfOk result (λ session. session ≡ opened state) }
+        ensures { IfOk result (λ session. session ≡ opened_session state) }
     {
         let opening = state.clone_in()?;
         Ok(Session {

@@ -2,7 +2,7 @@
 ghost use Rattle.std.specs.Prelude.{◌≡◌, ◌==◌, ◌&&◌, [], ◌∷◌, length, None, Some, MatchResult, not, slice_get};
 ghost use Rattle.reh_types.specs.declared.moves.Event.TheVariants.{Lose, Join, Audit, Acquire, Release, Finish, Expire, Tick, Copy, Swap};
 ghost use Rattle.std.specs.List.{find, list_any};
-ghost use Rattle.reh_model.specs.Metadata.{striped_of};
+ghost use Rattle.reh_model.specs.Metadata.{stripe_of};
 ghost use Rattle.reh_model.specs.Cluster as cluster;
 ghost use Rattle.reh_model.specs.Cluster.{ledger_at, is_locked_by};
 ghost use Rattle.reh_model.specs.Refusals as model;
@@ -238,7 +238,7 @@ fn find_place(
             × (first_reason (place_checks state.now worker fragment index version place.0.now) ≡ None)
             × (slice_get place.0.now.metadata.fragments fragment ≡ Some place.1.now)
             × (length place.1.now.ensemble ≡ place.0.now.metadata.size)
-            × (place.2 ≡ striped_of place.0.now.metadata fragment index))
+            × (place.2 ≡ stripe_of place.0.now.metadata fragment index))
         (λ refusal. first_reason (model.no_bookie state.now worker
             ∷ model.at_ledger state.now ledger (place_checks state.now worker fragment index version) ∷ []) ≡ Some refusal) }
 {
@@ -250,7 +250,7 @@ fn find_place(
 
 /// Whether the ledger's metadata is at that version.
 fn check_version(ledger: &Ledger, version: u64) -> Result<(), Refusal>
-    ensures { Decides result (model.stale ledger.now version) }
+    ensures { Decides result (model.stale_version ledger.now version) }
 {
     let now = ledger.metadata().version();
     if now == version {
@@ -271,7 +271,7 @@ fn check_place<'a>(
     index: u64,
 ) -> Result<(&'a Fragment, Striped), Refusal>
     ensures { MatchResult result
-        (λ place. (model.no_place state.now worker ledger.now fragment index ≡ None) × (slice_get ledger.now.metadata.fragments fragment ≡ Some place.0.now) × (length place.0.now.ensemble ≡ ledger.now.metadata.size) × (place.1 ≡ striped_of ledger.now.metadata fragment index))
+        (λ place. (model.no_place state.now worker ledger.now fragment index ≡ None) × (slice_get ledger.now.metadata.fragments fragment ≡ Some place.0.now) × (length place.0.now.ensemble ≡ ledger.now.metadata.size) × (place.1 ≡ stripe_of ledger.now.metadata fragment index))
         (λ refusal. model.no_place state.now worker ledger.now fragment index ≡ Some refusal) }
 {
     let metadata = ledger.metadata();

@@ -77,7 +77,7 @@ pub fn change(state: State, event: &Event) -> Result<State, AllocError>
 
 /// The entries that the ledger's fragment of that number stripes onto the index, if there is such a fragment and it has a stop.
 fn stripe_at(state: &State, ledger: LedgerId, fragment: u64, index: u64) -> Option<Striped>
-    ensures { cluster.striped_at state.now ledger fragment index ≡ unwrap_or result [] }
+    ensures { cluster.stripe_at state.now ledger fragment index ≡ unwrap_or result [] }
 {
     let metadata = state.ledger(ledger)?.metadata();
     if index >= metadata.size() as u64 {

@@ -47,7 +47,7 @@ impl Model for Striped {
 
     ghost Value = { List ℕ };
 
-    ghost view = { λ s. stripe.striped s.at s.stop s.index s.size s.quorum };
+    ghost view = { λ s. stripe.striped_entries s.at s.stop s.index s.size s.quorum };
 
     ghost invariant = { λ s. (1 ≤ s.quorum) × (s.quorum ≤ s.size) × (s.size ≤ MAX_ENSEMBLE_SIZE) };
 }
@@ -58,7 +58,7 @@ impl Striped {
         requires some { 1 ≤ quorum }
         requires within { quorum ≤ size }
         requires small { size ≤ MAX_ENSEMBLE_SIZE }
-        ensures { result ≡ stripe.striped first stop index size quorum }
+        ensures { result ≡ stripe.striped_entries first stop index size quorum }
     {
         Striped {
             at: first,

@@ -19,11 +19,11 @@ pub struct WriteSet {
 impl Model for WriteSet {
     ghost use Rattle.std.specs.Prelude.{List, ℕ, ◌+◌, ◌≤◌, ◌<◌, map};
     ghost use Rattle.reh_types.specs.declared.limits.TheConstants.{MAX_ENSEMBLE_SIZE};
-    ghost use Rattle.reh_model.specs.Striping.{ranked, range};
+    ghost use Rattle.reh_model.specs.Striping.{index_at, range};
 
     ghost Value = { List ℕ };
 
-    ghost view = { λ w. map (ranked w.start w.size) (range w.rank w.quorum) };
+    ghost view = { λ w. map (index_at w.start w.size) (range w.rank w.quorum) };
 
     ghost invariant = { λ w. (w.start < w.size) × (w.quorum ≤ w.size) × (w.size ≤ MAX_ENSEMBLE_SIZE) };
 }

@@ -3,7 +3,7 @@ use Rattle.std.proofs.Common.{◌≡◌, ℕ, Bool, false, List, [], take, Optio
 use Rattle.std.specs.Prelude.{IsErrAnd, OnOk}
 use Rattle.std.specs.Io.KnownBytes.{Appends}
 use Rattle.reh_model.specs.Cluster.{Cluster}
-use Rattle.reh_model.specs.Session.{Session, opened}
+use Rattle.reh_model.specs.Session.{Session, opened_session}
 use Rattle.reh_model.specs.Lines.{cut_of, is_script, answered_lines}
 use Rattle.reh_model.specs.Transcript.{transcript}
 use Rattle.reh_picture.specs.declared.faults.PictureFault.{PictureFault}
@@ -40,7 +40,7 @@ play_no_memory (Err e) play.WriteFault is same = cc
 play_no_memory (Err e) play.NoMemory is same = refl
 
 -- a picture that is read and a script that is too long
-pub too_long_ends : (input picture script : List ℕ) (state : Cluster) (m : Session) (old new : Option (List ℕ)) → picture ≡ (cut_of input).picture → script ≡ (cut_of input).script → picture_of picture ≡ Ok state → m ≡ opened state
+pub too_long_ends : (input picture script : List ℕ) (state : Cluster) (m : Session) (old new : Option (List ℕ)) → picture ≡ (cut_of input).picture → script ≡ (cut_of input).script → picture_of picture ≡ Ok state → m ≡ opened_session state
     → is_script script ≡ false → Appends old new (transcript m 1 (answered_lines script)) → ((outcome_of input).fault ≡ Some TooLong) × Appends old new (outcome_of input).text
 too_long_ends input picture script state m old new first rest read begun long written =
     let same : outcome_by (Ok state) script ≡ outcome_of input = sym (ap (λ (r : Result Cluster PictureFault). outcome_by r script) read) ∙ (λ i. outcome_by (picture_of (first i)) (rest i)) in (
@@ -49,14 +49,14 @@ too_long_ends input picture script state m old new first rest read begun long wr
     )
 
 -- a picture that is read and some first part of the answers
-pub part_ends : (input picture script : List ℕ) (state : Cluster) (m : Session) (old new : Option (List ℕ)) → picture ≡ (cut_of input).picture → script ≡ (cut_of input).script → picture_of picture ≡ Ok state → m ≡ opened state
+pub part_ends : (input picture script : List ℕ) (state : Cluster) (m : Session) (old new : Option (List ℕ)) → picture ≡ (cut_of input).picture → script ≡ (cut_of input).script → picture_of picture ≡ Ok state → m ≡ opened_session state
     → WritesPart (transcript m 1 (answered_lines script)) old new → WritesPart (outcome_of input).text old new
 part_ends input picture script state m old new first rest read begun written =
     let same : outcome_by (Ok state) script ≡ outcome_of input = sym (ap (λ (r : Result Cluster PictureFault). outcome_by r script) read) ∙ (λ i. outcome_by (picture_of (first i)) (rest i)) in
     subst (λ (o : Outcome). WritesPart o.text old new) same (subst (λ (m : Session). WritesPart (transcript m 1 (answered_lines script)) old new) begun written)
 
 -- a picture that is read and the answers to some first lines
-pub no_memory_ends : (input picture script : List ℕ) (state : Cluster) (m : Session) (old new : Option (List ℕ)) → picture ≡ (cut_of input).picture → script ≡ (cut_of input).script → picture_of picture ≡ Ok state → m ≡ opened state
+pub no_memory_ends : (input picture script : List ℕ) (state : Cluster) (m : Session) (old new : Option (List ℕ)) → picture ≡ (cut_of input).picture → script ≡ (cut_of input).script → picture_of picture ≡ Ok state → m ≡ opened_session state
     → WritesAnswers (λ count. transcript m 1 (take count (answered_lines script))) old new → WritesAnswers (outcome_of input).answers old new
 no_memory_ends input picture script state m old new first rest read begun written =
     let same : outcome_by (Ok state) script ≡ outcome_of input = sym (ap (λ (r : Result Cluster PictureFault). outcome_by r script) read) ∙ (λ i. outcome_by (picture_of (first i)) (rest i)) in

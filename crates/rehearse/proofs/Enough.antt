@@ -6,7 +6,7 @@ use Rattle.std.proofs.lemmas.List.{take-append-le}
 use Rattle.reh_types.specs.declared.limits.TheConstants.{MAX_PICTURE_BYTES, MAX_SCRIPT_BYTES}
 use Rattle.reh_model.specs.Cluster.{Cluster}
 use Rattle.reh_model.specs.Lines.{Cut, cut_of, is_script, answered_lines, ended_lines}
-use Rattle.reh_model.specs.Session.{opened}
+use Rattle.reh_model.specs.Session.{opened_session}
 use Rattle.reh_model.specs.Transcript.{transcript}
 use Rattle.reh_picture.specs.declared.faults.PictureFault.{PictureFault}
 use Rattle.reh_picture.specs.declared.faults.PictureFault.TheVariants.{TooLong}
@@ -41,8 +41,8 @@ outcome-long_script : (r : Result Cluster PictureFault) (script more : List ℕ)
 outcome-long_script (Err fault) script more long = refl
 outcome-long_script (Ok state) script more long =
     let longer : MAX_SCRIPT_BYTES < length (script ++ more) = omega (arith, length-append script more) in
-    ap (λ (lines : List (List ℕ)). record { text = transcript (opened state) 1 lines; answers = λ count. transcript (opened state) 1 (take count lines); fault = if is_script script then None else Some run_fault.TooLong }) (sym (answered_lines-append script more long))
-    ∙ ap (λ (t : Bool). record { text = transcript (opened state) 1 (answered_lines (script ++ more)); answers = λ count. transcript (opened state) 1 (take count (answered_lines (script ++ more))); fault = if t then None else Some run_fault.TooLong }) (not_script script long ∙ sym (not_script (script ++ more) longer))
+    ap (λ (lines : List (List ℕ)). record { text = transcript (opened_session state) 1 lines; answers = λ count. transcript (opened_session state) 1 (take count lines); fault = if is_script script then None else Some run_fault.TooLong }) (sym (answered_lines-append script more long))
+    ∙ ap (λ (t : Bool). record { text = transcript (opened_session state) 1 (answered_lines (script ++ more)); answers = λ count. transcript (opened_session state) 1 (take count (answered_lines (script ++ more))); fault = if t then None else Some run_fault.TooLong }) (not_script script long ∙ sym (not_script (script ++ more) longer))
 
 -- an input that was read far enough has the outcome of all
 pub outcome-enough : (input all : List ℕ) → ReadsEnough input all → outcome_of input ≡ outcome_of all

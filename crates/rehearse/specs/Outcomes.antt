@@ -1,7 +1,7 @@
 -- What becomes of an input.
 use Rattle.std.specs.Prelude.{◌≡◌, ℕ, ◌<◌, List, [], ◌++◌, length, take, Option, None, Some, Result, Ok, Err, if◌then◌else◌}
 use Rattle.reh_model.specs.Cluster.{Cluster}
-use Rattle.reh_model.specs.Session.{opened}
+use Rattle.reh_model.specs.Session.{opened_session}
 use Rattle.reh_model.specs.Lines.{cut_of, is_script, answered_lines}
 use Rattle.reh_model.specs.Transcript.{transcript}
 use Rattle.reh_picture.specs.declared.faults.PictureFault.{PictureFault}
@@ -18,7 +18,7 @@ pub record Outcome : Type 0 where
 
 -- of a picture that is read, the answers to the script's lines; of one that is refused, nothing
 abbrev pub outcome_by : Result Cluster PictureFault → List ℕ → Outcome
-outcome_by (Ok state) script = record { text = transcript (opened state) 1 (answered_lines script); answers = λ count. transcript (opened state) 1 (take count (answered_lines script)); fault = if is_script script then None else Some TooLong }
+outcome_by (Ok state) script = record { text = transcript (opened_session state) 1 (answered_lines script); answers = λ count. transcript (opened_session state) 1 (take count (answered_lines script)); fault = if is_script script then None else Some TooLong }
 outcome_by (Err fault) script = record { text = []; answers = λ count. []; fault = Some (Picture fault) }
 
 abbrev pub outcome_of : List ℕ → Outcome

@@ -1,9 +1,9 @@
 use Rattle.std.proofs.Common.{◌≡◌, take, fold}
 use Rattle.std.specs.List.{flat_map}
 use Rattle.reh_types.specs.Sets as set
-use Rattle.reh_picture.specs.Contents.{copies_of}
+use Rattle.reh_picture.specs.Contents.{copies_within}
 use Rattle.reh_picture.proofs.contents.add_holding.Given as goal
 
 abbrev pub invariant-loop-ends : goal.invariant-loop-ends
 invariant-loop-ends l =
-    l.held.contents ≡ fold set.insert l.fn.held.contents (flat_map (copies_of l.holding-inside.bookie l.holding-inside.ledger) (take l.ends-index l.ends-items))
+    l.held.contents ≡ fold set.insert l.fn.held.contents (flat_map (copies_within l.holding-inside.bookie l.holding-inside.ledger) (take l.ends-index l.ends-items))

@@ -8,8 +8,8 @@ use Rattle.reh_picture.specs.declared.fields.Field.TheVariants as field
 use Rattle.reh_picture.specs.Members.{list_of}
 use Rattle.reh_picture.specs.Ledgers.{ledger_in}
 use Rattle.reh_picture.specs.Contents.{Holding, held_in}
-use Rattle.reh_picture.specs.Pictures.{cluster_in, words_in_all, names_of, ids_of}
-use Rattle.reh_picture.proofs.Sound.{IsFaultless-none, IsWellFormed-cluster_in, contents_rise, cluster_of-shown, words_in_all-shown, fields_fault-within, fields_fault-past}
+use Rattle.reh_picture.specs.Pictures.{pictured_cluster, words_in_all, names_of, ids_of}
+use Rattle.reh_picture.proofs.Sound.{IsFaultless-none, IsWellFormed-pictured_cluster, contents_rise, cluster_of-shown, words_in_all-shown, fields_fault-within, fields_fault-past}
 use Rattle.reh_picture.proofs.pictures.read_cluster.Goals as goal
 
 pub words_in_all-requires-clause-ledgers : goal.words_in_all-requires-clause-ledgers
@@ -31,7 +31,7 @@ returns-then-branch-gt-MAX_WORDS-clause-fault c = λ known.
     let read = c.in_ok-names.ensures in
     let shown = cluster_of-shown d _ _ _ _ _ _ read.shown refl in
     let counted = c.in_ok-words_in_all.ensures ∙ ap (λ (holdings : List Holding). c.len.result * sum_by (λ g. words_of (held_in holdings) g.id) c.deref.result.now) c.deref-2.ensures.value in
-    let words : c.in_ok-words_in_all.field-0 ≡ words_in_all (cluster_in d) = words_in_all-shown d _ _ _ _ _ _ _ _ shown c.len.ensures.count c.deref.ensures.value counted in
+    let words : c.in_ok-words_in_all.field-0 ≡ words_in_all (pictured_cluster d) = words_in_all-shown d _ _ _ _ _ _ _ _ shown c.len.ensures.count c.deref.ensures.value counted in
     fields_fault-past d read.fault (omega (arith, words))
 
 pub build-requires : goal.build-requires
@@ -40,9 +40,9 @@ build-requires c =
     let read = c.in_ok-names.ensures in
     let shown = cluster_of-shown d _ _ _ _ _ _ read.shown refl in
     let counted = c.in_ok-words_in_all.ensures ∙ ap (λ (holdings : List Holding). c.len.result * sum_by (λ g. words_of (held_in holdings) g.id) c.deref.result.now) c.deref-2.ensures.value in
-    let words : c.in_ok-words_in_all.field-0 ≡ words_in_all (cluster_in d) = words_in_all-shown d _ _ _ _ _ _ _ _ shown c.len.ensures.count c.deref.ensures.value counted in
+    let words : c.in_ok-words_in_all.field-0 ≡ words_in_all (pictured_cluster d) = words_in_all-shown d _ _ _ _ _ _ _ _ shown c.len.ensures.count c.deref.ensures.value counted in
     let whole = cluster_of-shown d _ _ _ _ _ _ read.shown (c.in_ok-held.ensures ∙ ap (λ (holdings : List Holding). held_in holdings) c.deref-3.ensures.value) in
-    subst (λ (s : Cluster). IsWellFormed s) (sym whole) (IsWellFormed-cluster_in d (IsFaultless-none d read.fault) (omega (arith, words)))
+    subst (λ (s : Cluster). IsWellFormed s) (sym whole) (IsWellFormed-pictured_cluster d (IsFaultless-none d read.fault) (omega (arith, words)))
 
 pub returns-clause-fault : goal.returns-clause-fault
 returns-clause-fault c =
@@ -50,5 +50,5 @@ returns-clause-fault c =
     let read = c.in_ok-names.ensures in
     let shown = cluster_of-shown d _ _ _ _ _ _ read.shown refl in
     let counted = c.in_ok-words_in_all.ensures ∙ ap (λ (holdings : List Holding). c.len.result * sum_by (λ g. words_of (held_in holdings) g.id) c.deref.result.now) c.deref-2.ensures.value in
-    let words : c.in_ok-words_in_all.field-0 ≡ words_in_all (cluster_in d) = words_in_all-shown d _ _ _ _ _ _ _ _ shown c.len.ensures.count c.deref.ensures.value counted in
+    let words : c.in_ok-words_in_all.field-0 ≡ words_in_all (pictured_cluster d) = words_in_all-shown d _ _ _ _ _ _ _ _ shown c.len.ensures.count c.deref.ensures.value counted in
     fields_fault-within d read.fault (omega (arith, words))

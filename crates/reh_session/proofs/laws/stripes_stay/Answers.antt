@@ -1,8 +1,8 @@
-use Rattle.reh_model.proofs.SwapLaws.{stop_at-after, striped_at-after}
+use Rattle.reh_model.proofs.SwapLaws.{stop_at-after, stripe_at-after}
 use Rattle.reh_session.proofs.laws.stripes_stay.Goals as goal
 
 pub returns-clause-stops : goal.returns-clause-stops
 returns-clause-stops c = stop_at-after
 
 pub returns-clause-stripes : goal.returns-clause-stripes
-returns-clause-stripes c = striped_at-after
+returns-clause-stripes c = stripe_at-after

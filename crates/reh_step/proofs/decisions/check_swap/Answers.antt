@@ -3,7 +3,7 @@ use Rattle.std.specs.List.{find}
 use Rattle.std.specs.Option.{option_map}
 use Rattle.reh_types.specs.declared.refusals.Refusal.{Refusal}
 use Rattle.reh_types.specs.declared.refusals.Refusal.TheVariants.{MissingEntry}
-use Rattle.reh_model.specs.Metadata.{striped_of}
+use Rattle.reh_model.specs.Metadata.{stripe_of}
 use Rattle.reh_model.specs.Cluster.{Cluster, Ledger, holds}
 use Rattle.reh_model.specs.Checks.{first_reason}
 use Rattle.reh_model.specs.Refusals.{missing_entry, version_end}
@@ -26,7 +26,7 @@ returns-in-Some c =
     let s : Cluster = c.args.state.now in
     let g : Ledger = c.in_ok-ledger.ledger.now in
     let lacked : ℕ → Bool = λ e. not (holds s c.args.worker g.id e) in
-    let first : find lacked (striped_of g.metadata c.args.fragment c.args.index) ≡ Some c.in-Some.entry =
+    let first : find lacked (stripe_of g.metadata c.args.fragment c.args.index) ≡ Some c.in-Some.entry =
     ap (λ (es : List ℕ). find lacked es) (sym c.in_ok-ledger.ensures.5) ∙ sym c.first_lacked.ensures ∙ c.in-Some.is in
     passed_before s c.args.worker c.args.ledger g (place_checks s c.args.worker c.args.fragment c.args.index c.args.version) (more s c.args.worker c.args.fragment c.args.index)
     c.in_ok-ledger.ensures.0 c.in_ok-ledger.ensures.1 c.in_ok-ledger.ensures.2

@@ -1,6 +1,6 @@
 use Rattle.reh_model.specs.Striping.{range}
-use Rattle.reh_model.proofs.StripingLaws.{map-ranked-rest}
+use Rattle.reh_model.proofs.StripingLaws.{map-index_at-rest}
 use Rattle.reh_stripe.proofs.writes.write_set.Goals as goal
 
 pub returns : goal.returns
-returns c = map-ranked-rest c.args.entry c.args.size (range 0 c.args.quorum)
+returns c = map-index_at-rest c.args.entry c.args.size (range 0 c.args.quorum)

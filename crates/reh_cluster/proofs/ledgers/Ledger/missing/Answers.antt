@@ -3,11 +3,11 @@ use Rattle.std.specs.List.{filter, flat_map}
 use Rattle.reh_types.specs.Sets.{numbers, contains, from_list}
 use Rattle.reh_model.specs.Metadata.{Fragment}
 use Rattle.reh_model.specs.Cluster.{Ledger}
-use Rattle.reh_model.specs.Audit.{missing}
+use Rattle.reh_model.specs.Audit.{missing_members}
 use Rattle.reh_cluster.proofs.ledgers.Ledger.missing.Goals as goal
 
 pub returns : goal.returns
 returns c =
     c.missing_from.ensures
     ∙ ap (λ (fs : List Fragment). from_list {o = numbers} (filter (λ b. not (contains c.args.up.now b)) (flat_map (λ fragment. fragment.ensemble) fs))) c.fragments.ensures.fragments
-    ∙ ap (λ (g : Ledger). missing c.args.up.now g) c.self.view_is
+    ∙ ap (λ (g : Ledger). missing_members c.args.up.now g) c.self.view_is

@@ -1,29 +1,22 @@
-use Rattle.std.proofs.Common.{◌≡◌, ◌∙◌, ap, sym, subst, set, List}
-use Rattle.std.specs.Prelude.{◌==◌, position}
+-- The worker locks the ledger of that id, and the state stays well-formed.
+use Rattle.std.proofs.Common.{◌≡◌, ◌∙◌, ap, set}
 use Rattle.reh_types.specs.declared.moves.Event.TheVariants.{Acquire}
-use Rattle.reh_model.specs.Cluster.{Cluster, Ledger, change_ledger}
-use Rattle.reh_model.specs.Step.{refusal_of, locked_by}
-use Rattle.reh_model.specs.WellFormed.{IsWellFormed}
-use Rattle.reh_model.proofs.LedgerLaws.{change_ledger-set, change_ledger-absent}
-use Rattle.reh_model.proofs.WellFormedLaws.{IsWellFormed-after}
+use Rattle.reh_model.specs.Cluster.{Cluster, change_ledger}
+use Rattle.reh_model.specs.Step.{locked_ledger}
 use Rattle.reh_cluster.specs.State.{cluster_in}
+use Rattle.reh_cluster.proofs.ChangeLaws.{changed_there, changed_nowhere, well_formed_after}
 use Rattle.reh_cluster.proofs.states.State.lock.Goals as goal
 
-changed : (c : goal.After-self-1) → record (cluster_in c.self.inside) { ledgers = set c.self.inside.ledgers.items c.in-Some.place c.lock_by.new.self } ≡ change_ledger (cluster_in c.self.inside) c.args.ledger (locked_by c.args.worker)
-changed c =
-    change_ledger-set (cluster_in c.self.inside) c.args.ledger (locked_by c.args.worker) c.in-Some.place c.index_mut.result.now c.lock_by.new.self c.self.invariant.ledgers.different
-    (ap (λ (gs : List Ledger). position (λ g. g.id == c.args.ledger) gs) (sym c.deref.ensures.value) ∙ sym c.place_of.ensures ∙ c.in-Some.is)
-    c.index_mut.ensures.value c.lock_by.ensures
+made : (c : goal.After-self-1) → record (cluster_in c.self.inside) { ledgers = set c.self.inside.ledgers.items c.in-Some.place c.lock_by.new.self } ≡ change_ledger (cluster_in c.self.inside) c.args.ledger (locked_ledger c.args.worker)
+made c =
+    changed_there (cluster_in c.self.inside) c.args.ledger (locked_ledger c.args.worker) _ _ c.in-Some.place c.index_mut.result.now c.lock_by.new.self c.self.invariant
+    c.deref.ensures.value c.place_of.ensures c.in-Some.is c.index_mut.ensures.value c.lock_by.ensures
 
 pub invariant_of-self : goal.invariant_of-self
-invariant_of-self c =
-    subst IsWellFormed (sym (changed c))
-    (IsWellFormed-after (cluster_in c.self.inside) (Acquire c.args.worker c.args.ledger) c.self.invariant (ap (λ (s : Cluster). refusal_of s (Acquire c.args.worker c.args.ledger)) c.self.view_is ∙ c.requires))
+invariant_of-self c = well_formed_after (cluster_in c.self.inside) c.args.self.now _ (Acquire c.args.worker c.args.ledger) c.self.invariant c.self.view_is c.requires (made c)
 
 pub returns-in-Some : goal.returns-in-Some
-returns-in-Some c = changed c ∙ ap (λ (s : Cluster). change_ledger s c.args.ledger (locked_by c.args.worker)) c.self.view_is
+returns-in-Some c = made c ∙ ap (λ (s : Cluster). change_ledger s c.args.ledger (locked_ledger c.args.worker)) c.self.view_is
 
 pub returns-in_default : goal.returns-in_default
-returns-in_default c =
-    change_ledger-absent c.args.self.now c.args.ledger (locked_by c.args.worker)
-    (ap (λ (gs : List Ledger). position (λ g. g.id == c.args.ledger) gs) (sym (c.deref.ensures.value ∙ ap (λ (s : Cluster). s.ledgers) c.self.view_is)) ∙ sym c.place_of.ensures ∙ c.in_default.is)
+returns-in_default c = changed_nowhere c.args.self.now c.args.ledger (locked_ledger c.args.worker) _ _ (c.deref.ensures.value ∙ ap (λ (s : Cluster). s.ledgers) c.self.view_is) c.place_of.ensures c.in_default.is

@@ -1,13 +1,14 @@
+-- The worker's bookie takes the place in the ledger of that id, and the state stays well-formed.
 use Rattle.std.proofs.Common.{◌≡◌, ◌∙◌, ap, sym, subst, set, List}
 use Rattle.std.specs.Prelude.{◌==◌, position}
 use Rattle.reh_types.specs.declared.moves.Event.TheVariants.{Swap}
 use Rattle.reh_model.specs.Cluster.{Cluster, Ledger, change_ledger}
-use Rattle.reh_model.specs.Step.{refusal_of, swapped}
-use Rattle.reh_model.specs.WellFormed.{IsWellFormed}
-use Rattle.reh_model.proofs.LedgerLaws.{change_ledger-set, change_ledger-absent, ledger_at-position}
+use Rattle.reh_model.specs.Step.{refusal_of, swapped_ledger}
+use Rattle.reh_model.proofs.LedgerLaws.{ledger_at-position}
 use Rattle.reh_model.proofs.AcceptedLaws.{IsSwappable}
-use Rattle.reh_model.proofs.WellFormedLaws.{IsWellFormed-after, swappable-found}
+use Rattle.reh_model.proofs.WellFormedLaws.{swappable-found}
 use Rattle.reh_cluster.specs.State.{cluster_in}
+use Rattle.reh_cluster.proofs.ChangeLaws.{changed_there, changed_nowhere, well_formed_after}
 use Rattle.reh_cluster.proofs.states.State.swap.Goals as goal
 
 -- what the swap shows of the ledger that stands at the place
@@ -19,11 +20,10 @@ may c =
     c.index_mut.ensures.value)
     (ap (λ (s : Cluster). refusal_of s (Swap c.args.worker c.args.ledger c.args.fragment c.args.index c.args.version)) c.self.view_is ∙ c.requires)
 
-changed : (c : goal.In_ok-replace_member) → record (cluster_in c.self.inside) { ledgers = set c.self.inside.ledgers.items c.in-Some.place c.replace_member.new.self } ≡ change_ledger (cluster_in c.self.inside) c.args.ledger (swapped c.args.fragment c.args.index c.args.worker)
-changed c =
-    change_ledger-set (cluster_in c.self.inside) c.args.ledger (swapped c.args.fragment c.args.index c.args.worker) c.in-Some.place c.index_mut.result.now c.replace_member.new.self c.self.invariant.ledgers.different
-    (ap (λ (gs : List Ledger). position (λ g. g.id == c.args.ledger) gs) (sym c.deref.ensures.value) ∙ sym c.place_of.ensures ∙ c.in-Some.is)
-    c.index_mut.ensures.value c.in_ok-replace_member.ensures.ok
+made : (c : goal.In_ok-replace_member) → record (cluster_in c.self.inside) { ledgers = set c.self.inside.ledgers.items c.in-Some.place c.replace_member.new.self } ≡ change_ledger (cluster_in c.self.inside) c.args.ledger (swapped_ledger c.args.fragment c.args.index c.args.worker)
+made c =
+    changed_there (cluster_in c.self.inside) c.args.ledger (swapped_ledger c.args.fragment c.args.index c.args.worker) _ _ c.in-Some.place c.index_mut.result.now c.replace_member.new.self c.self.invariant
+    c.deref.ensures.value c.place_of.ensures c.in-Some.is c.index_mut.ensures.value c.in_ok-replace_member.ensures.ok
 
 pub replace_member-requires-clause-fragment : goal.replace_member-requires-clause-fragment
 replace_member-requires-clause-fragment c = (may c).fragment
@@ -38,15 +38,12 @@ pub replace_member-requires-clause-version : goal.replace_member-requires-clause
 replace_member-requires-clause-version c = (may c).version
 
 pub invariant_of-self : goal.invariant_of-self
-invariant_of-self c =
-    subst IsWellFormed (sym (changed c))
-    (IsWellFormed-after (cluster_in c.self.inside) (Swap c.args.worker c.args.ledger c.args.fragment c.args.index c.args.version) c.self.invariant
-    (ap (λ (s : Cluster). refusal_of s (Swap c.args.worker c.args.ledger c.args.fragment c.args.index c.args.version)) c.self.view_is ∙ c.requires))
+invariant_of-self c = well_formed_after (cluster_in c.self.inside) c.args.self.now _ (Swap c.args.worker c.args.ledger c.args.fragment c.args.index c.args.version) c.self.invariant c.self.view_is c.requires (made c)
 
 pub returns-in_ok-replace_member-clause-ok : goal.returns-in_ok-replace_member-clause-ok
-returns-in_ok-replace_member-clause-ok c = changed c ∙ ap (λ (s : Cluster). change_ledger s c.args.ledger (swapped c.args.fragment c.args.index c.args.worker)) c.self.view_is
+returns-in_ok-replace_member-clause-ok c = made c ∙ ap (λ (s : Cluster). change_ledger s c.args.ledger (swapped_ledger c.args.fragment c.args.index c.args.worker)) c.self.view_is
 
 pub returns-in_default-clause-ok : goal.returns-in_default-clause-ok
 returns-in_default-clause-ok c =
-    change_ledger-absent c.args.self.now c.args.ledger (swapped c.args.fragment c.args.index c.args.worker)
-    (ap (λ (gs : List Ledger). position (λ g. g.id == c.args.ledger) gs) (sym (c.deref.ensures.value ∙ ap (λ (s : Cluster). s.ledgers) c.self.view_is)) ∙ sym c.place_of.ensures ∙ c.in_default.is)
+    changed_nowhere c.args.self.now c.args.ledger (swapped_ledger c.args.fragment c.args.index c.args.worker) _ _
+    (c.deref.ensures.value ∙ ap (λ (s : Cluster). s.ledgers) c.self.view_is) c.place_of.ensures c.in_default.is

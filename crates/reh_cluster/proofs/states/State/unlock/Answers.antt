@@ -1,29 +1,22 @@
-use Rattle.std.proofs.Common.{◌≡◌, ◌∙◌, ap, sym, subst, set, List}
-use Rattle.std.specs.Prelude.{◌==◌, position}
+-- The lock of the ledger of that id goes, and the state stays well-formed.
+use Rattle.std.proofs.Common.{◌≡◌, ◌∙◌, ap, set}
 use Rattle.reh_types.specs.declared.moves.Event.TheVariants.{Release}
-use Rattle.reh_model.specs.Cluster.{Cluster, Ledger, change_ledger}
-use Rattle.reh_model.specs.Step.{refusal_of, unlocked}
-use Rattle.reh_model.specs.WellFormed.{IsWellFormed}
-use Rattle.reh_model.proofs.LedgerLaws.{change_ledger-set, change_ledger-absent}
-use Rattle.reh_model.proofs.WellFormedLaws.{IsWellFormed-after}
+use Rattle.reh_model.specs.Cluster.{Cluster, change_ledger}
+use Rattle.reh_model.specs.Step.{unlocked_ledger}
 use Rattle.reh_cluster.specs.State.{cluster_in}
+use Rattle.reh_cluster.proofs.ChangeLaws.{changed_there, changed_nowhere, well_formed_after}
 use Rattle.reh_cluster.proofs.states.State.unlock.Goals as goal
 
-changed : (c : goal.After-self-1) → record (cluster_in c.self.inside) { ledgers = set c.self.inside.ledgers.items c.in-Some.place c.unlock.new.self } ≡ change_ledger (cluster_in c.self.inside) c.args.ledger unlocked
-changed c =
-    change_ledger-set (cluster_in c.self.inside) c.args.ledger unlocked c.in-Some.place c.index_mut.result.now c.unlock.new.self c.self.invariant.ledgers.different
-    (ap (λ (gs : List Ledger). position (λ g. g.id == c.args.ledger) gs) (sym c.deref.ensures.value) ∙ sym c.place_of.ensures ∙ c.in-Some.is)
-    c.index_mut.ensures.value c.unlock.ensures
+made : (c : goal.After-self-1) → record (cluster_in c.self.inside) { ledgers = set c.self.inside.ledgers.items c.in-Some.place c.unlock.new.self } ≡ change_ledger (cluster_in c.self.inside) c.args.ledger unlocked_ledger
+made c =
+    changed_there (cluster_in c.self.inside) c.args.ledger unlocked_ledger _ _ c.in-Some.place c.index_mut.result.now c.unlock.new.self c.self.invariant
+    c.deref.ensures.value c.place_of.ensures c.in-Some.is c.index_mut.ensures.value c.unlock.ensures
 
 pub invariant_of-self : goal.invariant_of-self
-invariant_of-self c =
-    subst IsWellFormed (sym (changed c))
-    (IsWellFormed-after (cluster_in c.self.inside) (Release c.args.worker c.args.ledger) c.self.invariant (ap (λ (s : Cluster). refusal_of s (Release c.args.worker c.args.ledger)) c.self.view_is ∙ c.requires))
+invariant_of-self c = well_formed_after (cluster_in c.self.inside) c.args.self.now _ (Release c.args.worker c.args.ledger) c.self.invariant c.self.view_is c.requires (made c)
 
 pub returns-in-Some : goal.returns-in-Some
-returns-in-Some c = changed c ∙ ap (λ (s : Cluster). change_ledger s c.args.ledger unlocked) c.self.view_is
+returns-in-Some c = made c ∙ ap (λ (s : Cluster). change_ledger s c.args.ledger unlocked_ledger) c.self.view_is
 
 pub returns-in_default : goal.returns-in_default
-returns-in_default c =
-    change_ledger-absent c.args.self.now c.args.ledger unlocked
-    (ap (λ (gs : List Ledger). position (λ g. g.id == c.args.ledger) gs) (sym (c.deref.ensures.value ∙ ap (λ (s : Cluster). s.ledgers) c.self.view_is)) ∙ sym c.place_of.ensures ∙ c.in_default.is)
+returns-in_default c = changed_nowhere c.args.self.now c.args.ledger unlocked_ledger _ _ (c.deref.ensures.value ∙ ap (λ (s : Cluster). s.ledgers) c.self.view_is) c.place_of.ensures c.in_default.is

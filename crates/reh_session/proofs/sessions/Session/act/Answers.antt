@@ -2,7 +2,7 @@ use Rattle.std.proofs.Common.{◌≡◌, ◌∙◌, ap, inl, refl, sym, rules, a
 use Rattle.reh_types.specs.declared.moves.Event.{Event}
 use Rattle.reh_types.specs.declared.moves.Move.TheVariants.{Do}
 use Rattle.reh_types.specs.declared.moves.Reply.TheVariants.{Done}
-use Rattle.reh_model.specs.Session.{Session, reply_to, moved}
+use Rattle.reh_model.specs.Session.{Session, reply_to, moved_session}
 use Rattle.reh_model.proofs.SwapLaws.{safe_move}
 use Rattle.reh_session.specs.Kept.{session_of}
 use Rattle.reh_session.proofs.Keeps.{acted, act_moves, act_done, act_refused, kept_safe}
@@ -37,7 +37,7 @@ returns-in_err-keep-clause-lasting c =
 pub returns-clause-answers : goal.returns-clause-answers
 returns-clause-answers c =
     let accepted : reply_to c.args.self.now (Do c.args.event.now) ≡ Done = act_done c.self.invariant c.args.event.now c.in_ok-check.ensures (omega arith) _ c.self.view_is in
-    inl (sym accepted, act_moves c.self.invariant c.args.event.now _ c.in_ok-keep.ensures.ok ∙ ap (λ (m : Session). moved m (Do c.args.event.now)) c.self.view_is)
+    inl (sym accepted, act_moves c.self.invariant c.args.event.now _ c.in_ok-keep.ensures.ok ∙ ap (λ (m : Session). moved_session m (Do c.args.event.now)) c.self.view_is)
 
 pub returns-clause-safe : goal.returns-clause-safe
 returns-clause-safe c = safe_move c.args.self.now (Do c.args.event.now) Done _ (returns-clause-answers c)
