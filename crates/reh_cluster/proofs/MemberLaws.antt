@@ -1,4 +1,4 @@
--- The ledgers of a cluster name its bookies, of which there are at most 64.
+-- The ledgers of a cluster name its bookies, all of which fit a set of bookies.
 use Rattle.std.proofs.Common.{◌≡◌, ℕ, Some, arith}
 use Rattle.reh_model.specs.Cluster.{Cluster, Ledger, ledger_at}
 use Rattle.reh_model.specs.WellFormed.{IsWellFormed}

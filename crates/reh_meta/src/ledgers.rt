@@ -24,7 +24,7 @@ pub struct Sizes {
     pub ack_quorum: u64,
 }
 
-// Whether `1 <= ack quorum <= write quorum <= ensemble size <= 16`.
+// Whether `1 <= ack quorum <= write quorum <= ensemble size <= MAX_ENSEMBLE_SIZE`.
 fn are_quorums(sizes: Sizes) -> bool
     ensures { result ≡ meta.are_quorums sizes.ensemble sizes.write_quorum sizes.ack_quorum }
 {

@@ -2,7 +2,7 @@ use Rattle.std.proofs.Common.{◌≡◌, ◌<◌, ◌+◌, ◌∙◌, false, Lis
 use Rattle.std.specs.Prelude.{◌==◌, slice_get, slice_set}
 use Rattle.std.specs.List.{list_any}
 use Rattle.std.proofs.lemmas.Option.{slice_get-get_or}
-use Rattle.reh_model.specs.Metadata.{Metadata, Fragment, IsMetadata, with_member, with_member_at, next_version}
+use Rattle.reh_model.specs.Metadata.{Metadata, Fragment, IsMetadata, with_member_at, next_version}
 use Rattle.reh_model.proofs.MemberLaws.{IsMetadata-set, with_member_at-found}
 use Rattle.reh_meta.specs.LedgerMeta.{metadata_in}
 use Rattle.reh_meta.proofs.Clones.{clones_equal}
