@@ -1,0 +1,12 @@
+pub mod Examples
+pub mod Numbers
+pub mod LinesLemmas
+pub mod Reports
+pub mod Cuts
+pub mod Writing
+pub mod Reached
+pub mod Answered
+pub mod Enough
+pub mod Reading
+pub mod Ends
+pub mod Told

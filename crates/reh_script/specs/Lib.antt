@@ -1,0 +1,10 @@
+pub mod Lines
+pub mod Script
+pub mod Texts
+pub mod Transcript
+pub mod Reports
+pub mod Parts
+pub mod Faults
+pub mod Outcomes
+pub mod Answers
+pub mod Ended
