@@ -1,10 +1,14 @@
--- Which lines of a script are answered.
-use Rattle.std.proofs.Common.{◌≡◌, ℕ, suc, ◌+◌, ◌<◌, ◌≤◌, Bool, true, false, cond, List, [], ◌∷◌, length, take, sym, ap, ◌∙◌, arith}
-use Rattle.std.specs.Prelude.{◌==◌, count_by, Result, Ok, Err, OnOk, IsErrAnd}
-use Rattle.std.specs.List.{onto_first}
+-- Which lines of a script are answered, and how a play of them ends.
+use Rattle.std.proofs.Common.{◌≡◌, ℕ, ◌+◌, ◌<◌, ◌≤◌, Bool, true, false, cond, List, ◌++◌, length, take, refl, sym, ap, ◌∙◌, arith, length-append, append-nil, Option, None, Some, subst, inl, inr}
+use Rattle.std.specs.Prelude.{◌&&◌, not, Result, Ok, Err, IsErrAnd, ◌⊎◌}
+use Rattle.std.proofs.lemmas.Bool.{cases_lt}
 use Rattle.std.proofs.lemmas.Bool.Decides.{nat_tests}
-use Rattle.std.proofs.lemmas.List.{take_all}
-use Rattle.reh_script.specs.Lines.{lines_of, is_script, ended_lines, answered_lines}
+use Rattle.std.proofs.lemmas.List.{take_all, take-append-le}
+use Rattle.reh_model.specs.Session.{Session}
+use Rattle.reh_script.specs.Lines.{lines_of, ended, is_script, answered_lines}
+use Rattle.reh_script.specs.Plays.{stop_of, AnswersAll, IsPlayed}
+use Rattle.reh_script.specs.declared.faults.PlayFault.{PlayFault}
+use Rattle.reh_script.specs.declared.faults.PlayFault.TheVariants.{ReadFault, TooLong, WriteFault, NoMemory}
 
 pub is_script-within : (script : List ℕ) → length script ≤ 1_048_576 → is_script script ≡ true
 is_script-within script within = grind (arith, nat_tests)
@@ -13,45 +17,76 @@ pub not_script : (script : List ℕ) → 1_048_576 < length script → is_script
 not_script script long = grind (arith, nat_tests)
 
 -- of a script that is too long
-pub answered_lines-long : (script : List ℕ) → is_script script ≡ false → answered_lines script ≡ ended_lines (take 1_048_576 script)
+pub answered_lines-long : (failed : Bool) (script : List ℕ) → is_script script ≡ false → answered_lines failed script ≡ lines_of (ended (take 1_048_576 script))
 unfolding answered_lines
-answered_lines-long script long = ap (λ (t : Bool). cond t (lines_of script) (ended_lines (take 1_048_576 script))) long
+answered_lines-long failed script long = ap (λ (t : Bool). cond (t && not failed) (lines_of script) (lines_of (ended (take 1_048_576 script)))) long
+
+-- of a script behind which a read failed
+pub answered_lines-failed : (script : List ℕ) → length script ≤ 1_048_576 → answered_lines true script ≡ lines_of (ended script)
+unfolding answered_lines
+answered_lines-failed script within =
+    ap (λ (t : Bool). cond (t && false) (lines_of script) (lines_of (ended (take 1_048_576 script)))) (is_script-within script within)
+    ∙ ap (λ (text : List ℕ). lines_of (ended text)) (take_all 1_048_576 script within)
 
 -- of any other
-answered_lines-short : (script : List ℕ) → is_script script ≡ true → answered_lines script ≡ lines_of script
+pub answered_lines-whole : (script : List ℕ) → length script ≤ 1_048_576 → answered_lines false script ≡ lines_of script
 unfolding answered_lines
-answered_lines-short script short = ap (λ (t : Bool). cond t (lines_of script) (ended_lines (take 1_048_576 script))) short
+answered_lines-whole script within =
+    ap (λ (t : Bool). cond (t && true) (lines_of script) (lines_of (ended (take 1_048_576 script)))) (is_script-within script within)
 
-length-onto_first : (b : ℕ) (lines : List (List ℕ)) → length (onto_first b lines) ≤ length lines + 1
-length-onto_first b [] = omega arith
-length-onto_first b (line ∷ lines) = omega arith
+-- more behind a script that is too long
+pub answered_lines-append : (script more : List ℕ) → 1_048_576 < length script → answered_lines false (script ++ more) ≡ answered_lines false script
+answered_lines-append script more long =
+    let longer : 1_048_576 < length (script ++ more) = omega (arith, length-append script more) in
+    answered_lines-long false (script ++ more) (not_script (script ++ more) longer)
+    ∙ ap (λ (text : List ℕ). lines_of (ended text)) (take-append-le 1_048_576 script more (omega arith))
+    ∙ sym (answered_lines-long false script (not_script script long))
 
--- a text has at most as many lines as bytes
-length-lines_of : (text : List ℕ) → length (lines_of text) ≤ length text
-length-lines_of [] = omega arith
-length-lines_of (b ∷ bs) =
-    elim (b == 10) as (λ t. length (cond t ([] ∷ lines_of bs) (onto_first b (lines_of bs))) ≤ suc (length bs)) [
-      | true ↦ omega (arith, length-lines_of bs)
-      | false ↦ first (lines_of bs) (length-lines_of bs)
-    ]
+pub stop_of-long : (failed : Bool) (script : List ℕ) → is_script script ≡ false → stop_of failed script ≡ Some TooLong
+stop_of-long failed script long = ap (λ (t : Bool). cond t (cond failed (Some ReadFault) None) (Some TooLong)) long
+
+pub stop_of-within : (failed : Bool) (script : List ℕ) → length script ≤ 1_048_576 → stop_of failed script ≡ cond failed (Some ReadFault) None
+stop_of-within failed script within = ap (λ (t : Bool). cond t (cond failed (Some ReadFault) None) (Some TooLong)) (is_script-within script within)
+
+pub stop_of-append : (script more : List ℕ) → 1_048_576 < length script → stop_of false (script ++ more) ≡ stop_of false script
+stop_of-append script more long =
+    let longer : 1_048_576 < length (script ++ more) = omega (arith, length-append script more) in
+    stop_of-long false (script ++ more) (not_script (script ++ more) longer) ∙ sym (stop_of-long false script (not_script script long))
+
+-- where a line's answer is the last
+pub stops_early : (lines all : List (List ℕ)) (stop : Option PlayFault) (fault : PlayFault) (result : Result (Unit {0}) PlayFault) (m n : Session) (old new : Option (List ℕ)) → lines ≡ all → IsErrAnd result (λ e. e ≡ fault)
+    → IsPlayed lines None (Err fault) m n old new → IsPlayed all stop result m n old new
+stops_early lines all stop fault (Ok x) m n old new same is played = absurd is
+stops_early lines all stop fault (Err e) m n old new same is played =
+    subst (λ (f : PlayFault). IsPlayed all stop (Err f) m n old new) (sym is) (subst (λ (ls : List (List ℕ)). IsPlayed ls stop (Err fault) m n old new) same (stops lines stop fault m n old new played))
   where
-    first : (lines : List (List ℕ)) → length lines ≤ length bs → length (onto_first b lines) ≤ suc (length bs)
-    first lines few = omega (arith, length-onto_first b lines)
+    stops : (lines : List (List ℕ)) (stop : Option PlayFault) (fault : PlayFault) (m n : Session) (old new : Option (List ℕ)) → IsPlayed lines None (Err fault) m n old new → IsPlayed lines stop (Err fault) m n old new
+    stops lines stop ReadFault m n old new played = let none : None ≡ Some ReadFault = played.0 in cc
+    stops lines stop TooLong m n old new played = let none : None ≡ Some TooLong = played.0 in cc
+    stops lines stop WriteFault m n old new played = played
+    stops lines stop NoMemory m n old new played = played
 
--- so many lines are all
-pub take-answered_lines : (script : List ℕ) → length script ≤ 1_048_576 → take (length script) (lines_of script) ≡ answered_lines script
-take-answered_lines script within = take_all (length script) (lines_of script) (length-lines_of script) ∙ sym (answered_lines-short script (is_script-within script within))
+-- a play stops for no other fault
+not_lost : (failed : Bool) (script : List ℕ) (fault : PlayFault) → stop_of failed script ≡ Some fault → (fault ≡ ReadFault) ⊎ (fault ≡ TooLong)
+not_lost failed script fault is =
+    elim (is_script script) as (λ t. cond t (cond failed (Some ReadFault) None) (Some TooLong) ≡ Some fault → (fault ≡ ReadFault) ⊎ (fault ≡ TooLong)) [
+      | true ↦ elim failed as (λ f. cond f (Some ReadFault) None ≡ Some fault → (fault ≡ ReadFault) ⊎ (fault ≡ TooLong)) [
+        | true ↦ λ is. inl (cc)
+        | false ↦ λ is. cc
+      ]
+      | false ↦ λ is. inr (cc)
+    ] is
 
--- as many lines as there are LF
-pub take-ended_lines : (script front : List ℕ) (count : ℕ) → 1_048_576 < length script → front ≡ take 1_048_576 script → count ≡ count_by (λ b. b == 10) front → take count (lines_of front) ≡ answered_lines script
-take-ended_lines script front count long is counted =
-    ap (λ (n : ℕ). take n (lines_of front)) counted ∙ ap ended_lines is ∙ sym (answered_lines-long script (not_script script long))
+-- where all lines are answered
+pub ends_well : (lines all : List (List ℕ)) (stop : Option PlayFault) (m n : Session) (old new : Option (List ℕ)) → lines ≡ all → stop ≡ None → AnswersAll lines m n old new → IsPlayed all stop (Ok tt) m n old new
+ends_well lines all stop m n old new same none answers = (none, subst (λ (ls : List (List ℕ)). AnswersAll ls m n old new) same answers)
 
-pub OnOk-both : {A E : Type 0} (r : Result A E) (P Q : Type 0) → P → OnOk r Q → OnOk r (P × Q)
-OnOk-both (Ok x) P Q p q = (p, q)
-OnOk-both (Err e) P Q p q = q
-
--- the error of a call that is handed on
-pub same_err : {A E : Type 0} (r : Result A E) (p e : E) → IsErrAnd r (λ x. x ≡ p) → r ≡ Err e → p ≡ e
-same_err (Ok x) p e is same = absurd is
-same_err (Err x) p e is same = cc
+pub ends_stopped : (failed : Bool) (script : List ℕ) (lines : List (List ℕ)) (fault : PlayFault) (m n : Session) (old new : Option (List ℕ)) → lines ≡ answered_lines failed script → Some fault ≡ stop_of failed script → AnswersAll lines m n old new
+    → IsPlayed (answered_lines failed script) (stop_of failed script) (Err fault) m n old new
+ends_stopped failed script lines fault m n old new same is answers =
+    let all : AnswersAll (answered_lines failed script) m n old new = subst (λ (ls : List (List ℕ)). AnswersAll ls m n old new) same answers in
+    let stops : PlayFault → Type 0 = λ f. IsPlayed (answered_lines failed script) (stop_of failed script) (Err f) m n old new in
+    elim (not_lost failed script fault (sym is)) [
+      | inl read ↦ subst stops (sym read) (sym is ∙ ap (λ (f : PlayFault). Some f) read, all)
+      | inr long ↦ subst stops (sym long) (sym is ∙ ap (λ (f : PlayFault). Some f) long, all)
+    ]

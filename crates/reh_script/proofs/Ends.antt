@@ -1,76 +1,89 @@
--- How a run ends.
-use Rattle.std.proofs.Common.{◌≡◌, ℕ, Bool, false, List, [], take, Option, None, Some, Result, Ok, Err, IfSome, refl, sym, ap, ◌∙◌, subst, if◌then◌else◌, append-nil}
-use Rattle.std.specs.Prelude.{IsErrAnd, OnOk}
-use Rattle.std.specs.Io.KnownBytes.{Appends}
+-- How a pipe ends.
+use Rattle.std.proofs.Common.{◌≡◌, ℕ, Bool, true, false, List, Option, None, Some, Result, Ok, Err, inl, inr, refl, sym, ap, ◌∙◌, subst, if◌then◌else◌}
+use Rattle.std.specs.Prelude.{◌≢◌, IsErrAnd}
+use Rattle.std.proofs.KnownBytes.{Keeps-refl}
 use Rattle.reh_model.specs.Cluster.{Cluster}
 use Rattle.reh_model.specs.Session.{Session, opened}
-use Rattle.reh_script.specs.Lines.{cut_of, is_script, answered_lines}
-use Rattle.reh_script.specs.Transcript.{transcript}
 use Rattle.reh_picture.specs.declared.faults.PictureFault.{PictureFault}
+use Rattle.reh_picture.specs.declared.faults.PictureFault.TheVariants as picture_fault
 use Rattle.reh_picture.specs.Pictures.{picture_of}
+use Rattle.reh_script.specs.Faults.{pipe_fault_of}
+use Rattle.reh_script.specs.Lines.{cut_of, is_told, answered_lines}
+use Rattle.reh_script.specs.Plays.{stop_of, IsPlayed, is_write_fault}
+use Rattle.reh_script.specs.Pipes.{Rehearsal, rehearsal_by, rehearsal_of, piped, IsPiped, loses_output}
 use Rattle.reh_script.specs.declared.faults.PlayFault.{PlayFault}
-use Rattle.reh_script.specs.declared.faults.PlayFault.TheVariants.{TooLong}
+use Rattle.reh_script.specs.declared.faults.PlayFault.TheVariants.{ReadFault, NoMemory}
 use Rattle.reh_script.specs.declared.faults.PipeFault.{PipeFault}
 use Rattle.reh_script.specs.declared.faults.PipeFault.TheVariants.{Picture, Play}
-use Rattle.reh_script.specs.Answers.{WritesAnswers}
-use Rattle.reh_script.specs.Outcomes.{Outcome, outcome_by, outcome_of, ReadsEnough}
-use Rattle.reh_script.specs.Parts.{WritesPart}
-use Rattle.reh_script.proofs.Enough.{outcome-enough}
 
--- a play's fault is no fault of the picture
-pub play_not_picture : {A : Type 0} (r : Result A PipeFault) (p : PlayFault) (fault : PictureFault) → IsErrAnd r (λ e. e ≡ Play p) → r ≡ Err (Picture fault) → ⊥
-play_not_picture (Ok x) p fault is same = absurd is
-play_not_picture (Err e) p fault is same = cc
+-- a read that fails before the picture is told
+pub ends_untold : (failed : Bool) (input : List ℕ) (old : Option (List ℕ)) → is_told failed input ≡ false → IsPiped (rehearsal_of failed input) (Err (Play ReadFault)) old old
+ends_untold failed input old untold =
+    let judged : Result Rehearsal PipeFault = rehearsal_by failed (picture_of (cut_of input).picture) (cut_of input).script in
+    subst (λ (r : Result Rehearsal PipeFault). IsPiped r (Err (Play ReadFault)) old old) (sym (ap (λ (t : Bool). if t then judged else Err (Play ReadFault)) untold)) (refl, Keeps-refl old)
 
--- and stays what it is
-pub play_fault_stays : {A : Type 0} (r : Result A PipeFault) (p q : PlayFault) → IsErrAnd r (λ e. e ≡ Play p) → r ≡ Err (Play q) → p ≡ q
-play_fault_stays (Ok x) p q is same = absurd is
-play_fault_stays (Err e) p q is same = cc
+-- any other input is judged by its picture
+judged : (failed : Bool) (input picture script : List ℕ) (read : Result Cluster PictureFault) → is_told failed input ≡ true → picture ≡ (cut_of input).picture → script ≡ (cut_of input).script → picture_of picture ≡ read
+    → rehearsal_by failed read script ≡ rehearsal_of failed input
+judged failed input picture script read told first behind is =
+    sym (ap (λ (r : Result Cluster PictureFault). rehearsal_by failed r script) is)
+    ∙ (λ i. rehearsal_by failed (picture_of (first i)) (behind i))
+    ∙ sym (ap (λ (t : Bool). if t then rehearsal_by failed (picture_of (cut_of input).picture) (cut_of input).script else Err (Play ReadFault)) told)
 
--- a picture that is read and a script that is too long
-pub too_long_ends : (input picture script : List ℕ) (state : Cluster) (m : Session) (old new : Option (List ℕ)) → picture ≡ (cut_of input).picture → script ≡ (cut_of input).script → picture_of picture ≡ Ok state → m ≡ opened state
-    → is_script script ≡ false → Appends old new (transcript m 1 (answered_lines script)) → ((outcome_of input).fault ≡ Some (Play TooLong)) × Appends old new (outcome_of input).text
-too_long_ends input picture script state m old new first rest read begun long written =
-    let same : outcome_by (Ok state) script ≡ outcome_of input = sym (ap (λ (r : Result Cluster PictureFault). outcome_by r script) read) ∙ (λ i. outcome_by (picture_of (first i)) (rest i)) in (
-      sym (ap (λ (o : Outcome). o.fault) same) ∙ ap (λ (t : Bool). if t then None else Some (Play TooLong)) long,
-      subst (λ (o : Outcome). Appends old new o.text) same (subst (λ (m : Session). Appends old new (transcript m 1 (answered_lines script))) begun written),
-    )
+lacks_state : (r : Result Rehearsal PipeFault) (failed : Bool) (picture : Result Cluster PictureFault) (script : List ℕ) (old : Option (List ℕ)) → rehearsal_by failed picture script ≡ r → IsPiped r (Err (Play NoMemory)) old old
+lacks_state r failed (Ok state) script old is = subst (λ (x : Result Rehearsal PipeFault). IsPiped x (Err (Play NoMemory)) old old) is (inr (refl, Keeps-refl old))
+lacks_state r failed (Err fault) script old is = subst (λ (x : Result Rehearsal PipeFault). IsPiped x (Err (Play NoMemory)) old old) is (inr (refl, Keeps-refl old))
 
--- a picture that is read and some first part of the answers
-pub part_ends : (input picture script : List ℕ) (state : Cluster) (m : Session) (old new : Option (List ℕ)) → picture ≡ (cut_of input).picture → script ≡ (cut_of input).script → picture_of picture ≡ Ok state → m ≡ opened state
-    → WritesPart (transcript m 1 (answered_lines script)) old new → WritesPart (outcome_of input).text old new
-part_ends input picture script state m old new first rest read begun written =
-    let same : outcome_by (Ok state) script ≡ outcome_of input = sym (ap (λ (r : Result Cluster PictureFault). outcome_by r script) read) ∙ (λ i. outcome_by (picture_of (first i)) (rest i)) in
-    subst (λ (o : Outcome). WritesPart o.text old new) same (subst (λ (m : Session). WritesPart (transcript m 1 (answered_lines script)) old new) begun written)
+-- where there is no memory before the play
+pub ends_without_state : (failed : Bool) (input picture script : List ℕ) (old : Option (List ℕ)) → is_told failed input ≡ true → picture ≡ (cut_of input).picture → script ≡ (cut_of input).script
+    → IsPiped (rehearsal_of failed input) (Err (Play NoMemory)) old old
+ends_without_state failed input picture script old told first behind = lacks_state _ failed (picture_of picture) script old (judged failed input picture script (picture_of picture) told first behind refl)
 
--- a picture that is read and the answers to some first lines
-pub no_memory_ends : (input picture script : List ℕ) (state : Cluster) (m : Session) (old new : Option (List ℕ)) → picture ≡ (cut_of input).picture → script ≡ (cut_of input).script → picture_of picture ≡ Ok state → m ≡ opened state
-    → WritesAnswers (λ count. transcript m 1 (take count (answered_lines script))) old new → WritesAnswers (outcome_of input).answers old new
-no_memory_ends input picture script state m old new first rest read begun written =
-    let same : outcome_by (Ok state) script ≡ outcome_of input = sym (ap (λ (r : Result Cluster PictureFault). outcome_by r script) read) ∙ (λ i. outcome_by (picture_of (first i)) (rest i)) in
-    subst (λ (o : Outcome). WritesAnswers o.answers old new) same (subst (λ (m : Session). WritesAnswers (λ count. transcript m 1 (take count (answered_lines script))) old new) begun written)
+-- handed on
+pub ends_lacking : (failed : Bool) (input picture script : List ℕ) (result : Result (Unit {0}) PipeFault) (old : Option (List ℕ)) → is_told failed input ≡ true → picture ≡ (cut_of input).picture → script ≡ (cut_of input).script
+    → IsErrAnd result (λ e. e ≡ Play NoMemory) → IsPiped (rehearsal_of failed input) result old old
+ends_lacking failed input picture script (Ok x) old told first behind is = absurd is
+ends_lacking failed input picture script (Err e) old told first behind is =
+    subst (λ (f : PipeFault). IsPiped (rehearsal_of failed input) (Err f) old old) (sym is) (ends_without_state failed input picture script old told first behind)
 
-no_answers : (r : Result Cluster PictureFault) (script : List ℕ) → [] ≡ (outcome_by r script).answers 0
-no_answers (Ok state) script = refl
-no_answers (Err fault) script = refl
+refused : (failed : Bool) (input picture script : List ℕ) (fault : PictureFault) (old : Option (List ℕ)) → is_told failed input ≡ true → picture ≡ (cut_of input).picture → script ≡ (cut_of input).script
+    → picture_of picture ≡ Err fault → IsPiped (rehearsal_of failed input) (Err (Picture fault)) old old
+refused failed input picture script fault old told first behind is =
+    subst (λ (r : Result Rehearsal PipeFault). IsPiped r (Err (Picture fault)) old old) (judged failed input picture script (Err fault) told first behind is) (inl (refl, Keeps-refl old))
 
-Appends-none : (old : Option (List ℕ)) → Appends old old []
-Appends-none None = tt
-Appends-none (Some xs) = sym (append-nil xs)
+refused_or_lacks : (failed : Bool) (input picture script : List ℕ) (fault : PictureFault) (old : Option (List ℕ)) → is_told failed input ≡ true → picture ≡ (cut_of input).picture → script ≡ (cut_of input).script
+    → (fault ≢ picture_fault.NoMemory → picture_of picture ≡ Err fault) → IsPiped (rehearsal_of failed input) (Err (pipe_fault_of fault)) old old
+refused_or_lacks failed input picture script picture_fault.NoMemory old told first behind is = ends_without_state failed input picture script old told first behind
+refused_or_lacks failed input picture script fault old told first behind is = refused failed input picture script fault old told first behind (is (λ same. cc))
 
--- where nothing was written
-pub nothing_ends : (input : List ℕ) (old : Option (List ℕ)) → WritesAnswers (outcome_of input).answers old old
-nothing_ends input old = (0, subst (λ (t : List ℕ). Appends old old t) (no_answers (picture_of (cut_of input).picture) (cut_of input).script) (Appends-none old))
+-- where the picture is refused
+pub ends_refused : (failed : Bool) (input picture script : List ℕ) (fault : PictureFault) (result : Result (Unit {0}) PipeFault) (old : Option (List ℕ)) → is_told failed input ≡ true → picture ≡ (cut_of input).picture
+    → script ≡ (cut_of input).script → (fault ≢ picture_fault.NoMemory → picture_of picture ≡ Err fault) → IsErrAnd result (λ e. e ≡ pipe_fault_of fault) → IsPiped (rehearsal_of failed input) result old old
+ends_refused failed input picture script fault (Ok x) old told first behind refuses is = absurd is
+ends_refused failed input picture script fault (Err e) old told first behind refuses is =
+    subst (λ (f : PipeFault). IsPiped (rehearsal_of failed input) (Err f) old old) (sym is) (refused_or_lacks failed input picture script fault old told first behind refuses)
 
-pub nothing_ends_all : (remaining : Option (List ℕ)) (old : Option (List ℕ)) → IfSome remaining (λ input. WritesAnswers (outcome_of input).answers old old)
-nothing_ends_all None old = tt
-nothing_ends_all (Some all) old = nothing_ends all old
+-- where the lines are played
+pub ends_played : (failed : Bool) (input picture script : List ℕ) (state : Cluster) (result : Result (Unit {0}) PlayFault) (m n : Session) (old new : Option (List ℕ)) → is_told failed input ≡ true → picture ≡ (cut_of input).picture
+    → script ≡ (cut_of input).script → picture_of picture ≡ Ok state → m ≡ opened state → IsPlayed (answered_lines failed script) (stop_of failed script) result m n old new → IsPiped (rehearsal_of failed input) (piped result) old new
+ends_played failed input picture script state result m n old new told first behind read begun played =
+    subst (λ (r : Result Rehearsal PipeFault). IsPiped r (piped result) old new) (judged failed input picture script (Ok state) told first behind read)
+    (inl (record {
+      end = result;
+      session = n;
+      same = refl;
+      played = subst (λ (s : Session). IsPlayed (answered_lines failed script) (stop_of failed script) result s n old new) begun played;
+    }))
 
--- What holds of the outcome of what was read holds of the outcome of all.
-pub all_ends : (remaining : Option (List ℕ)) (input : List ℕ) (P : Outcome → Type 0) → IfSome remaining (λ all. ReadsEnough input all) → P (outcome_of input) → IfSome remaining (λ all. P (outcome_of all))
-all_ends None input P enough holds = tt
-all_ends (Some all) input P enough holds = subst P (outcome-enough input all enough) holds
+-- where they are not played to their end
+pub ends_early : (failed : Bool) (input picture script : List ℕ) (state : Cluster) (fault : PlayFault) (result : Result (Unit {0}) PipeFault) (m n : Session) (old new : Option (List ℕ)) → is_told failed input ≡ true
+    → picture ≡ (cut_of input).picture → script ≡ (cut_of input).script → picture_of picture ≡ Ok state → m ≡ opened state → IsErrAnd result (λ e. e ≡ Play fault)
+    → IsPlayed (answered_lines failed script) (stop_of failed script) (Err fault) m n old new → IsPiped (rehearsal_of failed input) result old new
+ends_early failed input picture script state fault (Ok x) m n old new told first behind read begun is played = absurd is
+ends_early failed input picture script state fault (Err e) m n old new told first behind read begun is played =
+    subst (λ (f : PipeFault). IsPiped (rehearsal_of failed input) (Err f) old new) (sym is) (ends_played failed input picture script state (Err fault) m n old new told first behind read begun played)
 
-pub all_ends_ok : {A E : Type 0} (r : Result A E) (remaining : Option (List ℕ)) (input : List ℕ) (P : Outcome → Type 0) → IfSome remaining (λ all. ReadsEnough input all) → OnOk r (P (outcome_of input)) → OnOk r (IfSome remaining (λ all. P (outcome_of all)))
-all_ends_ok (Ok x) remaining input P enough holds = all_ends remaining input P enough holds
-all_ends_ok (Err e) remaining input P enough holds = holds
+-- a play's fault that is handed on says as much of the writes
+pub handed_on : (lost : Bool) (fault : PlayFault) (result : Result (Unit {0}) PipeFault) → IsErrAnd result (λ e. e ≡ Play fault) → lost ≡ is_write_fault (Err fault) → lost ≡ loses_output result
+handed_on lost fault (Ok x) is was = absurd is
+handed_on lost fault (Err e) is was = was ∙ ap (λ (f : PipeFault). loses_output (Err f)) (sym is)

@@ -1,12 +1,10 @@
 pub mod Examples
 pub mod Numbers
 pub mod LinesLemmas
+pub mod EndedLaws
 pub mod Reports
 pub mod Cuts
-pub mod Writing
-pub mod Reached
+pub mod Steps
 pub mod Answered
 pub mod Enough
-pub mod Reading
 pub mod Ends
-pub mod Told

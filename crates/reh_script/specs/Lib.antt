@@ -3,8 +3,7 @@ pub mod Script
 pub mod Texts
 pub mod Transcript
 pub mod Reports
-pub mod Parts
 pub mod Faults
-pub mod Outcomes
-pub mod Answers
-pub mod Ended
+pub mod Readings
+pub mod Plays
+pub mod Pipes

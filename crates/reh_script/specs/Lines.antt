@@ -1,6 +1,6 @@
 -- The input of a rehearsal: a picture, a line `%`, and a script, which is a list of lines.
-use Rattle.std.specs.Prelude.{ℕ, Bool, ◌==◌, nat_le, List, [], ◌∷◌, length, take, count_by, Option, Some, None, if◌then◌else◌}
-use Rattle.std.specs.List.{onto_first}
+use Rattle.std.specs.Prelude.{ℕ, Bool, not, ◌&&◌, ◌||◌, ◌==◌, nat_lt, nat_le, List, [], ◌∷◌, length, take, Option, Some, None, if◌then◌else◌}
+use Rattle.std.specs.List.{list_any, onto_first}
 
 -- the lines of a text; each ends at an LF or at the end, and an LF that ends the text begins no further line
 abbrev pub lines_of : List ℕ → List (List ℕ)
@@ -44,10 +44,15 @@ cut_of input = cut_or (after_percent input) (cut_inside input)
 abbrev pub is_script : List ℕ → Bool
 is_script script = nat_le (length script) 1_048_576
 
--- the lines of a text that end in it: as many as it has LF
-abbrev pub ended_lines : List ℕ → List (List ℕ)
-ended_lines text = take (count_by (λ b. b == 10) text) (lines_of text)
+-- a text up to its last LF
+abbrev pub ended : List ℕ → List ℕ
+ended [] = []
+ended (b ∷ bs) = if list_any (λ c. c == 10) (b ∷ bs) then b ∷ ended bs else []
 
--- the lines that are answered: all, or of a script that is too long those that end among its first 1,048,576 bytes
-unfoldable pub answered_lines : List ℕ → List (List ℕ)
-answered_lines script = if is_script script then lines_of script else ended_lines (take 1_048_576 script)
+-- whether an input tells its picture: no read failed behind it, or it is too long for a picture that a line `%` ends, or such a line ends in it
+abbrev pub is_told : Bool → List ℕ → Bool
+is_told failed input = not failed || nat_le 8_388_612 (length input) || nat_lt (length (cut_of (ended input)).picture) (length (ended input))
+
+-- the lines that are answered: all; of a script that is too long those that end among its first 1,048,576 bytes, and where a read failed those that end before it
+unfoldable pub answered_lines : Bool → List ℕ → List (List ℕ)
+answered_lines failed script = if is_script script && not failed then lines_of script else lines_of (ended (take 1_048_576 script))

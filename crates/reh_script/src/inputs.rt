@@ -1,7 +1,9 @@
 // The input: a picture, a line `%` and a script.
 ghost use Rattle.std.specs.Prelude.{◌≡◌, ℕ, ◌==◌, ◌<◌, ◌≤◌, List, ◌∷◌, ◌++◌, length, take, count_by, position, option_map, IfSome};
-ghost use Rattle.reh_script.specs.Lines.{lines_of, cut_of, after_end as follows_end, after_percent as follows_percent};
-ghost use Rattle.reh_script.specs.Ended.{EndsLf};
+ghost use Rattle.reh_script.specs.Lines.{lines_of, cut_of, ended, is_told as tells_picture, after_end as follows_end, after_percent as follows_percent};
+
+/// An input that is so long and has no line `%` that ends has a picture of more than 8,388,608 bytes.
+const MAX_TOLD: usize = 8_388_612;
 
 /// The first line of a text, without its LF, and what follows.
 pub fn first_line(text: &[u8]) -> (&[u8], &[u8])
@@ -30,13 +32,6 @@ pub fn front(text: &[u8], count: usize) -> &[u8]
     &text[..count]
 }
 
-/// How many LF a text has.
-pub fn count_lf(text: &[u8]) -> usize
-    ensures { result ≡ count_by (λ b. b == 10) text.now }
-{
-    text.iter().filter(|b| **b == b'\n').count()
-}
-
 /// The picture and the script of an input.
 pub fn split_input(input: &[u8]) -> (&[u8], &[u8])
     ensures picture { result.0.now ≡ (cut_of input.now).picture }
@@ -55,23 +50,21 @@ pub fn split_input(input: &[u8]) -> (&[u8], &[u8])
     (input, &input[input.len()..])
 }
 
-/// The picture of an input of which these are the first bytes, if they tell it: the line `%` is ended among them.
-pub fn told_picture(first: &[u8]) -> Option<&[u8]>
-    ensures { IfSome result (λ picture. (rest : List ℕ) → (cut_of (first.now ++ rest)).picture ≡ picture.now) }
+/// Whether an input tells its picture: no read failed behind it, or it is too long for a picture that a line `%` ends, or such a line ends in it.
+pub fn is_told(input: &[u8], failed: bool) -> bool
+    ensures { result ≡ tells_picture failed input.now }
 {
-    let lines = whole_lines(first);
-    let (picture, _) = split_input(lines);
-    if picture.len() < lines.len() {
-        Some(picture)
-    } else {
-        None
+    if !failed || input.len() >= MAX_TOLD {
+        return true;
     }
+    let lines = whole_lines(input);
+    let (picture, _) = split_input(lines);
+    picture.len() < lines.len()
 }
 
 /// A text up to its last LF.
-fn whole_lines(text: &[u8]) -> &[u8]
-    ensures first { result.now ≡ take (length result.now) text.now }
-    ensures ends { 0 < length result.now → EndsLf result.now }
+pub fn whole_lines(text: &[u8]) -> &[u8]
+    ensures { result.now ≡ ended text.now }
 {
     let mut end = text.len();
     while end > 0 {

@@ -5,6 +5,7 @@ mod faults;
 mod inputs;
 mod pipes;
 mod plays;
+mod readings;
 mod scripts;
 mod streams;
 #[cfg(test)]

@@ -1,86 +1,98 @@
 // Answering the lines of a script.
-ghost use Rattle.std.specs.Prelude.{◌≡◌, ◌≢◌, ◌⊎◌, false, true, take, IfOk, IfErr, OnOk, OnErr, Err, string_bytes};
+ghost use Rattle.std.specs.Prelude.{◌≡◌, ◌+◌, ◌≤◌, ◌<◌, ◌++◌, ◌⊎◌, ℕ, List, true, false, None, Some, Ok, length, IfOk, OnOk, OnErr, string_bytes};
 ghost use Rattle.std.specs.Io.KnownBytes.{Appends};
-ghost use Rattle.reh_script.specs.Lines.{lines_of, is_script, answered_lines};
-ghost use Rattle.reh_model.specs.Session.{state_of};
+ghost use Rattle.reh_types.specs.declared.moves.Reply.TheVariants.{Done};
+ghost use Rattle.reh_model.specs.Session.{state_of, reply_to, session_after};
+ghost use Rattle.reh_script.specs.Lines.{lines_of, answered_lines};
 ghost use Rattle.reh_script.specs.Texts.{report_of};
-ghost use Rattle.reh_script.specs.Transcript.{transcript, line_answer, after_command, asked};
-ghost use Rattle.reh_script.specs.Answers.{after_lines, LeadsTo, WritesAnswers};
-ghost use Rattle.reh_script.specs.Parts.{WritesPart};
+ghost use Rattle.reh_script.specs.Transcript.{line_answer, numbered_answer, after_line, asked};
+ghost use Rattle.reh_script.specs.Plays.{stop_of, LacksAnswer, IsPlayed, Plays, is_write_fault};
 
 use crate::faults::PlayFault;
-use crate::inputs::{count_lf, first_line, front};
+use crate::inputs::{first_line, front, whole_lines};
+use crate::readings::read;
 use crate::scripts::parse_line;
-use crate::streams::{StreamFault, TextOut};
+use crate::streams::{StreamFault, TextIn, TextOut};
 use crate::texts::report_text;
 use reh_session::Session;
-use reh_types::{Command, LineFault, Refusal, Reply};
+use reh_types::{Command, LineFault, Move, Refusal, Reply};
 use std::alloc::{AllocError, Global};
 
 /// The bytes of a script that are played: its first 1,048,576.
 const MAX_SCRIPT: usize = 1_048_576;
 
-/// Answers the lines of a script in order.
-pub fn play<W: TextOut>(
+/// Reads a script and answers its lines in order.
+///
+/// A script that is too long, and one behind which a read fails, have the lines answered that end in time.
+pub fn play<R: TextIn, W: TextOut>(
+    alloc: Global,
+    session: &mut Session,
+    reader: &mut R,
+    writer: &mut W,
+) -> Result<(), PlayFault>
+    requires reads { R.has_failed reader.old ≡ false }
+    requires writes { W.has_failed writer.old ≡ false }
+    ensures plays { Plays result (R.has_failed reader.new) (R.remaining reader.old) (R.remaining reader.new) session.old session.new (W.contents writer.old) (W.contents writer.new) }
+    ensures write { W.has_failed writer.new ≡ is_write_fault result }
+    ensures calls { R.calls reader.new ≤ R.calls reader.old + 1_048_577 }
+{
+    let script = read(alloc, reader, MAX_SCRIPT + 1)?;
+    answer_script(alloc, session, &script.bytes, script.failed, writer)
+}
+
+/// Answers the lines of a script, behind which a read has failed or none has.
+pub fn answer_script<W: TextOut>(
     alloc: Global,
     session: &mut Session,
     script: &[u8],
+    failed: bool,
     writer: &mut W,
 ) -> Result<(), PlayFault>
     requires { W.has_failed writer.old ≡ false }
-    ensures ok { OnOk result ((is_script script.now ≡ true)
-        × Appends (W.contents writer.old) (W.contents writer.new) (transcript session.old 1 (answered_lines script.now))) }
-    ensures too_long { result ≡ Err PlayFault.TooLong → (is_script script.now ≡ false)
-        × Appends (W.contents writer.old) (W.contents writer.new) (transcript session.old 1 (answered_lines script.now)) }
-    ensures write { result ≡ Err PlayFault.WriteFault → W.has_failed writer.new ≡ true }
-    ensures read { result ≢ Err PlayFault.ReadFault }
-    ensures fine { OnOk result (W.has_failed writer.new ≡ false) }
-    ensures part { WritesPart (transcript session.old 1 (answered_lines script.now)) (W.contents writer.old) (W.contents writer.new) }
-
-    // Without memory no answer is cut off.
-    ensures no_memory { result ≡ Err PlayFault.NoMemory →
-        WritesAnswers (λ count. transcript session.old 1 (take count (answered_lines script.now))) (W.contents writer.old) (W.contents writer.new) }
-
-    // The session afterwards: after all the lines that are answered, or after some first ones where the play ends at a line.
-    ensures after { OnOk result (session.new ≡ after_lines session.old (answered_lines script.now)) }
-    ensures after_too_long { result ≡ Err PlayFault.TooLong → session.new ≡ after_lines session.old (answered_lines script.now) }
-    ensures leads { LeadsTo session.old (answered_lines script.now) session.new }
+    ensures played { IsPlayed (answered_lines failed script.now) (stop_of failed script.now) result session.old session.new (W.contents writer.old) (W.contents writer.new) }
+    ensures write { W.has_failed writer.new ≡ is_write_fault result }
 {
-    if script.len() <= MAX_SCRIPT {
-        return answer_lines(alloc, session, script, script.len(), writer);
+    let (lines, stop) = answered(script, failed);
+    answer_lines(alloc, session, lines, writer)?;
+    match stop {
+        None => Ok(()),
+        Some(fault) => Err(fault),
     }
-    let script = front(script, MAX_SCRIPT);
-    answer_lines(alloc, session, script, count_lf(script), writer)?;
-    Err(PlayFault::TooLong)
 }
 
-/// Answers the first lines of a text in order, at most so many.
+/// The text of a script whose lines are answered, and why no more are.
+fn answered(script: &[u8], failed: bool) -> (&[u8], Option<PlayFault>)
+    ensures lines { lines_of result.0.now ≡ answered_lines failed script.now }
+    ensures stop { result.1 ≡ stop_of failed script.now }
+{
+    if script.len() > MAX_SCRIPT {
+        let first = front(script, MAX_SCRIPT);
+        return (whole_lines(first), Some(PlayFault::TooLong));
+    }
+    if failed {
+        return (whole_lines(script), Some(PlayFault::ReadFault));
+    }
+    (script, None)
+}
+
+/// Answers the lines of a text in order.
 fn answer_lines<W: TextOut>(
     alloc: Global,
     session: &mut Session,
     text: &[u8],
-    lines: usize,
     writer: &mut W,
 ) -> Result<(), PlayFault>
     requires { W.has_failed writer.old ≡ false }
-    ensures ok { OnOk result (Appends (W.contents writer.old) (W.contents writer.new) (transcript session.old 1 (take lines (lines_of text.now)))) }
-    ensures too_long { result ≢ Err PlayFault.TooLong }
-    ensures read { result ≢ Err PlayFault.ReadFault }
-    ensures write { result ≡ Err PlayFault.WriteFault → W.has_failed writer.new ≡ true }
-    ensures fine { OnOk result (W.has_failed writer.new ≡ false) }
-    ensures part { WritesPart (transcript session.old 1 (take lines (lines_of text.now))) (W.contents writer.old) (W.contents writer.new) }
-    ensures no_memory { result ≡ Err PlayFault.NoMemory →
-        WritesAnswers (λ count. transcript session.old 1 (take count (take lines (lines_of text.now)))) (W.contents writer.old) (W.contents writer.new) }
-    ensures after { OnOk result (session.new ≡ after_lines session.old (take lines (lines_of text.now))) }
-    ensures leads { LeadsTo session.old (take lines (lines_of text.now)) session.new }
+    ensures played { IsPlayed (lines_of text.now) None result session.old session.new (W.contents writer.old) (W.contents writer.new) }
+    ensures write { W.has_failed writer.new ≡ is_write_fault result }
 {
     let mut rest = text;
     let mut number = 0;
-    while !rest.is_empty() && number < lines {
+    while !rest.is_empty() {
         number += 1;
         let (line, more) = first_line(rest);
         let answer = answer(alloc, session, number, line)?;
-        if write_all(writer, answer.as_bytes()).is_err() {
+        if let Err(StreamFault) = write_all(writer, answer.as_bytes()) {
             return Err(PlayFault::WriteFault);
         }
         rest = more;
@@ -88,39 +100,64 @@ fn answer_lines<W: TextOut>(
     Ok(())
 }
 
-/// Answers one line.
+/// Answers one line. The answer is empty where the line has none.
 fn answer(
     alloc: Global,
     session: &mut Session,
     number: usize,
     line: &[u8],
-) -> Result<String, PlayFault>
+) -> Result<String, AllocError>
     ensures text { IfOk result (λ text. string_bytes text ≡ line_answer session.old number line.now) }
-    ensures after { OnOk result (session.new ≡ after_command session.old (asked session.old line.now)) }
-    ensures left { (session.new ≡ session.old) ⊎ (session.new ≡ after_command session.old (asked session.old line.now)) }
-    ensures fault { IfErr result (λ fault. fault ≡ PlayFault.NoMemory) }
+    ensures after { OnOk result (session.new ≡ after_line session.old line.now) }
+    ensures err { OnErr result (LacksAnswer session.old line.now session.new) }
 {
-    match command(session, line) {
-        Ok(Command::Make(step)) => {
-            let reply = session.perform(&step);
-            if reply == Reply::Refused(Refusal::NoMemory) {
-                return Err(PlayFault::NoMemory);
-            }
-            Ok(format!(in alloc; "line {number}: {reply}\n")?)
-        }
+    let Some(asked) = command(session, line) else {
+        return Ok(String::new(alloc));
+    };
+    match asked {
+        Ok(Command::Make(step)) => answer_move(alloc, session, number, &step),
         Ok(Command::Report) => {
             let report = report(alloc, session)?;
-            Ok(format!(in alloc; "line {number}: report\n{report}")?)
+            format!(in alloc; "line {number}: report\n{report}")
         }
-        Err(fault) => Ok(format!(in alloc; "line {number}: {fault}\n")?),
+        Err(fault) => format!(in alloc; "line {number}: {fault}\n"),
     }
 }
 
-/// What a line asks for.
-fn command(session: &Session, line: &[u8]) -> Result<Command, LineFault>
+/// What a line asks for, if it has an answer.
+fn command(session: &Session, line: &[u8]) -> Option<Result<Command, LineFault>>
     ensures { result ≡ asked session.now line.now }
 {
-    parse_line(session.state().names(), line)
+    Some(parse_line(session.state().names(), line))
+}
+
+/// Makes a move, and answers its line.
+fn answer_move(
+    alloc: Global,
+    session: &mut Session,
+    number: usize,
+    step: &Move,
+) -> Result<String, AllocError>
+    ensures text { IfOk result (λ text. string_bytes text ≡ numbered_answer session.old number (Some (Ok (Command.Make step.now)))) }
+    ensures after { OnOk result (session.new ≡ session_after session.old step.now (reply_to session.old step.now)) }
+    ensures err { OnErr result ((session.new ≡ session_after session.old step.now (reply_to session.old step.now)) ⊎ ((session.new ≡ session.old) × (reply_to session.old step.now ≡ Done))) }
+{
+    // The check has to meet the type of a reply's refusal by its name.
+    let _refusal: Option<Refusal> = None;
+    let reply = make(session, step)?;
+    format!(in alloc; "line {number}: {reply}\n")
+}
+
+/// Makes a move, and replies to it. Only a move that would be done can want memory, and then nothing changes.
+fn make(session: &mut Session, step: &Move) -> Result<Reply, AllocError>
+    ensures ok { IfOk result (λ reply. (reply ≡ reply_to session.old step.now) × (session.new ≡ session_after session.old step.now reply)) }
+    ensures err { OnErr result ((reply_to session.old step.now ≡ Done) × (session.new ≡ session.old)) }
+{
+    let reply = session.perform(step);
+    if reply == Reply::Refused(Refusal::NoMemory) {
+        return Err(AllocError);
+    }
+    Ok(reply)
 }
 
 /// The report of a session's state.
@@ -136,7 +173,9 @@ fn write_all<W: TextOut>(writer: &mut W, bytes: &[u8]) -> Result<(), StreamFault
     ensures ok { OnOk result (Appends (W.contents writer.old) (W.contents writer.new) bytes.now) }
     ensures fine { OnOk result (W.has_failed writer.new ≡ false) }
     ensures failed { OnErr result (W.has_failed writer.new ≡ true) }
-    ensures part { WritesPart bytes.now (W.contents writer.old) (W.contents writer.new) }
+
+    // A part was written, and some is lost.
+    ensures part { OnErr result ((part : List ℕ) × (lost : List ℕ) × (part ++ lost ≡ bytes.now) × (0 < length lost) × Appends (W.contents writer.old) (W.contents writer.new) part) }
 {
     let mut rest = bytes;
     while !rest.is_empty() {

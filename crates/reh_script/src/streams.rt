@@ -1,5 +1,5 @@
 // Readers and writers of bytes that tell whether a call has failed.
-ghost use Rattle.std.specs.Prelude.{◌≡◌, ℕ, Bool, false, ◌||◌, ◌<◌, ◌≤◌, List, length, Option, is_err, IfOk};
+ghost use Rattle.std.specs.Prelude.{◌≡◌, ℕ, Bool, false, ◌||◌, ◌+◌, ◌-◌, ◌^◌, ◌<◌, ◌≤◌, min, List, length, Option, is_err, IfOk, Ok};
 ghost use Rattle.std.specs.Io.{ReadsAtMost};
 ghost use Rattle.std.specs.Io.KnownBytes.{ReadConsumes, WriteAppends, Keeps};
 
@@ -17,11 +17,15 @@ pub trait TextIn {
     // Whether a call has failed so far.
     ghost has_failed: { Self → Bool };
 
+    // How many calls there were so far.
+    ghost calls: { Self → ℕ };
+
     /// Takes some bytes into the buffer and says how many: none only at the end, or where the buffer has no room.
     fn take(&mut self, buffer: &mut [u8]) -> Result<usize, StreamFault>
         ensures bound { ReadsAtMost result buffer.new }
         ensures bytes { ReadConsumes (remaining self.old) (remaining self.new) result buffer.new }
-        ensures failed { has_failed self.new ≡ (has_failed self.old || is_err result) };
+        ensures failed { has_failed self.new ≡ (has_failed self.old || is_err result) }
+        ensures counted { calls self.new ≡ min (calls self.old + 1) (2 ^ 64 - 1) };
 }
 
 /// A writer, like std's `Write`.
@@ -32,10 +36,10 @@ pub trait TextOut {
     // Whether a call has failed so far.
     ghost has_failed: { Self → Bool };
 
-    /// Writes the first of some bytes and says how many, at least one.
+    /// Writes the first of some bytes and says how many: at least one, if there is one.
     fn put(&mut self, bytes: &[u8]) -> Result<usize, StreamFault>
-        requires { 0 < length bytes.now }
-        ensures bound { IfOk result (λ count. (0 < count) × (count ≤ length bytes.now)) }
+        ensures bound { IfOk result (λ count. (count ≤ length bytes.now) × (0 < length bytes.now → 0 < count)) }
+        ensures empty { length bytes.now ≡ 0 → result ≡ Ok 0 }
         ensures bytes { WriteAppends (contents self.old) (contents self.new) result bytes.now }
         ensures failed { has_failed self.new ≡ (has_failed self.old || is_err result) };
 }
@@ -45,16 +49,18 @@ pub trait TextOut {
 pub struct FromRead<R: Read> {
     inner: R,
     has_failed: bool,
+    calls: u64,
 }
 
 impl<R: Read> FromRead<R> {
-    /// The reader, of which no call has failed yet.
+    /// The reader, of which no call was made yet.
     pub fn new(inner: R) -> Self
-        ensures { result ≡ record { inner = inner; has_failed = false } }
+        ensures { result ≡ record { inner = inner; has_failed = false; calls = 0 } }
     {
         FromRead {
             inner,
             has_failed: false,
+            calls: 0,
         }
     }
 }
@@ -64,7 +70,10 @@ impl<R: Read> TextIn for FromRead<R> {
 
     ghost has_failed = { λ s. s.has_failed };
 
+    ghost calls = { λ s. s.calls };
+
     fn take(&mut self, buffer: &mut [u8]) -> Result<usize, StreamFault> {
+        self.calls = self.calls.saturating_add(1);
         match self.inner.read(buffer) {
             Ok(count) => Ok(count),
             Err(_) => {
@@ -112,6 +121,9 @@ impl<W: Write> TextOut for ToWrite<W> {
     ghost has_failed = { λ s. s.has_failed };
 
     fn put(&mut self, bytes: &[u8]) -> Result<usize, StreamFault> {
+        if bytes.is_empty() {
+            return Ok(0);
+        }
         match self.inner.write(bytes) {
             Ok(count) if count > 0 => Ok(count),
             _ => {
