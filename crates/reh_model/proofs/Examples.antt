@@ -1,7 +1,5 @@
 -- Worked runs on two bookies and no ledger: the definitions, computed.
-use Rattle.std.specs.Prelude.{◌≡◌, refl, ℕ, List, [], ◌∷◌, ◌++◌, codes, map}
-use Rattle.std.specs.Fmt.{digits}
-use Rattle.std.specs.List.{flat_map}
+use Rattle.std.specs.Prelude.{◌≡◌, refl, List, [], ◌∷◌, codes}
 use Rattle.reh_types.specs.declared.moves.Event.TheVariants.{Lose, Tick}
 use Rattle.reh_types.specs.declared.moves.Move.{Move}
 use Rattle.reh_types.specs.declared.moves.Move.TheVariants.{Do, Undo, Redo, Look}
@@ -11,8 +9,6 @@ use Rattle.reh_types.specs.declared.refusals.Refusal.TheVariants.{NothingToUndo,
 use Rattle.reh_types.specs.Sets.{contains, insert, retain, remove, empty, from_list, union, items, is_subset, is_empty, len}
 use Rattle.reh_model.specs.Cluster.{Cluster}
 use Rattle.reh_model.specs.Session.{Session, opened_session, reply_to, session_after}
-use Rattle.reh_model.specs.Lines.{cut_of, lines_of}
-use Rattle.reh_model.specs.Transcript.{transcript}
 
 -- two registered bookies, and no ledger
 abbrev pub two_bookies : Cluster
@@ -28,31 +24,14 @@ abbrev pub played_session : Session → List Move → Session
 played_session m [] = m
 played_session m (move ∷ moves) = played_session (session_after m move (reply_to m move)) moves
 
--- lines with their LF
-abbrev text_of : List (List ℕ) → List ℕ
-text_of lines = flat_map (λ line. line ++ 10 ∷ []) lines
-
 -- events, undos and a redo
 pub undo_and_redo : replies (opened_session two_bookies) (Do (Lose 0) ∷ Do (Tick 2) ∷ Undo ∷ Undo ∷ Undo ∷ Redo ∷ [])
     ≡ Done ∷ Done ∷ Done ∷ Done ∷ Refused NothingToUndo ∷ Done ∷ []
 unfolding contains insert retain remove empty from_list union items is_subset is_empty len
 undo_and_redo = refl
 
--- what is printed for them, and the report of what survives
-pub undo_and_redo_printed : transcript (opened_session two_bookies) 1 (lines_of (text_of (codes "lose b1:3181" ∷ codes "tick 2" ∷ codes "undo" ∷ codes "undo" ∷ codes "undo" ∷ codes "redo" ∷ codes "report" ∷ [])))
-    ≡ text_of (codes "line 1: ok" ∷ codes "line 2: ok" ∷ codes "line 3: ok" ∷ codes "line 4: ok" ∷ codes "line 5: refused 33 NothingToUndo" ∷ codes "line 6: ok" ∷ codes "line 7: report"
-    ∷ codes "clock 0 grace 3" ∷ codes "bookie b1:3181 down 0" ∷ codes "bookie b2:3181 up 0" ∷ [])
-unfolding contains insert retain remove empty from_list union items is_subset is_empty len digits
-undo_and_redo_printed = refl
-
 -- the clock ends at 1,000,000,000 ticks, and a tick is of 1 to 1,000,000
 pub clock_at_its_end : replies (opened_session (record two_bookies { clock = 1_000_000_000 })) (Do (Tick 1) ∷ Do (Tick 0) ∷ Do (Tick 1_000_001) ∷ Look ∷ [])
     ≡ Refused ClockEnd ∷ Refused BadTick ∷ Refused BadTick ∷ Clock 1_000_000_000 ∷ []
 unfolding contains insert retain remove empty from_list union items is_subset is_empty len
 clock_at_its_end = refl
-
--- the line `%` may end in CR LF; without it all is the picture, and as the first line it leaves an empty one
-pub cut_at_percent : map cut_of ((codes "{}" ++ 10 ∷ 37 ∷ 13 ∷ 10 ∷ codes "clock") ∷ codes "{}" ∷ codes "%\nclock" ∷ (codes "{}" ++ 10 ∷ 37 ∷ 32 ∷ 10 ∷ []) ∷ [])
-    ≡ record { picture = codes "{}"; script = codes "clock" } ∷ record { picture = codes "{}"; script = [] } ∷ record { picture = []; script = codes "clock" }
-    ∷ record { picture = codes "{}" ++ 10 ∷ 37 ∷ 32 ∷ 10 ∷ []; script = [] } ∷ []
-cut_at_percent = refl

@@ -9,7 +9,3 @@ pub mod Refusals
 pub mod Step
 pub mod Session
 pub mod Swaps
-pub mod Lines
-pub mod Script
-pub mod Texts
-pub mod Transcript

@@ -1,12 +1,11 @@
 -- The statuses and texts of faults.
 use Rattle.std.specs.Prelude.{ℕ, List, ◌++◌, Result, Ok, Err, codes}
 use Rattle.reh_picture.specs.Faults.{fault_text}
-use Rattle.reh_picture.specs.declared.faults.PictureFault.{PictureFault}
-use Rattle.reh_picture.specs.declared.faults.PictureFault.TheVariants as picture_fault
-use Rattle.rehearse.specs.declared.plays.PlayFault.{PlayFault}
-use Rattle.rehearse.specs.declared.plays.PlayFault.TheVariants as play_fault
+use Rattle.reh_script.specs.declared.faults.PlayFault.TheVariants as play_fault
+use Rattle.reh_script.specs.declared.faults.PipeFault.{PipeFault}
+use Rattle.reh_script.specs.declared.faults.PipeFault.TheVariants as pipe_fault
 use Rattle.rehearse.specs.declared.faults.RunFault.{RunFault}
-use Rattle.rehearse.specs.declared.streams.StreamFault.{StreamFault}
+use Rattle.reh_script.specs.declared.streams.StreamFault.{StreamFault}
 use Rattle.rehearse.specs.declared.faults.RunFault.TheVariants.{Picture, ReadFault, TooLong, WriteFault, NoMemory}
 
 -- how a run ends once its answers were flushed: a failed flush is a write fault where answers were lost, and any other fault stays
@@ -32,13 +31,10 @@ run_fault_text TooLong = codes "script too long"
 run_fault_text WriteFault = codes "write fault"
 run_fault_text NoMemory = codes "no memory"
 
--- a play's fault as the run's
-abbrev pub run_fault_of : PlayFault → RunFault
-run_fault_of play_fault.TooLong = TooLong
-run_fault_of play_fault.WriteFault = WriteFault
-run_fault_of play_fault.NoMemory = NoMemory
-
--- a picture's fault as the run's: want of memory is no fault of the picture
-abbrev pub run_fault_of_picture : PictureFault → RunFault
-run_fault_of_picture picture_fault.NoMemory = NoMemory
-run_fault_of_picture fault = Picture fault
+-- a pipe's fault as the run's
+abbrev pub run_fault_of : PipeFault → RunFault
+run_fault_of (pipe_fault.Picture fault) = Picture fault
+run_fault_of (pipe_fault.Play play_fault.ReadFault) = ReadFault
+run_fault_of (pipe_fault.Play play_fault.TooLong) = TooLong
+run_fault_of (pipe_fault.Play play_fault.WriteFault) = WriteFault
+run_fault_of (pipe_fault.Play play_fault.NoMemory) = NoMemory

@@ -1,6 +1,1 @@
-pub mod Reports
-pub mod Parts
 pub mod Faults
-pub mod Outcomes
-pub mod Answers
-pub mod Ended

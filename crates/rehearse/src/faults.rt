@@ -1,9 +1,9 @@
 // Why a run ends early.
 ghost use Rattle.std.specs.Prelude.{◌≡◌};
-ghost use Rattle.rehearse.specs.Faults.{status_number};
+ghost use Rattle.rehearse.specs.Faults.{status_number, end_after_flush};
 
-use crate::plays::PlayFault;
 use reh_picture::PictureFault;
+use reh_script::{PipeFault, PlayFault, StreamFault};
 use std::alloc::AllocError;
 use std::error::Error;
 use std::io::ErrorKind;
@@ -84,31 +84,32 @@ impl From<io::Error> for RunFault {
     }
 }
 
-impl From<PlayFault> for RunFault {
+impl From<PipeFault> for RunFault {
     ghost use Rattle.std.specs.Prelude.{◌≡◌};
     ghost use Rattle.rehearse.specs.Faults.{run_fault_of};
 
-    ghost from_gives = { λ play run. run ≡ run_fault_of play };
+    ghost from_gives = { λ pipe run. run ≡ run_fault_of pipe };
 
-    fn from(fault: PlayFault) -> RunFault {
+    fn from(fault: PipeFault) -> RunFault {
         match fault {
-            PlayFault::TooLong => RunFault::TooLong,
-            PlayFault::WriteFault => RunFault::WriteFault,
-            PlayFault::NoMemory => RunFault::NoMemory,
+            PipeFault::Picture(fault) => RunFault::Picture(fault),
+            PipeFault::Play(PlayFault::ReadFault) => RunFault::ReadFault,
+            PipeFault::Play(PlayFault::TooLong) => RunFault::TooLong,
+            PipeFault::Play(PlayFault::WriteFault) => RunFault::WriteFault,
+            PipeFault::Play(PlayFault::NoMemory) => RunFault::NoMemory,
         }
     }
 }
 
-impl From<PictureFault> for RunFault {
-    ghost use Rattle.std.specs.Prelude.{◌≡◌};
-    ghost use Rattle.rehearse.specs.Faults.{run_fault_of_picture};
-
-    ghost from_gives = { λ picture run. run ≡ run_fault_of_picture picture };
-
-    fn from(fault: PictureFault) -> RunFault {
-        match fault {
-            PictureFault::NoMemory => RunFault::NoMemory,
-            fault => RunFault::Picture(fault),
-        }
+/// How a run ends once its answers were flushed: where a flush failed, answers were lost.
+pub fn after_flush(
+    played: Result<(), RunFault>,
+    flushed: Result<(), StreamFault>,
+) -> Result<(), RunFault>
+    ensures { result ≡ end_after_flush played flushed }
+{
+    match (played, flushed) {
+        (Ok(()) | Err(RunFault::TooLong), Err(StreamFault)) => Err(RunFault::WriteFault),
+        (played, _) => played,
     }
 }

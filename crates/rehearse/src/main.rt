@@ -2,21 +2,12 @@
 #![tactic(auto)]
 
 mod faults;
-mod inputs;
-mod pipes;
-mod plays;
-mod scripts;
-mod streams;
-#[cfg(test)]
-mod tests;
-mod texts;
 
-use faults::{RunFault, status_of};
-use pipes::{after_flush, pipe};
+use faults::{RunFault, after_flush, status_of};
+use reh_script::{FromRead, ToWrite, pipe};
 use std::io;
 use std::io::BufWriter;
 use std::process::ExitCode;
-use streams::{FromRead, ToWrite};
 
 fn main(rt: HostRuntime) -> ExitCode {
     match run(&rt) {
@@ -33,7 +24,7 @@ fn run(rt: &HostRuntime) -> Result<(), RunFault> {
     let mut reader = FromRead::new(rt.reader());
     let buffer = BufWriter::new(rt.alloc(), io::writer(rt))?;
     let mut writer = ToWrite::new(buffer);
-    let played = pipe(rt.alloc(), &mut reader, &mut writer);
+    let played = pipe(rt.alloc(), &mut reader, &mut writer).map_err(RunFault::from);
     let flushed = writer.flush();
     after_flush(played, flushed)
 }

@@ -1,0 +1,10 @@
+pub mod Examples
+pub mod Numbers
+pub mod LinesLemmas
+pub mod EndedLaws
+pub mod Reports
+pub mod Cuts
+pub mod Steps
+pub mod Answered
+pub mod Enough
+pub mod Ends

@@ -1,0 +1,9 @@
+pub mod Lines
+pub mod Script
+pub mod Texts
+pub mod Transcript
+pub mod Reports
+pub mod Faults
+pub mod Readings
+pub mod Plays
+pub mod Pipes

@@ -1,0 +1,62 @@
+-- How a pipe goes: what its input is, and what becomes of it.
+use Rattle.std.specs.Prelude.{◌≡◌, ℕ, ◌⊎◌, Bool, false, List, Option, Result, Ok, Err, if◌then◌else◌}
+use Rattle.std.specs.Io.KnownBytes.{Keeps}
+use Rattle.reh_model.specs.Cluster.{Cluster}
+use Rattle.reh_model.specs.Session.{Session, opened_session}
+use Rattle.reh_picture.specs.declared.faults.PictureFault.{PictureFault}
+use Rattle.reh_picture.specs.Pictures.{picture_of}
+use Rattle.reh_script.specs.Lines.{cut_of, is_told, answered_lines}
+use Rattle.reh_script.specs.Readings.{Gives}
+use Rattle.reh_script.specs.Plays.{stop_of, IsPlayed, is_write_fault}
+use Rattle.reh_script.specs.declared.faults.PlayFault.{PlayFault}
+use Rattle.reh_script.specs.declared.faults.PlayFault.TheVariants.{ReadFault, NoMemory}
+use Rattle.reh_script.specs.declared.faults.PipeFault.{PipeFault}
+use Rattle.reh_script.specs.declared.faults.PipeFault.TheVariants.{Picture, Play}
+
+-- the state that a session opens on, the lines that are answered, and the fault behind them, if there is one
+pub record Rehearsal : Type 0 where
+  pub state : Cluster
+  pub lines : List (List ℕ)
+  pub stop : Option PlayFault
+
+abbrev pub rehearsal_by : Bool → Result Cluster PictureFault → List ℕ → Result Rehearsal PipeFault
+rehearsal_by failed (Ok state) script = Ok (record { state = state; lines = answered_lines failed script; stop = stop_of failed script })
+rehearsal_by failed (Err fault) script = Err (Picture fault)
+
+-- what an input is, behind which a read failed or none did: a rehearsal, or the fault that comes before any line. A picture is judged as soon as it is told.
+abbrev pub rehearsal_of : Bool → List ℕ → Result Rehearsal PipeFault
+rehearsal_of failed input = if is_told failed input then rehearsal_by failed (picture_of (cut_of input).picture) (cut_of input).script else Err (Play ReadFault)
+
+-- a play's end as the pipe's
+abbrev pub piped : Result (Unit {0}) PlayFault → Result (Unit {0}) PipeFault
+piped (Ok x) = Ok x
+piped (Err fault) = Err (Play fault)
+
+-- The pipe's end is that of a play of the rehearsal.
+pub record EndsAsPlayed (rehearsal : Rehearsal) (result : Result (Unit {0}) PipeFault) (old new : Option (List ℕ)) : Type 0 where
+  pub end : Result (Unit {0}) PlayFault
+  pub session : Session
+  pub same : result ≡ piped end
+  pub played : IsPlayed rehearsal.lines rehearsal.stop end (opened_session rehearsal.state) session old new
+
+-- There was no memory for the picture or the session, and nothing was written.
+abbrev pub LacksState : Result (Unit {0}) PipeFault → Option (List ℕ) → Option (List ℕ) → Type 0
+LacksState result old new = (result ≡ Err (Play NoMemory)) × Keeps old new
+
+-- How a pipe ends, given what its input is.
+abbrev pub IsPiped : Result Rehearsal PipeFault → Result (Unit {0}) PipeFault → Option (List ℕ) → Option (List ℕ) → Type 0
+IsPiped (Ok rehearsal) result old new = EndsAsPlayed rehearsal result old new ⊎ LacksState result old new
+IsPiped (Err (Picture fault)) result old new = ((result ≡ Err (Picture fault)) × Keeps old new) ⊎ LacksState result old new
+IsPiped (Err (Play fault)) result old new = (result ≡ Err (Play fault)) × Keeps old new
+
+-- A pipe of the input that a reader gives, whose bytes to come were left_old and are left_new.
+pub record Pipes (result : Result (Unit {0}) PipeFault) (failed : Bool) (left_old left_new : Option (List ℕ)) (old new : Option (List ℕ)) : Type 0 where
+  pub input : List ℕ
+  pub given : Gives left_old left_new failed input
+  pub ends : IsPiped (rehearsal_of failed input) result old new
+
+-- whether a pipe ended since a write failed
+abbrev pub loses_output : Result (Unit {0}) PipeFault → Bool
+loses_output (Ok x) = is_write_fault (Ok x)
+loses_output (Err (Play fault)) = is_write_fault (Err fault)
+loses_output (Err (Picture fault)) = false

@@ -1,0 +1,73 @@
+// Why a play or a pipe ends early.
+use reh_picture::PictureFault;
+use std::alloc::AllocError;
+
+/// Why the lines of a script are not all answered.
+#[derive(Clone, Copy, PartialEq, Eq, Debug)]
+pub enum PlayFault {
+    /// A read failed.
+    ReadFault,
+    /// The script is longer than 1,048,576 bytes. The lines that end among these were answered.
+    TooLong,
+    /// A write failed, or took no byte.
+    WriteFault,
+    /// There is no memory for an answer.
+    NoMemory,
+}
+
+/// Why an input is not played to its end.
+#[derive(Debug, Drop)]
+pub enum PipeFault {
+    /// The picture is refused.
+    Picture(PictureFault),
+    /// The script is not played to its end.
+    Play(PlayFault),
+}
+
+impl From<AllocError> for PlayFault {
+    ghost use Rattle.std.specs.Prelude.{◌≡◌};
+    ghost use Rattle.reh_script.specs.declared.faults.PlayFault.TheVariants.{NoMemory};
+
+    ghost from_gives = { λ _ fault. fault ≡ NoMemory };
+
+    fn from(_want: AllocError) -> PlayFault {
+        PlayFault::NoMemory
+    }
+}
+
+impl From<AllocError> for PipeFault {
+    ghost use Rattle.std.specs.Prelude.{◌≡◌};
+    ghost use Rattle.reh_script.specs.declared.faults.PlayFault.TheVariants.{NoMemory};
+    ghost use Rattle.reh_script.specs.declared.faults.PipeFault.TheVariants.{Play};
+
+    ghost from_gives = { λ _ fault. fault ≡ Play NoMemory };
+
+    fn from(_want: AllocError) -> PipeFault {
+        PipeFault::Play(PlayFault::NoMemory)
+    }
+}
+
+impl From<PlayFault> for PipeFault {
+    ghost use Rattle.std.specs.Prelude.{◌≡◌};
+    ghost use Rattle.reh_script.specs.declared.faults.PipeFault.TheVariants.{Play};
+
+    ghost from_gives = { λ play fault. fault ≡ Play play };
+
+    fn from(fault: PlayFault) -> PipeFault {
+        PipeFault::Play(fault)
+    }
+}
+
+impl From<PictureFault> for PipeFault {
+    ghost use Rattle.std.specs.Prelude.{◌≡◌};
+    ghost use Rattle.reh_script.specs.Faults.{pipe_fault_of};
+
+    ghost from_gives = { λ picture fault. fault ≡ pipe_fault_of picture };
+
+    fn from(fault: PictureFault) -> PipeFault {
+        match fault {
+            PictureFault::NoMemory => PipeFault::Play(PlayFault::NoMemory),
+            fault => PipeFault::Picture(fault),
+        }
+    }
+}

@@ -1,0 +1,20 @@
+// Scripts: their lines, their answers, and the input that holds a picture and a script.
+#![tactic(auto)]
+
+mod faults;
+mod inputs;
+mod pipes;
+mod plays;
+mod readings;
+mod scripts;
+mod streams;
+#[cfg(test)]
+mod tests;
+mod texts;
+
+pub use faults::{PipeFault, PlayFault};
+pub use pipes::pipe;
+pub use plays::play;
+pub use scripts::parse_line;
+pub use streams::{FromRead, StreamFault, TextIn, TextOut, ToWrite};
+pub use texts::report_text;

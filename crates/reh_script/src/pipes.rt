@@ -1,0 +1,55 @@
+// From the bytes of the input to the bytes of the transcript.
+ghost use Rattle.std.specs.Prelude.{◌≡◌, ◌+◌, ◌≤◌, false};
+ghost use Rattle.reh_script.specs.Pipes.{rehearsal_of, IsPiped, Pipes, loses_output};
+
+use crate::faults::{PipeFault, PlayFault};
+use crate::inputs::{is_told, split_input};
+use crate::plays::answer_script;
+use crate::readings::read;
+use crate::streams::{TextIn, TextOut};
+use reh_picture::read_picture;
+use reh_session::Session;
+use reh_types::{MAX_PICTURE_BYTES, MAX_SCRIPT_BYTES};
+use std::alloc::Global;
+
+/// So many bytes are enough to know a picture or a script that is too long: a picture of 8,388,608 bytes, LF, `%`, CR, LF, and a script of one byte more than there can be.
+const MAX_INPUT: usize = MAX_PICTURE_BYTES + 4 + MAX_SCRIPT_BYTES + 1;
+
+/// Reads a picture, a line `%` and a script, and writes the transcript: an answer to each line of the script that has one.
+///
+/// A picture's fault comes before any other. A script that is too long, and one behind which a read fails, have the lines answered that end in time.
+pub fn pipe<R: TextIn, W: TextOut>(
+    alloc: Global,
+    reader: &mut R,
+    writer: &mut W,
+) -> Result<(), PipeFault>
+    requires reads { R.has_failed reader.old ≡ false }
+    requires writes { W.has_failed writer.old ≡ false }
+    ensures pipes { Pipes result (R.has_failed reader.new) (R.remaining reader.old) (R.remaining reader.new) (W.contents writer.old) (W.contents writer.new) }
+    ensures write { W.has_failed writer.new ≡ loses_output result }
+    ensures calls { R.calls reader.new ≤ R.calls reader.old + MAX_INPUT }
+{
+    let input = read(alloc, reader, MAX_INPUT)?;
+    transcribe(alloc, &input.bytes, input.failed, writer)
+}
+
+/// Writes the transcript of an input, behind which a read has failed or none has.
+fn transcribe<W: TextOut>(
+    alloc: Global,
+    input: &[u8],
+    failed: bool,
+    writer: &mut W,
+) -> Result<(), PipeFault>
+    requires { W.has_failed writer.old ≡ false }
+    ensures piped { IsPiped (rehearsal_of failed input.now) result (W.contents writer.old) (W.contents writer.new) }
+    ensures write { W.has_failed writer.new ≡ loses_output result }
+{
+    if !is_told(input, failed) {
+        return Err(PipeFault::Play(PlayFault::ReadFault));
+    }
+    let (picture, script) = split_input(input);
+    let state = read_picture(alloc, picture)?;
+    let mut session = Session::open(alloc, state)?;
+    answer_script(alloc, &mut session, script, failed, writer)?;
+    Ok(())
+}
