@@ -15,6 +15,7 @@ mod texts;
 pub use faults::{PipeFault, PlayFault};
 pub use pipes::pipe;
 pub use plays::play;
+pub use readings::{Reading, read};
 pub use scripts::parse_line;
 pub use streams::{FromRead, StreamFault, TextIn, TextOut, ToWrite};
 pub use texts::report_text;

@@ -12,6 +12,7 @@ use Rattle.rehearse.specs.declared.faults.RunFault.TheVariants.{Picture, ReadFau
 abbrev pub end_after_flush : Result (Unit {0}) RunFault → Result (Unit {0}) StreamFault → Result (Unit {0}) RunFault
 end_after_flush played (Ok flushed) = played
 end_after_flush (Ok played) (Err lost) = Err WriteFault
+end_after_flush (Err ReadFault) (Err lost) = Err WriteFault
 end_after_flush (Err TooLong) (Err lost) = Err WriteFault
 end_after_flush (Err fault) (Err lost) = Err fault
 

@@ -66,20 +66,20 @@ impl From<AllocError> for RunFault {
     }
 }
 
-/// A call on standard input or output that failed, or want of memory for its buffer.
+/// A word or a file that can't be read, or want of memory.
 impl From<io::Error> for RunFault {
     ghost use Rattle.std.specs.Prelude.{◌≡◌, ◌≢◌};
     ghost use Rattle.std.specs.IoError.{error_kind};
     ghost use Rattle.std.specs.declared.io.ErrorKind.TheVariants.{OutOfMemory};
-    ghost use Rattle.rehearse.specs.declared.faults.RunFault.TheVariants.{NoMemory, WriteFault};
+    ghost use Rattle.rehearse.specs.declared.faults.RunFault.TheVariants.{NoMemory, ReadFault};
 
     ghost from_gives = { λ error fault. (error_kind error ≡ OutOfMemory → fault ≡ NoMemory)
-        × (error_kind error ≢ OutOfMemory → fault ≡ WriteFault) };
+        × (error_kind error ≢ OutOfMemory → fault ≡ ReadFault) };
 
     fn from(error: io::Error) -> RunFault {
         match error.kind() {
             ErrorKind::OutOfMemory => RunFault::NoMemory,
-            _ => RunFault::WriteFault,
+            _ => RunFault::ReadFault,
         }
     }
 }
@@ -101,6 +101,30 @@ impl From<PipeFault> for RunFault {
     }
 }
 
+impl From<PlayFault> for RunFault {
+    ghost use Rattle.std.specs.Prelude.{◌≡◌};
+    ghost use Rattle.reh_script.specs.declared.faults.PipeFault.TheVariants.{Play};
+    ghost use Rattle.rehearse.specs.Faults.{run_fault_of};
+
+    ghost from_gives = { λ play run. run ≡ run_fault_of (Play play) };
+
+    fn from(fault: PlayFault) -> RunFault {
+        RunFault::from(PipeFault::Play(fault))
+    }
+}
+
+impl From<PictureFault> for RunFault {
+    ghost use Rattle.std.specs.Prelude.{◌≡◌};
+    ghost use Rattle.reh_script.specs.Faults.{pipe_fault_of};
+    ghost use Rattle.rehearse.specs.Faults.{run_fault_of};
+
+    ghost from_gives = { λ picture run. run ≡ run_fault_of (pipe_fault_of picture) };
+
+    fn from(fault: PictureFault) -> RunFault {
+        RunFault::from(PipeFault::from(fault))
+    }
+}
+
 /// How a run ends once its answers were flushed: where a flush failed, answers were lost.
 pub fn after_flush(
     played: Result<(), RunFault>,
@@ -109,7 +133,17 @@ pub fn after_flush(
     ensures { result ≡ end_after_flush played flushed }
 {
     match (played, flushed) {
-        (Ok(()) | Err(RunFault::TooLong), Err(StreamFault)) => Err(RunFault::WriteFault),
+        (Ok(()) | Err(RunFault::ReadFault | RunFault::TooLong), Err(StreamFault)) => {
+            Err(RunFault::WriteFault)
+        }
         (played, _) => played,
+    }
+}
+
+/// Whether a command line wasn't read for want of memory.
+pub(crate) fn want_of_memory(error: &clap::Error) -> Result<(), RunFault> {
+    match error.kind() {
+        clap::error::ErrorKind::OutOfMemory => Err(RunFault::NoMemory),
+        _ => Ok(()),
     }
 }

@@ -1,16 +1,40 @@
-// Rehearses events on a picture of a cluster: standard input has the picture, a line `%` and a script.
+// Rehearses events on a picture of a cluster: from standard input, or from files.
 #![tactic(auto)]
 
 mod faults;
+mod tasks;
 
-use faults::{RunFault, after_flush, status_of};
-use reh_script::{FromRead, ToWrite, pipe};
-use std::io;
-use std::io::BufWriter;
+use clap::Error;
+use faults::{RunFault, after_flush, status_of, want_of_memory};
+use reh_picture::read_picture;
+use reh_script::{FromRead, ToWrite, play, pipe, read};
+use reh_session::Session;
+use reh_types::MAX_PICTURE_BYTES;
+use std::io::{BufWriter, Write};
 use std::process::ExitCode;
+use std::{env, fs, io};
+use tasks::{Task, task_of};
 
 fn main(rt: HostRuntime) -> ExitCode {
-    match run(&rt) {
+    let words = match words(&rt) {
+        Ok(words) => words,
+        Err(fault) => return end(&rt, Err(fault)),
+    };
+    match task_of(rt.alloc(), &words) {
+        Ok(task) => end(&rt, run(&rt, task)),
+        Err(error) => show(&rt, &error),
+    }
+}
+
+/// The words of the command line. A word that is no text names no file.
+fn words(rt: &HostRuntime) -> Result<Vec<String>, RunFault> {
+    let words = env::args(rt)?;
+    Ok(words.collect(rt.alloc())?)
+}
+
+/// Ends with the status of a run, and says its fault, if it has one.
+fn end(rt: &HostRuntime, run: Result<(), RunFault>) -> ExitCode {
+    match run {
         Ok(()) => ExitCode::SUCCESS,
         Err(fault) => {
             let _ = eprintln!(rt; "{fault}");
@@ -19,12 +43,53 @@ fn main(rt: HostRuntime) -> ExitCode {
     }
 }
 
-/// Plays standard input to standard output. What was answered before a fault is written too.
-fn run(rt: &HostRuntime) -> Result<(), RunFault> {
-    let mut reader = FromRead::new(rt.reader());
+/// Shows help, or what is wrong with the command line.
+fn show(rt: &HostRuntime, error: &Error) -> ExitCode {
+    if let Err(fault) = want_of_memory(error) {
+        return end(rt, Err(fault));
+    }
+    if error.print(rt).is_err() {
+        return end(rt, Err(RunFault::WriteFault));
+    }
+    if error.use_stderr() {
+        ExitCode::from(2)
+    } else {
+        ExitCode::SUCCESS
+    }
+}
+
+/// Does what is asked for, to standard output. What was answered before a fault is written too.
+fn run(rt: &HostRuntime, task: Task<'_>) -> Result<(), RunFault> {
     let buffer = BufWriter::new(rt.alloc(), io::writer(rt))?;
     let mut writer = ToWrite::new(buffer);
-    let played = pipe(rt.alloc(), &mut reader, &mut writer).map_err(RunFault::from);
+    let played = match task {
+        Task::Pipe => {
+            let mut reader = FromRead::new(rt.reader());
+            pipe(rt.alloc(), &mut reader, &mut writer).map_err(RunFault::from)
+        }
+        Task::Run { picture, script } => run_files(rt, picture, script, &mut writer),
+    };
     let flushed = writer.flush();
     after_flush(played, flushed)
+}
+
+/// Plays a script file on a picture file. The picture is judged before the script is opened.
+fn run_files<W: Write>(
+    rt: &HostRuntime,
+    picture: &str,
+    script: &str,
+    writer: &mut ToWrite<W>,
+) -> Result<(), RunFault>
+    requires { writer.old.has_failed ≡ false }
+{
+    let mut reader = FromRead::new(fs::open(rt, picture)?);
+    let picture = read(rt.alloc(), &mut reader, MAX_PICTURE_BYTES + 1)?;
+    if picture.failed {
+        return Err(RunFault::ReadFault);
+    }
+    let state = read_picture(rt.alloc(), &picture.bytes)?;
+    let mut session = Session::open(rt.alloc(), state)?;
+    let mut reader = FromRead::new(fs::open(rt, script)?);
+    play(rt.alloc(), &mut session, &mut reader, writer)?;
+    Ok(())
 }
