@@ -1,3 +1,4 @@
+-- A wrong place refuses the swap first; behind it comes the first striped entry that the worker's bookie lacks.
 use Rattle.std.proofs.Common.{◌≡◌, ◌∙◌, ap, sym, rules, not, ℕ, Bool, [], ◌∷◌, List, Option, Some}
 use Rattle.std.specs.List.{find}
 use Rattle.std.specs.Option.{option_map}
@@ -18,8 +19,11 @@ more s w f i g = missing_entry s w g f i ∷ version_end g ∷ []
 pub returns-in_err-ledger : goal.returns-in_err-ledger
 returns-in_err-ledger c =
     let s : Cluster = c.args.state.now in
-    search (rules, refused_before s c.args.worker c.args.ledger (place_checks s c.args.worker c.args.fragment c.args.index c.args.version) (more s c.args.worker c.args.fragment c.args.index)
-    _ c.in_err-ledger.ensures)
+    search (
+      rules,
+      refused_before s c.args.worker c.args.ledger (place_checks s c.args.worker c.args.fragment c.args.index c.args.version) (more s c.args.worker c.args.fragment c.args.index)
+          _ c.in_err-ledger.ensures,
+    )
 
 pub returns-in-Some : goal.returns-in-Some
 returns-in-Some c =
