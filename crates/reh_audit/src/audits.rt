@@ -35,7 +35,9 @@ fn published_tasks(
     up: &BookieSet,
 ) -> Result<Vec<(LedgerId, BookieSet)>, AllocError>
     requires { All HasBookies ledgers.now }
-    ensures { IfOk result (λ tasks. tasks.items ≡ map (λ g. (g.id, model.published_members up.now g)) (filter (model.is_news up.now) ledgers.now)) }
+    ensures { IfOk result (λ tasks. tasks.items
+        ≡ map (λ g. (g.id, model.published_members up.now g))
+        (filter (model.is_news up.now) ledgers.now)) }
 {
     let mut tasks = Vec::new(alloc);
     for ledger in ledgers {

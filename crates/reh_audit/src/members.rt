@@ -14,7 +14,8 @@ use reh_types::{BookieSet, LedgerId};
 /// ledger's metadata.
 pub fn missing(state: &State, ledger: LedgerId) -> BookieSet
     requires { IsSome (ledger_at state.now ledger) }
-    ensures { ForSome (ledger_at state.now ledger) (λ g. result ≡ model.missing_members state.now.up g) }
+    ensures { ForSome (ledger_at state.now ledger)
+        (λ g. result ≡ model.missing_members state.now.up g) }
 {
     let up = state.up();
     let found = state.ledger(ledger).unwrap();
@@ -25,7 +26,8 @@ pub fn missing(state: &State, ledger: LedgerId) -> BookieSet
 /// under-replicated there. The ledger has to be in the picture.
 pub fn under(state: &State, ledger: LedgerId) -> Option<u64>
     requires { IsSome (ledger_at state.now ledger) }
-    ensures { ForSome (ledger_at state.now ledger) (λ g. result ≡ model.first_under state.now.up g) }
+    ensures { ForSome (ledger_at state.now ledger)
+        (λ g. result ≡ model.first_under state.now.up g) }
 {
     let found = state.ledger(ledger).unwrap();
     under_of(state, found)

@@ -1,4 +1,4 @@
--- A list of names that is seen through a function.
+-- Names by their bytes: what is found among them, their copies, and that they are few and different.
 use Rattle.std.proofs.Common.{◌≡◌, ℕ, Bool, List, [], ◌∷◌, map, position, length, nat_lt, cond, not, refl, sym, ap, ◌∙◌, Some, None, ◌+◌, ◌≤◌, arith, subst, String, false}
 use Rattle.std.proofs.lemmas.List.{length-map}
 use Rattle.std.specs.List.{prefix_len, position_or_len, AllZip, AllByRecursion, IsDistinct}

@@ -164,7 +164,8 @@ impl Ledger {
     ) -> Result<(), AllocError>
         requires fragment { fragment < length self.old.metadata.fragments }
         requires index { index < self.old.metadata.size }
-        requires new { ForSome (slice_get self.old.metadata.fragments fragment) (λ old. list_any (λ member. member == bookie) old.ensemble ≡ false) }
+        requires new { ForSome (slice_get self.old.metadata.fragments fragment)
+            (λ old. list_any (λ member. member == bookie) old.ensemble ≡ false) }
         requires version { self.old.metadata.version < MAX_VERSION }
         ensures ok { OnOk result (self.new ≡ swapped_ledger fragment index bookie self.old) }
         ensures err { OnErr result (self.new ≡ self.old) }
@@ -210,7 +211,8 @@ fn missing_among(ensemble: &[BookieIx], up: &BookieSet) -> BookieSet
 /// The members of all ensembles that aren't registered.
 fn missing_from(fragments: &[Fragment], up: &BookieSet) -> BookieSet
     requires { All (λ fragment. All (λ b. b < MAX_BOOKIES) fragment.ensemble) fragments.now }
-    ensures { result ≡ set.from_list (filter (λ b. not (set.contains up.now b)) (flat_map (λ fragment. fragment.ensemble) fragments.now)) }
+    ensures { result ≡ set.from_list (filter (λ b. not (set.contains up.now b))
+        (flat_map (λ fragment. fragment.ensemble) fragments.now)) }
 {
     let mut missing = BookieSet::new();
     for fragment in fragments {

@@ -57,7 +57,8 @@ impl Names {
     pub fn add(&mut self, name: &str) -> Result<bool, AllocError>
         requires { length self.old < MAX_BOOKIES }
         ensures new { IfOk result (λ new. new ≡ not (list_any (bytes_eq name.now) self.old)) }
-        ensures added { IfOk result (λ new. self.new ≡ (if new then self.old ++ name.now ∷ [] else self.old)) }
+        ensures added { IfOk result
+            (λ new. self.new ≡ (if new then self.old ++ name.now ∷ [] else self.old)) }
         ensures err { OnErr result (self.new ≡ self.old) }
     {
         let owned = String::from_str(self.names.allocator().clone()?, name)?;

@@ -227,7 +227,8 @@ impl State {
     pub fn hold(&mut self, bookie: BookieIx, ledger: LedgerId, entry: u32) -> Result<(), AllocError>
         requires bookie { bookie < length self.old.names }
         requires held { IsHeld self.old.held ledger entry }
-        ensures ok { OnOk result (self.new ≡ record self.old { held = set.insert self.old.held (bookie, ledger, entry) }) }
+        ensures ok { OnOk result (self.new
+            ≡ record self.old { held = set.insert self.old.held (bookie, ledger, entry) }) }
         ensures err { OnErr result (self.new ≡ self.old) }
     {
         self.held.add(bookie, ledger, entry)
@@ -245,7 +246,8 @@ impl State {
         version: u64,
     ) -> Result<(), AllocError>
         requires { refusal_of self.old (Swap worker ledger fragment index version) ≡ None }
-        ensures ok { OnOk result (self.new ≡ after self.old (Swap worker ledger fragment index version)) }
+        ensures ok { OnOk result
+            (self.new ≡ after self.old (Swap worker ledger fragment index version)) }
         ensures err { OnErr result (self.new ≡ self.old) }
     {
         if let Some(place) = place_of(&self.ledgers, ledger) {

@@ -58,7 +58,8 @@ impl Held {
 
     /// The bookie holds the entry of the ledger from now on. Want of memory leaves the contents as they were.
     pub fn add(&mut self, bookie: BookieIx, ledger: LedgerId, entry: u32) -> Result<(), AllocError>
-        ensures ok { OnOk result (self.new.contents ≡ set.insert self.old.contents (bookie, ledger, entry)) }
+        ensures ok { OnOk result
+            (self.new.contents ≡ set.insert self.old.contents (bookie, ledger, entry)) }
         ensures err { OnErr result (self.new ≡ self.old) }
     {
         let greatest = self.greatest(ledger);

@@ -71,7 +71,8 @@ fn are_rising(fragments: &[Fragment]) -> bool
 
 // Whether each fragment has an ensemble of this size.
 pub(crate) fn have_ensembles(fragments: &[Fragment], size: u64) -> bool
-    ensures { result ≡ list_all (λ fragment. meta.is_ensemble size fragment.ensemble) fragments.now }
+    ensures { result
+        ≡ list_all (λ fragment. meta.is_ensemble size fragment.ensemble) fragments.now }
 {
     fragments
         .iter()

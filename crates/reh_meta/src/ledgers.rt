@@ -214,9 +214,11 @@ impl LedgerMeta {
     ) -> Result<LedgerMeta, AllocError>
         requires fragment { fragment < length self.now.fragments }
         requires index { index < self.now.size }
-        requires new { ForSome (slice_get self.now.fragments fragment) (λ old. list_any (λ member. member == bookie) old.ensemble ≡ false) }
+        requires new { ForSome (slice_get self.now.fragments fragment)
+            (λ old. list_any (λ member. member == bookie) old.ensemble ≡ false) }
         requires version { self.now.version < MAX_VERSION }
-        ensures { IfOk result (λ changed. changed ≡ meta.next_version (meta.with_member_at self.now fragment index bookie)) }
+        ensures { IfOk result (λ changed. changed
+            ≡ meta.next_version (meta.with_member_at self.now fragment index bookie)) }
     {
         let mut fragments = self.fragments.clone()?;
         fragments[fragment].replace(index, bookie);

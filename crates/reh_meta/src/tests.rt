@@ -29,7 +29,8 @@ fn two_fragments(
     members: [u8; 3],
 ) -> Result<Vec<Fragment>, AllocError>
     ensures count { IfOk result (λ fragments. length fragments.items ≤ 256) }
-    ensures firsts { IfOk result (λ fragments. All (λ fragment. fragment.first < 2 ^ 16) fragments.items) }
+    ensures firsts { IfOk result
+        (λ fragments. All (λ fragment. fragment.first < 2 ^ 16) fragments.items) }
 {
     let first = fragment(alloc, firsts.0, [0, 1, 2])?;
     let second = fragment(alloc, firsts.1, members)?;

@@ -21,7 +21,7 @@ use Rattle.reh_model.specs.Cluster.{Cluster, Ledger, is_up, holds, is_readable, 
 use Rattle.reh_model.specs.Checks.{first_reason, reason_if}
 use Rattle.reh_model.specs.Refusals.{with_ledger, at_ledger, with_fragment, no_bookie, already_up, no_task, lock_held, bad_tick, clock_end, stale_version, not_owner, no_index, member_up, target_down, target_is_member, no_endpoint, no_place, no_source, missing_entry, version_end}
 use Rattle.reh_model.specs.Step.{refusal_of, place_checks, copy_checks, swap_checks}
-use Rattle.reh_model.specs.Session.{Session, state_of, done_unless, no_room, reply_to}
+use Rattle.reh_model.specs.Session.{Session, state_of, reply_unless, no_room, reply_to}
 use Rattle.reh_model.specs.Swaps.{HoldsStripe}
 use Rattle.reh_model.proofs.CheckLaws.{reason_if-none, find-none, check-none, first_reason-only, first_reason-found, first_reason-passed}
 use Rattle.reh_model.proofs.LedgerLaws.{id_found, stop_at-found, stripe_at-found}
@@ -199,7 +199,7 @@ accepted_swap_holds s w l f i v none =
     All-weaker (λ e. not (holds s w g.id e) ≡ false) (λ e. holds s w g.id e ≡ true) (λ e is. not_not (holds s w g.id e) is) entries (find-none (λ e. not (holds s w g.id e)) (λ e. MissingEntry e) entries lacks) in (
       subst (λ (o : Option ℕ). IsSome o) (sym (stop_at-found s l f g found.is)) ends,
       subst (λ (es : List ℕ). All (λ e. holds s w l e ≡ true) es) (sym (stripe_at-found s l f i g found.is))
-      (subst (λ (k : ℕ). All (λ e. holds s w k e ≡ true) entries) (id_found l s.ledgers g found.is) each),
+          (subst (λ (k : ℕ). All (λ e. holds s w k e ≡ true) entries) (id_found l s.ledgers g found.is) each),
     )
 
 -- A session's moves
@@ -207,17 +207,17 @@ accepted_swap_holds s w l f i v none =
 -- an event that is done was not refused
 pub done_accepted : (m : Session) (event : Event) → reply_to m (Do event) ≡ Done → refusal_of (state_of m) event ≡ None
 done_accepted m event done = none (refusal_of (state_of m) event) done where
-  none : (o : Option Refusal) → done_unless (first_reason (o ∷ no_room m ∷ [])) ≡ Done → o ≡ None
+  none : (o : Option Refusal) → reply_unless (first_reason (o ∷ no_room m ∷ [])) ≡ Done → o ≡ None
   none None is = refl
   none (Some refusal) is = cc
 
 -- an event that is refused is answered so
 pub refused_first : (m : Session) (event : Event) (refusal : Refusal) → refusal_of (state_of m) event ≡ Some refusal → reply_to m (Do event) ≡ Refused refusal
-refused_first m event refusal is = ap (λ (o : Option Refusal). done_unless (first_reason (o ∷ no_room m ∷ []))) is
+refused_first m event refusal is = ap (λ (o : Option Refusal). reply_unless (first_reason (o ∷ no_room m ∷ []))) is
 
 -- an event that is not refused is done, where there is room
 pub done_within : (m : Session) (event : Event) → refusal_of (state_of m) event ≡ None → length m.done < MAX_EVENTS → reply_to m (Do event) ≡ Done
 done_within m event accepted room =
     let few : nat_le MAX_EVENTS (length m.done) ≡ false = grind (arith, nat_tests) in
-    ap (λ (o : Option Refusal). done_unless (first_reason (o ∷ no_room m ∷ []))) accepted
-    ∙ ap (λ (b : Bool). done_unless (first_reason (reason_if b Full ∷ []))) few
+    ap (λ (o : Option Refusal). reply_unless (first_reason (o ∷ no_room m ∷ []))) accepted
+    ∙ ap (λ (b : Bool). reply_unless (first_reason (reason_if b Full ∷ []))) few

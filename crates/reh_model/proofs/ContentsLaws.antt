@@ -146,27 +146,27 @@ greatest_among-cons k t ts =
     ]
 
 -- the copies that entries with no value list
-abbrev listed : List ((ℕ × ℕ × ℕ) × Unit {0}) → List (ℕ × ℕ × ℕ)
-listed es = map (λ e. e.0) es
+abbrev copies_in : List ((ℕ × ℕ × ℕ) × Unit {0}) → List (ℕ × ℕ × ℕ)
+copies_in es = map (λ e. e.0) es
 
-greatest_among-put : (k : ℕ) (t : ℕ × ℕ × ℕ) (es : List ((ℕ × ℕ × ℕ) × Unit {0})) → greatest_among k (listed (put triple_cmp t tt es)) ≡ with_entry (t.1 == k) t.2 (greatest_among k (listed es))
+greatest_among-put : (k : ℕ) (t : ℕ × ℕ × ℕ) (es : List ((ℕ × ℕ × ℕ) × Unit {0})) → greatest_among k (copies_in (put triple_cmp t tt es)) ≡ with_entry (t.1 == k) t.2 (greatest_among k (copies_in es))
 greatest_among-put k t [] = greatest_among-cons k t []
 greatest_among-put k t (e ∷ es) =
     elim (triple_cmp t e.0) as (λ r. triple_cmp t e.0 ≡ r
-    → greatest_among k (listed (by_order r ((t, tt) ∷ e ∷ es) ((e.0, tt) ∷ es) (e ∷ put triple_cmp t tt es))) ≡ with_entry (t.1 == k) t.2 (greatest_among k (listed (e ∷ es)))) [
-      | Less ↦ λ _. greatest_among-cons k t (listed (e ∷ es))
+    → greatest_among k (copies_in (by_order r ((t, tt) ∷ e ∷ es) ((e.0, tt) ∷ es) (e ∷ put triple_cmp t tt es))) ≡ with_entry (t.1 == k) t.2 (greatest_among k (copies_in (e ∷ es)))) [
+      | Less ↦ λ _. greatest_among-cons k t (copies_in (e ∷ es))
       | Equal ↦ λ tie.
           let same : t ≡ e.0 = triple_exact t e.0 tie in
-          let here = greatest_among-cons k e.0 (listed es) in
+          let here = greatest_among-cons k e.0 (copies_in es) in
           here
-          ∙ with_entry-twice (e.0.1 == k) e.0.2 (greatest_among k (listed es))
-          ∙ ap (λ (x : ℕ × ℕ × ℕ). with_entry (x.1 == k) x.2 (with_entry (e.0.1 == k) e.0.2 (greatest_among k (listed es)))) (sym same)
+          ∙ with_entry-twice (e.0.1 == k) e.0.2 (greatest_among k (copies_in es))
+          ∙ ap (λ (x : ℕ × ℕ × ℕ). with_entry (x.1 == k) x.2 (with_entry (e.0.1 == k) e.0.2 (greatest_among k (copies_in es)))) (sym same)
           ∙ ap (with_entry (t.1 == k) t.2) (sym here)
       | Greater ↦ λ _.
-          greatest_among-cons k e.0 (listed (put triple_cmp t tt es))
+          greatest_among-cons k e.0 (copies_in (put triple_cmp t tt es))
           ∙ ap (with_entry (e.0.1 == k) e.0.2) (greatest_among-put k t es)
-          ∙ with_entry-turned (e.0.1 == k) (t.1 == k) e.0.2 t.2 (greatest_among k (listed es))
-          ∙ ap (with_entry (t.1 == k) t.2) (sym (greatest_among-cons k e.0 (listed es)))
+          ∙ with_entry-turned (e.0.1 == k) (t.1 == k) e.0.2 t.2 (greatest_among k (copies_in es))
+          ∙ ap (with_entry (t.1 == k) t.2) (sym (greatest_among-cons k e.0 (copies_in es)))
     ] refl
 
 -- after one copy is added, its ledger's greatest entry is the greater of that and its own, and those of other ledgers stay
@@ -245,16 +245,16 @@ All-copy P contents all t one = found_in (items contents) all (sym (contains-ite
 
 -- How many entries a bookie holds
 
-count_by-put : (p : ℕ × ℕ × ℕ → Bool) (t : ℕ × ℕ × ℕ) (es : List ((ℕ × ℕ × ℕ) × Unit {0})) → list_any (eq_by_cmp triple_cmp t) (listed es) ≡ false
-    → count_by p (listed (put triple_cmp t tt es)) ≡ cond (p t) 1 0 + count_by p (listed es)
+count_by-put : (p : ℕ × ℕ × ℕ → Bool) (t : ℕ × ℕ × ℕ) (es : List ((ℕ × ℕ × ℕ) × Unit {0})) → list_any (eq_by_cmp triple_cmp t) (copies_in es) ≡ false
+    → count_by p (copies_in (put triple_cmp t tt es)) ≡ cond (p t) 1 0 + count_by p (copies_in es)
 count_by-put p t [] new = sum_by-cons (λ x. cond (p x) 1 0) t []
 count_by-put p t (e ∷ es) new =
     let one_more = λ (x : ℕ × ℕ × ℕ) (xs : List (ℕ × ℕ × ℕ)). sum_by-cons (λ y. cond (p y) 1 0) x xs in
-    elim (triple_cmp t e.0) as (λ r. (is_eq r || list_any (eq_by_cmp triple_cmp t) (listed es)) ≡ false
-    → count_by p (listed (by_order r ((t, tt) ∷ e ∷ es) ((e.0, tt) ∷ es) (e ∷ put triple_cmp t tt es))) ≡ cond (p t) 1 0 + count_by p (listed (e ∷ es))) [
-      | Less ↦ λ _. one_more t (listed (e ∷ es))
+    elim (triple_cmp t e.0) as (λ r. (is_eq r || list_any (eq_by_cmp triple_cmp t) (copies_in es)) ≡ false
+    → count_by p (copies_in (by_order r ((t, tt) ∷ e ∷ es) ((e.0, tt) ∷ es) (e ∷ put triple_cmp t tt es))) ≡ cond (p t) 1 0 + count_by p (copies_in (e ∷ es))) [
+      | Less ↦ λ _. one_more t (copies_in (e ∷ es))
       | Equal ↦ λ (held : true ≡ false). cc
-      | Greater ↦ λ new. omega (arith, count_by-put p t es new, one_more e.0 (listed (put triple_cmp t tt es)), one_more e.0 (listed es))
+      | Greater ↦ λ new. omega (arith, count_by-put p t es new, one_more e.0 (copies_in (put triple_cmp t tt es)), one_more e.0 (copies_in es))
     ] new
 
 -- after a copy is added that was not held, its bookie holds one more, and others as many as before

@@ -18,8 +18,8 @@ use Rattle.reh_model.proofs.Examples.{replies, played_session}
 use Rattle.reh_model.proofs.TaskExamples.{five_bookies, closed_ledger, open_ledger}
 
 -- the second bookie is lost, and the fourth bookie's worker locks the ledger's task
-abbrev lock_held : ℕ → List Move
-lock_held ledger = Do (Lose 1) ∷ Do Audit ∷ Do (Acquire 3 ledger) ∷ []
+abbrev loss_and_lock : ℕ → List Move
+loss_and_lock ledger = Do (Lose 1) ∷ Do Audit ∷ Do (Acquire 3 ledger) ∷ []
 
 -- what that worker then does for the lost member
 abbrev copy : Move
@@ -33,11 +33,11 @@ finish = Do (Finish 3 7)
 
 -- the replies to the moves behind those that lock the closed ledger's task
 abbrev answers : Cluster → List Move → List Reply
-answers s moves = replies (played_session (opened_session s) (lock_held 7)) moves
+answers s moves = replies (played_session (opened_session s) (loss_and_lock 7)) moves
 
 -- the state after them
 abbrev state_after : Cluster → List Move → Cluster
-state_after s moves = state_of (played_session (opened_session s) (lock_held 7 ++ moves))
+state_after s moves = state_of (played_session (opened_session s) (loss_and_lock 7 ++ moves))
 
 -- the entries of a ledger that a bookie holds
 abbrev pub entries_of : Cluster → ℕ → ℕ → List ℕ
@@ -54,33 +54,33 @@ abbrev lock_of : Cluster → Option Lock
 lock_of s = option_and_then (λ g. g.lock) (ledger_at s 7)
 
 -- the fourth bookie holds one of the entries already
-abbrev one_held : Cluster
-one_held = record five_bookies { held = insert five_bookies.held (3, 7, 3) }
+abbrev bookies_with_a_copy : Cluster
+bookies_with_a_copy = record five_bookies { held = insert five_bookies.held (3, 7, 3) }
 
 -- the third bookie lacks an entry that only the second one has besides
-abbrev one_lacking : Cluster
-one_lacking = record five_bookies { held = remove five_bookies.held (2, 7, 1) }
+abbrev bookies_without_a_source : Cluster
+bookies_without_a_source = record five_bookies { held = remove five_bookies.held (2, 7, 1) }
 
 -- a closed ledger without entries stands beside the others
-abbrev one_empty : Cluster
-one_empty = record five_bookies { ledgers = record closed_ledger { id = 5; metadata = record closed_ledger.metadata { state = Closed 0 } } ∷ five_bookies.ledgers }
+abbrev bookies_with_an_empty_ledger : Cluster
+bookies_with_an_empty_ledger = record five_bookies { ledgers = record closed_ledger { id = 5; metadata = record closed_ledger.metadata { state = Closed 0 } } ∷ five_bookies.ledgers }
 
 -- the closed ledger is at the last version
-abbrev at_last_version : Cluster
-at_last_version = record five_bookies { ledgers = record closed_ledger { metadata = record closed_ledger.metadata { version = 10 ^ 12 } } ∷ open_ledger ∷ [] }
+abbrev cluster_at_last_version : Cluster
+cluster_at_last_version = record five_bookies { ledgers = record closed_ledger { metadata = record closed_ledger.metadata { version = 10 ^ 12 } } ∷ open_ledger ∷ [] }
 
 -- a copy is made and undone
-pub copy_and_undo : replies (opened_session one_held) (lock_held 7 ++ copy ∷ Undo ∷ []) ≡ Done ∷ Done ∷ Done ∷ Done ∷ Done ∷ []
+pub copy_and_undo : replies (opened_session bookies_with_a_copy) (loss_and_lock 7 ++ copy ∷ Undo ∷ []) ≡ Done ∷ Done ∷ Done ∷ Done ∷ Done ∷ []
 unfolding contains insert retain remove empty from_list union items is_subset is_empty len
 copy_and_undo = refl
 
 -- the copy gives the striped entries beside the one that was held
-pub held_after_copy : entries_of (state_after one_held (copy ∷ [])) 3 7 ≡ 0 ∷ 1 ∷ 3 ∷ 4 ∷ []
+pub held_after_copy : entries_of (state_after bookies_with_a_copy (copy ∷ [])) 3 7 ≡ 0 ∷ 1 ∷ 3 ∷ 4 ∷ []
 unfolding contains insert retain remove empty from_list union items is_subset is_empty len
 held_after_copy = refl
 
 -- its undo leaves that one alone
-pub held_after_undo : entries_of (state_after one_held (copy ∷ Undo ∷ [])) 3 7 ≡ 3 ∷ []
+pub held_after_undo : entries_of (state_after bookies_with_a_copy (copy ∷ Undo ∷ [])) 3 7 ≡ 3 ∷ []
 unfolding contains insert retain remove empty from_list union items is_subset is_empty len
 held_after_undo = refl
 
@@ -107,22 +107,22 @@ unfolding contains insert retain remove empty from_list union items is_subset is
 lock_after_swap = refl
 
 -- a ledger without entries needs no copy
-pub swap_without_entries : replies (opened_session one_empty) (lock_held 5 ++ Do (Swap 3 5 0 1 0) ∷ Do (Finish 3 5) ∷ []) ≡ Done ∷ Done ∷ Done ∷ Done ∷ Done ∷ []
+pub swap_without_entries : replies (opened_session bookies_with_an_empty_ledger) (loss_and_lock 5 ++ Do (Swap 3 5 0 1 0) ∷ Do (Finish 3 5) ∷ []) ≡ Done ∷ Done ∷ Done ∷ Done ∷ Done ∷ []
 unfolding contains insert retain remove empty from_list union items is_subset is_empty len
 swap_without_entries = refl
 
 -- and is at the next version then
-pub version_without_entries : option_map (λ g. g.metadata.version) (ledger_at (state_of (played_session (opened_session one_empty) (lock_held 5 ++ Do (Swap 3 5 0 1 0) ∷ Do (Finish 3 5) ∷ []))) 5)
+pub version_without_entries : option_map (λ g. g.metadata.version) (ledger_at (state_of (played_session (opened_session bookies_with_an_empty_ledger) (loss_and_lock 5 ++ Do (Swap 3 5 0 1 0) ∷ Do (Finish 3 5) ∷ []))) 5)
     ≡ Some 1
 unfolding contains insert retain remove empty from_list union items is_subset is_empty len
 version_without_entries = refl
 
 -- an entry that no registered member of its write set holds has no source
-pub no_source_of_an_entry : answers one_lacking (copy ∷ []) ≡ Refused (NoSource 1) ∷ []
+pub no_source_of_an_entry : answers bookies_without_a_source (copy ∷ []) ≡ Refused (NoSource 1) ∷ []
 unfolding contains insert retain remove empty from_list union items is_subset is_empty len
 no_source_of_an_entry = refl
 
 -- a copy needs no new version, and a swap does
-pub swap_at_the_last_version : answers at_last_version (Do (Copy 3 7 0 1 (10 ^ 12)) ∷ Do (Swap 3 7 0 1 (10 ^ 12)) ∷ []) ≡ Done ∷ Refused VersionEnd ∷ []
+pub swap_at_the_last_version : answers cluster_at_last_version (Do (Copy 3 7 0 1 (10 ^ 12)) ∷ Do (Swap 3 7 0 1 (10 ^ 12)) ∷ []) ≡ Done ∷ Refused VersionEnd ∷ []
 unfolding contains insert retain remove empty from_list union items is_subset is_empty len
 swap_at_the_last_version = refl

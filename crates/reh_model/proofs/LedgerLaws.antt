@@ -61,11 +61,11 @@ pub stop_at-found : (s : Cluster) (l f : ℕ) (g : Ledger) → ledger_at s l ≡
 stop_at-found s l f g found = ap (λ (o : Option Ledger). option_and_then (λ g. stop_of g.metadata f) o) found
 
 -- a change of the ledger of one id, and of no other
-abbrev pub changed : ℕ → (Ledger → Ledger) → Ledger → Ledger
-changed l change g = if g.id == l then change g else g
+abbrev pub changed_ledger : ℕ → (Ledger → Ledger) → Ledger → Ledger
+changed_ledger l change g = if g.id == l then change g else g
 
-pub KeepsId-changed : (l : ℕ) (change : Ledger → Ledger) → KeepsId change → KeepsId (changed l change)
-KeepsId-changed l change keeps g = elim (g.id == l) as (λ b. (cond b (change g) g).id ≡ g.id) [ true ↦ keeps g | false ↦ refl ]
+pub KeepsId-changed_ledger : (l : ℕ) (change : Ledger → Ledger) → KeepsId change → KeepsId (changed_ledger l change)
+KeepsId-changed_ledger l change keeps g = elim (g.id == l) as (λ b. (cond b (change g) g).id ≡ g.id) [ true ↦ keeps g | false ↦ refl ]
 
 -- Where ids differ
 
@@ -91,22 +91,22 @@ found_itself (g ∷ gs) distinct (suc k) d within =
     ∙ found_itself gs distinct.1 k d (omega arith)
 
 -- a change of a ledger that is not there changes nothing
-kept_absent : (l : ℕ) (change : Ledger → Ledger) (gs : List Ledger) → ((k : ℕ) (d : Ledger) → k < length gs → ((get_or gs k d).id == l) ≡ false) → map (changed l change) gs ≡ gs
+kept_absent : (l : ℕ) (change : Ledger → Ledger) (gs : List Ledger) → ((k : ℕ) (d : Ledger) → k < length gs → ((get_or gs k d).id == l) ≡ false) → map (changed_ledger l change) gs ≡ gs
 kept_absent l change [] others = refl
 kept_absent l change (g ∷ gs) others = λ i. cond (others 0 g (omega arith) i) (change g) g ∷ kept_absent l change gs (λ k d within. others (suc k) d (omega arith)) i
 
 -- to change the ledger of an id that stands at a place is to change what stands there
-map_changed-set : (l : ℕ) (change : Ledger → Ledger) (gs : List Ledger) → IsDistinct nat_eq (map (λ g. g.id) gs) → (k : ℕ) (d : Ledger) → k < length gs → (get_or gs k d).id ≡ l
-    → map (changed l change) gs ≡ set gs k (change (get_or gs k d))
+map-changed_ledger-set : (l : ℕ) (change : Ledger → Ledger) (gs : List Ledger) → IsDistinct nat_eq (map (λ g. g.id) gs) → (k : ℕ) (d : Ledger) → k < length gs → (get_or gs k d).id ≡ l
+    → map (changed_ledger l change) gs ≡ set gs k (change (get_or gs k d))
 unfolding IsDistinct
-map_changed-set l change [] distinct k d within is = absurd (omega arith)
-map_changed-set l change (g ∷ gs) distinct zero d within is =
+map-changed_ledger-set l change [] distinct k d within is = absurd (omega arith)
+map-changed_ledger-set l change (g ∷ gs) distinct zero d within is =
     let here : (g.id == l) ≡ true = grind (arith, nat_tests) in
     let others : (j : ℕ) (e : Ledger) → j < length gs → ((get_or gs j e).id == l) ≡ false = λ j e inside. (let apart = apart_at g.id gs j e inside distinct.0 in grind (arith, nat_tests)) in
     λ i. cond (here i) (change g) g ∷ kept_absent l change gs others i
-map_changed-set l change (g ∷ gs) distinct (suc k) d within is =
+map-changed_ledger-set l change (g ∷ gs) distinct (suc k) d within is =
     let other : (g.id == l) ≡ false = ap (λ (j : ℕ). nat_eq g.id j) (sym is) ∙ apart_at g.id gs k d (omega arith) distinct.0 in
-    λ i. cond (other i) (change g) g ∷ map_changed-set l change gs distinct.1 k d (omega arith) is i
+    λ i. cond (other i) (change g) g ∷ map-changed_ledger-set l change gs distinct.1 k d (omega arith) is i
 
 -- to change the ledger of an id is to change what stands at its place
 pub change_ledger-set : (s : Cluster) (l : ℕ) (change : Ledger → Ledger) (k : ℕ) (old new : Ledger) → IsDistinct nat_eq (map (λ g. g.id) s.ledgers) → position (λ g. g.id == l) s.ledgers ≡ Some k
@@ -114,7 +114,7 @@ pub change_ledger-set : (s : Cluster) (l : ℕ) (change : Ledger → Ledger) (k 
 change_ledger-set s l change k old new distinct is stood made =
     let at : (k < length s.ledgers) × (((get_or s.ledgers k old).id == l) ≡ true) × ((j : ℕ) → j < k → ((get_or s.ledgers j old).id == l) ≡ false) = position-Some (λ g. g.id == l) s.ledgers k old is in
     let id : (get_or s.ledgers k old).id ≡ l = grind (arith, nat_tests, at.1) in
-    ap (λ (gs : List Ledger). record s { ledgers = gs }) (ap (λ (g : Ledger). set s.ledgers k g) (made ∙ ap change stood) ∙ sym (map_changed-set l change s.ledgers distinct k old at.0 id))
+    ap (λ (gs : List Ledger). record s { ledgers = gs }) (ap (λ (g : Ledger). set s.ledgers k g) (made ∙ ap change stood) ∙ sym (map-changed_ledger-set l change s.ledgers distinct k old at.0 id))
 
 -- what stands at the place of an id is the ledger that is found
 pub ledger_at-position : (s : Cluster) (l k : ℕ) (g : Ledger) → IsDistinct nat_eq (map (λ g. g.id) s.ledgers) → position (λ g. g.id == l) s.ledgers ≡ Some k → g ≡ get_or s.ledgers k g → ledger_at s l ≡ Some g

@@ -46,8 +46,8 @@ swapped_metadata = record closed_metadata {
 }
 
 -- the ledger of that id, without a task
-abbrev untasked : ℕ → Metadata → Ledger
-untasked id metadata = record { id = id; metadata = metadata; task = None; lock = None }
+abbrev ledger_without_task : ℕ → Metadata → Ledger
+ledger_without_task id metadata = record { id = id; metadata = metadata; task = None; lock = None }
 
 -- six registered bookies, and the two ledgers; each member holds what its indexes carry, but entry 5 of the open ledger is on the second bookie alone
 abbrev six_bookies : Cluster
@@ -55,30 +55,30 @@ six_bookies = record {
   names = codes "b1:3181" ∷ codes "b2:3181" ∷ codes "b3:3181" ∷ codes "b4:3181" ∷ codes "b5:3181" ∷ codes "b6:3181" ∷ [];
   grace = 3;
   up = from_list (0 ∷ 1 ∷ 2 ∷ 3 ∷ 4 ∷ 5 ∷ []);
-  ledgers = untasked 7 closed_metadata ∷ untasked 9 open_metadata ∷ [];
+  ledgers = ledger_without_task 7 closed_metadata ∷ ledger_without_task 9 open_metadata ∷ [];
   held = from_list (row 0 7 (0 ∷ 2 ∷ 3 ∷ 7 ∷ 8 ∷ []) ++ row 1 7 (0 ∷ 1 ∷ 3 ∷ 4 ∷ 5 ∷ 8 ∷ 9 ∷ []) ++ row 2 7 (1 ∷ 2 ∷ 4 ∷ 6 ∷ []) ++ row 3 7 (5 ∷ 6 ∷ 7 ∷ 9 ∷ [])
       ++ row 0 9 (0 ∷ 1 ∷ 4 ∷ 6 ∷ []) ++ row 1 9 (2 ∷ 3 ∷ 5 ∷ []) ++ row 2 9 (0 ∷ 3 ∷ 4 ∷ 6 ∷ []) ++ row 3 9 (1 ∷ 2 ∷ []));
   clock = 0;
 }
 
 -- the closed ledger is at the last version
-abbrev at_last_version : Cluster
-at_last_version = record six_bookies { ledgers = untasked 7 (record closed_metadata { version = 10 ^ 12 }) ∷ [] }
+abbrev cluster_at_last_version : Cluster
+cluster_at_last_version = record six_bookies { ledgers = ledger_without_task 7 (record closed_metadata { version = 10 ^ 12 }) ∷ [] }
 
 -- some bookies are lost, and a worker locks a ledger's task
 abbrev losses_and_lock : List ℕ → ℕ → ℕ → List Event
-losses_and_lock lost worker ledger = map Lose lost ++ Audit ∷ Acquire worker ledger ∷ []
+losses_and_lock losses worker ledger = map Lose losses ++ Audit ∷ Acquire worker ledger ∷ []
 
 -- the replies to the moves behind those
 abbrev answers : List ℕ → ℕ → ℕ → List Move → List Reply
-answers lost worker ledger moves = replies (played_session (opened_session six_bookies) (map Do (losses_and_lock lost worker ledger))) moves
+answers losses worker ledger moves = replies (played_session (opened_session six_bookies) (map Do (losses_and_lock losses worker ledger))) moves
 
 -- the session and the state after them
 abbrev session_of : List ℕ → ℕ → ℕ → List Move → Session
-session_of lost worker ledger moves = played_session (opened_session six_bookies) (map Do (losses_and_lock lost worker ledger) ++ moves)
+session_of losses worker ledger moves = played_session (opened_session six_bookies) (map Do (losses_and_lock losses worker ledger) ++ moves)
 
 abbrev state_after : List ℕ → ℕ → ℕ → List Move → Cluster
-state_after lost worker ledger moves = state_of (session_of lost worker ledger moves)
+state_after losses worker ledger moves = state_of (session_of losses worker ledger moves)
 
 -- a copy and then a swap for that worker, ledger, fragment, index and version
 abbrev both : ℕ → ℕ → ℕ → ℕ → ℕ → List Move
@@ -96,8 +96,8 @@ abbrev all_metadata : Cluster → List Metadata
 all_metadata s = map (λ g. g.metadata) s.ledgers
 
 -- what a worker's bookie that held nothing of the ledger holds of it after a copy
-abbrev entries_copied : ℕ → ℕ → ℕ → ℕ → ℕ → List ℕ
-entries_copied lost ledger fragment index version = entries_of (state_after (lost ∷ []) 4 ledger (Do (Copy 4 ledger fragment index version) ∷ [])) 4 ledger
+abbrev entries_after_copy : ℕ → ℕ → ℕ → ℕ → ℕ → List ℕ
+entries_after_copy member ledger fragment index version = entries_of (state_after (member ∷ []) 4 ledger (Do (Copy 4 ledger fragment index version) ∷ [])) 4 ledger
 
 -- in this order: bookie, ledger, lock, version, fragment, index, and whether the member there is registered
 pub no_such_place : answers (1 ∷ []) 4 7 (both 6 8 3 3 0 ++ both 5 8 3 3 0 ++ both 5 7 3 3 0 ++ both 4 7 3 2 3 ++ both 4 7 3 3 4 ++ both 4 7 3 1 4 ++ both 4 7 2 3 4 ++ both 4 7 1 3 4
@@ -142,13 +142,13 @@ unfolding contains insert retain remove empty from_list union items is_subset is
 entries_of_the_fragment = refl
 
 -- what is missing comes before the last version
-pub missing_at_the_last_version : replies (played_session (opened_session at_last_version) (map Do (losses_and_lock (1 ∷ []) 4 7))) (Do (Swap 4 7 2 0 (10 ^ 12)) ∷ both 4 7 2 0 (10 ^ 12))
+pub missing_at_the_last_version : replies (played_session (opened_session cluster_at_last_version) (map Do (losses_and_lock (1 ∷ []) 4 7))) (Do (Swap 4 7 2 0 (10 ^ 12)) ∷ both 4 7 2 0 (10 ^ 12))
     ≡ Refused (MissingEntry 8) ∷ Done ∷ Refused VersionEnd ∷ []
 unfolding contains insert retain remove empty from_list union items is_subset is_empty len
 missing_at_the_last_version = refl
 
 -- each index of each closed fragment, and one of the open ledger
-pub copied_entries : entries_copied 0 7 0 0 4 ∷ entries_copied 1 7 0 1 4 ∷ entries_copied 2 7 0 2 4 ∷ entries_copied 3 7 1 0 4 ∷ entries_copied 2 7 1 1 4 ∷ entries_copied 1 7 1 2 4 ∷ entries_copied 1 7 2 0 4 ∷ entries_copied 3 7 2 1 4 ∷ entries_copied 0 7 2 2 4 ∷ entries_copied 1 9 0 3 2 ∷ []
+pub copied_entries : entries_after_copy 0 7 0 0 4 ∷ entries_after_copy 1 7 0 1 4 ∷ entries_after_copy 2 7 0 2 4 ∷ entries_after_copy 3 7 1 0 4 ∷ entries_after_copy 2 7 1 1 4 ∷ entries_after_copy 1 7 1 2 4 ∷ entries_after_copy 1 7 2 0 4 ∷ entries_after_copy 3 7 2 1 4 ∷ entries_after_copy 0 7 2 2 4 ∷ entries_after_copy 1 9 0 3 2 ∷ []
     ≡ (0 ∷ 2 ∷ 3 ∷ []) ∷ (0 ∷ 1 ∷ 3 ∷ []) ∷ (1 ∷ 2 ∷ []) ∷ (5 ∷ 6 ∷ []) ∷ (4 ∷ 6 ∷ []) ∷ (4 ∷ 5 ∷ []) ∷ (8 ∷ 9 ∷ []) ∷ (7 ∷ 9 ∷ []) ∷ (7 ∷ 8 ∷ []) ∷ (2 ∷ 3 ∷ []) ∷ []
 unfolding contains insert retain remove empty from_list union items is_subset is_empty len
 copied_entries = refl

@@ -1,4 +1,4 @@
--- What holds of replays and of sessions.
+-- Replays by one event and in two parts, the undo of an event that was just made, and runs by one move more.
 use Rattle.std.proofs.Common.{◌≡◌, ℕ, ◌+◌, ◌-◌, ◌<◌, List, [], ◌∷◌, ◌++◌, length, get_or, take, drop, refl, sym, ap, ◌∙◌, subst, Option, Some, None, IsSome, is_some, true≢false, arith, length-append}
 use Rattle.std.proofs.lemmas.List.{take_more, take_at, drop_at}
 use Rattle.std.proofs.lemmas.Option.{same_Some}
@@ -12,7 +12,7 @@ use Rattle.reh_types.specs.declared.moves.Reply.TheVariants.{Done}
 use Rattle.reh_model.specs.Cluster.{Cluster}
 use Rattle.reh_model.specs.Checks.{reason_if}
 use Rattle.reh_model.specs.Step.{refusal_of, after}
-use Rattle.reh_model.specs.Session.{Session, unless, replay, done_unless, reply_to, moved_session, Performs, Run}
+use Rattle.reh_model.specs.Session.{Session, unless, replay, reply_unless, reply_to, moved_session, Performs, Run}
 
 -- Replays
 
@@ -49,11 +49,11 @@ length-push : (es : List Event) (e : Event) → length (es ++ e ∷ []) - 1 ≡ 
 length-push es e = omega (arith, length-append es (e ∷ []))
 
 -- a number that isn't 0 is no reason to refuse
-pub done_unless-some : (n : ℕ) (r : Refusal) → 0 < n → done_unless (reason_if (n == 0) r) ≡ Done
-done_unless-some n r h = grind arith
+pub reply_unless-some : (n : ℕ) (r : Refusal) → 0 < n → reply_unless (reason_if (n == 0) r) ≡ Done
+reply_unless-some n r h = grind arith
 
 pub undo_accepted : (m : Session) (e : Event) → reply_to m (Do e) ≡ Done → reply_to (moved_session m (Do e)) Undo ≡ Done
-undo_accepted m e h = done_unless-some (length (m.done ++ e ∷ [])) _ (omega (arith, length-append m.done (e ∷ [])))
+undo_accepted m e h = reply_unless-some (length (m.done ++ e ∷ [])) _ (omega (arith, length-append m.done (e ∷ [])))
 
 pub moved_session-undo : (m : Session) (e : Event) → moved_session (moved_session m (Do e)) Undo ≡ record m { undone = e ∷ [] }
 moved_session-undo m e = λ i. record {

@@ -25,7 +25,7 @@ use Rattle.reh_model.specs.Session.{Session, replay, state_of, reply_to, moved_s
 use Rattle.reh_model.specs.Swaps.{HoldsStripe, IsSafe, IsSafeRun, AllSafe}
 use Rattle.reh_model.proofs.AcceptedLaws.{accepted_swap_holds, done_accepted}
 use Rattle.reh_model.proofs.SessionLaws.{replay_first, replay-append, replay-prefix, replay_one}
-use Rattle.reh_model.proofs.LedgerLaws.{KeepsId, changed, KeepsId-changed, find-map}
+use Rattle.reh_model.proofs.LedgerLaws.{KeepsId, changed_ledger, KeepsId-changed_ledger, find-map}
 use Rattle.reh_model.proofs.ContentsLaws.{has-union-copies_of}
 use Rattle.reh_model.proofs.WellFormedLaws.{KeepsId-audited_ledger, KeepsId-expired_ledger}
 
@@ -65,7 +65,7 @@ HoldsStripe-kept s t (Copy w l f i v) keeps was = tt
 HoldsStripe-kept s t (Swap w l f i v) keeps was = (
   subst (λ (o : Option ℕ). IsSome o) (sym (keeps.stop l f was.0)) was.0,
   subst (λ (es : List ℕ). All (λ e. holds t w l e ≡ true) es) (sym (keeps.stripe l f i was.0))
-  (All-weaker (λ e. holds s w l e ≡ true) (λ e. holds t w l e ≡ true) (keeps.held w l) (stripe_at s l f i) was.1),
+      (All-weaker (λ e. holds s w l e ≡ true) (λ e. holds t w l e ≡ true) (keeps.held w l) (stripe_at s l f i) was.1),
 )
 
 -- nothing of a cluster's fragments and contents is changed
@@ -106,9 +106,9 @@ KeepsStripes-apart change id same = record {
   stripe = λ g f i _. ap (λ (m : Metadata). stripe_of m f i) (same g);
 }
 
-KeepsStripes-changed : (l : ℕ) (change : Ledger → Ledger) → KeepsStripes change → KeepsStripes (changed l change)
-KeepsStripes-changed l change keeps = record {
-  id = KeepsId-changed l change keeps.id;
+KeepsStripes-changed_ledger : (l : ℕ) (change : Ledger → Ledger) → KeepsStripes change → KeepsStripes (changed_ledger l change)
+KeepsStripes-changed_ledger l change keeps = record {
+  id = KeepsId-changed_ledger l change keeps.id;
   stop = λ g f some. elim (g.id == l) as (λ b. stop_of (cond b (change g) g).metadata f ≡ stop_of g.metadata f) [ true ↦ keeps.stop g f some | false ↦ refl ];
   stripe = λ g f i some. elim (g.id == l) as (λ b. stripe_of (cond b (change g) g).metadata f i ≡ stripe_of g.metadata f i) [ true ↦ keeps.stripe g f i some | false ↦ refl ];
 }
@@ -179,9 +179,9 @@ KeepsPromises-after : (s : Cluster) (event : Event) → refusal_of s event ≡ N
 KeepsPromises-after s (Lose b) accepted = KeepsPromises-apart s (after s (Lose b)) refl refl
 KeepsPromises-after s (Join b) accepted = KeepsPromises-apart s (after s (Join b)) refl refl
 KeepsPromises-after s Audit accepted = KeepsPromises-ledgers s (audited_ledger s.up) (KeepsStripes-audited_ledger s.up)
-KeepsPromises-after s (Acquire w l) accepted = KeepsPromises-ledgers s (changed l (locked_ledger w)) (KeepsStripes-changed l (locked_ledger w) (KeepsStripes-apart (locked_ledger w) (λ g. refl) (λ g. refl)))
-KeepsPromises-after s (Release w l) accepted = KeepsPromises-ledgers s (changed l unlocked_ledger) (KeepsStripes-changed l unlocked_ledger (KeepsStripes-apart unlocked_ledger (λ g. refl) (λ g. refl)))
-KeepsPromises-after s (Finish w l) accepted = KeepsPromises-ledgers s (changed l finished_ledger) (KeepsStripes-changed l finished_ledger (KeepsStripes-apart finished_ledger (λ g. refl) (λ g. refl)))
+KeepsPromises-after s (Acquire w l) accepted = KeepsPromises-ledgers s (changed_ledger l (locked_ledger w)) (KeepsStripes-changed_ledger l (locked_ledger w) (KeepsStripes-apart (locked_ledger w) (λ g. refl) (λ g. refl)))
+KeepsPromises-after s (Release w l) accepted = KeepsPromises-ledgers s (changed_ledger l unlocked_ledger) (KeepsStripes-changed_ledger l unlocked_ledger (KeepsStripes-apart unlocked_ledger (λ g. refl) (λ g. refl)))
+KeepsPromises-after s (Finish w l) accepted = KeepsPromises-ledgers s (changed_ledger l finished_ledger) (KeepsStripes-changed_ledger l finished_ledger (KeepsStripes-apart finished_ledger (λ g. refl) (λ g. refl)))
 KeepsPromises-after s (Expire w) accepted = KeepsPromises-ledgers s (expired_ledger w) (KeepsStripes-expired_ledger w)
 KeepsPromises-after s (Tick n) accepted = KeepsPromises-apart s (after s (Tick n)) refl refl
 KeepsPromises-after s (Copy w l f i v) accepted = record {
@@ -189,7 +189,7 @@ KeepsPromises-after s (Copy w l f i v) accepted = record {
   stripe = λ k g j _. refl;
   held = λ b k e is. has-union-copies_of s.held w l (stripe_at s l f i) b k e ∙ or_before (has s.held b k e) _ is;
 }
-KeepsPromises-after s (Swap w l f i v) accepted = KeepsPromises-ledgers s (changed l (swapped_ledger f i w)) (KeepsStripes-changed l (swapped_ledger f i w) (KeepsStripes-swapped_ledger f i w))
+KeepsPromises-after s (Swap w l f i v) accepted = KeepsPromises-ledgers s (changed_ledger l (swapped_ledger f i w)) (KeepsStripes-changed_ledger l (swapped_ledger f i w) (KeepsStripes-swapped_ledger f i w))
 
 -- No accepted event moves the stop of a fragment that has one,
 pub stop_at-after : (s : Cluster) (event : Event) → refusal_of s event ≡ None → (l f : ℕ) → IsSome (stop_at s l f) → stop_at (after s event) l f ≡ stop_at s l f

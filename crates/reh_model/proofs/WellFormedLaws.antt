@@ -1,4 +1,4 @@
--- An accepted event keeps a cluster well-formed.
+-- An accepted event keeps a cluster well-formed, and a ledger that is found in one keeps its rules.
 use Rattle.std.proofs.Common.{◌≡◌, ℕ, Bool, true, false, cond, not, ◌&&◌, ◌||◌, ◌+◌, ◌*◌, ◌<◌, ◌≤◌, List, [], ◌∷◌, map, length, get_or, set, Option, None, Some, IsSome, refl, sym, ap, ◌∙◌, subst, arith, nat_eq}
 use Rattle.std.specs.Prelude.{◌==◌, ◌/◌, ◌^◌, if◌then◌else◌, sum_by, slice_get, All}
 use Rattle.std.specs.List.{IsDistinct, find}
@@ -20,7 +20,7 @@ use Rattle.reh_model.specs.Cluster.{Cluster, Ledger, ledger_at, change_ledger, i
 use Rattle.reh_model.specs.Audit.{missing_members, published_members, audited_ledger}
 use Rattle.reh_model.specs.Step.{refusal_of, after, locked_ledger, unlocked_ledger, finished_ledger, expired_ledger, swapped_ledger}
 use Rattle.reh_model.specs.WellFormed.{IsLedger, IsCopy, IsWellFormed, words_of}
-use Rattle.reh_model.proofs.LedgerLaws.{KeepsId, changed, KeepsId-changed, ids-map, sum_by-map, is_found-map, found_itself}
+use Rattle.reh_model.proofs.LedgerLaws.{KeepsId, changed_ledger, KeepsId-changed_ledger, ids-map, sum_by-map, is_found-map, found_itself}
 use Rattle.reh_model.proofs.ContentsLaws.{All-copy, IsHeld-insert, greatest_held-copied, union-copies_of-none, union-copies_of-cons}
 use Rattle.reh_model.proofs.MemberLaws.{IsMetadata-set, with_member_at-found}
 use Rattle.reh_model.proofs.AuditLaws.{published_named, published_some}
@@ -83,7 +83,7 @@ IsWellFormed-ledgers s change was keeps each = record {
 
 -- one ledger is changed
 IsWellFormed-change_ledger : (s : Cluster) (l : ℕ) (change : Ledger → Ledger) → IsWellFormed s → KeepsId change → ((g : Ledger) → ledger_at s l ≡ Some g → IsLedgerOf s g → IsLedgerOf s (change g)) → IsWellFormed (change_ledger s l change)
-IsWellFormed-change_ledger s l change was keeps each = IsWellFormed-ledgers s (changed l change) was (KeepsId-changed l change keeps) (λ g found is.
+IsWellFormed-change_ledger s l change was keeps each = IsWellFormed-ledgers s (changed_ledger l change) was (KeepsId-changed_ledger l change keeps) (λ g found is.
     elim (g.id == l) as (λ b. (g.id == l) ≡ b → IsLedgerOf s (if b then change g else g)) [
       | true ↦ λ hit. let same : g.id ≡ l = grind (arith, nat_tests) in each g (ap (λ (k : ℕ). ledger_at s k) (sym same) ∙ found) is
       | false ↦ λ _. is

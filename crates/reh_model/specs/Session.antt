@@ -1,4 +1,4 @@
--- A session: the surviving events over an opening cluster, and those undone.
+-- A session: the surviving events over an opening cluster and the undone ones, its replies, and what moves make of it.
 use Rattle.std.specs.Prelude.{◌≡◌, ◌-◌, ◌==◌, nat_le, List, [], ◌∷◌, ◌++◌, length, take, drop, Option, None, Some, unwrap_or, Result, Ok, Err, ◌⊎◌}
 use Rattle.reh_types.specs.declared.limits.TheConstants.{MAX_EVENTS}
 use Rattle.reh_types.specs.declared.moves.Event.{Event}
@@ -43,9 +43,9 @@ state_of m = unwrap_or (replay m.opening m.done) m.opening
 -- Moves
 
 -- done, unless there is a refusal
-abbrev pub done_unless : Option Refusal → Reply
-done_unless None = Done
-done_unless (Some refusal) = Refused refusal
+abbrev pub reply_unless : Option Refusal → Reply
+reply_unless None = Done
+reply_unless (Some refusal) = Refused refusal
 
 -- no more events can survive
 abbrev pub no_room : Session → Option Refusal
@@ -53,9 +53,9 @@ no_room m = reason_if (nat_le MAX_EVENTS (length m.done)) Full
 
 -- the reply to a move
 abbrev pub reply_to : Session → Move → Reply
-reply_to m (Do event) = done_unless (first_reason (refusal_of (state_of m) event ∷ no_room m ∷ []))
-reply_to m Undo = done_unless (reason_if (length m.done == 0) NothingToUndo)
-reply_to m Redo = done_unless (reason_if (length m.undone == 0) NothingToRedo)
+reply_to m (Do event) = reply_unless (first_reason (refusal_of (state_of m) event ∷ no_room m ∷ []))
+reply_to m Undo = reply_unless (reason_if (length m.done == 0) NothingToUndo)
+reply_to m Redo = reply_unless (reason_if (length m.undone == 0) NothingToRedo)
 reply_to m Look = Clock (state_of m).clock
 
 -- what a move that is done makes of a session: a new event survives and none is undone any more; undo and redo move one event across

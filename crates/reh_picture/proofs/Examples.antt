@@ -33,14 +33,14 @@ closed_first = codes "\"fragments\":[{\"firstEntry\":0,"
 abbrev closed_ensemble : List ℕ
 closed_ensemble = codes "\"ensemble\":[\"b1:3181\",\"b2:3181\",\"b3:3181\"]}]},"
 
-abbrev second : List ℕ
-second = codes "{\"id\":9,\"state\":\"OPEN\",\"ensembleSize\":3,\"writeQuorumSize\":3,\"ackQuorumSize\":2,\"version\":0,\"fragments\":[{\"firstEntry\":0,\"ensemble\":[\"b1:3181\",\"b2:3181\",\"b3:3181\"]}]}],"
+abbrev second_ledger : List ℕ
+second_ledger = codes "{\"id\":9,\"state\":\"OPEN\",\"ensembleSize\":3,\"writeQuorumSize\":3,\"ackQuorumSize\":2,\"version\":0,\"fragments\":[{\"firstEntry\":0,\"ensemble\":[\"b1:3181\",\"b2:3181\",\"b3:3181\"]}]}],"
 
-abbrev first_held : List ℕ
-first_held = codes "\"contents\":[{\"bookie\":\"b1:3181\",\"ledger\":7,\"entries\":[[0,0],[2,3],[5,5]]},"
+abbrev first_contents : List ℕ
+first_contents = codes "\"contents\":[{\"bookie\":\"b1:3181\",\"ledger\":7,\"entries\":[[0,0],[2,3],[5,5]]},"
 
-abbrev other_held : List ℕ
-other_held = codes "{\"bookie\":\"b2:3181\",\"ledger\":7,\"entries\":[[0,1],[3,4]]},{\"bookie\":\"b3:3181\",\"ledger\":7,\"entries\":[[1,2],[4,5]]},{\"bookie\":\"b1:3181\",\"ledger\":9,\"entries\":[[0,4]]},{\"bookie\":\"b2:3181\",\"ledger\":9,\"entries\":[[0,3]]},{\"bookie\":\"b3:3181\",\"ledger\":9,\"entries\":[[0,3]]}]}"
+abbrev other_contents : List ℕ
+other_contents = codes "{\"bookie\":\"b2:3181\",\"ledger\":7,\"entries\":[[0,1],[3,4]]},{\"bookie\":\"b3:3181\",\"ledger\":7,\"entries\":[[1,2],[4,5]]},{\"bookie\":\"b1:3181\",\"ledger\":9,\"entries\":[[0,4]]},{\"bookie\":\"b2:3181\",\"ledger\":9,\"entries\":[[0,3]]},{\"bookie\":\"b3:3181\",\"ledger\":9,\"entries\":[[0,3]]}]}"
 
 abbrev ensemble : Fragment
 ensemble = record { first = 0; ensemble = 0 ∷ 1 ∷ 2 ∷ [] }
@@ -51,26 +51,26 @@ closed_ledger = record { id = 7; metadata = record { size = 3; write_quorum = 2;
 abbrev open_ledger : Ledger
 open_ledger = record { id = 9; metadata = record { size = 3; write_quorum = 3; ack_quorum = 2; state = Open; version = 0; fragments = ensemble ∷ [] }; task = None; lock = None }
 
-abbrev held : Contents
-held =
+abbrev contents : Contents
+contents =
     set.union (copies_of 0 7 (0 ∷ 2 ∷ 3 ∷ 5 ∷ []))
     (set.union (copies_of 1 7 (0 ∷ 1 ∷ 3 ∷ 4 ∷ []))
     (set.union (copies_of 2 7 (1 ∷ 2 ∷ 4 ∷ 5 ∷ []))
     (set.union (copies_of 0 9 (0 ∷ 1 ∷ 2 ∷ 3 ∷ 4 ∷ []))
     (set.union (copies_of 1 9 (0 ∷ 1 ∷ 2 ∷ 3 ∷ [])) (copies_of 2 9 (0 ∷ 1 ∷ 2 ∷ 3 ∷ []))))))
 
-abbrev shown : Cluster
-shown = record {
+abbrev cluster : Cluster
+cluster = record {
   names = codes "b1:3181" ∷ codes "b2:3181" ∷ codes "b3:3181" ∷ codes "b4:3181" ∷ codes "b5:3181" ∷ [];
   grace = 3;
   up = set.from_list (0 ∷ 1 ∷ 2 ∷ 3 ∷ 4 ∷ []);
   ledgers = closed_ledger ∷ open_ledger ∷ [];
-  held = held;
+  held = contents;
   clock = 0;
 }
 
 -- it is read
-reads : picture_of (bookies ++ (closed_start ++ (closed_quorums ++ (closed_first ++ (closed_ensemble ++ (second ++ (first_held ++ (other_held)))))))) ≡ Ok shown
+reads : picture_of (bookies ++ (closed_start ++ (closed_quorums ++ (closed_first ++ (closed_ensemble ++ (second_ledger ++ (first_contents ++ (other_contents)))))))) ≡ Ok cluster
 unfolding serde_json_on_literals is_utf8 chars head_fault bookies_fault ledgers_fault contents_fault each_bookie_fault members_fault fragments_fault metadata_fault each_ledger_fault ranges_fault each_content_fault set.from_list set.insert set.empty set.items set.union
 reads = refl
 
@@ -80,61 +80,61 @@ unfolding serde_json_on_literals is_utf8 chars head_fault bookies_fault ledgers_
 empty = refl
 
 -- the last byte is cut off
-cut : picture_of (bookies ++ (closed_start ++ (closed_quorums ++ (closed_first ++ (closed_ensemble ++ (second ++ (first_held ++ (codes "{\"bookie\":\"b2:3181\",\"ledger\":7,\"entries\":[[0,1],[3,4]]},{\"bookie\":\"b3:3181\",\"ledger\":7,\"entries\":[[1,2],[4,5]]},{\"bookie\":\"b1:3181\",\"ledger\":9,\"entries\":[[0,4]]},{\"bookie\":\"b2:3181\",\"ledger\":9,\"entries\":[[0,3]]},{\"bookie\":\"b3:3181\",\"ledger\":9,\"entries\":[[0,3]]}]")))))))) ≡ Err NotJson
+cut : picture_of (bookies ++ (closed_start ++ (closed_quorums ++ (closed_first ++ (closed_ensemble ++ (second_ledger ++ (first_contents ++ (codes "{\"bookie\":\"b2:3181\",\"ledger\":7,\"entries\":[[0,1],[3,4]]},{\"bookie\":\"b3:3181\",\"ledger\":7,\"entries\":[[1,2],[4,5]]},{\"bookie\":\"b1:3181\",\"ledger\":9,\"entries\":[[0,4]]},{\"bookie\":\"b2:3181\",\"ledger\":9,\"entries\":[[0,3]]},{\"bookie\":\"b3:3181\",\"ledger\":9,\"entries\":[[0,3]]}]")))))))) ≡ Err NotJson
 unfolding serde_json_on_literals is_utf8 chars head_fault bookies_fault ledgers_fault contents_fault each_bookie_fault members_fault fragments_fault metadata_fault each_ledger_fault ranges_fault each_content_fault set.from_list set.insert set.empty set.items
 cut = refl
 
 -- a write quorum above the ensemble size
-quorum : picture_of (bookies ++ (closed_start ++ (codes "\"writeQuorumSize\":4,\"ackQuorumSize\":2,\"version\":0," ++ (closed_first ++ (closed_ensemble ++ (second ++ (first_held ++ (other_held)))))))) ≡ Err (BadLedger 7 flaw.Quorum)
+quorum : picture_of (bookies ++ (closed_start ++ (codes "\"writeQuorumSize\":4,\"ackQuorumSize\":2,\"version\":0," ++ (closed_first ++ (closed_ensemble ++ (second_ledger ++ (first_contents ++ (other_contents)))))))) ≡ Err (BadLedger 7 flaw.Quorum)
 unfolding serde_json_on_literals is_utf8 chars head_fault bookies_fault ledgers_fault contents_fault each_bookie_fault members_fault fragments_fault metadata_fault each_ledger_fault ranges_fault each_content_fault set.from_list set.insert set.empty set.items
 quorum = refl
 
 -- a bookie stands in an ensemble twice
-ensemble_twice : picture_of (bookies ++ (closed_start ++ (closed_quorums ++ (closed_first ++ (codes "\"ensemble\":[\"b1:3181\",\"b2:3181\",\"b1:3181\"]}]}," ++ (second ++ (first_held ++ (other_held)))))))) ≡ Err (BadLedger 7 flaw.Ensemble)
+ensemble_twice : picture_of (bookies ++ (closed_start ++ (closed_quorums ++ (closed_first ++ (codes "\"ensemble\":[\"b1:3181\",\"b2:3181\",\"b1:3181\"]}]}," ++ (second_ledger ++ (first_contents ++ (other_contents)))))))) ≡ Err (BadLedger 7 flaw.Ensemble)
 unfolding serde_json_on_literals is_utf8 chars head_fault bookies_fault ledgers_fault contents_fault each_bookie_fault members_fault fragments_fault metadata_fault each_ledger_fault ranges_fault each_content_fault set.from_list set.insert set.empty set.items
 ensemble_twice = refl
 
 -- an ensemble names no bookie
-unknown : picture_of (bookies ++ (closed_start ++ (closed_quorums ++ (closed_first ++ (codes "\"ensemble\":[\"b1:3181\",\"b2:3181\",\"b9:3181\"]}]}," ++ (second ++ (first_held ++ (other_held)))))))) ≡ Err (UnknownBookie (codes "b9:3181"))
+unknown : picture_of (bookies ++ (closed_start ++ (closed_quorums ++ (closed_first ++ (codes "\"ensemble\":[\"b1:3181\",\"b2:3181\",\"b9:3181\"]}]}," ++ (second_ledger ++ (first_contents ++ (other_contents)))))))) ≡ Err (UnknownBookie (codes "b9:3181"))
 unfolding serde_json_on_literals is_utf8 chars head_fault bookies_fault ledgers_fault contents_fault each_bookie_fault members_fault fragments_fault metadata_fault each_ledger_fault ranges_fault each_content_fault set.from_list set.insert set.empty set.items
 unknown = refl
 
 -- the first fragment does not begin at entry 0
-first_entry : picture_of (bookies ++ (closed_start ++ (closed_quorums ++ (codes "\"fragments\":[{\"firstEntry\":1," ++ (closed_ensemble ++ (second ++ (first_held ++ (other_held)))))))) ≡ Err (BadLedger 7 flaw.Fragment)
+first_entry : picture_of (bookies ++ (closed_start ++ (closed_quorums ++ (codes "\"fragments\":[{\"firstEntry\":1," ++ (closed_ensemble ++ (second_ledger ++ (first_contents ++ (other_contents)))))))) ≡ Err (BadLedger 7 flaw.Fragment)
 unfolding serde_json_on_literals is_utf8 chars head_fault bookies_fault ledgers_fault contents_fault each_bookie_fault members_fault fragments_fault metadata_fault each_ledger_fault ranges_fault each_content_fault set.from_list set.insert set.empty set.items
 first_entry = refl
 
 -- an entry that there cannot be
-entry_end : picture_of (bookies ++ (closed_start ++ (closed_quorums ++ (closed_first ++ (closed_ensemble ++ (second ++ (codes "\"contents\":[{\"bookie\":\"b1:3181\",\"ledger\":7,\"entries\":[[0,65536]]}," ++ (other_held)))))))) ≡ Err (Limit field.Entries)
+entry_end : picture_of (bookies ++ (closed_start ++ (closed_quorums ++ (closed_first ++ (closed_ensemble ++ (second_ledger ++ (codes "\"contents\":[{\"bookie\":\"b1:3181\",\"ledger\":7,\"entries\":[[0,65536]]}," ++ (other_contents)))))))) ≡ Err (Limit field.Entries)
 unfolding serde_json_on_literals is_utf8 chars head_fault bookies_fault ledgers_fault contents_fault each_bookie_fault members_fault fragments_fault metadata_fault each_ledger_fault ranges_fault each_content_fault set.from_list set.insert set.empty set.items
 entry_end = refl
 
 -- a last entry id below the last fragment
-last : picture_of (bookies ++ (codes "\"ledgers\":[{\"id\":7,\"state\":\"CLOSED\",\"lastEntryId\":-1,\"ensembleSize\":3," ++ (closed_quorums ++ (codes "\"fragments\":[{\"firstEntry\":0,\"ensemble\":[\"b4:3181\",\"b2:3181\",\"b3:3181\"]},{\"firstEntry\":1," ++ (closed_ensemble ++ (second ++ (first_held ++ (other_held)))))))) ≡ Err (BadLedger 7 flaw.Last)
+last : picture_of (bookies ++ (codes "\"ledgers\":[{\"id\":7,\"state\":\"CLOSED\",\"lastEntryId\":-1,\"ensembleSize\":3," ++ (closed_quorums ++ (codes "\"fragments\":[{\"firstEntry\":0,\"ensemble\":[\"b4:3181\",\"b2:3181\",\"b3:3181\"]},{\"firstEntry\":1," ++ (closed_ensemble ++ (second_ledger ++ (first_contents ++ (other_contents)))))))) ≡ Err (BadLedger 7 flaw.Last)
 unfolding serde_json_on_literals is_utf8 chars head_fault bookies_fault ledgers_fault contents_fault each_bookie_fault members_fault fragments_fault metadata_fault each_ledger_fault ranges_fault each_content_fault set.from_list set.insert set.empty set.items
 last = refl
 
 -- entries of no ledger
-unknown_ledger : picture_of (bookies ++ (closed_start ++ (closed_quorums ++ (closed_first ++ (closed_ensemble ++ (second ++ (codes "\"contents\":[{\"bookie\":\"b1:3181\",\"ledger\":8,\"entries\":[[0,0],[2,3],[5,5]]}," ++ (other_held)))))))) ≡ Err (BadLedger 8 flaw.Unknown)
+unknown_ledger : picture_of (bookies ++ (closed_start ++ (closed_quorums ++ (closed_first ++ (closed_ensemble ++ (second_ledger ++ (codes "\"contents\":[{\"bookie\":\"b1:3181\",\"ledger\":8,\"entries\":[[0,0],[2,3],[5,5]]}," ++ (other_contents)))))))) ≡ Err (BadLedger 8 flaw.Unknown)
 unfolding serde_json_on_literals is_utf8 chars head_fault bookies_fault ledgers_fault contents_fault each_bookie_fault members_fault fragments_fault metadata_fault each_ledger_fault ranges_fault each_content_fault set.from_list set.insert set.empty set.items
 unknown_ledger = refl
 
 -- the same bookie and ledger once more
-pair : picture_of (bookies ++ (closed_start ++ (closed_quorums ++ (closed_first ++ (closed_ensemble ++ (second ++ (first_held ++ (codes "{\"bookie\":\"b1:3181\",\"ledger\":7,\"entries\":[[0,1],[3,4]]},{\"bookie\":\"b3:3181\",\"ledger\":7,\"entries\":[[1,2],[4,5]]},{\"bookie\":\"b1:3181\",\"ledger\":9,\"entries\":[[0,4]]},{\"bookie\":\"b2:3181\",\"ledger\":9,\"entries\":[[0,3]]},{\"bookie\":\"b3:3181\",\"ledger\":9,\"entries\":[[0,3]]}]}")))))))) ≡ Err (Twice (repeated.Content (codes "b1:3181") 7))
+pair : picture_of (bookies ++ (closed_start ++ (closed_quorums ++ (closed_first ++ (closed_ensemble ++ (second_ledger ++ (first_contents ++ (codes "{\"bookie\":\"b1:3181\",\"ledger\":7,\"entries\":[[0,1],[3,4]]},{\"bookie\":\"b3:3181\",\"ledger\":7,\"entries\":[[1,2],[4,5]]},{\"bookie\":\"b1:3181\",\"ledger\":9,\"entries\":[[0,4]]},{\"bookie\":\"b2:3181\",\"ledger\":9,\"entries\":[[0,3]]},{\"bookie\":\"b3:3181\",\"ledger\":9,\"entries\":[[0,3]]}]}")))))))) ≡ Err (Twice (repeated.Content (codes "b1:3181") 7))
 unfolding serde_json_on_literals is_utf8 chars head_fault bookies_fault ledgers_fault contents_fault each_bookie_fault members_fault fragments_fault metadata_fault each_ledger_fault ranges_fault each_content_fault set.from_list set.insert set.empty set.items
 pair = refl
 
 -- a range that does not rise past the one before
-rank : picture_of (bookies ++ (closed_start ++ (closed_quorums ++ (closed_first ++ (closed_ensemble ++ (second ++ (codes "\"contents\":[{\"bookie\":\"b1:3181\",\"ledger\":7,\"entries\":[[0,0],[0,3],[5,5]]}," ++ (other_held)))))))) ≡ Err (Limit field.Entries)
+rank : picture_of (bookies ++ (closed_start ++ (closed_quorums ++ (closed_first ++ (closed_ensemble ++ (second_ledger ++ (codes "\"contents\":[{\"bookie\":\"b1:3181\",\"ledger\":7,\"entries\":[[0,0],[0,3],[5,5]]}," ++ (other_contents)))))))) ≡ Err (Limit field.Entries)
 unfolding serde_json_on_literals is_utf8 chars head_fault bookies_fault ledgers_fault contents_fault each_bookie_fault members_fault fragments_fault metadata_fault each_ledger_fault ranges_fault each_content_fault set.from_list set.insert set.empty set.items
 rank = refl
 
 -- a grace below 0
-grace : picture_of (codes "{\"format\":1,\"grace\":-1,\"bookies\":[{\"name\":\"b1:3181\",\"up\":true},{\"name\":\"b2:3181\",\"up\":true},{\"name\":\"b3:3181\",\"up\":true},{\"name\":\"b4:3181\",\"up\":true},{\"name\":\"b5:3181\",\"up\":true}]," ++ (closed_start ++ (closed_quorums ++ (closed_first ++ (closed_ensemble ++ (second ++ (first_held ++ (other_held)))))))) ≡ Err (WrongKind field.Grace)
+grace : picture_of (codes "{\"format\":1,\"grace\":-1,\"bookies\":[{\"name\":\"b1:3181\",\"up\":true},{\"name\":\"b2:3181\",\"up\":true},{\"name\":\"b3:3181\",\"up\":true},{\"name\":\"b4:3181\",\"up\":true},{\"name\":\"b5:3181\",\"up\":true}]," ++ (closed_start ++ (closed_quorums ++ (closed_first ++ (closed_ensemble ++ (second_ledger ++ (first_contents ++ (other_contents)))))))) ≡ Err (WrongKind field.Grace)
 unfolding serde_json_on_literals is_utf8 chars head_fault bookies_fault ledgers_fault contents_fault each_bookie_fault members_fault fragments_fault metadata_fault each_ledger_fault ranges_fault each_content_fault set.from_list set.insert set.empty set.items
 grace = refl
 
 -- no bookie
-no_bookies : picture_of (codes "{\"format\":1,\"grace\":3,\"bookies\":[]," ++ (closed_start ++ (closed_quorums ++ (closed_first ++ (closed_ensemble ++ (second ++ (first_held ++ (other_held)))))))) ≡ Err (Limit field.Bookies)
+no_bookies : picture_of (codes "{\"format\":1,\"grace\":3,\"bookies\":[]," ++ (closed_start ++ (closed_quorums ++ (closed_first ++ (closed_ensemble ++ (second_ledger ++ (first_contents ++ (other_contents)))))))) ≡ Err (Limit field.Bookies)
 unfolding serde_json_on_literals is_utf8 chars head_fault bookies_fault ledgers_fault contents_fault each_bookie_fault members_fault fragments_fault metadata_fault each_ledger_fault ranges_fault each_content_fault set.from_list set.insert set.empty set.items
 no_bookies = refl

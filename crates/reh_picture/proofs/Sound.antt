@@ -124,11 +124,11 @@ registered_named bookies b is =
     omega (arith, place_within (λ d. flag_of d field.Up) b 0 bookies (sym (contains-from_list numbers (map (λ p. p.0) (filter (λ p. flag_of p.1 field.Up) (enumerate_from 0 bookies))) b) ∙ is), length-map bookies (λ d. text_of d field.Name))
 
 -- a place, where there is one
-abbrev found : ℕ → Bool → Option ℕ
-found n t = cond t (Some n) None
+abbrev place_if : ℕ → Bool → Option ℕ
+place_if n t = cond t (Some n) None
 
 -- a bookie that is known
-found_within : (n most : ℕ) (t : Bool) → nat_lt n most ≡ t → is_some (found n t) ≡ true → unwrap_or (found n t) 0 < most
+found_within : (n most : ℕ) (t : Bool) → nat_lt n most ≡ t → is_some (place_if n t) ≡ true → unwrap_or (place_if n t) 0 < most
 found_within n most true t some = grind (arith, nat_tests, t)
 found_within n most false t some = cc
 

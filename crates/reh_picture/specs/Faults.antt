@@ -16,13 +16,13 @@ use Rattle.reh_picture.specs.Fields.{field_name}
 abbrev pub printed_byte : ℕ → ℕ
 printed_byte byte = if is_ascii_graphic byte then byte else 63
 
-abbrev pub printed : List ℕ → List ℕ
-printed name = map printed_byte name
+abbrev pub printed_name : List ℕ → List ℕ
+printed_name name = map printed_byte name
 
 abbrev pub repeated_text : Repeated → List ℕ
-repeated_text (repeated.Bookie name) = printed name
+repeated_text (repeated.Bookie name) = printed_name name
 repeated_text (repeated.Ledger ledger) = decimal ledger
-repeated_text (repeated.Content name ledger) = printed name ++ (codes " " ++ decimal ledger)
+repeated_text (repeated.Content name ledger) = printed_name name ++ (codes " " ++ decimal ledger)
 
 abbrev pub flaw_name : LedgerFlaw → List ℕ
 flaw_name flaw.Quorum = codes "Quorum"
@@ -39,7 +39,7 @@ fault_text (Missing field) = codes "3 Missing " ++ field_name field
 fault_text (WrongKind field) = codes "4 WrongKind " ++ field_name field
 fault_text BadName = codes "5 BadName"
 fault_text (Twice repeated) = codes "6 Twice " ++ repeated_text repeated
-fault_text (UnknownBookie name) = codes "7 UnknownBookie " ++ printed name
+fault_text (UnknownBookie name) = codes "7 UnknownBookie " ++ printed_name name
 fault_text (Limit field) = codes "8 Limit " ++ field_name field
 fault_text (BadLedger ledger flaw) = codes "9 BadLedger " ++ (decimal ledger ++ (codes " " ++ flaw_name flaw))
 fault_text NoMemory = codes "10 NoMemory"
@@ -51,4 +51,4 @@ fault_along judge before (d ∷ ds) = option_or (judge before d) (fault_along ju
 
 -- The call fails with this fault, and succeeds where there is none; but for want of memory it may always fail.
 abbrev pub FailsWith : {A : Type 0} → Result A PictureFault → Option PictureFault → Type 0
-FailsWith result fault = MatchResult result (λ _. fault ≡ None) (λ found. found ≢ NoMemory → fault ≡ Some found)
+FailsWith result fault = MatchResult result (λ _. fault ≡ None) (λ failure. failure ≢ NoMemory → fault ≡ Some failure)

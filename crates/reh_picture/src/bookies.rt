@@ -26,7 +26,8 @@ pub(crate) fn read_bookies(
 ) -> Result<(Names, BookieSet), PictureFault>
     ensures fault { FailsWith result (bookies_fault (view picture.now)) }
     ensures names { IfOk result (λ r. r.0 ≡ names_in (list_of (view picture.now) Field.Bookies)) }
-    ensures registered { IfOk result (λ r. r.1 ≡ registered_in (list_of (view picture.now) Field.Bookies)) }
+    ensures registered { IfOk result
+        (λ r. r.1 ≡ registered_in (list_of (view picture.now) Field.Bookies)) }
     ensures some { IfOk result (λ r. 0 < length r.0) }
     ensures named { IfOk result (λ r. (b : ℕ) → set.contains r.1 b ≡ true → b < length r.0) }
 {
@@ -59,7 +60,8 @@ fn read_each_bookie(alloc: Global, bookies: &[Value]) -> Result<(Names, BookieSe
 fn read_bookie(alloc: Global, names: &mut Names, bookie: &Value) -> Result<bool, PictureFault>
     requires { length names.old < MAX_BOOKIES }
     ensures fault { FailsWith result (bookie_fault names.old (view bookie.now)) }
-    ensures named { OnOk result (names.new ≡ names.old ++ text_of (view bookie.now) Field.Name ∷ []) }
+    ensures named { OnOk result
+        (names.new ≡ names.old ++ text_of (view bookie.now) Field.Name ∷ []) }
     ensures registered { IfOk result (λ up. flag_of (view bookie.now) Field.Up ≡ up) }
 {
     let name = name_of(bookie)?;

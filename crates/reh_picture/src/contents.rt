@@ -101,9 +101,11 @@ fn read_pair(
     pairs: &mut IndexSet<(u8, u64)>,
     content: &Value,
 ) -> Result<(BookieIx, LedgerId), PictureFault>
-    ensures fault { FailsWith result (pair_fault names.now ids.now.keys pairs.old.keys (view content.now)) }
+    ensures fault { FailsWith result
+        (pair_fault names.now ids.now.keys pairs.old.keys (view content.now)) }
     ensures pair { IfOk result (λ pair. pair ≡ pair_of names.now (view content.now)) }
-    ensures pairs { OnOk result (pairs.new.keys ≡ pairs.old.keys ++ pair_of names.now (view content.now) ∷ []) }
+    ensures pairs { OnOk result
+        (pairs.new.keys ≡ pairs.old.keys ++ pair_of names.now (view content.now) ∷ []) }
 {
     if !content.is_object() {
         return Err(PictureFault::WrongKind(Field::Content));
@@ -129,8 +131,10 @@ fn read_holding(
     pairs: &mut IndexSet<(u8, u64)>,
     content: &Value,
 ) -> Result<Holding, PictureFault>
-    ensures fault { FailsWith result (content_fault names.now ids.now.keys pairs.old.keys (view content.now)) }
-    ensures pairs { OnOk result (pairs.new.keys ≡ pairs.old.keys ++ pair_of names.now (view content.now) ∷ []) }
+    ensures fault { FailsWith result
+        (content_fault names.now ids.now.keys pairs.old.keys (view content.now)) }
+    ensures pairs { OnOk result
+        (pairs.new.keys ≡ pairs.old.keys ++ pair_of names.now (view content.now) ∷ []) }
     ensures holding { IfOk result (λ h. h ≡ holding_in names.now (view content.now)) }
 {
     let (bookie, ledger) = read_pair(alloc, names, ids, pairs, content)?;
@@ -153,7 +157,8 @@ pub(crate) fn read_contents(
 ) -> Result<Vec<Holding>, PictureFault>
     ensures fault { FailsWith result (contents_fault names.now ids.now.keys (view picture.now)) }
     ensures holdings { IfOk result
-        (λ holdings. holdings.items ≡ map (holding_in names.now) (list_of (view picture.now) Field.Contents)) }
+        (λ holdings. holdings.items
+        ≡ map (holding_in names.now) (list_of (view picture.now) Field.Contents)) }
 {
     let contents = list(picture, Field::Contents)?;
     read_each_content(alloc, names, ids, contents)
@@ -167,8 +172,10 @@ fn read_each_content(
     ids: &IndexSet<u64>,
     values: &[Value],
 ) -> Result<Vec<Holding>, PictureFault>
-    ensures fault { FailsWith result (each_content_fault names.now ids.now.keys (map view values.now)) }
-    ensures holdings { IfOk result (λ holdings. holdings.items ≡ map (holding_in names.now) (map view values.now)) }
+    ensures fault { FailsWith result
+        (each_content_fault names.now ids.now.keys (map view values.now)) }
+    ensures holdings { IfOk result
+        (λ holdings. holdings.items ≡ map (holding_in names.now) (map view values.now)) }
 {
     let mut pairs = IndexSet::new(alloc);
     let mut holdings = Vec::new(alloc);
@@ -212,7 +219,9 @@ fn note_end(
     last: u32,
 ) -> Result<(), AllocError>
     ensures { OnOk result ((q : ℕ) → get nat_cmp ends.new q
-        ≡ cond (nat_eq ledger q) (Some (option_map_or (λ end. max end last) (get nat_cmp ends.old q) last)) (get nat_cmp ends.old q)) }
+        ≡ cond (nat_eq ledger q)
+        (Some (option_map_or (λ end. max end last) (get nat_cmp ends.old q) last))
+        (get nat_cmp ends.old q)) }
 {
     let greatest = ends.get(&ledger).copied().map_or(last, |end| end.max(last));
     ends.insert(ledger, greatest)?;
@@ -232,7 +241,8 @@ pub(crate) fn hold(alloc: Global, holdings: &[Holding]) -> Result<Held, AllocErr
 
 /// Adds what one bookie holds of one ledger. After an `Err` some of it may be there.
 fn add_holding(held: &mut Held, holding: &Holding) -> Result<(), AllocError>
-    ensures { OnOk result (held.new.contents ≡ fold set.insert held.old.contents (copies_in holding.now)) }
+    ensures { OnOk result
+        (held.new.contents ≡ fold set.insert held.old.contents (copies_in holding.now)) }
 {
     for ends in &holding.ranges {
         add_range(held, holding.bookie, holding.ledger, *ends)?;
@@ -247,7 +257,8 @@ fn add_range(
     ledger: LedgerId,
     ends: (u32, u32),
 ) -> Result<(), AllocError>
-    ensures { OnOk result (held.new.contents ≡ fold set.insert held.old.contents (copies_within bookie ledger ends)) }
+    ensures { OnOk result (held.new.contents
+        ≡ fold set.insert held.old.contents (copies_within bookie ledger ends)) }
 {
     for entry in ends.0..=ends.1 {
         held.add(bookie, ledger, entry)?;

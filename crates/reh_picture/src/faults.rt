@@ -202,7 +202,8 @@ impl From<serde_json::Error> for PictureFault {
     ghost use Rattle.serde_json.specs.Errors.{IsMemory};
     ghost use Rattle.reh_picture.specs.declared.faults.PictureFault.TheVariants.{NoMemory, NotJson};
 
-    ghost from_gives = { λ error fault. (IsMemory error → fault ≡ NoMemory) × (¬ IsMemory error → fault ≡ NotJson) };
+    ghost from_gives = { λ error fault. (IsMemory error → fault ≡ NoMemory)
+        × (¬ IsMemory error → fault ≡ NotJson) };
 
     fn from(error: serde_json::Error) -> PictureFault {
         if error.is_memory() {

@@ -41,7 +41,8 @@ pub(crate) fn known_bookie(
 /// A member of an ensemble.
 fn read_member(alloc: Global, names: &Names, member: &Value) -> Result<BookieIx, PictureFault>
     ensures fault { FailsWith result (member_fault names.now (view member.now)) }
-    ensures bookie { IfOk result (λ bookie. bookie ≡ bookie_in names.now (member_name (view member.now))) }
+    ensures bookie { IfOk result
+        (λ bookie. bookie ≡ bookie_in names.now (member_name (view member.now))) }
 {
     let name = member
         .as_str()
@@ -58,7 +59,8 @@ fn read_ensemble(
 ) -> Result<Vec<BookieIx>, PictureFault>
     ensures fault { FailsWith result (members_fault names.now (map view members.now)) }
     ensures ensemble { IfOk result
-        (λ ensemble. ensemble.items ≡ map (λ member. bookie_in names.now (member_name member)) (map view members.now)) }
+        (λ ensemble. ensemble.items
+        ≡ map (λ member. bookie_in names.now (member_name member)) (map view members.now)) }
 {
     let mut ensemble = Vec::new(alloc);
     for member in members {
@@ -93,8 +95,10 @@ fn read_fragments(
     values: &[Value],
 ) -> Result<Vec<Fragment>, PictureFault>
     ensures fault { FailsWith result (fragments_fault names.now (map view values.now)) }
-    ensures fragments { IfOk result (λ fragments. fragments.items ≡ map (fragment_in names.now) (map view values.now)) }
-    ensures firsts { IfOk result (λ fragments. All (λ fragment. fragment.first < ENTRY_END) fragments.items) }
+    ensures fragments { IfOk result
+        (λ fragments. fragments.items ≡ map (fragment_in names.now) (map view values.now)) }
+    ensures firsts { IfOk result
+        (λ fragments. All (λ fragment. fragment.first < ENTRY_END) fragments.items) }
 {
     let mut fragments = Vec::new(alloc);
     for value in values {
@@ -136,10 +140,12 @@ fn read_end(ledger: &Value) -> Result<u32, PictureFault>
 /// The sizes of a ledger.
 fn read_sizes(ledger: &Value) -> Result<Sizes, PictureFault>
     ensures fault { result_err result ≡ sizes_fault (view ledger.now) }
-    ensures ensemble { IfOk result (λ sizes. sizes.ensemble ≡ number_of (view ledger.now) Field.EnsembleSize) }
+    ensures ensemble { IfOk result
+        (λ sizes. sizes.ensemble ≡ number_of (view ledger.now) Field.EnsembleSize) }
     ensures write_quorum { IfOk result
         (λ sizes. sizes.write_quorum ≡ number_of (view ledger.now) Field.WriteQuorumSize) }
-    ensures ack_quorum { IfOk result (λ sizes. sizes.ack_quorum ≡ number_of (view ledger.now) Field.AckQuorumSize) }
+    ensures ack_quorum { IfOk result
+        (λ sizes. sizes.ack_quorum ≡ number_of (view ledger.now) Field.AckQuorumSize) }
 {
     Ok(Sizes {
         ensemble: number(ledger, Field::EnsembleSize)?,
@@ -200,9 +206,11 @@ pub(crate) fn read_ledgers(
     picture: &Value,
 ) -> Result<Ledgers, PictureFault>
     ensures fault { FailsWith result (ledgers_fault names.now (view picture.now)) }
-    ensures ids { IfOk result (λ ledgers. ledgers.ids.keys ≡ ids_in (list_of (view picture.now) Field.Ledgers)) }
+    ensures ids { IfOk result
+        (λ ledgers. ledgers.ids.keys ≡ ids_in (list_of (view picture.now) Field.Ledgers)) }
     ensures metadata { IfOk result (λ ledgers.
-        ledgers.ledgers.items ≡ map (ledger_in names.now) (list_of (view picture.now) Field.Ledgers)) }
+        ledgers.ledgers.items
+        ≡ map (ledger_in names.now) (list_of (view picture.now) Field.Ledgers)) }
 {
     let ledgers = list_within(picture, Field::Ledgers, 0, MAX_LEDGERS)?;
     read_each_ledger(alloc, names, ledgers)
@@ -232,7 +240,8 @@ fn read_ledger(
     ledger: &Value,
 ) -> Result<Ledger, PictureFault>
     ensures fault { FailsWith result (ledger_fault names.now ids.old.keys (view ledger.now)) }
-    ensures ids { OnOk result (ids.new.keys ≡ ids.old.keys ++ number_of (view ledger.now) Field.Id ∷ []) }
+    ensures ids { OnOk result
+        (ids.new.keys ≡ ids.old.keys ++ number_of (view ledger.now) Field.Id ∷ []) }
     ensures ledger { IfOk result (λ g. g ≡ ledger_in names.now (view ledger.now)) }
 {
     if !ledger.is_object() {

@@ -41,7 +41,8 @@ pub fn read_picture(alloc: Global, bytes: &[u8]) -> Result<State, PictureFault>
 /// The JSON value of a text.
 fn parse_json(alloc: Global, bytes: &[u8]) -> Result<Value, PictureFault>
     ensures ok { IfOk result (λ v. json_of bytes.now ≡ Some (view v)) }
-    ensures err { IfErr result (λ fault. fault ≢ PictureFault.NoMemory → (fault ≡ PictureFault.NotJson) × (json_of bytes.now ≡ None)) }
+    ensures err { IfErr result (λ fault. fault ≢ PictureFault.NoMemory
+        → (fault ≡ PictureFault.NotJson) × (json_of bytes.now ≡ None)) }
 {
     Ok(Value::from_slice(alloc, bytes)?)
 }
@@ -76,7 +77,8 @@ fn words_in_all(
     requires ledgers { length ledgers.now ≤ MAX_LEDGERS }
     requires ranges { All (λ holding. All (λ range. range.0 ≤ range.1) holding.ranges) holdings.now }
     ensures { IfOk result
-        (λ words. words ≡ bookies * sum_by (λ g. words_of (held_in holdings.now) g.id) ledgers.now) }
+        (λ words. words
+        ≡ bookies * sum_by (λ g. words_of (held_in holdings.now) g.id) ledgers.now) }
 {
     let ends = greatest_ends(alloc, holdings)?;
     let mut words = 0;

@@ -15,7 +15,7 @@ use Rattle.reh_model.specs.Cluster.{Cluster}
 use Rattle.reh_model.specs.Step.{refusal_of, after}
 use Rattle.reh_model.specs.Swaps.{AllSafe}
 use Rattle.reh_model.specs.Session.{Session, replay, state_of, reply_to, moved_session, Performs, Run}
-use Rattle.reh_model.proofs.SessionLaws.{replay_first, replay-append, replay-prefix, replay_one, done_unless-some}
+use Rattle.reh_model.proofs.SessionLaws.{replay_first, replay-append, replay-prefix, replay_one, reply_unless-some}
 use Rattle.reh_model.proofs.SwapLaws.{CanRedoAll, CanRedoAll-run, all_safe}
 use Rattle.reh_model.proofs.AcceptedLaws.{done_within, refused_first}
 use Rattle.reh_session.specs.Kept.{session_of, IsKept}
@@ -111,7 +111,7 @@ undone_one {o} {s} {es} {k} h t some is = record {
 pub undo_performs : (o : Cluster) (es : List Event) (k : ℕ) → k ≤ length es → 0 < k → Performs (session_of o es k) Undo Done (session_of o es (k - 1))
 undo_performs o es k within some =
     let size : length (take k es) ≡ k = length-take-le k es within in inl (
-      sym (done_unless-some (length (take k es)) NothingToUndo (omega arith)),
+      sym (reply_unless-some (length (take k es)) NothingToUndo (omega arith)),
       (λ i. record {
         opening = o;
         done = (sym (take-take (k - 1) k es (omega arith)) ∙ ap (λ n. take (n - 1) (take k es)) (sym size)) i;
@@ -122,7 +122,7 @@ undo_performs o es k within some =
 -- redo moves it on by one
 pub redo_performs : (o : Cluster) (es : List Event) (k : ℕ) → k < length es → Performs (session_of o es k) Redo Done (session_of o es (k + 1))
 redo_performs o es k more = inl (
-  sym (done_unless-some (length (drop k es)) NothingToRedo (omega (arith, length-drop k es))),
+  sym (reply_unless-some (length (drop k es)) NothingToRedo (omega (arith, length-drop k es))),
   (λ i. record { opening = o; done = take-add k 1 es i; undone = sym (drop-drop 1 k es) i }),
 )
 

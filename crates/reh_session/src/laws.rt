@@ -9,9 +9,12 @@ ghost use Rattle.reh_model.specs.Session.{Session, state_of, reply_to, moved_ses
 
 /// An accepted event can be undone, and its undo restores the state and the surviving events; the one event that is undone then is that event.
 pub fn undo_restores()
-    ensures can_undo { (m : Session) (event : Event) → reply_to m (Do event) ≡ Done → reply_to (moved_session m (Do event)) Undo ≡ Done }
-    ensures events { (m : Session) (event : Event) → moved_session (moved_session m (Do event)) Undo ≡ record m { undone = event ∷ [] } }
-    ensures state { (m : Session) (event : Event) → state_of (moved_session (moved_session m (Do event)) Undo) ≡ state_of m }
+    ensures can_undo { (m : Session) (event : Event) → reply_to m (Do event) ≡ Done
+        → reply_to (moved_session m (Do event)) Undo ≡ Done }
+    ensures events { (m : Session) (event : Event)
+        → moved_session (moved_session m (Do event)) Undo ≡ record m { undone = event ∷ [] } }
+    ensures state { (m : Session) (event : Event)
+        → state_of (moved_session (moved_session m (Do event)) Undo) ≡ state_of m }
 {}
 
 /// An accepted event moves no stop of a fragment that has one, and changes nothing of the entries that such a fragment

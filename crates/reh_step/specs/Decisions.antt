@@ -4,4 +4,4 @@ use Rattle.reh_types.specs.declared.refusals.Refusal.{Refusal}
 
 -- accepted where there is no refusal, and else refused with it
 abbrev pub Decides : Result (Unit {0}) Refusal → Option Refusal → Type 0
-Decides result refusal = MatchResult result (λ _. refusal ≡ None) (λ given. refusal ≡ Some given)
+Decides result refusal = MatchResult result (λ _. refusal ≡ None) (λ reason. refusal ≡ Some reason)

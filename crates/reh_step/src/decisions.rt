@@ -18,7 +18,9 @@ use reh_types::{BookieIx, CLOCK_END, Event, LedgerId, MAX_TICKS, MAX_VERSION, Re
 
 /// Whether the event is accepted, or else the first refusal that applies. It takes no memory.
 pub fn check(state: &State, event: &Event) -> Result<(), Refusal>
-    ensures { MatchResult result (λ _. refusal_of state.now event.now ≡ None) (λ refusal. refusal_of state.now event.now ≡ Some refusal) }
+    ensures { MatchResult result
+        (λ _. refusal_of state.now event.now ≡ None)
+        (λ refusal. refusal_of state.now event.now ≡ Some refusal) }
 {
     match event {
         Event::Lose { bookie } => check_lose(state, *bookie),
@@ -140,8 +142,7 @@ fn check_copy(
 ) -> Result<(), Refusal>
     ensures { Decides result (refusal_of state.now (Copy worker ledger fragment index version)) }
 {
-    let (ledger, fragment, stripe) =
-        find_place(state, worker, ledger, fragment, index, version)?;
+    let (ledger, fragment, stripe) = find_place(state, worker, ledger, fragment, index, version)?;
     if let Some(entry) = first_unreadable(state, ledger, fragment, stripe) {
         return Err(Refusal::NoSource(entry as u64));
     }
@@ -183,7 +184,9 @@ fn check_bookie(state: &State, bookie: BookieIx) -> Result<(), Refusal>
 
 /// The ledger of that id, if it is in the picture.
 fn find_ledger(state: &State, ledger: LedgerId) -> Result<&Ledger, Refusal>
-    ensures { MatchResult result (λ g. ledger_at state.now ledger ≡ Some g.now) (λ refusal. (ledger_at state.now ledger ≡ None) × (refusal ≡ Refusal.NoLedger)) }
+    ensures { MatchResult result
+        (λ g. ledger_at state.now ledger ≡ Some g.now)
+        (λ refusal. (ledger_at state.now ledger ≡ None) × (refusal ≡ Refusal.NoLedger)) }
 {
     match state.ledger(ledger) {
         Some(found) => Ok(found),
@@ -194,8 +197,12 @@ fn find_ledger(state: &State, ledger: LedgerId) -> Result<&Ledger, Refusal>
 /// The ledger of that id, if the worker holds its lock.
 fn find_owned(state: &State, worker: BookieIx, ledger: LedgerId) -> Result<&Ledger, Refusal>
     ensures { MatchResult result
-        (λ g. (model.no_bookie state.now worker ≡ None) × (ledger_at state.now ledger ≡ Some g.now) × (model.not_owner worker g.now ≡ None))
-        (λ refusal. first_reason (model.no_bookie state.now worker ∷ model.at_ledger state.now ledger (λ g. model.not_owner worker g ∷ []) ∷ []) ≡ Some refusal) }
+        (λ g. (model.no_bookie state.now worker ≡ None)
+        × (ledger_at state.now ledger ≡ Some g.now)
+        × (model.not_owner worker g.now ≡ None))
+        (λ refusal. first_reason (model.no_bookie state.now worker
+        ∷ model.at_ledger state.now ledger (λ g. model.not_owner worker g ∷ [])
+        ∷ []) ≡ Some refusal) }
 {
     check_bookie(state, worker)?;
     let ledger = find_ledger(state, ledger)?;
@@ -234,13 +241,17 @@ fn find_place(
     version: u64,
 ) -> Result<(&Ledger, &Fragment, Striped), Refusal>
     ensures { MatchResult result
-        (λ place. (model.no_bookie state.now worker ≡ None) × (ledger_at state.now ledger ≡ Some place.0.now)
-            × (first_reason (place_checks state.now worker fragment index version place.0.now) ≡ None)
-            × (slice_get place.0.now.metadata.fragments fragment ≡ Some place.1.now)
-            × (length place.1.now.ensemble ≡ place.0.now.metadata.size)
-            × (place.2 ≡ stripe_of place.0.now.metadata fragment index))
+        (λ place. (model.no_bookie state.now worker ≡ None)
+        × (ledger_at state.now ledger ≡ Some place.0.now)
+        × (first_reason (place_checks state.now worker fragment index version place.0.now)
+        ≡ None)
+        × (slice_get place.0.now.metadata.fragments fragment ≡ Some place.1.now)
+        × (length place.1.now.ensemble ≡ place.0.now.metadata.size)
+        × (place.2 ≡ stripe_of place.0.now.metadata fragment index))
         (λ refusal. first_reason (model.no_bookie state.now worker
-            ∷ model.at_ledger state.now ledger (place_checks state.now worker fragment index version) ∷ []) ≡ Some refusal) }
+        ∷ model.at_ledger state.now ledger
+        (place_checks state.now worker fragment index version)
+        ∷ []) ≡ Some refusal) }
 {
     let ledger = find_owned(state, worker, ledger)?;
     check_version(ledger, version)?;
@@ -271,7 +282,10 @@ fn check_place<'a>(
     index: u64,
 ) -> Result<(&'a Fragment, Striped), Refusal>
     ensures { MatchResult result
-        (λ place. (model.no_place state.now worker ledger.now fragment index ≡ None) × (slice_get ledger.now.metadata.fragments fragment ≡ Some place.0.now) × (length place.0.now.ensemble ≡ ledger.now.metadata.size) × (place.1 ≡ stripe_of ledger.now.metadata fragment index))
+        (λ place. (model.no_place state.now worker ledger.now fragment index ≡ None)
+        × (slice_get ledger.now.metadata.fragments fragment ≡ Some place.0.now)
+        × (length place.0.now.ensemble ≡ ledger.now.metadata.size)
+        × (place.1 ≡ stripe_of ledger.now.metadata fragment index))
         (λ refusal. model.no_place state.now worker ledger.now fragment index ≡ Some refusal) }
 {
     let metadata = ledger.metadata();
@@ -318,7 +332,8 @@ fn first_unreadable(
     entries: Striped,
 ) -> Option<u32>
     requires { length fragment.now.ensemble ≡ ledger.now.metadata.size }
-    ensures { result ≡ find (λ e. not (cluster.is_readable state.now ledger.now fragment.now e)) entries }
+    ensures { result
+        ≡ find (λ e. not (cluster.is_readable state.now ledger.now fragment.now e)) entries }
 {
     for entry in entries {
         if !is_readable(state, ledger, fragment, entry) {
@@ -356,7 +371,8 @@ fn is_readable(state: &State, ledger: &Ledger, fragment: &Fragment, entry: u32) 
 
 /// Whether the bookie is registered and holds the entry.
 fn is_source(state: &State, ledger: &Ledger, bookie: BookieIx, entry: u32) -> bool
-    ensures { result ≡ (cluster.is_up state.now bookie && cluster.holds state.now bookie ledger.now.id entry) }
+    ensures { result ≡ (cluster.is_up state.now bookie
+        && cluster.holds state.now bookie ledger.now.id entry) }
 {
     state.is_up(bookie) && state.holds(bookie, ledger.id(), entry)
 }

@@ -22,7 +22,8 @@ use std::alloc::{AllocError, Global};
 pub fn step(_alloc: Global, state: &State, event: &Event) -> Result<State, Refusal>
     ensures accepted { IfOk result (λ _. refusal_of state.now event.now ≡ None) }
     ensures made { IfOk result (λ next. next ≡ after state.now event.now) }
-    ensures err { IfErr result (λ refusal. refusal ≡ or_no_memory (refusal_of state.now event.now)) }
+    ensures err { IfErr result
+        (λ refusal. refusal ≡ or_no_memory (refusal_of state.now event.now)) }
 {
     check(state, event)?;
     let next = apply(state, event)?;
@@ -103,7 +104,8 @@ fn hold_all(
 ) -> Result<(), AllocError>
     requires bookie { bookie < length state.old.names }
     requires held { All (λ e. IsHeld state.old.held ledger e) entries }
-    ensures { OnOk result (state.new ≡ record state.old { held = set.union state.old.held (copies_of bookie ledger entries) }) }
+    ensures { OnOk result (state.new
+        ≡ record state.old { held = set.union state.old.held (copies_of bookie ledger entries) }) }
 {
     for entry in entries {
         state.hold(bookie, ledger, entry)?;

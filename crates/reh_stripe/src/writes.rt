@@ -25,7 +25,8 @@ impl Model for WriteSet {
 
     ghost view = { λ w. map (index_at w.start w.size) (range w.rank w.quorum) };
 
-    ghost invariant = { λ w. (w.start < w.size) × (w.quorum ≤ w.size) × (w.size ≤ MAX_ENSEMBLE_SIZE) };
+    ghost invariant = { λ w. (w.start < w.size)
+        × (w.quorum ≤ w.size) × (w.size ≤ MAX_ENSEMBLE_SIZE) };
 }
 
 /// The indexes of an ensemble that carry the entry, as many as the write quorum, in the order of

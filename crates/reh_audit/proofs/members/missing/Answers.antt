@@ -1,3 +1,4 @@
+-- The ledger that was found in a well-formed state names only bookies that fit a set.
 use Rattle.std.proofs.Common.{◌∙◌, ap, sym}
 use Rattle.std.specs.Option.{option_copied}
 use Rattle.reh_cluster.proofs.MemberLaws.{HasBookies-found}

@@ -1,3 +1,4 @@
+-- A member joins the missing ones exactly where it isn't registered, up to the last of the ensemble.
 use Rattle.std.proofs.Common.{◌≡◌, ◌∙◌, ap, sym, true, false, not, List, ℕ, get_or, arith}
 use Rattle.std.specs.List.{filter}
 use Rattle.std.proofs.lemmas.List.{take_all}

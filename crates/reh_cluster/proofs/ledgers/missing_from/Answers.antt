@@ -1,3 +1,4 @@
+-- The missing members of one more ensemble join those of the fragments before it.
 use Rattle.std.proofs.Common.{◌≡◌, ◌∙◌, ap, sym, not, List, ℕ, get_or}
 use Rattle.std.specs.List.{filter, flat_map}
 use Rattle.std.proofs.lemmas.List.{take_all}

@@ -1,3 +1,4 @@
+-- The set gains the copy, and both maps go on saying what the copies do, wherever want of memory ends the call.
 use Rattle.std.proofs.Common.{rules, ◌≡◌, List, sym, ap, ◌∙◌, ℕ, ◌+◌, arith}
 use Rattle.std.specs.Prelude.{max}
 use Rattle.std.specs.Option.{option_map_or, unwrap_or}

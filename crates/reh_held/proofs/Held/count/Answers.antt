@@ -1,3 +1,4 @@
+-- What the map of counts says of a bookie is how many entries it holds, 0 where the map says nothing.
 use Rattle.std.proofs.Common.{ap, ◌∙◌}
 use Rattle.std.specs.Option.{unwrap_or}
 use Rattle.reh_model.specs.Contents.{HeldValue, count_held}

@@ -1,3 +1,4 @@
+-- The copies kept in order have the copy exactly where the contents do.
 use Rattle.std.proofs.Common.{ap, ◌∙◌, sym}
 use Rattle.reh_types.specs.Sets.{triples, contains-from_list}
 use Rattle.reh_model.specs.Contents.{HeldValue, has}

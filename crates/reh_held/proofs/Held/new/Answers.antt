@@ -1,3 +1,4 @@
+-- With no copy the contents are empty, and empty maps say all there is to say of them.
 use Rattle.std.proofs.Common.{ap, sym, ◌∙◌, List, ℕ}
 use Rattle.std.specs.Option.{unwrap_or}
 use Rattle.std.specs.declared.option.Option.TheVariants.{None}

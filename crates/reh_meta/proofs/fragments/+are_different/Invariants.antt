@@ -1,3 +1,4 @@
+-- Each call looks at one member less.
 use Rattle.std.proofs.Common.{length}
 use Rattle.reh_meta.proofs.fragments.+are_different.Given as goal
 

@@ -1,3 +1,4 @@
+-- Where the ledger is closed and has a last fragment, the test compares its first entry with the end.
 use Rattle.std.proofs.Common.{◌≡◌, Option, Some, true, ◌∙◌, ap, nat_le, ℕ}
 use Rattle.std.specs.Option.{option_map_or}
 use Rattle.reh_model.specs.Metadata.{Fragment, last_of}

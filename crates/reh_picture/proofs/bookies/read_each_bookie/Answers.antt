@@ -1,3 +1,4 @@
+-- One bookie more is read, with its name and its register; the first that has a fault ends the reading with it.
 use Rattle.std.proofs.Common.{true, false, ◌∙◌, rules}
 use Rattle.reh_picture.specs.Bookies.{each_bookie_fault}
 use Rattle.reh_picture.proofs.BookiesLemmas.{HasRead-none, HasRead-next, bookie_fault_here}

@@ -1,3 +1,4 @@
+-- The bookies so far have no fault; theirs are the names, and those that are up are registered.
 use Rattle.reh_picture.proofs.BookiesLemmas.{HasRead}
 use Rattle.reh_picture.proofs.bookies.read_each_bookie.Given as goal
 

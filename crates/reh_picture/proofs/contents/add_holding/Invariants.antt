@@ -1,3 +1,4 @@
+-- The contents have gained the entries of the ranges so far.
 use Rattle.std.proofs.Common.{◌≡◌, take, fold}
 use Rattle.std.specs.List.{flat_map}
 use Rattle.reh_types.specs.Sets as set

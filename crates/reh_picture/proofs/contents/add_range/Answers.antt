@@ -1,3 +1,4 @@
+-- Adding an entry leaves those behind it, which lead to the same contents.
 use Rattle.std.proofs.Common.{◌+◌, sym, ap, ◌∙◌, map, fold, arith}
 use Rattle.reh_types.specs.Sets as set
 use Rattle.reh_types.specs.Sets.{Set, triples}

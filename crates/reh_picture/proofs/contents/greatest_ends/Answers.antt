@@ -1,3 +1,4 @@
+-- The empty map says what no holdings do, and at the end the map says what all of them do.
 use Rattle.std.proofs.Common.{◌≡◌, take, ap, ◌∙◌}
 use Rattle.std.proofs.lemmas.List.{take_all}
 use Rattle.std.specs.Map.{lookup}

@@ -1,3 +1,4 @@
+-- The map says the greatest entry of each ledger in the holdings so far.
 use Rattle.std.proofs.Common.{take, fold}
 use Rattle.std.specs.List.{flat_map}
 use Rattle.std.specs.BTreeMap.{get}

@@ -1,3 +1,4 @@
+-- Behind the last holding the contents are those of all of them.
 use Rattle.std.proofs.Common.{◌≡◌, take, ap, ◌∙◌}
 use Rattle.std.proofs.lemmas.List.{take_all}
 use Rattle.reh_types.specs.Sets.{triples}

@@ -1,3 +1,4 @@
+-- The contents are those of the holdings so far.
 use Rattle.std.proofs.Common.{◌≡◌, take, fold}
 use Rattle.std.specs.List.{flat_map}
 use Rattle.reh_types.specs.Sets as set

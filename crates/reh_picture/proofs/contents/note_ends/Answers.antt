@@ -1,3 +1,4 @@
+-- One range more, which ends where it begins or later, has its last entry noted as its greatest.
 use Rattle.std.proofs.Common.{ap, ◌∙◌}
 use Rattle.std.specs.BTreeMap.{get}
 use Rattle.std.specs.Ordering.{nat_cmp}

@@ -1,3 +1,4 @@
+-- Where the old map said the greatest entries, the new one says them with the ranges so far.
 use Rattle.std.proofs.Common.{take, fold}
 use Rattle.std.specs.List.{flat_map}
 use Rattle.std.specs.BTreeMap.{get}

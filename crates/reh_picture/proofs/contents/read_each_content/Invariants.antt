@@ -1,3 +1,4 @@
+-- The values so far have no fault; theirs are the holdings, and the pairs of bookie and ledger.
 use Rattle.std.proofs.Common.{◌≡◌, map, take}
 use Rattle.serde_json.specs.View.{view}
 use Rattle.reh_picture.specs.Contents.{content_fault, holding_in, pairs_in}

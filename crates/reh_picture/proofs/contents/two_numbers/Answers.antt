@@ -1,3 +1,4 @@
+-- A list of another length than two is no pair of numbers.
 use Rattle.std.proofs.Common.{map, arith}
 use Rattle.std.proofs.lemmas.List.{length-map}
 use Rattle.serde_json.specs.View.{view}

@@ -1,3 +1,4 @@
+-- The values so far have no fault; theirs are the ledgers and the ids.
 use Rattle.std.proofs.Common.{◌≡◌, map, take}
 use Rattle.serde_json.specs.View.{view}
 use Rattle.reh_picture.specs.Ledgers.{ledger_fault, ledger_in, ids_in}

@@ -1,3 +1,4 @@
+-- One member more is read: a name of the picture, and its bookie joins the ensemble.
 use Rattle.reh_picture.proofs.Lists.{HasMade-next}
 use Rattle.reh_picture.proofs.ledgers.read_ensemble.Goals as goal
 

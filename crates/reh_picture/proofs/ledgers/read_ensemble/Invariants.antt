@@ -1,3 +1,4 @@
+-- The members so far have no fault, and theirs are the bookies of the ensemble.
 use Rattle.reh_picture.specs.Bookies.{bookie_in}
 use Rattle.reh_picture.specs.Ledgers.{member_fault, member_name}
 use Rattle.reh_picture.proofs.Lists.{HasMade}

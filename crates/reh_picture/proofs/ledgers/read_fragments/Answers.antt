@@ -1,3 +1,4 @@
+-- One fragment more is read, and its first entry is within the limit.
 use Rattle.std.proofs.Common.{◌<◌}
 use Rattle.std.proofs.lemmas.List.Elements.{All-push}
 use Rattle.reh_types.specs.declared.limits.TheConstants.{ENTRY_END}

@@ -1,3 +1,4 @@
+-- The values so far have no fault; theirs are the fragments, whose first entries are within the limit.
 use Rattle.std.proofs.Common.{◌<◌}
 use Rattle.std.specs.Prelude.{All}
 use Rattle.reh_picture.specs.Ledgers.{fragment_fault, fragment_in}

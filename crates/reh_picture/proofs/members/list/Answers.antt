@@ -1,3 +1,4 @@
+-- The elements of the array are those of the member's list.
 use Rattle.std.proofs.Common.{arith}
 use Rattle.reh_picture.proofs.Jsons.{elements-items_of}
 use Rattle.reh_picture.proofs.members.list.Goals as goal

@@ -1,3 +1,4 @@
+-- Bytes that are read are JSON, and those that are refused, but for want of memory, are none.
 use Rattle.std.proofs.lemmas.Result.{err_from_is_err_and}
 use Rattle.serde_json.specs.Errors.{IsMemory}
 use Rattle.reh_picture.proofs.Jsons.{json_some, json_none}

@@ -1,3 +1,4 @@
+-- The parts without a fault, and with few words, are a well-formed cluster; with too many, the limit is the fault.
 use Rattle.std.proofs.Common.{◌≡◌, ◌≤◌, ◌*◌, ◌∙◌, List, length, refl, sym, ap, subst, arith}
 use Rattle.std.specs.Prelude.{All, sum_by}
 use Rattle.std.proofs.lemmas.List.{length-map}

@@ -1,3 +1,4 @@
+-- A fault of the contents is the first of the picture where all that stands before them has none.
 use Rattle.std.proofs.Common.{◌≡◌, ◌≢◌, Some, sym, rules}
 use Rattle.serde_json.specs.View.{view}
 use Rattle.reh_picture.specs.declared.faults.PictureFault.TheVariants.{NoMemory}

@@ -1,3 +1,4 @@
+-- The words of one more ledger, by its greatest entry, are added to the sum.
 use Rattle.std.proofs.Common.{◌≡◌, ◌+◌, ◌/◌, sym, ap, ◌∙◌, take, arith}
 use Rattle.std.specs.Prelude.{sum_by}
 use Rattle.std.specs.Option.{option_map_or}

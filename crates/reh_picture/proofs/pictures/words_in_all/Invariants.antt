@@ -1,10 +1,10 @@
+-- The sum is the words of the ledgers so far, which are few.
 use Rattle.std.proofs.Common.{◌≡◌, ◌*◌, ◌^◌, ◌≤◌, take}
 use Rattle.std.specs.Prelude.{sum_by}
 use Rattle.reh_model.specs.WellFormed.{words_of}
 use Rattle.reh_picture.specs.Contents.{held_in}
 use Rattle.reh_picture.proofs.pictures.words_in_all.Given as goal
 
--- the words of the ledgers so far, which are few
 abbrev pub invariant-loop-ledger : goal.invariant-loop-ledger
 invariant-loop-ledger l = record {
   sum : l.words ≡ sum_by (λ g. words_of (held_in l.holdings) g.id) (take l.ledger-index l.ledgers);

@@ -1,3 +1,4 @@
+-- Accepted events keep the stops that fragments have, and so the stripes up to them.
 use Rattle.reh_model.proofs.SwapLaws.{stop_at-after, stripe_at-after}
 use Rattle.reh_session.proofs.laws.stripes_stay.Goals as goal
 

@@ -1,3 +1,4 @@
+-- An accepted event can be undone, which leaves all of the session but its undone events as it was.
 use Rattle.std.proofs.Common.{ap}
 use Rattle.reh_model.specs.Session.{Session, state_of}
 use Rattle.reh_model.proofs.SessionLaws.{undo_accepted, moved_session-undo}

@@ -1,3 +1,4 @@
+-- The next event is accepted and made, and the events behind it lead where they did.
 use Rattle.std.proofs.Common.{◌≡◌, ◌∙◌, ◌+◌, ◌∷◌, ap, sym, drop, List, None, is_some}
 use Rattle.std.proofs.lemmas.List.{drop_more}
 use Rattle.reh_types.specs.declared.moves.Event.{Event}

@@ -1,3 +1,4 @@
+-- Where the place is right, the first striped entry that can't be read is the reason to refuse the copy.
 use Rattle.std.proofs.Common.{◌≡◌, ◌∙◌, ap, sym, rules, not, ℕ, Bool, [], ◌∷◌, List, Some}
 use Rattle.std.specs.List.{find}
 use Rattle.reh_types.specs.declared.refusals.Refusal.TheVariants.{NoSource}

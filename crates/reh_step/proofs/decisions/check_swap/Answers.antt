@@ -1,3 +1,4 @@
+-- A wrong place refuses the swap first; behind it comes the first striped entry that the worker's bookie lacks.
 use Rattle.std.proofs.Common.{◌≡◌, ◌∙◌, ap, sym, rules, not, ℕ, Bool, [], ◌∷◌, List, Option, Some}
 use Rattle.std.specs.List.{find}
 use Rattle.std.specs.Option.{option_map}
@@ -12,14 +13,17 @@ use Rattle.reh_model.proofs.AcceptedLaws.{refused_before, passed_before}
 use Rattle.reh_step.proofs.decisions.check_swap.Goals as goal
 
 -- what a swap asks behind its place
-abbrev more : Cluster → ℕ → ℕ → ℕ → Ledger → List (Option Refusal)
-more s w f i g = missing_entry s w g f i ∷ version_end g ∷ []
+abbrev later_checks : Cluster → ℕ → ℕ → ℕ → Ledger → List (Option Refusal)
+later_checks s w f i g = missing_entry s w g f i ∷ version_end g ∷ []
 
 pub returns-in_err-ledger : goal.returns-in_err-ledger
 returns-in_err-ledger c =
     let s : Cluster = c.args.state.now in
-    search (rules, refused_before s c.args.worker c.args.ledger (place_checks s c.args.worker c.args.fragment c.args.index c.args.version) (more s c.args.worker c.args.fragment c.args.index)
-    _ c.in_err-ledger.ensures)
+    search (
+      rules,
+      refused_before s c.args.worker c.args.ledger (place_checks s c.args.worker c.args.fragment c.args.index c.args.version) (later_checks s c.args.worker c.args.fragment c.args.index)
+          _ c.in_err-ledger.ensures,
+    )
 
 pub returns-in-Some : goal.returns-in-Some
 returns-in-Some c =
@@ -28,6 +32,6 @@ returns-in-Some c =
     let lacked : ℕ → Bool = λ e. not (holds s c.args.worker g.id e) in
     let first : find lacked (stripe_of g.metadata c.args.fragment c.args.index) ≡ Some c.in-Some.entry =
     ap (λ (es : List ℕ). find lacked es) (sym c.in_ok-ledger.ensures.5) ∙ sym c.first_lacked.ensures ∙ c.in-Some.is in
-    passed_before s c.args.worker c.args.ledger g (place_checks s c.args.worker c.args.fragment c.args.index c.args.version) (more s c.args.worker c.args.fragment c.args.index)
+    passed_before s c.args.worker c.args.ledger g (place_checks s c.args.worker c.args.fragment c.args.index c.args.version) (later_checks s c.args.worker c.args.fragment c.args.index)
     c.in_ok-ledger.ensures.0 c.in_ok-ledger.ensures.1 c.in_ok-ledger.ensures.2
     ∙ ap (λ (o : Option ℕ). first_reason (option_map (λ e. MissingEntry e) o ∷ version_end g ∷ [])) first

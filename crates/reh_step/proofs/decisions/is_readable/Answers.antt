@@ -1,3 +1,4 @@
+-- The entry can be read from a source that is met, and from none of the indexes that are passed without one.
 use Rattle.std.proofs.Common.{◌≡◌, ◌∙◌, ◌<◌, ◌||◌, ap, sym, subst, rules, arith, true, false, Bool, List, ℕ, All, length}
 use Rattle.std.specs.List.{list_any}
 use Rattle.std.proofs.lemmas.List.Elements.{All-tail}

@@ -1,3 +1,4 @@
+-- Each event makes the state after it, and what an accepted copy adds is held by some bookie already.
 use Rattle.std.proofs.Common.{◌∙◌, ap, sym, subst, List, ℕ, All, [], Option}
 use Rattle.std.specs.Prelude.{unwrap_or}
 use Rattle.reh_types.specs.declared.moves.Event.{Event}

@@ -1,3 +1,4 @@
+-- Adding the entries that are left leads to the copy's contents.
 use Rattle.std.proofs.Common.{◌≡◌, ◌∙◌, ap, sym, subst, rules, arith, length, List, ℕ, All, []}
 use Rattle.std.proofs.lemmas.List.Elements.{All-tail, All-weaker}
 use Rattle.reh_types.specs.Sets.{union, insert}

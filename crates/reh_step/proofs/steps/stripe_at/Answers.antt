@@ -1,3 +1,4 @@
+-- The entries from the fragment's first to its stop are its stripe; an index outside the ensemble has none.
 use Rattle.std.proofs.Common.{◌≡◌, ◌∙◌, ap, sym, subst, rules, arith, List, Some}
 use Rattle.std.specs.Prelude.{slice_get}
 use Rattle.std.proofs.lemmas.Option.{slice_get-get_or}

@@ -1,3 +1,4 @@
+-- An index of the ensemble carries the entry where its rank is below the quorum; one outside carries none.
 use Rattle.std.proofs.Common.{◌≡◌, false, sym, ◌∙◌, ap, arith, nat_lt}
 use Rattle.std.proofs.lemmas.Bool.Decides.{nat_tests}
 use Rattle.reh_model.proofs.StripingLaws.{is_striped-rank_of, is_striped-outside}

@@ -1,3 +1,4 @@
+-- The missing members of the metadata's fragments are those of the ledger.
 use Rattle.std.proofs.Common.{◌∙◌, ap, not, List}
 use Rattle.std.specs.List.{filter, flat_map}
 use Rattle.reh_types.specs.Sets.{numbers, contains, from_list}

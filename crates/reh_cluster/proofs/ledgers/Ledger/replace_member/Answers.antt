@@ -1,3 +1,4 @@
+-- The bookie is in no place of the ensemble that the metadata has at that fragment.
 use Rattle.std.proofs.Common.{ap, ◌∙◌, sym}
 use Rattle.std.specs.Prelude.{slice_get}
 use Rattle.reh_model.specs.Cluster.{Ledger}

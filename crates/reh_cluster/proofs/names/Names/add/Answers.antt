@@ -1,3 +1,4 @@
+-- The names with the added one are still at most 64, each once; it is new where no other has its bytes.
 use Rattle.std.proofs.Common.{◌∙◌, sym, ap, not, arith, length}
 use Rattle.std.proofs.lemmas.List.{length-map}
 use Rattle.std.specs.Str.{bytes_eq}

@@ -1,3 +1,4 @@
+-- The index of a text among the names is the bookie of these bytes; bytes that are no text name no bookie.
 use Rattle.std.proofs.Common.{◌∙◌, sym, ap, position}
 use Rattle.std.specs.Str.{bytes_eq}
 use Rattle.reh_cluster.proofs.NamesLemmas.{position_no_text, found_text}

@@ -1,3 +1,4 @@
+-- A list of no names has at most 64, each once.
 use Rattle.std.proofs.Common.{arith, ap, length}
 use Rattle.reh_cluster.proofs.NamesLemmas.{IsNames-keys}
 use Rattle.reh_cluster.proofs.names.Names.new.Goals as goal

@@ -1,3 +1,4 @@
+-- A later clock that isn't past its end leaves the state well-formed.
 use Rattle.std.proofs.Common.{ap, arith}
 use Rattle.reh_model.specs.Cluster.{Cluster}
 use Rattle.reh_model.proofs.WellFormedLaws.{IsWellFormed-clock}

@@ -1,3 +1,4 @@
+-- A named bookie that gains an entry which some bookie holds leaves the state well-formed, as does want of memory.
 use Rattle.std.proofs.Common.{◌<◌, length, ap, sym, subst, arith}
 use Rattle.reh_model.specs.Contents.{Contents, HeldValue, IsHeld}
 use Rattle.reh_model.specs.Cluster.{Cluster}

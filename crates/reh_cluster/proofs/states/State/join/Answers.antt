@@ -1,3 +1,4 @@
+-- The register with one more bookie of the picture leaves the state well-formed.
 use Rattle.std.proofs.Common.{ap, length, arith}
 use Rattle.reh_model.specs.Cluster.{Cluster}
 use Rattle.reh_model.proofs.WellFormedLaws.{IsWellFormed-up}

@@ -1,3 +1,4 @@
+-- The register with one bookie less leaves the state well-formed.
 use Rattle.reh_model.proofs.WellFormedLaws.{named-remove}
 use Rattle.reh_model.proofs.WellFormedLaws.{IsWellFormed-up}
 use Rattle.reh_cluster.proofs.states.State.lose.Goals as goal

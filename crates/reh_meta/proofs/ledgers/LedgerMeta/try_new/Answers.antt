@@ -1,3 +1,4 @@
+-- Parts that passed all four tests, with copied fragments, keep the limits and the rules of metadata.
 use Rattle.std.proofs.Common.{◌≡◌, List, sym, subst, rules}
 use Rattle.reh_model.specs.Metadata.{Fragment, IsMetadata}
 use Rattle.reh_model.proofs.MetadataLaws.{KeepsRules, IsMetadata-from_rules}

@@ -1,3 +1,4 @@
+-- Cloned fragments with one member replaced are the old metadata's with that member, and keep its rules.
 use Rattle.std.proofs.Common.{◌≡◌, ◌<◌, ◌+◌, ◌∙◌, false, List, Some, length, get_or, sym, ap, subst, arith}
 use Rattle.std.specs.Prelude.{◌==◌, slice_get, slice_set}
 use Rattle.std.specs.List.{list_any}

@@ -1,3 +1,4 @@
+-- Refused, made or out of memory, the event has its reply, and the swaps that survive keep their promises.
 use Rattle.std.proofs.Common.{◌≡◌, ◌∙◌, ap, inl, refl, sym, rules, arith, List}
 use Rattle.reh_types.specs.declared.moves.Event.{Event}
 use Rattle.reh_types.specs.declared.moves.Move.TheVariants.{Do}

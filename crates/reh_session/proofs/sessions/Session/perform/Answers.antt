@@ -1,3 +1,4 @@
+-- A look changes nothing, so that the swaps that survive keep their promises.
 use Rattle.reh_session.proofs.Keeps.{kept_safe}
 use Rattle.reh_session.proofs.sessions.Session.perform.Goals as goal
 

@@ -1,3 +1,4 @@
+-- The first undone event is made again, as a redo is to, and the swaps that survive keep their promises.
 use Rattle.std.proofs.Common.{arith, refl}
 use Rattle.reh_session.proofs.Keeps.{redone, redo_performs, kept_safe}
 use Rattle.reh_session.proofs.sessions.Session.redo.Goals as goal

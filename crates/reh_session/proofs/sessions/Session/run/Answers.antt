@@ -1,3 +1,4 @@
+-- One move more has its reply; where all have, no swap of the run loses an entry.
 use Rattle.std.proofs.Common.{arith}
 use Rattle.std.proofs.lemmas.Grind.{common_steps}
 use Rattle.std.proofs.lemmas.List.{take_all}

@@ -1,3 +1,4 @@
+-- In the state that the surviving events lead to, each swap among them keeps its promise.
 use Rattle.std.proofs.Common.{subst, take}
 use Rattle.std.specs.Prelude.{All}
 use Rattle.reh_model.specs.Session.{Session}

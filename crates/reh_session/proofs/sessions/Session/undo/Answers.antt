@@ -1,3 +1,4 @@
+-- The surviving events but the newest can be replayed, as an undo is to, and the swaps among them keep their promises.
 use Rattle.std.proofs.Common.{arith, refl}
 use Rattle.reh_session.proofs.Keeps.{undo_replays, undone_one, undo_performs, kept_safe}
 use Rattle.reh_session.proofs.sessions.Session.undo.Goals as goal

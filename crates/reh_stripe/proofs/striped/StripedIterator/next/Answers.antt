@@ -1,3 +1,4 @@
+-- Each call gives the least striped entry that is left, and none exactly where none is left.
 use Rattle.std.proofs.Common.{◌≡◌, ◌+◌, ◌-◌, List, ℕ, [], ◌∷◌, length, sym, ◌∙◌, ap, arith}
 use Rattle.reh_model.specs.Striping.{striped_entries}
 use Rattle.reh_model.proofs.StripingLaws.{striped_entries-step, striped_entries-past, striped_entries-outside}

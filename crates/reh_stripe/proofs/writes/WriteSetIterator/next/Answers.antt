@@ -1,3 +1,4 @@
+-- Each call gives the index of the next rank, so that one index less is left.
 use Rattle.std.proofs.Common.{◌≡◌, ◌+◌, List, ℕ, ◌∷◌, map, length, sym, ◌∙◌, ap, arith}
 use Rattle.reh_model.specs.Striping.{index_at, range}
 use Rattle.reh_model.proofs.StripingLaws.{map-index_at-step}
