@@ -1,0 +1,7 @@
+use Rattle.std.proofs.Common.{length, ◌≡◌, ◌∷◌, [], MatchOption, ℕ, ◌+◌, ◌-◌, ◌*◌, ◌<◌, ◌≤◌}
+use Rattle.reh_script.specs.Script as script
+use Rattle.reh_script.proofs.words.+read_words.Given as goal
+
+-- proposed from what the function passes where it calls itself
+abbrev pub decreases-read_words : goal.decreases-read_words
+decreases-read_words l = length l.kinds.now

@@ -1,0 +1,9 @@
+// The script language: the command of a line, and the texts of replies and of the report.
+#![tactic(auto)]
+
+mod commands;
+mod scripts;
+mod words;
+
+pub use commands::{Command, LineFault};
+pub use scripts::parse_line;
