@@ -50,7 +50,7 @@ other_parts p (b ∷ bs) =
     elim (p b) as (λ t. p b ≡ t → filter is_word (slice_split p (drop (cond (not t) (1 + position_or_len p bs) 0) (b ∷ bs))) ≡ filter is_word (drop 1 (cond t ([] ∷ slice_split p bs) (onto_first b (slice_split p bs))))) [
       | true ↦ λ e. ap (filter is_word) (slice_split-cons_yes p b bs e)
       | false ↦ λ e. ap (λ xs. filter is_word (slice_split p xs)) (drop_more (position_or_len p bs) b bs) ∙ other_parts p bs
-        ∙ ap (λ parts. filter is_word (drop 1 (onto_first b parts))) (sym (first_part p bs))
+          ∙ ap (λ parts. filter is_word (drop 1 (onto_first b parts))) (sym (first_part p bs))
     ] refl
 
 -- where nothing passes, the front is the whole

@@ -90,7 +90,7 @@ abbrev pub event : Event → Command
 event e = Make (Do e)
 
 -- all commands
-abbrev pub forms : List Form
+unfoldable pub forms : List Form
 forms =
     form (codes "lose") (Bookie ∷ []) (λ a. event (Lose a.bookie))
     ∷ form (codes "join") (Bookie ∷ []) (λ a. event (Join a.bookie))
@@ -108,9 +108,18 @@ forms =
     ∷ form (codes "report") [] (λ a. Report)
     ∷ []
 
+-- a command with the arguments at hand
+pub record Filled : Type 0 where
+  pub verb : List ℕ
+  pub kinds : List Kind
+  pub command : Command
+
+abbrev pub filled : Arguments → Form → Filled
+filled a f = record { verb = f.verb; kinds = f.kinds; command = f.make a }
+
 -- the command of that verb
 abbrev pub form_of : List ℕ → Option Form
-form_of verb = find (λ f. bytes_eq verb f.verb) forms
+form_of verb = find (λ f. bytes_eq f.verb verb) forms
 
 -- the command that a form makes
 abbrev pub made_by : Form → Result Arguments LineFault → Result Command LineFault

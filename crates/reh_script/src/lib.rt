@@ -2,6 +2,7 @@
 #![tactic(auto)]
 
 mod commands;
+mod forms;
 mod scripts;
 mod words;
 

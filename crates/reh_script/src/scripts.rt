@@ -1,15 +1,13 @@
 // The commands of a script.
-ghost use Rattle.std.specs.Prelude.{◌≡◌};
+ghost use Rattle.std.specs.Prelude.{◌≡◌, position};
 ghost use Rattle.std.specs.Str.Lines.{strip_carriage_return};
-ghost use Rattle.reh_types.specs.declared.moves.Move.TheVariants.{Do};
-ghost use Rattle.reh_script.specs.declared.commands.Command.TheVariants.{Make};
+ghost use Rattle.std.specs.Str.{bytes_eq};
 ghost use Rattle.reh_script.specs.Script.{command_of_line, command_by, form_of, words_of};
 
 use crate::commands::{Command, LineFault};
-use crate::words::Kind::{Bookie, Number};
-use crate::words::{next_word, read_words};
+use crate::forms::{Form, forms};
+use crate::words::{Arguments, next_word, read_words};
 use reh_cluster::Names;
-use reh_types::{Event, LedgerId, Move};
 
 /// The bytes of a line that isn't too long.
 const MAX_LINE: usize = 1_024;
@@ -44,28 +42,19 @@ fn without_cr(line: &[u8]) -> &[u8]
 fn parse_command(names: &Names, verb: &[u8], words: &[u8]) -> Result<Command, LineFault>
     ensures { result ≡ command_by names.now (form_of verb.now) (words_of words.now) }
 {
-    match verb {
-        b"lose" => read_words(names, &[Bookie], words).map(|a| event(Event::Lose { bookie: a.bookie })),
-        b"join" => read_words(names, &[Bookie], words).map(|a| event(Event::Join { bookie: a.bookie })),
-        b"audit" => read_words(names, &[], words).map(|_| event(Event::Audit)),
-        b"acquire" => read_words(names, &[Bookie, Number], words).map(|a| event(Event::Acquire { worker: a.bookie, ledger: LedgerId(a.first) })),
-        b"release" => read_words(names, &[Bookie, Number], words).map(|a| event(Event::Release { worker: a.bookie, ledger: LedgerId(a.first) })),
-        b"finish" => read_words(names, &[Bookie, Number], words).map(|a| event(Event::Finish { worker: a.bookie, ledger: LedgerId(a.first) })),
-        b"expire" => read_words(names, &[Bookie], words).map(|a| event(Event::Expire { worker: a.bookie })),
-        b"tick" => read_words(names, &[Number], words).map(|a| event(Event::Tick { ticks: a.first })),
-        b"copy" => read_words(names, &[Bookie, Number, Number, Number, Number], words).map(|a| event(Event::Copy { worker: a.bookie, ledger: LedgerId(a.first), fragment: a.second, index: a.third, version: a.fourth })),
-        b"swap" => read_words(names, &[Bookie, Number, Number, Number, Number], words).map(|a| event(Event::Swap { worker: a.bookie, ledger: LedgerId(a.first), fragment: a.second, index: a.third, version: a.fourth })),
-        b"undo" => read_words(names, &[], words).map(|_| Command::Make(Move::Undo)),
-        b"redo" => read_words(names, &[], words).map(|_| Command::Make(Move::Redo)),
-        b"clock" => read_words(names, &[], words).map(|_| Command::Make(Move::Look)),
-        b"report" => read_words(names, &[], words).map(|_| Command::Report),
-        _ => Err(LineFault::UnknownCommand),
-    }
+    let table = forms(Arguments::none());
+    let Some(place) = place_of(&table, verb) else {
+        return Err(LineFault::UnknownCommand);
+    };
+    let form = &table[place];
+    let arguments = read_words(names, form.kinds, words)?;
+    let form = &forms(arguments)[place];
+    Ok(form.command)
 }
 
-/// The command that makes an event.
-fn event(event: Event) -> Command
-    ensures { result ≡ Make (Do event) }
+/// Where the command of that verb stands among some, if it is there.
+fn place_of(forms: &[Form], verb: &[u8]) -> Option<usize>
+    ensures { result ≡ position (λ f. bytes_eq f.verb verb.now) forms.now }
 {
-    Command::Make(Move::Do(event))
+    forms.iter().position(|form| form.verb == verb)
 }

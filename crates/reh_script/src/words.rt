@@ -28,7 +28,7 @@ pub struct Arguments {
 
 impl Arguments {
     /// Nothing is named.
-    fn none() -> Arguments
+    pub(crate) fn none() -> Arguments
         ensures { result ≡ script.no_arguments }
     {
         Arguments {
