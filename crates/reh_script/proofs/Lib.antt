@@ -1,3 +1,4 @@
 mod Numbers
 pub mod WordLaws
 pub mod TableLaws
+mod Examples

@@ -10,6 +10,12 @@ use crate::words::{Arguments, Kind};
 use reh_types::{Event, LedgerId, Move};
 use std::marker::Model;
 
+/// The words of a worker and a ledger with a task.
+const TASK: &[Kind] = &[Bookie, Number];
+
+/// The words of a worker, a ledger, a fragment, an index of its ensemble, and the ledger's version.
+const MEMBER: &[Kind] = &[Bookie, Number, Number, Number, Number];
+
 /// A command: its verb, the kinds of the words behind it, and what it asks for with the arguments at hand.
 #[derive(Drop)]
 pub(crate) struct Form {
@@ -31,60 +37,37 @@ impl Model for Form {
 pub(crate) fn forms(a: Arguments) -> [Form; 14]
     ensures { result ≡ map (script.filled a) script.forms }
 {
+    let (bookie, worker, ticks) = (a.bookie, a.bookie, a.first);
+    let (ledger, fragment, index, version) = (LedgerId(a.first), a.second, a.third, a.fourth);
     [
-        row(b"lose", &[Bookie], event(Event::Lose { bookie: a.bookie })),
-        row(b"join", &[Bookie], event(Event::Join { bookie: a.bookie })),
+        row(b"lose", &[Bookie], event(Event::Lose { bookie })),
+        row(b"join", &[Bookie], event(Event::Join { bookie })),
         row(b"audit", &[], event(Event::Audit)),
-        row(
-            b"acquire",
-            &[Bookie, Number],
-            event(Event::Acquire {
-                worker: a.bookie,
-                ledger: LedgerId(a.first),
-            }),
-        ),
-        row(
-            b"release",
-            &[Bookie, Number],
-            event(Event::Release {
-                worker: a.bookie,
-                ledger: LedgerId(a.first),
-            }),
-        ),
-        row(
-            b"finish",
-            &[Bookie, Number],
-            event(Event::Finish {
-                worker: a.bookie,
-                ledger: LedgerId(a.first),
-            }),
-        ),
-        row(
-            b"expire",
-            &[Bookie],
-            event(Event::Expire { worker: a.bookie }),
-        ),
-        row(b"tick", &[Number], event(Event::Tick { ticks: a.first })),
+        row(b"acquire", TASK, event(Event::Acquire { worker, ledger })),
+        row(b"release", TASK, event(Event::Release { worker, ledger })),
+        row(b"finish", TASK, event(Event::Finish { worker, ledger })),
+        row(b"expire", &[Bookie], event(Event::Expire { worker })),
+        row(b"tick", &[Number], event(Event::Tick { ticks })),
         row(
             b"copy",
-            &[Bookie, Number, Number, Number, Number],
+            MEMBER,
             event(Event::Copy {
-                worker: a.bookie,
-                ledger: LedgerId(a.first),
-                fragment: a.second,
-                index: a.third,
-                version: a.fourth,
+                worker,
+                ledger,
+                fragment,
+                index,
+                version,
             }),
         ),
         row(
             b"swap",
-            &[Bookie, Number, Number, Number, Number],
+            MEMBER,
             event(Event::Swap {
-                worker: a.bookie,
-                ledger: LedgerId(a.first),
-                fragment: a.second,
-                index: a.third,
-                version: a.fourth,
+                worker,
+                ledger,
+                fragment,
+                index,
+                version,
             }),
         ),
         row(b"undo", &[], Command::Make(Move::Undo)),
@@ -94,6 +77,7 @@ pub(crate) fn forms(a: Arguments) -> [Form; 14]
     ]
 }
 
+/// A command of the table.
 fn row(verb: &'static [u8], kinds: &'static [Kind], command: Command) -> Form
     ensures { result ≡ record { verb = verb.now; kinds = kinds.now; command = command } }
 {
