@@ -1,4 +1,5 @@
 mod Numbers
 pub mod WordLaws
 pub mod TableLaws
+pub mod ReportLaws
 mod Examples

@@ -1,2 +1,4 @@
 pub mod Faults
 pub mod Script
+pub mod Texts
+pub mod Reports

@@ -3,8 +3,12 @@
 
 mod commands;
 mod forms;
+mod reports;
 mod scripts;
+mod texts;
 mod words;
 
 pub use commands::{Command, LineFault};
+pub use reports::report_text;
 pub use scripts::parse_line;
+pub use texts::reply_text;
