@@ -1,4 +1,4 @@
--- Worked lines: the definition, computed.
+-- Worked lines and texts: the definitions, computed.
 use Rattle.std.specs.Prelude.{◌≡◌, refl, ℕ, List, [], ◌∷◌, ◌++◌, codes, map, replicate, Option, Some, None, Result, Ok, Err}
 use Rattle.reh_types.specs.declared.moves.Event.TheVariants.{Lose, Acquire, Tick, Copy}
 use Rattle.reh_types.specs.declared.moves.Move.TheVariants.{Do, Look}
@@ -7,6 +7,15 @@ use Rattle.reh_script.specs.declared.commands.Command.TheVariants.{Make, Report}
 use Rattle.reh_script.specs.declared.commands.LineFault.{LineFault}
 use Rattle.reh_script.specs.declared.commands.LineFault.TheVariants.{TooLong, UnknownCommand, BadWords, UnknownName}
 use Rattle.reh_script.specs.Script.{command_of_line, forms}
+use Rattle.std.specs.Fmt.{digits}
+use Rattle.reh_types.specs.declared.moves.Reply.TheVariants.{Done, Clock, Refused}
+use Rattle.reh_types.specs.declared.refusals.Refusal.TheVariants.{Locked, NoTask, StillUnder, Stale}
+use Rattle.reh_types.specs.declared.names.LedgerState.{LedgerState}
+use Rattle.reh_types.specs.declared.names.LedgerState.TheVariants.{Open, InRecovery, Closed}
+use Rattle.reh_types.specs.Sets.{contains, insert, empty, from_list, items}
+use Rattle.reh_model.specs.Metadata.{Metadata, Fragment}
+use Rattle.reh_model.specs.Cluster.{Cluster}
+use Rattle.reh_script.specs.Texts.{reply_text, report}
 
 -- two bookies
 abbrev names : List (List ℕ)
@@ -56,3 +65,42 @@ pub length_of_lines : asked ((codes "clock" ++ replicate 1_019 32) ∷ (codes "c
     ≡ made (Make Look) ∷ made (Make Look) ∷ faulty TooLong ∷ faulty TooLong ∷ None ∷ faulty TooLong ∷ faulty TooLong ∷ []
 unfolding forms
 length_of_lines = refl
+
+-- Texts
+
+-- a lock's owner goes by name, or by number where there is no name for it
+pub replies_printed : map (reply_text names) (Done ∷ Clock 12 ∷ Refused (Locked 1) ∷ Refused (Locked 5) ∷ Refused NoTask ∷ Refused (StillUnder 3) ∷ Refused (Stale 1_000_000_000_000) ∷ [])
+    ≡ codes "ok" ∷ codes "clock 12" ∷ codes "refused 7 Locked b2:3181" ∷ codes "refused 7 Locked 5" ∷ codes "refused 6 NoTask" ∷ codes "refused 9 StillUnder 3" ∷ codes "refused 24 Stale 1000000000000" ∷ []
+unfolding digits
+replies_printed = refl
+
+abbrev metadata_of : LedgerState → ℕ → List Fragment → Metadata
+metadata_of state version fragments = record { size = 2; write_quorum = 2; ack_quorum = 1; state = state; version = version; fragments = fragments }
+
+abbrev fragment : ℕ → List ℕ → Fragment
+fragment first ensemble = record { first = first; ensemble = ensemble }
+
+-- ledgers in each state; one with a task that is locked, one with a task and a grace that runs
+abbrev worked : Cluster
+worked = record {
+  names = codes "b1" ∷ codes "b2" ∷ codes "b3" ∷ [];
+  grace = 3;
+  up = from_list (0 ∷ 2 ∷ []);
+  ledgers =
+      record { id = 7; metadata = metadata_of (Closed 6) 2 (fragment 0 (0 ∷ 1 ∷ []) ∷ fragment 4 (1 ∷ 2 ∷ []) ∷ []); task = Some (from_list (1 ∷ [])); lock = Some (record { owner = 2; due = None }) }
+      ∷ record { id = 0; metadata = metadata_of (Closed 0) 0 (fragment 0 (2 ∷ 0 ∷ []) ∷ []); task = None; lock = None }
+      ∷ record { id = 1_000_000_000_000; metadata = metadata_of Open 0 (fragment 0 (0 ∷ 1 ∷ []) ∷ []); task = Some (from_list (2 ∷ 0 ∷ [])); lock = Some (record { owner = 0; due = Some 8 }) }
+      ∷ record { id = 3; metadata = metadata_of InRecovery 1 (fragment 0 (0 ∷ 1 ∷ []) ∷ []); task = Some (from_list (1 ∷ [])); lock = None }
+      ∷ [];
+  held = from_list ((0, 7, 0) ∷ (1, 7, 0) ∷ (1, 7, 4) ∷ (1, 3, 0) ∷ []);
+  clock = 5;
+}
+
+pub report_printed : report worked
+    ≡ codes "clock 5 grace 3" ∷ codes "bookie b1 up 1" ∷ codes "bookie b2 down 3" ∷ codes "bookie b3 up 0"
+    ∷ codes "ledger 7 CLOSED version 2 last 5 quorum 2 2 1" ∷ codes "fragment 0 first 0 stop 4 b1 b2" ∷ codes "fragment 1 first 4 stop 6 b2 b3" ∷ codes "task b2" ∷ codes "lock b3"
+    ∷ codes "ledger 0 CLOSED version 0 last -1 quorum 2 2 1" ∷ codes "fragment 0 first 0 stop 0 b3 b1"
+    ∷ codes "ledger 1000000000000 OPEN version 0 last - quorum 2 2 1" ∷ codes "fragment 0 first 0 stop - b1 b2" ∷ codes "task b1 b3" ∷ codes "lock b1 due 8"
+    ∷ codes "ledger 3 IN_RECOVERY version 1 last - quorum 2 2 1" ∷ codes "fragment 0 first 0 stop - b1 b2" ∷ codes "task b2" ∷ []
+unfolding digits contains insert empty from_list items
+report_printed = refl

@@ -17,10 +17,18 @@ use std::alloc::{AllocError, Global};
 pub fn report_text(alloc: Global, state: &State) -> Result<String, AllocError>
     ensures { IfOk result (λ text. string_bytes text ≡ texts.text_of (texts.report state.now)) }
 {
-    let mut text = format!(in alloc; "clock {} grace {}\n", state.clock(), state.grace())?;
-    push_bookies(&mut text, state)?;
-    push_ledgers(&mut text, state.names(), state.ledgers())?;
+    let mut text = String::new(alloc);
+    push_report(&mut text, state)?;
     Ok(text)
+}
+
+/// Adds the report of a state.
+pub(crate) fn push_report(text: &mut String, state: &State) -> Result<(), AllocError>
+    ensures { OnOk result (string_bytes text.new ≡ string_bytes text.old ++ texts.text_of (texts.report state.now)) }
+{
+    write!(text, "clock {} grace {}\n", state.clock(), state.grace())?;
+    push_bookies(text, state)?;
+    push_ledgers(text, state.names(), state.ledgers())
 }
 
 /// Adds the lines of all bookies.

@@ -11,12 +11,28 @@ use std::alloc::{AllocError, Global};
 pub fn reply_text(alloc: Global, names: &Names, reply: &Reply) -> Result<String, AllocError>
     ensures { IfOk result (λ text. string_bytes text ≡ texts.reply_text names.now reply.now) }
 {
-    if let Reply::Refused(Refusal::Locked(owner)) = reply {
-        let mut text = format!(in alloc; "refused 7 Locked")?;
-        push_name(&mut text, names, *owner)?;
-        return Ok(text);
+    let mut text = String::new(alloc);
+    push_reply(&mut text, names, reply)?;
+    Ok(text)
+}
+
+/// Adds a reply.
+pub(crate) fn push_reply(text: &mut String, names: &Names, reply: &Reply) -> Result<(), AllocError>
+    ensures { OnOk result (string_bytes text.new ≡ string_bytes text.old ++ texts.reply_text names.now reply.now) }
+{
+    match reply {
+        Reply::Refused(Refusal::Locked(owner)) => push_locked(text, names, *owner),
+        _ => write!(text, "{reply}"),
     }
-    format!(in alloc; "{reply}")
+}
+
+/// Adds the refusal of a task that this owner locks.
+fn push_locked(text: &mut String, names: &Names, owner: BookieIx) -> Result<(), AllocError>
+    ensures { OnOk result (string_bytes text.new ≡ string_bytes text.old ++ (codes "refused 7 Locked " ++ texts.name_of names.now owner)) }
+{
+    write!(text, "refused 7 Locked")?;
+    push_name(text, names, owner)?;
+    Ok(())
 }
 
 /// Adds a space and the bookie's name, or its number where the names have none for it.

@@ -1,4 +1,4 @@
-use Rattle.std.proofs.Common.{ℕ, List, ◌∙◌, arith}
+use Rattle.std.proofs.Common.{List, ◌∙◌, arith}
 use Rattle.std.specs.Prelude.{flat_map}
 use Rattle.reh_model.specs.Cluster.{Ledger}
 use Rattle.reh_script.specs.Texts.{text_of, ledger_lines}

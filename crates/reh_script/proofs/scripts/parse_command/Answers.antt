@@ -1,7 +1,5 @@
-use Rattle.std.proofs.Common.{◌≡◌, Some, Err, Result, List, ℕ, ap, sym, ◌∙◌, position, rules, slice_index_or}
+use Rattle.std.proofs.Common.{◌≡◌, Err, List, ap, sym, ◌∙◌, position, rules, slice_index_or}
 use Rattle.std.specs.Str.{bytes_eq}
-use Rattle.reh_script.specs.declared.commands.Command.{Command}
-use Rattle.reh_script.specs.declared.commands.LineFault.{LineFault}
 use Rattle.reh_script.specs.Script.{Filled, form_of, command_by, words_of, arguments_of, made_by, forms}
 use Rattle.reh_script.proofs.TableLaws.{unknown_verb, command_at, made_at, no_form, answer}
 use Rattle.reh_script.proofs.scripts.parse_command.Goals as goal

@@ -1,5 +1,4 @@
-use Rattle.std.proofs.Common.{length, ◌≡◌, ◌∷◌, [], MatchOption, ℕ, ◌+◌, ◌-◌, ◌*◌, ◌<◌, ◌≤◌}
-use Rattle.reh_script.specs.Script as script
+use Rattle.std.proofs.Common.{length}
 use Rattle.reh_script.proofs.words.+read_words.Given as goal
 
 -- proposed from what the function passes where it calls itself
