@@ -5,6 +5,8 @@ mod commands;
 mod forms;
 mod reports;
 mod scripts;
+#[cfg(test)]
+mod tests;
 mod texts;
 mod words;
 
