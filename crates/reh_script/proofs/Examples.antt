@@ -1,26 +1,106 @@
--- Worked scripts and inputs: the definitions, computed.
-use Rattle.std.specs.Prelude.{◌≡◌, refl, ℕ, List, [], ◌∷◌, ◌++◌, codes, map}
+-- Worked lines and texts: the definitions, computed.
+use Rattle.std.specs.Prelude.{◌≡◌, refl, ℕ, List, [], ◌∷◌, ◌++◌, codes, map, replicate, Option, Some, None, Result, Ok, Err}
+use Rattle.reh_types.specs.declared.moves.Event.TheVariants.{Lose, Acquire, Tick, Copy}
+use Rattle.reh_types.specs.declared.moves.Move.TheVariants.{Do, Look}
+use Rattle.reh_script.specs.declared.commands.Command.{Command}
+use Rattle.reh_script.specs.declared.commands.Command.TheVariants.{Make, Report}
+use Rattle.reh_script.specs.declared.commands.LineFault.{LineFault}
+use Rattle.reh_script.specs.declared.commands.LineFault.TheVariants.{TooLong, UnknownCommand, BadWords, UnknownName}
+use Rattle.reh_script.specs.Script.{command_of_line, forms}
 use Rattle.std.specs.Fmt.{digits}
-use Rattle.std.specs.List.{flat_map}
-use Rattle.reh_types.specs.Sets.{contains, insert, retain, remove, empty, from_list, union, items, is_subset, is_empty, len}
-use Rattle.reh_model.specs.Session.{opened_session}
-use Rattle.reh_model.proofs.Examples.{two_bookies}
-use Rattle.reh_script.specs.Lines.{cut_of, lines_of}
-use Rattle.reh_script.specs.Transcript.{transcript}
+use Rattle.reh_types.specs.declared.moves.Reply.TheVariants.{Done, Clock, Refused}
+use Rattle.reh_types.specs.declared.refusals.Refusal.TheVariants.{Locked, NoTask, StillUnder, Stale}
+use Rattle.reh_types.specs.declared.names.LedgerState.{LedgerState}
+use Rattle.reh_types.specs.declared.names.LedgerState.TheVariants.{Open, InRecovery, Closed}
+use Rattle.reh_types.specs.Sets.{contains, insert, empty, from_list, items}
+use Rattle.reh_model.specs.Metadata.{Metadata, Fragment}
+use Rattle.reh_model.specs.Cluster.{Cluster}
+use Rattle.reh_script.specs.Texts.{reply_text, report}
 
--- lines with their LF
-abbrev text_of : List (List ℕ) → List ℕ
-text_of lines = flat_map (λ line. line ++ 10 ∷ []) lines
+-- two bookies
+abbrev names : List (List ℕ)
+names = codes "b1:3181" ∷ codes "b2:3181" ∷ []
 
--- events, undos and a redo, and the report of what survives
-pub undo_and_redo_printed : transcript (opened_session two_bookies) 1 (lines_of (text_of (codes "lose b1:3181" ∷ codes "tick 2" ∷ codes "undo" ∷ codes "undo" ∷ codes "undo" ∷ codes "redo" ∷ codes "report" ∷ [])))
-    ≡ text_of (codes "line 1: ok" ∷ codes "line 2: ok" ∷ codes "line 3: ok" ∷ codes "line 4: ok" ∷ codes "line 5: refused 33 NothingToUndo" ∷ codes "line 6: ok" ∷ codes "line 7: report"
-    ∷ codes "clock 0 grace 3" ∷ codes "bookie b1:3181 down 0" ∷ codes "bookie b2:3181 up 0" ∷ [])
-unfolding contains insert retain remove empty from_list union items is_subset is_empty len digits
-undo_and_redo_printed = refl
+-- what lines ask for
+abbrev asked : List (List ℕ) → List (Option (Result Command LineFault))
+asked lines = map (command_of_line names) lines
 
--- the line `%` may end in CR LF; without it all is the picture, and as the first line it leaves an empty one
-pub cut_at_percent : map cut_of ((codes "{}" ++ 10 ∷ 37 ∷ 13 ∷ 10 ∷ codes "clock") ∷ codes "{}" ∷ codes "%\nclock" ∷ (codes "{}" ++ 10 ∷ 37 ∷ 32 ∷ 10 ∷ []) ∷ [])
-    ≡ record { picture = codes "{}"; script = codes "clock" } ∷ record { picture = codes "{}"; script = [] } ∷ record { picture = []; script = codes "clock" }
-    ∷ record { picture = codes "{}" ++ 10 ∷ 37 ∷ 32 ∷ 10 ∷ []; script = [] } ∷ []
-cut_at_percent = refl
+abbrev made : Command → Option (Result Command LineFault)
+made command = Some (Ok command)
+
+abbrev faulty : LineFault → Option (Result Command LineFault)
+faulty fault = Some (Err fault)
+
+-- spaces and tabs part words, also at both ends
+pub words_parted : asked (codes "lose b2:3181" ∷ codes " \tlose \t b2:3181\t " ∷ codes "acquire b1:3181 7" ∷ codes "copy b2:3181 7 0 1 2" ∷ codes "report" ∷ [])
+    ≡ made (Make (Do (Lose 1))) ∷ made (Make (Do (Lose 1))) ∷ made (Make (Do (Acquire 0 7))) ∷ made (Make (Do (Copy 1 7 0 1 2))) ∷ made Report ∷ []
+unfolding forms
+words_parted = refl
+
+-- a line without a word, and one whose first word begins with `#`, have no reply
+pub no_reply : asked ([] ∷ codes " \t" ∷ codes "# lose nobody" ∷ codes "  #x" ∷ codes "\r" ∷ []) ≡ None ∷ None ∷ None ∷ None ∷ None ∷ []
+unfolding forms
+no_reply = refl
+
+-- the form of all words is judged before any name, and the verb before both
+pub order_of_faults : asked (codes "copy nobody x 0 0 0" ∷ codes "copy nobody 7 0 0" ∷ codes "copy nobody 7 0 0 0" ∷ codes "lost nobody x" ∷ codes "lose" ∷ codes "undo 1" ∷ codes "lose 1" ∷ codes "Lose b1:3181" ∷ [])
+    ≡ faulty BadWords ∷ faulty BadWords ∷ faulty UnknownName ∷ faulty UnknownCommand ∷ faulty BadWords ∷ faulty BadWords ∷ faulty UnknownName ∷ faulty UnknownCommand ∷ []
+unfolding forms
+order_of_faults = refl
+
+-- one CR at the end is dropped; a second one belongs to the last word
+pub one_cr : asked (codes "clock\r" ∷ codes "clock\r\r" ∷ codes "tick 1\r" ∷ codes "tick 1\r\r" ∷ codes "\r\r" ∷ codes "clock\r " ∷ [])
+    ≡ made (Make Look) ∷ faulty UnknownCommand ∷ made (Make (Do (Tick 1))) ∷ faulty BadWords ∷ faulty UnknownCommand ∷ faulty UnknownCommand ∷ []
+unfolding forms
+one_cr = refl
+
+-- a number has 1 to 13 digits, and the first ones may be zeros
+pub digits_of_numbers : asked (codes "tick 00012" ∷ codes "tick 0000000000001" ∷ codes "tick 00000000000001" ∷ codes "tick 9999999999999" ∷ codes "tick 10000000000000" ∷ codes "tick -1" ∷ codes "tick +1" ∷ codes "tick 1x" ∷ [])
+    ≡ made (Make (Do (Tick 12))) ∷ made (Make (Do (Tick 1))) ∷ faulty BadWords ∷ made (Make (Do (Tick 9_999_999_999_999))) ∷ faulty BadWords ∷ faulty BadWords ∷ faulty BadWords ∷ faulty BadWords ∷ []
+unfolding forms
+digits_of_numbers = refl
+
+-- a line has 1,024 bytes at most, its CR not counted, whatever is in it
+pub length_of_lines : asked ((codes "clock" ++ replicate 1_019 32) ∷ (codes "clock" ++ replicate 1_019 32 ++ codes "\r") ∷ (codes "clock" ++ replicate 1_020 32) ∷ (codes "clock" ++ replicate 1_019 32 ++ codes "\r\r") ∷ replicate 1_024 35 ∷ replicate 1_025 35 ∷ replicate 1_025 32 ∷ [])
+    ≡ made (Make Look) ∷ made (Make Look) ∷ faulty TooLong ∷ faulty TooLong ∷ None ∷ faulty TooLong ∷ faulty TooLong ∷ []
+unfolding forms
+length_of_lines = refl
+
+-- Texts
+
+-- a lock's owner goes by name, or by number where there is no name for it
+pub replies_printed : map (reply_text names) (Done ∷ Clock 12 ∷ Refused (Locked 1) ∷ Refused (Locked 5) ∷ Refused NoTask ∷ Refused (StillUnder 3) ∷ Refused (Stale 1_000_000_000_000) ∷ [])
+    ≡ codes "ok" ∷ codes "clock 12" ∷ codes "refused 7 Locked b2:3181" ∷ codes "refused 7 Locked 5" ∷ codes "refused 6 NoTask" ∷ codes "refused 9 StillUnder 3" ∷ codes "refused 24 Stale 1000000000000" ∷ []
+unfolding digits
+replies_printed = refl
+
+abbrev metadata_of : LedgerState → ℕ → List Fragment → Metadata
+metadata_of state version fragments = record { size = 2; write_quorum = 2; ack_quorum = 1; state = state; version = version; fragments = fragments }
+
+abbrev fragment : ℕ → List ℕ → Fragment
+fragment first ensemble = record { first = first; ensemble = ensemble }
+
+-- ledgers in each state; one with a task that is locked, one with a task and a grace that runs
+abbrev worked : Cluster
+worked = record {
+  names = codes "b1" ∷ codes "b2" ∷ codes "b3" ∷ [];
+  grace = 3;
+  up = from_list (0 ∷ 2 ∷ []);
+  ledgers =
+      record { id = 7; metadata = metadata_of (Closed 6) 2 (fragment 0 (0 ∷ 1 ∷ []) ∷ fragment 4 (1 ∷ 2 ∷ []) ∷ []); task = Some (from_list (1 ∷ [])); lock = Some (record { owner = 2; due = None }) }
+      ∷ record { id = 0; metadata = metadata_of (Closed 0) 0 (fragment 0 (2 ∷ 0 ∷ []) ∷ []); task = None; lock = None }
+      ∷ record { id = 1_000_000_000_000; metadata = metadata_of Open 0 (fragment 0 (0 ∷ 1 ∷ []) ∷ []); task = Some (from_list (2 ∷ 0 ∷ [])); lock = Some (record { owner = 0; due = Some 8 }) }
+      ∷ record { id = 3; metadata = metadata_of InRecovery 1 (fragment 0 (0 ∷ 1 ∷ []) ∷ []); task = Some (from_list (1 ∷ [])); lock = None }
+      ∷ [];
+  held = from_list ((0, 7, 0) ∷ (1, 7, 0) ∷ (1, 7, 4) ∷ (1, 3, 0) ∷ []);
+  clock = 5;
+}
+
+pub report_printed : report worked
+    ≡ codes "clock 5 grace 3" ∷ codes "bookie b1 up 1" ∷ codes "bookie b2 down 3" ∷ codes "bookie b3 up 0"
+    ∷ codes "ledger 7 CLOSED version 2 last 5 quorum 2 2 1" ∷ codes "fragment 0 first 0 stop 4 b1 b2" ∷ codes "fragment 1 first 4 stop 6 b2 b3" ∷ codes "task b2" ∷ codes "lock b3"
+    ∷ codes "ledger 0 CLOSED version 0 last -1 quorum 2 2 1" ∷ codes "fragment 0 first 0 stop 0 b3 b1"
+    ∷ codes "ledger 1000000000000 OPEN version 0 last - quorum 2 2 1" ∷ codes "fragment 0 first 0 stop - b1 b2" ∷ codes "task b1 b3" ∷ codes "lock b1 due 8"
+    ∷ codes "ledger 3 IN_RECOVERY version 1 last - quorum 2 2 1" ∷ codes "fragment 0 first 0 stop - b1 b2" ∷ codes "task b2" ∷ []
+unfolding digits contains insert empty from_list items
+report_printed = refl

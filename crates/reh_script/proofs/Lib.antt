@@ -1,8 +1,11 @@
-pub mod Examples
-pub mod Numbers
+mod Numbers
+mod Examples
+pub mod TranscriptExamples
+pub mod WordLaws
+pub mod TableLaws
+pub mod ReportLaws
 pub mod LinesLemmas
 pub mod EndedLaws
-pub mod Reports
 pub mod Cuts
 pub mod Steps
 pub mod Answered

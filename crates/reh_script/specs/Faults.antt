@@ -1,9 +1,19 @@
--- A picture's fault as a pipe's.
+-- What is printed for a line that asks for nothing, and a picture's fault as a pipe's.
+use Rattle.std.specs.Prelude.{ℕ, List, codes}
 use Rattle.reh_picture.specs.declared.faults.PictureFault.{PictureFault}
 use Rattle.reh_picture.specs.declared.faults.PictureFault.TheVariants as picture_fault
+use Rattle.reh_script.specs.declared.commands.LineFault.{LineFault}
+use Rattle.reh_script.specs.declared.commands.LineFault.TheVariants.{TooLong, UnknownCommand, BadWords, UnknownName}
 use Rattle.reh_script.specs.declared.faults.PipeFault.{PipeFault}
 use Rattle.reh_script.specs.declared.faults.PipeFault.TheVariants.{Picture, Play}
 use Rattle.reh_script.specs.declared.faults.PlayFault.TheVariants.{NoMemory}
+
+-- the reply to the line
+abbrev pub line_fault_text : LineFault → List ℕ
+line_fault_text TooLong = codes "too long"
+line_fault_text UnknownCommand = codes "unknown command"
+line_fault_text BadWords = codes "bad words"
+line_fault_text UnknownName = codes "unknown name"
 
 -- want of memory is no fault of the picture
 abbrev pub pipe_fault_of : PictureFault → PipeFault

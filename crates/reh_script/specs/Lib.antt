@@ -1,9 +1,9 @@
 pub mod Lines
+pub mod Faults
 pub mod Script
 pub mod Texts
-pub mod Transcript
 pub mod Reports
-pub mod Faults
+pub mod Transcript
 pub mod Readings
 pub mod Plays
 pub mod Pipes

@@ -1,9 +1,9 @@
 -- How a play goes: which lines were answered, which were taken, and why it ended.
 use Rattle.std.specs.Prelude.{◌≡◌, ℕ, ◌+◌, ◌<◌, ◌⊎◌, Bool, true, false, List, [], ◌∷◌, ◌++◌, length, Option, None, Some, IsSome, Result, Ok, Err, if◌then◌else◌}
 use Rattle.std.specs.Io.KnownBytes.{Appends, Keeps}
-use Rattle.reh_types.specs.declared.commands.Command.{Command}
-use Rattle.reh_types.specs.declared.commands.Command.TheVariants.{Make, Report}
-use Rattle.reh_types.specs.declared.commands.LineFault.{LineFault}
+use Rattle.reh_script.specs.declared.commands.Command.{Command}
+use Rattle.reh_script.specs.declared.commands.Command.TheVariants.{Make, Report}
+use Rattle.reh_script.specs.declared.commands.LineFault.{LineFault}
 use Rattle.reh_types.specs.declared.moves.Reply.TheVariants.{Done}
 use Rattle.reh_model.specs.Session.{Session, reply_to}
 use Rattle.reh_script.specs.Lines.{is_script, answered_lines}
@@ -34,9 +34,9 @@ pub record StopsWriting (lines : List (List ℕ)) (m n : Session) (old new : Opt
   pub taken : n ≡ after_line (after_lines m done) line
   pub written : Appends old new (transcript m 1 done ++ part)
 
--- The line asks for a move that would be done.
+-- The line asks for a move that the session would do, or would itself answer with want of memory.
 abbrev pub WouldBeDone : Session → Option (Result Command LineFault) → Type 0
-WouldBeDone m (Some (Ok (Make move))) = reply_to m move ≡ Done
+WouldBeDone m (Some (Ok (Make move))) = MightBeDone m move
 WouldBeDone m (Some (Ok Report)) = ⊥
 WouldBeDone m (Some (Err fault)) = ⊥
 WouldBeDone m None = ⊥

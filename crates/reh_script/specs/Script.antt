@@ -1,14 +1,29 @@
--- The commands of a script.
-use Rattle.std.specs.Prelude.{ℕ, ◌+◌, ◌-◌, ◌*◌, ◌==◌, ◌&&◌, nat_lt, nat_le, List, [], ◌∷◌, length, take, drop, Option, Some, None, Result, ok_or, option_map, position, if◌then◌else◌, codes}
+-- The script language: the words of a line, and the command that they make.
+use Rattle.std.specs.Prelude.{ℕ, ◌+◌, ◌-◌, ◌*◌, ◌==◌, ◌&&◌, ◌||◌, not, Bool, true, false, nat_eq, nat_lt, nat_le, List, [], ◌∷◌, length, filter, find, Option, Some, None, Result, Ok, Err, is_some, unwrap_or, if◌then◌else◌, codes}
+use Rattle.std.specs.List.{slice_split, starts_with}
 use Rattle.std.specs.Str.{bytes_eq, all_ascii_digits}
-use Rattle.reh_types.specs.declared.commands.Command.{Command}
-use Rattle.reh_types.specs.declared.commands.Command.TheVariants.{Make, Report}
-use Rattle.reh_types.specs.declared.commands.LineFault.{LineFault}
-use Rattle.reh_types.specs.declared.commands.LineFault.TheVariants.{UnknownCommand}
+use Rattle.std.specs.Str.Lines.{strip_carriage_return}
 use Rattle.reh_types.specs.declared.moves.Event.{Event}
-use Rattle.reh_types.specs.declared.moves.Event.TheVariants.{Lose, Join, Tick}
+use Rattle.reh_types.specs.declared.moves.Event.TheVariants.{Lose, Join, Audit, Acquire, Release, Finish, Expire, Tick, Copy, Swap}
 use Rattle.reh_types.specs.declared.moves.Move.TheVariants.{Do, Undo, Redo, Look}
 use Rattle.reh_model.specs.Cluster.{bookie_named}
+use Rattle.reh_script.specs.declared.commands.Command.{Command}
+use Rattle.reh_script.specs.declared.commands.Command.TheVariants.{Make, Report}
+use Rattle.reh_script.specs.declared.commands.LineFault.{LineFault}
+use Rattle.reh_script.specs.declared.commands.LineFault.TheVariants.{TooLong, UnknownCommand, BadWords, UnknownName}
+use Rattle.reh_script.specs.declared.words.Kind.{Kind}
+use Rattle.reh_script.specs.declared.words.Kind.TheVariants.{Bookie, Number}
+use Rattle.reh_script.specs.declared.words.Arguments.{Arguments}
+
+-- Words
+
+-- spaces and tabs part words, and nothing else does
+abbrev pub is_blank : ℕ → Bool
+is_blank b = b == 32 || b == 9
+
+-- the words of a line: its parts between spaces and tabs that aren't empty
+abbrev pub words_of : List ℕ → List (List ℕ)
+words_of line = filter (λ part. not (length part == 0)) (slice_split is_blank line)
 
 -- the number that digits stand for, going on from another
 abbrev pub read_on : ℕ → List ℕ → ℕ
@@ -19,30 +34,110 @@ read_on n (c ∷ cs) = read_on (n * 10 + (c - 48)) cs
 abbrev pub number_of : List ℕ → Option ℕ
 number_of word = if nat_lt 0 (length word) && nat_le (length word) 13 && all_ascii_digits word then Some (read_on 0 word) else None
 
--- the event of a verb and a word
-abbrev pub event_of : List (List ℕ) → List ℕ → List ℕ → Option Event
-event_of names verb word =
-    if bytes_eq verb (codes "lose") then option_map Lose (bookie_named names word)
-    else (if bytes_eq verb (codes "join") then option_map Join (bookie_named names word)
-    else (if bytes_eq verb (codes "tick") then option_map Tick (number_of word) else None))
+-- The words behind a verb: at most one names a bookie, and at most four are numbers
 
--- the command of one word
-abbrev pub word_command : List ℕ → Option Command
-word_command word =
-    if bytes_eq word (codes "undo") then Some (Make Undo)
-    else (if bytes_eq word (codes "redo") then Some (Make Redo)
-    else (if bytes_eq word (codes "clock") then Some (Make Look)
-    else (if bytes_eq word (codes "report") then Some Report else None)))
+-- nothing is named
+abbrev pub no_arguments : Arguments
+no_arguments = record { bookie = 0; first = 0; second = 0; third = 0; fourth = 0 }
 
--- what stands before the first space of a line, and behind it
-abbrev pub words_of : List ℕ → Option (List ℕ × List ℕ)
-words_of line = option_map (λ i. (take i line, drop (i + 1) line)) (position (λ b. b == 32) line)
+-- a bookie before the others
+abbrev pub with_bookie : ℕ → Arguments → Arguments
+with_bookie bookie a = record a { bookie = bookie }
 
--- a line without a space is one word, and else a verb and a word
-abbrev pub command_by : Option (List ℕ × List ℕ) → List (List ℕ) → List ℕ → Option Command
-command_by None names line = word_command line
-command_by (Some words) names line = option_map (λ event. Make (Do event)) (event_of names words.0 words.1)
+-- a number before the others
+abbrev pub with_number : ℕ → Arguments → Arguments
+with_number number a = record { bookie = a.bookie; first = number; second = a.first; third = a.second; fourth = a.third }
 
--- what a line asks for, or why it asks for nothing
-abbrev pub command_of : List (List ℕ) → List ℕ → Result Command LineFault
-command_of names line = ok_or (command_by (words_of line) names line) UnknownCommand
+-- whether there are as many words as kinds, and a number in each number's place
+abbrev pub are_formed : List Kind → List (List ℕ) → Bool
+are_formed [] [] = true
+are_formed [] (word ∷ words) = false
+are_formed (kind ∷ kinds) [] = false
+are_formed (Number ∷ kinds) (word ∷ words) = is_some (number_of word) && are_formed kinds words
+are_formed (Bookie ∷ kinds) (word ∷ words) = are_formed kinds words
+
+-- whether there is a bookie's name in each bookie's place
+abbrev pub are_known : List (List ℕ) → List Kind → List (List ℕ) → Bool
+are_known names (Bookie ∷ kinds) (word ∷ words) = is_some (bookie_named names word) && are_known names kinds words
+are_known names (Number ∷ kinds) (word ∷ words) = are_known names kinds words
+are_known names kinds words = true
+
+-- what words of these kinds name
+abbrev pub named_by : List (List ℕ) → List Kind → List (List ℕ) → Arguments
+named_by names (Bookie ∷ kinds) (word ∷ words) = with_bookie (unwrap_or (bookie_named names word) 0) (named_by names kinds words)
+named_by names (Number ∷ kinds) (word ∷ words) = with_number (unwrap_or (number_of word) 0) (named_by names kinds words)
+named_by names kinds words = no_arguments
+
+-- what the words name, if they are of these kinds; the form is judged over all of them before any name is
+abbrev pub arguments_of : List (List ℕ) → List Kind → List (List ℕ) → Result Arguments LineFault
+arguments_of names kinds words =
+    if not (are_formed kinds words) then Err BadWords
+    else (if not (are_known names kinds words) then Err UnknownName
+    else Ok (named_by names kinds words))
+
+-- Commands
+
+-- a command: its verb, the kinds of the words behind it, and what it makes of what they name
+pub record Form : Type 0 where
+  pub verb : List ℕ
+  pub kinds : List Kind
+  pub make : Arguments → Command
+
+abbrev pub form : List ℕ → List Kind → (Arguments → Command) → Form
+form verb kinds make = record { verb = verb; kinds = kinds; make = make }
+
+abbrev pub event : Event → Command
+event e = Make (Do e)
+
+-- all commands
+unfoldable pub forms : List Form
+forms =
+    form (codes "lose") (Bookie ∷ []) (λ a. event (Lose a.bookie))
+    ∷ form (codes "join") (Bookie ∷ []) (λ a. event (Join a.bookie))
+    ∷ form (codes "audit") [] (λ a. event Audit)
+    ∷ form (codes "acquire") (Bookie ∷ Number ∷ []) (λ a. event (Acquire a.bookie a.first))
+    ∷ form (codes "release") (Bookie ∷ Number ∷ []) (λ a. event (Release a.bookie a.first))
+    ∷ form (codes "finish") (Bookie ∷ Number ∷ []) (λ a. event (Finish a.bookie a.first))
+    ∷ form (codes "expire") (Bookie ∷ []) (λ a. event (Expire a.bookie))
+    ∷ form (codes "tick") (Number ∷ []) (λ a. event (Tick a.first))
+    ∷ form (codes "copy") (Bookie ∷ Number ∷ Number ∷ Number ∷ Number ∷ []) (λ a. event (Copy a.bookie a.first a.second a.third a.fourth))
+    ∷ form (codes "swap") (Bookie ∷ Number ∷ Number ∷ Number ∷ Number ∷ []) (λ a. event (Swap a.bookie a.first a.second a.third a.fourth))
+    ∷ form (codes "undo") [] (λ a. Make Undo)
+    ∷ form (codes "redo") [] (λ a. Make Redo)
+    ∷ form (codes "clock") [] (λ a. Make Look)
+    ∷ form (codes "report") [] (λ a. Report)
+    ∷ []
+
+-- a command with the arguments at hand
+pub record Filled : Type 0 where
+  pub verb : List ℕ
+  pub kinds : List Kind
+  pub command : Command
+
+abbrev pub filled : Arguments → Form → Filled
+filled a f = record { verb = f.verb; kinds = f.kinds; command = f.make a }
+
+-- the command of that verb
+abbrev pub form_of : List ℕ → Option Form
+form_of verb = find (λ f. bytes_eq f.verb verb) forms
+
+-- the command that a form makes
+abbrev pub made_by : Form → Result Arguments LineFault → Result Command LineFault
+made_by f (Ok a) = Ok (f.make a)
+made_by f (Err fault) = Err fault
+
+-- what words ask for behind a verb
+abbrev pub command_by : List (List ℕ) → Option Form → List (List ℕ) → Result Command LineFault
+command_by names None words = Err UnknownCommand
+command_by names (Some f) words = made_by f (arguments_of names f.kinds words)
+
+-- what words ask for; without a word, or where `#` begins the first one, there is no reply
+abbrev pub command_of_words : List (List ℕ) → List (List ℕ) → Option (Result Command LineFault)
+command_of_words names [] = None
+command_of_words names (verb ∷ words) = if starts_with nat_eq verb (codes "#") then None else Some (command_by names (form_of verb) words)
+
+-- what a line asks for, without the one CR at its end, or why it asks for nothing; None is a line without a reply
+abbrev pub command_of_line : List (List ℕ) → List ℕ → Option (Result Command LineFault)
+command_of_line names line =
+    let bytes = strip_carriage_return line in
+    if nat_lt 1_024 (length bytes) then Some (Err TooLong) else command_of_words names (words_of bytes)

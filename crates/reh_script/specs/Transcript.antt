@@ -1,22 +1,22 @@
 -- What a script prints, and the session that it leaves.
 use Rattle.std.specs.Prelude.{ℕ, ◌+◌, List, [], ◌∷◌, ◌++◌, Option, None, Some, Result, Ok, Err, codes}
 use Rattle.std.specs.Fmt.{decimal}
-use Rattle.reh_types.specs.declared.commands.Command.{Command}
-use Rattle.reh_types.specs.declared.commands.Command.TheVariants.{Make, Report}
-use Rattle.reh_types.specs.declared.commands.LineFault.{LineFault}
-use Rattle.reh_types.specs.Texts.{reply_text, line_fault_text}
+use Rattle.reh_script.specs.declared.commands.Command.{Command}
+use Rattle.reh_script.specs.declared.commands.Command.TheVariants.{Make, Report}
+use Rattle.reh_script.specs.declared.commands.LineFault.{LineFault}
 use Rattle.reh_model.specs.Session.{Session, state_of, reply_to, session_after}
-use Rattle.reh_script.specs.Script.{command_of}
-use Rattle.reh_script.specs.Texts.{report_of}
+use Rattle.reh_script.specs.Faults.{line_fault_text}
+use Rattle.reh_script.specs.Script.{command_of_line}
+use Rattle.reh_script.specs.Texts.{reply_text, report, text_of}
 
 -- what a line asks for, at the session's present state; nothing, where the line has no answer
 abbrev pub asked : Session → List ℕ → Option (Result Command LineFault)
-asked m line = Some (command_of (state_of m).names line)
+asked m line = command_of_line (state_of m).names line
 
 -- what is printed for it behind the line's number
 abbrev pub answer_to : Session → Result Command LineFault → List ℕ
-answer_to m (Ok (Make move)) = reply_text (reply_to m move) ++ codes "\n"
-answer_to m (Ok Report) = codes "report\n" ++ report_of (state_of m)
+answer_to m (Ok (Make move)) = reply_text (state_of m).names (reply_to m move) ++ codes "\n"
+answer_to m (Ok Report) = codes "report\n" ++ text_of (report (state_of m))
 answer_to m (Err fault) = line_fault_text fault ++ codes "\n"
 
 -- the answer to the n-th line, if it has one

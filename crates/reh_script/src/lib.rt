@@ -1,21 +1,29 @@
-// Scripts: their lines, their answers, and the input that holds a picture and a script.
+// Scripts: the commands of their lines, their answers, and the input that holds a picture and a script.
 #![tactic(auto)]
 
+mod commands;
 mod faults;
+mod forms;
 mod inputs;
+#[cfg(test)]
+mod language_tests;
 mod pipes;
 mod plays;
 mod readings;
+mod reports;
 mod scripts;
 mod streams;
 #[cfg(test)]
 mod tests;
 mod texts;
+mod words;
 
+pub use commands::{Command, LineFault};
 pub use faults::{PipeFault, PlayFault};
 pub use pipes::pipe;
 pub use plays::play;
 pub use readings::{Reading, read};
+pub use reports::report_text;
 pub use scripts::parse_line;
 pub use streams::{FromRead, StreamFault, TextIn, TextOut, ToWrite};
-pub use texts::report_text;
+pub use texts::reply_text;

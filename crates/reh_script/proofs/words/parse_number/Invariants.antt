@@ -1,7 +1,7 @@
 use Rattle.std.proofs.Common.{◌≡◌, ◌<◌, ◌^◌, drop}
 use Rattle.std.specs.Str.{all_ascii_digits}
 use Rattle.reh_script.specs.Script.{read_on}
-use Rattle.reh_script.proofs.scripts.parse_number.Given as goal
+use Rattle.reh_script.proofs.words.parse_number.Given as goal
 
 -- what is left goes on from the value so far, and the digits so far are digits
 abbrev pub invariant-loop-digit : goal.invariant-loop-digit

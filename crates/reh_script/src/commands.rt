@@ -1,0 +1,41 @@
+// What a line of a script asks for.
+use reh_types::Move;
+use std::fmt;
+
+/// What a line of a script asks for.
+#[derive(Clone, Copy, PartialEq, Eq, Debug)]
+pub enum Command {
+    /// A move of the session.
+    Make(Move),
+    /// The report of the session's state.
+    Report,
+}
+
+/// Why a line of a script asks for nothing. Its text is the line's reply.
+#[derive(Clone, Copy, PartialEq, Eq, Debug)]
+pub enum LineFault {
+    /// The line has more than 1,024 bytes.
+    TooLong,
+    /// No command begins with its first word.
+    UnknownCommand,
+    /// The command has another number of words, or one that has to be a number isn't.
+    BadWords,
+    /// A word that has to be a bookie's name isn't.
+    UnknownName,
+}
+
+impl fmt::Display for LineFault {
+    ghost use Rattle.std.specs.Prelude.{Some};
+    ghost use Rattle.reh_script.specs.Faults.{line_fault_text};
+
+    ghost output = { λ fault. Some (line_fault_text fault) };
+
+    fn fmt<W: fmt::Write>(&self, f: &mut fmt::Formatter<W>) -> fmt::Result {
+        match self {
+            LineFault::TooLong => write!(f, "too long"),
+            LineFault::UnknownCommand => write!(f, "unknown command"),
+            LineFault::BadWords => write!(f, "bad words"),
+            LineFault::UnknownName => write!(f, "unknown name"),
+        }
+    }
+}
