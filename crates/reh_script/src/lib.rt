@@ -3,6 +3,7 @@
 
 mod faults;
 mod inputs;
+mod pieces;
 mod pipes;
 mod plays;
 mod readings;
@@ -13,6 +14,7 @@ mod tests;
 mod texts;
 
 pub use faults::{PipeFault, PlayFault};
+pub use pieces::{PiecesIn, PiecesOut};
 pub use pipes::pipe;
 pub use plays::play;
 pub use scripts::parse_line;
