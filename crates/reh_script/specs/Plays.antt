@@ -1,10 +1,12 @@
 -- How a play goes: which lines were answered, which were taken, and why it ended.
-use Rattle.std.specs.Prelude.{◌≡◌, ℕ, ◌+◌, ◌<◌, ◌⊎◌, Bool, true, false, List, [], ◌∷◌, ◌++◌, length, Option, None, Some, IsSome, Result, Ok, Err, if◌then◌else◌}
+use Rattle.std.specs.Prelude.{◌≡◌, ℕ, ◌+◌, ◌<◌, ◌⊎◌, Bool, true, false, List, ◌∷◌, ◌++◌, length, Option, None, Some, IsSome, Result, Ok, Err, if◌then◌else◌}
 use Rattle.std.specs.Io.KnownBytes.{Appends, Keeps}
 use Rattle.reh_script.specs.declared.commands.Command.{Command}
 use Rattle.reh_script.specs.declared.commands.Command.TheVariants.{Make, Report}
 use Rattle.reh_script.specs.declared.commands.LineFault.{LineFault}
-use Rattle.reh_types.specs.declared.moves.Reply.TheVariants.{Done}
+use Rattle.reh_types.specs.declared.moves.Move.{Move}
+use Rattle.reh_types.specs.declared.moves.Reply.TheVariants.{Done, Refused}
+use Rattle.reh_types.specs.declared.refusals.Refusal.TheVariants as refusal
 use Rattle.reh_model.specs.Session.{Session, reply_to}
 use Rattle.reh_script.specs.Lines.{is_script, answered_lines}
 use Rattle.reh_script.specs.Transcript.{asked, line_answer, after_line, transcript, after_lines}
@@ -34,16 +36,20 @@ pub record StopsWriting (lines : List (List ℕ)) (m n : Session) (old new : Opt
   pub taken : n ≡ after_line (after_lines m done) line
   pub written : Appends old new (transcript m 1 done ++ part)
 
--- The line asks for a move that the session would do, or would itself answer with want of memory.
-abbrev pub WouldBeDone : Session → Option (Result Command LineFault) → Type 0
-WouldBeDone m (Some (Ok (Make move))) = MightBeDone m move
-WouldBeDone m (Some (Ok Report)) = ⊥
-WouldBeDone m (Some (Err fault)) = ⊥
-WouldBeDone m None = ⊥
+-- The move is done, or is refused for want of memory and for no other cause.
+abbrev pub MightBeDone : Session → Move → Type 0
+MightBeDone m move = (reply_to m move ≡ Done) ⊎ (reply_to m move ≡ Refused refusal.NoMemory)
 
--- A line that has an answer found no memory for it: it was taken or, where it would be done, was not.
+-- The line asks for such a move.
+abbrev pub MayWantMemory : Session → Option (Result Command LineFault) → Type 0
+MayWantMemory m (Some (Ok (Make move))) = MightBeDone m move
+MayWantMemory m (Some (Ok Report)) = ⊥
+MayWantMemory m (Some (Err fault)) = ⊥
+MayWantMemory m None = ⊥
+
+-- A line that has an answer found no memory for it: it was taken or, where its move wanted memory, was not.
 abbrev pub LacksAnswer : Session → List ℕ → Session → Type 0
-LacksAnswer m line n = IsSome (asked m line) × ((n ≡ after_line m line) ⊎ ((n ≡ m) × WouldBeDone m (asked m line)))
+LacksAnswer m line n = IsSome (asked m line) × ((n ≡ after_line m line) ⊎ ((n ≡ m) × MayWantMemory m (asked m line)))
 
 -- There was no memory at a line: those before it were taken and answered, and of its own answer nothing was written.
 pub record StopsForMemory (lines : List (List ℕ)) (m n : Session) (old new : Option (List ℕ)) : Type 0 where

@@ -7,6 +7,7 @@ mod forms;
 mod inputs;
 #[cfg(test)]
 mod language_tests;
+mod pieces;
 mod pipes;
 mod plays;
 mod readings;
@@ -20,6 +21,7 @@ mod words;
 
 pub use commands::{Command, LineFault};
 pub use faults::{PipeFault, PlayFault};
+pub use pieces::{PiecesIn, PiecesOut};
 pub use pipes::pipe;
 pub use plays::play;
 pub use readings::{Reading, read};

@@ -1,21 +1,23 @@
 // Answering the lines of a script.
 ghost use Rattle.std.specs.Prelude.{◌≡◌, ◌+◌, ◌≤◌, ◌<◌, ◌++◌, ◌⊎◌, ℕ, List, true, false, None, Some, Ok, length, IfOk, OnOk, OnErr, string_bytes};
 ghost use Rattle.std.specs.Io.KnownBytes.{Appends};
-ghost use Rattle.reh_types.specs.declared.moves.Reply.TheVariants.{Done};
 ghost use Rattle.reh_model.specs.Session.{state_of, reply_to, session_after};
 ghost use Rattle.reh_script.specs.Lines.{lines_of, answered_lines};
-ghost use Rattle.reh_script.specs.Texts.{report_of};
+ghost use Rattle.reh_script.specs.Texts as texts;
+ghost use Rattle.reh_script.specs.Texts.{text_of};
 ghost use Rattle.reh_script.specs.Transcript.{line_answer, numbered_answer, after_line, asked};
-ghost use Rattle.reh_script.specs.Plays.{stop_of, LacksAnswer, IsPlayed, Plays, is_write_fault};
+ghost use Rattle.reh_script.specs.Plays.{stop_of, MightBeDone, LacksAnswer, IsPlayed, Plays, is_write_fault};
 
+use crate::commands::{Command, LineFault};
 use crate::faults::PlayFault;
 use crate::inputs::{first_line, front, whole_lines};
 use crate::readings::read;
 use crate::scripts::parse_line;
 use crate::streams::{StreamFault, TextIn, TextOut};
-use crate::texts::report_text;
+use crate::reports::report_text;
+use crate::texts::reply_text;
 use reh_session::Session;
-use reh_types::{Command, LineFault, MAX_SCRIPT_BYTES, Move, Refusal, Reply};
+use reh_types::{MAX_SCRIPT_BYTES, Move, Refusal, Reply};
 use std::alloc::{AllocError, Global};
 
 /// Reads a script and answers its lines in order.
@@ -125,7 +127,7 @@ fn answer(
 fn command(session: &Session, line: &[u8]) -> Option<Result<Command, LineFault>>
     ensures { result ≡ asked session.now line.now }
 {
-    Some(parse_line(session.state().names(), line))
+    parse_line(session.state().names(), line)
 }
 
 /// Makes a move, and answers its line.
@@ -135,31 +137,32 @@ fn answer_move(
     number: usize,
     step: &Move,
 ) -> Result<String, AllocError>
-    ensures text { IfOk result (λ text. string_bytes text ≡ numbered_answer session.old number (Some (Ok (Command.Make step.now)))) }
+    ensures text { IfOk result (λ text.
+        string_bytes text ≡ numbered_answer session.old number (Some (Ok (Command.Make step.now)))) }
     ensures after { OnOk result (session.new ≡ session_after session.old step.now (reply_to session.old step.now)) }
-    ensures err { OnErr result ((session.new ≡ session_after session.old step.now (reply_to session.old step.now)) ⊎ ((session.new ≡ session.old) × (reply_to session.old step.now ≡ Done))) }
+    ensures err { OnErr result ((session.new ≡ session_after session.old step.now (reply_to session.old step.now))
+        ⊎ ((session.new ≡ session.old) × MightBeDone session.old step.now)) }
 {
-    // The check has to meet the type of a reply's refusal by its name.
-    let _refusal: Option<Refusal> = None;
     let reply = make(session, step)?;
+    let reply = reply_text(alloc, session.state().names(), &reply)?;
     format!(in alloc; "line {number}: {reply}\n")
 }
 
-/// Makes a move, and replies to it. Only a move that would be done can want memory, and then nothing changes.
+/// Makes a move, and replies to it. Only a move that is refused for no other cause can want memory, and then nothing changes.
 fn make(session: &mut Session, step: &Move) -> Result<Reply, AllocError>
-    ensures ok { IfOk result (λ reply. (reply ≡ reply_to session.old step.now) × (session.new ≡ session_after session.old step.now reply)) }
-    ensures err { OnErr result ((reply_to session.old step.now ≡ Done) × (session.new ≡ session.old)) }
+    ensures ok { IfOk result (λ reply. (reply ≡ reply_to session.old step.now)
+        × (session.new ≡ session_after session.old step.now reply)) }
+    ensures err { OnErr result (MightBeDone session.old step.now × (session.new ≡ session.old)) }
 {
-    let reply = session.perform(step);
-    if reply == Reply::Refused(Refusal::NoMemory) {
-        return Err(AllocError);
+    match session.perform(step) {
+        Reply::Refused(Refusal::NoMemory) => Err(AllocError),
+        reply => Ok(reply),
     }
-    Ok(reply)
 }
 
 /// The report of a session's state.
 fn report(alloc: Global, session: &Session) -> Result<String, AllocError>
-    ensures { IfOk result (λ text. string_bytes text ≡ report_of (state_of session.now)) }
+    ensures { IfOk result (λ text. string_bytes text ≡ text_of (texts.report (state_of session.now))) }
 {
     report_text(alloc, session.state())
 }

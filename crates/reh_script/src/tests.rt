@@ -1,129 +1,156 @@
-// The whole path over memory: from an input's bytes to what is written, and how the run ends.
+// The whole path over memory: what is written for a text, and how its play ends.
 use crate::faults::{PipeFault, PlayFault};
+use crate::pieces::{PiecesIn, PiecesOut};
 use crate::pipes::pipe;
-use crate::streams::{FromRead, StreamFault, TextIn, ToWrite};
+use crate::plays::play;
+use crate::streams::{TextOut, ToWrite};
+use reh_picture::read_picture;
+use reh_session::Session;
 use std::alloc::Global;
-use std::io::Read;
 use std::test::Fail;
 
-/// What is written for an input, and how its run ends.
-fn played(alloc: Global, input: &str) -> Result<(Vec<u8>, Result<(), PipeFault>), Fail> {
-    let mut written = Vec::new(alloc);
-    let mut reader = FromRead::new(input.as_bytes());
-    let mut writer = ToWrite::new(&mut written);
-    let end = pipe(alloc, &mut reader, &mut writer);
-    Ok((written, end))
+/// One bookie and no ledger.
+const PICTURE: &str =
+    "{\"format\":1,\"grace\":0,\"bookies\":[{\"name\":\"b1:3181\",\"up\":true}],\"ledgers\":[],\"contents\":[]}";
+
+/// What a pipe writes of an input that comes in these pieces and whose read of this number fails, and how it ends.
+fn piped(
+    alloc: Global,
+    input: &[u8],
+    pieces: &[usize],
+    fails_at: Option<u64>,
+) -> Result<(Vec<u8>, String), Fail> {
+    let mut reader = PiecesIn::new(input, pieces, fails_at);
+    let mut writer = PiecesOut::new(alloc, &[], None);
+    let end = match pipe(alloc, &mut reader, &mut writer) {
+        Ok(()) => format!(in alloc; "done")?,
+        Err(PipeFault::Picture(fault)) => format!(in alloc; "picture: {fault}")?,
+        Err(PipeFault::Play(fault)) => format!(in alloc; "{fault:?}")?,
+    };
+    Ok((writer.written, end))
 }
 
 #[test]
-fn writes_the_transcript(rt: HostRuntime) -> Result<(), Fail> {
+fn ends_where_the_input_does(rt: HostRuntime) -> Result<(), Fail> {
     let runs = [
         // A report.
         (
-            "{\"format\":1,\"grace\":0,\"bookies\":[{\"name\":\"b1:3181\",\"up\":true}],\"ledgers\":[],\"contents\":[]}\n%\nreport",
+            "\n%\nreport",
             "line 1: report\nclock 0 grace 0\nbookie b1:3181 up 0\n",
         ),
         // The line `%` may end in CR LF; a command may not.
         (
-            "{\"format\":1,\"grace\":0,\"bookies\":[{\"name\":\"b1:3181\",\"up\":true}],\"ledgers\":[],\"contents\":[]}\n%\r\nclock\r\n\ntick x\nlose b9:3181\ntick 1\nclock",
+            "\n%\r\nclock\r\n\ntick x\nlose b9:3181\ntick 1\nclock",
             "line 1: unknown command\nline 2: unknown command\nline 3: unknown command\nline 4: unknown command\nline 5: ok\nline 6: clock 1\n",
         ),
         // No script.
-        (
-            "{\"format\":1,\"grace\":0,\"bookies\":[{\"name\":\"b1:3181\",\"up\":true}],\"ledgers\":[],\"contents\":[]}",
-            "",
-        ),
+        ("", ""),
     ];
-    for (input, output) in runs {
-        let (written, end) = played(rt.alloc(), input)?;
-        assert!(rt; end.is_ok());
+    for (rest, output) in runs {
+        let input = format!(in rt.alloc(); "{PICTURE}{rest}")?;
+        let (written, end) = piped(rt.alloc(), input.as_bytes(), &[], None)?;
+        assert_eq!(rt; end.as_str(), "done");
         assert_eq!(rt; written.as_slice(), output.as_bytes());
     }
     Ok(())
 }
 
 #[test]
-fn refuses_a_picture(rt: HostRuntime) -> Result<(), Fail> {
-    let inputs = [
-        // Cut before its last byte, empty, and with the line `%` first of all.
-        "{\"format\":1,\"grace\":0,\"bookies\":[{\"name\":\"b1:3181\",\"up\":true}],\"ledgers\":[],\"contents\":[]\n%\nreport\n",
-        "",
-        "%\nreport\n",
+fn judges_the_picture_first(rt: HostRuntime) -> Result<(), Fail> {
+    let runs = [
+        // At the end of the input.
+        ("", None, "picture: 2 NotJson"),
+        ("{}", None, "picture: 3 Missing format"),
+        ("%\nreport\n", None, "picture: 2 NotJson"),
+        // Behind a read that fails: the line `%` has not ended, and it has.
+        ("", Some(0), "ReadFault"),
+        ("{}\n%", Some(1), "ReadFault"),
+        ("{}\n%\r", Some(1), "ReadFault"),
+        ("{}\n%\n", Some(1), "picture: 3 Missing format"),
+        ("{}\n%\r\nclo", Some(1), "picture: 3 Missing format"),
+        ("%\n", Some(1), "picture: 2 NotJson"),
     ];
-    for input in inputs {
-        let (written, end) = played(rt.alloc(), input)?;
+    for (input, fails_at, expected) in runs {
+        let (written, end) = piped(rt.alloc(), input.as_bytes(), &[], fails_at)?;
         assert_eq!(rt; written.len(), 0);
-        match end {
-            Ok(()) => panic!(rt; "played"),
-            Err(PipeFault::Play(_)) => panic!(rt; "played"),
-            Err(PipeFault::Picture(fault)) => {
-                let text = format!(in rt.alloc(); "{fault}")?;
-                assert_eq!(rt; text.as_str(), "2 NotJson");
-            }
-        }
+        assert_eq!(rt; end.as_str(), expected);
     }
     Ok(())
 }
 
-/// A reader of some bytes, which fails behind them.
-#[derive(Drop)]
-struct FailsBehind<'a> {
-    rest: &'a [u8],
-    has_failed: bool,
-}
-
-impl TextIn for FailsBehind<'_> {
-    ghost use Rattle.std.specs.Prelude.{None};
-
-    ghost remaining = { λ s. None };
-
-    ghost has_failed = { λ s. s.has_failed };
-
-    fn take(&mut self, buffer: &mut [u8]) -> Result<usize, StreamFault> {
-        match self.rest.read(buffer) {
-            Ok(count) if count > 0 => Ok(count),
-            _ => {
-                self.has_failed = true;
-                Err(StreamFault)
-            }
-        }
+#[test]
+fn answers_what_came_before_a_failed_read(rt: HostRuntime) -> Result<(), Fail> {
+    let runs = [
+        ("\n%\n", ""),
+        ("\n%\nclock", ""),
+        ("\n%\nclock\n", "line 1: clock 0\n"),
+        ("\n%\ntick 1\nclock\nclo", "line 1: ok\nline 2: clock 1\n"),
+    ];
+    for (rest, output) in runs {
+        let input = format!(in rt.alloc(); "{PICTURE}{rest}")?;
+        let (written, end) = piped(rt.alloc(), input.as_bytes(), &[], Some(1))?;
+        assert_eq!(rt; end.as_str(), "ReadFault");
+        assert_eq!(rt; written.as_slice(), output.as_bytes());
     }
+    Ok(())
 }
 
 #[test]
-fn judges_the_picture_before_a_failed_read(rt: HostRuntime) -> Result<(), Fail> {
-    let runs = [
-        // Refused, with the line `%` not ended, and ended.
-        ("{}\n%", "read fault"),
-        ("{}\n%\r", "read fault"),
-        ("{}\n%\n", "3 Missing format"),
-        ("{}\n%\r\nclo", "3 Missing format"),
-        // Accepted.
-        (
-            "{\"format\":1,\"grace\":0,\"bookies\":[{\"name\":\"b1:3181\",\"up\":true}],\"ledgers\":[],\"contents\":[]}\n%\nclock\n",
-            "read fault",
-        ),
-    ];
-    for (input, expected) in runs {
-        let mut written = Vec::new(rt.alloc());
-        let mut reader = FailsBehind {
-            rest: input.as_bytes(),
-            has_failed: false,
-        };
-        let mut writer = ToWrite::new(&mut written);
-        let end = pipe(rt.alloc(), &mut reader, &mut writer);
+fn a_picture_is_too_long_before_a_failed_read(rt: HostRuntime) -> Result<(), Fail> {
+    let runs = [(8_388_611, "ReadFault"), (8_388_612, "picture: 1 TooLong")];
+    for (length, expected) in runs {
+        let bytes = vec![in rt.alloc(); b' '; length]?;
+        let (written, end) = piped(rt.alloc(), &bytes, &[], Some(1025))?;
         assert_eq!(rt; written.len(), 0);
-        match end {
-            Ok(()) => panic!(rt; "played"),
-            Err(PipeFault::Play(fault)) => {
-                assert_eq!(rt; fault, PlayFault::ReadFault);
-                assert_eq!(rt; expected, "read fault");
-            }
-            Err(PipeFault::Picture(fault)) => {
-                let text = format!(in rt.alloc(); "{fault}")?;
-                assert_eq!(rt; text.as_str(), expected);
-            }
-        }
+        assert_eq!(rt; end.as_str(), expected);
     }
+    Ok(())
+}
+
+#[test]
+fn reads_in_any_pieces(rt: HostRuntime) -> Result<(), Fail> {
+    let input = format!(in rt.alloc(); "{PICTURE}\n%\nlose b1:3181\nlsoe b1:3181\nundo\nreport")?;
+    let output =
+        "line 1: ok\nline 2: unknown command\nline 3: ok\nline 4: report\nclock 0 grace 0\nbookie b1:3181 up 0\n";
+    for cut in 0..input.len() {
+        let (written, end) = piped(rt.alloc(), input.as_bytes(), &[cut], None)?;
+        assert_eq!(rt; end.as_str(), "done");
+        assert_eq!(rt; written.as_slice(), output.as_bytes(), "cut at {cut}");
+    }
+    Ok(())
+}
+
+#[test]
+fn stops_at_a_failed_write(rt: HostRuntime) -> Result<(), Fail> {
+    // Each answer takes two writes, of 5 bytes and of what is left.
+    let runs = [
+        (0, "", 1),
+        (1, "line ", 1),
+        (2, "line 1: ok\n", 2),
+        (5, "line 1: ok\nline 2: ok\nline ", 3),
+    ];
+    for (fails_at, output, taken) in runs {
+        let Ok(state) = read_picture(rt.alloc(), PICTURE.as_bytes()) else {
+            panic!(rt; "refused");
+        };
+        let mut session = Session::open(rt.alloc(), state)?;
+        let mut reader = PiecesIn::new(b"tick 1\ntick 1\ntick 1\n", &[], None);
+        let mut writer = PiecesOut::new(rt.alloc(), &[5, 99, 5, 99, 5, 99], Some(fails_at));
+        let end = play(rt.alloc(), &mut session, &mut reader, &mut writer);
+        assert_eq!(rt; end, Err(PlayFault::WriteFault));
+        assert_eq!(rt; writer.written.as_slice(), output.as_bytes());
+        assert_eq!(rt; session.done().len(), taken);
+    }
+    Ok(())
+}
+
+#[test]
+fn pieces_of_any_length_are_no_fault(rt: HostRuntime) -> Result<(), Fail> {
+    let long = vec![in rt.alloc(); b'x'; 100_000]?;
+    let mut written = Vec::new(rt.alloc());
+    let mut writer = ToWrite::new(&mut written);
+    assert_eq!(rt; writer.put(b""), Ok(0));
+    assert_eq!(rt; writer.put(b"ok"), Ok(2));
+    assert_eq!(rt; writer.put(&long), Ok(100_000));
     Ok(())
 }

@@ -1,5 +1,5 @@
 use Rattle.std.proofs.Common.{string_bytes, arith, rules}
-use Rattle.reh_script.proofs.Steps.{is_at_next, stops_writing, stops_for_memory, all_answered}
+use Rattle.reh_script.proofs.Steps.{is_at_next, stops_writing}
 use Rattle.reh_script.proofs.plays.answer_lines.Goals as goal
 
 pub returns-in-Err-clause-played : goal.returns-in-Err-clause-played

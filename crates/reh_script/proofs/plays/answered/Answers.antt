@@ -1,4 +1,4 @@
-use Rattle.std.proofs.Common.{◌≡◌, ◌∙◌, ◌<◌, ◌≤◌, List, ℕ, length, sym, ap, arith}
+use Rattle.std.proofs.Common.{◌∙◌, ◌<◌, ◌≤◌, List, ℕ, length, sym, ap, arith}
 use Rattle.reh_types.specs.declared.limits.TheConstants.{MAX_SCRIPT_BYTES}
 use Rattle.reh_script.specs.Lines.{lines_of, ended, answered_lines}
 use Rattle.reh_script.proofs.Answered.{not_script, answered_lines-long, answered_lines-failed, answered_lines-whole}
