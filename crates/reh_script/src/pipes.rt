@@ -10,7 +10,6 @@ use crate::streams::{TextIn, TextOut};
 use reh_picture::read_picture;
 use reh_session::Session;
 use reh_types::{MAX_PICTURE_BYTES, MAX_SCRIPT_BYTES};
-use reh_types::{MAX_PICTURE_BYTES, MAX_SCRIPT_BYTES};
 use std::alloc::Global;
 
 /// So many bytes are enough to know a picture or a script that is too long: a picture of 8,388,608 bytes, LF, `%`, CR, LF, and a script of one byte more than there can be.

@@ -143,6 +143,8 @@ fn answer_move(
     ensures err { OnErr result ((session.new ≡ session_after session.old step.now (reply_to session.old step.now))
         ⊎ ((session.new ≡ session.old) × MightBeDone session.old step.now)) }
 {
+    // The check has to meet the type of a reply's refusal by its name.
+    let _refusal: Option<Refusal> = None;
     let reply = make(session, step)?;
     let reply = reply_text(alloc, session.state().names(), &reply)?;
     format!(in alloc; "line {number}: {reply}\n")
