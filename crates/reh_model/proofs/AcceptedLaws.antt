@@ -1,8 +1,8 @@
 -- What an accepted event shows, and what the replies of a session tell of its event: this file alone takes the checks of events apart.
-use Rattle.std.proofs.Common.{◌≡◌, ℕ, Bool, true, false, not, ◌&&◌, ◌||◌, ◌+◌, ◌<◌, ◌≤◌, List, [], ◌∷◌, ◌++◌, length, Option, None, Some, IsSome, refl, sym, ap, ◌∙◌, subst, arith, cond, nat_lt, nat_le}
+use Rattle.std.proofs.Common.{◌≡◌, ℕ, Bool, true, false, not, ◌&&◌, ◌||◌, ◌+◌, ◌<◌, ◌≤◌, List, [], ◌∷◌, ◌++◌, length, Option, None, Some, IsSome, refl, sym, ap, ◌∙◌, subst, arith, nat_lt, nat_le}
 use Rattle.std.specs.Prelude.{◌==◌, is_none, All, slice_get}
-use Rattle.std.specs.List.{find, list_any}
-use Rattle.std.specs.Option.{ForSome, option_map, option_map_or, option_and_then}
+use Rattle.std.specs.List.{list_any}
+use Rattle.std.specs.Option.{ForSome}
 use Rattle.std.proofs.lemmas.Bool.Decides.{nat_tests}
 use Rattle.std.proofs.lemmas.List.Elements.{All-weaker}
 use Rattle.std.proofs.lemmas.Option.{slice_get_within}
@@ -10,14 +10,13 @@ use Rattle.reh_types.specs.declared.limits.TheConstants.{CLOCK_END, MAX_EVENTS, 
 use Rattle.reh_types.specs.declared.moves.Event.{Event}
 use Rattle.reh_types.specs.declared.moves.Event.TheVariants.{Join, Acquire, Tick, Copy, Swap}
 use Rattle.reh_types.specs.declared.moves.Move.TheVariants.{Do}
-use Rattle.reh_types.specs.declared.moves.Reply.{Reply}
 use Rattle.reh_types.specs.declared.moves.Reply.TheVariants.{Done, Refused}
 use Rattle.reh_types.specs.declared.refusals.Refusal.{Refusal}
 use Rattle.reh_types.specs.declared.refusals.Refusal.TheVariants.{NoSource, MissingEntry, Full}
 use Rattle.reh_types.specs.Sets.{Set, numbers}
 use Rattle.reh_model.specs.Contents.{IsHeld}
 use Rattle.reh_model.specs.Metadata.{Fragment, stop_of, stripe_of, writes}
-use Rattle.reh_model.specs.Cluster.{Cluster, Ledger, is_up, holds, is_readable, ledger_at, stop_at, stripe_at}
+use Rattle.reh_model.specs.Cluster.{Cluster, Ledger, is_up, holds, is_readable, ledger_at, stripe_at}
 use Rattle.reh_model.specs.Checks.{first_reason, reason_if}
 use Rattle.reh_model.specs.Refusals.{with_ledger, at_ledger, with_fragment, no_bookie, already_up, no_task, lock_held, bad_tick, clock_end, stale_version, not_owner, no_index, member_up, target_down, target_is_member, no_endpoint, no_place, no_source, missing_entry, version_end}
 use Rattle.reh_model.specs.Step.{refusal_of, place_checks, copy_checks, swap_checks}

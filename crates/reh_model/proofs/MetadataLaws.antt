@@ -1,5 +1,5 @@
 -- The rules of metadata: as tests, and as what holds of well-formed metadata.
-use Rattle.std.proofs.Common.{◌≡◌, ℕ, zero, suc, ◌+◌, ◌^◌, ◌<◌, ◌≤◌, Bool, true, false, not, unwrap_or, get_or, ◌&&◌, List, [], ◌∷◌, map, length, Option, None, Some, nat_eq, nat_lt, nat_le, ◌||◌, All, refl, sym, ap, ◌∙◌, arith}
+use Rattle.std.proofs.Common.{◌≡◌, ℕ, zero, suc, ◌+◌, ◌<◌, ◌≤◌, Bool, true, false, not, unwrap_or, get_or, ◌&&◌, List, [], ◌∷◌, map, length, Option, None, Some, nat_eq, nat_lt, nat_le, ◌||◌, All, refl, sym, ap, ◌∙◌, arith}
 use Rattle.std.specs.Prelude.{◌==◌, slice_get, slice_index}
 use Rattle.std.specs.List.{list_any, list_all, IsDistinct, AllByRecursion}
 use Rattle.std.specs.List.Sorted.{IsStrictlyIncreasing}

@@ -1,6 +1,6 @@
 -- An accepted event keeps a cluster well-formed, and a ledger that is found in one keeps its rules.
-use Rattle.std.proofs.Common.{◌≡◌, ℕ, Bool, true, false, cond, not, ◌&&◌, ◌||◌, ◌+◌, ◌*◌, ◌<◌, ◌≤◌, List, [], ◌∷◌, map, length, get_or, set, Option, None, Some, IsSome, refl, sym, ap, ◌∙◌, subst, arith, nat_eq}
-use Rattle.std.specs.Prelude.{◌==◌, ◌/◌, ◌^◌, if◌then◌else◌, sum_by, slice_get, All}
+use Rattle.std.proofs.Common.{◌≡◌, ℕ, Bool, true, false, cond, not, ◌&&◌, ◌||◌, ◌+◌, ◌*◌, ◌<◌, ◌≤◌, List, [], ◌∷◌, map, length, get_or, set, None, Some, IsSome, refl, sym, ap, ◌∙◌, subst, arith, nat_eq}
+use Rattle.std.specs.Prelude.{◌==◌, ◌/◌, if◌then◌else◌, sum_by, slice_get, All}
 use Rattle.std.specs.List.{IsDistinct, find}
 use Rattle.std.specs.Option.{option_map_or}
 use Rattle.std.specs.Ordering.{nat_cmp, eq_by_cmp}

@@ -5,7 +5,7 @@ use Rattle.serde_json.specs.Data.{Data}
 use Rattle.serde_json.specs.View.{view}
 use Rattle.serde_json.specs.declared.value.Value.{Value}
 use Rattle.reh_types.specs.Sets as set
-use Rattle.reh_types.specs.Sets.{Set, numbers, contains-empty, contains-from_list, contains-insert, same_set}
+use Rattle.reh_types.specs.Sets.{Set, numbers, contains-empty}
 use Rattle.reh_model.proofs.WellFormedLaws.{named-insert}
 use Rattle.reh_picture.specs.declared.faults.PictureFault.{PictureFault}
 use Rattle.reh_picture.specs.declared.fields.Field.TheVariants as field

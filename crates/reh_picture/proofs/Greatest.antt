@@ -7,7 +7,6 @@ use Rattle.std.proofs.lemmas.List.{take_more}
 use Rattle.std.proofs.lemmas.List.Sums.{fold-append}
 use Rattle.std.proofs.lemmas.Grind.{flat_map-append}
 use Rattle.reh_types.specs.Sets as set
-use Rattle.reh_types.specs.Sets.{triples}
 use Rattle.reh_model.specs.Contents.{Contents, greatest_held}
 use Rattle.reh_model.proofs.ContentsLaws.{greatest_held-insert}
 use Rattle.reh_picture.specs.Contents.{copies_within, IsGreatest}

@@ -26,7 +26,6 @@ use Rattle.reh_model.proofs.Ranges.{Passes, any_passes, list_any-map, same_answe
 use Rattle.reh_model.proofs.CheckLaws.{both-none, reason_unless-none}
 use Rattle.reh_model.proofs.MetadataLaws.{KeepsRules, IsMetadata-from_rules}
 use Rattle.reh_meta.specs.Faults as meta
-use Rattle.reh_meta.specs.declared.faults.MetaFault.{MetaFault}
 use Rattle.reh_picture.specs.declared.fields.Field.{Field}
 use Rattle.reh_picture.specs.declared.fields.Field.TheVariants as field
 use Rattle.reh_picture.specs.declared.faults.PictureFault.{PictureFault}

@@ -2,10 +2,18 @@
 #![tactic(auto)]
 
 #[cfg(test)]
+mod audits;
+#[cfg(test)]
 mod copies;
 #[cfg(test)]
 mod pictures;
 #[cfg(test)]
-mod register;
+mod plays;
+#[cfg(test)]
+mod scripts;
+#[cfg(test)]
+mod sessions;
+#[cfg(test)]
+mod states;
 #[cfg(test)]
 mod tasks;

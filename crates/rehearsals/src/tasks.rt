@@ -1,176 +1,169 @@
-// The auditor's tasks and the workers' locks, on five bookies with a closed and an open ledger.
-use crate::pictures::{
-    CLOSED, FIFTH, FOURTH, LOSE, OPEN, SECOND, expect, five_bookies, is_second_alone,
-};
-use reh_audit::{audit, missing, under};
-use reh_cluster::{Ledger, State};
-use reh_session::Session;
-use reh_step::step;
-use reh_types::{BookieIx, BookieSet, Event, LedgerId, Lock, Refusal, Reply};
-use std::process::Abort;
+// The register, and the auditor's tasks and the workers' locks.
+use crate::pictures::{FIVE_BOOKIES, TWO_BOOKIES};
+use crate::plays::{Rehearsal, expect, opening_of};
 use std::test::Fail;
 
-fn acquire(worker: BookieIx) -> Event {
-    Event::Acquire {
-        worker,
-        ledger: CLOSED,
-    }
+const REGISTER: [Rehearsal; 3] = [
+    // A loss and a tick, undone and redone.
+    Rehearsal {
+        picture: TWO_BOOKIES,
+        old: "",
+        new: "",
+        script: "lose 0
+tick 2
+undo
+undo
+undo
+redo
+look",
+        shows: "ok
+ok
+ok
+ok
+refused 33 NothingToUndo
+ok
+clock 0
+1 done, 1 undone
+b1:3181 down 0
+",
+    },
+    // Time goes on.
+    Rehearsal {
+        picture: TWO_BOOKIES,
+        old: "",
+        new: "",
+        script: "lose 1
+tick 5
+look",
+        shows: "ok
+ok
+clock 5
+2 done, 0 undone
+clock 5 grace 3
+b2:3181 down 0
+",
+    },
+    // What does not apply is refused.
+    Rehearsal {
+        picture: TWO_BOOKIES,
+        old: "",
+        new: "",
+        script: "lose 2
+join 0
+lose 0
+lose 0
+redo",
+        shows: "refused 1 NoBookie
+refused 4 AlreadyUp
+ok
+refused 3 AlreadyDown
+refused 34 NothingToRedo
+",
+    },
+];
+
+#[test]
+fn losses_and_ticks(rt: HostRuntime) -> Result<(), Fail> {
+    expect(&rt, &REGISTER)
 }
 
-fn release(worker: BookieIx) -> Event {
-    Event::Release {
-        worker,
-        ledger: CLOSED,
-    }
+const OPENING: &str = "clock 0 grace 3
+b1:3181 up 9
+b2:3181 up 8
+b3:3181 up 8
+b4:3181 up 0
+b5:3181 up 0
+7: version 0 Closed { end: 6 } 3 2 2, greatest Some(5)
+7: fragment 0 to Some(6) on 0 1 2
+7: lock None, no task
+7: 0 holds 0 2 3 5
+7: 1 holds 0 1 3 4
+7: 2 holds 1 2 4 5
+7: 3 holds
+7: 4 holds
+9: version 0 Open 3 3 2, greatest Some(4)
+9: fragment 0 to None on 0 1 2
+9: lock None, no task
+9: 0 holds 0 1 2 3 4
+9: 1 holds 0 1 2 3
+9: 2 holds 0 1 2 3
+9: 3 holds
+9: 4 holds
+";
+
+#[test]
+fn the_five_bookies(rt: HostRuntime) -> Result<(), Fail> {
+    let shown = opening_of(rt.alloc(), FIVE_BOOKIES)?;
+    assert_eq!(rt; shown.as_str(), OPENING);
+    Ok(())
 }
 
-fn finish(worker: BookieIx) -> Event {
-    Event::Finish {
-        worker,
-        ledger: CLOSED,
-    }
-}
-
-// Whether the bookie is a member of some ensemble of the ledger.
-fn has_member(ledger: &Ledger, bookie: BookieIx) -> bool {
-    ledger
-        .metadata()
-        .fragments()
-        .iter()
-        .any(|fragment| fragment.ensemble.contains(&bookie))
-}
-
-// Whether the second ledger is what the first one is: at version 0, with one fragment of the first three bookies, and a task for the second.
-fn is_copy(ledger: &Ledger, same: &Ledger) -> bool {
-    same.id() == ledger.id()
-        && same.lock() == ledger.lock()
-        && same.task().is_some_and(is_second_alone)
-        && same.metadata().state() == ledger.metadata().state()
-        && same.metadata().version() == 0
-        && same.metadata().fragments().len() == 1
-        && (0..5).all(|i| has_member(same, BookieIx(i)) == (i < 3))
-}
-
-// The missing members of a ledger that is there.
-fn missing_of<R: Abort>(rt: &R, state: &State, ledger: LedgerId) -> BookieSet {
-    assert!(rt; state.ledger(ledger).is_some());
-    missing(state, ledger)
-}
-
-// The least fragment with a missing member, of a ledger that is there.
-fn under_of<R: Abort>(rt: &R, state: &State, ledger: LedgerId) -> Option<u64> {
-    assert!(rt; state.ledger(ledger).is_some());
-    under(state, ledger)
-}
+const TASKS: [Rehearsal; 2] = [
+    // One worker holds the lock of a task, until its session expires.
+    Rehearsal {
+        picture: FIVE_BOOKIES,
+        old: "",
+        new: "",
+        script: "lose 1
+audit
+audit
+acquire 3 7
+acquire 4 7
+expire 3
+acquire 4 7
+expire 3
+look",
+        shows: "ok
+ok
+refused 5 NothingToPublish
+ok
+refused 7 Locked 3
+ok
+ok
+refused 10 NoLocks
+clock 0
+5 done, 0 undone
+b2:3181 down 8
+7: lock Some(Lock { owner: BookieIx(4), due: None }), task 1
+9: lock None, task 1
+",
+    },
+    // A task ends where no member is missing.
+    Rehearsal {
+        picture: FIVE_BOOKIES,
+        old: "",
+        new: "",
+        script: "lose 1
+audit
+acquire 3 7
+release 4 7
+release 3 7
+release 3 7
+acquire 4 7
+finish 4 7
+join 1
+finish 4 7
+acquire 4 7
+look",
+        shows: "ok
+ok
+ok
+refused 8 NotOwner
+ok
+refused 8 NotOwner
+ok
+refused 9 StillUnder 0
+ok
+ok
+refused 6 NoTask
+clock 0
+7 done, 0 undone
+9: lock None, task 1
+",
+    },
+];
 
 #[test]
 fn tasks_and_locks(rt: HostRuntime) -> Result<(), Fail> {
-    let mut session = Session::open(rt.alloc(), five_bookies(&rt)?)?;
-    let expire = Event::Expire { worker: FOURTH };
-    expect(
-        &rt,
-        &mut session,
-        &[
-            (LOSE, Reply::Done),
-            (Event::Audit, Reply::Done),
-            (Event::Audit, Reply::Refused(Refusal::NothingToPublish)),
-            (acquire(FOURTH), Reply::Done),
-            (acquire(FIFTH), Reply::Refused(Refusal::Locked(FOURTH))),
-            (expire, Reply::Done),
-            (acquire(FIFTH), Reply::Done),
-            (expire, Reply::Refused(Refusal::NoLocks)),
-        ],
-    )?;
-    let state = session.state();
-    for ledger in state.ledgers() {
-        assert!(rt; ledger.task().is_some_and(is_second_alone));
-    }
-    let lock = Lock {
-        owner: FIFTH,
-        due: None,
-    };
-    assert_eq!(rt;
-        state.ledger(CLOSED).and_then(|ledger| ledger.lock()),
-        Some(lock)
-    );
-    assert_eq!(rt; state.ledger(OPEN).and_then(|ledger| ledger.lock()), None);
-    Ok(())
-}
-
-#[test]
-fn a_task_ends_where_no_member_is_missing(rt: HostRuntime) -> Result<(), Fail> {
-    let mut session = Session::open(rt.alloc(), five_bookies(&rt)?)?;
-    expect(
-        &rt,
-        &mut session,
-        &[
-            (LOSE, Reply::Done),
-            (Event::Audit, Reply::Done),
-            (acquire(FOURTH), Reply::Done),
-            (release(FIFTH), Reply::Refused(Refusal::NotOwner)),
-            (release(FOURTH), Reply::Done),
-            (release(FOURTH), Reply::Refused(Refusal::NotOwner)),
-            (acquire(FIFTH), Reply::Done),
-            (finish(FIFTH), Reply::Refused(Refusal::StillUnder(0))),
-            (Event::Join { bookie: SECOND }, Reply::Done),
-            (finish(FIFTH), Reply::Done),
-            (acquire(FIFTH), Reply::Refused(Refusal::NoTask)),
-        ],
-    )?;
-    let state = session.state();
-    assert!(rt;
-        state
-            .ledger(CLOSED)
-            .is_some_and(|ledger| ledger.task().is_none())
-    );
-    assert!(rt;
-        state
-            .ledger(OPEN)
-            .is_some_and(|ledger| ledger.task().is_some())
-    );
-    Ok(())
-}
-
-#[test]
-fn an_audit_tells_its_tasks(rt: HostRuntime) -> Result<(), Fail> {
-    let state = five_bookies(&rt)?;
-    assert!(rt; matches!(audit(rt.alloc(), &state), Err(Refusal::NothingToPublish)));
-    let lost = step(rt.alloc(), &state, &LOSE)?;
-    assert!(rt; state.is_up(SECOND));
-    assert!(rt; is_second_alone(&missing_of(&rt, &lost, CLOSED)));
-    assert_eq!(rt; under_of(&rt, &lost, OPEN), Some(0));
-    assert_eq!(rt; under_of(&rt, &state, OPEN), None);
-    let tasks = audit(rt.alloc(), &lost)?;
-    assert_eq!(rt; tasks.len(), 2);
-    for (task, ledger) in tasks.iter().zip([CLOSED, OPEN]) {
-        assert_eq!(rt; task.0, ledger);
-        assert!(rt; is_second_alone(&task.1));
-    }
-    Ok(())
-}
-
-#[test]
-fn a_copy_of_the_ledgers_equals_them(rt: HostRuntime) -> Result<(), Fail> {
-    let mut session = Session::open(rt.alloc(), five_bookies(&rt)?)?;
-    expect(
-        &rt,
-        &mut session,
-        &[
-            (LOSE, Reply::Done),
-            (Event::Audit, Reply::Done),
-            (acquire(FOURTH), Reply::Done),
-        ],
-    )?;
-    let state = session.state();
-    let copy = state.clone_in()?;
-    assert_eq!(rt; copy.clock(), state.clock());
-    assert_eq!(rt; copy.grace(), state.grace());
-    assert_eq!(rt; copy.ledgers().len(), 2);
-    let mut ledgers = state.ledgers().iter().zip(copy.ledgers());
-    assert!(rt; ledgers.all(|(ledger, same)| is_copy(ledger, same)));
-    assert!(rt; (0..5).all(|i| copy.is_up(BookieIx(i)) == (BookieIx(i) != SECOND)));
-    assert!(rt; (0..5).all(|i| copy.count(BookieIx(i)) == state.count(BookieIx(i))));
-    assert_eq!(rt; copy.greatest(CLOSED), Some(5));
-    assert_eq!(rt; copy.greatest(OPEN), Some(4));
-    Ok(())
+    expect(&rt, &TASKS)
 }

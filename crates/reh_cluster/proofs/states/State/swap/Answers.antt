@@ -1,5 +1,5 @@
 -- The worker's bookie takes the place in the ledger of that id, and the state stays well-formed.
-use Rattle.std.proofs.Common.{◌≡◌, ◌∙◌, ap, sym, subst, set, List}
+use Rattle.std.proofs.Common.{◌≡◌, ◌∙◌, ap, sym, set, List}
 use Rattle.std.specs.Prelude.{◌==◌, position}
 use Rattle.reh_types.specs.declared.moves.Event.TheVariants.{Swap}
 use Rattle.reh_model.specs.Cluster.{Cluster, Ledger, change_ledger}
