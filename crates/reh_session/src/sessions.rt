@@ -1,5 +1,5 @@
 // Sessions, which can undo and redo.
-ghost use Rattle.std.specs.Prelude.{◌≡◌, All, ◌+◌, ◌≤◌, ◌∷◌, [], ◌++◌, length, take, Some, IsSome, IfOk, IfErr, OnErr, OnOk};
+ghost use Rattle.std.specs.Prelude.{◌≡◌, All, ◌+◌, ◌-◌, ◌<◌, ◌≤◌, ◌∷◌, [], ◌++◌, length, take, Some, IsSome, IfOk, IfErr, OnErr, OnOk};
 ghost use Rattle.reh_types.specs.declared.limits.TheConstants.{MAX_EVENTS};
 ghost use Rattle.reh_model.specs.Session.{replay as replayed};
 
@@ -103,7 +103,7 @@ impl Session {
         if self.cursor == 0 {
             return Err(Refusal::NothingToUndo);
         }
-        let before = &self.events[..self.cursor - 1];
+        let before = without_newest(&self.events, self.cursor);
         let restored = replay(&self.opening, before)?;
         self.state = restored;
         self.cursor -= 1;
@@ -160,6 +160,15 @@ impl Session {
         }
         Ok(replies)
     }
+}
+
+/// The first `cursor` events without the last of them.
+fn without_newest(events: &[Event], cursor: usize) -> &[Event]
+    requires some { 0 < cursor }
+    requires within { cursor ≤ length events.now }
+    ensures { result.now ≡ take (cursor - 1) events.now }
+{
+    &events[..cursor - 1]
 }
 
 /// Puts an event behind the first `cursor` events, and drops what lay there.
