@@ -3,6 +3,7 @@ use Rattle.std.specs.Prelude.{ℕ, ◌+◌, ◌-◌, ◌*◌, ◌==◌, ◌&&◌
 use Rattle.std.specs.List.{slice_split, starts_with}
 use Rattle.std.specs.Str.{bytes_eq, all_ascii_digits}
 use Rattle.std.specs.Str.Lines.{strip_carriage_return}
+use Rattle.reh_types.specs.declared.limits.TheConstants.{MAX_LINE_BYTES}
 use Rattle.reh_types.specs.declared.moves.Event.{Event}
 use Rattle.reh_types.specs.declared.moves.Event.TheVariants.{Lose, Join, Audit, Acquire, Release, Finish, Expire, Tick, Copy, Swap}
 use Rattle.reh_types.specs.declared.moves.Move.TheVariants.{Do, Undo, Redo, Look}
@@ -140,4 +141,4 @@ command_of_words names (verb ∷ words) = if starts_with nat_eq verb (codes "#")
 abbrev pub command_of_line : List (List ℕ) → List ℕ → Option (Result Command LineFault)
 command_of_line names line =
     let bytes = strip_carriage_return line in
-    if nat_lt 1_024 (length bytes) then Some (Err TooLong) else command_of_words names (words_of bytes)
+    if nat_lt MAX_LINE_BYTES (length bytes) then Some (Err TooLong) else command_of_words names (words_of bytes)

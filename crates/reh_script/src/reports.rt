@@ -10,7 +10,7 @@ ghost use Rattle.reh_script.specs.Texts as texts;
 use crate::texts::push_name;
 use reh_cluster::{Ledger, Names, State};
 use reh_meta::{Fragment, LedgerMeta};
-use reh_types::{BookieIx, BookieSet, LedgerId, LedgerState, Lock};
+use reh_types::{BookieIx, BookieSet, LedgerId, LedgerState, Lock, MAX_BOOKIES};
 use std::alloc::{AllocError, Global};
 
 /// The report of a state: its clock and grace, its bookies, and its ledgers with their fragments, tasks and locks.
@@ -44,7 +44,7 @@ fn push_bookies(text: &mut String, state: &State) -> Result<(), AllocError>
 
 /// Adds the line of the i-th bookie, if there is one.
 fn push_bookie(text: &mut String, state: &State, i: usize) -> Result<(), AllocError>
-    requires { i < 64 }
+    requires { i < MAX_BOOKIES }
     ensures { OnOk result (string_bytes text.new ≡ string_bytes text.old ++ line_at state.now i (slice_get state.now.names i)) }
 {
     let bookie = BookieIx(i as u8);
@@ -194,7 +194,7 @@ fn push_member(
     bookies: &BookieSet,
     i: usize,
 ) -> Result<(), AllocError>
-    requires { i < 64 }
+    requires { i < MAX_BOOKIES }
     ensures { OnOk result (string_bytes text.new ≡ string_bytes text.old
         ++ (if set.contains bookies.now i then codes " " ++ texts.name_of names.now i else [])) }
 {

@@ -8,9 +8,7 @@ use crate::commands::{Command, LineFault};
 use crate::forms::{Form, forms};
 use crate::words::{Arguments, next_word, read_words};
 use reh_cluster::Names;
-
-/// The bytes of a line that isn't too long.
-const MAX_LINE: usize = 1_024;
+use reh_types::MAX_LINE_BYTES;
 
 /// What a line asks for, with the bookies of these names, or why it asks for nothing. An empty line and a comment
 /// have no reply. The line is without its LF; one CR at its end is no part of it.
@@ -18,7 +16,7 @@ pub fn parse_line(names: &Names, line: &[u8]) -> Option<Result<Command, LineFaul
     ensures { result ≡ command_of_line names.now line.now }
 {
     let line = without_cr(line);
-    if line.len() > MAX_LINE {
+    if line.len() > MAX_LINE_BYTES {
         return Some(Err(LineFault::TooLong));
     }
     let (verb, words) = next_word(line)?;

@@ -48,5 +48,8 @@ pub const MAX_EVENTS: usize = 100_000;
 /// The longest picture, in bytes.
 pub const MAX_PICTURE_BYTES: usize = 8_388_608;
 
+/// The longest line of a script, in bytes.
+pub const MAX_LINE_BYTES: usize = 1_024;
+
 /// The longest script, in bytes.
 pub const MAX_SCRIPT_BYTES: usize = 1_048_576;
