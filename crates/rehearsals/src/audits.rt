@@ -1,12 +1,21 @@
 // What the auditor reads of the five bookies, before and after a loss.
 use crate::pictures::{FIVE_BOOKIES, state_of};
-use crate::states::push_set;
 use reh_audit::{audit, missing, under};
 use reh_cluster::State;
 use reh_step::step;
-use reh_types::{BookieIx, Event, LedgerId};
+use reh_types::{BookieIx, BookieSet, Event, LedgerId};
 use std::alloc::{AllocError, Global};
 use std::test::Fail;
+
+// Adds the numbers of the bookies in a set.
+fn push_set(text: &mut String, bookies: &BookieSet) -> Result<(), AllocError> {
+    for i in 0..64 {
+        if bookies.contains(BookieIx(i)) {
+            write!(text, " {i}")?;
+        }
+    }
+    Ok(())
+}
 
 // The ledger's missing members, and its least fragment with one.
 fn push_missing(text: &mut String, state: &State, ledger: LedgerId) -> Result<(), AllocError> {

@@ -1,19 +1,9 @@
-// Worked rehearsals, as tests over the public calls of several crates.
+// Tests over the public calls of several crates, of what no script can show.
 #![tactic(auto)]
 
 #[cfg(test)]
 mod audits;
 #[cfg(test)]
-mod copies;
-#[cfg(test)]
 mod pictures;
 #[cfg(test)]
-mod plays;
-#[cfg(test)]
-mod scripts;
-#[cfg(test)]
 mod sessions;
-#[cfg(test)]
-mod states;
-#[cfg(test)]
-mod tasks;

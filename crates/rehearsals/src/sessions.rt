@@ -1,4 +1,4 @@
-// Sessions by their own calls, and long runs, on two bookies.
+// Sessions by their own calls, and a long run, on two bookies.
 use crate::pictures::{TWO_BOOKIES, state_of};
 use reh_session::Session;
 use reh_types::{BookieIx, Event, Move, Refusal, Reply};
@@ -39,6 +39,29 @@ fn undoes_and_redoes(rt: HostRuntime) -> Result<(), Fail> {
     Ok(())
 }
 
+// A script names no bookie that isn't there, so this refusal takes a call.
+#[test]
+fn no_such_bookie(rt: HostRuntime) -> Result<(), Fail> {
+    let mut session = opened(rt.alloc(), TWO_BOOKIES)?;
+    let lose = Event::Lose {
+        bookie: BookieIx(2),
+    };
+    assert_eq!(rt; session.act(&lose), Err(Refusal::NoBookie));
+    assert_eq!(rt; session.done().len(), 0);
+    Ok(())
+}
+
+// A copy of the state and of its names, where there is memory.
+#[test]
+fn a_copy_of_the_state(rt: HostRuntime) -> Result<(), Fail> {
+    let session = opened(rt.alloc(), TWO_BOOKIES)?;
+    let copy = session.state().clone_in()?;
+    let names = copy.names().clone_in()?;
+    assert_eq!(rt; names.find(b"b2:3181"), Some(BookieIx(1)));
+    assert_eq!(rt; copy.grace(), 3);
+    Ok(())
+}
+
 // How many replies a run gives, and those that aren't `ok`, behind their places.
 fn run(alloc: Global, picture: &str, moves: &[Move]) -> Result<String, Fail> {
     let mut session = opened(alloc, picture)?;
@@ -63,24 +86,6 @@ fn ticks_and_moves(
     let mut moves = vec![in alloc; Move::Do(Event::Tick { ticks }); count]?;
     moves.extend_from_slice(behind)?;
     Ok(moves)
-}
-
-const BEHIND_THE_CLOCK: [Move; 4] = [
-    Move::Do(Event::Tick { ticks: 1 }),
-    Move::Do(Event::Tick { ticks: 0 }),
-    Move::Do(Event::Tick { ticks: 1_000_001 }),
-    Move::Look,
-];
-
-#[test]
-fn the_clock_ends(rt: HostRuntime) -> Result<(), Fail> {
-    let moves = ticks_and_moves(rt.alloc(), 1_000_000, 1_000, &BEHIND_THE_CLOCK)?;
-    let shown = run(rt.alloc(), TWO_BOOKIES, &moves)?;
-    assert_eq!(rt;
-        shown.as_str(),
-        "1004 replies\n1000: refused 17 ClockEnd\n1001: refused 16 BadTick\n1002: refused 16 BadTick\n1003: clock 1000000000\n"
-    );
-    Ok(())
 }
 
 // One event more than can survive, one that is refused, an undo, and an event again.

@@ -1,13 +1,15 @@
 // Rehearses events on a picture of a cluster: from standard input, or from files.
 #![tactic(auto)]
 
+ghost use Rattle.std.specs.Prelude.{◌≡◌, false};
+
 mod faults;
 mod tasks;
 
 use clap::Error;
 use faults::{RunFault, after_flush, status_of, want_of_memory};
 use reh_picture::read_picture;
-use reh_script::{FromRead, ToWrite, play, pipe, read};
+use reh_script::{FromRead, ToWrite, pipe, play, read};
 use reh_session::Session;
 use reh_types::MAX_PICTURE_BYTES;
 use std::io::{BufWriter, Write};

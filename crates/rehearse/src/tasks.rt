@@ -14,7 +14,8 @@ pub enum Task<'a> {
 const ABOUT: &str =
     "Rehearses Apache BookKeeper AutoRecovery on a picture of a cluster, and not on the cluster.";
 
-const WAYS: &str = "Without a command, standard input holds a picture, a line with a single %, and a script.
+const WAYS: &str =
+    "Without a command, standard input holds a picture, a line with a single %, and a script.
 A picture is JSON: the bookies, the ledgers' metadata, and which entries each bookie holds.
 A script has a command a line. For example:
 
