@@ -38,10 +38,10 @@ fn ends_where_the_input_does(rt: HostRuntime) -> Result<(), Fail> {
             "\n%\nreport",
             "line 1: report\nclock 0 grace 0\nbookie b1:3181 up 0\n",
         ),
-        // The line `%` may end in CR LF; a command may not.
+        // The line `%` may end in CR LF, as each line may; an empty line has no answer.
         (
             "\n%\r\nclock\r\n\ntick x\nlose b9:3181\ntick 1\nclock",
-            "line 1: unknown command\nline 2: unknown command\nline 3: unknown command\nline 4: unknown command\nline 5: ok\nline 6: clock 1\n",
+            "line 1: clock 0\nline 3: bad words\nline 4: unknown name\nline 5: ok\nline 6: clock 1\n",
         ),
         // No script.
         ("", ""),
