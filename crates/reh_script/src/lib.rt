@@ -5,8 +5,6 @@ mod commands;
 mod faults;
 mod forms;
 mod inputs;
-#[cfg(test)]
-mod language_tests;
 mod pieces;
 mod pipes;
 mod plays;
