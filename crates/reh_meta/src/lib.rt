@@ -8,3 +8,6 @@ mod ledgers;
 pub use faults::MetaFault;
 pub use fragments::Fragment;
 pub use ledgers::{LedgerMeta, Sizes};
+
+#[cfg(test)]
+mod tests;
