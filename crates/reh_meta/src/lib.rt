@@ -8,6 +8,3 @@ mod ledgers;
 pub use faults::MetaFault;
 pub use fragments::Fragment;
 pub use ledgers::{LedgerMeta, Sizes};
-
-#[cfg(test)]
-mod tests;

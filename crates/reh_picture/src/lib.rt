@@ -8,8 +8,6 @@ mod fields;
 mod ledgers;
 mod members;
 mod pictures;
-#[cfg(test)]
-mod tests;
 
 pub use faults::{FaultName, LedgerFlaw, PictureFault, Repeated};
 pub use fields::Field;

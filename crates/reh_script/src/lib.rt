@@ -12,8 +12,6 @@ mod readings;
 mod reports;
 mod scripts;
 mod streams;
-#[cfg(test)]
-mod tests;
 mod texts;
 mod words;
 

@@ -7,3 +7,5 @@ mod audits;
 mod pictures;
 #[cfg(test)]
 mod sessions;
+#[cfg(test)]
+mod streams;

@@ -1,10 +1,6 @@
 // The whole path over memory: what is written for a text, and how its play ends.
-use crate::faults::{PipeFault, PlayFault};
-use crate::pieces::{PiecesIn, PiecesOut};
-use crate::pipes::pipe;
-use crate::plays::play;
-use crate::streams::{TextOut, ToWrite};
 use reh_picture::read_picture;
+use reh_script::{PiecesIn, PiecesOut, PipeFault, PlayFault, TextOut, ToWrite, pipe, play};
 use reh_session::Session;
 use std::alloc::Global;
 use std::test::Fail;
