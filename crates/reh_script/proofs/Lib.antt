@@ -2,7 +2,6 @@ mod Numbers
 mod Examples
 pub mod TranscriptExamples
 pub mod WordLaws
-pub mod TableLaws
 pub mod ReportLaws
 pub mod LinesLemmas
 pub mod EndedLaws

@@ -1,5 +1,5 @@
 -- Worked scripts and inputs: the definitions, computed.
-use Rattle.std.specs.Prelude.{◌≡◌, refl, ℕ, List, [], ◌∷◌, ◌++◌, codes, map}
+use Rattle.std.specs.Prelude.{◌≡◌, refl, [], ◌∷◌, ◌++◌, codes, map}
 use Rattle.std.specs.Fmt.{digits}
 use Rattle.reh_types.specs.Sets.{contains, insert, retain, remove, empty, from_list, union, items, is_subset, is_empty, len}
 use Rattle.reh_model.specs.Session.{opened_session}

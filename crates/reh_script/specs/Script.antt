@@ -111,12 +111,11 @@ forms =
 
 -- a command with the arguments at hand
 pub record Filled : Type 0 where
-  pub verb : List ℕ
   pub kinds : List Kind
   pub command : Command
 
 abbrev pub filled : Arguments → Form → Filled
-filled a f = record { verb = f.verb; kinds = f.kinds; command = f.make a }
+filled a f = record { kinds = f.kinds; command = f.make a }
 
 -- the command of that verb
 abbrev pub form_of : List ℕ → Option Form

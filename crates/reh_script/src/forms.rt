@@ -1,5 +1,6 @@
 // The commands: one table.
-ghost use Rattle.std.specs.Prelude.{◌≡◌, map};
+ghost use Rattle.std.specs.Prelude.{◌≡◌, Some, option_map};
+ghost use Rattle.std.specs.Str.{bytes_eq};
 ghost use Rattle.reh_types.specs.declared.moves.Move.TheVariants.{Do};
 ghost use Rattle.reh_script.specs.declared.commands.Command.TheVariants.{Make};
 ghost use Rattle.reh_script.specs.Script as script;
@@ -10,16 +11,18 @@ use crate::words::{Arguments, Kind};
 use reh_types::{Event, LedgerId, Move};
 use std::marker::Model;
 
+/// The word of a bookie.
+const BOOKIE: &[Kind] = &[Bookie];
+
 /// The words of a worker and a ledger with a task.
 const TASK: &[Kind] = &[Bookie, Number];
 
 /// The words of a worker, a ledger, a fragment, an index of its ensemble, and the ledger's version.
 const MEMBER: &[Kind] = &[Bookie, Number, Number, Number, Number];
 
-/// A command: its verb, the kinds of the words behind it, and what it asks for with the arguments at hand.
+/// A command: the kinds of the words behind its verb, and what it asks for with the arguments at hand.
 #[derive(Drop)]
 pub(crate) struct Form {
-    pub verb: &'static [u8],
     pub kinds: &'static [Kind],
     pub command: Command,
 }
@@ -29,27 +32,26 @@ impl Model for Form {
 
     ghost Value = { Filled };
 
-    ghost view = { λ f. record { verb = f.verb.now; kinds = f.kinds.now; command = f.command } };
+    ghost view = { λ f. record { kinds = f.kinds.now; command = f.command } };
 }
 
-/// All commands, with these arguments.
+/// The command of a verb with these arguments, if there is one.
 #[tactic(auto, unfolding(crate::specs::Script::forms))]
-pub(crate) fn forms(a: Arguments) -> [Form; 14]
-    ensures { result ≡ map (script.filled a) script.forms }
+pub(crate) fn form_of(verb: &[u8], a: Arguments) -> Option<Form>
+    ensures { result ≡ option_map (script.filled a) (script.form_of verb.now) }
 {
     let (bookie, worker, ticks) = (a.bookie, a.bookie, a.first);
     let (ledger, fragment, index, version) = (LedgerId(a.first), a.second, a.third, a.fourth);
-    [
-        row(b"lose", &[Bookie], event(Event::Lose { bookie })),
-        row(b"join", &[Bookie], event(Event::Join { bookie })),
-        row(b"audit", &[], event(Event::Audit)),
-        row(b"acquire", TASK, event(Event::Acquire { worker, ledger })),
-        row(b"release", TASK, event(Event::Release { worker, ledger })),
-        row(b"finish", TASK, event(Event::Finish { worker, ledger })),
-        row(b"expire", &[Bookie], event(Event::Expire { worker })),
-        row(b"tick", &[Number], event(Event::Tick { ticks })),
-        row(
-            b"copy",
+    match verb {
+        _ if is(verb, b"lose") => row(BOOKIE, event(Event::Lose { bookie })),
+        _ if is(verb, b"join") => row(BOOKIE, event(Event::Join { bookie })),
+        _ if is(verb, b"audit") => row(&[], event(Event::Audit)),
+        _ if is(verb, b"acquire") => row(TASK, event(Event::Acquire { worker, ledger })),
+        _ if is(verb, b"release") => row(TASK, event(Event::Release { worker, ledger })),
+        _ if is(verb, b"finish") => row(TASK, event(Event::Finish { worker, ledger })),
+        _ if is(verb, b"expire") => row(BOOKIE, event(Event::Expire { worker })),
+        _ if is(verb, b"tick") => row(&[Number], event(Event::Tick { ticks })),
+        _ if is(verb, b"copy") => row(
             MEMBER,
             event(Event::Copy {
                 worker,
@@ -59,8 +61,7 @@ pub(crate) fn forms(a: Arguments) -> [Form; 14]
                 version,
             }),
         ),
-        row(
-            b"swap",
+        _ if is(verb, b"swap") => row(
             MEMBER,
             event(Event::Swap {
                 worker,
@@ -70,22 +71,26 @@ pub(crate) fn forms(a: Arguments) -> [Form; 14]
                 version,
             }),
         ),
-        row(b"undo", &[], Command::Make(Move::Undo)),
-        row(b"redo", &[], Command::Make(Move::Redo)),
-        row(b"clock", &[], Command::Make(Move::Look)),
-        row(b"report", &[], Command::Report),
-    ]
+        _ if is(verb, b"undo") => row(&[], Command::Make(Move::Undo)),
+        _ if is(verb, b"redo") => row(&[], Command::Make(Move::Redo)),
+        _ if is(verb, b"clock") => row(&[], Command::Make(Move::Look)),
+        _ if is(verb, b"report") => row(&[], Command::Report),
+        _ => None,
+    }
 }
 
-/// A command of the table.
-fn row(verb: &'static [u8], kinds: &'static [Kind], command: Command) -> Form
-    ensures { result ≡ record { verb = verb.now; kinds = kinds.now; command = command } }
+/// A row of the table.
+fn row(kinds: &'static [Kind], command: Command) -> Option<Form>
+    ensures { result ≡ Some (record { kinds = kinds.now; command = command }) }
 {
-    Form {
-        verb,
-        kinds,
-        command,
-    }
+    Some(Form { kinds, command })
+}
+
+/// Whether a verb is this word.
+fn is(verb: &[u8], word: &[u8]) -> bool
+    ensures { result ≡ bytes_eq word.now verb.now }
+{
+    word == verb
 }
 
 /// The command that makes an event.

@@ -12,10 +12,10 @@ use crate::commands::{Command, LineFault};
 use crate::faults::PlayFault;
 use crate::inputs::{first_line, front, whole_lines};
 use crate::readings::read;
-use crate::reports::report_text;
+use crate::reports::push_report;
 use crate::scripts::parse_line;
 use crate::streams::{StreamFault, TextIn, TextOut};
-use crate::texts::reply_text;
+use crate::texts::push_reply;
 use reh_session::Session;
 use reh_types::{MAX_SCRIPT_BYTES, Move, Refusal, Reply};
 use std::alloc::{AllocError, Global};
@@ -87,10 +87,12 @@ fn answer_lines<W: TextOut>(
 {
     let mut rest = text;
     let mut number = 0;
+    let mut answer = String::new(alloc);
     while !rest.is_empty() {
         number += 1;
         let (line, more) = first_line(rest);
-        let answer = answer(alloc, session, number, line)?;
+        answer.clear();
+        push_answer(&mut answer, session, number, line)?;
         if let Err(StreamFault) = write_all(writer, answer.as_bytes()) {
             return Err(PlayFault::WriteFault);
         }
@@ -99,27 +101,24 @@ fn answer_lines<W: TextOut>(
     Ok(())
 }
 
-/// Answers one line. The answer is empty where the line has none.
-fn answer(
-    alloc: Global,
+/// Adds the answer to one line: nothing, where the line has none.
+fn push_answer(
+    text: &mut String,
     session: &mut Session,
     number: usize,
     line: &[u8],
-) -> Result<String, AllocError>
-    ensures text { IfOk result (λ text. string_bytes text ≡ line_answer session.old number line.now) }
+) -> Result<(), AllocError>
+    ensures text { OnOk result (string_bytes text.new ≡ string_bytes text.old ++ line_answer session.old number line.now) }
     ensures after { OnOk result (session.new ≡ after_line session.old line.now) }
     ensures err { OnErr result (LacksAnswer session.old line.now session.new) }
 {
     let Some(asked) = command(session, line) else {
-        return Ok(String::new(alloc));
+        return Ok(());
     };
     match asked {
-        Ok(Command::Make(step)) => answer_move(alloc, session, number, &step),
-        Ok(Command::Report) => {
-            let report = report(alloc, session)?;
-            format!(in alloc; "line {number}: report\n{report}")
-        }
-        Err(fault) => format!(in alloc; "line {number}: {fault}\n"),
+        Ok(Command::Make(step)) => push_move(text, session, number, &step),
+        Ok(Command::Report) => push_state(text, session, number),
+        Err(fault) => write!(text, "line {number}: {fault}\n"),
     }
 }
 
@@ -130,15 +129,15 @@ fn command(session: &Session, line: &[u8]) -> Option<Result<Command, LineFault>>
     parse_line(session.state().names(), line)
 }
 
-/// Makes a move, and answers its line.
-fn answer_move(
-    alloc: Global,
+/// Makes a move, and adds the answer to its line.
+fn push_move(
+    text: &mut String,
     session: &mut Session,
     number: usize,
     step: &Move,
-) -> Result<String, AllocError>
-    ensures text { IfOk result (λ text.
-        string_bytes text ≡ numbered_answer session.old number (Some (Ok (Command.Make step.now)))) }
+) -> Result<(), AllocError>
+    ensures text { OnOk result (string_bytes text.new
+        ≡ string_bytes text.old ++ numbered_answer session.old number (Some (Ok (Command.Make step.now)))) }
     ensures after { OnOk result (session.new ≡ session_after session.old step.now (reply_to session.old step.now)) }
     ensures err { OnErr result ((session.new ≡ session_after session.old step.now (reply_to session.old step.now))
         ⊎ ((session.new ≡ session.old) × MightBeDone session.old step.now)) }
@@ -146,8 +145,9 @@ fn answer_move(
     // The check has to meet the type of a reply's refusal by its name.
     let _refusal: Option<Refusal> = None;
     let reply = make(session, step)?;
-    let reply = reply_text(alloc, session.state().names(), &reply)?;
-    format!(in alloc; "line {number}: {reply}\n")
+    write!(text, "line {number}: ")?;
+    push_reply(text, session.state().names(), &reply)?;
+    text.push('\n')
 }
 
 /// Makes a move, and replies to it. Only a move that is refused for no other cause can want memory, and then nothing changes.
@@ -162,11 +162,12 @@ fn make(session: &mut Session, step: &Move) -> Result<Reply, AllocError>
     }
 }
 
-/// The report of a session's state.
-fn report(alloc: Global, session: &Session) -> Result<String, AllocError>
-    ensures { IfOk result (λ text. string_bytes text ≡ text_of (texts.report (state_of session.now))) }
+/// Adds the report of a session's state, as the answer to its line.
+fn push_state(text: &mut String, session: &Session, number: usize) -> Result<(), AllocError>
+    ensures { OnOk result (string_bytes text.new ≡ string_bytes text.old ++ numbered_answer session.now number (Some (Ok Command.Report))) }
 {
-    report_text(alloc, session.state())
+    write!(text, "line {number}: report\n")?;
+    push_report(text, session.state())
 }
 
 /// Writes all of some bytes, or as many as it can.

@@ -1,11 +1,11 @@
 // The commands of a script.
-ghost use Rattle.std.specs.Prelude.{◌≡◌, position};
+ghost use Rattle.std.specs.Prelude.{◌≡◌};
 ghost use Rattle.std.specs.Str.Lines.{strip_carriage_return};
-ghost use Rattle.std.specs.Str.{bytes_eq};
-ghost use Rattle.reh_script.specs.Script.{command_of_line, command_by, form_of, words_of};
+ghost use Rattle.reh_script.specs.Script as script;
+ghost use Rattle.reh_script.specs.Script.{command_of_line, command_by, words_of};
 
 use crate::commands::{Command, LineFault};
-use crate::forms::{Form, forms};
+use crate::forms::form_of;
 use crate::words::{Arguments, next_word, read_words};
 use reh_cluster::Names;
 use reh_types::MAX_LINE_BYTES;
@@ -38,21 +38,14 @@ fn without_cr(line: &[u8]) -> &[u8]
 
 /// What a verb and the words behind it ask for: the commands, each with the kinds of its words.
 fn parse_command(names: &Names, verb: &[u8], words: &[u8]) -> Result<Command, LineFault>
-    ensures { result ≡ command_by names.now (form_of verb.now) (words_of words.now) }
+    ensures { result ≡ command_by names.now (script.form_of verb.now) (words_of words.now) }
 {
-    let table = forms(Arguments::none());
-    let Some(place) = place_of(&table, verb) else {
+    let Some(form) = form_of(verb, Arguments::none()) else {
         return Err(LineFault::UnknownCommand);
     };
-    let form = &table[place];
     let arguments = read_words(names, form.kinds, words)?;
-    let form = &forms(arguments)[place];
-    Ok(form.command)
-}
-
-/// Where the command of that verb stands among some, if it is there.
-fn place_of(forms: &[Form], verb: &[u8]) -> Option<usize>
-    ensures { result ≡ position (λ f. bytes_eq f.verb verb.now) forms.now }
-{
-    forms.iter().position(|form| form.verb == verb)
+    match form_of(verb, arguments) {
+        Some(form) => Ok(form.command),
+        None => Err(LineFault::UnknownCommand),
+    }
 }
