@@ -15,7 +15,7 @@ use crate::readings::read;
 use crate::reports::push_report;
 use crate::scripts::parse_line;
 use crate::streams::{StreamFault, TextIn, TextOut};
-use crate::texts::push_reply;
+use crate::texts::Named;
 use reh_session::Session;
 use reh_types::{MAX_SCRIPT_BYTES, Move, Refusal, Reply};
 use std::alloc::{AllocError, Global};
@@ -145,9 +145,12 @@ fn push_move(
     // The check has to meet the type of a reply's refusal by its name.
     let _refusal: Option<Refusal> = None;
     let reply = make(session, step)?;
-    write!(text, "line {number}: ")?;
-    push_reply(text, session.state().names(), &reply)?;
-    text.push('\n')
+    let names = session.state().names();
+    let reply = Named {
+        names,
+        reply: &reply,
+    };
+    write!(text, "line {number}: {reply}\n")
 }
 
 /// Makes a move, and replies to it. Only a move that is refused for no other cause can want memory, and then nothing changes.

@@ -44,6 +44,9 @@ fn parse_command(names: &Names, verb: &[u8], words: &[u8]) -> Result<Command, Li
         return Err(LineFault::UnknownCommand);
     };
     let arguments = read_words(names, form.kinds, words)?;
+    if arguments == Arguments::none() {
+        return Ok(form.command);
+    }
     match form_of(verb, arguments) {
         Some(form) => Ok(form.command),
         None => Err(LineFault::UnknownCommand),

@@ -6,33 +6,37 @@ ghost use Rattle.reh_script.specs.Texts as texts;
 use reh_cluster::Names;
 use reh_types::{BookieIx, Refusal, Reply};
 use std::alloc::{AllocError, Global};
+use std::fmt;
 
 /// A reply, as it is printed behind its line's number. A lock's owner goes by the name that these names have for it.
 pub fn reply_text(alloc: Global, names: &Names, reply: &Reply) -> Result<String, AllocError>
     ensures { IfOk result (λ text. string_bytes text ≡ texts.reply_text names.now reply.now) }
 {
-    let mut text = String::new(alloc);
-    push_reply(&mut text, names, reply)?;
-    Ok(text)
+    let reply = Named { names, reply };
+    format!(in alloc; "{reply}")
 }
 
-/// Adds a reply.
-pub(crate) fn push_reply(text: &mut String, names: &Names, reply: &Reply) -> Result<(), AllocError>
-    ensures { OnOk result (string_bytes text.new ≡ string_bytes text.old ++ texts.reply_text names.now reply.now) }
-{
-    match reply {
-        Reply::Refused(Refusal::Locked(owner)) => push_locked(text, names, *owner),
-        _ => write!(text, "{reply}"),
+/// A reply with the names of the bookies, by which it is printed.
+#[derive(Drop)]
+pub(crate) struct Named<'a> {
+    pub names: &'a Names,
+    pub reply: &'a Reply,
+}
+
+impl fmt::Display for Named<'_> {
+    ghost use Rattle.std.specs.Prelude.{Some};
+
+    ghost output = { λ n. Some (texts.reply_text n.names.now n.reply.now) };
+
+    fn fmt<W: fmt::Write>(&self, f: &mut fmt::Formatter<W>) -> fmt::Result {
+        match self.reply {
+            Reply::Refused(Refusal::Locked(owner)) => match self.names.name(*owner) {
+                Some(name) => write!(f, "refused 7 Locked {name}"),
+                None => write!(f, "refused 7 Locked {}", owner.0),
+            },
+            reply => write!(f, "{reply}"),
+        }
     }
-}
-
-/// Adds the refusal of a task that this owner locks.
-fn push_locked(text: &mut String, names: &Names, owner: BookieIx) -> Result<(), AllocError>
-    ensures { OnOk result (string_bytes text.new ≡ string_bytes text.old ++ (codes "refused 7 Locked " ++ texts.name_of names.now owner)) }
-{
-    write!(text, "refused 7 Locked")?;
-    push_name(text, names, owner)?;
-    Ok(())
 }
 
 /// Adds a space and the bookie's name, or its number where the names have none for it.
