@@ -50,7 +50,7 @@ is_set-insert words e w within read q =
       | false ↦ λ no. ap (λ b. b || is_set words q) (sym (other_word e q no))
     ] refl
 
-bit_turns : (a b : ℕ) → a < 2 → b < 2 → ((a + b) % 2 == 1) ≡ one_of (a == 1) (b == 1)
+pub bit_turns : (a b : ℕ) → a < 2 → b < 2 → ((a + b) % 2 == 1) ≡ one_of (a == 1) (b == 1)
 bit_turns zero zero _ _ = refl
 bit_turns zero (suc zero) _ _ = refl
 bit_turns (suc zero) zero _ _ = refl
@@ -59,7 +59,7 @@ bit_turns (suc (suc a)) b h _ = absurd (omega arith)
 bit_turns zero (suc (suc b)) _ h = absurd (omega arith)
 bit_turns (suc zero) (suc (suc b)) _ h = absurd (omega arith)
 
-one_of-false : (b : Bool) → one_of b false ≡ b
+pub one_of-false : (b : Bool) → one_of b false ≡ b
 one_of-false true = refl
 one_of-false false = refl
 

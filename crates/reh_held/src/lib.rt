@@ -2,6 +2,7 @@
 #![tactic(auto)]
 
 mod rows;
+mod tables;
 mod turns;
 
 pub use turns::Turn;

@@ -13,7 +13,7 @@ use std::marker::Model;
 pub(crate) const MAX_WIDTH: usize = 1 << 26;
 
 /// The entries that one bookie holds of one ledger, as bits of words. Contracts see the words.
-#[derive(Clone, Drop)]
+#[derive(Drop)]
 pub(crate) struct Row {
     words: Vec<u64>,
 }
@@ -24,6 +24,15 @@ impl Model for Row {
     ghost Value = { List ℕ };
 
     ghost view = { λ a. a.words.items };
+}
+
+impl Clone for Row {
+    ghost is_clone = { λ row copy. copy ≡ row };
+
+    fn clone(&self) -> Result<Row, AllocError> {
+        let words = self.words.clone()?;
+        Ok(Row { words })
+    }
 }
 
 impl Row {
@@ -85,7 +94,8 @@ impl Row {
     /// How many entries there are.
     pub(crate) fn count(&self) -> usize
         requires { length self.now ≤ MAX_WIDTH }
-        ensures { result ≡ length (entries_in self.now) }
+        ensures value { result ≡ length (entries_in self.now) }
+        ensures bound { result ≤ 64 * length self.now }
     {
         let mut count = 0;
         for word in &self.words {
