@@ -1,7 +1,13 @@
 -- The highest bit of the last word that is not 0 is that of the row's greatest entry.
-use Rattle.std.proofs.Common.{◌≡◌, ℕ, suc, ◌+◌, ◌-◌, ◌*◌, ◌/◌, ◌%◌, ◌<◌, ◌≤◌, ◌^◌, Bool, true, false, List, length, get_or, Some, refl, sym, ap, ◌∙◌, arith, inl, inr}
+use Rattle.std.proofs.Common.{◌≡◌, ◌||◌, [], ◌∷◌, take, ℕ, suc, ◌+◌, ◌-◌, ◌*◌, ◌/◌, ◌%◌, ◌<◌, ◌≤◌, ◌^◌, Bool, true, false, List, length, get_or, refl, sym, ap, ◌∙◌, arith, inl, inr}
 use Rattle.std.specs.Prelude.{◌==◌}
 use Rattle.std.specs.Int.{bit_at}
+use Rattle.std.specs.List.{list_any}
+use Rattle.std.specs.declared.option.Option.{Option}
+use Rattle.std.specs.declared.option.Option.TheVariants.{None, Some}
+use Rattle.std.proofs.lemmas.List.{take_more}
+use Rattle.std.proofs.lemmas.List.Folds.{list_any-append}
+use Rattle.std.proofs.Math.Bool.{or-false}
 use Rattle.std.proofs.lemmas.Bool.{cases_lt, false≢true}
 use Rattle.std.proofs.lemmas.Nat.{le-div, div_below, pow_pos}
 use Rattle.std.proofs.lemmas.Nat.Bits.{bit_at_above}
@@ -41,3 +47,22 @@ greatest_is words end w k some within read from below bound above =
       ]
       | inr reached ↦ reached
     ])
+
+-- Over several rows
+
+pub IsGreatest-same : (p q : ℕ → Bool) (greatest : Option ℕ) → ((e : ℕ) → p e ≡ q e) → IsGreatest p greatest → IsGreatest q greatest
+IsGreatest-same p q None same is = λ e. sym (same e) ∙ is e
+IsGreatest-same p q (Some m) same is = (sym (same m) ∙ is.0, λ e passes. is.1 e (same e ∙ passes))
+
+-- a row more
+any_more : (rows : List (List ℕ)) (i : ℕ) (row : List ℕ) → i < length rows → row ≡ get_or rows i [] → (e : ℕ)
+    → (list_any (λ r. is_set r e) (take i rows) || is_set row e) ≡ list_any (λ r. is_set r e) (take (i + 1) rows)
+any_more rows i row within is e = sym (ap (list_any (λ r. is_set r e)) (take_more rows i [] within)
+    ∙ list_any-append (λ r. is_set r e) (take i rows) (get_or rows i [] ∷ [])
+    ∙ ap (λ b. list_any (λ r. is_set r e) (take i rows) || b) (or-false (is_set (get_or rows i []) e))
+    ∙ ap (λ (r : List ℕ). list_any (λ r. is_set r e) (take i rows) || is_set r e) (sym is))
+
+pub greatest-more : (rows : List (List ℕ)) (i : ℕ) (row : List ℕ) (greatest : Option ℕ) → i < length rows → row ≡ get_or rows i []
+    → IsGreatest (λ e. list_any (λ r. is_set r e) (take i rows) || is_set row e) greatest
+    → IsGreatest (λ e. list_any (λ r. is_set r e) (take (i + 1) rows)) greatest
+greatest-more rows i row greatest within is = IsGreatest-same (λ e. list_any (λ r. is_set r e) (take i rows) || is_set row e) (λ e. list_any (λ r. is_set r e) (take (i + 1) rows)) greatest (any_more rows i row within is)

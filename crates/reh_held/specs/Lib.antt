@@ -1,3 +1,5 @@
+pub mod Kept
 pub mod Rows
 pub mod RowTurns
 pub mod Tables
+pub mod Values

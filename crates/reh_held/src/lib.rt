@@ -1,8 +1,10 @@
 // Which bookie holds which entry of which ledger.
 #![tactic(auto)]
 
+mod held;
 mod rows;
 mod tables;
 mod turns;
 
+pub use held::Held;
 pub use turns::Turn;
