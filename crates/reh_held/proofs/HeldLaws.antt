@@ -3,7 +3,7 @@ use Rattle.std.proofs.Common.{◌≡◌, ◌≢◌, ℕ, zero, suc, ◌+◌, ◌
 use Rattle.std.specs.Prelude.{◌==◌, slice_index_or}
 use Rattle.std.specs.List.{filter, list_any, range_with_len}
 use Rattle.std.specs.Int.{bit_at}
-use Rattle.std.specs.Option.{unwrap_or, option_map}
+use Rattle.std.specs.Option.{unwrap_or, option_map, IfSome}
 use Rattle.std.specs.declared.option.Option.{Option}
 use Rattle.std.specs.declared.option.Option.TheVariants.{None, Some}
 use Rattle.std.specs.Ordering.{nat_cmp, eq_by_cmp, is_eq}
@@ -24,7 +24,7 @@ use Rattle.reh_model.specs.Contents.{Contents, has}
 use Rattle.reh_model.proofs.ContentsLaws.{triples_tied}
 use Rattle.reh_model.proofs.Ranges.{list_any-map, list_any-same}
 use Rattle.reh_held.specs.Rows.{is_set, entries_in}
-use Rattle.reh_held.specs.Tables.{TableValue, row_at}
+use Rattle.reh_held.specs.Tables.{TableValue, row_at, IsTable}
 use Rattle.reh_held.specs.Values.{HeldValue}
 use Rattle.reh_held.specs.Kept.{table_at, rows_in, row_of, copies_from, copies_in, contents_of, words_of}
 
@@ -194,3 +194,26 @@ get-words tables l = get-from_entries nat_cmp_total (map (λ t. (t.0, t.1.width)
 
 pub words_is : (tables : List (ℕ × TableValue)) (w : FinMap nat_cmp ℕ) → ((l : ℕ) → option_map (λ t. t.width) (table_at tables l) ≡ finite.get w l) → words_of tables ≡ w
 words_is tables w is = same_map nat_cmp_total nat_cmp-IsAntisymmetric (words_of tables) w (λ l. get-words tables l ∙ is l)
+
+-- What a look-up found
+
+own_words : (tables : List (ℕ × TableValue)) (l : ℕ) → unwrap_or (finite.get (words_of tables) l) 0 ≡ unwrap_or (option_map (λ t. t.width) (table_at tables l)) 0
+own_words tables l = ap (λ o. unwrap_or o 0) (get-words tables l)
+
+pub words-found : (tables : List (ℕ × TableValue)) (l : ℕ) (t : TableValue) → Some t ≡ table_at tables l → unwrap_or (finite.get (words_of tables) l) 0 ≡ t.width
+words-found tables l t found = own_words tables l ∙ ap (λ (o : Option TableValue). unwrap_or (option_map (λ t. t.width) o) 0) (sym found)
+
+pub words-none : (tables : List (ℕ × TableValue)) (l : ℕ) → None ≡ table_at tables l → unwrap_or (finite.get (words_of tables) l) 0 ≡ 0
+words-none tables l none = own_words tables l ∙ ap (λ (o : Option TableValue). unwrap_or (option_map (λ t. t.width) o) 0) (sym none)
+
+pub has-found : (tables : List (ℕ × TableValue)) (b l e : ℕ) (t : TableValue) → Some t ≡ table_at tables l → has (contents_of tables) b l e ≡ is_set (row_at t b) e
+has-found tables b l e t found = has-contents tables b l e ∙ ap (λ (o : Option TableValue). is_set (get_or (rows_in o) b []) e) (sym found)
+
+pub has-none : (tables : List (ℕ × TableValue)) (b l e : ℕ) → None ≡ table_at tables l → has (contents_of tables) b l e ≡ false
+has-none tables b l e none = has-contents tables b l e ∙ ap (λ (o : Option TableValue). is_set (get_or (rows_in o) b []) e) (sym none) ∙ no_entry e
+
+pub kept_table : {bookies : ℕ} (tables : List (ℕ × TableValue)) (l : ℕ) (t : TableValue) → ((l : ℕ) → IfSome (table_at tables l) (IsTable bookies)) → Some t ≡ table_at tables l → IsTable bookies t
+kept_table {bookies} tables l t kept found = subst (λ (o : Option TableValue). IfSome o (IsTable bookies)) (sym found) (kept l)
+
+pub own_table : {bookies : ℕ} {t : TableValue} → IsTable bookies t → IsTable (length t.rows) t
+own_table {bookies} {t} is = subst (λ n. IsTable n t) (sym is.size) is

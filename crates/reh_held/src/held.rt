@@ -1,12 +1,17 @@
 // What the bookies hold.
-ghost use Rattle.std.specs.Prelude.{◌≡◌, ℕ, ◌*◌, ◌<◌, IfOk, OnOk, OnErr};
+ghost use Rattle.std.specs.Prelude.{◌≡◌, ℕ, ◌*◌, ◌<◌, ◌≤◌, All, IfOk, OnOk, OnErr};
 ghost use Rattle.std.specs.Ordering.{nat_cmp};
 ghost use Rattle.std.specs.FinMap as map;
 ghost use Rattle.reh_types.specs.Sets as set;
-ghost use Rattle.reh_model.specs.Contents.{has, count_held, greatest_held};
+ghost use Rattle.reh_model.specs.Contents.{has, copies_of, count_held, greatest_held};
+ghost use Rattle.reh_held.specs.Rows.{is_set};
+ghost use Rattle.reh_held.specs.Tables.{row_at, IsTable};
+ghost use Rattle.reh_held.specs.Turns.{turned, IsTurning};
 ghost use Rattle.reh_held.specs.Values.{words_in, with_room};
+ghost use Rattle.reh_held.specs.declared.rows.TheConstants.{MAX_WIDTH};
 
 use crate::tables::Table;
+use crate::turns::Turn;
 use reh_types::{BookieIx, LedgerId};
 use std::alloc::{AllocError, Global};
 use std::collections::BTreeMap;
@@ -82,14 +87,30 @@ impl Held {
         ensures err { OnErr result (self.new ≡ self.old) }
     {
         let width = (entry / 64) as usize + 1;
-        let table = match self.tables.get(&ledger) {
-            Some(table) if width <= table.width() => return Ok(()),
-            Some(table) => table.longer(self.alloc, width)?,
-            None if self.tables.len() < MAX_TABLES => Table::new(self.alloc, self.bookies, width)?,
-            None => return Err(AllocError),
-        };
+        if width <= self.words(ledger) {
+            return Ok(());
+        }
+        if self.tables.len() >= MAX_TABLES {
+            return Err(AllocError);
+        }
+        let table = self.longer_table(ledger, width)?;
         self.tables.insert(ledger, table)?;
         Ok(())
+    }
+
+    // The ledger's table with rows of so many words.
+    fn longer_table(&self, ledger: LedgerId, width: usize) -> Result<Table, AllocError>
+        requires longer { words_in self.now ledger ≤ width }
+        requires small { width ≤ MAX_WIDTH }
+        ensures width { IfOk result (λ table. table.width ≡ width) }
+        ensures table { IfOk result (IsTable self.now.bookies) }
+        ensures same { IfOk result
+            (λ table. (b e : ℕ) → is_set (row_at table b) e ≡ has self.now.contents b ledger e) }
+    {
+        match self.tables.get(&ledger) {
+            Some(table) => table.longer(self.alloc, width),
+            None => Table::new(self.alloc, self.bookies, width),
+        }
     }
 
     /// The bookie holds the entry of the ledger from now on. Want of memory leaves the contents as they were.
@@ -112,8 +133,39 @@ impl Held {
         requires entry { entry < 64 * words_in self.old ledger }
         ensures { self.new ≡ record self.old { contents = set.insert self.old.contents (bookie, ledger, entry) } }
     {
-        if let Some(table) = self.tables.get_mut(&ledger) {
-            table.insert(bookie, entry);
+        match self.tables.get_mut(&ledger) {
+            Some(table) => table.insert(bookie, entry),
+            None => {}
+        }
+    }
+
+    /// Turns these bits of a word of the bookie's row of the ledger: the entries that they stand for are held where they
+    /// were not, and not where they were.
+    pub fn toggle(&mut self, bookie: BookieIx, ledger: LedgerId, number: usize, bits: u64)
+        requires bookie { bookie < self.old.bookies }
+        requires number { number < words_in self.old ledger }
+        ensures { self.new ≡ record self.old { contents = turned self.old.contents bookie ledger number bits } }
+    {
+        match self.tables.get_mut(&ledger) {
+            Some(table) => table.toggle(bookie, number, bits),
+            None => {}
+        }
+    }
+
+    /// The turns after which the bookie holds these entries of the ledger too: for each word in which that changes
+    /// something, its number and the bits that change. The entries are among those that the ledger's words stand for.
+    pub fn delta_of(&self, bookie: BookieIx, ledger: LedgerId, entries: &[u32]) -> Result<Vec<Turn>, AllocError>
+        requires bookie { bookie < self.now.bookies }
+        requires entries { All (λ e. e < 64 * words_in self.now ledger) entries.now }
+        ensures { IfOk result (λ turns. IsTurning (words_in self.now ledger) bookie ledger self.now.contents
+            (set.union self.now.contents (copies_of bookie ledger entries.now)) turns.items) }
+    {
+        match self.tables.get(&ledger) {
+            Some(table) => {
+                let turns = table.delta_of(self.alloc, bookie, entries)?;
+                Ok(turns)
+            }
+            None => Ok(Vec::new(self.alloc)),
         }
     }
 

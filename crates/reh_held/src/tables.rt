@@ -114,6 +114,18 @@ impl Table {
         self.rows[bookie.0 as usize].toggle(number, bits);
     }
 
+    /// The turns after which the bookie's row has these entries too.
+    pub(crate) fn delta_of(&self, alloc: Global, bookie: BookieIx, entries: &[u32]) -> Result<Vec<Turn>, AllocError>
+        requires table { IsTable (length self.now.rows) self.now }
+        requires bookie { bookie < length self.now.rows }
+        requires entries { All (λ e. e < 64 * self.now.width) entries.now }
+        ensures { IfOk result (λ turns. IsRowTurning (row_at self.now bookie)
+            (λ e. is_set (row_at self.now bookie) e || list_any (λ x. e == x) entries.now) turns.items) }
+    {
+        let turns = self.rows[bookie.0 as usize].delta_of(alloc, entries)?;
+        Ok(turns)
+    }
+
     /// Whether the bookie's row has the entry.
     pub(crate) fn holds(&self, bookie: BookieIx, entry: u32) -> bool
         ensures { result ≡ is_set (row_at self.now bookie) entry }

@@ -1,0 +1,104 @@
+-- What becomes of contents and words as one table is written.
+use Rattle.std.proofs.Common.{◌≡◌, ℕ, ◌+◌, ◌<◌, ◌≤◌, Bool, true, false, cond, ◌&&◌, ◌||◌, List, [], get_or, refl, sym, ap, subst, ◌∙◌, arith, nat_eq}
+use Rattle.std.specs.Option.{option_map, IfSome}
+use Rattle.std.specs.declared.option.Option.{Option}
+use Rattle.std.specs.declared.option.Option.TheVariants.{None, Some}
+use Rattle.std.specs.Ordering.{nat_cmp, eq_by_cmp}
+use Rattle.std.specs.Cmp.{unsigned_tied, nat_cmp_total}
+use Rattle.std.specs.BTreeMap.{is_at}
+use Rattle.std.specs.FinMap as finite
+use Rattle.std.specs.FinMap.{FinMap, get-insert}
+use Rattle.std.proofs.lemmas.Bool.Decides.{nat_tests}
+use Rattle.reh_types.specs.Sets as set
+use Rattle.reh_model.specs.Contents.{Contents, has}
+use Rattle.reh_model.proofs.ContentsLaws.{has-insert}
+use Rattle.reh_held.specs.Rows.{is_set, is_in_word, one_of}
+use Rattle.reh_held.specs.Tables.{TableValue, row_at, IsTable}
+use Rattle.reh_held.specs.Kept.{table_at, rows_in, row_of, contents_of, words_of}
+use Rattle.reh_held.specs.Turns.{turned}
+use Rattle.reh_held.proofs.HeldLaws.{contents_is, words_is, has-contents, get-words}
+use Rattle.reh_held.proofs.TurnedLaws.{has-turned}
+
+-- after this table is written for the ledger
+abbrev pub IsWritten : List (ℕ × TableValue) → List (ℕ × TableValue) → ℕ → TableValue → Type 0
+IsWritten before after ledger table = (l : ℕ) → table_at after l ≡ cond (is_at (nat_cmp ledger) l) (Some table) (table_at before l)
+
+turn_round : (a b : ℕ) → nat_eq a b ≡ nat_eq b a
+turn_round a b = elim (nat_eq b a) as (λ t. nat_eq b a ≡ t → nat_eq a b ≡ t) [
+      | true ↦ λ yes. let same : b ≡ a = grind (arith, nat_tests, yes) in grind (arith, nat_tests)
+      | false ↦ λ differ. grind (arith, nat_tests, differ)
+    ] refl
+
+module _ (before after : List (ℕ × TableValue)) (ledger : ℕ) (table : TableValue) (written : IsWritten before after ledger table) where
+  table-written : (l : ℕ) → table_at after l ≡ cond (nat_eq l ledger) (Some table) (table_at before l)
+  table-written l = written l ∙ ap (λ b. cond b (Some table) (table_at before l)) (unsigned_tied ledger l ∙ turn_round ledger l)
+
+  -- a ledger's own facts, and those of the others
+  at_each : (P : ℕ → Option TableValue → Type 0) → P ledger (Some table) → ((l : ℕ) → P l (table_at before l)) → (l : ℕ) → P l (table_at after l)
+  at_each P here others l = subst (P l) (sym (table-written l)) (elim (nat_eq l ledger) as (λ b. nat_eq l ledger ≡ b → P l (cond b (Some table) (table_at before l))) [
+      | true ↦ λ yes. let same : ledger ≡ l = grind (arith, nat_tests, yes) in subst (λ k. P k (Some table)) same here
+      | false ↦ λ _. others l
+    ] refl)
+
+  pub written-kept : (bookies : ℕ) → IsTable bookies table → ((l : ℕ) → IfSome (table_at before l) (IsTable bookies)) → (l : ℕ) → IfSome (table_at after l) (IsTable bookies)
+  written-kept bookies is kept = at_each (λ l o. IfSome o (IsTable bookies)) is kept
+
+  -- contents of which the ledger's part is in this table, and the others' parts are as before
+  pub written-contents : (s : Contents) → ((b e : ℕ) → is_set (row_at table b) e ≡ has s b ledger e)
+      → ((b l e : ℕ) → nat_eq l ledger ≡ false → has (contents_of before) b l e ≡ has s b l e) → contents_of after ≡ s
+  written-contents s here others = contents_is after s (λ b l e.
+      ap (λ (o : Option TableValue). is_set (get_or (rows_in o) b []) e) (table-written l)
+      ∙ elim (nat_eq l ledger) as (λ t. nat_eq l ledger ≡ t → is_set (get_or (rows_in (cond t (Some table) (table_at before l))) b []) e ≡ has s b l e) [
+        | true ↦ λ yes. let same : ledger ≡ l = grind (arith, nat_tests, yes) in here b e ∙ ap (λ k. has s b k e) same
+        | false ↦ λ differ. sym (has-contents before b l e) ∙ others b l e differ
+      ] refl)
+
+  pub written-words : words_of after ≡ finite.insert (words_of before) ledger table.width
+  written-words = words_is after (finite.insert (words_of before) ledger table.width) (λ l.
+      ap (λ (o : Option TableValue). option_map (λ t. t.width) o) (table-written l)
+      ∙ elim (nat_eq l ledger) as (λ b. option_map (λ t. t.width) (cond b (Some table) (table_at before l)) ≡ cond b (Some table.width) (option_map (λ t. t.width) (table_at before l))) [ true ↦ refl | false ↦ refl ]
+      ∙ (λ i. cond (sym (unsigned_tied l ledger) i) (Some table.width) (sym (get-words before l) i))
+      ∙ sym (get-insert nat_cmp_total (words_of before) ledger table.width l))
+
+  pub written-same_words : (old : TableValue) → Some old ≡ table_at before ledger → table.width ≡ old.width → words_of after ≡ words_of before
+  written-same_words old found width = words_is after (words_of before) (λ l.
+      at_each (λ k o. option_map (λ t. t.width) o ≡ option_map (λ t. t.width) (table_at before k)) (ap Some width ∙ ap (option_map (λ t. t.width)) found) (λ k. refl) l
+      ∙ sym (get-words before l))
+
+  -- one copy more
+  pub written-insert : (bookie entry : ℕ) → ((b e : ℕ) → is_set (row_at table b) e ≡ ((nat_eq b bookie && nat_eq e entry) || has (contents_of before) b ledger e))
+      → contents_of after ≡ set.insert (contents_of before) (bookie, ledger, entry)
+  written-insert bookie entry bits = written-contents (set.insert (contents_of before) (bookie, ledger, entry))
+      (λ b e. bits b e ∙ sym (has-insert (contents_of before) bookie ledger entry b ledger e
+      ∙ ap (λ t. ((nat_eq b bookie && t) && nat_eq e entry) || has (contents_of before) b ledger e) (itself ledger) ∙ one_true (nat_eq b bookie) (nat_eq e entry) (has (contents_of before) b ledger e)))
+      (λ b l e differ. sym (has-insert (contents_of before) bookie ledger entry b l e
+      ∙ ap (λ t. ((nat_eq b bookie && t) && nat_eq e entry) || has (contents_of before) b l e) differ ∙ one_false (nat_eq b bookie) (nat_eq e entry) (has (contents_of before) b l e))) where
+        itself : (n : ℕ) → nat_eq n n ≡ true
+        itself n = grind (arith, nat_tests)
+        one_true : (a c d : Bool) → (((a && true) && c) || d) ≡ ((a && c) || d)
+        one_true true c d = refl
+        one_true false c d = refl
+        one_false : (a c d : Bool) → (((a && false) && c) || d) ≡ d
+        one_false true c d = refl
+        one_false false c d = refl
+
+  -- bits of one word turned
+  pub written-turned : (bookie number bits : ℕ) → ((b e : ℕ) → is_set (row_at table b) e ≡ one_of (has (contents_of before) b ledger e) (nat_eq b bookie && is_in_word number bits e))
+      → contents_of after ≡ turned (contents_of before) bookie ledger number bits
+  written-turned bookie number bits turns = written-contents (turned (contents_of before) bookie ledger number bits)
+      (λ b e. turns b e ∙ sym (has-turned (contents_of before) bookie ledger number bits b ledger e
+      ∙ ap (λ t. one_of (has (contents_of before) b ledger e) ((nat_eq b bookie && t) && is_in_word number bits e)) (itself ledger)
+      ∙ ap (λ t. one_of (has (contents_of before) b ledger e) (t && is_in_word number bits e)) (with_true (nat_eq b bookie))))
+      (λ b l e differ. sym (has-turned (contents_of before) bookie ledger number bits b l e
+      ∙ ap (λ t. one_of (has (contents_of before) b l e) ((nat_eq b bookie && t) && is_in_word number bits e)) differ
+      ∙ none_turned (has (contents_of before) b l e) (nat_eq b bookie) (is_in_word number bits e))) where
+        itself : (n : ℕ) → nat_eq n n ≡ true
+        itself n = grind (arith, nat_tests)
+        with_true : (a : Bool) → (a && true) ≡ a
+        with_true true = refl
+        with_true false = refl
+        none_turned : (h a c : Bool) → one_of h ((a && false) && c) ≡ h
+        none_turned true true c = refl
+        none_turned true false c = refl
+        none_turned false true c = refl
+        none_turned false false c = refl
