@@ -28,7 +28,7 @@ use Rattle.reh_held.specs.Tables.{TableValue, row_at, IsTable}
 use Rattle.reh_held.specs.Values.{HeldValue}
 use Rattle.reh_held.specs.Kept.{table_at, rows_in, row_of, copies_from, copies_in, contents_of, words_of}
 
-no_entry : (e : ℕ) → is_set [] e ≡ false
+pub no_entry : (e : ℕ) → is_set [] e ≡ false
 no_entry e = ap (λ (b : ℕ). b == 1) (bit_at-zero (e % 64))
 
 -- the entries of a row are those whose bits are set
@@ -44,13 +44,13 @@ any-entries_in words e =
           ap (λ c. c && list_any (eq_by_cmp nat_cmp e) (range_with_len 0 n)) none ∙ sym none
     ]
 
-any-and : {X : Type 0} (c : Bool) (p : X → Bool) (xs : List X) → list_any (λ x. c && p x) xs ≡ (c && list_any p xs)
+pub any-and : {X : Type 0} (c : Bool) (p : X → Bool) (xs : List X) → list_any (λ x. c && p x) xs ≡ (c && list_any p xs)
 any-and true p xs = refl
 any-and false p [] = refl
 any-and false p (x ∷ xs) = any-and false p xs
 
 -- what a row holds
-any-row : (t : ℕ × ℕ × ℕ) (bookie ledger : ℕ) (row : List ℕ)
+pub any-row : (t : ℕ × ℕ × ℕ) (bookie ledger : ℕ) (row : List ℕ)
     → list_any (eq_by_cmp triple_cmp t) (map (λ e. (bookie, ledger, e)) (entries_in row)) ≡ ((nat_eq t.0 bookie && nat_eq t.1 ledger) && is_set row t.2)
 any-row t bookie ledger row =
     list_any-map (eq_by_cmp triple_cmp t) (λ e. (bookie, ledger, e)) (entries_in row)

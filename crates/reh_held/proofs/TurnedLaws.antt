@@ -1,6 +1,7 @@
 -- Contents with bits of a bookie's words turned.
-use Rattle.std.proofs.Common.{◌≡◌, ℕ, ◌+◌, ◌*◌, ◌/◌, ◌%◌, ◌<◌, ◌≤◌, Bool, true, false, ◌&&◌, ◌||◌, List, [], ◌∷◌, refl, sym, ap, ◌∙◌, arith, nat_eq}
-use Rattle.std.specs.Prelude.{not}
+use Rattle.std.proofs.Common.{◌≡◌, ◌≢◌, ℕ, ◌+◌, ◌*◌, ◌/◌, ◌%◌, ◌<◌, ◌≤◌, Bool, true, false, ◌&&◌, ◌||◌, List, [], ◌∷◌, refl, sym, ap, ◌∙◌, arith, nat_eq}
+use Rattle.std.specs.Prelude.{not, All}
+use Rattle.std.proofs.lemmas.List.Elements.{All-nil, All-head}
 use Rattle.std.specs.List.{filter, list_any, range_with_len}
 use Rattle.std.specs.Ordering.{nat_cmp, eq_by_cmp}
 use Rattle.std.specs.Cmp.{unsigned_tied}
@@ -9,7 +10,7 @@ use Rattle.reh_types.specs.Sets as set
 use Rattle.reh_types.specs.Sets.{contains-retain, contains-union, same_set}
 use Rattle.reh_types.proofs.BitLaws.{any_filtered, in_range}
 use Rattle.reh_model.specs.Contents.{Contents, has, copies_of}
-use Rattle.reh_model.proofs.ContentsLaws.{has-copies_of, has-union-copies_of}
+use Rattle.reh_model.proofs.ContentsLaws.{has-copies_of, has-union-copies_of, union-copies_of-none}
 use Rattle.reh_model.proofs.Ranges.{list_any-same}
 use Rattle.reh_held.specs.declared.turns.Turn.{Turn}
 use Rattle.reh_held.specs.Rows.{is_set, is_in_word, word_entries, one_of}
@@ -112,3 +113,12 @@ turning-from_row s words bookie ledger row entries turns is places makes = recor
   either : (held : Bool) → held ≡ (held || false)
   either true = refl
   either false = refl
+
+-- no entries turn nothing
+pub turning-none : (s : Contents) (words bookie ledger : ℕ) (entries : List ℕ) → words ≡ 0 → All (λ e. e < 64 * words) entries
+    → IsTurning words bookie ledger s (set.union s (copies_of bookie ledger entries)) []
+turning-none s words bookie ledger [] none within = record {
+  places = record { there = All-nil (λ u. u.number < words); rising = tt; some = All-nil (λ u. u.bits ≢ 0) };
+  makes = sym (union-copies_of-none s bookie ledger);
+}
+turning-none s words bookie ledger (e ∷ entries) none within = absurd (omega (arith, none, All-head (λ e. e < 64 * words) e entries within))

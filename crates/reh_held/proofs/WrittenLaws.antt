@@ -1,19 +1,21 @@
 -- What becomes of contents and words as one table is written.
 use Rattle.std.proofs.Common.{◌≡◌, ℕ, ◌+◌, ◌<◌, ◌≤◌, Bool, true, false, cond, ◌&&◌, ◌||◌, List, [], get_or, refl, sym, ap, subst, ◌∙◌, arith, nat_eq}
-use Rattle.std.specs.Option.{option_map, IfSome}
+use Rattle.std.specs.Prelude.{max, ◌/◌}
+use Rattle.std.specs.Option.{option_map, unwrap_or, IfSome}
 use Rattle.std.specs.declared.option.Option.{Option}
 use Rattle.std.specs.declared.option.Option.TheVariants.{None, Some}
 use Rattle.std.specs.Ordering.{nat_cmp, eq_by_cmp}
 use Rattle.std.specs.Cmp.{unsigned_tied, nat_cmp_total}
 use Rattle.std.specs.BTreeMap.{is_at}
 use Rattle.std.specs.FinMap as finite
-use Rattle.std.specs.FinMap.{FinMap, get-insert}
+use Rattle.std.specs.FinMap.{FinMap, get-insert, same_map, nat_cmp-IsAntisymmetric}
 use Rattle.std.proofs.lemmas.Bool.Decides.{nat_tests}
 use Rattle.reh_types.specs.Sets as set
 use Rattle.reh_model.specs.Contents.{Contents, has}
 use Rattle.reh_model.proofs.ContentsLaws.{has-insert}
 use Rattle.reh_held.specs.Rows.{is_set, is_in_word, one_of}
 use Rattle.reh_held.specs.Tables.{TableValue, row_at, IsTable}
+use Rattle.reh_held.specs.Values.{HeldValue, words_in, with_room}
 use Rattle.reh_held.specs.Kept.{table_at, rows_in, row_of, contents_of, words_of}
 use Rattle.reh_held.specs.Turns.{turned}
 use Rattle.reh_held.proofs.HeldLaws.{contents_is, words_is, has-contents, get-words}
@@ -22,6 +24,31 @@ use Rattle.reh_held.proofs.TurnedLaws.{has-turned}
 -- after this table is written for the ledger
 abbrev pub IsWritten : List (ℕ × TableValue) → List (ℕ × TableValue) → ℕ → TableValue → Type 0
 IsWritten before after ledger table = (l : ℕ) → table_at after l ≡ cond (is_at (nat_cmp ledger) l) (Some table) (table_at before l)
+
+-- room that is there already
+pub insert-same : (words : FinMap nat_cmp ℕ) (ledger n : ℕ) → 0 < n → n ≤ unwrap_or (finite.get words ledger) 0 → finite.insert words ledger (max (unwrap_or (finite.get words ledger) 0) n) ≡ words
+insert-same words ledger n some enough =
+    same_map nat_cmp_total nat_cmp-IsAntisymmetric (finite.insert words ledger (max (unwrap_or (finite.get words ledger) 0) n)) words (λ l.
+    get-insert nat_cmp_total words ledger (max (unwrap_or (finite.get words ledger) 0) n) l
+    ∙ ap (λ b. cond b (Some (max (unwrap_or (finite.get words ledger) 0) n)) (finite.get words l)) (unsigned_tied l ledger)
+    ∙ elim (nat_eq l ledger) as (λ b. nat_eq l ledger ≡ b → cond b (Some (max (unwrap_or (finite.get words ledger) 0) n)) (finite.get words l) ≡ finite.get words l) [
+      | true ↦ λ yes. let same : ledger ≡ l = grind (arith, nat_tests, yes) in found (finite.get words ledger) enough ∙ ap (finite.get words) same
+      | false ↦ λ _. refl
+    ] refl) where
+      found : (o : Option ℕ) → n ≤ unwrap_or o 0 → Some (max (unwrap_or o 0) n) ≡ o
+      found None within = absurd (omega (arith, some))
+      found (Some m) within = let kept : max m n ≡ m = omega arith in ap Some kept
+
+pub words-with_room : (held : HeldValue) (ledger entry : ℕ) → words_in (with_room held ledger entry) ledger ≡ max (words_in held ledger) (entry / 64 + 1)
+words-with_room held ledger entry =
+    let itself : nat_eq ledger ledger ≡ true = grind (arith, nat_tests) in
+    ap (λ o. unwrap_or o 0)
+    (get-insert nat_cmp_total held.words ledger (max (words_in held ledger) (entry / 64 + 1)) ledger
+    ∙ ap (λ b. cond b (Some (max (words_in held ledger) (entry / 64 + 1))) (finite.get held.words ledger)) (unsigned_tied ledger ledger ∙ itself))
+
+pub one_at_most : (b : Bool) (m n : ℕ) → m ≡ n + cond b 0 1 → m ≤ n + 1
+one_at_most true m n is = omega arith
+one_at_most false m n is = omega arith
 
 turn_round : (a b : ℕ) → nat_eq a b ≡ nat_eq b a
 turn_round a b = elim (nat_eq b a) as (λ t. nat_eq b a ≡ t → nat_eq a b ≡ t) [
