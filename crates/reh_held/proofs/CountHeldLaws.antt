@@ -14,10 +14,11 @@ use Rattle.std.proofs.lemmas.Bool.{cases_lt, cases_order}
 use Rattle.std.proofs.lemmas.Bool.Decides.{nat_tests}
 use Rattle.std.proofs.lemmas.List.Folds.{list_any-append}
 use Rattle.std.proofs.lemmas.List.Sums.{sum_by-cons, sum_by-append, sum_by-le, length-filter, count_by-le-length}
+use Rattle.std.proofs.lemmas.List.{get_or_past}
 use Rattle.std.proofs.lemmas.List.FromFn.{length-range_with_len}
-use Rattle.std.proofs.lemmas.List.Elements.{All-nil, All-cons}
+use Rattle.std.proofs.lemmas.List.Elements.{All-nil, All-cons, All-head, All-tail}
 use Rattle.reh_types.specs.Sets as set
-use Rattle.reh_types.specs.Sets.{triples, triple_cmp, contains-from_list, from_list, insert}
+use Rattle.reh_types.specs.Sets.{triples, triple_cmp, contains-from_list, from_list, items, empty}
 use Rattle.reh_types.proofs.BitLaws.{any_filtered}
 use Rattle.reh_model.specs.Contents.{Contents, count_held}
 use Rattle.reh_model.proofs.ContentsLaws.{triples_tied, count_held-insert_new}
@@ -25,6 +26,7 @@ use Rattle.reh_model.proofs.Ranges.{list_any-map, list_any-same}
 use Rattle.reh_held.specs.Rows.{is_set, entries_in}
 use Rattle.reh_held.specs.Tables.{TableValue, row_at, IsTable}
 use Rattle.reh_held.specs.Kept.{table_at, rows_in, copies_from, copies_in, contents_of}
+use Rattle.reh_held.proofs.WrittenLaws.{turn_round}
 use Rattle.reh_held.proofs.HeldLaws.{any-and, any-row, any-copies_from, any-copies_in}
 
 -- Copies with no two equal
@@ -60,16 +62,13 @@ distinct-append (t ∷ ts) us ds es apart =
       later false b is = is
 
 -- the count of a set of such copies is their count
-count-distinct : (b : ℕ) (ts : List (ℕ × ℕ × ℕ)) → AreDistinct ts → count_held (set.from_list {o = triples} ts) b ≡ count_by (λ t. t.0 == b) ts
-unfolding from_list
-count-distinct b [] ds = no_copies b where
-  no_copies : (b : ℕ) → count_held (set.from_list {o = triples} []) b ≡ 0
-  unfolding from_list
-  no_copies b = ?
+count-distinct : (b : ℕ) (ts : List (ℕ × ℕ × ℕ)) → AreDistinct ts → count_held (set.from_list {o = triples} ts) b ≡ count_by (λ (t : ℕ × ℕ × ℕ). t.0 == b) ts
+unfolding from_list items empty
+count-distinct b [] ds = refl
 count-distinct b (t ∷ ts) ds =
     count_held-insert_new (set.from_list {o = triples} ts) t.0 t.1 t.2 b (contains-from_list triples ts t ∙ ds.0)
     ∙ ap (λ n. cond (t.0 == b) 1 0 + n) (count-distinct b ts ds.1)
-    ∙ sym (sum_by-cons (λ t. cond (t.0 == b) 1 0) t ts)
+    ∙ sym (sum_by-cons (λ (t : ℕ × ℕ × ℕ). cond (t.0 == b) 1 0) t ts)
 
 past : (e a n : ℕ) → e < a → list_any (eq_by_cmp nat_cmp e) (range_with_len a n) ≡ false
 past e a zero lt = refl
@@ -130,20 +129,20 @@ distinct-in rows (l ∷ ls) new =
 
 -- Their count
 
-count-row : (b bookie ledger : ℕ) (es : List ℕ) → count_by (λ t. t.0 == b) (map (λ e. (bookie, ledger, e)) es) ≡ cond (nat_eq bookie b) (length es) 0
-count-row b bookie ledger [] = elim (nat_eq bookie b) as (λ t. 0 ≡ cond t 0 0) [ true ↦ refl | false ↦ refl ]
+count-row : (b bookie ledger : ℕ) (es : List ℕ) → count_by (λ (t : ℕ × ℕ × ℕ). t.0 == b) (map (λ e. (bookie, ledger, e)) es) ≡ cond (nat_eq bookie b) (length es) 0
+count-row b bookie ledger [] = elim (nat_eq bookie b) as (λ t. ◌≡◌ {A = ℕ} 0 (cond t 0 0)) [ true ↦ refl | false ↦ refl ]
 count-row b bookie ledger (e ∷ es) =
-    sum_by-cons (λ t. cond (t.0 == b) 1 0) (bookie, ledger, e) (map (λ e. (bookie, ledger, e)) es)
+    sum_by-cons (λ (t : ℕ × ℕ × ℕ). cond (t.0 == b) 1 0) (bookie, ledger, e) (map (λ e. (bookie, ledger, e)) es)
     ∙ ap (λ n. cond (nat_eq bookie b) 1 0 + n) (count-row b bookie ledger es)
     ∙ elim (nat_eq bookie b) as (λ t. cond t 1 0 + cond t (length es) 0 ≡ cond t (length (e ∷ es)) 0) [ true ↦ omega arith | false ↦ omega arith ]
 
 entries_of_none : length (entries_in []) ≡ 0
 entries_of_none = refl
 
-count-from : (b ledger first : ℕ) (rows : List (List ℕ)) → count_by (λ t. t.0 == b) (copies_from ledger first rows) ≡ cond (nat_le first b) (length (entries_in (get_or rows (b - first) []))) 0
-count-from b ledger first [] = elim (nat_le first b) as (λ t. 0 ≡ cond t 0 0) [ true ↦ refl | false ↦ refl ]
+count-from : (b ledger first : ℕ) (rows : List (List ℕ)) → count_by (λ (t : ℕ × ℕ × ℕ). t.0 == b) (copies_from ledger first rows) ≡ cond (nat_le first b) (length (entries_in (get_or rows (b - first) []))) 0
+count-from b ledger first [] = elim (nat_le first b) as (λ t. ◌≡◌ {A = ℕ} 0 (cond t 0 0)) [ true ↦ refl | false ↦ refl ]
 count-from b ledger first (row ∷ rows) =
-    sum_by-append (λ t. cond (t.0 == b) 1 0) (map (λ e. (first, ledger, e)) (entries_in row)) (copies_from ledger (first + 1) rows)
+    sum_by-append (λ (t : ℕ × ℕ × ℕ). cond (t.0 == b) 1 0) (map (λ e. (first, ledger, e)) (entries_in row)) (copies_from ledger (first + 1) rows)
     ∙ (λ i. count-row b first ledger (entries_in row) i + count-from b ledger (first + 1) rows i)
     ∙ elim (cases_order b first) [
       | inl is ↦
@@ -175,12 +174,12 @@ count-from b ledger first (row ∷ rows) =
       ]
     ]
 
-count-in : (b : ℕ) (rows : ℕ → List (List ℕ)) (ls : List ℕ) → count_by (λ t. t.0 == b) (copies_in rows ls) ≡ sum_by (λ l. length (entries_in (get_or (rows l) b []))) ls
+count-in : (b : ℕ) (rows : ℕ → List (List ℕ)) (ls : List ℕ) → count_by (λ (t : ℕ × ℕ × ℕ). t.0 == b) (copies_in rows ls) ≡ sum_by (λ l. length (entries_in (get_or (rows l) b []))) ls
 count-in b rows [] = refl
 count-in b rows (l ∷ ls) =
     let from : nat_le 0 b ≡ true = grind (arith, nat_tests) in
     let place : b - 0 ≡ b = omega arith in
-    sum_by-append (λ t. cond (t.0 == b) 1 0) (copies_from l 0 (rows l)) (copies_in rows ls)
+    sum_by-append (λ (t : ℕ × ℕ × ℕ). cond (t.0 == b) 1 0) (copies_from l 0 (rows l)) (copies_in rows ls)
     ∙ (λ i. (count-from b l 0 (rows l) ∙ ap (λ t. cond t (length (entries_in (get_or (rows l) (b - 0) []))) 0) from ∙ ap (λ n. length (entries_in (get_or (rows l) n []))) place) i + count-in b rows ls i)
     ∙ sym (sum_by-cons (λ l. length (entries_in (get_or (rows l) b []))) l ls)
 
@@ -197,7 +196,7 @@ found-more t tables (p ∷ part) less found =
     let apart : eq_by_cmp nat_cmp p.0 t.0 ≡ false = unsigned_tied p.0 t.0 ∙ differ p.0 t.0 less.0 in
     (ap (λ b. cond b (Some t.1) (table_at tables p.0)) apart ∙ found.0, found-more t tables part less.1 found.1) where
       differ : (a b : ℕ) → nat_cmp b a ≡ Less → nat_eq a b ≡ false
-      differ a b lt = ?
+      differ a b lt = turn_round a b ∙ sym (unsigned_tied b a) ∙ ap is_eq lt
 
 found-all : (tables : List (ℕ × TableValue)) → IsStrictlySortedBy nat_cmp (keys_of tables) → AreFound tables tables
 unfolding IsStrictlySortedBy
@@ -211,7 +210,7 @@ unfolding IsStrictlySortedBy
 new-keys [] sorted = tt
 new-keys (l ∷ ls) sorted = (none l ls sorted.0, new-keys ls sorted.1) where
   differ : (a b : ℕ) → nat_cmp a b ≡ Less → nat_eq a b ≡ false
-  differ a b lt = ?
+  differ a b lt = sym (unsigned_tied a b) ∙ ap is_eq lt
   none : (l : ℕ) (ls : List ℕ) → AllByRecursion (λ k. nat_cmp l k ≡ Less) ls → list_any (nat_eq l) ls ≡ false
   none l [] less = refl
   none l (k ∷ ls) less = neither (nat_eq l k) _ (differ l k less.0) (none l ls less.1)
@@ -241,3 +240,51 @@ all-found P tables (t ∷ part) kept found = All-cons P t.1 (values_of part) (su
 
 pub all-tables : (P : TableValue → Type 0) (tables : List (ℕ × TableValue)) → IsStrictlySortedBy nat_cmp (keys_of tables) → ((l : ℕ) → IfSome (table_at tables l) P) → All P (values_of tables)
 all-tables P tables sorted kept = all-found P tables tables kept (found-all tables sorted)
+
+-- The loop
+
+-- the count so far, and what is left
+pub record IsCounting (bookies bookie total : ℕ) (left : List TableValue) (count : ℕ) : Type 0 where
+  pub each : All (IsTable bookies) left
+  pub sum : count + sum_by (row_count bookie) left ≡ total
+  pub small : total ≤ 9223372036854775808
+
+row_small : (b bookies : ℕ) (t : TableValue) → IsTable bookies t → row_count b t ≤ 4294967296
+row_small b bookies t is =
+    let row : List ℕ = row_at t b in
+    let counted : row_count b t ≤ 64 * length row =
+    omega (arith, length-filter (is_set row) (range_with_len 0 (64 * length row)), count_by-le-length (is_set row) (range_with_len 0 (64 * length row)), length-range_with_len 0 (64 * length row)) in
+    elim (cases_lt b bookies) [
+      | inl within ↦ omega (arith, counted, is.widths b within, is.small)
+      | inr out ↦ let none : length row ≡ 0 = ap (length {A = ℕ}) (get_or_past t.rows b [] (omega (arith, is.size))) in omega (arith, counted, none)
+    ]
+
+-- a fact of each is one of each, weakened
+All-weaker : (P Q : TableValue → Type 0) (ts : List TableValue) → ((t : TableValue) → P t → Q t) → All P ts → All Q ts
+All-weaker P Q [] gives all = All-nil Q
+All-weaker P Q (t ∷ ts) gives all = All-cons Q t ts (gives t (All-head P t ts all)) (All-weaker P Q ts gives (All-tail P t ts all))
+
+pub counting-none : (bookies bookie total : ℕ) (tables : List TableValue) → length tables ≤ 2147483648 → All (IsTable bookies) tables → total ≡ sum_by (row_count bookie) tables
+    → IsCounting bookies bookie total tables 0
+counting-none bookies bookie total tables few each is =
+    let small = sum_by-le (row_count bookie) 4294967296 tables (All-weaker (IsTable bookies) (λ t. row_count bookie t ≤ 4294967296) tables (λ t is. row_small bookie bookies t is) each) in
+    record { each = each; sum = omega (arith, is); small = omega (arith, is, small) }
+
+pub counting-table : {bookies bookie total : ℕ} {left : List TableValue} {count : ℕ} (t : TableValue) (rest : List TableValue) → left ≡ t ∷ rest → IsCounting bookies bookie total left count → IsTable bookies t
+counting-table {bookies} t rest is counting = All-head (IsTable bookies) t rest (subst (All (IsTable bookies)) is counting.each)
+
+pub counting-more : {bookies bookie total : ℕ} {left : List TableValue} {count : ℕ} (t : TableValue) (rest : List TableValue) (n : ℕ) → left ≡ t ∷ rest → n ≡ row_count bookie t
+    → IsCounting bookies bookie total left count → IsCounting bookies bookie total rest (count + n)
+counting-more {bookies} {bookie} {total} {left} {count} t rest n is counted counting = record {
+  each = All-tail (IsTable bookies) t rest (subst (All (IsTable bookies)) is counting.each);
+  sum = omega (arith, ap (sum_by (row_count bookie)) is, sum_by-cons (row_count bookie) t rest, counting.sum, counted);
+  small = counting.small;
+}
+
+pub counting-fits : {bookies bookie total : ℕ} {left : List TableValue} {count : ℕ} (t : TableValue) (rest : List TableValue) (n : ℕ) → left ≡ t ∷ rest → n ≡ row_count bookie t
+    → IsCounting bookies bookie total left count → count + n ≤ 9223372036854775808
+counting-fits {bookies} {bookie} {total} {left} {count} t rest n is counted counting =
+    omega (arith, ap (sum_by (row_count bookie)) is, sum_by-cons (row_count bookie) t rest, counting.sum, counting.small, counted)
+
+pub counting-all : {bookies bookie total : ℕ} {left : List TableValue} {count : ℕ} → left ≡ [] → IsCounting bookies bookie total left count → count ≡ total
+counting-all {bookies} {bookie} {total} {left} {count} none counting = omega (arith, ap (sum_by (row_count bookie)) none, counting.sum)

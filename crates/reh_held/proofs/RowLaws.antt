@@ -8,7 +8,7 @@ use Rattle.std.proofs.lemmas.List.{get_or_read, take_all}
 use Rattle.reh_held.specs.Rows.{is_set, is_in_word, one_of}
 
 -- the word at a place, after one word is written
-read_written : (words : List ℕ) (k v m : ℕ) → k < length words → get_or (set words k v) m 0 ≡ cond (nat_eq m k) v (get_or words m 0)
+pub read_written : (words : List ℕ) (k v m : ℕ) → k < length words → get_or (set words k v) m 0 ≡ cond (nat_eq m k) v (get_or words m 0)
 read_written words k v m within =
     elim (nat_eq m k) as (λ b. nat_eq m k ≡ b → get_or (set words k v) m 0 ≡ cond b v (get_or words m 0)) [
       | true ↦ λ yes. let same : m ≡ k = grind (arith, nat_tests, yes) in ap (λ n. get_or (set words k v) n 0) same ∙ get_or-set_same words k v 0 within

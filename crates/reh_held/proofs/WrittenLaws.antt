@@ -1,6 +1,10 @@
 -- What becomes of contents and words as one table is written.
-use Rattle.std.proofs.Common.{◌≡◌, ℕ, ◌+◌, ◌<◌, ◌≤◌, Bool, true, false, cond, ◌&&◌, ◌||◌, List, [], get_or, refl, sym, ap, subst, ◌∙◌, arith, nat_eq}
-use Rattle.std.specs.Prelude.{max, ◌/◌}
+use Rattle.std.proofs.Common.{◌≡◌, zero, suc, inl, inr, nat_le, ◌-◌, ℕ, ◌+◌, ◌<◌, ◌≤◌, Bool, true, false, cond, ◌&&◌, ◌||◌, List, [], get_or, refl, sym, ap, subst, ◌∙◌, arith, nat_eq}
+use Rattle.std.specs.Prelude.{max, ◌/◌, ◌⊎◌}
+use Rattle.std.specs.List.{list_any, range_with_len}
+use Rattle.std.proofs.lemmas.Bool.{cases_lt}
+use Rattle.reh_types.proofs.BitLaws.{in_range}
+use Rattle.reh_model.proofs.Ranges.{list_any-same}
 use Rattle.std.specs.Option.{option_map, unwrap_or, IfSome}
 use Rattle.std.specs.declared.option.Option.{Option}
 use Rattle.std.specs.declared.option.Option.TheVariants.{None, Some}
@@ -11,9 +15,9 @@ use Rattle.std.specs.FinMap as finite
 use Rattle.std.specs.FinMap.{FinMap, get-insert, same_map, nat_cmp-IsAntisymmetric}
 use Rattle.std.proofs.lemmas.Bool.Decides.{nat_tests}
 use Rattle.reh_types.specs.Sets as set
-use Rattle.reh_model.specs.Contents.{Contents, has}
-use Rattle.reh_model.proofs.ContentsLaws.{has-insert}
-use Rattle.reh_held.specs.Rows.{is_set, is_in_word, one_of}
+use Rattle.reh_model.specs.Contents.{Contents, has, copies_of}
+use Rattle.reh_model.proofs.ContentsLaws.{has-insert, has-union-copies_of}
+use Rattle.reh_held.specs.Rows.{is_set, is_between, is_in_word, one_of}
 use Rattle.reh_held.specs.Tables.{TableValue, row_at, IsTable}
 use Rattle.reh_held.specs.Values.{HeldValue, words_in, with_room}
 use Rattle.reh_held.specs.Kept.{table_at, rows_in, row_of, contents_of, words_of}
@@ -50,7 +54,27 @@ pub one_at_most : (b : Bool) (m n : ℕ) → m ≡ n + cond b 0 1 → m ≤ n + 
 one_at_most true m n is = omega arith
 one_at_most false m n is = omega arith
 
-turn_round : (a b : ℕ) → nat_eq a b ≡ nat_eq b a
+-- the numbers of a range
+any-range : (first last e : ℕ) → list_any (nat_eq e) (range_with_len first (last + 1 - first)) ≡ is_between first last e
+any-range first last e =
+    list_any-same (nat_eq e) (eq_by_cmp nat_cmp e) (λ x. sym (unsigned_tied e x)) (range_with_len first (last + 1 - first))
+    ∙ elim (cases_lt e first) [
+      | inl before ↦ let no : nat_le first e ≡ false = grind (arith, nat_tests) in outside e first (last + 1 - first) (inl before) ∙ sym (ap (λ b. b && nat_le e last) no)
+      | inr from ↦
+          let yes : nat_le first e ≡ true = grind (arith, nat_tests) in
+          elim (cases_lt last e) [
+            | inl past ↦ let no : nat_le e last ≡ false = grind (arith, nat_tests) in outside e first (last + 1 - first) (inr (omega arith)) ∙ sym (λ i. yes i && no i)
+            | inr within ↦ let reached : nat_le e last ≡ true = grind (arith, nat_tests) in in_range e first (last + 1 - first) from (omega arith) ∙ sym (λ i. yes i && reached i)
+          ]
+    ] where
+      outside : (e a n : ℕ) → (e < a) ⊎ (a + n ≤ e) → list_any (eq_by_cmp nat_cmp e) (range_with_len a n) ≡ false
+      outside e a zero h = refl
+      outside e a (suc n) h =
+          let off : eq_by_cmp nat_cmp e a ≡ false = elim h [ inl before ↦ grind (arith, nat_tests, unsigned_tied e a) | inr past ↦ grind (arith, nat_tests, unsigned_tied e a) ] in
+          let rest : (e < a + 1) ⊎ ((a + 1) + n ≤ e) = elim h [ inl before ↦ inl (omega arith) | inr past ↦ inr (omega arith) ] in
+          ap (λ b. b || list_any (eq_by_cmp nat_cmp e) (range_with_len (a + 1) n)) off ∙ outside e (a + 1) n rest
+
+pub turn_round : (a b : ℕ) → nat_eq a b ≡ nat_eq b a
 turn_round a b = elim (nat_eq b a) as (λ t. nat_eq b a ≡ t → nat_eq a b ≡ t) [
       | true ↦ λ yes. let same : b ≡ a = grind (arith, nat_tests, yes) in grind (arith, nat_tests)
       | false ↦ λ differ. grind (arith, nat_tests, differ)
@@ -129,3 +153,30 @@ module _ (before after : List (ℕ × TableValue)) (ledger : ℕ) (table : Table
         none_turned true false c = refl
         none_turned false true c = refl
         none_turned false false c = refl
+
+  -- the copies of a range more
+  pub written-range : (bookie first last : ℕ) → ((b e : ℕ) → is_set (row_at table b) e ≡ ((nat_eq b bookie && is_between first last e) || has (contents_of before) b ledger e))
+      → contents_of after ≡ set.union (contents_of before) (copies_of bookie ledger (range_with_len first (last + 1 - first)))
+  written-range bookie first last bits = written-contents (set.union (contents_of before) (copies_of bookie ledger (range_with_len first (last + 1 - first))))
+      (λ b e. bits b e
+      ∙ either_round (nat_eq b bookie && is_between first last e) (has (contents_of before) b ledger e)
+      ∙ sym (has-union-copies_of (contents_of before) bookie ledger (range_with_len first (last + 1 - first)) b ledger e
+      ∙ (λ i. has (contents_of before) b ledger e || ((nat_eq b bookie && itself ledger i) && any-range first last e i))
+      ∙ ap (λ t. has (contents_of before) b ledger e || (t && is_between first last e)) (with_true (nat_eq b bookie))))
+      (λ b l e differ. sym (has-union-copies_of (contents_of before) bookie ledger (range_with_len first (last + 1 - first)) b l e
+      ∙ ap (λ t. has (contents_of before) b l e || ((nat_eq b bookie && t) && list_any (nat_eq e) (range_with_len first (last + 1 - first)))) differ
+      ∙ none_more (has (contents_of before) b l e) (nat_eq b bookie) (list_any (nat_eq e) (range_with_len first (last + 1 - first))))) where
+        itself : (n : ℕ) → nat_eq n n ≡ true
+        itself n = grind (arith, nat_tests)
+        with_true : (a : Bool) → (a && true) ≡ a
+        with_true true = refl
+        with_true false = refl
+        either_round : (a b : Bool) → (a || b) ≡ (b || a)
+        either_round true true = refl
+        either_round true false = refl
+        either_round false true = refl
+        either_round false false = refl
+        none_more : (h a c : Bool) → (h || ((a && false) && c)) ≡ h
+        none_more true a c = refl
+        none_more false true c = refl
+        none_more false false c = refl

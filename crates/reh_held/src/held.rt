@@ -1,5 +1,6 @@
 // What the bookies hold.
-ghost use Rattle.std.specs.Prelude.{◌≡◌, ℕ, ◌*◌, ◌<◌, ◌≤◌, All, IfOk, OnOk, OnErr};
+ghost use Rattle.std.specs.Prelude.{◌≡◌, ℕ, ◌+◌, ◌-◌, ◌*◌, ◌<◌, ◌≤◌, length, All, IfOk, OnOk, OnErr};
+ghost use Rattle.std.specs.List.{range_with_len};
 ghost use Rattle.std.specs.Ordering.{nat_cmp};
 ghost use Rattle.std.specs.FinMap as map;
 ghost use Rattle.reh_types.specs.Sets as set;
@@ -139,6 +140,20 @@ impl Held {
         }
     }
 
+    /// The bookie holds the entries of the ledger from the first to the last from now on, for which the rows of the
+    /// ledger are long enough.
+    pub fn add_range(&mut self, bookie: BookieIx, ledger: LedgerId, first: u32, last: u32)
+        requires bookie { bookie < self.old.bookies }
+        requires last { last < 64 * words_in self.old ledger }
+        ensures { self.new ≡ record self.old { contents = set.union self.old.contents
+            (copies_of bookie ledger (range_with_len first (last + 1 - first))) } }
+    {
+        match self.tables.get_mut(&ledger) {
+            Some(table) => table.insert_range(bookie, first, last),
+            None => {}
+        }
+    }
+
     /// Turns these bits of a word of the bookie's row of the ledger: the entries that they stand for are held where they
     /// were not, and not where they were.
     pub fn toggle(&mut self, bookie: BookieIx, ledger: LedgerId, number: usize, bits: u64)
@@ -166,6 +181,18 @@ impl Held {
                 Ok(turns)
             }
             None => Ok(Vec::new(self.alloc)),
+        }
+    }
+
+    /// The words of the bookie's row of the ledger: bit e % 64 of word e / 64 says whether it holds entry e. There are
+    /// none for a ledger with no rows.
+    pub fn row(&self, bookie: BookieIx, ledger: LedgerId) -> &[u64]
+        ensures bits { (e : ℕ) → is_set result.now e ≡ has self.now.contents bookie ledger e }
+        ensures words { bookie < self.now.bookies → length result.now ≡ words_in self.now ledger }
+    {
+        match self.tables.get(&ledger) {
+            Some(table) => table.row(bookie),
+            None => &[],
         }
     }
 

@@ -1,7 +1,8 @@
 // Rows of words.
 ghost use Rattle.std.specs.Prelude.{◌≡◌, ℕ, ◌+◌, ◌*◌, ◌^◌, ◌<◌, ◌≤◌, false, ◌==◌, ◌||◌, length, All, IfOk};
 ghost use Rattle.std.specs.List.{list_any};
-ghost use Rattle.reh_held.specs.Rows.{is_set, entries_in, is_in_word, one_of, IsGreatest};
+ghost use Rattle.std.specs.Int.{bit_at};
+ghost use Rattle.reh_held.specs.Rows.{is_set, is_between, entries_in, is_in_word, one_of, IsGreatest};
 ghost use Rattle.reh_held.specs.RowTurns.{IsRowTurning, turns_between};
 ghost use Rattle.reh_held.specs.declared.rows.TheConstants.{MAX_WIDTH};
 
@@ -131,6 +132,15 @@ impl Row {
         }
     }
 
+    /// Puts the entries from the first to the last into the row.
+    pub(crate) fn insert_range(&mut self, first: u32, last: u32)
+        requires { last < 64 * length self.old }
+        ensures width { length self.new ≡ length self.old }
+        ensures bits { (e : ℕ) → is_set self.new e ≡ (is_between first last e || is_set self.old e) }
+    {
+        set_range(&mut self.words, first, last);
+    }
+
     /// The turns after which the row has these entries too.
     pub(crate) fn delta_of(&self, alloc: Global, entries: &[u32]) -> Result<Vec<Turn>, AllocError>
         requires { All (λ e. e < 64 * length self.now) entries.now }
@@ -159,4 +169,27 @@ fn find_turns(alloc: Global, words: &[u64], others: &[u64]) -> Result<Vec<Turn>,
         }
     }
     Ok(turns)
+}
+
+/// Sets the bits of the entries from the first to the last, word by word.
+fn set_range(words: &mut Vec<u64>, first: u32, last: u32)
+    requires { last < 64 * length words.old.items }
+    ensures width { length words.new.items ≡ length words.old.items }
+    ensures bits { (e : ℕ) → is_set words.new.items e
+        ≡ (is_between first last e || is_set words.old.items e) }
+{
+    for number in (first / 64) as usize..(last / 64) as usize + 1 {
+        words[number] |= bits_between(number as u32, first, last);
+    }
+}
+
+/// The bits of a word whose entries are from the first to the last.
+fn bits_between(number: u32, first: u32, last: u32) -> u64
+    requires first { first < 64 * number + 64 }
+    requires last { 64 * number ≤ last }
+    ensures { (i : ℕ) → i < 64 → (bit_at result i == 1) ≡ is_between first last (64 * number + i) }
+{
+    let low = first.saturating_sub(64 * number);
+    let high = (last - 64 * number).min(63);
+    (u64::MAX << low) & (u64::MAX >> (63 - high))
 }

@@ -1,7 +1,7 @@
 // Tables of rows.
 ghost use Rattle.std.specs.Prelude.{◌≡◌, ℕ, ◌*◌, ◌^◌, ◌<◌, ◌≤◌, ◌==◌, ◌&&◌, ◌||◌, Bool, false, length, All, IfOk};
 ghost use Rattle.std.specs.List.{list_any};
-ghost use Rattle.reh_held.specs.Rows.{is_set, entries_in, is_in_word, one_of, IsGreatest};
+ghost use Rattle.reh_held.specs.Rows.{is_set, is_between, entries_in, is_in_word, one_of, IsGreatest};
 ghost use Rattle.reh_held.specs.RowTurns.{IsRowTurning};
 ghost use Rattle.reh_held.specs.Tables.{row_at, IsTable};
 ghost use Rattle.reh_held.specs.declared.rows.TheConstants.{MAX_WIDTH};
@@ -99,6 +99,19 @@ impl Table {
             ≡ ((b == bookie && e == entry) || is_set (row_at self.old b) e) }
     {
         self.rows[bookie.0 as usize].insert(entry);
+    }
+
+    /// Puts the entries from the first to the last into the bookie's row.
+    pub(crate) fn insert_range(&mut self, bookie: BookieIx, first: u32, last: u32)
+        requires table { IsTable (length self.old.rows) self.old }
+        requires bookie { bookie < length self.old.rows }
+        requires last { last < 64 * self.old.width }
+        ensures width { self.new.width ≡ self.old.width }
+        ensures table { IsTable (length self.old.rows) self.new }
+        ensures bits { (b e : ℕ) → is_set (row_at self.new b) e
+            ≡ ((b == bookie && is_between first last e) || is_set (row_at self.old b) e) }
+    {
+        self.rows[bookie.0 as usize].insert_range(first, last);
     }
 
     /// Turns these bits of a word of the bookie's row.
