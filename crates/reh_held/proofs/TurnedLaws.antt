@@ -1,5 +1,5 @@
 -- Contents with bits of a bookie's words turned.
-use Rattle.std.proofs.Common.{◌≡◌, ◌≢◌, ℕ, ◌+◌, ◌*◌, ◌/◌, ◌%◌, ◌<◌, ◌≤◌, Bool, true, false, ◌&&◌, ◌||◌, List, [], ◌∷◌, refl, sym, ap, ◌∙◌, arith, nat_eq}
+use Rattle.std.proofs.Common.{◌≡◌, ◌≢◌, ℕ, ◌+◌, ◌*◌, ◌/◌, ◌%◌, ◌<◌, ◌≤◌, Bool, true, false, ◌&&◌, ◌||◌, List, [], ◌∷◌, ◌++◌, refl, sym, ap, ◌∙◌, arith, nat_eq}
 use Rattle.std.specs.Prelude.{not, All}
 use Rattle.std.proofs.lemmas.List.Elements.{All-nil, All-head}
 use Rattle.std.specs.List.{filter, list_any, range_with_len}
@@ -122,3 +122,8 @@ turning-none s words bookie ledger [] none within = record {
   makes = sym (union-copies_of-none s bookie ledger);
 }
 turning-none s words bookie ledger (e ∷ entries) none within = absurd (omega (arith, none, All-head (λ e. e < 64 * words) e entries within))
+
+-- one turn more
+pub turned_all-push : (s : Contents) (bookie ledger : ℕ) (us : List Turn) (u : Turn) → turned_all s bookie ledger (us ++ u ∷ []) ≡ turned (turned_all s bookie ledger us) bookie ledger u.number u.bits
+turned_all-push s bookie ledger [] u = refl
+turned_all-push s bookie ledger (v ∷ us) u = turned_all-push (turned s bookie ledger v.number v.bits) bookie ledger us u

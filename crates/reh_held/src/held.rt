@@ -7,7 +7,7 @@ ghost use Rattle.reh_types.specs.Sets as set;
 ghost use Rattle.reh_model.specs.Contents.{has, copies_of, count_held, greatest_held};
 ghost use Rattle.reh_held.specs.Rows.{is_set};
 ghost use Rattle.reh_held.specs.Tables.{row_at, IsTable};
-ghost use Rattle.reh_held.specs.Turns.{turned, IsTurning};
+ghost use Rattle.reh_held.specs.Turns.{turned, turned_all, IsTurning};
 ghost use Rattle.reh_held.specs.Values.{words_in, with_room};
 ghost use Rattle.reh_held.specs.declared.rows.TheConstants.{MAX_WIDTH};
 
@@ -167,6 +167,17 @@ impl Held {
         }
     }
 
+    /// Makes all these turns in the bookie's row of the ledger.
+    pub fn toggle_all(&mut self, bookie: BookieIx, ledger: LedgerId, turns: &[Turn])
+        requires bookie { bookie < self.old.bookies }
+        requires numbers { All (λ u. u.number < words_in self.old ledger) turns.now }
+        ensures { self.new ≡ record self.old { contents = turned_all self.old.contents bookie ledger turns.now } }
+    {
+        for turn in turns {
+            self.toggle(bookie, ledger, turn.number, turn.bits);
+        }
+    }
+
     /// The turns after which the bookie holds these entries of the ledger too: for each word in which that changes
     /// something, its number and the bits that change. The entries are among those that the ledger's words stand for.
     pub fn delta_of(&self, bookie: BookieIx, ledger: LedgerId, entries: &[u32]) -> Result<Vec<Turn>, AllocError>
@@ -225,5 +236,55 @@ impl Held {
             Some(table) => table.greatest(),
             None => None,
         }
+    }
+}
+
+#[cfg(test)]
+mod tests {
+    use super::*;
+
+    // Three bookies and two ledgers.
+    #[test]
+    fn holds_what_was_added(rt: HostRuntime) -> Result<(), AllocError> {
+        let mut held = Held::new(rt.alloc(), 3);
+        held.add(BookieIx(0), LedgerId(7), 0)?;
+        held.add(BookieIx(0), LedgerId(7), 2)?;
+        held.add(BookieIx(1), LedgerId(7), 4)?;
+        held.add(BookieIx(1), LedgerId(9), 64)?;
+        held.add(BookieIx(1), LedgerId(9), 5)?;
+        held.add(BookieIx(0), LedgerId(7), 2)?;
+        let held = held.clone_in()?;
+
+        assert!(rt; held.holds(BookieIx(1), LedgerId(7), 4));
+        assert!(rt; !held.holds(BookieIx(0), LedgerId(7), 4));
+        assert!(rt; !held.holds(BookieIx(1), LedgerId(9), 4));
+        for (bookie, count) in [(0, 2), (1, 3), (2, 0)] {
+            assert_eq!(rt; held.count(BookieIx(bookie)), count, "bookie {bookie}");
+        }
+        for (ledger, greatest) in [(7, Some(4)), (8, None), (9, Some(64))] {
+            assert_eq!(rt; held.greatest(LedgerId(ledger)), greatest, "ledger {ledger}");
+        }
+        for (ledger, words) in [(7, 1), (8, 0), (9, 2)] {
+            assert_eq!(rt; held.words(LedgerId(ledger)), words, "ledger {ledger}");
+        }
+        Ok(())
+    }
+
+    // A bookie that holds entry 3 of five.
+    #[test]
+    fn turns_there_and_back(rt: HostRuntime) -> Result<(), AllocError> {
+        let bookie = BookieIx(3);
+        let ledger = LedgerId(7);
+        let mut held = Held::new(rt.alloc(), 4);
+        held.reserve(ledger, 4)?;
+        held.add_range(bookie, ledger, 3, 3);
+        let turns = held.delta_of(bookie, ledger, &[0, 1, 3, 4])?;
+        assert_eq!(rt; turns.as_slice(), [Turn { number: 0, bits: 19 }].as_slice());
+
+        held.toggle_all(bookie, ledger, &turns);
+        assert_eq!(rt; held.row(bookie, ledger), [27].as_slice());
+        held.toggle_all(bookie, ledger, &turns);
+        assert_eq!(rt; held.row(bookie, ledger), [8].as_slice());
+        Ok(())
     }
 }
