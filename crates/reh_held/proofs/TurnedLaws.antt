@@ -1,6 +1,7 @@
 -- Contents with bits of a bookie's words turned.
-use Rattle.std.proofs.Common.{◌≡◌, ◌≢◌, ℕ, ◌+◌, ◌*◌, ◌/◌, ◌%◌, ◌<◌, ◌≤◌, Bool, true, false, ◌&&◌, ◌||◌, List, [], ◌∷◌, ◌++◌, refl, sym, ap, ◌∙◌, arith, nat_eq}
+use Rattle.std.proofs.Common.{◌≡◌, ◌≢◌, ℕ, ◌+◌, ◌*◌, ◌/◌, ◌%◌, ◌<◌, ◌≤◌, Bool, true, false, ◌&&◌, ◌||◌, List, [], ◌∷◌, ◌++◌, length, take, get_or, refl, sym, ap, ◌∙◌, arith, nat_eq}
 use Rattle.std.specs.Prelude.{not, All}
+use Rattle.std.proofs.lemmas.List.{take_more}
 use Rattle.std.proofs.lemmas.List.Elements.{All-nil, All-head}
 use Rattle.std.specs.List.{filter, list_any, range_with_len}
 use Rattle.std.specs.Ordering.{nat_cmp, eq_by_cmp}
@@ -127,3 +128,8 @@ turning-none s words bookie ledger (e ∷ entries) none within = absurd (omega (
 pub turned_all-push : (s : Contents) (bookie ledger : ℕ) (us : List Turn) (u : Turn) → turned_all s bookie ledger (us ++ u ∷ []) ≡ turned (turned_all s bookie ledger us) bookie ledger u.number u.bits
 turned_all-push s bookie ledger [] u = refl
 turned_all-push s bookie ledger (v ∷ us) u = turned_all-push (turned s bookie ledger v.number v.bits) bookie ledger us u
+
+pub turned_all-more : (s : Contents) (bookie ledger : ℕ) (us : List Turn) (i : ℕ) (d : Turn) → i < length us
+    → turned_all s bookie ledger (take (i + 1) us) ≡ turned (turned_all s bookie ledger (take i us)) bookie ledger (get_or us i d).number (get_or us i d).bits
+turned_all-more s bookie ledger us i d within =
+    ap (λ (us : List Turn). turned_all s bookie ledger us) (take_more us i d within) ∙ turned_all-push s bookie ledger (take i us) (get_or us i d)

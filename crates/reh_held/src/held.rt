@@ -85,6 +85,7 @@ impl Held {
     /// that what a bookie holds could not be counted are answered as want of memory too.
     pub fn reserve(&mut self, ledger: LedgerId, entry: u32) -> Result<(), AllocError>
         ensures ok { OnOk result (self.new ≡ with_room self.old ledger entry) }
+        ensures room { OnOk result (entry < 64 * words_in self.new ledger) }
         ensures err { OnErr result (self.new ≡ self.old) }
     {
         let width = (entry / 64) as usize + 1;

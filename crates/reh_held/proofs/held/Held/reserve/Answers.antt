@@ -9,6 +9,7 @@ use Rattle.reh_held.specs.Tables.{TableValue, IsTable}
 use Rattle.reh_held.specs.Values.{HeldValue, words_in}
 use Rattle.reh_held.specs.Kept.{contents_of, words_of}
 use Rattle.reh_held.specs.declared.held.TheConstants.{MAX_TABLES}
+use Rattle.reh_held.proofs.HeldLaws.{words-found}
 use Rattle.reh_held.proofs.WrittenLaws.{written-kept, written-contents, written-words, insert-same, one_at_most}
 use Rattle.reh_held.proofs.held.Held.reserve.Goals as goal
 
@@ -43,3 +44,8 @@ returns-clause-ok c =
       bookies = (c.self.view_is i).bookies;
       words = (words ∙ (λ j. finite.insert (c.self.view_is j).words c.args.ledger (width j))) i;
     }
+
+pub returns-clause-room : goal.returns-clause-room
+returns-clause-room c =
+    let room = words-found c.insert.new.self.entries c.args.ledger c.in_ok-table.table (sym c.in_ok-insert.ensures.updates.1) in
+    omega (arith, room, c.in_ok-table.ensures.width)
