@@ -5,7 +5,7 @@ use Rattle.std.specs.List.{list_any, filter, range_with_len, AllByRecursion}
 use Rattle.std.specs.List.Sorted.{IsStrictlySortedBy}
 use Rattle.std.specs.Option.{IfSome}
 use Rattle.std.specs.declared.option.Option.{Option}
-use Rattle.std.specs.declared.option.Option.TheVariants.{None, Some}
+use Rattle.std.specs.declared.option.Option.TheVariants.{Some}
 use Rattle.std.specs.declared.cmp.Ordering.TheVariants.{Less}
 use Rattle.std.specs.Ordering.{nat_cmp, eq_by_cmp, is_eq}
 use Rattle.std.specs.Cmp.{unsigned_tied}
@@ -20,7 +20,7 @@ use Rattle.std.proofs.lemmas.List.Elements.{All-nil, All-cons, All-head, All-tai
 use Rattle.reh_types.specs.Sets as set
 use Rattle.reh_types.specs.Sets.{triples, triple_cmp, contains-from_list, from_list, items, empty}
 use Rattle.reh_types.proofs.BitLaws.{any_filtered}
-use Rattle.reh_model.specs.Contents.{Contents, count_held}
+use Rattle.reh_model.specs.Contents.{count_held}
 use Rattle.reh_model.proofs.ContentsLaws.{triples_tied, count_held-insert_new}
 use Rattle.reh_model.proofs.Ranges.{list_any-map, list_any-same}
 use Rattle.reh_held.specs.Rows.{is_set, entries_in}
@@ -48,18 +48,20 @@ either_is false b is = (refl, is)
 
 distinct-append : (ts us : List (ℕ × ℕ × ℕ)) → AreDistinct ts → AreDistinct us → ((t : ℕ × ℕ × ℕ) → list_any (eq_by_cmp triple_cmp t) ts ≡ true → IsNew t us) → AreDistinct (ts ++ us)
 distinct-append [] us ds es apart = es
-distinct-append (t ∷ ts) us ds es apart =
-    (list_any-append (eq_by_cmp triple_cmp t) ts us ∙ neither _ _ ds.0 (apart t (ap (λ b. b || list_any (eq_by_cmp triple_cmp t) ts) (itself t))),
-    distinct-append ts us ds.1 es (λ u among. apart u (later (eq_by_cmp triple_cmp u t) _ among))) where
-      itself : (t : ℕ × ℕ × ℕ) → eq_by_cmp triple_cmp t t ≡ true
-      itself t =
-          let first : nat_eq t.0 t.0 ≡ true = grind (arith, nat_tests) in
-          let second : nat_eq t.1 t.1 ≡ true = grind (arith, nat_tests) in
-          let third : nat_eq t.2 t.2 ≡ true = grind (arith, nat_tests) in
-          triples_tied t t ∙ (λ i. (first i && second i) && third i)
-      later : (a b : Bool) → b ≡ true → (a || b) ≡ true
-      later true b is = refl
-      later false b is = is
+distinct-append (t ∷ ts) us ds es apart = (
+  list_any-append (eq_by_cmp triple_cmp t) ts us ∙ neither _ _ ds.0 (apart t (ap (λ b. b || list_any (eq_by_cmp triple_cmp t) ts) (itself t))),
+  distinct-append ts us ds.1 es (λ u among. apart u (later (eq_by_cmp triple_cmp u t) _ among)),
+) where
+  itself : (t : ℕ × ℕ × ℕ) → eq_by_cmp triple_cmp t t ≡ true
+  itself t =
+      let first : nat_eq t.0 t.0 ≡ true = grind (arith, nat_tests) in
+      let second : nat_eq t.1 t.1 ≡ true = grind (arith, nat_tests) in
+      let third : nat_eq t.2 t.2 ≡ true = grind (arith, nat_tests) in
+      triples_tied t t ∙ (λ i. (first i && second i) && third i)
+
+  later : (a b : Bool) → b ≡ true → (a || b) ≡ true
+  later true b is = refl
+  later false b is = is
 
 -- the count of a set of such copies is their count
 count-distinct : (b : ℕ) (ts : List (ℕ × ℕ × ℕ)) → AreDistinct ts → count_held (set.from_list {o = triples} ts) b ≡ count_by (λ (t : ℕ × ℕ × ℕ). t.0 == b) ts
@@ -211,6 +213,7 @@ new-keys [] sorted = tt
 new-keys (l ∷ ls) sorted = (none l ls sorted.0, new-keys ls sorted.1) where
   differ : (a b : ℕ) → nat_cmp a b ≡ Less → nat_eq a b ≡ false
   differ a b lt = sym (unsigned_tied a b) ∙ ap is_eq lt
+
   none : (l : ℕ) (ls : List ℕ) → AllByRecursion (λ k. nat_cmp l k ≡ Less) ls → list_any (nat_eq l) ls ≡ false
   none l [] less = refl
   none l (k ∷ ls) less = neither (nat_eq l k) _ (differ l k less.0) (none l ls less.1)

@@ -1,13 +1,12 @@
 -- The greatest entry that is held, told by what is held.
-use Rattle.std.proofs.Common.{◌≡◌, ℕ, ◌<◌, ◌≤◌, Bool, true, false, cond, ◌&&◌, ◌||◌, List, [], ◌∷◌, zero, suc, map, get_or, refl, sym, ap, subst, ◌∙◌, arith, nat_eq, inl, inr}
+use Rattle.std.proofs.Common.{◌≡◌, ℕ, ◌≤◌, Bool, true, false, cond, ◌&&◌, ◌||◌, List, [], ◌∷◌, zero, suc, map, get_or, refl, sym, ap, ◌∙◌, arith, nat_eq, inl, inr}
 use Rattle.std.specs.Prelude.{◌==◌, max}
 use Rattle.std.specs.List.{list_any, filter, fold, reduce}
 use Rattle.std.specs.declared.option.Option.{Option}
 use Rattle.std.specs.declared.option.Option.TheVariants.{None, Some}
-use Rattle.std.specs.Ordering.{nat_cmp, eq_by_cmp}
+use Rattle.std.specs.Ordering.{eq_by_cmp}
 use Rattle.std.proofs.lemmas.Bool.{cases_lt}
 use Rattle.std.proofs.lemmas.Bool.Decides.{nat_tests}
-use Rattle.reh_types.specs.Sets as set
 use Rattle.reh_types.specs.Sets.{triple_cmp, contains-items, items}
 use Rattle.reh_model.specs.Contents.{Contents, has, IsHeld, greatest_held}
 use Rattle.reh_model.proofs.ContentsLaws.{triples_tied, greatest_held-reached}
@@ -21,13 +20,13 @@ or_true false b is = is
 -- the greatest of some entries is one of them
 of_two : (r x d : ℕ) (rest : Bool) → (nat_eq r (max x d) || rest) ≡ true → (nat_eq r x || (nat_eq r d || rest)) ≡ true
 of_two r x d rest is = elim (cases_lt x d) [
-      | inl lt ↦ let greater : max x d ≡ d = omega arith in or_true (nat_eq r x) (nat_eq r d || rest) (ap (λ n. nat_eq r n || rest) (sym greater) ∙ is)
-      | inr ge ↦ let greater : max x d ≡ x = omega arith in first (nat_eq r x) (nat_eq r d) rest (ap (λ n. nat_eq r n || rest) (sym greater) ∙ is)
-    ] where
-      first : (a b c : Bool) → (a || c) ≡ true → (a || (b || c)) ≡ true
-      first true b c is = refl
-      first false true c is = refl
-      first false false c is = is
+  | inl lt ↦ let greater : max x d ≡ d = omega arith in or_true (nat_eq r x) (nat_eq r d || rest) (ap (λ n. nat_eq r n || rest) (sym greater) ∙ is)
+  | inr ge ↦ let greater : max x d ≡ x = omega arith in first (nat_eq r x) (nat_eq r d) rest (ap (λ n. nat_eq r n || rest) (sym greater) ∙ is)
+] where
+  first : (a b c : Bool) → (a || c) ≡ true → (a || (b || c)) ≡ true
+  first true b c is = refl
+  first false true c is = refl
+  first false false c is = is
 
 fold-among : (x : ℕ) (es : List ℕ) → (nat_eq (fold max x es) x || list_any (nat_eq (fold max x es)) es) ≡ true
 fold-among x [] = let same : nat_eq x x ≡ true = grind (arith, nat_tests) in ap (λ b. b || false) same

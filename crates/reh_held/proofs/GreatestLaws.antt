@@ -1,5 +1,5 @@
 -- The highest bit of the last word that is not 0 is that of the row's greatest entry.
-use Rattle.std.proofs.Common.{◌≡◌, ◌||◌, [], ◌∷◌, take, ℕ, suc, ◌+◌, ◌-◌, ◌*◌, ◌/◌, ◌%◌, ◌<◌, ◌≤◌, ◌^◌, Bool, true, false, List, length, get_or, refl, sym, ap, ◌∙◌, arith, inl, inr}
+use Rattle.std.proofs.Common.{◌≡◌, ◌||◌, [], ◌∷◌, take, ℕ, suc, ◌+◌, ◌-◌, ◌*◌, ◌/◌, ◌%◌, ◌<◌, ◌≤◌, ◌^◌, Bool, false, List, length, get_or, sym, ap, ◌∙◌, arith, inl, inr}
 use Rattle.std.specs.Prelude.{◌==◌}
 use Rattle.std.specs.Int.{bit_at}
 use Rattle.std.specs.List.{list_any}
@@ -28,25 +28,26 @@ pub greatest_is : (words : List ℕ) (end w k : ℕ) → 0 < end → end ≤ len
 greatest_is words end w k some within read from below bound above =
     let top : ℕ = 64 * (end - 1) + k in
     let top_word : top / 64 ≡ end - 1 = omega arith in
-    let top_bit : top % 64 ≡ k = omega arith in
-    (ap (λ n. bit_at (get_or words n 0) (top % 64) == 1) top_word
-    ∙ ap (λ (v : ℕ). bit_at v (top % 64) == 1) (sym read)
-    ∙ ap (λ n. bit_at w n == 1) top_bit
-    ∙ ap (λ (b : ℕ). b == 1) (bit_top w k from below),
-    λ e passes. elim (cases_lt top e) [
-      | inl past ↦ elim (cases_lt e (64 * end)) [
-        | inl inside ↦
-            let word : e / 64 ≡ end - 1 = omega arith in
-            let bit : k + 1 ≤ e % 64 = omega arith in
-            let more : k + 1 ≡ suc k = omega arith in
-            let small : w < 2 ^ (k + 1) = rw (more, pow-suc 2 k) (omega arith) in
-            let off : is_set words e ≡ false =
-            ap (λ n. bit_at (get_or words n 0) (e % 64) == 1) word ∙ ap (λ (v : ℕ). bit_at v (e % 64) == 1) (sym read) ∙ ap (λ (b : ℕ). b == 1) (bit_at_above w (k + 1) (e % 64) small bit) in
-            absurd (false≢true (sym off ∙ passes))
-        | inr beyond ↦ absurd (false≢true (sym (above e beyond) ∙ passes))
-      ]
-      | inr reached ↦ reached
-    ])
+    let top_bit : top % 64 ≡ k = omega arith in (
+      ap (λ n. bit_at (get_or words n 0) (top % 64) == 1) top_word
+          ∙ ap (λ (v : ℕ). bit_at v (top % 64) == 1) (sym read)
+          ∙ ap (λ n. bit_at w n == 1) top_bit
+          ∙ ap (λ (b : ℕ). b == 1) (bit_top w k from below),
+      λ e passes. elim (cases_lt top e) [
+        | inl past ↦ elim (cases_lt e (64 * end)) [
+          | inl inside ↦
+              let word : e / 64 ≡ end - 1 = omega arith in
+              let bit : k + 1 ≤ e % 64 = omega arith in
+              let more : k + 1 ≡ suc k = omega arith in
+              let small : w < 2 ^ (k + 1) = rw (more, pow-suc 2 k) (omega arith) in
+              let off : is_set words e ≡ false =
+              ap (λ n. bit_at (get_or words n 0) (e % 64) == 1) word ∙ ap (λ (v : ℕ). bit_at v (e % 64) == 1) (sym read) ∙ ap (λ (b : ℕ). b == 1) (bit_at_above w (k + 1) (e % 64) small bit) in
+              absurd (false≢true (sym off ∙ passes))
+          | inr beyond ↦ absurd (false≢true (sym (above e beyond) ∙ passes))
+        ]
+        | inr reached ↦ reached
+      ],
+    )
 
 -- Over several rows
 

@@ -1,15 +1,14 @@
 -- The contents and the words of tables, by look-ups.
-use Rattle.std.proofs.Common.{◌≡◌, ◌≢◌, ℕ, zero, suc, ◌+◌, ◌-◌, ◌*◌, ◌/◌, ◌%◌, ◌<◌, ◌≤◌, Bool, true, false, cond, ◌&&◌, ◌||◌, List, [], ◌∷◌, ◌++◌, length, map, get_or, refl, sym, ap, subst, ◌∙◌, arith, nat_eq, nat_le, inl, inr}
-use Rattle.std.specs.Prelude.{◌==◌, slice_index_or}
-use Rattle.std.specs.List.{filter, list_any, range_with_len}
+use Rattle.std.proofs.Common.{◌≡◌, ℕ, suc, ◌+◌, ◌-◌, ◌*◌, ◌/◌, ◌%◌, ◌<◌, Bool, true, false, cond, ◌&&◌, ◌||◌, List, [], ◌∷◌, length, map, get_or, refl, sym, ap, subst, ◌∙◌, arith, nat_eq, nat_le, inl, inr}
+use Rattle.std.specs.Prelude.{◌==◌}
+use Rattle.std.specs.List.{list_any, range_with_len}
 use Rattle.std.specs.Int.{bit_at}
 use Rattle.std.specs.Option.{unwrap_or, option_map, IfSome}
 use Rattle.std.specs.declared.option.Option.{Option}
 use Rattle.std.specs.declared.option.Option.TheVariants.{None, Some}
 use Rattle.std.specs.Ordering.{nat_cmp, eq_by_cmp, is_eq}
 use Rattle.std.specs.Cmp.{unsigned_tied, nat_cmp_total}
-use Rattle.std.specs.BTreeMap.{is_at}
-use Rattle.std.specs.Map.{lookup, keys_of}
+use Rattle.std.specs.Map.{keys_of}
 use Rattle.std.specs.FinMap as finite
 use Rattle.std.specs.FinMap.{FinMap, find, same_map, get-from_entries, nat_cmp-IsAntisymmetric}
 use Rattle.std.proofs.lemmas.Bool.{cases_lt, cases_order}
@@ -17,15 +16,13 @@ use Rattle.std.proofs.lemmas.Bool.Decides.{nat_tests}
 use Rattle.std.proofs.lemmas.Nat.Bits.{bit_at-zero}
 use Rattle.std.proofs.lemmas.List.{get_or_past}
 use Rattle.std.proofs.lemmas.List.Folds.{list_any-append}
-use Rattle.reh_types.specs.Sets as set
 use Rattle.reh_types.specs.Sets.{triples, triple_cmp, contains-from_list, same_set}
-use Rattle.reh_types.proofs.BitLaws.{any_filtered, in_range, and_true, and_false}
+use Rattle.reh_types.proofs.BitLaws.{any_filtered, in_range, and_true}
 use Rattle.reh_model.specs.Contents.{Contents, has}
 use Rattle.reh_model.proofs.ContentsLaws.{triples_tied}
 use Rattle.reh_model.proofs.Ranges.{list_any-map, list_any-same}
 use Rattle.reh_held.specs.Rows.{is_set, entries_in}
 use Rattle.reh_held.specs.Tables.{TableValue, row_at, IsTable}
-use Rattle.reh_held.specs.Values.{HeldValue}
 use Rattle.reh_held.specs.Kept.{table_at, rows_in, row_of, copies_from, copies_in, contents_of, words_of}
 
 pub no_entry : (e : ℕ) → is_set [] e ≡ false
@@ -109,9 +106,9 @@ held_after first bookie entry row rows gt =
 held_more : (first bookie entry : ℕ) (row : List ℕ) (rows : List (List ℕ))
     → ((nat_eq bookie first && is_set row entry) || held_from (first + 1) rows bookie entry) ≡ held_from first (row ∷ rows) bookie entry
 held_more first bookie entry row rows = elim (cases_order bookie first) [
-      | inl is ↦ held_here first bookie entry row rows is
-      | inr apart ↦ elim apart [ inl lt ↦ held_before first bookie entry row rows lt | inr gt ↦ held_after first bookie entry row rows gt ]
-    ]
+  | inl is ↦ held_here first bookie entry row rows is
+  | inr apart ↦ elim apart [ inl lt ↦ held_before first bookie entry row rows lt | inr gt ↦ held_after first bookie entry row rows gt ]
+]
 
 both_or : (a b c : Bool) → ((a && b) || (a && c)) ≡ (a && (b || c))
 both_or true b c = refl

@@ -36,12 +36,12 @@ bits_to high i within inside =
 
 same_le : (a b c d : ℕ) → (a ≤ b → c ≤ d) → (c ≤ d → a ≤ b) → nat_le a b ≡ nat_le c d
 same_le a b c d there back = elim (cases_lt b a) [
-      | inl past ↦ elim (cases_lt d c) [
-        | inl off ↦ let no : nat_le a b ≡ false = grind (arith, nat_tests) in let none : nat_le c d ≡ false = grind (arith, nat_tests) in no ∙ sym none
-        | inr on ↦ let is : a ≤ b = back on in absurd (omega arith)
-      ]
-      | inr reached ↦ let is : c ≤ d = there reached in let yes : nat_le a b ≡ true = grind (arith, nat_tests) in let one : nat_le c d ≡ true = grind (arith, nat_tests) in yes ∙ sym one
-    ]
+  | inl past ↦ elim (cases_lt d c) [
+    | inl off ↦ let no : nat_le a b ≡ false = grind (arith, nat_tests) in let none : nat_le c d ≡ false = grind (arith, nat_tests) in no ∙ sym none
+    | inr on ↦ let is : a ≤ b = back on in absurd (omega arith)
+  ]
+  | inr reached ↦ let is : c ≤ d = there reached in let yes : nat_le a b ≡ true = grind (arith, nat_tests) in let one : nat_le c d ≡ true = grind (arith, nat_tests) in yes ∙ sym one
+]
 
 pub mask-bits : (number first last i : ℕ) → first < 64 * number + 64 → 64 * number ≤ last → i < 64
     → (bit_at (bit_and ((2 ^ 64 - 1) * 2 ^ (first - 64 * number) % 2 ^ 64) ((2 ^ 64 - 1) / 2 ^ (63 - min (last - 64 * number) 63))) i == 1) ≡ is_between first last (64 * number + i)
@@ -116,29 +116,29 @@ pub filling-more : (before now : List ℕ) (first last number m w : ℕ) → num
 filling-more before now first last number m w within read mask filling = record {
   width = length-set now number (bit_or w m) ∙ filling.width;
   bits = λ e.
-  is_set-or now number m w within read e
-  ∙ (λ i. (nat_eq (e / 64) number && (bit_at m (e % 64) == 1)) || filling.bits e i)
-  ∙ elim (cases_order (e / 64) number) [
-    | inl is ↦
-        let here : nat_eq (e / 64) number ≡ true = grind (arith, nat_tests) in
-        let before_it : nat_lt (e / 64) number ≡ false = grind (arith, nat_tests) in
-        let next : nat_lt (e / 64) (number + 1) ≡ true = grind (arith, nat_tests) in
-        let place : 64 * number + e % 64 ≡ e = omega arith in
-        (λ i. (here i && (mask (e % 64) (omega arith) ∙ ap (is_between first last) place) i) || ((before_it i && is_between first last e) || is_set before e))
-        ∙ sym (ap (λ b. (b && is_between first last e) || is_set before e) next)
-    | inr apart ↦ elim apart [
-      | inl lt ↦
-          let here : nat_eq (e / 64) number ≡ false = grind (arith, nat_tests) in
-          let before_it : nat_lt (e / 64) number ≡ true = grind (arith, nat_tests) in
-          let next : nat_lt (e / 64) (number + 1) ≡ true = grind (arith, nat_tests) in
-          (λ i. (here i && (bit_at m (e % 64) == 1)) || ((before_it i && is_between first last e) || is_set before e))
-          ∙ sym (ap (λ b. (b && is_between first last e) || is_set before e) next)
-      | inr gt ↦
-          let here : nat_eq (e / 64) number ≡ false = grind (arith, nat_tests) in
-          let before_it : nat_lt (e / 64) number ≡ false = grind (arith, nat_tests) in
-          let next : nat_lt (e / 64) (number + 1) ≡ false = grind (arith, nat_tests) in
-          (λ i. (here i && (bit_at m (e % 64) == 1)) || ((before_it i && is_between first last e) || is_set before e))
-          ∙ sym (ap (λ b. (b && is_between first last e) || is_set before e) next)
-    ]
-  ];
+      is_set-or now number m w within read e
+      ∙ (λ i. (nat_eq (e / 64) number && (bit_at m (e % 64) == 1)) || filling.bits e i)
+      ∙ elim (cases_order (e / 64) number) [
+        | inl is ↦
+            let here : nat_eq (e / 64) number ≡ true = grind (arith, nat_tests) in
+            let before_it : nat_lt (e / 64) number ≡ false = grind (arith, nat_tests) in
+            let next : nat_lt (e / 64) (number + 1) ≡ true = grind (arith, nat_tests) in
+            let place : 64 * number + e % 64 ≡ e = omega arith in
+            (λ i. (here i && (mask (e % 64) (omega arith) ∙ ap (is_between first last) place) i) || ((before_it i && is_between first last e) || is_set before e))
+            ∙ sym (ap (λ b. (b && is_between first last e) || is_set before e) next)
+        | inr apart ↦ elim apart [
+          | inl lt ↦
+              let here : nat_eq (e / 64) number ≡ false = grind (arith, nat_tests) in
+              let before_it : nat_lt (e / 64) number ≡ true = grind (arith, nat_tests) in
+              let next : nat_lt (e / 64) (number + 1) ≡ true = grind (arith, nat_tests) in
+              (λ i. (here i && (bit_at m (e % 64) == 1)) || ((before_it i && is_between first last e) || is_set before e))
+              ∙ sym (ap (λ b. (b && is_between first last e) || is_set before e) next)
+          | inr gt ↦
+              let here : nat_eq (e / 64) number ≡ false = grind (arith, nat_tests) in
+              let before_it : nat_lt (e / 64) number ≡ false = grind (arith, nat_tests) in
+              let next : nat_lt (e / 64) (number + 1) ≡ false = grind (arith, nat_tests) in
+              (λ i. (here i && (bit_at m (e % 64) == 1)) || ((before_it i && is_between first last e) || is_set before e))
+              ∙ sym (ap (λ b. (b && is_between first last e) || is_set before e) next)
+        ]
+      ];
 }

@@ -1,5 +1,5 @@
 -- The turns between two rows of words make the one the other.
-use Rattle.std.proofs.Common.{◌≡◌, ◌≢◌, ℕ, zero, suc, ◌+◌, ◌-◌, ◌*◌, ◌/◌, ◌%◌, ◌<◌, ◌≤◌, Bool, true, false, cond, ◌&&◌, List, [], ◌∷◌, length, get_or, refl, sym, ap, subst, ◌∙◌, arith, nat_eq, nat_lt, inl, inr}
+use Rattle.std.proofs.Common.{◌≡◌, ◌≢◌, ℕ, suc, ◌+◌, ◌-◌, ◌/◌, ◌%◌, ◌<◌, ◌≤◌, Bool, true, false, cond, ◌&&◌, List, [], ◌∷◌, length, get_or, refl, sym, ap, ◌∙◌, arith, nat_eq, nat_lt, inl, inr}
 use Rattle.std.specs.Prelude.{◌==◌, bit_xor, if◌then◌else◌, All}
 use Rattle.std.specs.Int.{bit_at}
 use Rattle.std.specs.Int.Bits.{xor_self, xor_zero_l, xor_zero_r, xor_assoc}
@@ -9,8 +9,8 @@ use Rattle.std.proofs.lemmas.Bool.{cases_order}
 use Rattle.std.proofs.lemmas.Bool.Decides.{nat_tests}
 use Rattle.std.proofs.lemmas.List.Elements.{All-nil, All-cons}
 use Rattle.reh_held.specs.declared.turns.Turn.{Turn}
-use Rattle.reh_held.specs.Rows.{is_set, is_in_word, one_of}
-use Rattle.reh_held.specs.RowTurns.{is_turned, AreRising, ArePlaces, IsRowTurning, turns_between}
+use Rattle.reh_held.specs.Rows.{is_set, one_of}
+use Rattle.reh_held.specs.RowTurns.{is_turned, AreRising, IsRowTurning, turns_between}
 use Rattle.reh_held.proofs.RowLaws.{bit_turns, one_of-false}
 
 same_or_not : (v u : ℕ) (P : Bool → Type 0) → (v ≡ u → P true) → (v ≢ u → P false) → P (v == u)

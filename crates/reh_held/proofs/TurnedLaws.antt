@@ -1,5 +1,5 @@
 -- Contents with bits of a bookie's words turned.
-use Rattle.std.proofs.Common.{◌≡◌, ◌≢◌, ℕ, ◌+◌, ◌*◌, ◌/◌, ◌%◌, ◌<◌, ◌≤◌, Bool, true, false, ◌&&◌, ◌||◌, List, [], ◌∷◌, ◌++◌, length, take, get_or, refl, sym, ap, ◌∙◌, arith, nat_eq}
+use Rattle.std.proofs.Common.{◌≡◌, ◌≢◌, ℕ, ◌+◌, ◌*◌, ◌/◌, ◌<◌, ◌≤◌, Bool, true, false, ◌&&◌, ◌||◌, List, [], ◌∷◌, ◌++◌, length, take, get_or, refl, sym, ap, ◌∙◌, arith, nat_eq}
 use Rattle.std.specs.Prelude.{not, All}
 use Rattle.std.proofs.lemmas.List.{take_more}
 use Rattle.std.proofs.lemmas.List.Elements.{All-nil, All-head}
@@ -15,8 +15,8 @@ use Rattle.reh_model.proofs.ContentsLaws.{has-copies_of, has-union-copies_of, un
 use Rattle.reh_model.proofs.Ranges.{list_any-same}
 use Rattle.reh_held.specs.declared.turns.Turn.{Turn}
 use Rattle.reh_held.specs.Rows.{is_set, is_in_word, word_entries, one_of}
-use Rattle.reh_held.specs.RowTurns.{is_turned, IsRowTurning, ArePlaces}
-use Rattle.reh_held.specs.Turns.{flipped, turned, turned_all, IsTurning}
+use Rattle.reh_held.specs.RowTurns.{is_turned, ArePlaces}
+use Rattle.reh_held.specs.Turns.{turned, turned_all, IsTurning}
 
 -- the numbers of a range that pass a test which none outside passes
 any-passing : (p : ℕ → Bool) (a n e : ℕ) → (p e ≡ true → (a ≤ e) × (e < a + n)) → list_any (nat_eq e) (filter p (range_with_len a n)) ≡ p e
@@ -97,19 +97,19 @@ pub turning-from_row : (s : Contents) (words bookie ledger : ℕ) (row : List �
 turning-from_row s words bookie ledger row entries turns is places makes = record {
   places = places;
   makes = same_set (turned_all s bookie ledger turns) (set.union s (copies_of bookie ledger entries)) (λ t.
-  let place : Bool = nat_eq t.0 bookie && nat_eq t.1 ledger in
-  let held : Bool = has s t.0 t.1 t.2 in
-  has-turned_all s bookie ledger turns t.0 t.1 t.2
-  ∙ elim place as (λ b. place ≡ b → one_of held (b && is_turned turns t.2) ≡ (held || (b && list_any (nat_eq t.2) entries))) [
-    | true ↦ λ here.
-        let same = both_true (nat_eq t.0 bookie) (nat_eq t.1 ledger) here in
-        let first : t.0 ≡ bookie = grind (arith, nat_tests, same.0) in
-        let second : t.1 ≡ ledger = grind (arith, nat_tests, same.1) in
-        let row_has : held ≡ is_set row t.2 = (λ i. has s (first i) (second i) t.2) ∙ is t.2 in
-        ap (λ h. one_of h (is_turned turns t.2)) row_has ∙ makes t.2 ∙ ap (λ h. h || list_any (nat_eq t.2) entries) (sym row_has)
-    | false ↦ λ differ. sym (one_of-none held false) ∙ (λ i. either held i)
-  ] refl
-  ∙ sym (has-union-copies_of s bookie ledger entries t.0 t.1 t.2));
+      let place : Bool = nat_eq t.0 bookie && nat_eq t.1 ledger in
+      let held : Bool = has s t.0 t.1 t.2 in
+      has-turned_all s bookie ledger turns t.0 t.1 t.2
+      ∙ elim place as (λ b. place ≡ b → one_of held (b && is_turned turns t.2) ≡ (held || (b && list_any (nat_eq t.2) entries))) [
+        | true ↦ λ here.
+            let same = both_true (nat_eq t.0 bookie) (nat_eq t.1 ledger) here in
+            let first : t.0 ≡ bookie = grind (arith, nat_tests, same.0) in
+            let second : t.1 ≡ ledger = grind (arith, nat_tests, same.1) in
+            let row_has : held ≡ is_set row t.2 = (λ i. has s (first i) (second i) t.2) ∙ is t.2 in
+            ap (λ h. one_of h (is_turned turns t.2)) row_has ∙ makes t.2 ∙ ap (λ h. h || list_any (nat_eq t.2) entries) (sym row_has)
+        | false ↦ λ differ. sym (one_of-none held false) ∙ (λ i. either held i)
+      ] refl
+      ∙ sym (has-union-copies_of s bookie ledger entries t.0 t.1 t.2));
 } where
   either : (held : Bool) → held ≡ (held || false)
   either true = refl

@@ -20,7 +20,7 @@ use Rattle.reh_model.proofs.ContentsLaws.{has-insert, has-union-copies_of}
 use Rattle.reh_held.specs.Rows.{is_set, is_between, is_in_word, one_of}
 use Rattle.reh_held.specs.Tables.{TableValue, row_at, IsTable}
 use Rattle.reh_held.specs.Values.{HeldValue, words_in, with_room}
-use Rattle.reh_held.specs.Kept.{table_at, rows_in, row_of, contents_of, words_of}
+use Rattle.reh_held.specs.Kept.{table_at, rows_in, contents_of, words_of}
 use Rattle.reh_held.specs.Turns.{turned}
 use Rattle.reh_held.proofs.HeldLaws.{contents_is, words_is, has-contents, get-words}
 use Rattle.reh_held.proofs.TurnedLaws.{has-turned}
@@ -76,9 +76,9 @@ any-range first last e =
 
 pub turn_round : (a b : ℕ) → nat_eq a b ≡ nat_eq b a
 turn_round a b = elim (nat_eq b a) as (λ t. nat_eq b a ≡ t → nat_eq a b ≡ t) [
-      | true ↦ λ yes. let same : b ≡ a = grind (arith, nat_tests, yes) in grind (arith, nat_tests)
-      | false ↦ λ differ. grind (arith, nat_tests, differ)
-    ] refl
+  | true ↦ λ yes. let same : b ≡ a = grind (arith, nat_tests, yes) in grind (arith, nat_tests)
+  | false ↦ λ differ. grind (arith, nat_tests, differ)
+] refl
 
 module _ (before after : List (ℕ × TableValue)) (ledger : ℕ) (table : TableValue) (written : IsWritten before after ledger table) where
   table-written : (l : ℕ) → table_at after l ≡ cond (nat_eq l ledger) (Some table) (table_at before l)
@@ -87,9 +87,9 @@ module _ (before after : List (ℕ × TableValue)) (ledger : ℕ) (table : Table
   -- a ledger's own facts, and those of the others
   at_each : (P : ℕ → Option TableValue → Type 0) → P ledger (Some table) → ((l : ℕ) → P l (table_at before l)) → (l : ℕ) → P l (table_at after l)
   at_each P here others l = subst (P l) (sym (table-written l)) (elim (nat_eq l ledger) as (λ b. nat_eq l ledger ≡ b → P l (cond b (Some table) (table_at before l))) [
-      | true ↦ λ yes. let same : ledger ≡ l = grind (arith, nat_tests, yes) in subst (λ k. P k (Some table)) same here
-      | false ↦ λ _. others l
-    ] refl)
+    | true ↦ λ yes. let same : ledger ≡ l = grind (arith, nat_tests, yes) in subst (λ k. P k (Some table)) same here
+    | false ↦ λ _. others l
+  ] refl)
 
   pub written-kept : (bookies : ℕ) → IsTable bookies table → ((l : ℕ) → IfSome (table_at before l) (IsTable bookies)) → (l : ℕ) → IfSome (table_at after l) (IsTable bookies)
   written-kept bookies is kept = at_each (λ l o. IfSome o (IsTable bookies)) is kept
@@ -126,9 +126,11 @@ module _ (before after : List (ℕ × TableValue)) (ledger : ℕ) (table : Table
       ∙ ap (λ t. ((nat_eq b bookie && t) && nat_eq e entry) || has (contents_of before) b l e) differ ∙ one_false (nat_eq b bookie) (nat_eq e entry) (has (contents_of before) b l e))) where
         itself : (n : ℕ) → nat_eq n n ≡ true
         itself n = grind (arith, nat_tests)
+
         one_true : (a c d : Bool) → (((a && true) && c) || d) ≡ ((a && c) || d)
         one_true true c d = refl
         one_true false c d = refl
+
         one_false : (a c d : Bool) → (((a && false) && c) || d) ≡ d
         one_false true c d = refl
         one_false false c d = refl
@@ -145,9 +147,11 @@ module _ (before after : List (ℕ × TableValue)) (ledger : ℕ) (table : Table
       ∙ none_turned (has (contents_of before) b l e) (nat_eq b bookie) (is_in_word number bits e))) where
         itself : (n : ℕ) → nat_eq n n ≡ true
         itself n = grind (arith, nat_tests)
+
         with_true : (a : Bool) → (a && true) ≡ a
         with_true true = refl
         with_true false = refl
+
         none_turned : (h a c : Bool) → one_of h ((a && false) && c) ≡ h
         none_turned true true c = refl
         none_turned true false c = refl
@@ -168,14 +172,17 @@ module _ (before after : List (ℕ × TableValue)) (ledger : ℕ) (table : Table
       ∙ none_more (has (contents_of before) b l e) (nat_eq b bookie) (list_any (nat_eq e) (range_with_len first (last + 1 - first))))) where
         itself : (n : ℕ) → nat_eq n n ≡ true
         itself n = grind (arith, nat_tests)
+
         with_true : (a : Bool) → (a && true) ≡ a
         with_true true = refl
         with_true false = refl
+
         either_round : (a b : Bool) → (a || b) ≡ (b || a)
         either_round true true = refl
         either_round true false = refl
         either_round false true = refl
         either_round false false = refl
+
         none_more : (h a c : Bool) → (h || ((a && false) && c)) ≡ h
         none_more true a c = refl
         none_more false true c = refl

@@ -1,5 +1,5 @@
 -- What becomes of contents as bits of a bookie's words turn.
-use Rattle.std.specs.Prelude.{◌≡◌, ℕ, Bool, not, ◌&&◌, List, [], ◌∷◌}
+use Rattle.std.specs.Prelude.{◌≡◌, ℕ, not, ◌&&◌, List, [], ◌∷◌}
 use Rattle.reh_types.specs.Sets as set
 use Rattle.reh_model.specs.Contents.{Contents, copies_of}
 use Rattle.reh_held.specs.declared.turns.Turn.{Turn}

@@ -146,8 +146,10 @@ impl Held {
     pub fn add_range(&mut self, bookie: BookieIx, ledger: LedgerId, first: u32, last: u32)
         requires bookie { bookie < self.old.bookies }
         requires last { last < 64 * words_in self.old ledger }
-        ensures { self.new ≡ record self.old { contents = set.union self.old.contents
-            (copies_of bookie ledger (range_with_len first (last + 1 - first))) } }
+        ensures { self.new ≡ record self.old {
+          contents = set.union self.old.contents
+              (copies_of bookie ledger (range_with_len first (last + 1 - first)));
+        } }
     {
         match self.tables.get_mut(&ledger) {
             Some(table) => table.insert_range(bookie, first, last),
@@ -181,7 +183,12 @@ impl Held {
 
     /// The turns after which the bookie holds these entries of the ledger too: for each word in which that changes
     /// something, its number and the bits that change. The entries are among those that the ledger's words stand for.
-    pub fn delta_of(&self, bookie: BookieIx, ledger: LedgerId, entries: &[u32]) -> Result<Vec<Turn>, AllocError>
+    pub fn delta_of(
+        &self,
+        bookie: BookieIx,
+        ledger: LedgerId,
+        entries: &[u32],
+    ) -> Result<Vec<Turn>, AllocError>
         requires bookie { bookie < self.now.bookies }
         requires entries { All (λ e. e < 64 * words_in self.now ledger) entries.now }
         ensures { IfOk result (λ turns. IsTurning (words_in self.now ledger) bookie ledger self.now.contents
@@ -263,7 +270,11 @@ mod tests {
             assert_eq!(rt; held.count(BookieIx(bookie)), count, "bookie {bookie}");
         }
         for (ledger, greatest) in [(7, Some(4)), (8, None), (9, Some(64))] {
-            assert_eq!(rt; held.greatest(LedgerId(ledger)), greatest, "ledger {ledger}");
+            assert_eq!(rt;
+                held.greatest(LedgerId(ledger)),
+                greatest,
+                "ledger {ledger}"
+            );
         }
         for (ledger, words) in [(7, 1), (8, 0), (9, 2)] {
             assert_eq!(rt; held.words(LedgerId(ledger)), words, "ledger {ledger}");
@@ -280,7 +291,14 @@ mod tests {
         held.reserve(ledger, 4)?;
         held.add_range(bookie, ledger, 3, 3);
         let turns = held.delta_of(bookie, ledger, &[0, 1, 3, 4])?;
-        assert_eq!(rt; turns.as_slice(), [Turn { number: 0, bits: 19 }].as_slice());
+        assert_eq!(rt;
+            turns.as_slice(),
+            [Turn {
+                number: 0,
+                bits: 19
+            }]
+            .as_slice()
+        );
 
         held.toggle_all(bookie, ledger, &turns);
         assert_eq!(rt; held.row(bookie, ledger), [27].as_slice());

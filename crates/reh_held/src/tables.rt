@@ -128,7 +128,12 @@ impl Table {
     }
 
     /// The turns after which the bookie's row has these entries too.
-    pub(crate) fn delta_of(&self, alloc: Global, bookie: BookieIx, entries: &[u32]) -> Result<Vec<Turn>, AllocError>
+    pub(crate) fn delta_of(
+        &self,
+        alloc: Global,
+        bookie: BookieIx,
+        entries: &[u32],
+    ) -> Result<Vec<Turn>, AllocError>
         requires table { IsTable (length self.now.rows) self.now }
         requires bookie { bookie < length self.now.rows }
         requires entries { All (λ e. e < 64 * self.now.width) entries.now }

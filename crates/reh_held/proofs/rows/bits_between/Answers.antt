@@ -1,5 +1,5 @@
 -- The bits from the first entry on, and those to the last.
-use Rattle.std.proofs.Common.{◌≡◌, ◌-◌, ◌*◌, ◌/◌, ◌%◌, ◌^◌, ℕ, ◌∙◌}
+use Rattle.std.proofs.Common.{◌≡◌, ◌-◌, ◌*◌, ◌/◌, ◌%◌, ◌^◌, ◌∙◌}
 use Rattle.std.specs.Prelude.{◌==◌, bit_and, min}
 use Rattle.std.specs.Int.{bit_at}
 use Rattle.reh_held.proofs.RangeLaws.{mask-bits}

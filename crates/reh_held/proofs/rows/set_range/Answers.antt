@@ -1,5 +1,5 @@
 -- One word more has the bits of the range.
-use Rattle.std.proofs.Common.{◌≡◌, ◌<◌, ℕ, List, length, arith}
+use Rattle.std.proofs.Common.{◌<◌, ℕ, List, length, arith}
 use Rattle.reh_held.proofs.RangeLaws.{filling-more}
 use Rattle.reh_held.proofs.rows.set_range.Goals as goal
 

@@ -1,5 +1,5 @@
 -- The rows have room for the entry.
-use Rattle.std.proofs.Common.{◌≡◌, ℕ, ap, ◌∙◌, arith}
+use Rattle.std.proofs.Common.{ap, ◌∙◌, arith}
 use Rattle.reh_held.specs.Values.{HeldValue, words_in}
 use Rattle.reh_held.proofs.WrittenLaws.{words-with_room}
 use Rattle.reh_held.proofs.held.Held.add.Goals as goal

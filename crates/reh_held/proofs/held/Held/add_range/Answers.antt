@@ -1,5 +1,5 @@
 -- The bits of a range are set in the ledger's table.
-use Rattle.std.proofs.Common.{◌≡◌, ◌<◌, ◌≤◌, ◌+◌, ◌-◌, ◌&&◌, ◌||◌, ℕ, List, nat_eq, refl, sym, ap, subst, ◌∙◌, arith}
+use Rattle.std.proofs.Common.{◌≤◌, ◌+◌, ◌-◌, ◌&&◌, ◌||◌, ℕ, List, nat_eq, refl, sym, ap, subst, ◌∙◌, arith}
 use Rattle.std.specs.Option.{IsSome}
 use Rattle.std.specs.List.{range_with_len}
 use Rattle.reh_types.specs.Sets as set
@@ -30,41 +30,41 @@ insert_range-requires-clause-last c =
 
 pub invariant_of-self : goal.invariant_of-self
 invariant_of-self c = elim c.match-get_mut.branch [
-      | in-Some w ↦
-          let tables : List (ℕ × TableValue) = c.self.inside.tables.entries in
-          let found = w.in-Some.ensures.value in
-          let h = c.get_mut.follows.holds w.insert_range.new.self in
-          let table = kept_table tables c.args.ledger w.in-Some.table.now c.self.invariant.tables found in
-          let still : IsTable c.self.inside.bookies w.insert_range.new.self = subst (λ n. IsTable n w.insert_range.new.self) table.size w.insert_range.ensures.table in
-          subst IsKept (sym w.self-inside-is) (record {
-            few = subst (λ n. n ≤ MAX_TABLES) (sym h.2) c.self.invariant.few;
-            tables = written-kept tables (c.get_mut.follows.lender w.insert_range.new.self).entries c.args.ledger w.insert_range.new.self (h.3 (subst IsSome found refl)).0 c.self.inside.bookies still c.self.invariant.tables;
-          })
-      | in-None w ↦
-          let within = rw (← c.self.view_is) at c.requires.last in
-          absurd (omega (arith, words-none c.self.inside.tables.entries c.args.ledger w.in-None.ensures.value))
-    ]
+  | in-Some w ↦
+      let tables : List (ℕ × TableValue) = c.self.inside.tables.entries in
+      let found = w.in-Some.ensures.value in
+      let h = c.get_mut.follows.holds w.insert_range.new.self in
+      let table = kept_table tables c.args.ledger w.in-Some.table.now c.self.invariant.tables found in
+      let still : IsTable c.self.inside.bookies w.insert_range.new.self = subst (λ n. IsTable n w.insert_range.new.self) table.size w.insert_range.ensures.table in
+      subst IsKept (sym w.self-inside-is) (record {
+        few = subst (λ n. n ≤ MAX_TABLES) (sym h.2) c.self.invariant.few;
+        tables = written-kept tables (c.get_mut.follows.lender w.insert_range.new.self).entries c.args.ledger w.insert_range.new.self (h.3 (subst IsSome found refl)).0 c.self.inside.bookies still c.self.invariant.tables;
+      })
+  | in-None w ↦
+      let within = rw (← c.self.view_is) at c.requires.last in
+      absurd (omega (arith, words-none c.self.inside.tables.entries c.args.ledger w.in-None.ensures.value))
+]
 
 pub returns : goal.returns
 returns c = elim c.match-get_mut.branch [
-      | in-Some w ↦
-          let tables : List (ℕ × TableValue) = c.self.inside.tables.entries in
-          let after : List (ℕ × TableValue) = (c.get_mut.follows.lender w.insert_range.new.self).entries in
-          let found = w.in-Some.ensures.value in
-          let h = c.get_mut.follows.holds w.insert_range.new.self in
-          let written = (h.3 (subst IsSome found refl)).0 in
-          let entries : List ℕ = range_with_len c.args.first (c.args.last + 1 - c.args.first) in
-          let contents = written-range tables after c.args.ledger w.insert_range.new.self written c.args.bookie c.args.first c.args.last (λ b e.
-          w.insert_range.ensures.bits b e
-          ∙ ap (λ was. (nat_eq b c.args.bookie && is_between c.args.first c.args.last e) || was) (sym (has-found tables b c.args.ledger e w.in-Some.table.now found))) in
-          let words = written-same_words tables after c.args.ledger w.insert_range.new.self written w.in-Some.table.now found w.insert_range.ensures.width in
-          ap held_of w.self-inside-is
-          ∙ (λ i. record {
-            contents = (contents ∙ ap (λ (v : HeldValue). set.union v.contents (copies_of c.args.bookie c.args.ledger entries)) c.self.view_is) i;
-            bookies = (c.self.view_is i).bookies;
-            words = (words ∙ ap (λ (v : HeldValue). v.words) c.self.view_is) i;
-          })
-      | in-None w ↦
-          let within = rw (← c.self.view_is) at c.requires.last in
-          absurd (omega (arith, words-none c.self.inside.tables.entries c.args.ledger w.in-None.ensures.value))
-    ]
+  | in-Some w ↦
+      let tables : List (ℕ × TableValue) = c.self.inside.tables.entries in
+      let after : List (ℕ × TableValue) = (c.get_mut.follows.lender w.insert_range.new.self).entries in
+      let found = w.in-Some.ensures.value in
+      let h = c.get_mut.follows.holds w.insert_range.new.self in
+      let written = (h.3 (subst IsSome found refl)).0 in
+      let entries : List ℕ = range_with_len c.args.first (c.args.last + 1 - c.args.first) in
+      let contents = written-range tables after c.args.ledger w.insert_range.new.self written c.args.bookie c.args.first c.args.last (λ b e.
+      w.insert_range.ensures.bits b e
+      ∙ ap (λ was. (nat_eq b c.args.bookie && is_between c.args.first c.args.last e) || was) (sym (has-found tables b c.args.ledger e w.in-Some.table.now found))) in
+      let words = written-same_words tables after c.args.ledger w.insert_range.new.self written w.in-Some.table.now found w.insert_range.ensures.width in
+      ap held_of w.self-inside-is
+      ∙ (λ i. record {
+        contents = (contents ∙ ap (λ (v : HeldValue). set.union v.contents (copies_of c.args.bookie c.args.ledger entries)) c.self.view_is) i;
+        bookies = (c.self.view_is i).bookies;
+        words = (words ∙ ap (λ (v : HeldValue). v.words) c.self.view_is) i;
+      })
+  | in-None w ↦
+      let within = rw (← c.self.view_is) at c.requires.last in
+      absurd (omega (arith, words-none c.self.inside.tables.entries c.args.ledger w.in-None.ensures.value))
+]

@@ -1,5 +1,5 @@
 -- The turns of the bookie's row.
-use Rattle.std.proofs.Common.{◌≡◌, ◌<◌, ◌*◌, ◌∙◌, ℕ, List, [], sym, ap, subst, arith}
+use Rattle.std.proofs.Common.{◌<◌, ◌*◌, ◌∙◌, ℕ, List, sym, ap, subst, arith}
 use Rattle.std.specs.Prelude.{All}
 use Rattle.reh_types.specs.Sets as set
 use Rattle.reh_model.specs.Contents.{copies_of}

@@ -1,5 +1,5 @@
 -- The greatest entry whose bit is set in a row of the ledger.
-use Rattle.std.proofs.Common.{◌≡◌, ℕ, List, false, refl, sym, ap, ◌∙◌}
+use Rattle.std.proofs.Common.{ℕ, List, false, refl, sym, ap, ◌∙◌}
 use Rattle.std.specs.List.{list_any}
 use Rattle.std.specs.declared.option.Option.TheVariants.{None}
 use Rattle.reh_model.specs.Contents.{greatest_held}

@@ -1,14 +1,10 @@
 -- One table is written, with what was held.
-use Rattle.std.proofs.Common.{◌≡◌, ◌+◌, ◌/◌, ◌<◌, ◌≤◌, ℕ, List, sym, refl, ap, subst, ◌∙◌, arith}
+use Rattle.std.proofs.Common.{◌≡◌, ◌+◌, ◌/◌, ◌≤◌, ℕ, List, sym, ap, subst, ◌∙◌, arith}
 use Rattle.std.specs.Prelude.{max}
-use Rattle.std.specs.Option.{unwrap_or}
 use Rattle.std.specs.FinMap as finite
-use Rattle.std.specs.FinMap.{FinMap}
 use Rattle.reh_model.specs.Contents.{has}
 use Rattle.reh_held.specs.Tables.{TableValue, IsTable}
 use Rattle.reh_held.specs.Values.{HeldValue, words_in}
-use Rattle.reh_held.specs.Kept.{contents_of, words_of}
-use Rattle.reh_held.specs.declared.held.TheConstants.{MAX_TABLES}
 use Rattle.reh_held.proofs.HeldLaws.{words-found}
 use Rattle.reh_held.proofs.WrittenLaws.{written-kept, written-contents, written-words, insert-same, one_at_most}
 use Rattle.reh_held.proofs.held.Held.reserve.Goals as goal

@@ -1,5 +1,5 @@
 -- The row of the ledger's table.
-use Rattle.std.proofs.Common.{◌≡◌, ◌<◌, ℕ, List, sym, ap, ◌∙◌}
+use Rattle.std.proofs.Common.{◌<◌, ℕ, List, sym, ap, ◌∙◌}
 use Rattle.reh_model.specs.Contents.{has}
 use Rattle.reh_held.specs.Rows.{is_set}
 use Rattle.reh_held.specs.Tables.{TableValue}

@@ -1,5 +1,5 @@
 -- Entry 4 has a bit, and so have those before it.
-use Rattle.std.proofs.Common.{◌≡◌, ◌<◌, ◌*◌, ℕ, [], ◌∷◌, sym, subst, arith}
+use Rattle.std.proofs.Common.{◌<◌, ◌*◌, ℕ, [], ◌∷◌, sym, subst, arith}
 use Rattle.std.proofs.lemmas.List.Elements.{All-nil, All-cons}
 use Rattle.reh_held.specs.Values.{HeldValue, words_in}
 use Rattle.reh_held.proofs.held.tests.turns_there_and_back.Goals as goal

@@ -1,5 +1,5 @@
 -- A word more has as many entries as ones.
-use Rattle.std.proofs.Common.{◌≡◌, ◌+◌, ◌<◌, ◌^◌, List, ℕ, get_or, arith, refl, sym, ap, ◌∙◌}
+use Rattle.std.proofs.Common.{◌+◌, ◌<◌, ◌^◌, List, ℕ, get_or, arith, refl, sym, ap, ◌∙◌}
 use Rattle.std.specs.Int.Count.{ones}
 use Rattle.std.proofs.lemmas.Nat.{ones-le}
 use Rattle.reh_held.proofs.CountLaws.{entries-more}

@@ -1,8 +1,7 @@
 -- The turns from the row to one that has the entries too.
-use Rattle.std.proofs.Common.{◌≡◌, ◌||◌, ◌==◌, ◌∙◌, sym, ap, List, ℕ, length, subst}
+use Rattle.std.proofs.Common.{◌≡◌, ◌||◌, ◌==◌, ◌∙◌, ap, List, ℕ, length}
 use Rattle.std.specs.List.{list_any}
 use Rattle.reh_held.specs.Rows.{is_set}
-use Rattle.reh_held.specs.RowTurns.{IsRowTurning}
 use Rattle.reh_held.proofs.TurnLaws.{turning}
 use Rattle.reh_held.proofs.rows.Row.delta_of.Goals as goal
 

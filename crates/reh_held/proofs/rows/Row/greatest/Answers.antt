@@ -1,8 +1,6 @@
 -- The words from the end on are 0, and this one is not.
-use Rattle.std.proofs.Common.{◌≡◌, ◌≤◌, List, ℕ, length, arith, ap, subst, ◌∙◌, ◌-◌}
+use Rattle.std.proofs.Common.{◌≤◌, List, ℕ, length, arith, ◌-◌}
 use Rattle.std.proofs.lemmas.List.{get_or_read}
-use Rattle.std.specs.declared.option.Option.TheVariants.{Some}
-use Rattle.reh_held.specs.Rows.{is_set, IsGreatest}
 use Rattle.reh_held.proofs.GreatestLaws.{greatest_is}
 use Rattle.reh_held.proofs.rows.Row.greatest.Goals as goal
 

@@ -1,5 +1,5 @@
 -- One bit is set, that of the entry.
-use Rattle.std.proofs.Common.{◌≡◌, ◌*◌, ◌<◌, ◌||◌, List, ℕ, length, nat_eq, ap, ◌∙◌, subst}
+use Rattle.std.proofs.Common.{◌*◌, ◌<◌, ◌||◌, List, ℕ, length, nat_eq, ap, ◌∙◌}
 use Rattle.reh_held.specs.Rows.{is_set}
 use Rattle.reh_held.proofs.RowLaws.{is_set-insert}
 use Rattle.reh_held.proofs.rows.Row.insert.Goals as goal
