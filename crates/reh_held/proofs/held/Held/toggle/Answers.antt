@@ -1,0 +1,67 @@
+-- Bits of one word turn in the ledger's table.
+use Rattle.std.proofs.Common.{◌≤◌, ◌&&◌, ℕ, List, nat_eq, refl, sym, ap, subst, ◌∙◌, arith}
+use Rattle.std.specs.Option.{IsSome}
+use Rattle.reh_held.specs.Rows.{is_in_word, one_of}
+use Rattle.reh_held.specs.Tables.{TableValue, IsTable}
+use Rattle.reh_held.specs.Values.{HeldValue}
+use Rattle.reh_held.specs.Turns.{turned}
+use Rattle.reh_held.specs.Kept.{held_of, IsKept}
+use Rattle.reh_held.specs.declared.held.TheConstants.{MAX_TABLES}
+use Rattle.reh_held.proofs.HeldLaws.{kept_table, own_table, words-found, words-none, has-found}
+use Rattle.reh_held.proofs.WrittenLaws.{written-kept, written-turned, written-same_words}
+use Rattle.reh_held.proofs.held.Held.toggle.Goals as goal
+use Rattle.reh_held.proofs.held.Held.toggle.Goals.{in-Some, in-None}
+
+pub toggle-requires-clause-table : goal.toggle-requires-clause-table
+toggle-requires-clause-table c = own_table (kept_table c.self.inside.tables.entries c.args.ledger c.in-Some.table.now c.self.invariant.tables c.in-Some.ensures.value)
+
+pub toggle-requires-clause-bookie : goal.toggle-requires-clause-bookie
+toggle-requires-clause-bookie c =
+    let table = kept_table c.self.inside.tables.entries c.args.ledger c.in-Some.table.now c.self.invariant.tables c.in-Some.ensures.value in
+    let within = rw (← c.self.view_is) at c.requires.bookie in
+    omega (arith, table.size)
+
+pub toggle-requires-clause-number : goal.toggle-requires-clause-number
+toggle-requires-clause-number c =
+    let within = rw (← c.self.view_is) at c.requires.number in
+    omega (arith, words-found c.self.inside.tables.entries c.args.ledger c.in-Some.table.now c.in-Some.ensures.value)
+
+pub invariant_of-self : goal.invariant_of-self
+invariant_of-self c = elim c.match-get_mut.branch [
+  | in-Some w ↦
+      let tables : List (ℕ × TableValue) = c.self.inside.tables.entries in
+      let found = w.in-Some.ensures.value in
+      let h = c.get_mut.follows.holds w.toggle.new.self in
+      let table = kept_table tables c.args.ledger w.in-Some.table.now c.self.invariant.tables found in
+      let still : IsTable c.self.inside.bookies w.toggle.new.self = subst (λ n. IsTable n w.toggle.new.self) table.size w.toggle.ensures.table in
+      subst IsKept (sym w.self-inside-is) (record {
+        few = subst (λ n. n ≤ MAX_TABLES) (sym h.2) c.self.invariant.few;
+        tables = written-kept tables (c.get_mut.follows.lender w.toggle.new.self).entries c.args.ledger w.toggle.new.self (h.3 (subst IsSome found refl)).0 c.self.inside.bookies still c.self.invariant.tables;
+      })
+  | in-None w ↦
+      let within = rw (← c.self.view_is) at c.requires.number in
+      absurd (omega (arith, words-none c.self.inside.tables.entries c.args.ledger w.in-None.ensures.value))
+]
+
+pub returns : goal.returns
+returns c = elim c.match-get_mut.branch [
+  | in-Some w ↦
+      let tables : List (ℕ × TableValue) = c.self.inside.tables.entries in
+      let after : List (ℕ × TableValue) = (c.get_mut.follows.lender w.toggle.new.self).entries in
+      let found = w.in-Some.ensures.value in
+      let h = c.get_mut.follows.holds w.toggle.new.self in
+      let written = (h.3 (subst IsSome found refl)).0 in
+      let contents = written-turned tables after c.args.ledger w.toggle.new.self written c.args.bookie c.args.number c.args.bits (λ b e.
+      w.toggle.ensures.bits b e
+      ∙ ap (λ was. one_of was (nat_eq b c.args.bookie && is_in_word c.args.number c.args.bits e)) (sym (has-found tables b c.args.ledger e w.in-Some.table.now found))) in
+      let words = written-same_words tables after c.args.ledger w.toggle.new.self written w.in-Some.table.now found w.toggle.ensures.width in
+      ap held_of w.self-inside-is
+      ∙ (λ i. record {
+        contents = (contents ∙ ap (λ (v : HeldValue). turned v.contents c.args.bookie c.args.ledger c.args.number c.args.bits) c.self.view_is) i;
+        bookies = (c.self.view_is i).bookies;
+        words = (words ∙ ap (λ (v : HeldValue). v.words) c.self.view_is) i;
+      })
+  | in-None w ↦
+      let within = rw (← c.self.view_is) at c.requires.number in
+      absurd (omega (arith, words-none c.self.inside.tables.entries c.args.ledger w.in-None.ensures.value))
+]

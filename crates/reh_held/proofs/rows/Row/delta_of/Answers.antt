@@ -1,0 +1,17 @@
+-- The turns from the row to one that has the entries too.
+use Rattle.std.proofs.Common.{◌≡◌, ◌||◌, ◌==◌, ◌∙◌, ap, List, ℕ, length}
+use Rattle.std.specs.List.{list_any}
+use Rattle.reh_held.specs.Rows.{is_set}
+use Rattle.reh_held.proofs.TurnLaws.{turning}
+use Rattle.reh_held.proofs.rows.Row.delta_of.Goals as goal
+
+pub returns : goal.returns
+returns c =
+    let words : List ℕ = c.args.self.now in
+    let entries : List ℕ = c.args.entries.now in
+    let after : List ℕ = c.insert_all.new.self in
+    let copied : c.in_ok-after.after ≡ words = c.in_ok-after.ensures.cases in
+    let size : length after ≡ length words = c.insert_all.ensures.width ∙ ap (length {A = ℕ}) copied in
+    let makes = turning words after (λ e. is_set words e || list_any (λ x. e == x) entries) size (λ e.
+    c.insert_all.ensures.bits e ∙ ap (λ (ws : List ℕ). is_set ws e || list_any (λ x. e == x) entries) copied) in
+    rw (c.in_ok-turns.ensures, c.as_slice.ensures, c.as_slice-2.ensures) makes

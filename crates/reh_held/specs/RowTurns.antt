@@ -1,0 +1,32 @@
+-- Lists of words of one row with bits to turn.
+use Rattle.std.specs.Prelude.{◌≡◌, ◌≢◌, ℕ, ◌+◌, ◌<◌, ◌≤◌, ◌==◌, if◌then◌else◌, Bool, false, List, [], ◌∷◌, length, All, bit_xor}
+use Rattle.reh_held.specs.declared.turns.Turn.{Turn}
+use Rattle.reh_held.specs.Rows.{is_set, is_in_word, one_of}
+
+-- whether the entry turns, by some of the turns and not by two
+abbrev pub is_turned : List Turn → ℕ → Bool
+is_turned [] entry = false
+is_turned (u ∷ us) entry = one_of (is_in_word u.number u.bits entry) (is_turned us entry)
+
+-- the numbers rise, from k on
+abbrev pub AreRising : ℕ → List Turn → Type 0
+AreRising k [] = Unit {0}
+AreRising k (u ∷ us) = (k ≤ u.number) × AreRising (u.number + 1) us
+
+-- there is a turn for each word in which something changes, in order and each once
+pub record ArePlaces (words : ℕ) (turns : List Turn) : Type 0 where
+  pub there : All (λ u. u.number < words) turns
+  pub rising : AreRising 0 turns
+  pub some : All (λ u. u.bits ≢ 0) turns
+
+-- the turns of places of the row that leave in it what passes the test
+pub record IsRowTurning (words : List ℕ) (after : ℕ → Bool) (turns : List Turn) : Type 0 where
+  pub places : ArePlaces (length words) turns
+  pub makes : (entry : ℕ) → one_of (is_set words entry) (is_turned turns entry) ≡ after entry
+
+-- the turns from these words, numbered from k, to those
+abbrev pub turns_between : ℕ → List ℕ → List ℕ → List Turn
+turns_between k [] others = []
+turns_between k (w ∷ words) [] = []
+turns_between k (w ∷ words) (o ∷ others) =
+    if w == o then turns_between (k + 1) words others else record { number = k; bits = bit_xor o w } ∷ turns_between (k + 1) words others

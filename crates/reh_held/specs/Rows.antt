@@ -1,0 +1,34 @@
+-- A row of words: the entries that its bits stand for, 64 to a word.
+use Rattle.std.specs.Prelude.{◌≡◌, ℕ, ◌*◌, ◌/◌, ◌%◌, ◌≤◌, Bool, true, false, not, ◌&&◌, ◌==◌, nat_le, List, length, slice_index, Option, MatchOption}
+use Rattle.std.specs.List.{filter, range_with_len}
+use Rattle.std.specs.Int.{bit_at}
+
+-- whether the entry's bit is set; past the words none is
+abbrev pub is_set : List ℕ → ℕ → Bool
+is_set words entry = bit_at (slice_index words (entry / 64)) (entry % 64) == 1
+
+-- whether the entry is one from the first to the last
+abbrev pub is_between : ℕ → ℕ → ℕ → Bool
+is_between first last entry = nat_le first entry && nat_le entry last
+
+-- the entries whose bits are set
+abbrev pub entries_in : List ℕ → List ℕ
+entries_in words = filter (is_set words) (range_with_len 0 (64 * length words))
+
+-- whether the entry is one of those that the bits of this word stand for
+abbrev pub is_in_word : ℕ → ℕ → ℕ → Bool
+is_in_word number bits entry = (entry / 64 == number) && (bit_at bits (entry % 64) == 1)
+
+-- the entries that the bits of this word stand for
+abbrev pub word_entries : ℕ → ℕ → List ℕ
+word_entries number bits = filter (is_in_word number bits) (range_with_len (64 * number) 64)
+
+-- one or the other and not both
+abbrev pub one_of : Bool → Bool → Bool
+one_of true b = not b
+one_of false b = b
+
+-- this entry passes the test and no greater one does, or none does
+abbrev pub IsGreatest : (ℕ → Bool) → Option ℕ → Type 0
+IsGreatest test greatest =
+    MatchOption greatest ((e : ℕ) → test e ≡ false) (λ entry. (test entry ≡ true) × ((e : ℕ) → test e ≡ true → e ≤ entry))

@@ -1,0 +1,309 @@
+// What the bookies hold.
+ghost use Rattle.std.specs.Prelude.{◌≡◌, ℕ, ◌+◌, ◌-◌, ◌*◌, ◌<◌, ◌≤◌, length, All, IfOk, OnOk, OnErr};
+ghost use Rattle.std.specs.List.{range_with_len};
+ghost use Rattle.std.specs.Ordering.{nat_cmp};
+ghost use Rattle.std.specs.FinMap as map;
+ghost use Rattle.reh_types.specs.Sets as set;
+ghost use Rattle.reh_model.specs.Contents.{has, copies_of, count_held, greatest_held};
+ghost use Rattle.reh_held.specs.Rows.{is_set};
+ghost use Rattle.reh_held.specs.Tables.{row_at, IsTable};
+ghost use Rattle.reh_held.specs.Turns.{turned, turned_all, IsTurning};
+ghost use Rattle.reh_held.specs.Values.{words_in, with_room};
+ghost use Rattle.reh_held.specs.declared.rows.TheConstants.{MAX_WIDTH};
+
+use crate::tables::Table;
+use crate::turns::Turn;
+use reh_types::{BookieIx, LedgerId};
+use std::alloc::{AllocError, Global};
+use std::collections::BTreeMap;
+use std::marker::Model;
+
+/// How many ledgers may have rows: with no more, what one bookie holds is a number of 64 bits.
+pub(crate) const MAX_TABLES: usize = 1 << 31;
+
+/// What the bookies hold: a set of bookie, ledger and entry. Contracts see its contents.
+///
+/// For each ledger there is a row of 64-bit words for each bookie, a bit for each entry, all rows of a ledger with as
+/// many words. Contracts see how many bookies there are and how many words a ledger's rows have.
+#[derive(Drop)]
+pub struct Held {
+    alloc: Global,
+    bookies: usize,
+    tables: BTreeMap<LedgerId, Table>,
+}
+
+impl Model for Held {
+    ghost use Rattle.reh_held.specs.Values.{HeldValue, held_code};
+
+    ghost Value = { HeldValue };
+
+    ghost coded = { held_code };
+
+    ghost use Rattle.reh_held.specs.Kept.{held_of, IsKept};
+
+    ghost view = { held_of };
+
+    ghost invariant = { IsKept };
+}
+
+impl Held {
+    /// Contents in which none of so many bookies holds an entry.
+    pub fn new(alloc: Global, bookies: usize) -> Held
+        ensures contents { result.contents ≡ set.empty }
+        ensures bookies { result.bookies ≡ bookies }
+        ensures words { result.words ≡ map.empty }
+    {
+        Held {
+            alloc,
+            bookies,
+            tables: BTreeMap::new(alloc),
+        }
+    }
+
+    /// The same contents once more, on the same allocator.
+    pub fn clone_in(&self) -> Result<Held, AllocError>
+        ensures { IfOk result (λ held. held ≡ self.now) }
+    {
+        Ok(Held {
+            alloc: self.alloc,
+            bookies: self.bookies,
+            tables: self.tables.clone()?,
+        })
+    }
+
+    /// How many words the rows of the ledger have, 0 where it has none.
+    pub fn words(&self, ledger: LedgerId) -> usize
+        ensures { result ≡ words_in self.now ledger }
+    {
+        match self.tables.get(&ledger) {
+            Some(table) => table.width(),
+            None => 0,
+        }
+    }
+
+    /// Makes all rows of the ledger long enough for the entry. Want of memory leaves them as they were; so many ledgers
+    /// that what a bookie holds could not be counted are answered as want of memory too.
+    pub fn reserve(&mut self, ledger: LedgerId, entry: u32) -> Result<(), AllocError>
+        ensures ok { OnOk result (self.new ≡ with_room self.old ledger entry) }
+        ensures room { OnOk result (entry < 64 * words_in self.new ledger) }
+        ensures err { OnErr result (self.new ≡ self.old) }
+    {
+        let width = (entry / 64) as usize + 1;
+        if width <= self.words(ledger) {
+            return Ok(());
+        }
+        if self.tables.len() >= MAX_TABLES {
+            return Err(AllocError);
+        }
+        let table = self.longer_table(ledger, width)?;
+        self.tables.insert(ledger, table)?;
+        Ok(())
+    }
+
+    // The ledger's table with rows of so many words.
+    fn longer_table(&self, ledger: LedgerId, width: usize) -> Result<Table, AllocError>
+        requires longer { words_in self.now ledger ≤ width }
+        requires small { width ≤ MAX_WIDTH }
+        ensures width { IfOk result (λ table. table.width ≡ width) }
+        ensures table { IfOk result (IsTable self.now.bookies) }
+        ensures same { IfOk result
+            (λ table. (b e : ℕ) → is_set (row_at table b) e ≡ has self.now.contents b ledger e) }
+    {
+        match self.tables.get(&ledger) {
+            Some(table) => table.longer(self.alloc, width),
+            None => Table::new(self.alloc, self.bookies, width),
+        }
+    }
+
+    /// The bookie holds the entry of the ledger from now on. Want of memory leaves the contents as they were.
+    pub fn add(&mut self, bookie: BookieIx, ledger: LedgerId, entry: u32) -> Result<(), AllocError>
+        requires { bookie < self.old.bookies }
+        ensures ok { OnOk result
+            (self.new.contents ≡ set.insert self.old.contents (bookie, ledger, entry)) }
+        ensures room { OnOk result
+            (self.new ≡ record (with_room self.old ledger entry) { contents = self.new.contents }) }
+        ensures err { OnErr result (self.new ≡ self.old) }
+    {
+        self.reserve(ledger, entry)?;
+        self.put(bookie, ledger, entry);
+        Ok(())
+    }
+
+    // The bookie holds the entry from now on, for which the rows of the ledger are long enough.
+    fn put(&mut self, bookie: BookieIx, ledger: LedgerId, entry: u32)
+        requires bookie { bookie < self.old.bookies }
+        requires entry { entry < 64 * words_in self.old ledger }
+        ensures { self.new ≡ record self.old { contents = set.insert self.old.contents (bookie, ledger, entry) } }
+    {
+        match self.tables.get_mut(&ledger) {
+            Some(table) => table.insert(bookie, entry),
+            None => {}
+        }
+    }
+
+    /// The bookie holds the entries of the ledger from the first to the last from now on, for which the rows of the
+    /// ledger are long enough.
+    pub fn add_range(&mut self, bookie: BookieIx, ledger: LedgerId, first: u32, last: u32)
+        requires bookie { bookie < self.old.bookies }
+        requires last { last < 64 * words_in self.old ledger }
+        ensures { self.new ≡ record self.old {
+          contents = set.union self.old.contents
+              (copies_of bookie ledger (range_with_len first (last + 1 - first)));
+        } }
+    {
+        match self.tables.get_mut(&ledger) {
+            Some(table) => table.insert_range(bookie, first, last),
+            None => {}
+        }
+    }
+
+    /// Turns these bits of a word of the bookie's row of the ledger: the entries that they stand for are held where they
+    /// were not, and not where they were.
+    pub fn toggle(&mut self, bookie: BookieIx, ledger: LedgerId, number: usize, bits: u64)
+        requires bookie { bookie < self.old.bookies }
+        requires number { number < words_in self.old ledger }
+        ensures { self.new ≡ record self.old { contents = turned self.old.contents bookie ledger number bits } }
+    {
+        match self.tables.get_mut(&ledger) {
+            Some(table) => table.toggle(bookie, number, bits),
+            None => {}
+        }
+    }
+
+    /// Makes all these turns in the bookie's row of the ledger.
+    pub fn toggle_all(&mut self, bookie: BookieIx, ledger: LedgerId, turns: &[Turn])
+        requires bookie { bookie < self.old.bookies }
+        requires numbers { All (λ u. u.number < words_in self.old ledger) turns.now }
+        ensures { self.new ≡ record self.old { contents = turned_all self.old.contents bookie ledger turns.now } }
+    {
+        for turn in turns {
+            self.toggle(bookie, ledger, turn.number, turn.bits);
+        }
+    }
+
+    /// The turns after which the bookie holds these entries of the ledger too: for each word in which that changes
+    /// something, its number and the bits that change. The entries are among those that the ledger's words stand for.
+    pub fn delta_of(
+        &self,
+        bookie: BookieIx,
+        ledger: LedgerId,
+        entries: &[u32],
+    ) -> Result<Vec<Turn>, AllocError>
+        requires bookie { bookie < self.now.bookies }
+        requires entries { All (λ e. e < 64 * words_in self.now ledger) entries.now }
+        ensures { IfOk result (λ turns. IsTurning (words_in self.now ledger) bookie ledger self.now.contents
+            (set.union self.now.contents (copies_of bookie ledger entries.now)) turns.items) }
+    {
+        match self.tables.get(&ledger) {
+            Some(table) => {
+                let turns = table.delta_of(self.alloc, bookie, entries)?;
+                Ok(turns)
+            }
+            None => Ok(Vec::new(self.alloc)),
+        }
+    }
+
+    /// The words of the bookie's row of the ledger: bit e % 64 of word e / 64 says whether it holds entry e. There are
+    /// none for a ledger with no rows.
+    pub fn row(&self, bookie: BookieIx, ledger: LedgerId) -> &[u64]
+        ensures bits { (e : ℕ) → is_set result.now e ≡ has self.now.contents bookie ledger e }
+        ensures words { bookie < self.now.bookies → length result.now ≡ words_in self.now ledger }
+    {
+        match self.tables.get(&ledger) {
+            Some(table) => table.row(bookie),
+            None => &[],
+        }
+    }
+
+    /// Whether the bookie holds the entry of the ledger.
+    pub fn holds(&self, bookie: BookieIx, ledger: LedgerId, entry: u32) -> bool
+        ensures { result ≡ has self.now.contents bookie ledger entry }
+    {
+        match self.tables.get(&ledger) {
+            Some(table) => table.holds(bookie, entry),
+            None => false,
+        }
+    }
+
+    /// How many entries the bookie holds, of all ledgers.
+    pub fn count(&self, bookie: BookieIx) -> usize
+        ensures { result ≡ count_held self.now.contents bookie }
+    {
+        let mut count = 0;
+        for table in self.tables.values() {
+            count += table.count(bookie);
+        }
+        count
+    }
+
+    /// The greatest entry of the ledger that any bookie holds.
+    pub fn greatest(&self, ledger: LedgerId) -> Option<u32>
+        ensures { result ≡ greatest_held self.now.contents ledger }
+    {
+        match self.tables.get(&ledger) {
+            Some(table) => table.greatest(),
+            None => None,
+        }
+    }
+}
+
+#[cfg(test)]
+mod tests {
+    use super::*;
+
+    // Three bookies and two ledgers.
+    #[test]
+    fn holds_what_was_added(rt: HostRuntime) -> Result<(), AllocError> {
+        let mut held = Held::new(rt.alloc(), 3);
+        held.add(BookieIx(0), LedgerId(7), 0)?;
+        held.add(BookieIx(0), LedgerId(7), 2)?;
+        held.add(BookieIx(1), LedgerId(7), 4)?;
+        held.add(BookieIx(1), LedgerId(9), 64)?;
+        held.add(BookieIx(1), LedgerId(9), 5)?;
+        held.add(BookieIx(0), LedgerId(7), 2)?;
+        let held = held.clone_in()?;
+
+        assert!(rt; held.holds(BookieIx(1), LedgerId(7), 4));
+        assert!(rt; !held.holds(BookieIx(0), LedgerId(7), 4));
+        assert!(rt; !held.holds(BookieIx(1), LedgerId(9), 4));
+        for (bookie, count) in [(0, 2), (1, 3), (2, 0)] {
+            assert_eq!(rt; held.count(BookieIx(bookie)), count, "bookie {bookie}");
+        }
+        for (ledger, greatest) in [(7, Some(4)), (8, None), (9, Some(64))] {
+            assert_eq!(rt;
+                held.greatest(LedgerId(ledger)),
+                greatest,
+                "ledger {ledger}"
+            );
+        }
+        for (ledger, words) in [(7, 1), (8, 0), (9, 2)] {
+            assert_eq!(rt; held.words(LedgerId(ledger)), words, "ledger {ledger}");
+        }
+        Ok(())
+    }
+
+    // A bookie that holds entry 3 of five.
+    #[test]
+    fn turns_there_and_back(rt: HostRuntime) -> Result<(), AllocError> {
+        let bookie = BookieIx(3);
+        let ledger = LedgerId(7);
+        let mut held = Held::new(rt.alloc(), 4);
+        held.reserve(ledger, 4)?;
+        held.add_range(bookie, ledger, 3, 3);
+        let turns = held.delta_of(bookie, ledger, &[0, 1, 3, 4])?;
+        assert_eq!(rt;
+            turns.as_slice(),
+            [Turn {
+                number: 0,
+                bits: 19
+            }]
+            .as_slice()
+        );
+
+        held.toggle_all(bookie, ledger, &turns);
+        assert_eq!(rt; held.row(bookie, ledger), [27].as_slice());
+        held.toggle_all(bookie, ledger, &turns);
+        assert_eq!(rt; held.row(bookie, ledger), [8].as_slice());
+        Ok(())
+    }
+}
