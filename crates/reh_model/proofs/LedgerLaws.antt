@@ -7,8 +7,7 @@ use Rattle.std.proofs.lemmas.Bool.Decides.{nat_tests}
 use Rattle.std.proofs.lemmas.List.Sums.{sum_by-cons, fails_before_first}
 use Rattle.std.proofs.lemmas.List.Quantifiers.{position-Some}
 use Rattle.reh_model.specs.Metadata.{stop_of, stripe_of}
-use Rattle.reh_model.specs.Cluster.{Cluster, Ledger, ledger_among, ledger_at, stop_at, stripe_at, change_ledger}
-use Rattle.reh_model.specs.WellFormed.{words_at}
+use Rattle.reh_model.specs.Cluster.{Cluster, Ledger, ledger_among, ledger_at, words_among, stop_at, stripe_at, change_ledger}
 
 -- Changes that keep every id
 
@@ -50,8 +49,8 @@ sum_by-words change keeps (g ∷ gs) =
     ∙ sym (sum_by-cons (λ g. g.words) g gs)
 
 -- those of one, where its id is kept too
-pub words_at-map : (l : ℕ) (change : Ledger → Ledger) → KeepsId change → KeepsWords change → (gs : List Ledger) → words_at (map change gs) l ≡ words_at gs l
-words_at-map l change keeps_id keeps gs = ap (λ (o : Option Ledger). option_map_or (λ g. g.words) o 0) (find-map l change keeps_id gs) ∙ same (ledger_among gs l) where
+pub words_among-map : (l : ℕ) (change : Ledger → Ledger) → KeepsId change → KeepsWords change → (gs : List Ledger) → words_among (map change gs) l ≡ words_among gs l
+words_among-map l change keeps_id keeps gs = ap (λ (o : Option Ledger). option_map_or (λ g. g.words) o 0) (find-map l change keeps_id gs) ∙ same (ledger_among gs l) where
   same : (o : Option Ledger) → option_map_or (λ g. g.words) (option_map change o) 0 ≡ option_map_or (λ g. g.words) o 0
   same None = refl
   same (Some g) = keeps g
@@ -82,6 +81,10 @@ KeepsId-changed_ledger l change keeps g = elim (g.id == l) as (λ b. (cond b (ch
 
 pub KeepsWords-changed_ledger : (l : ℕ) (change : Ledger → Ledger) → KeepsWords change → KeepsWords (changed_ledger l change)
 KeepsWords-changed_ledger l change keeps g = elim (g.id == l) as (λ b. (cond b (change g) g).words ≡ g.words) [ true ↦ keeps g | false ↦ refl ]
+
+-- the words of a ledger, where the ledger of one id is changed
+pub words_among-changed_ledger : (l k : ℕ) (change : Ledger → Ledger) → KeepsId change → KeepsWords change → (gs : List Ledger) → words_among (map (changed_ledger k change) gs) l ≡ words_among gs l
+words_among-changed_ledger l k change keeps_id keeps gs = words_among-map l (changed_ledger k change) (KeepsId-changed_ledger k change keeps_id) (KeepsWords-changed_ledger k change keeps) gs
 
 -- Where ids differ
 

@@ -43,6 +43,10 @@ ledger_among ledgers l = find (λ g. g.id == l) ledgers
 abbrev pub ledger_at : Cluster → ℕ → Option Ledger
 ledger_at s l = ledger_among s.ledgers l
 
+-- how many words the ledger of that id has, none where there is no such ledger
+abbrev pub words_among : List Ledger → ℕ → ℕ
+words_among ledgers l = option_map_or (λ g. g.words) (ledger_among ledgers l) 0
+
 -- the cluster with that ledger changed, and nothing else
 abbrev pub change_ledger : Cluster → ℕ → (Ledger → Ledger) → Cluster
 change_ledger s l change = record s { ledgers = map (λ g. if g.id == l then change g else g) s.ledgers }

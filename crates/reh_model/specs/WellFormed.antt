@@ -1,14 +1,14 @@
 -- Which clusters there can be: the limits, the rules of ledgers, and what tasks, locks and due ticks stand on.
 use Rattle.std.specs.Prelude.{◌≡◌, ℕ, true, ◌+◌, ◌*◌, ◌<◌, ◌≤◌, List, map, length, sum_by, IsTrue, nat_eq, All}
 use Rattle.std.specs.List.{IsDistinct}
-use Rattle.std.specs.Option.{ForSome, IsSome, option_map_or}
+use Rattle.std.specs.Option.{ForSome, IsSome}
 use Rattle.std.specs.Str.{bytes_eq}
 use Rattle.reh_types.specs.declared.limits.TheConstants.{CLOCK_END, ENTRIES_IN_WORD, ENTRY_END, MAX_BOOKIES, MAX_GRACE, MAX_LEDGERS, MAX_LEDGER_ID, MAX_WORDS}
 use Rattle.reh_types.specs.Sets as set
 use Rattle.reh_types.specs.Sets.{Set, numbers}
 use Rattle.reh_model.specs.Contents.{Contents}
 use Rattle.reh_model.specs.Metadata.{IsMetadata, is_open}
-use Rattle.reh_model.specs.Cluster.{Cluster, Ledger, is_up, due_of, ledger_among}
+use Rattle.reh_model.specs.Cluster.{Cluster, Ledger, is_up, due_of, ledger_among, words_among}
 
 -- the names of the bookies: at least one, and none twice
 pub record AreNames (names : List (List ℕ)) : Type 0 where
@@ -31,13 +31,9 @@ pub record AreLedgers (bookies latest : ℕ) (ledgers : List Ledger) : Type 0 wh
   pub different : IsDistinct nat_eq (map (λ g. g.id) ledgers)
   pub each : All (IsLedger bookies latest) ledgers
 
--- the words of the ledger of that id, none where there is no such ledger
-abbrev pub words_at : List Ledger → ℕ → ℕ
-words_at ledgers l = option_map_or (λ g. g.words) (ledger_among ledgers l) 0
-
 -- the bookie and the ledger are in the picture, and the entry lies within the ledger's words
 abbrev pub IsCopy : ℕ → List Ledger → ℕ × ℕ × ℕ → Type 0
-IsCopy bookies ledgers t = (t.0 < bookies) × IsSome (ledger_among ledgers t.1) × (t.2 < ENTRIES_IN_WORD * words_at ledgers t.1)
+IsCopy bookies ledgers t = (t.0 < bookies) × IsSome (ledger_among ledgers t.1) × (t.2 < ENTRIES_IN_WORD * words_among ledgers t.1)
 
 pub record AreContents (bookies : ℕ) (ledgers : List Ledger) (held : Contents) : Type 0 where
   pub copies : All (IsCopy bookies ledgers) (set.items held)

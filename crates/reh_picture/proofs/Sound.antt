@@ -19,8 +19,8 @@ use Rattle.reh_types.specs.declared.names.LedgerState.TheVariants.{Open, InRecov
 use Rattle.reh_types.specs.Sets as set
 use Rattle.reh_types.specs.Sets.{Set, numbers, triples, triple_cmp, triple_total, contains-from_list, contains-items}
 use Rattle.reh_model.specs.Metadata.{Metadata, Fragment, IsMetadata, end_of_state}
-use Rattle.reh_model.specs.Cluster.{Cluster, Ledger, ledger_among, ledger_at}
-use Rattle.reh_model.specs.WellFormed.{IsCopy, IsWellFormed, words_at}
+use Rattle.reh_model.specs.Cluster.{Cluster, Ledger, ledger_among, ledger_at, words_among}
+use Rattle.reh_model.specs.WellFormed.{IsCopy, IsWellFormed}
 use Rattle.reh_model.proofs.WellFormedLaws.{IsLedgerOf}
 use Rattle.reh_model.proofs.ContentsLaws.{IsReached, greatest_held-reached}
 use Rattle.reh_model.proofs.Ranges.{Passes, any_passes, list_any-map, same_answer}
@@ -262,7 +262,7 @@ ledger_found names held l (d ∷ ds) any =
     ] refl
 
 -- and has the words that reach its greatest entry
-words_found : (names : List (List ℕ)) (held : model.Contents) (l : ℕ) (ledgers : List Data) → IsSome (ledger_among (map (ledger_in names held) ledgers) l) → words_at (map (ledger_in names held) ledgers) l ≡ words_to (model.greatest_held held l)
+words_found : (names : List (List ℕ)) (held : model.Contents) (l : ℕ) (ledgers : List Data) → IsSome (ledger_among (map (ledger_in names held) ledgers) l) → words_among (map (ledger_in names held) ledgers) l ≡ words_to (model.greatest_held held l)
 words_found names held l [] some = cc
 words_found names held l (d ∷ ds) some =
     let others = map (ledger_in names held) ds in

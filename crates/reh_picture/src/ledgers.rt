@@ -1,5 +1,5 @@
 // The ledgers of a picture.
-ghost use Rattle.std.specs.Prelude.{◌≡◌, true, Some, None, ◌≤◌, ◌<◌, [], ◌∷◌, ◌++◌, length, map, IfOk, OnOk, All};
+ghost use Rattle.std.specs.Prelude.{◌≡◌, true, Some, ◌≤◌, ◌<◌, [], ◌∷◌, ◌++◌, length, map, IfOk, OnOk, All};
 ghost use Rattle.std.specs.BTreeMap.{get};
 ghost use Rattle.std.specs.Ordering.{nat_cmp};
 ghost use Rattle.std.specs.Option.{ForSome};
@@ -212,13 +212,7 @@ impl Model for ListedLedger {
 impl ListedLedger {
     /// The ledger, with no task, where this is the greatest entry of it that any bookie holds.
     fn reaching(self, greatest: Option<u32>) -> Ledger
-        ensures { result ≡ record {
-          id = self.id;
-          metadata = self.metadata;
-          words = words_to_greatest greatest;
-          task = None;
-          lock = None;
-        } }
+        ensures { result ≡ ledger_of (λ _. greatest) self }
     {
         Ledger::new(self.id, self.metadata, words_to(greatest))
     }
