@@ -261,7 +261,7 @@ ledger_found names held l (d ∷ ds) any =
       | false ↦ λ t. let off : nat_eq l (number_of d field.Id) ≡ false = grind (arith, nat_tests, t) in ledger_found names held l ds (ap (λ b. b || list_any (nat_eq l) (ids_in ds)) (sym off) ∙ any)
     ] refl
 
--- and has the words that reach its greatest entry
+-- a ledger that is found has the words that reach its greatest entry
 words_found : (names : List (List ℕ)) (held : model.Contents) (l : ℕ) (ledgers : List Data) → IsSome (ledger_among (map (ledger_in names held) ledgers) l) → words_among (map (ledger_in names held) ledgers) l ≡ words_to (model.greatest_held held l)
 words_found names held l [] some = cc
 words_found names held l (d ∷ ds) some =
@@ -272,7 +272,7 @@ words_found names held l (d ∷ ds) some =
       | false ↦ λ _ some. words_found names held l ds some
     ] refl some
 
--- the entries within them
+-- an entry that isn't past the greatest lies within the words that reach that
 within_words : (greatest : Option ℕ) (e : ℕ) → IsReached greatest e → e < ENTRIES_IN_WORD * words_to greatest
 within_words greatest e is = subst (λ (o : Option ℕ). e < ENTRIES_IN_WORD * words_to o) (sym is.is) (omega (arith, is.reached))
 
@@ -411,7 +411,7 @@ pictured_copy d good q one =
     contents_copies s (ids_of d) (λ l there. ledger_found (names_of d) s.held l (list_of d field.Ledgers) there) q (list_of d field.Contents) good.each_content
     (sym (contains-from_list triples (flat_map copies_in (map (holding_in (names_of d)) (list_of d field.Contents))) q) ∙ one)
 
--- lies within the words of its ledgers
+-- and lies within the words of its ledger
 copy_good : (d : Data) → IsFaultless d → (q : ℕ × ℕ × ℕ) → set.contains (contents_of d) q ≡ true → IsCopy (length (names_of d)) (pictured_cluster d).ledgers q
 copy_good d good q one =
     let held = contents_of d in
