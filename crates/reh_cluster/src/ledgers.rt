@@ -19,6 +19,8 @@ use std::marker::Model;
 pub struct Ledger {
     id: LedgerId,
     metadata: LedgerMeta,
+    // How many words of 64 entries each bookie's row of this ledger has.
+    words: usize,
     task: Option<BookieSet>,
     lock: Option<Lock>,
 }
@@ -28,7 +30,7 @@ impl Model for Ledger {
 
     ghost Value = { model.Ledger };
 
-    ghost view = { λ g. record { id = g.id; metadata = g.metadata; task = g.task; lock = g.lock } };
+    ghost view = { λ g. record { id = g.id; metadata = g.metadata; words = g.words; task = g.task; lock = g.lock } };
 }
 
 impl Clone for Ledger {
@@ -44,6 +46,7 @@ impl Clone for Ledger {
         Ok(Ledger {
             id: self.id,
             metadata: self.metadata.clone_in()?,
+            words: self.words,
             task,
             lock: self.lock,
         })
@@ -51,13 +54,15 @@ impl Clone for Ledger {
 }
 
 impl Ledger {
-    /// A ledger with no task.
-    pub fn new(id: LedgerId, metadata: LedgerMeta) -> Ledger
-        ensures { result ≡ record { id = id; metadata = metadata; task = None; lock = None } }
+    /// A ledger with no task, of which each bookie's row has so many words of 64 entries.
+    pub fn new(id: LedgerId, metadata: LedgerMeta, words: usize) -> Ledger
+        ensures { result
+            ≡ record { id = id; metadata = metadata; words = words; task = None; lock = None } }
     {
         Ledger {
             id,
             metadata,
+            words,
             task: None,
             lock: None,
         }
@@ -75,6 +80,13 @@ impl Ledger {
         ensures { result.now ≡ self.now.metadata }
     {
         &self.metadata
+    }
+
+    /// How many words of 64 entries each bookie's row of the ledger has. No event changes it.
+    pub fn words(&self) -> usize
+        ensures { result ≡ self.now.words }
+    {
+        self.words
     }
 
     /// The bookies that the ledger's task is to replace, if it has one.

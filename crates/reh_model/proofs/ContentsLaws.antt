@@ -206,19 +206,6 @@ reached_among q (t ∷ ts) found =
 pub greatest_held-reached : (contents : Contents) (l e : ℕ) → IsHeld contents l e → IsReached (greatest_held contents l) e
 greatest_held-reached contents l e held = reached_among (held.0, l, e) (items contents) (sym (contains-items contents (held.0, l, e)) ∙ held.1)
 
--- one more copy of an entry that is held changes no greatest entry
-pub greatest_held-copied : (contents : Contents) (w l e k : ℕ) → IsHeld contents l e → greatest_held (set.insert contents (w, l, e)) k ≡ greatest_held contents k
-greatest_held-copied contents w l e k held =
-    greatest_held-insert contents w l e k
-    ∙ elim (l == k) as (λ b. (l == k) ≡ b → cond b (Some (option_map_or (λ greatest. max greatest e) (greatest_held contents k) e)) (greatest_held contents k) ≡ greatest_held contents k) [
-      | true ↦ λ here.
-          let same : l ≡ k = grind (arith, nat_tests) in
-          let greatest = greatest_held-reached contents k e (subst (λ (j : ℕ). IsHeld contents j e) same held) in
-          let kept : max greatest.value e ≡ greatest.value = omega (arith, greatest.reached) in
-          ap (λ (o : Option ℕ). Some (option_map_or (λ greatest. max greatest e) o e)) greatest.is ∙ ap Some kept ∙ sym greatest.is
-      | false ↦ λ _. refl
-    ] refl
-
 -- What some bookie holds
 
 or_true : (a b : Bool) → b ≡ true → (a || b) ≡ true

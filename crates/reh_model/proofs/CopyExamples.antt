@@ -63,7 +63,7 @@ bookies_without_a_source = record five_bookies { held = remove five_bookies.held
 
 -- a closed ledger without entries stands beside the others
 abbrev bookies_with_an_empty_ledger : Cluster
-bookies_with_an_empty_ledger = record five_bookies { ledgers = record closed_ledger { id = 5; metadata = record closed_ledger.metadata { state = Closed 0 } } ∷ five_bookies.ledgers }
+bookies_with_an_empty_ledger = record five_bookies { ledgers = record closed_ledger { id = 5; metadata = record closed_ledger.metadata { state = Closed 0 }; words = 0 } ∷ five_bookies.ledgers }
 
 -- the closed ledger is at the last version
 abbrev cluster_at_last_version : Cluster

@@ -7,7 +7,7 @@ use Rattle.std.proofs.lemmas.Bool.Decides.{nat_tests}
 use Rattle.std.proofs.lemmas.List.Sums.{sum_by-cons, fails_before_first}
 use Rattle.std.proofs.lemmas.List.Quantifiers.{position-Some}
 use Rattle.reh_model.specs.Metadata.{stop_of, stripe_of}
-use Rattle.reh_model.specs.Cluster.{Cluster, Ledger, ledger_at, stop_at, stripe_at, change_ledger}
+use Rattle.reh_model.specs.Cluster.{Cluster, Ledger, ledger_among, ledger_at, words_among, stop_at, stripe_at, change_ledger}
 
 -- Changes that keep every id
 
@@ -17,14 +17,6 @@ KeepsId change = (g : Ledger) → (change g).id ≡ g.id
 pub ids-map : (change : Ledger → Ledger) → KeepsId change → (gs : List Ledger) → map (λ g. g.id) (map change gs) ≡ map (λ g. g.id) gs
 ids-map change keeps [] = refl
 ids-map change keeps (g ∷ gs) = λ i. keeps g i ∷ ids-map change keeps gs i
-
--- a sum over the ids
-pub sum_by-map : (f : ℕ → ℕ) (change : Ledger → Ledger) → KeepsId change → (gs : List Ledger) → sum_by (λ g. f g.id) (map change gs) ≡ sum_by (λ g. f g.id) gs
-sum_by-map f change keeps [] = refl
-sum_by-map f change keeps (g ∷ gs) =
-    sum_by-cons (λ g. f g.id) (change g) (map change gs)
-    ∙ (λ i. f (keeps g i) + sum_by-map f change keeps gs i)
-    ∙ sym (sum_by-cons (λ g. f g.id) g gs)
 
 -- what is found by an id after a change is what was found before, changed
 pub find-map : (l : ℕ) (change : Ledger → Ledger) → KeepsId change → (gs : List Ledger) → find (λ g. g.id == l) (map change gs) ≡ option_map change (find (λ g. g.id == l) gs)
@@ -42,6 +34,26 @@ is_found-map l change keeps gs = ap is_some (find-map l change keeps gs) ∙ sam
   same : (o : Option Ledger) → is_some (option_map change o) ≡ is_some o
   same None = refl
   same (Some g) = refl
+
+-- Changes that keep every ledger's words
+
+abbrev pub KeepsWords : (Ledger → Ledger) → Type 0
+KeepsWords change = (g : Ledger) → (change g).words ≡ g.words
+
+-- the words of all ledgers
+pub sum_by-words : (change : Ledger → Ledger) → KeepsWords change → (gs : List Ledger) → sum_by (λ g. g.words) (map change gs) ≡ sum_by (λ g. g.words) gs
+sum_by-words change keeps [] = refl
+sum_by-words change keeps (g ∷ gs) =
+    sum_by-cons (λ g. g.words) (change g) (map change gs)
+    ∙ (λ i. keeps g i + sum_by-words change keeps gs i)
+    ∙ sym (sum_by-cons (λ g. g.words) g gs)
+
+-- those of one, where its id is kept too
+pub words_among-map : (l : ℕ) (change : Ledger → Ledger) → KeepsId change → KeepsWords change → (gs : List Ledger) → words_among (map change gs) l ≡ words_among gs l
+words_among-map l change keeps_id keeps gs = ap (λ (o : Option Ledger). option_map_or (λ g. g.words) o 0) (find-map l change keeps_id gs) ∙ same (ledger_among gs l) where
+  same : (o : Option Ledger) → option_map_or (λ g. g.words) (option_map change o) 0 ≡ option_map_or (λ g. g.words) o 0
+  same None = refl
+  same (Some g) = keeps g
 
 -- a ledger that is found has the id
 pub id_found : (l : ℕ) (gs : List Ledger) (g : Ledger) → find (λ g. g.id == l) gs ≡ Some g → g.id ≡ l
@@ -66,6 +78,13 @@ changed_ledger l change g = if g.id == l then change g else g
 
 pub KeepsId-changed_ledger : (l : ℕ) (change : Ledger → Ledger) → KeepsId change → KeepsId (changed_ledger l change)
 KeepsId-changed_ledger l change keeps g = elim (g.id == l) as (λ b. (cond b (change g) g).id ≡ g.id) [ true ↦ keeps g | false ↦ refl ]
+
+pub KeepsWords-changed_ledger : (l : ℕ) (change : Ledger → Ledger) → KeepsWords change → KeepsWords (changed_ledger l change)
+KeepsWords-changed_ledger l change keeps g = elim (g.id == l) as (λ b. (cond b (change g) g).words ≡ g.words) [ true ↦ keeps g | false ↦ refl ]
+
+-- the words of a ledger, where the ledger of one id is changed
+pub words_among-changed_ledger : (l k : ℕ) (change : Ledger → Ledger) → KeepsId change → KeepsWords change → (gs : List Ledger) → words_among (map (changed_ledger k change) gs) l ≡ words_among gs l
+words_among-changed_ledger l k change keeps_id keeps gs = words_among-map l (changed_ledger k change) (KeepsId-changed_ledger k change keeps_id) (KeepsWords-changed_ledger k change keeps) gs
 
 -- Where ids differ
 

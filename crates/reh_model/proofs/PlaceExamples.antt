@@ -47,7 +47,7 @@ swapped_metadata = record closed_metadata {
 
 -- the ledger of that id, without a task
 abbrev ledger_without_task : ℕ → Metadata → Ledger
-ledger_without_task id metadata = record { id = id; metadata = metadata; task = None; lock = None }
+ledger_without_task id metadata = record { id = id; metadata = metadata; words = 1; task = None; lock = None }
 
 -- six registered bookies, and the two ledgers; each member holds what its indexes carry, but entry 5 of the open ledger is on the second bookie alone
 abbrev six_bookies : Cluster
@@ -191,10 +191,11 @@ pub state_after_swap : state_after (1 ∷ []) 4 7 (both 4 7 1 2 4)
       ledgers = record {
         id = 7;
         metadata = swapped_metadata;
+        words = 1;
         task = Some (from_list (1 ∷ []));
         lock = Some (record { owner = 4; due = None });
       }
-          ∷ record { id = 9; metadata = open_metadata; task = Some (from_list (1 ∷ [])); lock = None } ∷ [];
+          ∷ record { id = 9; metadata = open_metadata; words = 1; task = Some (from_list (1 ∷ [])); lock = None } ∷ [];
       held = union six_bookies.held (from_list (row 4 7 (4 ∷ 5 ∷ [])));
     }
 unfolding contains insert retain remove empty from_list union items is_subset is_empty len

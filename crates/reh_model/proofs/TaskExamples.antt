@@ -19,10 +19,10 @@ abbrev first_three : List Fragment
 first_three = record { first = 0; ensemble = 0 ∷ 1 ∷ 2 ∷ [] } ∷ []
 
 abbrev pub closed_ledger : Ledger
-closed_ledger = record { id = 7; metadata = record { size = 3; write_quorum = 2; ack_quorum = 2; state = Closed 6; version = 0; fragments = first_three }; task = None; lock = None }
+closed_ledger = record { id = 7; metadata = record { size = 3; write_quorum = 2; ack_quorum = 2; state = Closed 6; version = 0; fragments = first_three }; words = 1; task = None; lock = None }
 
 abbrev pub open_ledger : Ledger
-open_ledger = record { id = 9; metadata = record { size = 3; write_quorum = 3; ack_quorum = 2; state = Open; version = 0; fragments = first_three }; task = None; lock = None }
+open_ledger = record { id = 9; metadata = record { size = 3; write_quorum = 3; ack_quorum = 2; state = Open; version = 0; fragments = first_three }; words = 1; task = None; lock = None }
 
 -- (bookie, ledger, entry) for each entry of a list
 abbrev pub row : ℕ → ℕ → List ℕ → List (ℕ × ℕ × ℕ)

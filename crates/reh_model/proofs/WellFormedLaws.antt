@@ -1,8 +1,7 @@
 -- An accepted event keeps a cluster well-formed, and a ledger that is found in one keeps its rules.
 use Rattle.std.proofs.Common.{◌≡◌, ℕ, Bool, true, false, cond, not, ◌&&◌, ◌||◌, ◌+◌, ◌*◌, ◌<◌, ◌≤◌, List, [], ◌∷◌, map, length, get_or, set, None, Some, IsSome, refl, sym, ap, ◌∙◌, subst, arith, nat_eq}
-use Rattle.std.specs.Prelude.{◌==◌, ◌/◌, if◌then◌else◌, sum_by, slice_get, All}
+use Rattle.std.specs.Prelude.{◌==◌, if◌then◌else◌, slice_get, All}
 use Rattle.std.specs.List.{IsDistinct, find}
-use Rattle.std.specs.Option.{option_map_or}
 use Rattle.std.specs.Ordering.{nat_cmp, eq_by_cmp}
 use Rattle.std.specs.Cmp.{unsigned_tied, Equal-is}
 use Rattle.std.proofs.lemmas.Bool.Decides.{nat_tests}
@@ -16,12 +15,12 @@ use Rattle.reh_types.specs.Sets.{Set, numbers, triple_cmp, triple_exact, contain
 use Rattle.reh_types.proofs.SetLaws.{All-items}
 use Rattle.reh_model.specs.Contents.{Contents, IsHeld, copies_of}
 use Rattle.reh_model.specs.Metadata.{Metadata, Fragment, with_member, with_member_at, next_version}
-use Rattle.reh_model.specs.Cluster.{Cluster, Ledger, ledger_at, change_ledger, is_locked_by, stripe_at}
+use Rattle.reh_model.specs.Cluster.{Cluster, Ledger, ledger_at, words_among, change_ledger, is_locked_by, stripe_at}
 use Rattle.reh_model.specs.Audit.{missing_members, published_members, audited_ledger}
 use Rattle.reh_model.specs.Step.{refusal_of, after, locked_ledger, unlocked_ledger, finished_ledger, expired_ledger, swapped_ledger}
-use Rattle.reh_model.specs.WellFormed.{IsLedger, IsCopy, IsWellFormed, words_of}
-use Rattle.reh_model.proofs.LedgerLaws.{KeepsId, changed_ledger, KeepsId-changed_ledger, ids-map, sum_by-map, is_found-map, found_itself}
-use Rattle.reh_model.proofs.ContentsLaws.{All-copy, IsHeld-insert, greatest_held-copied, union-copies_of-none, union-copies_of-cons}
+use Rattle.reh_model.specs.WellFormed.{IsLedger, IsCopy, IsWellFormed}
+use Rattle.reh_model.proofs.LedgerLaws.{KeepsId, KeepsWords, changed_ledger, KeepsId-changed_ledger, KeepsWords-changed_ledger, ids-map, sum_by-words, words_among-map, words_among-changed_ledger, is_found-map, found_itself}
+use Rattle.reh_model.proofs.ContentsLaws.{All-copy, IsHeld-insert, union-copies_of-none, union-copies_of-cons}
 use Rattle.reh_model.proofs.MemberLaws.{IsMetadata-set, with_member_at-found}
 use Rattle.reh_model.proofs.AuditLaws.{published_named, published_some}
 use Rattle.reh_model.proofs.AcceptedLaws.{IsSwappable, accepted_join, accepted_acquire, accepted_tick, accepted_copy, accepted_swap}
@@ -42,6 +41,7 @@ IsLedger-later bookies latest later g goes_on was = record {
   id = was.id;
   metadata = was.metadata;
   members = was.members;
+  words = was.words;
   task = was.task;
   lock = was.lock;
   due = λ due is. let kept = was.due due is in (omega (arith, kept.0), kept.1);
@@ -62,9 +62,9 @@ IsWellFormed-clock s clock was later in_time = record {
   contents = was.contents;
 }
 
--- ledgers are changed, and keep their ids
-IsWellFormed-ledgers : (s : Cluster) (change : Ledger → Ledger) → IsWellFormed s → KeepsId change → ((g : Ledger) → ledger_at s g.id ≡ Some g → IsLedgerOf s g → IsLedgerOf s (change g)) → IsWellFormed (record s { ledgers = map change s.ledgers })
-IsWellFormed-ledgers s change was keeps each = record {
+-- ledgers are changed, and keep their ids and their words
+IsWellFormed-ledgers : (s : Cluster) (change : Ledger → Ledger) → IsWellFormed s → KeepsId change → KeepsWords change → ((g : Ledger) → ledger_at s g.id ≡ Some g → IsLedgerOf s g → IsLedgerOf s (change g)) → IsWellFormed (record s { ledgers = map change s.ledgers })
+IsWellFormed-ledgers s change was keeps as_many each = record {
   names = was.names;
   grace = was.grace;
   clock = was.clock;
@@ -76,14 +76,15 @@ IsWellFormed-ledgers s change was keeps each = record {
         each (get_or s.ledgers k d) (found_itself s.ledgers was.ledgers.different k d within) (was.ledgers.each k d within));
   };
   contents = record {
-    copies = All-weaker (IsCopy (length s.names) s.ledgers) (IsCopy (length s.names) (map change s.ledgers)) (λ copy is. (is.0, is_found-map copy.1 change keeps s.ledgers ∙ is.1, is.2)) (items s.held) was.contents.copies;
-    words = subst (λ (n : ℕ). length s.names * n ≤ MAX_WORDS) (sym (sum_by-map (words_of s.held) change keeps s.ledgers)) was.contents.words;
+    copies = All-weaker (IsCopy (length s.names) s.ledgers) (IsCopy (length s.names) (map change s.ledgers)) (λ copy is.
+        (is.0, is_found-map copy.1 change keeps s.ledgers ∙ is.1, subst (λ (n : ℕ). copy.2 < ENTRIES_IN_WORD * n) (sym (words_among-map copy.1 change keeps as_many s.ledgers)) is.2)) (items s.held) was.contents.copies;
+    words = subst (λ (n : ℕ). length s.names * n ≤ MAX_WORDS) (sym (sum_by-words change as_many s.ledgers)) was.contents.words;
   };
 }
 
 -- one ledger is changed
-IsWellFormed-change_ledger : (s : Cluster) (l : ℕ) (change : Ledger → Ledger) → IsWellFormed s → KeepsId change → ((g : Ledger) → ledger_at s l ≡ Some g → IsLedgerOf s g → IsLedgerOf s (change g)) → IsWellFormed (change_ledger s l change)
-IsWellFormed-change_ledger s l change was keeps each = IsWellFormed-ledgers s (changed_ledger l change) was (KeepsId-changed_ledger l change keeps) (λ g found is.
+IsWellFormed-change_ledger : (s : Cluster) (l : ℕ) (change : Ledger → Ledger) → IsWellFormed s → KeepsId change → KeepsWords change → ((g : Ledger) → ledger_at s l ≡ Some g → IsLedgerOf s g → IsLedgerOf s (change g)) → IsWellFormed (change_ledger s l change)
+IsWellFormed-change_ledger s l change was keeps as_many each = IsWellFormed-ledgers s (changed_ledger l change) was (KeepsId-changed_ledger l change keeps) (KeepsWords-changed_ledger l change as_many) (λ g found is.
     elim (g.id == l) as (λ b. (g.id == l) ≡ b → IsLedgerOf s (if b then change g else g)) [
       | true ↦ λ hit. let same : g.id ≡ l = grind (arith, nat_tests) in each g (ap (λ (k : ℕ). ledger_at s k) (sym same) ∙ found) is
       | false ↦ λ _. is
@@ -111,7 +112,7 @@ IsWellFormed-copied s w l e was named some =
             (λ tied. subst can_be (sym (triple_exact q (w, l, e) ((Equal-is (triple_cmp q (w, l, e))).0 tied))) (named, known.1, known.2))
             (All-copy can_be s.held was.contents.copies q)
             (sym (contains-insert s.held (w, l, e) q) ∙ one));
-        words = subst (λ (n : ℕ). length s.names * n ≤ MAX_WORDS) (λ i. sum_by (λ g. option_map_or (λ greatest. greatest / ENTRIES_IN_WORD + 1) (sym (greatest_held-copied s.held w l e g.id some) i) 0) s.ledgers) was.contents.words;
+        words = was.contents.words;
       };
     }
 
@@ -130,6 +131,7 @@ IsLedger-unlocked_ledger s g was = record {
   id = was.id;
   metadata = was.metadata;
   members = was.members;
+  words = was.words;
   task = was.task;
   lock = λ lock is. absurd (cc);
   due = λ due is. absurd (cc);
@@ -138,6 +140,9 @@ IsLedger-unlocked_ledger s g was = record {
 -- without it, if it is this worker's
 pub KeepsId-expired_ledger : (w : ℕ) → KeepsId (expired_ledger w)
 KeepsId-expired_ledger w g = elim (is_locked_by w g) as (λ b. (if b then unlocked_ledger g else g).id ≡ g.id) [ true ↦ refl | false ↦ refl ]
+
+KeepsWords-expired_ledger : (w : ℕ) → KeepsWords (expired_ledger w)
+KeepsWords-expired_ledger w g = elim (is_locked_by w g) as (λ b. (if b then unlocked_ledger g else g).words ≡ g.words) [ true ↦ refl | false ↦ refl ]
 
 IsLedger-expired_ledger : (s : Cluster) (w : ℕ) (g : Ledger) → IsLedgerOf s g → IsLedgerOf s (expired_ledger w g)
 IsLedger-expired_ledger s w g was = elim (is_locked_by w g) as (λ b. IsLedgerOf s (if b then unlocked_ledger g else g)) [ true ↦ IsLedger-unlocked_ledger s g was | false ↦ was ]
@@ -148,6 +153,7 @@ IsLedger-finished_ledger s g was = record {
   id = was.id;
   metadata = was.metadata;
   members = was.members;
+  words = was.words;
   task = λ task is. absurd (cc);
   lock = λ lock is. absurd (cc);
   due = λ due is. absurd (cc);
@@ -159,6 +165,7 @@ IsLedger-locked_ledger s w g named some was = record {
   id = was.id;
   metadata = was.metadata;
   members = was.members;
+  words = was.words;
   task = was.task;
   lock = λ lock is. let owner : w ≡ lock.owner = cc in (omega arith, some);
   due = λ due is. absurd (cc);
@@ -178,6 +185,7 @@ IsLedger-swapped_ledger s g w f i may was =
       metadata = IsMetadata-set m f i w old stands may.fragment (may.new old at) (omega (arith, may.version)) was.metadata;
       members = All-set (λ (fragment : Fragment). All (λ b. b < length s.names) fragment.ensemble) m.fragments f (with_member old i w)
           (All-set (λ b. b < length s.names) old.ensemble i w may.named (was.members f nobody may.fragment)) was.members;
+      words = was.words;
       task = was.task;
       lock = was.lock;
       due = was.due;
@@ -187,6 +195,9 @@ IsLedger-swapped_ledger s g w f i may was =
 pub KeepsId-audited_ledger : (up : Set numbers) → KeepsId (audited_ledger up)
 KeepsId-audited_ledger up g = elim (is_empty (missing_members up g)) as (λ b. (if b then g else record g { task = Some (published_members up g) }).id ≡ g.id) [ true ↦ refl | false ↦ refl ]
 
+KeepsWords-audited_ledger : (up : Set numbers) → KeepsWords (audited_ledger up)
+KeepsWords-audited_ledger up g = elim (is_empty (missing_members up g)) as (λ b. (if b then g else record g { task = Some (published_members up g) }).words ≡ g.words) [ true ↦ refl | false ↦ refl ]
+
 IsLedger-audited_ledger : (s : Cluster) (g : Ledger) → IsLedgerOf s g → IsLedgerOf s (audited_ledger s.up g)
 IsLedger-audited_ledger s g was =
     elim (is_empty (missing_members s.up g)) as (λ b. is_empty (missing_members s.up g) ≡ b → IsLedgerOf s (if b then g else record g { task = Some (published_members s.up g) })) [
@@ -195,6 +206,7 @@ IsLedger-audited_ledger s g was =
         id = was.id;
         metadata = was.metadata;
         members = was.members;
+        words = was.words;
         task = λ task is. let same : published_members s.up g ≡ task = cc in subst (λ (t : Set numbers). (0 < len t) × All (λ b. b < length s.names) (items t)) same (published_some s g some, published_named s g was);
         lock = λ lock is. ((was.lock lock is).0, refl);
         due = was.due;
@@ -221,19 +233,32 @@ named-remove up k n named b is = named b (and_second (not (eq_by_cmp nat_cmp k b
 pub IsWellFormed-after : (s : Cluster) (event : Event) → IsWellFormed s → refusal_of s event ≡ None → IsWellFormed (after s event)
 IsWellFormed-after s (Lose b) was none = IsWellFormed-up s (remove s.up b) was (named-remove s.up b (length s.names) was.up)
 IsWellFormed-after s (Join b) was none = IsWellFormed-up s (insert s.up b) was (named-insert s.up b (length s.names) (accepted_join s b none) was.up)
-IsWellFormed-after s Audit was none = IsWellFormed-ledgers s (audited_ledger s.up) was (KeepsId-audited_ledger s.up) (λ g _ is. IsLedger-audited_ledger s g is)
-IsWellFormed-after s (Acquire w l) was none = IsWellFormed-change_ledger s l (locked_ledger w) was (λ g. refl) (λ g found is.
+IsWellFormed-after s Audit was none = IsWellFormed-ledgers s (audited_ledger s.up) was (KeepsId-audited_ledger s.up) (KeepsWords-audited_ledger s.up) (λ g _ is. IsLedger-audited_ledger s g is)
+IsWellFormed-after s (Acquire w l) was none = IsWellFormed-change_ledger s l (locked_ledger w) was (λ g. refl) (λ g. refl) (λ g found is.
     let may = accepted_acquire s w l g found none in
     IsLedger-locked_ledger s w g may.0 may.1 is)
-IsWellFormed-after s (Release w l) was none = IsWellFormed-change_ledger s l unlocked_ledger was (λ g. refl) (λ g _ is. IsLedger-unlocked_ledger s g is)
-IsWellFormed-after s (Finish w l) was none = IsWellFormed-change_ledger s l finished_ledger was (λ g. refl) (λ g _ is. IsLedger-finished_ledger s g is)
-IsWellFormed-after s (Expire w) was none = IsWellFormed-ledgers s (expired_ledger w) was (KeepsId-expired_ledger w) (λ g _ is. IsLedger-expired_ledger s w g is)
+IsWellFormed-after s (Release w l) was none = IsWellFormed-change_ledger s l unlocked_ledger was (λ g. refl) (λ g. refl) (λ g _ is. IsLedger-unlocked_ledger s g is)
+IsWellFormed-after s (Finish w l) was none = IsWellFormed-change_ledger s l finished_ledger was (λ g. refl) (λ g. refl) (λ g _ is. IsLedger-finished_ledger s g is)
+IsWellFormed-after s (Expire w) was none = IsWellFormed-ledgers s (expired_ledger w) was (KeepsId-expired_ledger w) (KeepsWords-expired_ledger w) (λ g _ is. IsLedger-expired_ledger s w g is)
 IsWellFormed-after s (Tick n) was none = IsWellFormed-clock s (s.clock + n) was (omega arith) (accepted_tick s n none)
 IsWellFormed-after s (Copy w l f i v) was none =
     let may = accepted_copy s w l f i v none in
     IsWellFormed-copied_all s w l (stripe_at s l f i) was may.named may.held
-IsWellFormed-after s (Swap w l f i v) was none = IsWellFormed-change_ledger s l (swapped_ledger f i w) was (λ g. refl) (λ g found is.
+IsWellFormed-after s (Swap w l f i v) was none = IsWellFormed-change_ledger s l (swapped_ledger f i w) was (λ g. refl) (λ g. refl) (λ g found is.
     IsLedger-swapped_ledger s g w f i (accepted_swap s w l f i v g found is.metadata.version none) is)
+
+-- No event changes how many words a ledger has.
+pub words_among-after : (s : Cluster) (event : Event) (l : ℕ) → words_among (after s event).ledgers l ≡ words_among s.ledgers l
+words_among-after s (Lose b) l = refl
+words_among-after s (Join b) l = refl
+words_among-after s Audit l = words_among-map l (audited_ledger s.up) (KeepsId-audited_ledger s.up) (KeepsWords-audited_ledger s.up) s.ledgers
+words_among-after s (Acquire w k) l = words_among-changed_ledger l k (locked_ledger w) (λ g. refl) (λ g. refl) s.ledgers
+words_among-after s (Release w k) l = words_among-changed_ledger l k unlocked_ledger (λ g. refl) (λ g. refl) s.ledgers
+words_among-after s (Finish w k) l = words_among-changed_ledger l k finished_ledger (λ g. refl) (λ g. refl) s.ledgers
+words_among-after s (Expire w) l = words_among-map l (expired_ledger w) (KeepsId-expired_ledger w) (KeepsWords-expired_ledger w) s.ledgers
+words_among-after s (Tick n) l = refl
+words_among-after s (Copy w k f i v) l = refl
+words_among-after s (Swap w k f i v) l = words_among-changed_ledger l k (swapped_ledger f i w) (λ g. refl) (λ g. refl) s.ledgers
 
 -- A ledger that is found is one of the cluster.
 pub IsLedger-found : (s : Cluster) (l : ℕ) (g : Ledger) → IsWellFormed s → ledger_at s l ≡ Some g → IsLedgerOf s g

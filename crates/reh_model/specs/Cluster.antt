@@ -9,10 +9,11 @@ use Rattle.reh_types.specs.Sets.{Set, numbers}
 use Rattle.reh_model.specs.Contents.{Contents, has}
 use Rattle.reh_model.specs.Metadata.{Metadata, Fragment, writes, stop_of, stripe_of}
 
--- a ledger: its metadata, the bookies that its task is to replace, if it has one, and the task's lock, if it is locked
+-- a ledger: its metadata, how many words of 64 entries each bookie's row of it has, the bookies that its task is to replace, if it has one, and the task's lock, if it is locked
 pub record Ledger : Type 0 where
   pub id : ℕ
   pub metadata : Metadata
+  pub words : ℕ
   pub task : Option (Set numbers)
   pub lock : Option Lock
 
@@ -41,6 +42,10 @@ ledger_among ledgers l = find (λ g. g.id == l) ledgers
 
 abbrev pub ledger_at : Cluster → ℕ → Option Ledger
 ledger_at s l = ledger_among s.ledgers l
+
+-- how many words the ledger of that id has, none where there is no such ledger
+abbrev pub words_among : List Ledger → ℕ → ℕ
+words_among ledgers l = option_map_or (λ g. g.words) (ledger_among ledgers l) 0
 
 -- the cluster with that ledger changed, and nothing else
 abbrev pub change_ledger : Cluster → ℕ → (Ledger → Ledger) → Cluster

@@ -1,14 +1,14 @@
 -- Which clusters there can be: the limits, the rules of ledgers, and what tasks, locks and due ticks stand on.
-use Rattle.std.specs.Prelude.{◌≡◌, ℕ, true, ◌+◌, ◌*◌, ◌/◌, ◌<◌, ◌≤◌, List, map, length, sum_by, IsTrue, nat_eq, All}
+use Rattle.std.specs.Prelude.{◌≡◌, ℕ, true, ◌+◌, ◌*◌, ◌<◌, ◌≤◌, List, map, length, sum_by, IsTrue, nat_eq, All}
 use Rattle.std.specs.List.{IsDistinct}
-use Rattle.std.specs.Option.{ForSome, IsSome, option_map_or}
+use Rattle.std.specs.Option.{ForSome, IsSome}
 use Rattle.std.specs.Str.{bytes_eq}
 use Rattle.reh_types.specs.declared.limits.TheConstants.{CLOCK_END, ENTRIES_IN_WORD, ENTRY_END, MAX_BOOKIES, MAX_GRACE, MAX_LEDGERS, MAX_LEDGER_ID, MAX_WORDS}
 use Rattle.reh_types.specs.Sets as set
 use Rattle.reh_types.specs.Sets.{Set, numbers}
-use Rattle.reh_model.specs.Contents.{Contents, greatest_held}
+use Rattle.reh_model.specs.Contents.{Contents}
 use Rattle.reh_model.specs.Metadata.{IsMetadata, is_open}
-use Rattle.reh_model.specs.Cluster.{Cluster, Ledger, is_up, due_of, ledger_among}
+use Rattle.reh_model.specs.Cluster.{Cluster, Ledger, is_up, due_of, ledger_among, words_among}
 
 -- the names of the bookies: at least one, and none twice
 pub record AreNames (names : List (List ℕ)) : Type 0 where
@@ -16,11 +16,12 @@ pub record AreNames (names : List (List ℕ)) : Type 0 where
   pub few : length names ≤ MAX_BOOKIES
   pub different : IsDistinct bytes_eq names
 
--- a ledger among so many bookies, where no due tick is past the latest one: its metadata, which names these bookies, its task and its lock
+-- a ledger among so many bookies, where no due tick is past the latest one: its metadata, which names these bookies, its words, its task and its lock
 pub record IsLedger (bookies latest : ℕ) (g : Ledger) : Type 0 where
   pub id : g.id ≤ MAX_LEDGER_ID
   pub metadata : IsMetadata g.metadata
   pub members : All (λ fragment. All (λ b. b < bookies) fragment.ensemble) g.metadata.fragments
+  pub words : ENTRIES_IN_WORD * g.words ≤ ENTRY_END
   pub task : ForSome g.task (λ task. (0 < set.len task) × All (λ b. b < bookies) (set.items task))
   pub lock : ForSome g.lock (λ lock. (lock.owner < bookies) × IsSome g.task)
   pub due : ForSome (due_of g) (λ due. (due ≤ latest) × IsTrue (is_open g.metadata.state))
@@ -30,17 +31,13 @@ pub record AreLedgers (bookies latest : ℕ) (ledgers : List Ledger) : Type 0 wh
   pub different : IsDistinct nat_eq (map (λ g. g.id) ledgers)
   pub each : All (IsLedger bookies latest) ledgers
 
--- how many words of entries reach the greatest entry that is held of a ledger
-abbrev pub words_of : Contents → ℕ → ℕ
-words_of contents l = option_map_or (λ greatest. greatest / ENTRIES_IN_WORD + 1) (greatest_held contents l) 0
-
--- the bookie and the ledger are in the picture, and the entry is one that there can be
+-- the bookie and the ledger are in the picture, and the entry lies within the ledger's words
 abbrev pub IsCopy : ℕ → List Ledger → ℕ × ℕ × ℕ → Type 0
-IsCopy bookies ledgers t = (t.0 < bookies) × IsSome (ledger_among ledgers t.1) × (t.2 < ENTRY_END)
+IsCopy bookies ledgers t = (t.0 < bookies) × IsSome (ledger_among ledgers t.1) × (t.2 < ENTRIES_IN_WORD * words_among ledgers t.1)
 
 pub record AreContents (bookies : ℕ) (ledgers : List Ledger) (held : Contents) : Type 0 where
   pub copies : All (IsCopy bookies ledgers) (set.items held)
-  pub words : bookies * sum_by (λ g. words_of held g.id) ledgers ≤ MAX_WORDS
+  pub words : bookies * sum_by (λ g. g.words) ledgers ≤ MAX_WORDS
 
 pub record IsWellFormed (s : Cluster) : Type 0 where
   pub names : AreNames s.names

@@ -46,10 +46,10 @@ abbrev ensemble : Fragment
 ensemble = record { first = 0; ensemble = 0 ∷ 1 ∷ 2 ∷ [] }
 
 abbrev closed_ledger : Ledger
-closed_ledger = record { id = 7; metadata = record { size = 3; write_quorum = 2; ack_quorum = 2; state = Closed 6; version = 0; fragments = ensemble ∷ [] }; task = None; lock = None }
+closed_ledger = record { id = 7; metadata = record { size = 3; write_quorum = 2; ack_quorum = 2; state = Closed 6; version = 0; fragments = ensemble ∷ [] }; words = 1; task = None; lock = None }
 
 abbrev open_ledger : Ledger
-open_ledger = record { id = 9; metadata = record { size = 3; write_quorum = 3; ack_quorum = 2; state = Open; version = 0; fragments = ensemble ∷ [] }; task = None; lock = None }
+open_ledger = record { id = 9; metadata = record { size = 3; write_quorum = 3; ack_quorum = 2; state = Open; version = 0; fragments = ensemble ∷ [] }; words = 1; task = None; lock = None }
 
 abbrev contents : Contents
 contents =

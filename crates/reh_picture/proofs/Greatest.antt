@@ -1,13 +1,14 @@
 -- The greatest entry of a ledger, by the ends of the ranges that are held.
 use Rattle.std.proofs.Common.{◌≡◌, ℕ, zero, suc, ◌+◌, ◌-◌, ◌<◌, ◌≤◌, Bool, true, false, cond, List, [], ◌∷◌, ◌++◌, map, length, take, get_or, Option, None, Some, refl, sym, ap, ◌∙◌, subst, arith, nat_eq, append-nil}
-use Rattle.std.specs.Prelude.{max, All}
-use Rattle.std.specs.List.{fold, flat_map, range_with_len}
-use Rattle.std.specs.Option.{option_map_or}
+use Rattle.std.specs.Prelude.{◌==◌, max, All}
+use Rattle.std.specs.List.{filter, fold, flat_map, range_with_len, reduce}
+use Rattle.std.specs.Option.{ForSome, option_map_or}
 use Rattle.std.proofs.lemmas.List.{take_more}
+use Rattle.std.proofs.lemmas.List.Elements.{All-cons, All-head, All-nil, All-tail}
 use Rattle.std.proofs.lemmas.List.Sums.{fold-append}
 use Rattle.std.proofs.lemmas.Grind.{flat_map-append}
 use Rattle.reh_types.specs.Sets as set
-use Rattle.reh_model.specs.Contents.{Contents, greatest_held}
+use Rattle.reh_model.specs.Contents.{Contents, entries_held, greatest_held}
 use Rattle.reh_model.proofs.ContentsLaws.{greatest_held-insert}
 use Rattle.reh_picture.specs.Contents.{copies_within, IsGreatest}
 
@@ -61,3 +62,25 @@ IsGreatest-next before after s w l ranges of_holding i d within same some is not
     ∙ ap (fold set.insert s) (flat_map-append (copies_within w l) (take i ranges) (range ∷ []) ∙ ap (λ ts. flat_map (copies_within w l) (take i ranges) ++ ts) (append-nil (copies_within w l range)))
     ∙ fold-append set.insert s (flat_map (copies_within w l) (take i ranges)) (copies_within w l range) in
     subst (λ (t : Contents). IsGreatest after t) (sym one_more) (IsGreatest-range before after so_far w l range (each i d within) is noted)
+
+-- The greatest entry where all are below a number
+
+fold-low : (es : List ℕ) (e n : ℕ) → e < n → All (λ x. x < n) es → fold max e es < n
+fold-low [] e n low others = low
+fold-low (x ∷ es) e n low others = let first : x < n = All-head (λ x. x < n) x es others in fold-low es (max e x) n (omega (arith, low, first)) (All-tail (λ x. x < n) x es others)
+
+reduce-low : (es : List ℕ) (n : ℕ) → All (λ x. x < n) es → ForSome (reduce max es) (λ x. x < n)
+reduce-low [] n low = λ x is. cc
+reduce-low (e ∷ es) n low = λ x is. let same : fold max e es ≡ x = cc in subst (λ (y : ℕ). y < n) same (fold-low es e n (All-head (λ x. x < n) e es low) (All-tail (λ x. x < n) e es low))
+
+entries-low : (l n : ℕ) (ts : List (ℕ × ℕ × ℕ)) → All (λ t. t.2 < n) ts → All (λ x. x < n) (map (λ (t : ℕ × ℕ × ℕ). t.2) (filter (λ t. t.1 == l) ts))
+entries-low l n [] low = All-nil (λ x. x < n)
+entries-low l n (t ∷ ts) low =
+    let others = entries-low l n ts (All-tail (λ (t : ℕ × ℕ × ℕ). t.2 < n) t ts low) in
+    elim (t.1 == l) as (λ b. All (λ x. x < n) (map (λ (t : ℕ × ℕ × ℕ). t.2) (cond b (t ∷ filter (λ t. t.1 == l) ts) (filter (λ t. t.1 == l) ts)))) [
+      | true ↦ All-cons (λ x. x < n) t.2 (map (λ (t : ℕ × ℕ × ℕ). t.2) (filter (λ t. t.1 == l) ts)) (All-head (λ (t : ℕ × ℕ × ℕ). t.2 < n) t ts low) others
+      | false ↦ others
+    ]
+
+pub greatest_held-low : (contents : Contents) (l n : ℕ) → All (λ t. t.2 < n) (set.items contents) → ForSome (greatest_held contents l) (λ x. x < n)
+greatest_held-low contents l n low = reduce-low (entries_held contents l) n (entries-low l n (set.items contents) low)

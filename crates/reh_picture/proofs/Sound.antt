@@ -2,7 +2,7 @@
 use Rattle.std.proofs.Common.{◌≡◌, ℕ, zero, suc, ◌+◌, ◌-◌, ◌*◌, ◌<◌, ◌≤◌, Bool, true, false, not, ◌&&◌, ◌||◌, cond, List, [], ◌∷◌, ◌++◌, map, length, get_or, Option, None, Some, IsSome, is_some, refl, sym, ap, ◌∙◌, subst, arith, nat_lt, nat_eq, unwrap_or, append-nil, append_assoc, if◌then◌else◌, lit≤}
 use Rattle.std.specs.Prelude.{◌==◌, codes, nat_le, ℤ, pos, negsuc, All, sum_by}
 use Rattle.std.specs.List.{list_any, find, flat_map, filter, enumerate_from, range_with_len, IsDistinct, position_or_len}
-use Rattle.std.specs.Option.{option_or, option_map, option_and_then, ForSome}
+use Rattle.std.specs.Option.{option_or, option_map, option_map_or, option_and_then, ForSome}
 use Rattle.std.specs.Ordering.{nat_cmp, eq_by_cmp, is_eq}
 use Rattle.std.specs.Cmp.{IsEquivalence, tied_itself, Equal-is, unsigned_tied}
 use Rattle.std.specs.Result.{result_ok}
@@ -14,14 +14,15 @@ use Rattle.std.proofs.lemmas.List.Folds.{list_any-append}
 use Rattle.std.proofs.lemmas.Map.Keys.{IsDistinct-push}
 use Rattle.std.proofs.lemmas.Slice.Eq.{bytes_eq-Decides}
 use Rattle.serde_json.specs.Data.{Data}
-use Rattle.reh_types.specs.declared.limits.TheConstants.{ENTRY_END, MAX_BOOKIES, MAX_ENTRY_ID, MAX_FRAGMENTS, MAX_GRACE, MAX_LEDGERS, MAX_LEDGER_ID, MAX_VERSION, MAX_WORDS}
+use Rattle.reh_types.specs.declared.limits.TheConstants.{ENTRIES_IN_WORD, ENTRY_END, MAX_BOOKIES, MAX_ENTRY_ID, MAX_FRAGMENTS, MAX_GRACE, MAX_LEDGERS, MAX_LEDGER_ID, MAX_VERSION, MAX_WORDS}
 use Rattle.reh_types.specs.declared.names.LedgerState.TheVariants.{Open, InRecovery, Closed}
 use Rattle.reh_types.specs.Sets as set
 use Rattle.reh_types.specs.Sets.{Set, numbers, triples, triple_cmp, triple_total, contains-from_list, contains-items}
 use Rattle.reh_model.specs.Metadata.{Metadata, Fragment, IsMetadata, end_of_state}
-use Rattle.reh_model.specs.Cluster.{Cluster, Ledger, ledger_at}
-use Rattle.reh_model.specs.WellFormed.{IsCopy, IsWellFormed, words_of}
+use Rattle.reh_model.specs.Cluster.{Cluster, Ledger, ledger_among, ledger_at, words_among}
+use Rattle.reh_model.specs.WellFormed.{IsCopy, IsWellFormed}
 use Rattle.reh_model.proofs.WellFormedLaws.{IsLedgerOf}
+use Rattle.reh_model.proofs.ContentsLaws.{IsReached, greatest_held-reached}
 use Rattle.reh_model.proofs.Ranges.{Passes, any_passes, list_any-map, same_answer}
 use Rattle.reh_model.proofs.CheckLaws.{both-none, reason_unless-none}
 use Rattle.reh_model.proofs.MetadataLaws.{KeepsRules, IsMetadata-from_rules}
@@ -34,11 +35,12 @@ use Rattle.reh_model.specs.Checks.{reason_unless}
 use Rattle.reh_picture.specs.Faults.{fault_along}
 use Rattle.reh_picture.specs.Members.{integer_in, number_of, text_of, flag_of, list_of, number_fault, list_fault}
 use Rattle.reh_picture.specs.Bookies.{bookie_fault, each_bookie_fault, bookies_fault, names_in, registered_in, bookie_in, known_fault}
-use Rattle.reh_picture.specs.Ledgers.{member_name, member_fault, members_fault, fragment_fault, fragment_in, fragments_fault, is_closed, end_after, end_in, state_in, pictured_metadata, broken_rule, metadata_fault, ledger_fault, ids_in, each_ledger_fault, ledgers_fault, ledger_in}
-use Rattle.reh_picture.specs.Contents.{ends_of, next_after, range_fault, ranges_fault, Holding, holding_in, pairs_in, content_fault, each_content_fault, contents_fault, copies_within, copies_in, held_in}
+use Rattle.reh_picture.specs.Ledgers.{member_name, member_fault, members_fault, fragment_fault, fragment_in, fragments_fault, is_closed, end_after, end_in, state_in, pictured_metadata, broken_rule, metadata_fault, ledger_fault, ids_in, each_ledger_fault, ledgers_fault, ListedLedger, listed_in, ledger_of, ledger_in}
+use Rattle.reh_picture.specs.Contents.{ends_of, next_after, range_fault, ranges_fault, Holding, holding_in, pairs_in, content_fault, each_content_fault, contents_fault, copies_within, copies_in, held_in, words_to, IsGreatest}
 use Rattle.reh_model.specs.Contents as model
 use Rattle.reh_cluster.specs.Parts.{cluster_of}
-use Rattle.reh_picture.specs.Pictures.{names_of, ids_of, pictured_cluster, words_in_all, head_fault, parts_fault, fields_fault, IsShown}
+use Rattle.reh_picture.proofs.Greatest.{greatest_held-low}
+use Rattle.reh_picture.specs.Pictures.{names_of, ids_of, contents_of, pictured_cluster, words_in_all, head_fault, parts_fault, fields_fault, IsShown}
 
 -- Tests
 
@@ -213,9 +215,14 @@ metadata_good names ledger d none =
       fragments = each;
     }
 
--- a ledger in any cluster with these names
-ledger_good : (s : Cluster) (before : List Data) (d : Data) → ledger_fault s.names (ids_in before) d ≡ None → IsLedgerOf s (ledger_in s.names d)
-ledger_good s before d none =
+-- words that reach a greatest entry which there can be
+words_to-low : (greatest : Option ℕ) → ForSome greatest (λ entry. entry < ENTRY_END) → ENTRIES_IN_WORD * words_to greatest ≤ ENTRY_END
+words_to-low None low = lit≤ tt
+words_to-low (Some entry) low = omega (arith, low entry refl)
+
+-- a ledger in any cluster with these names, where each entry that is held is one that there can be
+ledger_good : (s : Cluster) → All (λ t. t.2 < ENTRY_END) (set.items s.held) → (before : List Data) (d : Data) → ledger_fault s.names (ids_in before) d ≡ None → IsLedgerOf s (ledger_in s.names s.held d)
+ledger_good s low before d none =
     let id = both-none _ _ (both-none _ _ none).1 in
     let twice = both-none _ _ id.1 in
     let metadata = metadata_good s.names (number_of d field.Id) d (both-none _ _ twice.1).0 in
@@ -223,14 +230,15 @@ ledger_good s before d none =
       id = (number_within d field.Id 0 MAX_LEDGER_ID id.0).1;
       metadata = metadata.metadata;
       members = λ k fragment within. (metadata.fragments k fragment within).members;
+      words = words_to-low (model.greatest_held s.held (number_of d field.Id)) (greatest_held-low s.held (number_of d field.Id) ENTRY_END low);
       task = λ task is. cc;
       lock = λ lock is. cc;
       due = λ due is. cc;
     }
 
-ledgers_good : (s : Cluster) (ledgers : List Data) → each_ledger_fault s.names ledgers ≡ None → All (IsLedgerOf s) (map (ledger_in s.names) ledgers)
+ledgers_good : (s : Cluster) → All (λ t. t.2 < ENTRY_END) (set.items s.held) → (ledgers : List Data) → each_ledger_fault s.names ledgers ≡ None → All (IsLedgerOf s) (map (ledger_in s.names s.held) ledgers)
 unfolding each_ledger_fault
-ledgers_good s ledgers none = all_made (λ before d. ledger_fault s.names (ids_in before) d) (ledger_in s.names) (IsLedgerOf s) (ledger_good s) [] ledgers none
+ledgers_good s low ledgers none = all_made (λ before d. ledger_fault s.names (ids_in before) d) (ledger_in s.names s.held) (IsLedgerOf s) (ledger_good s low) [] ledgers none
 
 ledger_differs : (names : List (List ℕ)) (before : List Data) (d : Data) → ledger_fault names (ids_in before) d ≡ None → list_any (nat_eq (number_of d field.Id)) (ids_in before) ≡ false
 ledger_differs names before d none = not-true _ (reason_unless-none _ _ (both-none _ _ (both-none _ _ (both-none _ _ none).1).1).0)
@@ -240,20 +248,39 @@ unfolding each_ledger_fault
 ids_differ names ledgers none = differ nat_eq nat_eq_equiv (λ d. number_of d field.Id) (λ before d. ledger_fault names (ids_in before) d) (ledger_differs names) ledgers none
 
 -- the ids of the ledgers that are made
-ids_made : (names : List (List ℕ)) (ledgers : List Data) → map {A = Ledger} {B = ℕ} (λ g. g.id) (map (ledger_in names) ledgers) ≡ ids_in ledgers
-ids_made names [] = refl
-ids_made names (d ∷ ds) = ap (λ (ids : List ℕ). number_of d field.Id ∷ ids) (ids_made names ds)
+ids_made : (names : List (List ℕ)) (held : model.Contents) (ledgers : List Data) → map {A = Ledger} {B = ℕ} (λ g. g.id) (map (ledger_in names held) ledgers) ≡ ids_in ledgers
+ids_made names held [] = refl
+ids_made names held (d ∷ ds) = ap (λ (ids : List ℕ). number_of d field.Id ∷ ids) (ids_made names held ds)
 
 -- a ledger of an id that is there is found
-ledger_found : (names : List (List ℕ)) (l : ℕ) (ledgers : List Data) → list_any (nat_eq l) (ids_in ledgers) ≡ true → is_some (find (λ g. g.id == l) (map (ledger_in names) ledgers)) ≡ true
-ledger_found names l [] any = cc
-ledger_found names l (d ∷ ds) any =
-    elim (nat_eq (number_of d field.Id) l) as (λ t. nat_eq (number_of d field.Id) l ≡ t → is_some (cond t (Some (ledger_in names d)) (find (λ g. g.id == l) (map (ledger_in names) ds))) ≡ true) [
+ledger_found : (names : List (List ℕ)) (held : model.Contents) (l : ℕ) (ledgers : List Data) → list_any (nat_eq l) (ids_in ledgers) ≡ true → is_some (find (λ g. g.id == l) (map (ledger_in names held) ledgers)) ≡ true
+ledger_found names held l [] any = cc
+ledger_found names held l (d ∷ ds) any =
+    elim (nat_eq (number_of d field.Id) l) as (λ t. nat_eq (number_of d field.Id) l ≡ t → is_some (cond t (Some (ledger_in names held d)) (find (λ g. g.id == l) (map (ledger_in names held) ds))) ≡ true) [
       | true ↦ λ t. refl
-      | false ↦ λ t. let off : nat_eq l (number_of d field.Id) ≡ false = grind (arith, nat_tests, t) in ledger_found names l ds (ap (λ b. b || list_any (nat_eq l) (ids_in ds)) (sym off) ∙ any)
+      | false ↦ λ t. let off : nat_eq l (number_of d field.Id) ≡ false = grind (arith, nat_tests, t) in ledger_found names held l ds (ap (λ b. b || list_any (nat_eq l) (ids_in ds)) (sym off) ∙ any)
     ] refl
 
+-- a ledger that is found has the words that reach its greatest entry
+words_found : (names : List (List ℕ)) (held : model.Contents) (l : ℕ) (ledgers : List Data) → IsSome (ledger_among (map (ledger_in names held) ledgers) l) → words_among (map (ledger_in names held) ledgers) l ≡ words_to (model.greatest_held held l)
+words_found names held l [] some = cc
+words_found names held l (d ∷ ds) some =
+    let others = map (ledger_in names held) ds in
+    elim (number_of d field.Id == l) as (λ t. (number_of d field.Id == l) ≡ t → IsSome (cond t (Some (ledger_in names held d)) (ledger_among others l))
+    → option_map_or (λ g. g.words) (cond t (Some (ledger_in names held d)) (ledger_among others l)) 0 ≡ words_to (model.greatest_held held l)) [
+      | true ↦ λ here _. let same : number_of d field.Id ≡ l = grind (arith, nat_tests, here) in ap (λ (k : ℕ). words_to (model.greatest_held held k)) same
+      | false ↦ λ _ some. words_found names held l ds some
+    ] refl some
+
+-- an entry that isn't past the greatest lies within the words that reach that
+within_words : (greatest : Option ℕ) (e : ℕ) → IsReached greatest e → e < ENTRIES_IN_WORD * words_to greatest
+within_words greatest e is = subst (λ (o : Option ℕ). e < ENTRIES_IN_WORD * words_to o) (sym is.is) (omega (arith, is.reached))
+
 -- Contents
+
+-- the bookie and the ledger are in the picture, and the entry is one that there can be
+abbrev IsPictured : ℕ → List Ledger → ℕ × ℕ × ℕ → Type 0
+IsPictured bookies ledgers t = (t.0 < bookies) × IsSome (ledger_among ledgers t.1) × (t.2 < ENTRY_END)
 
 abbrev is_triple : ℕ × ℕ × ℕ → ℕ × ℕ × ℕ → Bool
 is_triple q t = eq_by_cmp triple_cmp q t
@@ -267,47 +294,47 @@ any_of_two : {A : Type 0} (p : A → Bool) (xs ys : List A) (P : Type 0) → (li
 any_of_two p xs ys P first second is = or-either (list_any p xs) (list_any p ys) P first second (sym (list_any-append p xs ys) ∙ is)
 
 -- an entry of a range
-copy_in_range : (s : Cluster) (bookie ledger : ℕ) (ends : ℕ × ℕ) (q : ℕ × ℕ × ℕ) → bookie < length s.names → IsSome (ledger_at s ledger) → ends.1 ≤ MAX_ENTRY_ID → list_any (is_triple q) (copies_within bookie ledger ends) ≡ true → IsCopy (length s.names) s.ledgers q
+copy_in_range : (s : Cluster) (bookie ledger : ℕ) (ends : ℕ × ℕ) (q : ℕ × ℕ × ℕ) → bookie < length s.names → IsSome (ledger_at s ledger) → ends.1 ≤ MAX_ENTRY_ID → list_any (is_triple q) (copies_within bookie ledger ends) ≡ true → IsPictured (length s.names) s.ledgers q
 copy_in_range s bookie ledger ends q known there small any =
     let w : Passes (λ e. is_triple q (bookie, ledger, e)) ends.0 ((ends.1 + 1) - ends.0) =
     any_passes (λ e. is_triple q (bookie, ledger, e)) ends.0 ((ends.1 + 1) - ends.0) (sym (list_any-map (is_triple q) (λ e. (bookie, ledger, e)) (range_with_len ends.0 ((ends.1 + 1) - ends.0))) ∙ any) in
     let same : (bookie, ledger, w.at) ≡ q = sym (triples.exact q (bookie, ledger, w.at) ((Equal-is (triple_cmp q (bookie, ledger, w.at))).0 w.passes)) in
     let low : w.at < ENTRY_END = omega (arith, w.from, w.below) in
-    subst (λ (t : ℕ × ℕ × ℕ). IsCopy (length s.names) s.ledgers t) same (known, there, low)
+    subst (λ (t : ℕ × ℕ × ℕ). IsPictured (length s.names) s.ledgers t) same (known, there, low)
 
 -- an entry of ranges without a fault
 copy_in_ranges : (s : Cluster) (bookie ledger : ℕ) (q : ℕ × ℕ × ℕ) → bookie < length s.names → IsSome (ledger_at s ledger) → (before ranges : List Data) → fault_along (λ before d. range_fault (next_after before) d) before ranges ≡ None
-    → list_any (is_triple q) (flat_map (copies_within bookie ledger) (map ends_of ranges)) ≡ true → IsCopy (length s.names) s.ledgers q
+    → list_any (is_triple q) (flat_map (copies_within bookie ledger) (map ends_of ranges)) ≡ true → IsPictured (length s.names) s.ledgers q
 copy_in_ranges s bookie ledger q known there before [] none any = cc
 copy_in_ranges s bookie ledger q known there before (d ∷ ds) none any =
     let checks = both-none _ _ none in
     let within : ((nat_le (next_after before) (ends_of d).0 && nat_le (ends_of d).0 (ends_of d).1) ≡ true) × (nat_le (ends_of d).1 MAX_ENTRY_ID ≡ true) = and-true _ _ (reason_unless-none _ _ (both-none _ _ (both-none _ _ checks.0).1).0) in
-    any_of_two (is_triple q) (copies_within bookie ledger (ends_of d)) (flat_map (copies_within bookie ledger) (map ends_of ds)) (IsCopy (length s.names) s.ledgers q)
+    any_of_two (is_triple q) (copies_within bookie ledger (ends_of d)) (flat_map (copies_within bookie ledger) (map ends_of ds)) (IsPictured (length s.names) s.ledgers q)
     (copy_in_range s bookie ledger (ends_of d) q known there (grind (arith, nat_tests, within.1)))
     (copy_in_ranges s bookie ledger q known there (before ++ d ∷ []) ds checks.1)
     any
 
 ranges_copies : (s : Cluster) (bookie ledger : ℕ) (q : ℕ × ℕ × ℕ) → bookie < length s.names → IsSome (ledger_at s ledger) → (ranges : List Data) → ranges_fault ranges ≡ None
-    → list_any (is_triple q) (flat_map (copies_within bookie ledger) (map ends_of ranges)) ≡ true → IsCopy (length s.names) s.ledgers q
+    → list_any (is_triple q) (flat_map (copies_within bookie ledger) (map ends_of ranges)) ≡ true → IsPictured (length s.names) s.ledgers q
 unfolding ranges_fault
 ranges_copies s bookie ledger q known there ranges none any = copy_in_ranges s bookie ledger q known there [] ranges none any
 
 -- an entry of contents without a fault
 module _ (s : Cluster) (ids : List ℕ) (found : (l : ℕ) → list_any (nat_eq l) ids ≡ true → IsSome (ledger_at s l)) (q : ℕ × ℕ × ℕ) where
-  copy_in_contents : (before contents : List Data) → fault_along (λ before d. content_fault s.names ids (pairs_in s.names before) d) before contents ≡ None → list_any (is_triple q) (flat_map copies_in (map (holding_in s.names) contents)) ≡ true → IsCopy (length s.names) s.ledgers q
+  copy_in_contents : (before contents : List Data) → fault_along (λ before d. content_fault s.names ids (pairs_in s.names before) d) before contents ≡ None → list_any (is_triple q) (flat_map copies_in (map (holding_in s.names) contents)) ≡ true → IsPictured (length s.names) s.ledgers q
   copy_in_contents before [] none any = cc
   copy_in_contents before (d ∷ ds) none any =
       let checks = both-none _ _ none in
       let content = both-none _ _ checks.0 in
       let bookie = both-none _ _ (both-none _ _ (both-none _ _ content.0).1).1 in
       let ledger = both-none _ _ (both-none _ _ bookie.1).1 in
-      any_of_two (is_triple q) (copies_in (holding_in s.names d)) (flat_map copies_in (map (holding_in s.names) ds)) (IsCopy (length s.names) s.ledgers q)
+      any_of_two (is_triple q) (copies_in (holding_in s.names d)) (flat_map copies_in (map (holding_in s.names) ds)) (IsPictured (length s.names) s.ledgers q)
       (ranges_copies s (bookie_in s.names (text_of d field.Bookie)) (number_of d field.Ledger) q (bookie_known s.names (text_of d field.Bookie) bookie.0) (found (number_of d field.Ledger) (reason_unless-none _ _ ledger.0))
       (list_of d field.Entries) (both-none _ _ (both-none _ _ content.1).1).0)
       (copy_in_contents (before ++ d ∷ []) ds checks.1)
       any
 
-  contents_copies : (contents : List Data) → each_content_fault s.names ids contents ≡ None → list_any (is_triple q) (flat_map copies_in (map (holding_in s.names) contents)) ≡ true → IsCopy (length s.names) s.ledgers q
+  contents_copies : (contents : List Data) → each_content_fault s.names ids contents ≡ None → list_any (is_triple q) (flat_map copies_in (map (holding_in s.names) contents)) ≡ true → IsPictured (length s.names) s.ledgers q
   unfolding each_content_fault
   contents_copies contents none any = copy_in_contents [] contents none any
 
@@ -338,11 +365,11 @@ get_or-among eq itself (x ∷ xs) (suc k) d within = or-second (eq (get_or xs k 
     or-second true b is = refl
     or-second false b is = is
 
--- the items of a set of triples have what holds of its list
-all_items : (P : ℕ × ℕ × ℕ → Type 0) (ts : List (ℕ × ℕ × ℕ)) → ((q : ℕ × ℕ × ℕ) → list_any (is_triple q) ts ≡ true → P q) → All P (set.items (set.from_list {o = triples} ts))
-all_items P ts each = λ k d within.
-    let q = get_or (set.items (set.from_list {o = triples} ts)) k d in
-    each q (sym (contains-from_list triples ts q) ∙ contains-items (set.from_list {o = triples} ts) q ∙ get_or-among is_triple (λ x. ap is_eq (tied_itself triple_total x)) (set.items (set.from_list {o = triples} ts)) k d within)
+-- the items of a set have what holds of each copy that is in it
+all_items : (P : ℕ × ℕ × ℕ → Type 0) (held : model.Contents) → ((q : ℕ × ℕ × ℕ) → set.contains held q ≡ true → P q) → All P (set.items held)
+all_items P held each = λ k d within.
+    let q = get_or (set.items held) k d in
+    each q (contains-items held q ∙ get_or-among is_triple (λ x. ap is_eq (tied_itself triple_total x)) (set.items held) k d within)
 
 -- The cluster
 
@@ -377,6 +404,34 @@ IsFaultless-none d none =
       each_content = (both-none _ _ contents.1).0;
     }
 
+-- what is held of a picture in which nothing is wrong
+pictured_copy : (d : Data) → IsFaultless d → (q : ℕ × ℕ × ℕ) → set.contains (contents_of d) q ≡ true → IsPictured (length (names_of d)) (pictured_cluster d).ledgers q
+pictured_copy d good q one =
+    let s = pictured_cluster d in
+    contents_copies s (ids_of d) (λ l there. ledger_found (names_of d) s.held l (list_of d field.Ledgers) there) q (list_of d field.Contents) good.each_content
+    (sym (contains-from_list triples (flat_map copies_in (map (holding_in (names_of d)) (list_of d field.Contents))) q) ∙ one)
+
+-- and lies within the words of its ledger
+copy_good : (d : Data) → IsFaultless d → (q : ℕ × ℕ × ℕ) → set.contains (contents_of d) q ≡ true → IsCopy (length (names_of d)) (pictured_cluster d).ledgers q
+copy_good d good q one =
+    let held = contents_of d in
+    let known = pictured_copy d good q one in (
+      known.0,
+      known.1,
+      subst (λ (n : ℕ). q.2 < ENTRIES_IN_WORD * n) (sym (words_found (names_of d) held q.1 (list_of d field.Ledgers) known.1))
+          (within_words (model.greatest_held held q.1) q.2 (greatest_held-reached held q.1 q.2 (q.0, one))),
+    )
+
+-- the ledgers of such a picture
+pictured_ledgers : (d : Data) → IsFaultless d → All (IsLedgerOf (pictured_cluster d)) (pictured_cluster d).ledgers
+pictured_ledgers d good =
+    let s = pictured_cluster d in
+    ledgers_good s (all_items (λ q. q.2 < ENTRY_END) s.held (λ q one. (pictured_copy d good q one).2)) (list_of d field.Ledgers) good.each_ledger
+
+-- their words are few
+pub pictured_words : (d : Data) → IsFaultless d → All (λ g. ENTRIES_IN_WORD * g.words ≤ ENTRY_END) (pictured_cluster d).ledgers
+pictured_words d good = λ k g within. (pictured_ledgers d good k g within).words
+
 -- such parts within the limit of words are a well-formed cluster
 pub IsWellFormed-pictured_cluster : (d : Data) → IsFaultless d → words_in_all (pictured_cluster d) ≤ MAX_WORDS → IsWellFormed (pictured_cluster d)
 IsWellFormed-pictured_cluster d good words =
@@ -392,32 +447,51 @@ IsWellFormed-pictured_cluster d good words =
       clock = lit≤ tt;
       up = registered_named (list_of d field.Bookies);
       ledgers = record {
-        few = omega (arith, length-map (list_of d field.Ledgers) (ledger_in (names_of d)), good.ledgers);
-        different = subst (λ (ids : List ℕ). IsDistinct nat_eq ids) (sym (ids_made (names_of d) (list_of d field.Ledgers))) (ids_differ (names_of d) (list_of d field.Ledgers) good.each_ledger);
-        each = ledgers_good s (list_of d field.Ledgers) good.each_ledger;
+        few = omega (arith, length-map (list_of d field.Ledgers) (ledger_in (names_of d) s.held), good.ledgers);
+        different = subst (λ (ids : List ℕ). IsDistinct nat_eq ids) (sym (ids_made (names_of d) s.held (list_of d field.Ledgers))) (ids_differ (names_of d) (list_of d field.Ledgers) good.each_ledger);
+        each = pictured_ledgers d good;
       };
       contents = record {
-        copies = all_items (IsCopy (length s.names) s.ledgers) (flat_map copies_in (map (holding_in (names_of d)) (list_of d field.Contents)))
-            (λ q. contents_copies s (ids_of d) (λ l there. ledger_found (names_of d) l (list_of d field.Ledgers) there) q (list_of d field.Contents) good.each_content);
+        copies = all_items (IsCopy (length s.names) s.ledgers) s.held (copy_good d good);
         words = words;
       };
     }
 
--- the parts that were read are those of the cluster
-pub cluster_of-shown : (d : Data) (names : List (List ℕ)) (up : Set numbers) (grace : ℕ) (ledgers : List Ledger) (holdings : List Holding) (held : model.Contents) → IsShown d names up grace ledgers holdings → held ≡ held_in holdings → cluster_of names up grace ledgers held ≡ pictured_cluster d
-cluster_of-shown d names up grace ledgers holdings held shown is = λ i. record {
+-- the listed ledgers with the greatest entries of the contents are the ledgers where those are held
+ledgers_made : (names : List (List ℕ)) (ends : ℕ → Option ℕ) (held : model.Contents) → IsGreatest ends held → (ds : List Data) → map (ledger_of ends) (map (listed_in names) ds) ≡ map (ledger_in names held) ds
+ledgers_made names ends held is [] = refl
+ledgers_made names ends held is (d ∷ ds) = λ i. record {
+  id = number_of d field.Id;
+  metadata = pictured_metadata names d;
+  words = words_to (is (number_of d field.Id) i);
+  task = None;
+  lock = None;
+}
+    ∷ ledgers_made names ends held is ds i
+
+-- the ledgers that were read are those of the cluster
+pub ledgers-shown : (d : Data) (names : List (List ℕ)) (up : Set numbers) (grace : ℕ) (listed : List ListedLedger) (holdings lent : List Holding) (ends : ℕ → Option ℕ) (ledgers : List Ledger) → IsShown d names up grace listed holdings → lent ≡ holdings
+    → IsGreatest ends (held_in lent) → ledgers ≡ map (ledger_of ends) listed → ledgers ≡ (pictured_cluster d).ledgers
+ledgers-shown d names up grace listed holdings lent ends ledgers shown same is made =
+    made ∙ ap (map (ledger_of ends)) shown.listed_are
+    ∙ ledgers_made (names_of d) ends (contents_of d) (subst (λ (hs : List Holding). IsGreatest ends (held_in hs)) (same ∙ shown.holdings_are) is) (list_of d field.Ledgers)
+
+-- and so are the other parts
+pub cluster_of-shown : (d : Data) (names : List (List ℕ)) (up : Set numbers) (grace : ℕ) (listed : List ListedLedger) (holdings : List Holding) (ledgers : List Ledger) (held : model.Contents) → IsShown d names up grace listed holdings
+    → ledgers ≡ (pictured_cluster d).ledgers → held ≡ held_in holdings → cluster_of names up grace ledgers held ≡ pictured_cluster d
+cluster_of-shown d names up grace listed holdings ledgers held shown made is = λ i. record {
   names = shown.names_are i;
   grace = shown.grace_is i;
   up = shown.up_is i;
-  ledgers = shown.ledgers_are i;
+  ledgers = made i;
   held = (is ∙ ap held_in shown.holdings_are) i;
   clock = 0;
 }
 
 -- and take as many words
-pub words_in_all-shown : (d : Data) (names : List (List ℕ)) (up : Set numbers) (grace : ℕ) (ledgers lent : List Ledger) (held : model.Contents) (bookies words : ℕ) → cluster_of names up grace ledgers held ≡ pictured_cluster d → bookies ≡ length names → lent ≡ ledgers
-    → words ≡ bookies * sum_by (λ g. words_of held g.id) lent → words ≡ words_in_all (pictured_cluster d)
-words_in_all-shown d names up grace ledgers lent held bookies words whole count same is = is ∙ (λ i. count i * sum_by (λ g. words_of held g.id) (same i)) ∙ ap words_in_all whole
+pub words_in_all-shown : (d : Data) (names : List (List ℕ)) (ledgers : List Ledger) (bookies words : ℕ) → names ≡ names_of d → ledgers ≡ (pictured_cluster d).ledgers → bookies ≡ length names
+    → words ≡ bookies * sum_by (λ g. g.words) ledgers → words ≡ words_in_all (pictured_cluster d)
+words_in_all-shown d names ledgers bookies words named made count is = is ∙ (λ i. (count ∙ ap length named) i * sum_by (λ g. g.words) (made i))
 
 -- the limit of words is judged last
 pub fields_fault-within : (d : Data) → parts_fault d ≡ None → words_in_all (pictured_cluster d) ≤ MAX_WORDS → fields_fault d ≡ None

@@ -1,10 +1,10 @@
 -- What the bookies of a picture hold.
-use Rattle.std.specs.Prelude.{◌≡◌, ℕ, ◌+◌, Bool, not, ◌&&◌, nat_eq, nat_le, List, [], ◌∷◌, map, Option, None, Result}
+use Rattle.std.specs.Prelude.{◌≡◌, ℕ, ◌+◌, ◌/◌, Bool, not, ◌&&◌, nat_eq, nat_le, List, [], ◌∷◌, map, Option, None, Result}
 use Rattle.std.specs.List.{list_any, flat_map, last_or}
 use Rattle.std.specs.Option.{ok_or, option_and_then, option_map, option_map_or}
 use Rattle.std.specs.Result.{result_err, result_unwrap_or}
 use Rattle.serde_json.specs.Data.{Data}
-use Rattle.reh_types.specs.declared.limits.TheConstants.{MAX_ENTRY_ID}
+use Rattle.reh_types.specs.declared.limits.TheConstants.{ENTRIES_IN_WORD, MAX_ENTRY_ID}
 use Rattle.serde_json.specs.Find.{as_number, as_u64, as_array}
 use Rattle.reh_types.specs.Sets as set
 use Rattle.reh_model.specs.Striping.{range}
@@ -108,6 +108,10 @@ copies_in holding = flat_map (copies_within holding.bookie holding.ledger) holdi
 
 abbrev pub held_in : List Holding → model.Contents
 held_in holdings = set.from_list (flat_map copies_in holdings)
+
+-- how many words of entries reach the greatest one; none where there is none
+abbrev pub words_to : Option ℕ → ℕ
+words_to greatest = option_map_or (λ greatest. greatest / ENTRIES_IN_WORD + 1) greatest 0
 
 -- these are the greatest entries of the ledgers that are held
 abbrev pub IsGreatest : (ℕ → Option ℕ) → model.Contents → Type 0

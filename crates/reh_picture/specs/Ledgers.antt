@@ -10,6 +10,7 @@ use Rattle.serde_json.specs.Find.{as_str}
 use Rattle.reh_types.specs.declared.names.LedgerState.{LedgerState}
 use Rattle.reh_types.specs.declared.names.LedgerState.TheVariants.{Open, InRecovery, Closed}
 use Rattle.reh_model.specs.Metadata.{Metadata, Fragment}
+use Rattle.reh_model.specs.Contents.{Contents, greatest_held}
 use Rattle.reh_model.specs.Cluster.{Ledger}
 use Rattle.reh_meta.specs.Faults.{fault_of}
 use Rattle.reh_meta.specs.declared.faults.MetaFault.{MetaFault}
@@ -23,6 +24,7 @@ use Rattle.reh_model.specs.Checks.{first_reason, reason_unless}
 use Rattle.reh_picture.specs.Faults.{fault_along}
 use Rattle.reh_picture.specs.Members.{is_object, number_in, text_in, list_in, integer_in, number_of, text_of, list_of, number_fault, list_fault}
 use Rattle.reh_picture.specs.Bookies.{bookie_in, known_fault}
+use Rattle.reh_picture.specs.Contents.{words_to}
 
 -- Fragments
 
@@ -158,6 +160,18 @@ each_ledger_fault names ledgers = fault_along (λ before d. ledger_fault names (
 unfoldable pub ledgers_fault : List (List ℕ) → Data → Option PictureFault
 ledgers_fault names d = first_reason (list_fault d field.Ledgers 0 MAX_LEDGERS ∷ each_ledger_fault names (list_of d field.Ledgers) ∷ [])
 
--- the ledger, with no task and no lock
-abbrev pub ledger_in : List (List ℕ) → Data → Ledger
-ledger_in names d = record { id = number_of d field.Id; metadata = pictured_metadata names d; task = None; lock = None }
+-- a ledger by the fields of its own, which don't say how many words it has
+pub record ListedLedger : Type 0 where
+  pub id : ℕ
+  pub metadata : Metadata
+
+abbrev pub listed_in : List (List ℕ) → Data → ListedLedger
+listed_in names d = record { id = number_of d field.Id; metadata = pictured_metadata names d }
+
+-- the ledger with the words that reach its greatest entry, with no task and no lock
+abbrev pub ledger_of : (ℕ → Option ℕ) → ListedLedger → Ledger
+ledger_of greatest g = record { id = g.id; metadata = g.metadata; words = words_to (greatest g.id); task = None; lock = None }
+
+-- the ledger, where the bookies hold these contents
+abbrev pub ledger_in : List (List ℕ) → Contents → Data → Ledger
+ledger_in names contents d = ledger_of (greatest_held contents) (listed_in names d)

@@ -5,15 +5,15 @@ use Rattle.serde_json.specs.Data.{Data}
 use Rattle.reh_types.specs.declared.limits.TheConstants.{MAX_GRACE, MAX_PICTURE_BYTES, MAX_WORDS}
 use Rattle.serde_json.specs.Read.{read}
 use Rattle.reh_types.specs.Sets.{Set, numbers}
-use Rattle.reh_model.specs.Cluster.{Cluster, Ledger}
-use Rattle.reh_model.specs.WellFormed.{words_of}
+use Rattle.reh_model.specs.Contents.{Contents}
+use Rattle.reh_model.specs.Cluster.{Cluster}
 use Rattle.reh_picture.specs.declared.fields.Field.TheVariants as field
 use Rattle.reh_picture.specs.declared.faults.PictureFault.{PictureFault}
 use Rattle.reh_picture.specs.declared.faults.PictureFault.TheVariants.{TooLong, NotJson, WrongKind, Limit}
 use Rattle.reh_model.specs.Checks.{first_reason, reason_unless}
 use Rattle.reh_picture.specs.Members.{is_object, number_fault, number_of, list_of}
 use Rattle.reh_picture.specs.Bookies.{bookies_fault, names_in, registered_in}
-use Rattle.reh_picture.specs.Ledgers.{ledgers_fault, ledger_in, ids_in}
+use Rattle.reh_picture.specs.Ledgers.{ledgers_fault, ListedLedger, listed_in, ledger_in, ids_in}
 use Rattle.reh_picture.specs.Contents.{Holding, contents_fault, holding_in, held_in}
 
 -- the names of a picture's bookies, and the ids of its ledgers
@@ -24,20 +24,24 @@ names_of d = names_in (list_of d field.Bookies)
 abbrev pub ids_of : Data → List ℕ
 ids_of d = ids_in (list_of d field.Ledgers)
 
+-- what its bookies hold
+abbrev pub contents_of : Data → Contents
+contents_of d = held_in (map (holding_in (names_of d)) (list_of d field.Contents))
+
 -- the cluster that the fields name, with no task and no lock, at clock 0
 abbrev pub pictured_cluster : Data → Cluster
 pictured_cluster d = record {
   names = names_of d;
   grace = number_of d field.Grace;
   up = registered_in (list_of d field.Bookies);
-  ledgers = map (ledger_in (names_of d)) (list_of d field.Ledgers);
-  held = held_in (map (holding_in (names_of d)) (list_of d field.Contents));
+  ledgers = map (ledger_in (names_of d) (contents_of d)) (list_of d field.Ledgers);
+  held = contents_of d;
   clock = 0;
 }
 
--- words of entries that all bookies together take, each as many for a ledger as reach its greatest entry
+-- words of entries that all bookies together take, each as many for a ledger as it has
 abbrev pub words_in_all : Cluster → ℕ
-words_in_all s = length s.names * sum_by (λ g. words_of s.held g.id) s.ledgers
+words_in_all s = length s.names * sum_by (λ g. g.words) s.ledgers
 
 -- what is wrong before the lists
 unfoldable pub head_fault : Data → Option PictureFault
@@ -84,9 +88,9 @@ abbrev pub picture_of : List ℕ → Result Cluster PictureFault
 picture_of bytes = if nat_lt MAX_PICTURE_BYTES (length bytes) then Err TooLong else shown_by (json_of bytes)
 
 -- What was read of a picture without a fault of its fields: the parts of the cluster that it shows.
-pub record IsShown (d : Data) (names : List (List ℕ)) (up : Set numbers) (grace : ℕ) (ledgers : List Ledger) (holdings : List Holding) : Type 0 where
+pub record IsShown (d : Data) (names : List (List ℕ)) (up : Set numbers) (grace : ℕ) (listed : List ListedLedger) (holdings : List Holding) : Type 0 where
   pub names_are : names ≡ names_of d
   pub up_is : up ≡ registered_in (list_of d field.Bookies)
   pub grace_is : grace ≡ number_of d field.Grace
-  pub ledgers_are : ledgers ≡ map (ledger_in (names_of d)) (list_of d field.Ledgers)
+  pub listed_are : listed ≡ map (listed_in (names_of d)) (list_of d field.Ledgers)
   pub holdings_are : holdings ≡ map (holding_in (names_of d)) (list_of d field.Contents)

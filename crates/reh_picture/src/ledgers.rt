@@ -1,5 +1,7 @@
 // The ledgers of a picture.
 ghost use Rattle.std.specs.Prelude.{◌≡◌, true, Some, ◌≤◌, ◌<◌, [], ◌∷◌, ◌++◌, length, map, IfOk, OnOk, All};
+ghost use Rattle.std.specs.BTreeMap.{get};
+ghost use Rattle.std.specs.Ordering.{nat_cmp};
 ghost use Rattle.std.specs.Option.{ForSome};
 ghost use Rattle.std.specs.Result.{result_err};
 ghost use Rattle.serde_json.specs.View.{view};
@@ -8,7 +10,8 @@ ghost use Rattle.reh_model.specs.Metadata.{end_of_state};
 ghost use Rattle.reh_picture.specs.Faults.{FailsWith};
 ghost use Rattle.reh_picture.specs.Members.{number_of, list_of};
 ghost use Rattle.reh_picture.specs.Bookies.{known_fault, bookie_in};
-ghost use Rattle.reh_picture.specs.Ledgers.{member_fault, members_fault, member_name, fragment_fault, fragment_in, state_fault, state_in, last_fault, end_in, is_closed, sizes_fault, fragments_fault, metadata_fault, pictured_metadata, ledger_fault, each_ledger_fault, ledgers_fault, ledger_in, ids_in, broken_rule};
+ghost use Rattle.reh_picture.specs.Ledgers.{member_fault, members_fault, member_name, fragment_fault, fragment_in, state_fault, state_in, last_fault, end_in, is_closed, sizes_fault, fragments_fault, metadata_fault, pictured_metadata, ledger_fault, each_ledger_fault, ledgers_fault, listed_in, ledger_of, ids_in, broken_rule};
+ghost use Rattle.reh_picture.specs.Contents.{words_to as words_to_greatest};
 
 use crate::faults::{FaultName, LedgerFlaw, PictureFault, Repeated};
 use crate::fields::Field;
@@ -17,11 +20,13 @@ use indexmap::IndexSet;
 use reh_cluster::{Ledger, Names};
 use reh_meta::{Fragment, LedgerMeta, MetaFault, Sizes};
 use reh_types::{
-    BookieIx, LedgerId, LedgerState, MAX_ENTRY_ID, MAX_FRAGMENTS, MAX_LEDGER_ID, MAX_LEDGERS,
-    MAX_VERSION,
+    BookieIx, ENTRIES_IN_WORD, LedgerId, LedgerState, MAX_ENTRY_ID, MAX_FRAGMENTS, MAX_LEDGER_ID,
+    MAX_LEDGERS, MAX_VERSION,
 };
 use serde_json::Value;
-use std::alloc::Global;
+use std::alloc::{AllocError, Global};
+use std::collections::BTreeMap;
+use std::marker::Model;
 
 /// The bookie of that name, which must be one of the picture's.
 pub(crate) fn known_bookie(
@@ -189,13 +194,64 @@ fn read_metadata(
     ))
 }
 
+/// A ledger by the fields of its own, which don't say how many words it has.
+#[derive(Drop)]
+pub struct ListedLedger {
+    id: LedgerId,
+    metadata: LedgerMeta,
+}
+
+impl Model for ListedLedger {
+    ghost use Rattle.reh_picture.specs.Ledgers.{ListedLedger as ListedValue};
+
+    ghost Value = { ListedValue };
+
+    ghost view = { λ g. record { id = g.id; metadata = g.metadata } };
+}
+
+impl ListedLedger {
+    /// The ledger, with no task, where this is the greatest entry of it that any bookie holds.
+    fn reaching(self, greatest: Option<u32>) -> Ledger
+        ensures { result ≡ ledger_of (λ _. greatest) self }
+    {
+        Ledger::new(self.id, self.metadata, words_to(greatest))
+    }
+}
+
+/// How many words of entries reach the greatest one, if there is one.
+fn words_to(greatest: Option<u32>) -> usize
+    ensures { result ≡ words_to_greatest greatest }
+{
+    match greatest {
+        Some(greatest) => greatest as usize / ENTRIES_IN_WORD as usize + 1,
+        None => 0,
+    }
+}
+
+/// The listed ledgers, each with as many words as reach its greatest entry.
+pub(crate) fn with_words(
+    alloc: Global,
+    listed: Vec<ListedLedger>,
+    greatest: &BTreeMap<LedgerId, u32>,
+) -> Result<Vec<Ledger>, AllocError>
+    ensures { IfOk result
+        (λ ledgers. ledgers.items ≡ map (ledger_of (get nat_cmp greatest.now)) listed.items) }
+{
+    let mut ledgers = Vec::new(alloc);
+    for ledger in listed {
+        let end = greatest.get(&ledger.id).copied();
+        ledgers.push(ledger.reaching(end))?;
+    }
+    Ok(ledgers)
+}
+
 /// The ledgers of a picture, in its order.
 #[derive(Drop)]
 pub struct Ledgers {
     /// Their ids.
     pub(crate) ids: IndexSet<u64>,
-    /// The ledgers, with no task.
-    pub(crate) ledgers: Vec<Ledger>,
+    /// The ledgers, before their words are known.
+    pub(crate) listed: Vec<ListedLedger>,
 }
 
 /// The ledgers of a picture.
@@ -208,9 +264,9 @@ pub(crate) fn read_ledgers(
     ensures fault { FailsWith result (ledgers_fault names.now (view picture.now)) }
     ensures ids { IfOk result
         (λ ledgers. ledgers.ids.keys ≡ ids_in (list_of (view picture.now) Field.Ledgers)) }
-    ensures metadata { IfOk result (λ ledgers.
-        ledgers.ledgers.items
-        ≡ map (ledger_in names.now) (list_of (view picture.now) Field.Ledgers)) }
+    ensures listed { IfOk result (λ ledgers.
+        ledgers.listed.items
+        ≡ map (listed_in names.now) (list_of (view picture.now) Field.Ledgers)) }
 {
     let ledgers = list_within(picture, Field::Ledgers, 0, MAX_LEDGERS)?;
     read_each_ledger(alloc, names, ledgers)
@@ -221,15 +277,15 @@ pub(crate) fn read_ledgers(
 fn read_each_ledger(alloc: Global, names: &Names, values: &[Value]) -> Result<Ledgers, PictureFault>
     ensures fault { FailsWith result (each_ledger_fault names.now (map view values.now)) }
     ensures ids { IfOk result (λ ledgers. ledgers.ids.keys ≡ ids_in (map view values.now)) }
-    ensures ledgers { IfOk result
-        (λ ledgers. ledgers.ledgers.items ≡ map (ledger_in names.now) (map view values.now)) }
+    ensures listed { IfOk result
+        (λ ledgers. ledgers.listed.items ≡ map (listed_in names.now) (map view values.now)) }
 {
     let mut ids = IndexSet::new(alloc);
-    let mut ledgers = Vec::new(alloc);
+    let mut listed = Vec::new(alloc);
     for value in values {
-        ledgers.push(read_ledger(alloc, names, &mut ids, value)?)?;
+        listed.push(read_ledger(alloc, names, &mut ids, value)?)?;
     }
-    Ok(Ledgers { ids, ledgers })
+    Ok(Ledgers { ids, listed })
 }
 
 /// One more ledger's metadata; its id joins the ids. After an `Err` they may have it.
@@ -238,11 +294,11 @@ fn read_ledger(
     names: &Names,
     ids: &mut IndexSet<u64>,
     ledger: &Value,
-) -> Result<Ledger, PictureFault>
+) -> Result<ListedLedger, PictureFault>
     ensures fault { FailsWith result (ledger_fault names.now ids.old.keys (view ledger.now)) }
     ensures ids { OnOk result
         (ids.new.keys ≡ ids.old.keys ++ number_of (view ledger.now) Field.Id ∷ []) }
-    ensures ledger { IfOk result (λ g. g ≡ ledger_in names.now (view ledger.now)) }
+    ensures ledger { IfOk result (λ g. g ≡ listed_in names.now (view ledger.now)) }
 {
     if !ledger.is_object() {
         return Err(PictureFault::WrongKind(Field::Ledger));
@@ -251,6 +307,7 @@ fn read_ledger(
     if !ids.insert(id)? {
         return Err(PictureFault::Twice(Repeated::Ledger(LedgerId(id))));
     }
-    let metadata = read_metadata(alloc, names, LedgerId(id), ledger)?;
-    Ok(Ledger::new(LedgerId(id), metadata))
+    let id = LedgerId(id);
+    let metadata = read_metadata(alloc, names, id, ledger)?;
+    Ok(ListedLedger { id, metadata })
 }

@@ -1,25 +1,22 @@
 // A picture as a whole.
-ghost use Rattle.std.specs.Prelude.{◌≡◌, ◌≢◌, ◌+◌, ◌*◌, ◌/◌, ◌^◌, ◌≤◌, All, length, sum_by, Ok, Err, Some, None, MatchResult, IfOk, IfErr};
-ghost use Rattle.std.specs.Option.{option_map_or};
+ghost use Rattle.std.specs.Prelude.{◌≡◌, ◌≢◌, ◌*◌, ◌≤◌, All, length, sum_by, Ok, Err, Some, None, MatchResult, IfOk, IfErr};
 ghost use Rattle.std.specs.Result.{result_err};
 ghost use Rattle.serde_json.specs.View.{view};
-ghost use Rattle.reh_types.specs.declared.limits.TheConstants.{ENTRIES_IN_WORD, MAX_BOOKIES, MAX_GRACE, MAX_LEDGERS};
+ghost use Rattle.reh_types.specs.declared.limits.TheConstants.{ENTRIES_IN_WORD, ENTRY_END, MAX_BOOKIES, MAX_GRACE, MAX_LEDGERS};
 ghost use Rattle.reh_picture.specs.Members.{number_of};
 ghost use Rattle.reh_picture.specs.Faults.{FailsWith};
-ghost use Rattle.reh_model.specs.WellFormed.{words_of};
-ghost use Rattle.reh_picture.specs.Contents.{held_in};
 ghost use Rattle.reh_picture.specs.Pictures.{picture_of, head_fault, parts_fault, fields_fault, pictured_cluster, IsShown, json_of};
 
 use crate::bookies::read_bookies;
 use crate::contents::{Holding, greatest_ends, hold, read_contents};
 use crate::faults::PictureFault;
 use crate::fields::Field;
-use crate::ledgers::{Ledgers, read_ledgers};
+use crate::ledgers::{Ledgers, ListedLedger, read_ledgers, with_words};
 use crate::members::number_within;
 use reh_cluster::{Ledger, Names, State};
-use reh_types::{BookieSet, ENTRIES_IN_WORD, MAX_GRACE, MAX_PICTURE_BYTES, MAX_WORDS};
+use reh_types::{BookieSet, MAX_GRACE, MAX_PICTURE_BYTES, MAX_WORDS};
 use serde_json::Value;
-use std::alloc::{AllocError, Global};
+use std::alloc::Global;
 
 /// The number of the format.
 const FORMAT: u64 = 1;
@@ -56,47 +53,30 @@ fn read_cluster(alloc: Global, picture: &Value) -> Result<State, PictureFault>
         names,
         up,
         grace,
-        ledgers,
+        listed,
         holdings,
     } = read_parts(alloc, picture)?;
-    if words_in_all(alloc, names.len(), &ledgers, &holdings)? > MAX_WORDS {
+    let greatest = greatest_ends(alloc, &holdings)?;
+    let ledgers = with_words(alloc, listed, &greatest)?;
+    if words_in_all(names.len(), &ledgers) > MAX_WORDS {
         return Err(PictureFault::Limit(Field::Contents));
     }
     let held = hold(alloc, &holdings)?;
     Ok(State::build(names, up, grace, ledgers, held))
 }
 
-/// How many words of entries so many bookies take, each as many for a ledger as reach its greatest entry.
-fn words_in_all(
-    alloc: Global,
-    bookies: usize,
-    ledgers: &[Ledger],
-    holdings: &[Holding],
-) -> Result<u64, AllocError>
+/// How many words of entries so many bookies take, each as many for a ledger as it has.
+fn words_in_all(bookies: usize, ledgers: &[Ledger]) -> u64
     requires bookies { bookies ≤ MAX_BOOKIES }
     requires ledgers { length ledgers.now ≤ MAX_LEDGERS }
-    requires ranges { All (λ holding. All (λ range. range.0 ≤ range.1) holding.ranges) holdings.now }
-    ensures { IfOk result
-        (λ words. words
-        ≡ bookies * sum_by (λ g. words_of (held_in holdings.now) g.id) ledgers.now) }
+    requires words { All (λ g. ENTRIES_IN_WORD * g.words ≤ ENTRY_END) ledgers.now }
+    ensures { result ≡ bookies * sum_by (λ g. g.words) ledgers.now }
 {
-    let ends = greatest_ends(alloc, holdings)?;
     let mut words = 0;
     for ledger in ledgers {
-        words += words_to(ends.get(&ledger.id()).copied());
+        words += ledger.words() as u64;
     }
-    Ok(bookies as u64 * words)
-}
-
-/// How many words of entries reach the greatest entry, if there is one.
-fn words_to(greatest: Option<u32>) -> u64
-    ensures words { result ≡ option_map_or (λ greatest. greatest / ENTRIES_IN_WORD + 1) greatest 0 }
-    ensures small { result ≤ 2 ^ 26 }
-{
-    match greatest {
-        Some(greatest) => greatest as u64 / ENTRIES_IN_WORD + 1,
-        None => 0,
-    }
+    bookies as u64 * words
 }
 
 /// What a picture shows, before the limit of words is judged.
@@ -105,7 +85,7 @@ struct Parts {
     names: Names,
     up: BookieSet,
     grace: u64,
-    ledgers: Vec<Ledger>,
+    listed: Vec<ListedLedger>,
     holdings: Vec<Holding>,
 }
 
@@ -127,17 +107,17 @@ fn read_grace(picture: &Value) -> Result<u64, PictureFault>
 fn read_parts(alloc: Global, picture: &Value) -> Result<Parts, PictureFault>
     ensures fault { FailsWith result (parts_fault (view picture.now)) }
     ensures shown { IfOk result (λ p. IsShown (view picture.now)
-        p.names p.up p.grace p.ledgers.items p.holdings.items) }
+        p.names p.up p.grace p.listed.items p.holdings.items) }
 {
     let grace = read_grace(picture)?;
     let (names, up) = read_bookies(alloc, picture)?;
-    let Ledgers { ids, ledgers } = read_ledgers(alloc, &names, picture)?;
+    let Ledgers { ids, listed } = read_ledgers(alloc, &names, picture)?;
     let holdings = read_contents(alloc, &names, &ids, picture)?;
     Ok(Parts {
         names,
         up,
         grace,
-        ledgers,
+        listed,
         holdings,
     })
 }

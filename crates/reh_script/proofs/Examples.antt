@@ -87,10 +87,10 @@ worked = record {
   grace = 3;
   up = from_list (0 ∷ 2 ∷ []);
   ledgers =
-      record { id = 7; metadata = metadata_of (Closed 6) 2 (fragment 0 (0 ∷ 1 ∷ []) ∷ fragment 4 (1 ∷ 2 ∷ []) ∷ []); task = Some (from_list (1 ∷ [])); lock = Some (record { owner = 2; due = None }) }
-      ∷ record { id = 0; metadata = metadata_of (Closed 0) 0 (fragment 0 (2 ∷ 0 ∷ []) ∷ []); task = None; lock = None }
-      ∷ record { id = 1_000_000_000_000; metadata = metadata_of Open 0 (fragment 0 (0 ∷ 1 ∷ []) ∷ []); task = Some (from_list (2 ∷ 0 ∷ [])); lock = Some (record { owner = 0; due = Some 8 }) }
-      ∷ record { id = 3; metadata = metadata_of InRecovery 1 (fragment 0 (0 ∷ 1 ∷ []) ∷ []); task = Some (from_list (1 ∷ [])); lock = None }
+      record { id = 7; metadata = metadata_of (Closed 6) 2 (fragment 0 (0 ∷ 1 ∷ []) ∷ fragment 4 (1 ∷ 2 ∷ []) ∷ []); words = 1; task = Some (from_list (1 ∷ [])); lock = Some (record { owner = 2; due = None }) }
+      ∷ record { id = 0; metadata = metadata_of (Closed 0) 0 (fragment 0 (2 ∷ 0 ∷ []) ∷ []); words = 0; task = None; lock = None }
+      ∷ record { id = 1_000_000_000_000; metadata = metadata_of Open 0 (fragment 0 (0 ∷ 1 ∷ []) ∷ []); words = 0; task = Some (from_list (2 ∷ 0 ∷ [])); lock = Some (record { owner = 0; due = Some 8 }) }
+      ∷ record { id = 3; metadata = metadata_of InRecovery 1 (fragment 0 (0 ∷ 1 ∷ []) ∷ []); words = 1; task = Some (from_list (1 ∷ [])); lock = None }
       ∷ [];
   held = from_list ((0, 7, 0) ∷ (1, 7, 0) ∷ (1, 7, 4) ∷ (1, 3, 0) ∷ []);
   clock = 5;

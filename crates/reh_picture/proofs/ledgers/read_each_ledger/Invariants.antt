@@ -1,12 +1,12 @@
 -- The values so far have no fault; theirs are the ledgers and the ids.
 use Rattle.std.proofs.Common.{◌≡◌, map, take}
 use Rattle.serde_json.specs.View.{view}
-use Rattle.reh_picture.specs.Ledgers.{ledger_fault, ledger_in, ids_in}
+use Rattle.reh_picture.specs.Ledgers.{ledger_fault, listed_in, ids_in}
 use Rattle.reh_picture.proofs.Lists.{HasMade}
 use Rattle.reh_picture.proofs.ledgers.read_each_ledger.Given as goal
 
 abbrev pub invariant-loop-value : goal.invariant-loop-value
 invariant-loop-value l = record {
-  made : HasMade (λ before d. ledger_fault l.names (ids_in before) d) (ledger_in l.names) l.values l.value-index l.ledgers.items;
+  made : HasMade (λ before d. ledger_fault l.names (ids_in before) d) (listed_in l.names) l.values l.value-index l.listed.items;
   ids : l.ids.keys ≡ ids_in (map view (take l.value-index l.values));
 }
