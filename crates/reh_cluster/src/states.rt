@@ -1,11 +1,12 @@
 // The state of a cluster.
-ghost use Rattle.std.specs.Prelude.{◌≡◌, ◌+◌, ◌<◌, ◌≤◌, length, None, IfOk, OnOk, OnErr};
+ghost use Rattle.std.specs.Prelude.{◌≡◌, ℕ, ◌+◌, ◌<◌, ◌≤◌, length, None, All, IfOk, OnOk, OnErr};
 ghost use Rattle.std.specs.List.{find};
 ghost use Rattle.std.specs.Prelude.{◌==◌};
 ghost use Rattle.std.specs.Option.{option_copied};
 ghost use Rattle.reh_types.specs.declared.limits.TheConstants.{CLOCK_END};
 ghost use Rattle.reh_types.specs.Sets as set;
-ghost use Rattle.reh_model.specs.Contents.{IsHeld, count_held, greatest_held};
+ghost use Rattle.reh_held.specs.Rows.{is_set};
+ghost use Rattle.reh_model.specs.Contents.{IsHeld, copies_of, count_held, greatest_held};
 ghost use Rattle.reh_model.specs.Cluster as model;
 ghost use Rattle.reh_model.specs.Step.{refusal_of, after};
 ghost use Rattle.reh_model.specs.WellFormed.{IsWellFormed};
@@ -14,7 +15,7 @@ use crate::ledgers::{Ledger, expire_all, place_of, publish_all};
 use crate::names::Names;
 use reh_held::Held;
 use reh_types::{BookieIx, BookieSet, LedgerId};
-use std::alloc::AllocError;
+use std::alloc::{AllocError, Global};
 use std::marker::Model;
 
 /// The cluster as it stands: names, registered bookies, ledgers in picture order with their tasks and locks, contents, clock and grace.
@@ -35,20 +36,21 @@ impl Model for State {
 
     ghost Value = { Cluster };
 
-    ghost use Rattle.reh_cluster.specs.State.{cluster_in, IsWellFormedIn};
+    ghost use Rattle.reh_cluster.specs.State.{cluster_in, IsState};
 
     ghost view = { cluster_in };
 
-    ghost invariant = { IsWellFormedIn };
+    ghost invariant = { IsState };
 }
 
 impl State {
     ghost use Rattle.reh_types.specs.declared.moves.Event.TheVariants.{Audit, Acquire, Release, Finish, Expire, Swap};
-    ghost use Rattle.reh_cluster.specs.Parts.{cluster_of};
+    ghost use Rattle.reh_cluster.specs.Parts.{HasRows, cluster_of};
 
     /// The state at clock 0 with these names, registered bookies, grace in ticks, ledgers in picture order, and contents.
     pub fn build(names: Names, up: BookieSet, grace: u64, ledgers: Vec<Ledger>, held: Held) -> State
-        requires { IsWellFormed (cluster_of names up grace ledgers.items held.contents) }
+        requires cluster { IsWellFormed (cluster_of names up grace ledgers.items held.contents) }
+        requires rows { HasRows (length names) ledgers.items held }
         ensures { result ≡ cluster_of names up grace ledgers.items held.contents }
     {
         State {
@@ -73,6 +75,11 @@ impl State {
             held: self.held.clone_in()?,
             clock: self.clock,
         })
+    }
+
+    /// The allocator that the state stands on.
+    pub fn allocator(&self) -> Global {
+        self.held.allocator()
     }
 
     /// The names of the bookies.
@@ -117,6 +124,13 @@ impl State {
         ensures { result ≡ model.holds self.now bookie ledger entry }
     {
         self.held.holds(bookie, ledger, entry)
+    }
+
+    /// The words of the bookie's row of the ledger: bit e % 64 of word e / 64 says whether it holds entry e.
+    pub fn row(&self, bookie: BookieIx, ledger: LedgerId) -> &[u64]
+        ensures { (e : ℕ) → is_set result.now e ≡ model.holds self.now bookie ledger e }
+    {
+        self.held.row(bookie, ledger)
     }
 
     /// How many entries the bookie holds, of all ledgers.
@@ -223,15 +237,24 @@ impl State {
         expire_all(&mut self.ledgers, worker);
     }
 
-    /// The bookie holds the entry of the ledger from now on, which some bookie holds already. Want of memory changes nothing.
-    pub fn hold(&mut self, bookie: BookieIx, ledger: LedgerId, entry: u32) -> Result<(), AllocError>
+    /// The bookie holds these entries of the ledger from now on, each of which some bookie holds already. Want of
+    /// memory changes nothing.
+    pub fn hold_all(
+        &mut self,
+        bookie: BookieIx,
+        ledger: LedgerId,
+        entries: &[u32],
+    ) -> Result<(), AllocError>
         requires bookie { bookie < length self.old.names }
-        requires held { IsHeld self.old.held ledger entry }
-        ensures ok { OnOk result (self.new
-            ≡ record self.old { held = set.insert self.old.held (bookie, ledger, entry) }) }
+        requires held { All (λ e. IsHeld self.old.held ledger e) entries.now }
+        ensures ok { OnOk result (self.new ≡ record self.old {
+          held = set.union self.old.held (copies_of bookie ledger entries.now);
+        }) }
         ensures err { OnErr result (self.new ≡ self.old) }
     {
-        self.held.add(bookie, ledger, entry)
+        let turns = self.held.delta_of(bookie, ledger, entries)?;
+        self.held.toggle_all(bookie, ledger, &turns);
+        Ok(())
     }
 
     /// An accepted swap: the worker's bookie takes that index of the fragment's ensemble, and the ledger's metadata

@@ -3,12 +3,14 @@ use Rattle.std.proofs.Common.{◌≡◌, ℕ, zero, suc, ◌+◌, ◌-◌, ◌*�
 use Rattle.std.specs.Prelude.{◌==◌, count_by, sum_by, All}
 use Rattle.std.specs.List.{list_any, filter, range_with_len, AllByRecursion}
 use Rattle.std.specs.List.Sorted.{IsStrictlySortedBy}
-use Rattle.std.specs.Option.{IfSome}
+use Rattle.std.specs.Option.{IfSome, is_some, option_map}
 use Rattle.std.specs.declared.option.Option.{Option}
 use Rattle.std.specs.declared.option.Option.TheVariants.{Some}
 use Rattle.std.specs.declared.cmp.Ordering.TheVariants.{Less}
 use Rattle.std.specs.Ordering.{nat_cmp, eq_by_cmp, is_eq}
-use Rattle.std.specs.Cmp.{unsigned_tied}
+use Rattle.std.specs.Cmp.{unsigned_tied, nat_cmp_total}
+use Rattle.std.specs.FinMap as finite
+use Rattle.std.specs.FinMap.{len-empty, len-insert}
 use Rattle.std.specs.Map.{keys_of, values_of}
 use Rattle.std.proofs.lemmas.Bool.{cases_lt, cases_order}
 use Rattle.std.proofs.lemmas.Bool.Decides.{nat_tests}
@@ -25,9 +27,9 @@ use Rattle.reh_model.proofs.ContentsLaws.{triples_tied, count_held-insert_new}
 use Rattle.reh_model.proofs.Ranges.{list_any-map, list_any-same}
 use Rattle.reh_held.specs.Rows.{is_set, entries_in}
 use Rattle.reh_held.specs.Tables.{TableValue, row_at, IsTable}
-use Rattle.reh_held.specs.Kept.{table_at, rows_in, copies_from, copies_in, contents_of}
+use Rattle.reh_held.specs.Kept.{table_at, rows_in, copies_from, copies_in, contents_of, words_of}
 use Rattle.reh_held.proofs.WrittenLaws.{turn_round}
-use Rattle.reh_held.proofs.HeldLaws.{any-and, any-row, any-copies_from, any-copies_in}
+use Rattle.reh_held.proofs.HeldLaws.{any-and, any-row, any-copies_from, any-copies_in, get-words, no_table}
 
 -- Copies with no two equal
 
@@ -217,6 +219,17 @@ new-keys (l ∷ ls) sorted = (none l ls sorted.0, new-keys ls sorted.1) where
   none : (l : ℕ) (ls : List ℕ) → AllByRecursion (λ k. nat_cmp l k ≡ Less) ls → list_any (nat_eq l) ls ≡ false
   none l [] less = refl
   none l (k ∷ ls) less = neither (nat_eq l k) _ (differ l k less.0) (none l ls less.1)
+
+-- there are as many words as tables
+pub len-words_of : (tables : List (ℕ × TableValue)) → IsStrictlySortedBy nat_cmp (keys_of tables) → finite.len (words_of tables) ≡ length tables
+len-words_of tables sorted = different tables (new-keys (keys_of tables) sorted) where
+  different : (tables : List (ℕ × TableValue)) → AreNewKeys (keys_of tables) → finite.len (words_of tables) ≡ length tables
+  different [] new = len-empty nat_cmp ℕ
+  different (t ∷ tables) new =
+      let none : finite.contains_key (words_of tables) t.0 ≡ false = ap is_some (get-words tables t.0 ∙ ap (option_map (λ t. t.width)) (no_table tables t.0 new.0)) in
+      let one_more : finite.len (words_of (t ∷ tables)) ≡ finite.len (words_of tables) + 1 =
+      len-insert nat_cmp_total (words_of tables) t.0 t.1.width ∙ ap (λ b. cond b (finite.len (words_of tables)) (finite.len (words_of tables) + 1)) none in
+      omega (arith, one_more, different tables new.1)
 
 -- how many entries the bookie's row has
 abbrev pub row_count : ℕ → TableValue → ℕ

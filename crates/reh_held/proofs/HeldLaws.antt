@@ -153,7 +153,7 @@ any-copies_in t rows (l ∷ ledgers) =
     ∙ one_or_more (nat_eq t.1 l) (list_any (nat_eq t.1) ledgers) held
 
 -- a ledger that is no key has no table
-no_table : (tables : List (ℕ × TableValue)) (l : ℕ) → list_any (nat_eq l) (keys_of tables) ≡ false → table_at tables l ≡ None
+pub no_table : (tables : List (ℕ × TableValue)) (l : ℕ) → list_any (nat_eq l) (keys_of tables) ≡ false → table_at tables l ≡ None
 no_table [] l none = refl
 no_table (t ∷ tables) l none =
     elim (nat_eq l t.0) as (λ b. nat_eq l t.0 ≡ b → (b || list_any (nat_eq l) (keys_of tables)) ≡ false → cond (is_eq (nat_cmp l t.0)) (Some t.1) (table_at tables l) ≡ None) [

@@ -12,8 +12,9 @@ use Rattle.std.specs.Ordering.{nat_cmp, eq_by_cmp}
 use Rattle.std.specs.Cmp.{unsigned_tied, nat_cmp_total}
 use Rattle.std.specs.BTreeMap.{is_at}
 use Rattle.std.specs.FinMap as finite
-use Rattle.std.specs.FinMap.{FinMap, get-insert, same_map, nat_cmp-IsAntisymmetric}
+use Rattle.std.specs.FinMap.{FinMap, get-insert, len-insert, same_map, nat_cmp-IsAntisymmetric}
 use Rattle.std.proofs.lemmas.Bool.Decides.{nat_tests}
+use Rattle.reh_types.specs.declared.limits.TheConstants.{MAX_LEDGERS}
 use Rattle.reh_types.specs.Sets as set
 use Rattle.reh_model.specs.Contents.{Contents, has, copies_of}
 use Rattle.reh_model.proofs.ContentsLaws.{has-insert, has-union-copies_of}
@@ -50,9 +51,16 @@ words-with_room held ledger entry =
     (get-insert nat_cmp_total held.words ledger (max (words_in held ledger) (entry / 64 + 1)) ledger
     ∙ ap (λ b. cond b (Some (max (words_in held ledger) (entry / 64 + 1))) (finite.get held.words ledger)) (unsigned_tied ledger ledger ∙ itself))
 
-pub one_at_most : (b : Bool) (m n : ℕ) → m ≡ n + cond b 0 1 → m ≤ n + 1
-one_at_most true m n is = omega arith
-one_at_most false m n is = omega arith
+-- with one more ledger there are still few
+pub few-insert : (words : FinMap nat_cmp ℕ) (ledger width : ℕ) {after : FinMap nat_cmp ℕ} → finite.len words < MAX_LEDGERS → after ≡ finite.insert words ledger width → finite.len after ≤ MAX_LEDGERS
+few-insert words ledger width few is =
+    let one_more : finite.len (finite.insert words ledger width) ≤ finite.len words + 1 =
+    subst (λ n. n ≤ finite.len words + 1) (sym (len-insert nat_cmp_total words ledger width)) (either (finite.contains_key words ledger) (finite.len words)) in
+    omega (arith, ap finite.len is, one_more, few)
+    where
+  either : (b : Bool) (n : ℕ) → cond b n (n + 1) ≤ n + 1
+  either true n = omega arith
+  either false n = omega arith
 
 -- the numbers of a range
 any-range : (first last e : ℕ) → list_any (nat_eq e) (range_with_len first (last + 1 - first)) ≡ is_between first last e

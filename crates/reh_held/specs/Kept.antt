@@ -1,5 +1,5 @@
 -- What the tables of `Held` stand for.
-use Rattle.std.specs.Prelude.{ℕ, ◌+◌, ◌≤◌, List, [], ◌∷◌, ◌++◌, length, map, slice_index_or, Option, None, Some, IfSome}
+use Rattle.std.specs.Prelude.{ℕ, ◌+◌, ◌≤◌, List, [], ◌∷◌, ◌++◌, map, slice_index_or, Option, None, Some, IfSome}
 use Rattle.std.specs.BTreeMap.{is_at}
 use Rattle.std.specs.Map.{lookup, keys_of}
 use Rattle.std.specs.Ordering.{nat_cmp}
@@ -11,7 +11,7 @@ use Rattle.reh_held.specs.Rows.{entries_in}
 use Rattle.reh_held.specs.Tables.{TableValue, IsTable}
 use Rattle.reh_held.specs.Values.{HeldValue}
 use Rattle.reh_held.specs.declared.held.Held.TheInside.{Inside}
-use Rattle.reh_held.specs.declared.held.TheConstants.{MAX_TABLES}
+use Rattle.reh_types.specs.declared.limits.TheConstants.{MAX_LEDGERS}
 
 -- the ledger's table, if it has one
 abbrev pub table_at : List (ℕ × TableValue) → ℕ → Option TableValue
@@ -46,7 +46,7 @@ words_of tables = finite.from_entries (map (λ t. (t.0, t.1.width)) tables)
 abbrev pub held_of : Inside → HeldValue
 held_of a = record { contents = contents_of a.tables.entries; bookies = a.bookies; words = words_of a.tables.entries }
 
--- each table has a row for each bookie, and there are not so many tables that what a bookie holds could not be counted
+-- each table has a row for each bookie, and there are no more tables than ledgers that there can be
 pub record IsKept (a : Inside) : Type 0 where
-  pub few : length a.tables.entries ≤ MAX_TABLES
+  pub few : finite.len (words_of a.tables.entries) ≤ MAX_LEDGERS
   pub tables : (ledger : ℕ) → IfSome (table_at a.tables.entries ledger) (IsTable a.bookies)

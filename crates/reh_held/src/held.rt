@@ -3,6 +3,7 @@ ghost use Rattle.std.specs.Prelude.{◌≡◌, ℕ, ◌+◌, ◌-◌, ◌*◌, �
 ghost use Rattle.std.specs.List.{range_with_len};
 ghost use Rattle.std.specs.Ordering.{nat_cmp};
 ghost use Rattle.std.specs.FinMap as map;
+ghost use Rattle.reh_types.specs.declared.limits.TheConstants.{MAX_LEDGERS};
 ghost use Rattle.reh_types.specs.Sets as set;
 ghost use Rattle.reh_model.specs.Contents.{has, copies_of, count_held, greatest_held};
 ghost use Rattle.reh_held.specs.Rows.{is_set};
@@ -17,9 +18,6 @@ use reh_types::{BookieIx, LedgerId};
 use std::alloc::{AllocError, Global};
 use std::collections::BTreeMap;
 use std::marker::Model;
-
-/// How many ledgers may have rows: with no more, what one bookie holds is a number of 64 bits.
-pub(crate) const MAX_TABLES: usize = 1 << 31;
 
 /// What the bookies hold: a set of bookie, ledger and entry. Contracts see its contents.
 ///
@@ -71,6 +69,11 @@ impl Held {
         })
     }
 
+    /// The allocator that the rows stand on.
+    pub fn allocator(&self) -> Global {
+        self.alloc
+    }
+
     /// How many words the rows of the ledger have, 0 where it has none.
     pub fn words(&self, ledger: LedgerId) -> usize
         ensures { result ≡ words_in self.now ledger }
@@ -81,9 +84,10 @@ impl Held {
         }
     }
 
-    /// Makes all rows of the ledger long enough for the entry. Want of memory leaves them as they were; so many ledgers
-    /// that what a bookie holds could not be counted are answered as want of memory too.
+    /// Makes all rows of the ledger long enough for the entry, where there are rows of fewer ledgers than there can be.
+    /// Want of memory leaves them as they were.
     pub fn reserve(&mut self, ledger: LedgerId, entry: u32) -> Result<(), AllocError>
+        requires { map.len self.old.words < MAX_LEDGERS }
         ensures ok { OnOk result (self.new ≡ with_room self.old ledger entry) }
         ensures room { OnOk result (entry < 64 * words_in self.new ledger) }
         ensures err { OnErr result (self.new ≡ self.old) }
@@ -91,9 +95,6 @@ impl Held {
         let width = (entry / 64) as usize + 1;
         if width <= self.words(ledger) {
             return Ok(());
-        }
-        if self.tables.len() >= MAX_TABLES {
-            return Err(AllocError);
         }
         let table = self.longer_table(ledger, width)?;
         self.tables.insert(ledger, table)?;
@@ -115,9 +116,11 @@ impl Held {
         }
     }
 
-    /// The bookie holds the entry of the ledger from now on. Want of memory leaves the contents as they were.
+    /// The bookie holds the entry of the ledger from now on, where there are rows of fewer ledgers than there can be.
+    /// Want of memory leaves the contents as they were.
     pub fn add(&mut self, bookie: BookieIx, ledger: LedgerId, entry: u32) -> Result<(), AllocError>
-        requires { bookie < self.old.bookies }
+        requires bookie { bookie < self.old.bookies }
+        requires few { map.len self.old.words < MAX_LEDGERS }
         ensures ok { OnOk result
             (self.new.contents ≡ set.insert self.old.contents (bookie, ledger, entry)) }
         ensures room { OnOk result

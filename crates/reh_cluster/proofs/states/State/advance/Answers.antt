@@ -5,4 +5,7 @@ use Rattle.reh_model.proofs.WellFormedLaws.{IsWellFormed-clock}
 use Rattle.reh_cluster.proofs.states.State.advance.Goals as goal
 
 pub invariant_of-self : goal.invariant_of-self
-invariant_of-self c = IsWellFormed-clock _ _ c.self.invariant (omega arith) (omega (arith, ap (λ (s : Cluster). s.clock) c.self.view_is))
+invariant_of-self c = record {
+  cluster = IsWellFormed-clock _ _ c.self.invariant.cluster (omega arith) (omega (arith, ap (λ (s : Cluster). s.clock) c.self.view_is));
+  rows = c.self.invariant.rows;
+}

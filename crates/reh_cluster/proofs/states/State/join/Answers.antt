@@ -6,6 +6,8 @@ use Rattle.reh_model.proofs.WellFormedLaws.{named-insert}
 use Rattle.reh_cluster.proofs.states.State.join.Goals as goal
 
 pub invariant_of-self : goal.invariant_of-self
-invariant_of-self c =
-    rw c.insert.ensures (IsWellFormed-up _ _ c.self.invariant
-    (named-insert _ _ _ (omega (arith, ap (λ (s : Cluster). length s.names) c.self.view_is)) c.self.invariant.up))
+invariant_of-self c = record {
+  cluster = rw c.insert.ensures (IsWellFormed-up _ _ c.self.invariant.cluster
+      (named-insert _ _ _ (omega (arith, ap (λ (s : Cluster). length s.names) c.self.view_is)) c.self.invariant.cluster.up));
+  rows = c.self.invariant.rows;
+}

@@ -9,6 +9,7 @@ use Rattle.reh_model.specs.Step.{refusal_of}
 use Rattle.reh_model.specs.WellFormed.{IsWellFormed}
 use Rattle.reh_model.proofs.WellFormedLaws.{IsWellFormed-after}
 use Rattle.reh_cluster.specs.State.{cluster_in}
+use Rattle.reh_cluster.proofs.ChangeLaws.{rows_after}
 use Rattle.reh_cluster.proofs.states.State.publish.Goals as goal
 
 pub invariant_of-self : goal.invariant_of-self
@@ -17,5 +18,9 @@ invariant_of-self c =
     let made : (with_items c.self.inside.ledgers c.publish_all.new.ledgers).items ≡ map (audited_ledger c.self.inside.up) s.ledgers =
     with_items_is c.self.inside.ledgers c.publish_all.new.ledgers (omega (arith, c.publish_all.auto.ledgers, c.deref_mut.ensures.len))
     ∙ c.publish_all.ensures ∙ ap (λ (gs : List Ledger). map (audited_ledger c.self.inside.up) gs) c.deref_mut.ensures.value in
-    subst (λ (gs : List Ledger). IsWellFormed (record s { ledgers = gs })) (sym made)
-    (IsWellFormed-after s Audit c.self.invariant (ap (λ (s : Cluster). refusal_of s Audit) c.self.view_is ∙ c.requires))
+    record {
+      cluster =
+          subst (λ (gs : List Ledger). IsWellFormed (record s { ledgers = gs })) (sym made)
+          (IsWellFormed-after s Audit c.self.invariant.cluster (ap (λ (s : Cluster). refusal_of s Audit) c.self.view_is ∙ c.requires));
+      rows = rows_after s (record s { ledgers = (with_items c.self.inside.ledgers c.publish_all.new.ledgers).items }) Audit c.self.inside.held c.self.invariant.rows (ap (λ (gs : List Ledger). record s { ledgers = gs }) made);
+    }

@@ -8,21 +8,21 @@ use Rattle.reh_model.proofs.LedgerLaws.{ledger_at-position}
 use Rattle.reh_model.proofs.AcceptedLaws.{IsSwappable}
 use Rattle.reh_model.proofs.WellFormedLaws.{swappable-found}
 use Rattle.reh_cluster.specs.State.{cluster_in}
-use Rattle.reh_cluster.proofs.ChangeLaws.{changed_there, changed_nowhere, well_formed_after}
+use Rattle.reh_cluster.proofs.ChangeLaws.{changed_there, changed_nowhere, well_formed_after, rows_after}
 use Rattle.reh_cluster.proofs.states.State.swap.Goals as goal
 
 -- what the swap shows of the ledger that stands at the place
 may : (c : goal.After-index_mut) → IsSwappable (cluster_in c.self.inside) c.index_mut.result.now c.args.worker c.args.fragment c.args.index
 may c =
-    swappable-found (cluster_in c.self.inside) c.args.worker c.args.ledger c.args.fragment c.args.index c.args.version c.index_mut.result.now c.self.invariant
-    (ledger_at-position (cluster_in c.self.inside) c.args.ledger c.in-Some.place c.index_mut.result.now c.self.invariant.ledgers.different
+    swappable-found (cluster_in c.self.inside) c.args.worker c.args.ledger c.args.fragment c.args.index c.args.version c.index_mut.result.now c.self.invariant.cluster
+    (ledger_at-position (cluster_in c.self.inside) c.args.ledger c.in-Some.place c.index_mut.result.now c.self.invariant.cluster.ledgers.different
     (ap (λ (gs : List Ledger). position (λ g. g.id == c.args.ledger) gs) (sym c.deref.ensures.value) ∙ sym c.place_of.ensures ∙ c.in-Some.is)
     c.index_mut.ensures.value)
     (ap (λ (s : Cluster). refusal_of s (Swap c.args.worker c.args.ledger c.args.fragment c.args.index c.args.version)) c.self.view_is ∙ c.requires)
 
 made : (c : goal.In_ok-replace_member) → record (cluster_in c.self.inside) { ledgers = set c.self.inside.ledgers.items c.in-Some.place c.replace_member.new.self } ≡ change_ledger (cluster_in c.self.inside) c.args.ledger (swapped_ledger c.args.fragment c.args.index c.args.worker)
 made c =
-    changed_there (cluster_in c.self.inside) c.args.ledger (swapped_ledger c.args.fragment c.args.index c.args.worker) _ _ c.in-Some.place c.index_mut.result.now c.replace_member.new.self c.self.invariant
+    changed_there (cluster_in c.self.inside) c.args.ledger (swapped_ledger c.args.fragment c.args.index c.args.worker) _ _ c.in-Some.place c.index_mut.result.now c.replace_member.new.self c.self.invariant.cluster
     c.deref.ensures.value c.place_of.ensures c.in-Some.is c.index_mut.ensures.value c.in_ok-replace_member.ensures.ok
 
 pub replace_member-requires-clause-fragment : goal.replace_member-requires-clause-fragment
@@ -38,7 +38,10 @@ pub replace_member-requires-clause-version : goal.replace_member-requires-clause
 replace_member-requires-clause-version c = (may c).version
 
 pub invariant_of-self : goal.invariant_of-self
-invariant_of-self c = well_formed_after (cluster_in c.self.inside) c.args.self.now _ (Swap c.args.worker c.args.ledger c.args.fragment c.args.index c.args.version) c.self.invariant c.self.view_is c.requires (made c)
+invariant_of-self c = record {
+  cluster = well_formed_after (cluster_in c.self.inside) c.args.self.now _ (Swap c.args.worker c.args.ledger c.args.fragment c.args.index c.args.version) c.self.invariant.cluster c.self.view_is c.requires (made c);
+  rows = rows_after (cluster_in c.self.inside) _ (Swap c.args.worker c.args.ledger c.args.fragment c.args.index c.args.version) c.self.inside.held c.self.invariant.rows (made c);
+}
 
 pub returns-in_ok-replace_member-clause-ok : goal.returns-in_ok-replace_member-clause-ok
 returns-in_ok-replace_member-clause-ok c = made c ∙ ap (λ (s : Cluster). change_ledger s c.args.ledger (swapped_ledger c.args.fragment c.args.index c.args.worker)) c.self.view_is

@@ -1,11 +1,12 @@
 -- One bit is set in the ledger's table.
 use Rattle.std.proofs.Common.{◌≤◌, ◌&&◌, ◌||◌, ℕ, List, nat_eq, refl, sym, ap, subst, ◌∙◌, arith}
 use Rattle.std.specs.Option.{IsSome}
+use Rattle.std.specs.FinMap as finite
 use Rattle.reh_types.specs.Sets as set
 use Rattle.reh_held.specs.Tables.{TableValue, IsTable}
 use Rattle.reh_held.specs.Values.{HeldValue}
 use Rattle.reh_held.specs.Kept.{held_of, IsKept}
-use Rattle.reh_held.specs.declared.held.TheConstants.{MAX_TABLES}
+use Rattle.reh_types.specs.declared.limits.TheConstants.{MAX_LEDGERS}
 use Rattle.reh_held.proofs.HeldLaws.{kept_table, own_table, words-found, words-none, has-found}
 use Rattle.reh_held.proofs.WrittenLaws.{written-kept, written-insert, written-same_words}
 use Rattle.reh_held.proofs.held.Held.put.Goals as goal
@@ -34,7 +35,7 @@ invariant_of-self c = elim c.match-get_mut.branch [
       let table = kept_table tables c.args.ledger w.in-Some.table.now c.self.invariant.tables found in
       let still : IsTable c.self.inside.bookies w.insert.new.self = subst (λ n. IsTable n w.insert.new.self) table.size w.insert.ensures.table in
       subst IsKept (sym w.self-inside-is) (record {
-        few = subst (λ n. n ≤ MAX_TABLES) (sym h.2) c.self.invariant.few;
+        few = subst (λ words. finite.len words ≤ MAX_LEDGERS) (sym (written-same_words tables (c.get_mut.follows.lender w.insert.new.self).entries c.args.ledger w.insert.new.self (h.3 (subst IsSome found refl)).0 w.in-Some.table.now found w.insert.ensures.width)) c.self.invariant.few;
         tables = written-kept tables (c.get_mut.follows.lender w.insert.new.self).entries c.args.ledger w.insert.new.self (h.3 (subst IsSome found refl)).0 c.self.inside.bookies still c.self.invariant.tables;
       })
   | in-None w ↦

@@ -1,12 +1,14 @@
 -- One table is written, with what was held.
-use Rattle.std.proofs.Common.{◌≡◌, ◌+◌, ◌/◌, ◌≤◌, ℕ, List, sym, ap, subst, ◌∙◌, arith}
+use Rattle.std.proofs.Common.{◌≡◌, ◌+◌, ◌/◌, ◌<◌, ◌≤◌, ℕ, List, sym, ap, subst, ◌∙◌, arith}
 use Rattle.std.specs.Prelude.{max}
 use Rattle.std.specs.FinMap as finite
 use Rattle.reh_model.specs.Contents.{has}
 use Rattle.reh_held.specs.Tables.{TableValue, IsTable}
+use Rattle.reh_types.specs.declared.limits.TheConstants.{MAX_LEDGERS}
+use Rattle.reh_held.specs.Kept.{words_of}
 use Rattle.reh_held.specs.Values.{HeldValue, words_in}
 use Rattle.reh_held.proofs.HeldLaws.{words-found}
-use Rattle.reh_held.proofs.WrittenLaws.{written-kept, written-contents, written-words, insert-same, one_at_most}
+use Rattle.reh_held.proofs.WrittenLaws.{written-kept, written-contents, written-words, insert-same, few-insert}
 use Rattle.reh_held.proofs.held.Held.reserve.Goals as goal
 
 pub returns-then-width-words-clause-ok : goal.returns-then-width-words-clause-ok
@@ -22,7 +24,7 @@ invariant_of-self-2 c =
     let tables : List (ℕ × TableValue) = c.self.inside.tables.entries in
     let still : IsTable c.self.inside.bookies c.in_ok-table.table = subst (λ (v : HeldValue). IsTable v.bookies c.in_ok-table.table) (sym c.self.view_is) c.in_ok-table.ensures.table in
     record {
-      few = omega (arith, one_at_most _ _ _ c.in_ok-insert.ensures.len, c.len.ensures.len);
+      few = few-insert (words_of tables) c.args.ledger c.in_ok-table.table.width (subst (λ (v : HeldValue). finite.len v.words < MAX_LEDGERS) (sym c.self.view_is) c.requires) (written-words tables c.insert.new.self.entries c.args.ledger c.in_ok-table.table c.in_ok-insert.ensures.updates.0);
       tables = written-kept tables c.insert.new.self.entries c.args.ledger c.in_ok-table.table c.in_ok-insert.ensures.updates.0 c.self.inside.bookies still c.self.invariant.tables;
     }
 
