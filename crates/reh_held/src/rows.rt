@@ -2,6 +2,7 @@
 ghost use Rattle.std.specs.Prelude.{◌≡◌, ℕ, ◌+◌, ◌*◌, ◌^◌, ◌<◌, ◌≤◌, false, ◌==◌, ◌||◌, length, All, IfOk};
 ghost use Rattle.std.specs.List.{list_any};
 ghost use Rattle.std.specs.Int.{bit_at};
+ghost use Rattle.reh_held.specs.Rows as rows;
 ghost use Rattle.reh_held.specs.Rows.{is_set, is_between, entries_in, is_in_word, one_of, IsGreatest};
 ghost use Rattle.reh_held.specs.RowTurns.{IsRowTurning, turns_between};
 ghost use Rattle.reh_held.specs.declared.rows.TheConstants.{MAX_WIDTH};
@@ -87,11 +88,9 @@ impl Row {
     pub(crate) fn holds(&self, entry: u32) -> bool
         ensures { result ≡ is_set self.now entry }
     {
-        match self.words.get((entry / 64) as usize) {
-            Some(word) => (*word >> (entry % 64)) & 1 == 1,
-            None => false,
-        }
+        is_set(&self.words, entry)
     }
+
     /// How many entries there are.
     pub(crate) fn count(&self) -> usize
         requires { length self.now ≤ MAX_WIDTH }
@@ -151,6 +150,16 @@ impl Row {
         after.insert_all(entries);
         let turns = find_turns(alloc, self.as_slice(), after.as_slice())?;
         Ok(turns)
+    }
+}
+
+/// Whether the entry's bit is set in the words of a row: bit e % 64 of word e / 64 is that of entry e. Past them none is.
+pub fn is_set(words: &[u64], entry: u32) -> bool
+    ensures { result ≡ rows.is_set words.now entry }
+{
+    match words.get((entry / 64) as usize) {
+        Some(word) => (*word >> (entry % 64)) & 1 == 1,
+        None => false,
     }
 }
 

@@ -12,6 +12,7 @@ ghost use Rattle.reh_step.specs.Decisions.{Decides};
 
 use reh_audit::{has_news, under_of};
 use reh_cluster::{Ledger, State};
+use reh_held::is_set;
 use reh_meta::Fragment;
 use reh_stripe::{Striped, write_set};
 use reh_types::{BookieIx, CLOCK_END, Event, LedgerId, MAX_TICKS, MAX_VERSION, Refusal};
@@ -347,8 +348,9 @@ fn first_unreadable(
 fn first_lacked(state: &State, bookie: BookieIx, ledger: &Ledger, entries: Striped) -> Option<u32>
     ensures { result ≡ find (λ e. not (cluster.holds state.now bookie ledger.now.id e)) entries }
 {
+    let row = state.row(bookie, ledger.id());
     for entry in entries {
-        if !state.holds(bookie, ledger.id(), entry) {
+        if !is_set(row, entry) {
             return Some(entry);
         }
     }

@@ -1,5 +1,5 @@
 // What an event makes of the state.
-ghost use Rattle.std.specs.Prelude.{◌≡◌, ◌<◌, [], length, unwrap_or, None, All, IfOk, IfErr, OnOk};
+ghost use Rattle.std.specs.Prelude.{◌≡◌, ◌<◌, [], length, unwrap_or, None, All, IfOk, IfErr, OnOk, OnErr};
 ghost use Rattle.reh_types.specs.Sets as set;
 ghost use Rattle.reh_model.specs.Contents.{copies_of, IsHeld};
 ghost use Rattle.reh_model.specs.Cluster as cluster;
@@ -95,7 +95,7 @@ fn stripe_at(state: &State, ledger: LedgerId, fragment: u64, index: u64) -> Opti
     ))
 }
 
-/// Adds these entries of the ledger, which some bookie holds, to those that the bookie holds. Want of memory may leave some of them added.
+/// Adds these entries of the ledger, which some bookie holds, to those that the bookie holds. Want of memory changes nothing.
 fn hold_all(
     state: &mut State,
     bookie: BookieIx,
@@ -104,11 +104,17 @@ fn hold_all(
 ) -> Result<(), AllocError>
     requires bookie { bookie < length state.old.names }
     requires held { All (λ e. IsHeld state.old.held ledger e) entries }
-    ensures { OnOk result (state.new
+    ensures ok { OnOk result (state.new
         ≡ record state.old { held = set.union state.old.held (copies_of bookie ledger entries) }) }
+    ensures err { OnErr result (state.new ≡ state.old) }
 {
-    for entry in entries {
-        state.hold(bookie, ledger, entry)?;
-    }
-    Ok(())
+    let entries = listed(state.allocator(), entries)?;
+    state.hold_all(bookie, ledger, &entries)
+}
+
+/// The entries as a list.
+fn listed(alloc: Global, entries: Striped) -> Result<Vec<u32>, AllocError>
+    ensures { IfOk result (λ listed. listed.items ≡ entries) }
+{
+    entries.collect(alloc)
 }

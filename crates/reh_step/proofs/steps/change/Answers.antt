@@ -30,7 +30,7 @@ returns c =
       | in-Expire w ↦ w.state-is ∙ w.expire.ensures ∙ ap (after s) (sym w.in-Expire.is)
       | in-Tick w ↦ w.state-is ∙ w.advance.ensures ∙ ap (after s) (sym w.in-Tick.is)
       | in-Copy+in-Some+in_ok-hold_all-in-Copy w ↦
-          w.state-is ∙ w.in_ok-hold_all-in-Copy.ensures
+          w.state-is ∙ w.in_ok-hold_all-in-Copy.ensures.ok
           ∙ ap (λ (es : List ℕ). record s { held = union s.held (copies_of w.in-Copy.worker w.in-Copy.ledger es) }) (sym (w.stripe_at.ensures ∙ ap (λ (o : Option (List ℕ)). unwrap_or o []) w.in-Some.is))
           ∙ ap (after s) (sym w.in-Copy.is)
       | in-Copy+in_default w ↦
