@@ -43,10 +43,10 @@ fn parse_command(names: &Names, verb: &[u8], words: &[u8]) -> Result<Command, Li
     let Some(form) = form_of(verb, Arguments::none()) else {
         return Err(LineFault::UnknownCommand);
     };
-    let arguments = read_words(names, form.kinds, words)?;
-    if arguments == Arguments::none() {
+    if form.kinds.is_empty() && words.is_empty() {
         return Ok(form.command);
     }
+    let arguments = read_words(names, form.kinds, words)?;
     match form_of(verb, arguments) {
         Some(form) => Ok(form.command),
         None => Err(LineFault::UnknownCommand),
