@@ -1,11 +1,10 @@
--- One range more, one entry more, and the set of items that are added one after another.
-use Rattle.std.proofs.Common.{◌≡◌, ℕ, suc, ◌+◌, ◌-◌, ◌<◌, Bool, true, false, ◌||◌, List, [], ◌∷◌, ◌++◌, length, fold, Option, None, Some, refl, sym, ap, ◌∙◌, arith}
+-- One range more, and the set of items that are added one after another or at once.
+use Rattle.std.proofs.Common.{◌≡◌, ◌+◌, ◌<◌, Bool, true, false, ◌||◌, List, [], ◌∷◌, ◌++◌, length, fold, Option, None, Some, refl, sym, ap, ◌∙◌, arith}
 use Rattle.std.proofs.Math.Bool.{or-false}
-use Rattle.std.specs.List.{last_or, list_any, range_with_len}
+use Rattle.std.specs.List.{last_or, list_any}
 use Rattle.std.specs.Option.{option_map_or}
 use Rattle.std.specs.Ordering.{eq_by_cmp}
-use Rattle.reh_types.specs.Sets.{Order, Set, contains, insert, empty, from_list, contains-insert, contains-empty, contains-from_list, same_set}
-use Rattle.reh_model.specs.Striping.{range}
+use Rattle.reh_types.specs.Sets.{Order, Set, contains, insert, union, empty, from_list, contains-insert, contains-union, contains-empty, contains-from_list, same_set}
 use Rattle.serde_json.specs.Data.{Data}
 use Rattle.reh_picture.specs.Contents.{two_numbers, ends_of, next_after}
 
@@ -23,15 +22,17 @@ two_numbers-short [] few = refl
 two_numbers-short (a ∷ []) few = refl
 two_numbers-short (a ∷ b ∷ ds) few = absurd (omega arith)
 
--- a range is its first number and those from the next one on
-pub range-next : (first stop : ℕ) → first < stop → range first stop ≡ first ∷ range (first + 1) stop
-range-next first stop some = let more : stop - first ≡ suc (stop - (first + 1)) = omega arith in ap (range_with_len first) more
-
 or_moved : (a b c : Bool) → (a || (b || c)) ≡ ((b || a) || c)
 or_moved true true c = refl
 or_moved true false c = refl
 or_moved false true c = refl
 or_moved false false c = refl
+
+or_swapped : (a b : Bool) → (a || b) ≡ (b || a)
+or_swapped true true = refl
+or_swapped true false = refl
+or_swapped false true = refl
+or_swapped false false = refl
 
 -- adding the items of a list one after another makes the set of all
 module _ {K : Type 0} (o : Order K) where
@@ -40,6 +41,12 @@ module _ {K : Type 0} (o : Order K) where
   contains-fold s (k ∷ ks) q =
       contains-fold (insert s k) ks q ∙ ap (λ b. list_any (eq_by_cmp o.cmp q) ks || b) (contains-insert s k q)
       ∙ or_moved (list_any (eq_by_cmp o.cmp q) ks) (eq_by_cmp o.cmp q k) (contains s q)
+
+  -- adding the set of them at once comes to the same
+  pub union-from_list : (s : Set o) (ks : List K) → union s (from_list ks) ≡ fold insert s ks
+  union-from_list s ks =
+      same_set _ _ (λ q.
+      contains-union s (from_list ks) q ∙ ap (λ b. contains s q || b) (contains-from_list o ks q) ∙ or_swapped (contains s q) (list_any (eq_by_cmp o.cmp q) ks) ∙ sym (contains-fold s ks q))
 
   pub from_list-fold : (ks : List K) → fold insert (empty {o = o}) ks ≡ from_list ks
   from_list-fold ks = same_set _ _ (λ q. contains-fold empty ks q ∙ ap (λ b. list_any (eq_by_cmp o.cmp q) ks || b) (contains-empty o q) ∙ or-false _ ∙ sym (contains-from_list o ks q))

@@ -47,7 +47,16 @@ pub IsGreatest-range : (before after : ℕ → Option ℕ) (s : Contents) (w l :
     → IsGreatest after (fold set.insert s (copies_within w l ends))
 IsGreatest-range before after s w l ends some is noted k = noted k ∙ ap (with_end (nat_eq l k) ends.1) (is k) ∙ sym (greatest-copies_within s w l ends k some)
 
--- the same along the ranges of a holding
+-- the contents after one range more of a holding
+pub copies-next : (s : Contents) (w l : ℕ) (ranges : List (ℕ × ℕ)) (i : ℕ) (d : ℕ × ℕ) → i < length ranges
+    → fold set.insert s (flat_map (copies_within w l) (take (i + 1) ranges)) ≡ fold set.insert (fold set.insert s (flat_map (copies_within w l) (take i ranges))) (copies_within w l (get_or ranges i d))
+copies-next s w l ranges i d within =
+    let range = get_or ranges i d in
+    ap (λ (rs : List (ℕ × ℕ)). fold set.insert s (flat_map (copies_within w l) rs)) (take_more ranges i d within)
+    ∙ ap (fold set.insert s) (flat_map-append (copies_within w l) (take i ranges) (range ∷ []) ∙ ap (λ ts. flat_map (copies_within w l) (take i ranges) ++ ts) (append-nil (copies_within w l range)))
+    ∙ fold-append set.insert s (flat_map (copies_within w l) (take i ranges)) (copies_within w l range)
+
+-- ends go on saying them along the ranges of a holding
 pub IsGreatest-next : (before after : ℕ → Option ℕ) (s : Contents) (w l : ℕ) (ranges of_holding : List (ℕ × ℕ)) (i : ℕ) (d : ℕ × ℕ) → i < length ranges
     → ranges ≡ of_holding → All (λ range. range.0 ≤ range.1) of_holding
     → IsGreatest before (fold set.insert s (flat_map (copies_within w l) (take i ranges)))
@@ -57,11 +66,7 @@ IsGreatest-next before after s w l ranges of_holding i d within same some is not
     let range = get_or ranges i d in
     let each : All (λ (range : ℕ × ℕ). range.0 ≤ range.1) ranges = subst (λ (rs : List (ℕ × ℕ)). All (λ range. range.0 ≤ range.1) rs) (sym same) some in
     let so_far = fold set.insert s (flat_map (copies_within w l) (take i ranges)) in
-    let one_more : fold set.insert s (flat_map (copies_within w l) (take (i + 1) ranges)) ≡ fold set.insert so_far (copies_within w l range) =
-    ap (λ (rs : List (ℕ × ℕ)). fold set.insert s (flat_map (copies_within w l) rs)) (take_more ranges i d within)
-    ∙ ap (fold set.insert s) (flat_map-append (copies_within w l) (take i ranges) (range ∷ []) ∙ ap (λ ts. flat_map (copies_within w l) (take i ranges) ++ ts) (append-nil (copies_within w l range)))
-    ∙ fold-append set.insert s (flat_map (copies_within w l) (take i ranges)) (copies_within w l range) in
-    subst (λ (t : Contents). IsGreatest after t) (sym one_more) (IsGreatest-range before after so_far w l range (each i d within) is noted)
+    subst (λ (t : Contents). IsGreatest after t) (sym (copies-next s w l ranges i d within)) (IsGreatest-range before after so_far w l range (each i d within) is noted)
 
 -- The greatest entry where all are below a number
 

@@ -4,5 +4,6 @@ pub mod Lists
 pub mod BookiesLemmas
 pub mod ContentsLemmas
 pub mod Greatest
+pub mod Rows
 pub mod PicturesLemmas
 mod Examples

@@ -11,6 +11,7 @@ use Rattle.std.proofs.lemmas.Bool.Decides.{nat_tests}
 use Rattle.std.proofs.lemmas.Cmp.{nat_eq_equiv}
 use Rattle.std.proofs.lemmas.List.{map-append, length-map}
 use Rattle.std.proofs.lemmas.List.Folds.{list_any-append}
+use Rattle.std.proofs.lemmas.List.FromFn.{get_or-map-range_with_len, length-map-range_with_len}
 use Rattle.std.proofs.lemmas.Map.Keys.{IsDistinct-push}
 use Rattle.std.proofs.lemmas.Slice.Eq.{bytes_eq-Decides}
 use Rattle.serde_json.specs.Data.{Data}
@@ -36,7 +37,7 @@ use Rattle.reh_picture.specs.Faults.{fault_along}
 use Rattle.reh_picture.specs.Members.{integer_in, number_of, text_of, flag_of, list_of, number_fault, list_fault}
 use Rattle.reh_picture.specs.Bookies.{bookie_fault, each_bookie_fault, bookies_fault, names_in, registered_in, bookie_in, known_fault}
 use Rattle.reh_picture.specs.Ledgers.{member_name, member_fault, members_fault, fragment_fault, fragment_in, fragments_fault, is_closed, end_after, end_in, state_in, pictured_metadata, broken_rule, metadata_fault, ledger_fault, ids_in, each_ledger_fault, ledgers_fault, ListedLedger, listed_in, ledger_of, ledger_in}
-use Rattle.reh_picture.specs.Contents.{ends_of, next_after, range_fault, ranges_fault, Holding, holding_in, pairs_in, content_fault, each_content_fault, contents_fault, copies_within, copies_in, held_in, words_to, IsGreatest}
+use Rattle.reh_picture.specs.Contents.{ends_of, next_after, range_fault, ranges_fault, Holding, holding_in, pairs_in, content_fault, each_content_fault, contents_fault, copies_within, copies_in, held_in, words_to, IsGreatest, HasEnds}
 use Rattle.reh_model.specs.Contents as model
 use Rattle.reh_cluster.specs.Parts.{cluster_of}
 use Rattle.reh_picture.proofs.Greatest.{greatest_held-low}
@@ -355,15 +356,22 @@ pub contents_rise : (names : List (List ℕ)) (ids : List ℕ) (contents : List 
 unfolding each_content_fault
 contents_rise names ids contents none = all_made (λ before d. content_fault names ids (pairs_in names before) d) (holding_in names) (λ holding. All (λ range. range.0 ≤ range.1) holding.ranges) (content_rises names ids) [] contents none
 
+or-second : (a b : Bool) → b ≡ true → (a || b) ≡ true
+or-second true b is = refl
+or-second false b is = is
+
 -- what stands in a list is among its elements
 get_or-among : {A : Type 0} (eq : A → A → Bool) → ((x : A) → eq x x ≡ true) → (xs : List A) (k : ℕ) (d : A) → k < length xs → list_any (eq (get_or xs k d)) xs ≡ true
 get_or-among eq itself [] k d within = absurd (omega arith)
 get_or-among eq itself (x ∷ xs) zero d within = ap (λ b. b || list_any (eq x) xs) (itself x)
 get_or-among eq itself (x ∷ xs) (suc k) d within = or-second (eq (get_or xs k d) x) (list_any (eq (get_or xs k d)) xs) (get_or-among eq itself xs k d (omega arith))
-  where
-    or-second : (a b : Bool) → b ≡ true → (a || b) ≡ true
-    or-second true b is = refl
-    or-second false b is = is
+
+-- what is among those of one element is among those of all
+among-flat_map : {A B : Type 0} (f : A → List B) (test : B → Bool) (xs : List A) (k : ℕ) (d : A) → k < length xs → list_any test (f (get_or xs k d)) ≡ true → list_any test (flat_map f xs) ≡ true
+among-flat_map f test [] k d within any = absurd (omega arith)
+among-flat_map f test (x ∷ xs) zero d within any = list_any-append test (f x) (flat_map f xs) ∙ ap (λ b. b || list_any test (flat_map f xs)) any
+among-flat_map f test (x ∷ xs) (suc k) d within any =
+    list_any-append test (f x) (flat_map f xs) ∙ or-second (list_any test (f x)) (list_any test (flat_map f xs)) (among-flat_map f test xs k d (omega arith) any)
 
 -- the items of a set have what holds of each copy that is in it
 all_items : (P : ℕ × ℕ × ℕ → Type 0) (held : model.Contents) → ((q : ℕ × ℕ × ℕ) → set.contains held q ≡ true → P q) → All P (set.items held)
@@ -421,6 +429,38 @@ copy_good d good q one =
       subst (λ (n : ℕ). q.2 < ENTRIES_IN_WORD * n) (sym (words_found (names_of d) held q.1 (list_of d field.Ledgers) known.1))
           (within_words (model.greatest_held held q.1) q.2 (greatest_held-reached held q.1 q.2 (q.0, one))),
     )
+
+-- the last entry of a range is among those of the range
+end_among : (bookie ledger : ℕ) (ends : ℕ × ℕ) → ends.0 ≤ ends.1 → list_any (is_triple (bookie, ledger, ends.1)) (copies_within bookie ledger ends) ≡ true
+end_among bookie ledger ends rises =
+    let last : ℕ × ℕ × ℕ = (bookie, ledger, ends.1) in
+    let place = ends.1 - ends.0 in
+    let count = (ends.1 + 1) - ends.0 in
+    let copies = copies_within bookie ledger ends in
+    let copy : ℕ → ℕ × ℕ × ℕ = λ e. (bookie, ledger, e) in
+    let is : get_or copies place last ≡ last = get_or-map-range_with_len copy ends.0 count place ends.1 last (omega arith) (omega arith) in
+    subst (λ (t : ℕ × ℕ × ℕ). list_any (is_triple t) copies ≡ true) is
+    (get_or-among is_triple (λ x. ap is_eq (tied_itself triple_total x)) copies place last (omega (arith, length-map-range_with_len copy ends.0 count)))
+
+-- and so it lies within the words of its ledger
+ends_good : (d : Data) → IsFaultless d → All (HasEnds (length (names_of d)) (pictured_cluster d).ledgers) (map (holding_in (names_of d)) (list_of d field.Contents))
+ends_good d good = λ k other within j none inside.
+    let holdings = map (holding_in (names_of d)) (list_of d field.Contents) in
+    let holding = get_or holdings k other in
+    let ends = get_or holding.ranges j none in
+    let q : ℕ × ℕ × ℕ = (holding.bookie, holding.ledger, ends.1) in
+    let rises : ends.0 ≤ ends.1 = contents_rise (names_of d) (ids_of d) (list_of d field.Contents) good.each_content k other within j none inside in
+    let among = among-flat_map copies_in (is_triple q) holdings k other within
+    (among-flat_map (copies_within holding.bookie holding.ledger) (is_triple q) holding.ranges j none inside (end_among holding.bookie holding.ledger ends rises)) in
+    copy_good d good q (contains-from_list triples (flat_map copies_in holdings) q ∙ among)
+
+-- of the holdings that were read too
+pub ends-shown : (d : Data) (bookies : ℕ) (ledgers : List Ledger) (holdings : List Holding) → IsFaultless d → bookies ≡ length (names_of d) → ledgers ≡ (pictured_cluster d).ledgers
+    → holdings ≡ map (holding_in (names_of d)) (list_of d field.Contents) → All (HasEnds bookies ledgers) holdings
+ends-shown d bookies ledgers holdings good count made are =
+    subst (λ (hs : List Holding). All (HasEnds bookies ledgers) hs) (sym are)
+    (subst (λ (gs : List Ledger). All (HasEnds bookies gs) (map (holding_in (names_of d)) (list_of d field.Contents))) (sym made)
+    (subst (λ (n : ℕ). All (HasEnds n (pictured_cluster d).ledgers) (map (holding_in (names_of d)) (list_of d field.Contents))) (sym count) (ends_good d good)))
 
 -- the ledgers of such a picture
 pictured_ledgers : (d : Data) → IsFaultless d → All (IsLedgerOf (pictured_cluster d)) (pictured_cluster d).ledgers

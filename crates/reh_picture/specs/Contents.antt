@@ -1,5 +1,5 @@
 -- What the bookies of a picture hold.
-use Rattle.std.specs.Prelude.{◌≡◌, ℕ, ◌+◌, ◌/◌, Bool, not, ◌&&◌, nat_eq, nat_le, List, [], ◌∷◌, map, Option, None, Result}
+use Rattle.std.specs.Prelude.{◌≡◌, ℕ, ◌+◌, ◌*◌, ◌/◌, ◌<◌, All, Bool, not, ◌&&◌, nat_eq, nat_le, List, [], ◌∷◌, map, Option, None, Result}
 use Rattle.std.specs.List.{list_any, flat_map, last_or}
 use Rattle.std.specs.Option.{ok_or, option_and_then, option_map, option_map_or}
 use Rattle.std.specs.Result.{result_err, result_unwrap_or}
@@ -9,6 +9,9 @@ use Rattle.serde_json.specs.Find.{as_number, as_u64, as_array}
 use Rattle.reh_types.specs.Sets as set
 use Rattle.reh_model.specs.Striping.{range}
 use Rattle.reh_model.specs.Contents as model
+use Rattle.reh_model.specs.Cluster.{Ledger}
+use Rattle.reh_model.specs.WellFormed.{IsCopy}
+use Rattle.reh_held.specs.Values.{HeldValue, words_in}
 use Rattle.reh_picture.specs.declared.fields.Field.TheVariants as field
 use Rattle.reh_picture.specs.declared.faults.LedgerFlaw.TheVariants as flaw
 use Rattle.reh_picture.specs.declared.faults.Repeated.TheVariants as repeated
@@ -116,3 +119,11 @@ words_to greatest = option_map_or (λ greatest. greatest / ENTRIES_IN_WORD + 1) 
 -- these are the greatest entries of the ledgers that are held
 abbrev pub IsGreatest : (ℕ → Option ℕ) → model.Contents → Type 0
 IsGreatest ends contents = (ledger : ℕ) → ends ledger ≡ model.greatest_held contents ledger
+
+-- the last entry of each range lies within the words of the ledger, which is one of these, and the bookie is one of so many
+abbrev pub HasEnds : ℕ → List Ledger → Holding → Type 0
+HasEnds bookies ledgers holding = All (λ range. IsCopy bookies ledgers (holding.bookie, holding.ledger, range.1)) holding.ranges
+
+-- the last entry of each range lies within the bookie's row of the ledger
+abbrev pub FitsIn : HeldValue → Holding → Type 0
+FitsIn held holding = All (λ range. (holding.bookie < held.bookies) × (range.1 < ENTRIES_IN_WORD * words_in held holding.ledger)) holding.ranges

@@ -1,26 +1,27 @@
 // What the bookies of a picture hold.
-ghost use Rattle.std.specs.Prelude.{◌≡◌, ◌≤◌, ◌<◌, ◌+◌, [], ◌∷◌, ◌++◌, ℕ, Some, map, fold, max, cond, nat_eq, IfOk, OnOk, All};
+ghost use Rattle.std.specs.Prelude.{◌≡◌, ◌≤◌, ◌<◌, ◌+◌, ◌*◌, length, [], ◌∷◌, ◌++◌, ℕ, Some, map, fold, max, cond, nat_eq, IfOk, OnOk, All};
 ghost use Rattle.std.specs.Option.{option_map_or};
 ghost use Rattle.std.specs.BTreeMap.{get};
 ghost use Rattle.std.specs.Ordering.{nat_cmp};
 ghost use Rattle.std.specs.Result.{result_err};
 ghost use Rattle.serde_json.specs.View.{view};
-ghost use Rattle.reh_types.specs.declared.limits.TheConstants.{ENTRY_END};
+ghost use Rattle.reh_types.specs.declared.limits.TheConstants.{ENTRIES_IN_WORD, ENTRY_END, MAX_LEDGERS};
 ghost use Rattle.reh_types.specs.Sets as set;
 ghost use Rattle.reh_picture.specs.Faults.{FailsWith};
 ghost use Rattle.reh_picture.specs.Members.{number_of, list_of, text_of};
 ghost use Rattle.reh_picture.specs.Bookies.{bookie_in};
-ghost use Rattle.reh_picture.specs.Contents.{two_numbers as two_numbers_in, ends_in, ends_of, range_fault, ranges_fault, next_after, content_fault, each_content_fault, contents_fault, pair_fault, pair_of, holding_in, copies_within, copies_in, held_in, IsGreatest};
+ghost use Rattle.reh_picture.specs.Contents.{two_numbers as two_numbers_in, ends_in, ends_of, range_fault, ranges_fault, next_after, content_fault, each_content_fault, contents_fault, pair_fault, pair_of, holding_in, copies_in, held_in, IsGreatest, HasEnds, FitsIn};
 ghost use Rattle.reh_model.specs.Contents.{Contents};
+ghost use Rattle.reh_cluster.specs.Parts.{HasRows};
 
 use crate::faults::{FaultName, LedgerFlaw, PictureFault, Repeated};
 use crate::fields::Field;
 use crate::ledgers::known_bookie;
 use crate::members::{list, number, text};
 use indexmap::IndexSet;
-use reh_cluster::Names;
+use reh_cluster::{Ledger, Names};
 use reh_held::Held;
-use reh_types::{BookieIx, LedgerId, MAX_ENTRY_ID};
+use reh_types::{BookieIx, ENTRIES_IN_WORD, LedgerId, MAX_ENTRY_ID};
 use serde_json::Value;
 use std::alloc::{AllocError, Global};
 use std::collections::BTreeMap;
@@ -228,40 +229,51 @@ fn note_end(
     Ok(())
 }
 
-/// The contents that are these holdings.
-pub(crate) fn hold(alloc: Global, holdings: &[Holding]) -> Result<Held, AllocError>
-    ensures { IfOk result (λ held. held.contents ≡ held_in holdings.now) }
+/// The contents that are these holdings, of so many bookies, with rows of each ledger for as many words as it has.
+pub(crate) fn hold(
+    alloc: Global,
+    bookies: usize,
+    ledgers: &[Ledger],
+    holdings: &[Holding],
+) -> Result<Held, AllocError>
+    requires few { length ledgers.now ≤ MAX_LEDGERS }
+    requires words { All (λ g. ENTRIES_IN_WORD * g.words ≤ ENTRY_END) ledgers.now }
+    requires ends { All (HasEnds bookies ledgers.now) holdings.now }
+    ensures contents { IfOk result (λ held. held.contents ≡ held_in holdings.now) }
+    ensures rows { IfOk result (HasRows bookies ledgers.now) }
 {
-    let mut held = Held::new(alloc);
+    let mut held = empty_rows(alloc, bookies, ledgers)?;
     for holding in holdings {
-        add_holding(&mut held, holding)?;
+        add_holding(&mut held, holding);
     }
     Ok(held)
 }
 
-/// Adds what one bookie holds of one ledger. After an `Err` some of it may be there.
-fn add_holding(held: &mut Held, holding: &Holding) -> Result<(), AllocError>
-    ensures { OnOk result
-        (held.new.contents ≡ fold set.insert held.old.contents (copies_in holding.now)) }
+/// Contents in which none of so many bookies holds an entry, with rows of each ledger for as many words as it has.
+fn empty_rows(alloc: Global, bookies: usize, ledgers: &[Ledger]) -> Result<Held, AllocError>
+    requires few { length ledgers.now ≤ MAX_LEDGERS }
+    requires words { All (λ g. ENTRIES_IN_WORD * g.words ≤ ENTRY_END) ledgers.now }
+    ensures contents { IfOk result (λ held. held.contents ≡ set.empty) }
+    ensures rows { IfOk result (HasRows bookies ledgers.now) }
 {
-    for ends in &holding.ranges {
-        add_range(held, holding.bookie, holding.ledger, *ends)?;
+    let mut held = Held::new(alloc, bookies);
+    for ledger in ledgers {
+        let entries = ledger.words() * ENTRIES_IN_WORD as usize;
+        if entries > 0 {
+            held.reserve(ledger.id(), (entries - 1) as u32)?;
+        }
     }
-    Ok(())
+    Ok(held)
 }
 
-/// Adds the entries of one range. After an `Err` some of them may be there.
-fn add_range(
-    held: &mut Held,
-    bookie: BookieIx,
-    ledger: LedgerId,
-    ends: (u32, u32),
-) -> Result<(), AllocError>
-    ensures { OnOk result (held.new.contents
-        ≡ fold set.insert held.old.contents (copies_within bookie ledger ends)) }
+/// Adds what one bookie holds of one ledger, whose rows reach the end of each range.
+fn add_holding(held: &mut Held, holding: &Holding)
+    requires { FitsIn held.old holding.now }
+    ensures { held.new ≡ record held.old {
+      contents = fold set.insert held.old.contents (copies_in holding.now);
+    } }
 {
-    for entry in ends.0..=ends.1 {
-        held.add(bookie, ledger, entry)?;
+    for ends in &holding.ranges {
+        held.add_range(holding.bookie, holding.ledger, ends.0, ends.1);
     }
-    Ok(())
 }

@@ -61,7 +61,7 @@ fn read_cluster(alloc: Global, picture: &Value) -> Result<State, PictureFault>
     if words_in_all(names.len(), &ledgers) > MAX_WORDS {
         return Err(PictureFault::Limit(Field::Contents));
     }
-    let held = hold(alloc, &holdings)?;
+    let held = hold(alloc, names.len(), &ledgers, &holdings)?;
     Ok(State::build(names, up, grace, ledgers, held))
 }
 
