@@ -14,7 +14,6 @@ use Rattle.std.specs.BTreeMap.{is_at}
 use Rattle.std.specs.FinMap as finite
 use Rattle.std.specs.FinMap.{FinMap, get-insert, len-insert, same_map, nat_cmp-IsAntisymmetric}
 use Rattle.std.proofs.lemmas.Bool.Decides.{nat_tests}
-use Rattle.reh_types.specs.declared.limits.TheConstants.{MAX_LEDGERS}
 use Rattle.reh_types.specs.Sets as set
 use Rattle.reh_model.specs.Contents.{Contents, has, copies_of}
 use Rattle.reh_model.proofs.ContentsLaws.{has-insert, has-union-copies_of}
@@ -51,13 +50,9 @@ words-with_room held ledger entry =
     (get-insert nat_cmp_total held.words ledger (max (words_in held ledger) (entry / 64 + 1)) ledger
     ∙ ap (λ b. cond b (Some (max (words_in held ledger) (entry / 64 + 1))) (finite.get held.words ledger)) (unsigned_tied ledger ledger ∙ itself))
 
--- with one more ledger there are still few
-pub few-insert : (words : FinMap nat_cmp ℕ) (ledger width : ℕ) {after : FinMap nat_cmp ℕ} → finite.len words < MAX_LEDGERS → after ≡ finite.insert words ledger width → finite.len after ≤ MAX_LEDGERS
-few-insert words ledger width few is =
-    let one_more : finite.len (finite.insert words ledger width) ≤ finite.len words + 1 =
-    subst (λ n. n ≤ finite.len words + 1) (sym (len-insert nat_cmp_total words ledger width)) (either (finite.contains_key words ledger) (finite.len words)) in
-    omega (arith, ap finite.len is, one_more, few)
-    where
+-- one ledger more at most
+pub len_insert : (words : FinMap nat_cmp ℕ) (ledger width : ℕ) {after : FinMap nat_cmp ℕ} → after ≡ finite.insert words ledger width → finite.len after ≤ finite.len words + 1
+len_insert words ledger width is = subst (λ n. n ≤ finite.len words + 1) (sym (ap finite.len is ∙ len-insert nat_cmp_total words ledger width)) (either (finite.contains_key words ledger) (finite.len words)) where
   either : (b : Bool) (n : ℕ) → cond b n (n + 1) ≤ n + 1
   either true n = omega arith
   either false n = omega arith

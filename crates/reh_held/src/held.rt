@@ -50,6 +50,7 @@ impl Held {
         ensures contents { result.contents ≡ set.empty }
         ensures bookies { result.bookies ≡ bookies }
         ensures words { result.words ≡ map.empty }
+        ensures few { map.len result.words ≡ 0 }
     {
         Held {
             alloc,
@@ -90,6 +91,7 @@ impl Held {
         requires { map.len self.old.words < MAX_LEDGERS }
         ensures ok { OnOk result (self.new ≡ with_room self.old ledger entry) }
         ensures room { OnOk result (entry < 64 * words_in self.new ledger) }
+        ensures few { map.len self.new.words ≤ map.len self.old.words + 1 }
         ensures err { OnErr result (self.new ≡ self.old) }
     {
         let width = (entry / 64) as usize + 1;
@@ -123,8 +125,10 @@ impl Held {
         requires few { map.len self.old.words < MAX_LEDGERS }
         ensures ok { OnOk result
             (self.new.contents ≡ set.insert self.old.contents (bookie, ledger, entry)) }
-        ensures room { OnOk result
+        ensures rows { OnOk result
             (self.new ≡ record (with_room self.old ledger entry) { contents = self.new.contents }) }
+        ensures room { OnOk result (entry < 64 * words_in self.new ledger) }
+        ensures few { map.len self.new.words ≤ map.len self.old.words + 1 }
         ensures err { OnErr result (self.new ≡ self.old) }
     {
         self.reserve(ledger, entry)?;
@@ -308,5 +312,27 @@ mod tests {
         held.toggle_all(bookie, ledger, &turns);
         assert_eq!(rt; held.row(bookie, ledger), [8].as_slice());
         Ok(())
+    }
+
+    // Where there is no memory for it, a call leaves all as it was: it is tried with each allocation failing.
+    #[test]
+    fn want_of_memory_changes_nothing(rt: HostRuntime) {
+        let bookie = BookieIx(1);
+        let ledger = LedgerId(7);
+        let mut held = Held::new(rt.alloc(), 2);
+        if held.add(bookie, ledger, 3).is_err() {
+            assert_eq!(rt; held.words(ledger), 0);
+            assert_eq!(rt; held.count(bookie), 0);
+            return;
+        }
+
+        // Past the row.
+        if held.add(bookie, ledger, 64).is_err() {
+            assert_eq!(rt; held.row(bookie, ledger), [8].as_slice());
+            return;
+        }
+        if held.delta_of(bookie, ledger, &[65]).is_err() {
+            assert_eq!(rt; held.row(bookie, ledger), [8, 1].as_slice());
+        }
     }
 }

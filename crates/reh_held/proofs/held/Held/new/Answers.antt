@@ -19,3 +19,6 @@ invariant_of-result c =
       few = omega (arith, none);
       tables = λ ledger. subst (λ (tables : List (ℕ × TableValue)). IfSome (table_at tables ledger) (IsTable c.args.bookies)) (sym c.new.ensures.empty) tt;
     }
+
+pub returns-clause-few : goal.returns-clause-few
+returns-clause-few c = ap (λ (tables : List (ℕ × TableValue)). finite.len (words_of tables)) c.new.ensures.empty ∙ finite.len-empty nat_cmp ℕ

@@ -1,14 +1,13 @@
 -- One table is written, with what was held.
-use Rattle.std.proofs.Common.{◌≡◌, ◌+◌, ◌/◌, ◌<◌, ◌≤◌, ℕ, List, sym, ap, subst, ◌∙◌, arith}
+use Rattle.std.proofs.Common.{◌≡◌, ◌+◌, ◌/◌, ◌≤◌, ℕ, List, sym, ap, subst, ◌∙◌, arith}
 use Rattle.std.specs.Prelude.{max}
 use Rattle.std.specs.FinMap as finite
 use Rattle.reh_model.specs.Contents.{has}
 use Rattle.reh_held.specs.Tables.{TableValue, IsTable}
-use Rattle.reh_types.specs.declared.limits.TheConstants.{MAX_LEDGERS}
 use Rattle.reh_held.specs.Kept.{words_of}
 use Rattle.reh_held.specs.Values.{HeldValue, words_in}
 use Rattle.reh_held.proofs.HeldLaws.{words-found}
-use Rattle.reh_held.proofs.WrittenLaws.{written-kept, written-contents, written-words, insert-same, few-insert}
+use Rattle.reh_held.proofs.WrittenLaws.{written-kept, written-contents, written-words, insert-same, len_insert}
 use Rattle.reh_held.proofs.held.Held.reserve.Goals as goal
 
 pub returns-then-width-words-clause-ok : goal.returns-then-width-words-clause-ok
@@ -24,7 +23,8 @@ invariant_of-self-2 c =
     let tables : List (ℕ × TableValue) = c.self.inside.tables.entries in
     let still : IsTable c.self.inside.bookies c.in_ok-table.table = subst (λ (v : HeldValue). IsTable v.bookies c.in_ok-table.table) (sym c.self.view_is) c.in_ok-table.ensures.table in
     record {
-      few = few-insert (words_of tables) c.args.ledger c.in_ok-table.table.width (subst (λ (v : HeldValue). finite.len v.words < MAX_LEDGERS) (sym c.self.view_is) c.requires) (written-words tables c.insert.new.self.entries c.args.ledger c.in_ok-table.table c.in_ok-insert.ensures.updates.0);
+      few =
+          omega (arith, len_insert (words_of tables) c.args.ledger c.in_ok-table.table.width (written-words tables c.insert.new.self.entries c.args.ledger c.in_ok-table.table c.in_ok-insert.ensures.updates.0), ap (λ (v : HeldValue). finite.len v.words) c.self.view_is, c.requires);
       tables = written-kept tables c.insert.new.self.entries c.args.ledger c.in_ok-table.table c.in_ok-insert.ensures.updates.0 c.self.inside.bookies still c.self.invariant.tables;
     }
 
@@ -47,3 +47,8 @@ pub returns-clause-room : goal.returns-clause-room
 returns-clause-room c =
     let room = words-found c.insert.new.self.entries c.args.ledger c.in_ok-table.table (sym c.in_ok-insert.ensures.updates.1) in
     omega (arith, room, c.in_ok-table.ensures.width)
+
+pub returns-clause-few : goal.returns-clause-few
+returns-clause-few c =
+    let tables : List (ℕ × TableValue) = c.self.inside.tables.entries in
+    omega (arith, len_insert (words_of tables) c.args.ledger c.in_ok-table.table.width (written-words tables c.insert.new.self.entries c.args.ledger c.in_ok-table.table c.in_ok-insert.ensures.updates.0), ap (λ (v : HeldValue). finite.len v.words) c.self.view_is)
