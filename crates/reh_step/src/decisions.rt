@@ -1,21 +1,26 @@
 // When an event is refused: one function for each event, over checks that they share.
-ghost use Rattle.std.specs.Prelude.{◌≡◌, ◌==◌, ◌&&◌, [], ◌∷◌, length, None, Some, MatchResult, not, slice_get};
+ghost use Rattle.std.specs.Prelude.{◌≡◌, ◌==◌, ◌<◌, ℕ, [], ◌∷◌, length, None, Some, MatchResult, not, slice_get};
 ghost use Rattle.reh_types.specs.declared.moves.Event.TheVariants.{Lose, Join, Audit, Acquire, Release, Finish, Expire, Tick, Copy, Swap};
 ghost use Rattle.std.specs.List.{find, list_any};
-ghost use Rattle.reh_model.specs.Metadata.{stripe_of};
+ghost use Rattle.reh_model.specs.Metadata.{IsMetadata, stripe_of};
 ghost use Rattle.reh_model.specs.Cluster as cluster;
 ghost use Rattle.reh_model.specs.Cluster.{ledger_at, is_locked_by};
 ghost use Rattle.reh_model.specs.Refusals as model;
 ghost use Rattle.reh_model.specs.Checks.{first_reason};
+ghost use Rattle.reh_model.specs.Striping as stripe;
 ghost use Rattle.reh_model.specs.Step.{refusal_of, place_checks};
+ghost use Rattle.reh_held.specs.Rows.{is_set};
 ghost use Rattle.reh_step.specs.Decisions.{Decides};
+ghost use Rattle.reh_step.specs.Sources.{is_set_at, is_source, is_source_at};
 
 use reh_audit::{has_news, under_of};
 use reh_cluster::{Ledger, State};
 use reh_held::is_set;
-use reh_meta::Fragment;
+use reh_meta::{Fragment, LedgerMeta};
 use reh_stripe::{Striped, write_set};
-use reh_types::{BookieIx, CLOCK_END, Event, LedgerId, MAX_TICKS, MAX_VERSION, Refusal};
+use reh_types::{
+    BookieIx, CLOCK_END, Event, LedgerId, MAX_ENSEMBLE_SIZE, MAX_TICKS, MAX_VERSION, Refusal,
+};
 
 /// Whether the event is accepted, or else the first refusal that applies. It takes no memory.
 pub fn check(state: &State, event: &Event) -> Result<(), Refusal>
@@ -336,8 +341,10 @@ fn first_unreadable(
     ensures { result
         ≡ find (λ e. not (cluster.is_readable state.now ledger.now fragment.now e)) entries }
 {
+    let metadata = ledger.metadata();
+    let rows = source_rows(state, ledger, fragment);
     for entry in entries {
-        if !is_readable(state, ledger, fragment, entry) {
+        if !is_readable(&rows, metadata, entry) {
             return Some(entry);
         }
     }
@@ -357,24 +364,45 @@ fn first_lacked(state: &State, bookie: BookieIx, ledger: &Ledger, entries: Strip
     None
 }
 
-/// Whether some registered member of the entry's write set holds it.
-fn is_readable(state: &State, ledger: &Ledger, fragment: &Fragment, entry: u32) -> bool
+/// A row of words for each index of an ensemble.
+type Rows<'a> = [&'a [u64]; MAX_ENSEMBLE_SIZE as usize];
+
+/// The rows of the fragment's members, by their indexes; without words where a member isn't registered.
+fn source_rows<'a>(state: &'a State, ledger: &Ledger, fragment: &Fragment) -> Rows<'a>
     requires { length fragment.now.ensemble ≡ ledger.now.metadata.size }
-    ensures { result ≡ cluster.is_readable state.now ledger.now fragment.now entry }
+    ensures well_formed { IsMetadata ledger.now.metadata }
+    ensures rows { (index entry : ℕ) → index < ledger.now.metadata.size
+        → is_set_at result entry index
+        ≡ is_source_at state.now ledger.now fragment.now entry index }
 {
-    let metadata = ledger.metadata();
+    let mut rows: Rows<'a> = [&[]; MAX_ENSEMBLE_SIZE as usize];
+    for index in 0..ledger.metadata().size() as usize {
+        rows[index] = source_row(state, ledger, fragment.ensemble[index]);
+    }
+    rows
+}
+
+/// The bookie's row of the ledger; without words where the bookie isn't registered.
+fn source_row<'a>(state: &'a State, ledger: &Ledger, bookie: BookieIx) -> &'a [u64]
+    ensures { (entry : ℕ) → is_set result.now entry
+        ≡ is_source state.now ledger.now bookie entry }
+{
+    if state.is_up(bookie) {
+        state.row(bookie, ledger.id())
+    } else {
+        &[]
+    }
+}
+
+/// Whether the entry is in one of the rows at the indexes of its write set.
+fn is_readable(rows: &Rows<'_>, metadata: &LedgerMeta, entry: u32) -> bool
+    ensures { result ≡ list_any (is_set_at rows.now entry)
+        (stripe.write_set entry metadata.now.size metadata.now.write_quorum) }
+{
     for index in write_set(entry, metadata.size(), metadata.write_quorum()) {
-        if is_source(state, ledger, fragment.ensemble[index as usize], entry) {
+        if is_set(rows[index as usize], entry) {
             return true;
         }
     }
     false
-}
-
-/// Whether the bookie is registered and holds the entry.
-fn is_source(state: &State, ledger: &Ledger, bookie: BookieIx, entry: u32) -> bool
-    ensures { result ≡ (cluster.is_up state.now bookie
-        && cluster.holds state.now bookie ledger.now.id entry) }
-{
-    state.is_up(bookie) && state.holds(bookie, ledger.id(), entry)
 }
