@@ -252,7 +252,9 @@ impl State {
         }) }
         ensures err { OnErr result (self.new ≡ self.old) }
     {
-        let turns = self.held.delta_of(bookie, ledger, entries)?;
+        let turns = self
+            .held
+            .delta_of(self.allocator(), bookie, ledger, entries)?;
         self.held.toggle_all(bookie, ledger, &turns);
         Ok(())
     }

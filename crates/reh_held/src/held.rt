@@ -192,6 +192,7 @@ impl Held {
     /// something, its number and the bits that change. The entries are among those that the ledger's words stand for.
     pub fn delta_of(
         &self,
+        alloc: Global,
         bookie: BookieIx,
         ledger: LedgerId,
         entries: &[u32],
@@ -203,10 +204,10 @@ impl Held {
     {
         match self.tables.get(&ledger) {
             Some(table) => {
-                let turns = table.delta_of(self.alloc, bookie, entries)?;
+                let turns = table.delta_of(alloc, bookie, entries)?;
                 Ok(turns)
             }
-            None => Ok(Vec::new(self.alloc)),
+            None => Ok(Vec::new(alloc)),
         }
     }
 
@@ -297,7 +298,7 @@ mod tests {
         let mut held = Held::new(rt.alloc(), 4);
         held.reserve(ledger, 4)?;
         held.add_range(bookie, ledger, 3, 3);
-        let turns = held.delta_of(bookie, ledger, &[0, 1, 3, 4])?;
+        let turns = held.delta_of(rt.alloc(), bookie, ledger, &[0, 1, 3, 4])?;
         assert_eq!(rt;
             turns.as_slice(),
             [Turn {
@@ -331,7 +332,7 @@ mod tests {
             assert_eq!(rt; held.row(bookie, ledger), [8].as_slice());
             return;
         }
-        if held.delta_of(bookie, ledger, &[65]).is_err() {
+        if held.delta_of(rt.alloc(), bookie, ledger, &[65]).is_err() {
             assert_eq!(rt; held.row(bookie, ledger), [8, 1].as_slice());
         }
     }
