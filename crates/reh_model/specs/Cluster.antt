@@ -9,7 +9,7 @@ use Rattle.reh_types.specs.Sets.{Set, numbers}
 use Rattle.reh_model.specs.Contents.{Contents, has}
 use Rattle.reh_model.specs.Metadata.{Metadata, Fragment, writes, stop_of, stripe_of}
 
--- a ledger: its metadata, how many words of 64 entries each bookie's row of it has, the bookies that its task is to replace, if it has one, and the task's lock, if it is locked
+-- a ledger: its metadata, how many words of 64 entries it has, the bookies that its task is to replace, if it has one, and the task's lock, if it is locked
 pub record Ledger : Type 0 where
   pub id : ℕ
   pub metadata : Metadata

@@ -229,7 +229,7 @@ fn note_end(
     Ok(())
 }
 
-/// The contents that are these holdings, of so many bookies, with rows of each ledger for as many words as it has.
+/// The contents that are these holdings, of so many bookies, with rows of each ledger for at least as many words as it has.
 pub(crate) fn hold(
     alloc: Global,
     bookies: usize,
@@ -249,7 +249,7 @@ pub(crate) fn hold(
     Ok(held)
 }
 
-/// Contents in which none of so many bookies holds an entry, with rows of each ledger for as many words as it has.
+/// Contents in which none of so many bookies holds an entry, with rows of each ledger for at least as many words as it has.
 fn empty_rows(alloc: Global, bookies: usize, ledgers: &[Ledger]) -> Result<Held, AllocError>
     requires few { length ledgers.now ≤ MAX_LEDGERS }
     requires words { All (λ g. ENTRIES_IN_WORD * g.words ≤ ENTRY_END) ledgers.now }
