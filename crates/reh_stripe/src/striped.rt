@@ -1,9 +1,10 @@
 // The entries that an index of an ensemble carries.
-ghost use Rattle.std.specs.Prelude.{◌≡◌, ◌<◌, ◌≤◌};
+ghost use Rattle.std.specs.Prelude.{◌≡◌, ◌+◌, ◌-◌, ◌%◌, ◌<◌, ◌≤◌};
 ghost use Rattle.std.specs.Iterator.{YieldsFirst, item_count};
 ghost use Rattle.reh_types.specs.declared.limits.TheConstants.{MAX_ENSEMBLE_SIZE};
 ghost use Rattle.reh_model.specs.Striping as stripe;
 
+use crate::writes::wrapped;
 use std::marker::Model;
 
 /// Whether the index of an ensemble carries the entry: whether it is in the entry's write set.
@@ -25,15 +26,27 @@ fn rank_of(entry: u32, index: u32, size: u32) -> u32
     requires small { size ≤ MAX_ENSEMBLE_SIZE }
     ensures { result ≡ stripe.rank_of entry index size }
 {
-    (index + size - entry % size) % size
+    rank_from(entry % size, index, size)
+}
+
+// The rank at which the index carries the entries whose rank 0 is at another index.
+fn rank_from(start: u32, index: u32, size: u32) -> u32
+    requires start { start < size }
+    requires inside { index < size }
+    requires small { size ≤ MAX_ENSEMBLE_SIZE }
+    ensures { result ≡ (index + size - start) % size }
+{
+    wrapped(index + size - start, size)
 }
 
 /// The entries of a range that an index carries, rising; contracts see those that are left.
 ///
-/// Each call of `next` takes the same time, however far the next entry is.
+/// Each call of `next` takes the same time, however far the next entry is, and divides nothing.
 #[derive(Drop)]
 pub struct Striped {
     at: u32,
+    // the index of rank 0 there
+    start: u32,
     stop: u32,
     index: u32,
     size: u32,
@@ -41,7 +54,7 @@ pub struct Striped {
 }
 
 impl Model for Striped {
-    ghost use Rattle.std.specs.Prelude.{List, ℕ, ◌≤◌};
+    ghost use Rattle.std.specs.Prelude.{◌≡◌, List, ℕ, ◌%◌, ◌≤◌};
     ghost use Rattle.reh_types.specs.declared.limits.TheConstants.{MAX_ENSEMBLE_SIZE};
     ghost use Rattle.reh_model.specs.Striping as stripe;
 
@@ -49,7 +62,8 @@ impl Model for Striped {
 
     ghost view = { λ s. stripe.striped_entries s.at s.stop s.index s.size s.quorum };
 
-    ghost invariant = { λ s. (1 ≤ s.quorum) × (s.quorum ≤ s.size) × (s.size ≤ MAX_ENSEMBLE_SIZE) };
+    ghost invariant = { λ s. (1 ≤ s.quorum) × (s.quorum ≤ s.size) × (s.size ≤ MAX_ENSEMBLE_SIZE)
+        × (s.start ≡ s.at % s.size) };
 }
 
 impl Striped {
@@ -62,6 +76,7 @@ impl Striped {
     {
         Striped {
             at: first,
+            start: first % size,
             stop,
             index,
             size,
@@ -83,12 +98,13 @@ impl Iterator for Striped {
         }
 
         // the ranks fall by 1 from entry to entry
-        let skipped = rank_of(self.at, self.index, self.size).saturating_sub(self.quorum - 1);
+        let skipped = rank_from(self.start, self.index, self.size).saturating_sub(self.quorum - 1);
         if skipped >= self.stop.saturating_sub(self.at) {
             return None;
         }
         let entry = self.at + skipped;
         self.at = entry + 1;
+        self.start = wrapped(self.start + skipped + 1, self.size);
         Some(entry)
     }
 }

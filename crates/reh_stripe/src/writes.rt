@@ -1,5 +1,5 @@
 // The write set of an entry.
-ghost use Rattle.std.specs.Prelude.{◌≡◌, ◌≤◌};
+ghost use Rattle.std.specs.Prelude.{◌≡◌, ◌*◌, ◌%◌, ◌<◌, ◌≤◌};
 ghost use Rattle.std.specs.Iterator.{YieldsFirst, item_count};
 ghost use Rattle.reh_types.specs.declared.limits.TheConstants.{MAX_ENSEMBLE_SIZE};
 ghost use Rattle.reh_model.specs.Striping as stripe;
@@ -59,8 +59,16 @@ impl Iterator for WriteSet {
         if self.rank >= self.quorum {
             return None;
         }
-        let index = (self.start + self.rank) % self.size;
+        let index = wrapped(self.start + self.rank, self.size);
         self.rank += 1;
         Some(index)
     }
+}
+
+// A number below twice the size, round an ensemble of this size.
+pub(crate) fn wrapped(number: u32, size: u32) -> u32
+    requires { number < 2 * size }
+    ensures { result ≡ number % size }
+{
+    if number < size { number } else { number - size }
 }

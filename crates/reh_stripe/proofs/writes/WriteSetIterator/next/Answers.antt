@@ -8,6 +8,7 @@ pub returns-clause-steps : goal.returns-clause-steps
 returns-clause-steps c =
     let w = c.self.inside in
     sym c.self.view_is ∙ map-index_at-step w.start w.size w.rank w.quorum (omega arith)
+    ∙ ap (λ (index : ℕ). index ∷ map (index_at w.start w.size) (range (w.rank + 1) w.quorum)) (sym c.wrapped-index.ensures)
 
 pub returns-clause-goes : goal.returns-clause-goes
 returns-clause-goes c =
