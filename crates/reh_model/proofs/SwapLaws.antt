@@ -255,12 +255,12 @@ CanRedoAll-moved_session m Look is can = can
 -- what a move leaves, where memory is wanted too
 left_by : (m n : Session) (move : Move) (reply : Reply) → Performs m move reply n → n ≡ session_after m move reply
 left_by m n move reply (inl answered) = answered.1
-left_by m n move reply (inr wanted) = wanted.2 ∙ sym (ap (session_after m move) wanted.0)
+left_by m n move reply (inr wanted) = wanted.3 ∙ sym (ap (session_after m move) wanted.1)
 
 -- a move that is answered done is done
 done_by : (m n : Session) (move : Move) → Performs m move Done n → reply_to m move ≡ Done
 done_by m n move (inl answered) = sym answered.0
-done_by m n move (inr wanted) = wanted.1
+done_by m n move (inr wanted) = wanted.2
 
 CanRedoAll-after : (m : Session) (move : Move) (reply : Reply) (n : Session) → Performs m move reply n → CanRedoAll m → CanRedoAll (session_after m move reply)
 CanRedoAll-after m move Done n performs can = CanRedoAll-moved_session m move (done_by m n move performs) can

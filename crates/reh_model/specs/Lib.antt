@@ -7,5 +7,6 @@ pub mod Audit
 pub mod Checks
 pub mod Refusals
 pub mod Step
+pub mod Places
 pub mod Session
 pub mod Swaps

@@ -1,5 +1,5 @@
 -- A session: the surviving events over an opening cluster and the undone ones, its replies, and what moves make of it.
-use Rattle.std.specs.Prelude.{◌≡◌, ◌-◌, ◌==◌, nat_le, List, [], ◌∷◌, ◌++◌, length, take, drop, Option, None, Some, unwrap_or, Result, Ok, Err, ◌⊎◌}
+use Rattle.std.specs.Prelude.{◌≡◌, ◌-◌, ◌==◌, Bool, true, false, IsTrue, nat_le, List, [], ◌∷◌, ◌++◌, length, take, drop, Option, None, Some, unwrap_or, Result, Ok, Err, ◌⊎◌}
 use Rattle.reh_types.specs.declared.limits.TheConstants.{MAX_EVENTS}
 use Rattle.reh_types.specs.declared.moves.Event.{Event}
 use Rattle.reh_types.specs.declared.moves.Move.{Move}
@@ -71,13 +71,22 @@ session_after m move Done = moved_session m move
 session_after m move (Clock clock) = m
 session_after m move (Refused refusal) = m
 
--- Replies that may want memory
+-- Answers
 
--- From m a move has this reply, and leaves n: it is the machine's reply, and the session after it; or there is no memory, only where the machine says done, and nothing changes.
+-- From m a move has this reply, and leaves n, as the machine says.
+abbrev pub Answers : Session → Move → Reply → Session → Type 0
+Answers m move reply n = (reply ≡ reply_to m move) × (n ≡ session_after m move reply)
+
+-- whether a move takes memory: an event does, and nothing else
+abbrev pub takes_memory : Move → Bool
+takes_memory (Do event) = true
+takes_memory move = false
+
+-- From m a move has this reply, and leaves n: as the machine says; or there is no memory for a move that takes some, only where the machine says done, and nothing changes.
 abbrev pub Performs : Session → Move → Reply → Session → Type 0
 Performs m move reply n =
-    ((reply ≡ reply_to m move) × (n ≡ session_after m move reply))
-    ⊎ ((reply ≡ Refused NoMemory) × (reply_to m move ≡ Done) × (n ≡ m))
+    Answers m move reply n
+    ⊎ (IsTrue (takes_memory move) × (reply ≡ Refused NoMemory) × (reply_to m move ≡ Done) × (n ≡ m))
 
 -- moves and replies, paired in order, from m to n
 abbrev pub Run : Session → List Move → List Reply → Session → Type 0
