@@ -1,11 +1,11 @@
 -- Records: an exchange of what an exchange left gives back cluster and record.
-use Rattle.std.proofs.Common.{◌≡◌, ◌≢◌, ℕ, List, [], ◌∷◌, length, map, refl, sym, ap, subst, ◌∙◌}
+use Rattle.std.proofs.Common.{◌≡◌, ◌≢◌, ℕ, List, [], ◌∷◌, map, refl, sym, ap, subst, ◌∙◌}
 use Rattle.std.specs.Prelude.{All}
 use Rattle.std.proofs.lemmas.List.Elements.{All-nil, All-cons, All-head, All-tail}
 use Rattle.reh_types.specs.declared.changes.Change.TheVariants.{Registration, Metadata, Task, Lock, Word, Clock}
 use Rattle.reh_model.specs.Cluster.{Cluster, words_among}
 use Rattle.reh_model.specs.WellFormed.{IsWellFormed}
-use Rattle.reh_model.specs.Places.{Change, Place, place_of, put, back, exchanged, left, IsBefore, AreRising, IsThere, Fits, SameAt, IsDelta}
+use Rattle.reh_model.specs.Places.{Change, Place, place_of, put, back, exchanged, left, AreRising, IsThere, Fits, SameAt, IsDelta}
 use Rattle.reh_model.proofs.PlaceLaws.{IsBefore-different, put-names, words_among-put, IsThere-put, place_of-back, put-back, back-back, put-comm, back-put, SameAt-refl, SameAt-sym, SameAt-trans, SameAt-put}
 
 -- no change of the record is at that place
