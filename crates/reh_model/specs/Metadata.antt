@@ -1,5 +1,5 @@
 -- A ledger's metadata, in the words of BookKeeper's `LedgerMetadata` and of its page on the protocol.
-use Rattle.std.specs.Prelude.{◌≡◌, ℕ, ◌+◌, ◌-◌, ◌<◌, ◌≤◌, Bool, true, false, not, if◌then◌else◌, ◌&&◌, ◌==◌, nat_eq, nat_lt, nat_le, List, [], ◌∷◌, map, drop, length, Option, None, Some, unwrap_or, slice_get, slice_set, slice_index, All}
+use Rattle.std.specs.Prelude.{◌≡◌, ℕ, ◌+◌, ◌-◌, ◌<◌, ◌≤◌, Bool, true, false, not, if◌then◌else◌, ◌&&◌, ◌==◌, nat_eq, nat_lt, nat_le, List, [], ◌∷◌, ◌++◌, map, drop, length, Option, None, Some, unwrap_or, slice_get, slice_set, slice_index, All}
 use Rattle.std.specs.List.{list_any, list_all, zip, IsDistinct}
 use Rattle.std.specs.List.Sorted.{IsStrictlyIncreasing}
 use Rattle.std.specs.Option.{ForSome, option_map, option_map_or, option_or}
@@ -27,6 +27,12 @@ abbrev pub is_open : LedgerState → Bool
 is_open Open = true
 is_open InRecovery = false
 is_open (Closed end) = false
+
+-- whether a recovery has fenced the writer off, and is to close the ledger
+abbrev pub is_in_recovery : LedgerState → Bool
+is_in_recovery Open = false
+is_in_recovery InRecovery = true
+is_in_recovery (Closed end) = false
 
 -- where the entries of a ledger end, if it is closed: one past its last entry id (`getLastEntryId`)
 abbrev pub end_of_state : LedgerState → Option ℕ
@@ -60,6 +66,14 @@ with_member fragment i bookie = record fragment { ensemble = slice_set fragment.
 -- the metadata with another member at an index of a fragment: an ensemble change, which keeps the fragment's entries
 abbrev pub with_member_at : Metadata → ℕ → ℕ → ℕ → Metadata
 with_member_at m f i bookie = record m { fragments = option_map_or (λ fragment. slice_set m.fragments f (with_member fragment i bookie)) (slice_get m.fragments f) m.fragments }
+
+-- the metadata with a new fragment from an entry on, whose ensemble is the last one with another member at the index: an ensemble change of the writer's
+abbrev pub with_fragment_at : Metadata → ℕ → ℕ → ℕ → Metadata
+with_fragment_at m first i bookie = record m { fragments = m.fragments ++ record (with_member (last_fragment m) i bookie) { first = first } ∷ [] }
+
+-- the metadata with another state
+abbrev pub with_state : Metadata → LedgerState → Metadata
+with_state m state = record m { state = state }
 
 -- the metadata at the next version: each change raises it by 1
 abbrev pub next_version : Metadata → Metadata
