@@ -15,6 +15,7 @@ pub mod AuditLaws
 pub mod Examples
 pub mod TaskExamples
 pub mod CopyExamples
+pub mod OpenExamples
 pub mod PlaceExamples
 pub mod CheckLaws
 pub mod AcceptedLaws

@@ -3,7 +3,7 @@ use Rattle.std.specs.Prelude.{ℕ, Bool, not, if◌then◌else◌, List, map, Op
 use Rattle.std.specs.List.{filter, flat_map, list_any}
 use Rattle.reh_types.specs.Sets as set
 use Rattle.reh_types.specs.Sets.{Set, numbers}
-use Rattle.reh_model.specs.Metadata.{Fragment, Metadata}
+use Rattle.reh_model.specs.Metadata.{Fragment, Metadata, last_fragment}
 use Rattle.reh_model.specs.Cluster.{Cluster, Ledger, task_set}
 
 -- the bookies of all ensembles
@@ -21,6 +21,10 @@ is_under up fragment = list_any (λ b. not (set.contains up b)) fragment.ensembl
 -- the least fragment with a member that is not registered
 abbrev pub first_under : Set numbers → Ledger → Option ℕ
 first_under up g = position (is_under up) g.metadata.fragments
+
+-- whether some member of the last fragment, to which a writer appends, is not registered
+abbrev pub is_needed : Set numbers → Ledger → Bool
+is_needed up g = is_under up (last_fragment g.metadata)
 
 -- whether an audit changes the ledger's task: not all missing members are in it
 abbrev pub is_news : Set numbers → Ledger → Bool

@@ -4,6 +4,7 @@ pub mod Contents
 pub mod Cluster
 pub mod WellFormed
 pub mod Audit
+pub mod Recovery
 pub mod Checks
 pub mod Refusals
 pub mod Step

@@ -1,13 +1,14 @@
 -- When each refusal applies, as a check that gives the refusal or none.
-use Rattle.std.specs.Prelude.{ℕ, ◌+◌, not, ◌||◌, ◌==◌, nat_lt, List, [], ◌∷◌, length, Option, None, Some, is_none, unwrap_or, slice_get, slice_index}
+use Rattle.std.specs.Prelude.{ℕ, ◌+◌, ◌-◌, not, ◌&&◌, ◌||◌, ◌==◌, nat_lt, nat_le, List, [], ◌∷◌, length, Option, None, Some, is_none, unwrap_or, slice_get, slice_index}
 use Rattle.std.specs.List.{find, list_any}
-use Rattle.std.specs.Option.{option_map}
-use Rattle.reh_types.specs.declared.limits.TheConstants.{CLOCK_END, MAX_TICKS, MAX_VERSION}
+use Rattle.std.specs.Option.{option_map, option_and_then}
+use Rattle.reh_types.specs.declared.limits.TheConstants.{CLOCK_END, ENTRY_END, MAX_FRAGMENTS, MAX_TICKS, MAX_VERSION}
 use Rattle.reh_types.specs.declared.refusals.Refusal.{Refusal}
-use Rattle.reh_types.specs.declared.refusals.Refusal.TheVariants.{NoBookie, NoLedger, AlreadyDown, AlreadyUp, NothingToPublish, NoTask, Locked, NotOwner, StillUnder, NoLocks, BadTick, ClockEnd, NoFragment, NoIndex, MemberUp, TargetDown, TargetIsMember, NoEndpoint, Stale, NoSource, MissingEntry, VersionEnd, NoMemory}
-use Rattle.reh_model.specs.Metadata.{Fragment, stop_of, stripe_of}
-use Rattle.reh_model.specs.Cluster.{Cluster, Ledger, is_up, holds, is_readable, ledger_at, is_locked_by}
-use Rattle.reh_model.specs.Audit.{is_news, first_under}
+use Rattle.reh_types.specs.declared.refusals.Refusal.TheVariants.{NoBookie, NoLedger, AlreadyDown, AlreadyUp, NothingToPublish, NoTask, Locked, NotOwner, StillUnder, NoLocks, NotOpen, NotNeeded, GraceSet, GraceRuns, NoGrace, BadTick, ClockEnd, NoFragment, NoIndex, MemberUp, TargetDown, TargetIsMember, NoEndpoint, Stale, NoSource, MissingEntry, Undecided, TooFew, NotRecovering, FragmentsFull, EntryEnd, VersionEnd, NoMemory}
+use Rattle.reh_model.specs.Metadata.{Fragment, is_open, is_in_recovery, stop_of, stripe_of}
+use Rattle.reh_model.specs.Cluster.{Cluster, Ledger, is_up, holds, is_readable, ledger_at, is_locked_by, due_of}
+use Rattle.reh_model.specs.Audit.{is_news, first_under, is_needed}
+use Rattle.reh_model.specs.Recovery.{next_entry, is_rolling_over, up_writes, recovered_end, recovered_entries}
 use Rattle.reh_model.specs.Checks.{reason_if, first_reason}
 
 -- the refusal; where there is none, want of memory, which comes after all others
@@ -71,6 +72,46 @@ still_under s g = option_map (λ f. StillUnder f) (first_under s.up g)
 
 abbrev pub no_locks : Cluster → ℕ → Option Refusal
 no_locks s w = reason_if (not (list_any (is_locked_by w) s.ledgers)) NoLocks
+
+-- Open ledgers: grace, fence and recovery
+
+abbrev pub not_open : Ledger → Option Refusal
+not_open g = reason_if (not (is_open g.metadata.state)) NotOpen
+
+abbrev pub not_recovering : Ledger → Option Refusal
+not_recovering g = reason_if (not (is_in_recovery g.metadata.state)) NotRecovering
+
+abbrev pub not_needed : Cluster → Ledger → Option Refusal
+not_needed s g = reason_if (not (is_needed s.up g)) NotNeeded
+
+abbrev pub grace_set : Ledger → Option Refusal
+grace_set g = option_map (λ due. GraceSet due) (due_of g)
+
+abbrev pub no_grace : Ledger → Option Refusal
+no_grace g = reason_if (is_none (due_of g)) NoGrace
+
+-- the clock is below the due tick
+abbrev pub grace_runs : Cluster → Ledger → Option Refusal
+grace_runs s g = option_and_then (λ due. reason_if (nat_lt s.clock due) (GraceRuns due)) (due_of g)
+
+-- the least entry that a recovery passes with fewer registered members of its write set than the ack quorum
+abbrev pub too_few : Cluster → Ledger → Option Refusal
+too_few s g = option_map (λ e. TooFew e) (find (λ e. nat_lt (length (up_writes s g e)) g.metadata.ack_quorum) (recovered_entries s g))
+
+-- the members that lack the first entry that can't be read, and say so, are too few: those left could be an ack quorum of it
+abbrev pub undecided : Cluster → Ledger → Option Refusal
+undecided s g =
+    let end = recovered_end s g in
+    reason_if (nat_lt (length (up_writes s g end)) (g.metadata.write_quorum - g.metadata.ack_quorum + 1)) (Undecided end)
+
+-- Open ledgers: another ensemble
+
+-- a new fragment is needed, and there are as many as there can be
+abbrev pub fragments_full : Cluster → Ledger → Option Refusal
+fragments_full s g = reason_if (is_rolling_over s g && nat_le MAX_FRAGMENTS (length g.metadata.fragments)) FragmentsFull
+
+abbrev pub entry_end : Cluster → Ledger → Option Refusal
+entry_end s g = reason_if (next_entry s g == ENTRY_END) EntryEnd
 
 -- Copies and swaps
 
