@@ -28,7 +28,7 @@ AllByRecursion-set P (x ∷ xs) zero b here all = (here, all.1)
 AllByRecursion-set P (x ∷ xs) (suc i) b here all = (all.0, AllByRecursion-set P xs i b here all.1)
 
 -- different bookies stay so where a new one takes a place
-IsDistinct-set : (members : List ℕ) (i b : ℕ) → list_any (λ m. m == b) members ≡ false → IsDistinct nat_eq members → IsDistinct nat_eq (set members i b)
+pub IsDistinct-set : (members : List ℕ) (i b : ℕ) → list_any (λ m. m == b) members ≡ false → IsDistinct nat_eq members → IsDistinct nat_eq (set members i b)
 unfolding IsDistinct
 IsDistinct-set [] i b new different = tt
 IsDistinct-set (m ∷ members) zero b new different = (none_is b members (or-none (m == b) _ new).1, different.1)
@@ -42,7 +42,7 @@ from_zero-set (x ∷ xs) zero changed d same zero_first = λ y is. let e : chang
 from_zero-set (x ∷ xs) (suc f) changed d same zero_first = zero_first
 
 -- a fragment's first entry, by the list of all
-first-slice_get : (fragments : List Fragment) (k : ℕ) → (unwrap_or (slice_get fragments k) (record { first = 0; ensemble = [] })).first ≡ get_or (map (λ fragment. fragment.first) fragments) k 0
+pub first-slice_get : (fragments : List Fragment) (k : ℕ) → (unwrap_or (slice_get fragments k) (record { first = 0; ensemble = [] })).first ≡ get_or (map (λ fragment. fragment.first) fragments) k 0
 first-slice_get [] k = refl
 first-slice_get (x ∷ xs) zero = refl
 first-slice_get (x ∷ xs) (suc k) = first-slice_get xs k
