@@ -1,28 +1,30 @@
 -- What an accepted event shows, and what the replies of a session tell of its event: this file alone takes the checks of events apart.
-use Rattle.std.proofs.Common.{◌≡◌, ℕ, Bool, true, false, not, ◌&&◌, ◌||◌, ◌+◌, ◌<◌, ◌≤◌, List, [], ◌∷◌, ◌++◌, length, Option, None, Some, IsSome, refl, sym, ap, ◌∙◌, subst, arith, nat_lt, nat_le}
+use Rattle.std.proofs.Common.{◌≡◌, ℕ, Bool, true, false, not, ◌&&◌, ◌||◌, ◌+◌, ◌-◌, ◌<◌, ◌≤◌, List, [], ◌∷◌, ◌++◌, length, Option, None, Some, IsSome, refl, sym, ap, ◌∙◌, subst, arith, nat_lt, nat_le}
 use Rattle.std.specs.Prelude.{◌==◌, is_none, All, slice_get}
 use Rattle.std.specs.List.{list_any}
-use Rattle.std.specs.Option.{ForSome}
+use Rattle.std.specs.Option.{ForSome, option_map, option_and_then}
 use Rattle.std.proofs.lemmas.Bool.Decides.{nat_tests}
 use Rattle.std.proofs.lemmas.List.Elements.{All-weaker}
 use Rattle.std.proofs.lemmas.Option.{slice_get_within}
-use Rattle.reh_types.specs.declared.limits.TheConstants.{CLOCK_END, MAX_EVENTS, MAX_VERSION}
+use Rattle.reh_types.specs.declared.limits.TheConstants.{CLOCK_END, ENTRY_END, MAX_EVENTS, MAX_FRAGMENTS, MAX_VERSION}
 use Rattle.reh_types.specs.declared.moves.Event.{Event}
-use Rattle.reh_types.specs.declared.moves.Event.TheVariants.{Join, Acquire, Tick, Copy, Swap}
+use Rattle.reh_types.specs.declared.moves.Event.TheVariants.{Join, Acquire, Grace, Tick, Roll, Fence, Seal, Copy, Swap}
 use Rattle.reh_types.specs.declared.moves.Move.TheVariants.{Do}
 use Rattle.reh_types.specs.declared.moves.Reply.TheVariants.{Done, Refused}
 use Rattle.reh_types.specs.declared.refusals.Refusal.{Refusal}
-use Rattle.reh_types.specs.declared.refusals.Refusal.TheVariants.{NoSource, MissingEntry, Full}
+use Rattle.reh_types.specs.declared.refusals.Refusal.TheVariants.{GraceSet, GraceRuns, NoGrace, NoSource, MissingEntry, TooFew, Full}
 use Rattle.reh_types.specs.Sets.{Set, numbers}
 use Rattle.reh_model.specs.Contents.{IsHeld}
-use Rattle.reh_model.specs.Metadata.{Fragment, stop_of, stripe_of, writes}
-use Rattle.reh_model.specs.Cluster.{Cluster, Ledger, is_up, holds, is_readable, ledger_at, stripe_at}
+use Rattle.reh_model.specs.Metadata.{Fragment, is_open, is_in_recovery, last_fragment, stop_of, stripe_of}
+use Rattle.reh_model.specs.Cluster.{Cluster, Ledger, holds, is_readable, is_locked_by, due_of, ledger_at, stripe_at}
+use Rattle.reh_model.specs.Recovery.{next_entry, is_rolling_over, up_writes, recovered_end, recovered_entries}
 use Rattle.reh_model.specs.Checks.{first_reason, reason_if}
-use Rattle.reh_model.specs.Refusals.{with_ledger, at_ledger, with_fragment, no_bookie, already_up, no_task, lock_held, bad_tick, clock_end, stale_version, not_owner, no_index, member_up, target_down, target_is_member, no_endpoint, no_place, no_source, missing_entry, version_end}
-use Rattle.reh_model.specs.Step.{refusal_of, place_checks, copy_checks, swap_checks}
+use Rattle.reh_model.specs.Refusals.{with_ledger, at_ledger, with_fragment, no_bookie, already_up, no_task, lock_held, bad_tick, clock_end, not_open, not_recovering, not_needed, grace_set, no_grace, grace_runs, too_few, undecided, fragments_full, entry_end, stale_version, not_owner, no_index, member_up, target_down, target_is_member, no_endpoint, no_place, no_source, missing_entry, version_end}
+use Rattle.reh_model.specs.Step.{refusal_of, grace_checks, roll_checks, fence_checks, seal_checks, place_checks, copy_checks, swap_checks}
 use Rattle.reh_model.specs.Session.{Session, state_of, reply_unless, no_room, reply_to}
 use Rattle.reh_model.specs.Swaps.{HoldsStripe}
 use Rattle.reh_model.proofs.CheckLaws.{reason_if-none, find-none, check-none, first_reason-only, first_reason-found, first_reason-passed}
+use Rattle.reh_model.proofs.RecoveryLaws.{IsHeld-readable}
 use Rattle.reh_model.proofs.LedgerLaws.{id_found, stop_at-found, stripe_at-found}
 
 -- The checks of a ledger and of a fragment
@@ -116,20 +118,124 @@ accepted_acquire s w l g found none =
 pub accepted_tick : (s : Cluster) (n : ℕ) → refusal_of s (Tick n) ≡ None → s.clock + n ≤ CLOCK_END
 accepted_tick s n none = clock_end-none s n (check-none (bad_tick n ∷ []) (clock_end s n) [] none)
 
--- Copies
+-- Open ledgers
 
--- an entry that can be read is held
-IsHeld-readable : (s : Cluster) (l e : ℕ) (bs : List ℕ) → list_any (λ b. is_up s b && holds s b l e) bs ≡ true → IsHeld s.held l e
-IsHeld-readable s l e [] any = cc
-IsHeld-readable s l e (b ∷ bs) any =
-    elim (holds s b l e) as (λ h. holds s b l e ≡ h → ((is_up s b && h) || list_any (λ b. is_up s b && holds s b l e) bs) ≡ true → IsHeld s.held l e) [
-      | true ↦ λ is _. (b, is)
-      | false ↦ λ _ later. IsHeld-readable s l e bs (sym (ap (λ h. h || list_any (λ b. is_up s b && holds s b l e) bs) (and_false (is_up s b))) ∙ later)
-    ] refl any
+-- the ledger is open
+not_open-none : (g : Ledger) → not_open g ≡ None → is_open g.metadata.state ≡ true
+not_open-none g none = not_not (is_open g.metadata.state) (reason_if-none _ _ none)
+
+-- the worker holds its lock
+not_owner-none : (w : ℕ) (g : Ledger) → not_owner w g ≡ None → is_locked_by w g ≡ true
+not_owner-none w g none = not_not (is_locked_by w g) (reason_if-none _ _ none)
+
+-- what an accepted grace shows: the worker's lock of an open ledger has no due tick yet
+pub record IsGraceable (g : Ledger) (w : ℕ) : Type 0 where
+  pub owned : is_locked_by w g ≡ true
+  pub state : is_open g.metadata.state ≡ true
+  pub unset : due_of g ≡ None
+
+pub accepted_grace : (s : Cluster) (w l : ℕ) (g : Ledger) → ledger_at s l ≡ Some g → refusal_of s (Grace w l) ≡ None → IsGraceable g w
+accepted_grace s w l g found none =
+    let passes : first_reason (grace_checks s w g) ≡ None = at_ledger-none s l (grace_checks s w) g found (check-none (no_bookie s w ∷ []) (at_ledger s l (grace_checks s w)) [] none) in
+    record {
+      owned = not_owner-none w g (check-none [] (not_owner w g) (not_open g ∷ not_needed s g ∷ grace_set g ∷ []) passes);
+      state = not_open-none g (check-none (not_owner w g ∷ []) (not_open g) (not_needed s g ∷ grace_set g ∷ []) passes);
+      unset = no_due (due_of g) (check-none (not_owner w g ∷ not_open g ∷ not_needed s g ∷ []) (grace_set g) [] passes);
+    }
   where
-    and_false : (a : Bool) → (a && false) ≡ false
-    and_false true = refl
-    and_false false = refl
+    no_due : (due : Option ℕ) → option_map (λ due. GraceSet due) due ≡ None → due ≡ None
+    no_due None none = refl
+    no_due (Some due) none = cc
+
+-- what an accepted ensemble change of the writer's shows: the bookie is registered and no member of the open ledger's last ensemble, the index is there, the next entry is one that there can be, and there is room for a fragment, where one is needed, and a next version
+pub record IsRollable (s : Cluster) (g : Ledger) (i b : ℕ) : Type 0 where
+  pub named : b < length s.names
+  pub state : is_open g.metadata.state ≡ true
+  pub index : i < g.metadata.size
+  pub new : list_any (λ member. member == b) (last_fragment g.metadata).ensemble ≡ false
+  pub next : next_entry s g < ENTRY_END
+  pub room : is_rolling_over s g ≡ true → length g.metadata.fragments < MAX_FRAGMENTS
+  pub version : g.metadata.version < MAX_VERSION
+
+-- there is an entry behind those that are held
+entry_end-none : (s : Cluster) (g : Ledger) → next_entry s g ≤ ENTRY_END → entry_end s g ≡ None → next_entry s g < ENTRY_END
+entry_end-none s g within none = let apart : (next_entry s g == ENTRY_END) ≡ false = reason_if-none _ _ none in grind (arith, nat_tests)
+
+-- there is room for a fragment that is needed
+fragments_full-none : (s : Cluster) (g : Ledger) → fragments_full s g ≡ None → is_rolling_over s g ≡ true → length g.metadata.fragments < MAX_FRAGMENTS
+fragments_full-none s g none over =
+    let few : nat_le MAX_FRAGMENTS (length g.metadata.fragments) ≡ false = sym (ap (λ b. b && nat_le MAX_FRAGMENTS (length g.metadata.fragments)) over) ∙ reason_if-none _ _ none in
+    grind (arith, nat_tests, few)
+
+pub accepted_roll : (s : Cluster) (l i b : ℕ) (g : Ledger) → ledger_at s l ≡ Some g → next_entry s g ≤ ENTRY_END → g.metadata.version ≤ MAX_VERSION → refusal_of s (Roll l i b) ≡ None → IsRollable s g i b
+accepted_roll s l i b g found within few none =
+    let last : Fragment = last_fragment g.metadata in
+    let passes : first_reason (roll_checks s i b g) ≡ None = at_ledger-none s l (roll_checks s i b) g found (check-none (no_bookie s b ∷ []) (at_ledger s l (roll_checks s i b)) [] none) in
+    let place : List (Option Refusal) = not_open g ∷ no_index g i ∷ member_up s last i ∷ target_down s b ∷ [] in
+    let new : target_is_member last b ≡ None = check-none place (target_is_member last b) (entry_end s g ∷ fragments_full s g ∷ version_end g ∷ []) passes in
+    record {
+      named = no_bookie-none s b (check-none [] (no_bookie s b) (at_ledger s l (roll_checks s i b) ∷ []) none);
+      state = not_open-none g (check-none [] (not_open g) (no_index g i ∷ member_up s last i ∷ target_down s b ∷ target_is_member last b ∷ entry_end s g ∷ fragments_full s g ∷ version_end g ∷ []) passes);
+      index = no_index-none g i (check-none (not_open g ∷ []) (no_index g i) (member_up s last i ∷ target_down s b ∷ target_is_member last b ∷ entry_end s g ∷ fragments_full s g ∷ version_end g ∷ []) passes);
+      new = reason_if-none _ _ new;
+      next = entry_end-none s g within (check-none (place ++ target_is_member last b ∷ []) (entry_end s g) (fragments_full s g ∷ version_end g ∷ []) passes);
+      room = fragments_full-none s g (check-none (place ++ target_is_member last b ∷ entry_end s g ∷ []) (fragments_full s g) (version_end g ∷ []) passes);
+      version = version_end-none g few (check-none (place ++ target_is_member last b ∷ entry_end s g ∷ fragments_full s g ∷ []) (version_end g) [] passes);
+    }
+
+-- what an accepted fence shows: the worker's lock of an open ledger has a due tick that has come, and there is a next version
+pub record IsFenceable (s : Cluster) (g : Ledger) (w : ℕ) : Type 0 where
+  pub owned : is_locked_by w g ≡ true
+  pub state : is_open g.metadata.state ≡ true
+  pub due : ℕ
+  pub set : due_of g ≡ Some due
+  pub over : due ≤ s.clock
+  pub version : g.metadata.version < MAX_VERSION
+
+pub accepted_fence : (s : Cluster) (w l : ℕ) (g : Ledger) → ledger_at s l ≡ Some g → g.metadata.version ≤ MAX_VERSION → refusal_of s (Fence w l) ≡ None → IsFenceable s g w
+accepted_fence s w l g found few none =
+    let passes : first_reason (fence_checks s w g) ≡ None = at_ledger-none s l (fence_checks s w) g found (check-none (no_bookie s w ∷ []) (at_ledger s l (fence_checks s w)) [] none) in
+    let before : List (Option Refusal) = not_owner w g ∷ not_open g ∷ not_needed s g ∷ [] in
+    let has_come = come (due_of g) (check-none before (no_grace g) (grace_runs s g ∷ version_end g ∷ []) passes) (check-none (before ++ no_grace g ∷ []) (grace_runs s g) (version_end g ∷ []) passes) in
+    record {
+      owned = not_owner-none w g (check-none [] (not_owner w g) (not_open g ∷ not_needed s g ∷ no_grace g ∷ grace_runs s g ∷ version_end g ∷ []) passes);
+      state = not_open-none g (check-none (not_owner w g ∷ []) (not_open g) (not_needed s g ∷ no_grace g ∷ grace_runs s g ∷ version_end g ∷ []) passes);
+      due = has_come.0;
+      set = has_come.1;
+      over = has_come.2;
+      version = version_end-none g few (check-none (before ++ no_grace g ∷ grace_runs s g ∷ []) (version_end g) [] passes);
+    }
+  where
+    come : (o : Option ℕ) → reason_if (is_none o) NoGrace ≡ None → option_and_then (λ due. reason_if (nat_lt s.clock due) (GraceRuns due)) o ≡ None → (due : ℕ) × (o ≡ Some due) × (due ≤ s.clock)
+    come None none runs = cc
+    come (Some due) none runs = let passed : nat_lt s.clock due ≡ false = reason_if-none _ _ runs in (due, refl, grind (arith, nat_tests, passed))
+
+-- what an accepted seal shows: the worker locks a ledger in recovery, each entry that it passes has an ack quorum of registered members, at its end so many of them lack the entry that the others are none, and there is a next version
+pub record IsSealable (s : Cluster) (g : Ledger) (w : ℕ) : Type 0 where
+  pub owned : is_locked_by w g ≡ true
+  pub state : is_in_recovery g.metadata.state ≡ true
+  pub enough : All (λ e. g.metadata.ack_quorum ≤ length (up_writes s g e)) (recovered_entries s g)
+  pub decided : g.metadata.write_quorum - g.metadata.ack_quorum + 1 ≤ length (up_writes s g (recovered_end s g))
+  pub version : g.metadata.version < MAX_VERSION
+
+pub accepted_seal : (s : Cluster) (w l : ℕ) (g : Ledger) → ledger_at s l ≡ Some g → g.metadata.version ≤ MAX_VERSION → refusal_of s (Seal w l) ≡ None → IsSealable s g w
+accepted_seal s w l g found few none =
+    let passes : first_reason (seal_checks s w g) ≡ None = at_ledger-none s l (seal_checks s w) g found (check-none (no_bookie s w ∷ []) (at_ledger s l (seal_checks s w)) [] none) in
+    let state : List (Option Refusal) = not_owner w g ∷ not_recovering g ∷ [] in
+    let acks : ℕ = g.metadata.ack_quorum in
+    let recovering : not (is_in_recovery g.metadata.state) ≡ false = reason_if-none _ _ (check-none (not_owner w g ∷ []) (not_recovering g) (too_few s g ∷ undecided s g ∷ version_end g ∷ []) passes) in
+    let each : All (λ e. nat_lt (length (up_writes s g e)) acks ≡ false) (recovered_entries s g) =
+    find-none (λ e. nat_lt (length (up_writes s g e)) acks) (λ e. TooFew e) (recovered_entries s g) (check-none state (too_few s g) (undecided s g ∷ version_end g ∷ []) passes) in
+    let lacking : nat_lt (length (up_writes s g (recovered_end s g))) (g.metadata.write_quorum - acks + 1) ≡ false = reason_if-none _ _ (check-none (state ++ too_few s g ∷ []) (undecided s g) (version_end g ∷ []) passes) in
+    record {
+      owned = not_owner-none w g (check-none [] (not_owner w g) (not_recovering g ∷ too_few s g ∷ undecided s g ∷ version_end g ∷ []) passes);
+      state = not_not (is_in_recovery g.metadata.state) recovering;
+      enough = All-weaker (λ e. nat_lt (length (up_writes s g e)) acks ≡ false) (λ e. acks ≤ length (up_writes s g e)) (λ e is. grind (arith, nat_tests, is)) (recovered_entries s g) each;
+      decided = grind (arith, nat_tests, lacking);
+      version = version_end-none g few (check-none (state ++ too_few s g ∷ undecided s g ∷ []) (version_end g) [] passes);
+    }
+
+-- Copies
 
 -- what an accepted copy shows: the bookie is in the picture, and each entry that it takes is held by some bookie
 pub record IsCopyable (s : Cluster) (w l f i : ℕ) : Type 0 where
@@ -146,7 +252,7 @@ accepted_copy s w l f i v none =
     let entries = stripe_of g.metadata f i in
     let readable : All (λ e. not (is_readable s g fragment e) ≡ false) entries = find-none (λ e. not (is_readable s g fragment e)) (λ e. NoSource e) entries (check-none [] _ [] source.passes) in
     let held : All (λ e. IsHeld s.held g.id e) entries =
-    All-weaker (λ e. not (is_readable s g fragment e) ≡ false) (λ e. IsHeld s.held g.id e) (λ e is. IsHeld-readable s g.id e (writes g.metadata fragment e) (not_not (is_readable s g fragment e) is)) entries readable in
+    All-weaker (λ e. not (is_readable s g fragment e) ≡ false) (λ e. IsHeld s.held g.id e) (λ e is. IsHeld-readable s g fragment e (not_not (is_readable s g fragment e) is)) entries readable in
     record {
       named = no_bookie-none s w (check-none [] (no_bookie s w) (at_ledger s l checks ∷ []) none);
       held = subst (λ (es : List ℕ). All (λ e. IsHeld s.held l e) es) (sym (stripe_at-found s l f i g found.is)) (subst (λ (k : ℕ). All (λ e. IsHeld s.held k e) entries) (id_found l s.ledgers g found.is) held);

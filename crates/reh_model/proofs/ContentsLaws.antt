@@ -1,5 +1,5 @@
 -- What is held after copies are added.
-use Rattle.std.proofs.Common.{◌≡◌, ℕ, ◌+◌, Bool, true, false, ◌≤◌, ◌&&◌, ◌||◌, List, [], ◌∷◌, ◌++◌, map, refl, sym, ap, ◌∙◌, subst, nat_eq, arith}
+use Rattle.std.proofs.Common.{◌≡◌, ℕ, ◌+◌, Bool, true, false, ◌≤◌, ◌&&◌, ◌||◌, List, [], ◌∷◌, ◌++◌, map, inl, inr, refl, sym, ap, ◌∙◌, subst, nat_eq, arith}
 use Rattle.std.specs.Prelude.{◌==◌, cond, max, count_by, All}
 use Rattle.std.specs.List.{list_any, filter, fold, reduce}
 use Rattle.std.specs.Option.{option_map_or}
@@ -8,6 +8,7 @@ use Rattle.std.specs.declared.option.Option.{Option}
 use Rattle.std.specs.declared.option.Option.TheVariants.{None, Some}
 use Rattle.std.specs.Ordering.{nat_cmp, eq_by_cmp, is_eq, ordering_then}
 use Rattle.std.specs.Cmp.{unsigned_tied, Equal-is}
+use Rattle.std.proofs.lemmas.Bool.{cases_lt}
 use Rattle.std.proofs.lemmas.Bool.Decides.{nat_tests}
 use Rattle.std.proofs.lemmas.List.Elements.{All-head, All-tail}
 use Rattle.std.proofs.Math.Bool.{or-false}
@@ -18,6 +19,10 @@ use Rattle.reh_types.specs.Sets as set
 use Rattle.reh_types.specs.Sets.{triples, triple_cmp, triple_exact, same_set, contains-items, contains-insert, contains-union, contains-from_list, insert, items}
 use Rattle.reh_model.specs.Contents.{Contents, has, IsHeld, copies_of, count_held, greatest_held}
 use Rattle.reh_model.proofs.Ranges.{list_any-map, list_any-same}
+
+or_true : (a b : Bool) → b ≡ true → (a || b) ≡ true
+or_true true b is = refl
+or_true false b is = is
 
 both_eq : (r s : Ordering) → is_eq (ordering_then r s) ≡ (is_eq r && is_eq s)
 both_eq Less s = refl
@@ -206,11 +211,44 @@ reached_among q (t ∷ ts) found =
 pub greatest_held-reached : (contents : Contents) (l e : ℕ) → IsHeld contents l e → IsReached (greatest_held contents l) e
 greatest_held-reached contents l e held = reached_among (held.0, l, e) (items contents) (sym (contains-items contents (held.0, l, e)) ∙ held.1)
 
--- What some bookie holds
+-- a bookie has the copy of this entry
+abbrev IsAmong : ℕ → ℕ → List (ℕ × ℕ × ℕ) → Type 0
+IsAmong l e ts = (bookie : ℕ) × (list_any (eq_by_cmp triple_cmp (bookie, l, e)) ts ≡ true)
 
-or_true : (a b : Bool) → b ≡ true → (a || b) ≡ true
-or_true true b is = refl
-or_true false b is = is
+among_later : (l e : ℕ) (t : ℕ × ℕ × ℕ) (ts : List (ℕ × ℕ × ℕ)) → IsAmong l e ts → IsAmong l e (t ∷ ts)
+among_later l e t ts was = (was.0, or_true (eq_by_cmp triple_cmp (was.0, l, e) t) _ was.1)
+
+among_here : (l e : ℕ) (t : ℕ × ℕ × ℕ) (ts : List (ℕ × ℕ × ℕ)) → t.1 ≡ l → t.2 ≡ e → IsAmong l e (t ∷ ts)
+among_here l e t ts ledger entry =
+    let bookie : nat_eq t.0 t.0 ≡ true = grind (arith, nat_tests) in
+    let ledger : nat_eq l t.1 ≡ true = grind (arith, nat_tests) in
+    let entry : nat_eq e t.2 ≡ true = grind (arith, nat_tests) in
+    (t.0, ap (λ b. b || list_any (eq_by_cmp triple_cmp (t.0, l, e)) ts) (triples_tied (t.0, l, e) t ∙ (λ i. (bookie i && ledger i) && entry i)))
+
+newest_among : (l e : ℕ) (t : ℕ × ℕ × ℕ) (ts : List (ℕ × ℕ × ℕ)) (greatest : Option ℕ) → (greatest ≡ Some e → IsAmong l e ts) → t.1 ≡ l → with_entry true t.2 greatest ≡ Some e → IsAmong l e (t ∷ ts)
+newest_among l e t ts None earlier own newest = among_here l e t ts own (cc)
+newest_among l e t ts (Some m) earlier own newest =
+    let highest : max m t.2 ≡ e = cc in
+    elim (cases_lt m t.2) [
+      | inl lower ↦ among_here l e t ts own (omega (arith, highest, lower))
+      | inr higher ↦ let same : m ≡ e = omega (arith, highest, higher) in among_later l e t ts (earlier (ap Some same))
+    ]
+
+greatest_among-held : (l e : ℕ) (ts : List (ℕ × ℕ × ℕ)) → greatest_among l ts ≡ Some e → IsAmong l e ts
+greatest_among-held l e [] is = cc
+greatest_among-held l e (t ∷ ts) is =
+    elim (t.1 == l) as (λ own. (t.1 == l) ≡ own → with_entry own t.2 (greatest_among l ts) ≡ Some e → IsAmong l e (t ∷ ts)) [
+      | true ↦ λ own newest. newest_among l e t ts (greatest_among l ts) (greatest_among-held l e ts) (grind (arith, nat_tests, own)) newest
+      | false ↦ λ _ later. among_later l e t ts (greatest_among-held l e ts later)
+    ] refl (sym (greatest_among-cons l t ts) ∙ is)
+
+-- the greatest entry is held
+pub greatest_held-held : (contents : Contents) (l e : ℕ) → greatest_held contents l ≡ Some e → IsHeld contents l e
+greatest_held-held contents l e is =
+    let among = greatest_among-held l e (items contents) is in
+    (among.0, contains-items contents (among.0, l, e) ∙ among.1)
+
+-- What some bookie holds
 
 -- an entry that is held stays held where copies are added
 pub IsHeld-insert : (contents : Contents) (w k x l e : ℕ) → IsHeld contents l e → IsHeld (set.insert contents (w, k, x)) l e

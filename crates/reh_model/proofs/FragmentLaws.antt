@@ -40,6 +40,13 @@ IsEnsemble-last m was =
     subst (λ (x : Fragment). IsEnsemble m.size x.ensemble) (sym (unwrap_or-slice_get m.fragments (length m.fragments - 1) none))
     (was.ensembles (length m.fragments - 1) none (omega (arith, was.some_fragment)))
 
+-- its first entry is one that there can be
+pub first-last : (m : Metadata) → IsMetadata m → (last_fragment m).first < ENTRY_END
+first-last m was =
+    let none : Fragment = record { first = 0; ensemble = [] } in
+    subst (λ (x : Fragment). x.first < ENTRY_END) (sym (unwrap_or-slice_get m.fragments (length m.fragments - 1) none))
+    (was.firsts (length m.fragments - 1) none (omega (arith, was.some_fragment)))
+
 -- a new fragment above the last one, where there is no end yet, with a bookie that is no member of the last ensemble: the metadata stays well-formed
 pub IsMetadata-added : (m : Metadata) (first i b : ℕ) → end_of_state m.state ≡ None → (last_fragment m).first < first → first < ENTRY_END → length m.fragments < MAX_FRAGMENTS
     → list_any (λ member. member == b) (last_fragment m).ensemble ≡ false → m.version < MAX_VERSION → IsMetadata m → IsMetadata (next_version (with_fragment_at m first i b))

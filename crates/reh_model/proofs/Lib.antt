@@ -11,6 +11,7 @@ pub mod LedgerLaws
 pub mod ListLaws
 pub mod PlaceLaws
 pub mod ExchangeLaws
+pub mod RecoveryLaws
 pub mod FragmentLaws
 pub mod AuditLaws
 pub mod Examples
