@@ -5,14 +5,20 @@ use Rattle.std.specs.List.{find, list_any, filter, flat_map}
 use Rattle.std.specs.Option.{option_map_or}
 use Rattle.std.proofs.lemmas.Bool.{cases_lt}
 use Rattle.std.proofs.lemmas.Option.{unwrap_or-slice_get}
+use Rattle.std.specs.Ordering.{eq_by_cmp}
+use Rattle.std.proofs.lemmas.Bool.Decides.{nat_tests}
+use Rattle.std.proofs.lemmas.List.Folds.{list_any-append}
+use Rattle.std.proofs.lemmas.Map.Views.{any-filter_same}
+use Rattle.reh_types.specs.Sets as set
+use Rattle.reh_types.specs.Sets.{triples, triple_cmp, contains-empty, contains-from_list}
 use Rattle.reh_types.specs.declared.limits.TheConstants.{ENTRIES_IN_WORD, ENTRY_END}
 use Rattle.reh_model.specs.Striping.{range}
-use Rattle.reh_model.specs.Contents.{IsHeld, greatest_held}
+use Rattle.reh_model.specs.Contents.{IsHeld, has, greatest_held}
 use Rattle.reh_model.specs.Metadata.{Fragment, Metadata, IsMetadata, last_fragment, writes}
 use Rattle.reh_model.specs.Cluster.{Cluster, Ledger, is_up, holds, is_readable, ledger_at}
-use Rattle.reh_model.specs.Recovery.{next_entry, recovered_end}
-use Rattle.reh_model.proofs.Ranges.{IsFirst, IsFirst-one, IsFirst-found}
-use Rattle.reh_model.proofs.ContentsLaws.{All-copy, IsReached, greatest_held-reached, greatest_held-held}
+use Rattle.reh_model.specs.Recovery.{next_entry, up_writes, recovered_end, recovered_entries, recovered_copies, recovered_at}
+use Rattle.reh_model.proofs.Ranges.{IsFirst, IsFirst-one, IsFirst-found, any_passes, list_any-map, list_any-same}
+use Rattle.reh_model.proofs.ContentsLaws.{triples_tied, All-copy, IsReached, greatest_held-reached, greatest_held-held}
 
 -- What is held
 
@@ -96,3 +102,93 @@ pub recovered_end-is : (s : Cluster) (g : Ledger) (end : ℕ) → (last_fragment
 recovered_end-is s g end from passed stands =
     IsFirst-one (λ e. not (is_readable s g (last_fragment g.metadata) e)) (last_fragment g.metadata).first end (recovered_end s g)
     (record { from = from; passes = ap not stands; before = λ e first before. ap not (passed e first before) }) (is_end s g)
+
+-- The copies of a recovery
+
+any_tied : (c d : Bool) (p : ℕ → Bool) (ws : List ℕ) → list_any (λ w. (p w && c) && d) ws ≡ (c && (d && list_any p ws))
+any_tied c d p [] = none c d where
+  none : (c d : Bool) → false ≡ (c && (d && false))
+  none true true = refl
+  none true false = refl
+  none false d = refl
+any_tied c d p (w ∷ ws) = ap (λ later. ((p w && c) && d) || later) (any_tied c d p ws) ∙ one_more (p w) c d (list_any p ws) where
+  one_more : (here c d later : Bool) → (((here && c) && d) || (c && (d && later))) ≡ (c && (d && (here || later)))
+  one_more true true true later = refl
+  one_more true true false later = refl
+  one_more true false d later = refl
+  one_more false true true later = refl
+  one_more false true false later = refl
+  one_more false false d later = refl
+
+-- copies of entries of ledger k, each for the bookies that are listed for it
+any_copied : (k : ℕ) (bookies : ℕ → List ℕ) (es : List ℕ) (b l e : ℕ)
+    → list_any (eq_by_cmp triple_cmp (b, l, e)) (flat_map (λ x. map (λ w. (w, k, x)) (bookies x)) es) ≡ (nat_eq l k && (list_any (nat_eq e) es && list_any (nat_eq b) (bookies e)))
+any_copied k bookies [] b l e = none (nat_eq l k) where
+  none : (c : Bool) → false ≡ (c && false)
+  none true = refl
+  none false = refl
+any_copied k bookies (x ∷ es) b l e =
+    let of_ledger : Bool = nat_eq l k in
+    let member : Bool = list_any (nat_eq b) (bookies e) in
+    let later : Bool = list_any (nat_eq e) es in
+    let first : list_any (eq_by_cmp triple_cmp (b, l, e)) (map (λ w. (w, k, x)) (bookies x)) ≡ (of_ledger && (nat_eq e x && list_any (nat_eq b) (bookies x))) =
+    list_any-map (eq_by_cmp triple_cmp (b, l, e)) (λ w. (w, k, x)) (bookies x)
+    ∙ list_any-same (λ w. eq_by_cmp triple_cmp (b, l, e) (w, k, x)) (λ w. (nat_eq b w && of_ledger) && nat_eq e x) (λ w. triples_tied (b, l, e) (w, k, x)) (bookies x)
+    ∙ any_tied of_ledger (nat_eq e x) (nat_eq b) (bookies x) in
+    list_any-append (eq_by_cmp triple_cmp (b, l, e)) (map (λ w. (w, k, x)) (bookies x)) (flat_map (λ x. map (λ w. (w, k, x)) (bookies x)) es)
+    ∙ (λ i. first i || any_copied k bookies es b l e i)
+    ∙ elim (nat_eq e x) as (λ here. nat_eq e x ≡ here → ((of_ledger && (here && list_any (nat_eq b) (bookies x))) || (of_ledger && (later && member))) ≡ (of_ledger && ((here || later) && member))) [
+      | true ↦ λ tied.
+          let same : x ≡ e = grind (arith, nat_tests, tied) in
+          ap (λ y. (of_ledger && list_any (nat_eq b) (bookies y)) || (of_ledger && (later && member))) same ∙ once of_ledger later member
+      | false ↦ λ _. others of_ledger (of_ledger && (later && member))
+    ] refl
+  where
+    once : (c later member : Bool) → ((c && member) || (c && (later && member))) ≡ (c && member)
+    once true later true = refl
+    once true true false = refl
+    once true false false = refl
+    once false later member = refl
+
+    others : (c rest : Bool) → ((c && false) || rest) ≡ rest
+    others true rest = refl
+    others false rest = refl
+
+-- they are of this ledger, of each entry that the recovery passes, and of each registered member of its write set, and no others
+pub has-recovered_copies : (s : Cluster) (g : Ledger) (b l e : ℕ) → has (recovered_copies s g) b l e ≡ (nat_eq l g.id && (list_any (nat_eq e) (recovered_entries s g) && list_any (nat_eq b) (up_writes s g e)))
+has-recovered_copies s g b l e =
+    contains-from_list triples (flat_map (λ x. map (λ w. (w, g.id, x)) (up_writes s g x)) (recovered_entries s g)) (b, l, e)
+    ∙ any_copied g.id (up_writes s g) (recovered_entries s g) b l e
+
+-- the registered members of a write set
+pub any-up_writes : (s : Cluster) (g : Ledger) (e b : ℕ) → list_any (nat_eq b) (up_writes s g e) ≡ (is_up s b && list_any (nat_eq b) (writes g.metadata (last_fragment g.metadata) e))
+any-up_writes s g e b = any-filter_same (nat_eq b) (is_up s) (is_up s b) (λ k tied. let same : k ≡ b = grind (arith, nat_tests, tied) in ap (is_up s) same) (writes g.metadata (last_fragment g.metadata) e)
+
+-- what a copy of a recovery shows: the bookie is registered, and some bookie holds the entry
+pub record IsRecovered (s : Cluster) (b l e : ℕ) : Type 0 where
+  pub up : is_up s b ≡ true
+  pub held : IsHeld s.held l e
+
+both : (a b : Bool) → (a && b) ≡ true → (a ≡ true) × (b ≡ true)
+both true b is = (refl, is)
+both false b is = cc
+
+IsRecovered-copy : (s : Cluster) (g : Ledger) (b l e : ℕ) → has (recovered_copies s g) b l e ≡ true → IsRecovered s b l e
+IsRecovered-copy s g b l e is =
+    let first : ℕ = (last_fragment g.metadata).first in
+    let tests = both (nat_eq l g.id) (list_any (nat_eq e) (recovered_entries s g) && list_any (nat_eq b) (up_writes s g e)) (sym (has-recovered_copies s g b l e) ∙ is) in
+    let parts = both (list_any (nat_eq e) (recovered_entries s g)) (list_any (nat_eq b) (up_writes s g e)) tests.1 in
+    let ledger : g.id ≡ l = grind (arith, nat_tests, tests.0) in
+    let passed = any_passes (nat_eq e) first (recovered_end s g - first) parts.0 in
+    let entry : e ≡ passed.at = grind (arith, nat_tests, passed.passes) in
+    let readable : is_readable s g (last_fragment g.metadata) e ≡ true = readable_before_end s g e (omega (arith, entry, passed.from)) (omega (arith, entry, passed.below)) in
+    record {
+      up = (both (is_up s b) _ (sym (any-up_writes s g e b) ∙ parts.1)).0;
+      held = subst (λ (k : ℕ). IsHeld s.held k e) ledger (IsHeld-readable s g (last_fragment g.metadata) e readable);
+    }
+
+pub IsRecovered-at : (s : Cluster) (l b k e : ℕ) → has (recovered_at s l) b k e ≡ true → IsRecovered s b k e
+IsRecovered-at s l b k e = copied (ledger_at s l) where
+  copied : (o : Option Ledger) → has (option_map_or (recovered_copies s) o set.empty) b k e ≡ true → IsRecovered s b k e
+  copied None is = absurd (true≢false (sym is ∙ contains-empty triples (b, k, e)))
+  copied (Some g) is = IsRecovered-copy s g b k e is

@@ -1,35 +1,81 @@
 -- An accepted event keeps a cluster well-formed, and a ledger that is found in one keeps its rules.
-use Rattle.std.proofs.Common.{◌≡◌, ℕ, Bool, true, false, cond, not, ◌&&◌, ◌||◌, ◌+◌, ◌*◌, ◌<◌, ◌≤◌, List, [], ◌∷◌, map, length, get_or, set, None, Some, IsSome, refl, sym, ap, ◌∙◌, subst, arith, nat_eq}
-use Rattle.std.specs.Prelude.{◌==◌, if◌then◌else◌, slice_get, All}
-use Rattle.std.specs.List.{IsDistinct, find}
+use Rattle.std.proofs.Common.{◌≡◌, ℕ, Bool, true, false, cond, not, ◌&&◌, ◌||◌, ◌+◌, ◌-◌, ◌*◌, ◌<◌, ◌≤◌, List, [], ◌∷◌, map, length, get_or, set, Option, None, Some, IsSome, refl, sym, ap, ◌∙◌, subst, arith, nat_eq}
+use Rattle.std.specs.Prelude.{◌==◌, if◌then◌else◌, slice_get, max, unwrap_or, IsTrue, All}
+use Rattle.std.specs.List.{IsDistinct, find, list_any}
+use Rattle.std.specs.Option.{ForSome, option_map, option_map_or, option_and_then}
 use Rattle.std.specs.Ordering.{nat_cmp, eq_by_cmp}
 use Rattle.std.specs.Cmp.{unsigned_tied, Equal-is}
 use Rattle.std.proofs.lemmas.Bool.Decides.{nat_tests}
 use Rattle.std.proofs.lemmas.List.{length-map}
-use Rattle.std.proofs.lemmas.List.Elements.{All-head, All-map, All-set, All-tail, All-weaker}
-use Rattle.std.proofs.lemmas.Option.{slice_get-get_or, get_or_from_slice_get}
-use Rattle.reh_types.specs.declared.limits.TheConstants.{CLOCK_END, ENTRIES_IN_WORD, MAX_WORDS}
+use Rattle.std.proofs.lemmas.List.Elements.{All-append, All-cons, All-head, All-map, All-nil, All-set, All-tail, All-weaker}
+use Rattle.std.proofs.lemmas.Option.{slice_get-get_or, get_or_from_slice_get, unwrap_or-slice_get}
+use Rattle.reh_types.specs.declared.limits.TheConstants.{CLOCK_END, ENTRIES_IN_WORD, ENTRY_END, MAX_VERSION, MAX_WORDS}
+use Rattle.reh_types.specs.declared.locks.Lock.{Lock}
 use Rattle.reh_types.specs.declared.moves.Event.{Event}
-use Rattle.reh_types.specs.declared.moves.Event.TheVariants.{Lose, Join, Audit, Acquire, Release, Finish, Expire, Tick, Copy, Swap}
-use Rattle.reh_types.specs.Sets.{Set, numbers, triple_cmp, triple_exact, contains, insert, remove, union, is_empty, len, items, contains-insert, contains-remove}
+use Rattle.reh_types.specs.declared.moves.Event.TheVariants.{Lose, Join, Audit, Acquire, Release, Finish, Expire, Grace, Tick, Roll, Fence, Seal, Copy, Swap}
+use Rattle.reh_types.specs.declared.names.LedgerState.{LedgerState}
+use Rattle.reh_types.specs.declared.names.LedgerState.TheVariants.{Open, InRecovery, Closed}
+use Rattle.reh_types.specs.Sets.{Set, numbers, triple_cmp, triple_exact, contains, insert, remove, union, is_empty, len, items, contains-insert, contains-remove, contains-union}
 use Rattle.reh_types.proofs.SetLaws.{All-items}
-use Rattle.reh_model.specs.Contents.{Contents, IsHeld, copies_of}
-use Rattle.reh_model.specs.Metadata.{Metadata, Fragment, with_member, with_member_at, next_version}
-use Rattle.reh_model.specs.Cluster.{Cluster, Ledger, ledger_at, words_among, change_ledger, is_locked_by, stripe_at}
+use Rattle.reh_model.specs.Contents.{Contents, IsHeld, has, copies_of, greatest_held}
+use Rattle.reh_model.specs.Metadata.{Metadata, Fragment, IsMetadata, is_open, is_in_recovery, end_of_state, last_fragment, with_member, with_member_at, with_fragment_at, with_state, next_version}
+use Rattle.reh_model.specs.Cluster.{Cluster, Ledger, ledger_at, words_among, change_ledger, is_locked_by, due_of, stripe_at}
 use Rattle.reh_model.specs.Audit.{missing_members, published_members, audited_ledger}
-use Rattle.reh_model.specs.Step.{refusal_of, after, locked_ledger, unlocked_ledger, finished_ledger, expired_ledger, swapped_ledger}
+use Rattle.reh_model.specs.Recovery.{next_entry, is_rolling_over, recovered_end, recovered_at}
+use Rattle.reh_model.specs.Step.{refusal_of, after, locked_ledger, unlocked_ledger, finished_ledger, expired_ledger, timed_lock, with_due, graced_ledger, rolled_ledger, fenced_ledger, sealed_ledger, swapped_ledger}
 use Rattle.reh_model.specs.WellFormed.{IsLedger, IsCopy, IsWellFormed}
 use Rattle.reh_model.proofs.LedgerLaws.{KeepsId, KeepsWords, changed_ledger, KeepsId-changed_ledger, KeepsWords-changed_ledger, ids-map, sum_by-words, words_among-map, words_among-changed_ledger, is_found-map, found_itself}
-use Rattle.reh_model.proofs.ContentsLaws.{All-copy, IsHeld-insert, union-copies_of-none, union-copies_of-cons}
+use Rattle.reh_model.proofs.ContentsLaws.{All-copy, has-copies_of, greatest_held-held}
+use Rattle.reh_model.proofs.RecoveryLaws.{first_before_next, next_entry-unreadable, first_before_end, recovered_end-least, IsRecovered-at}
+use Rattle.reh_model.proofs.FragmentLaws.{first-last, IsMetadata-added, IsMetadata-state}
 use Rattle.reh_model.proofs.MemberLaws.{IsMetadata-set, with_member_at-found}
 use Rattle.reh_model.proofs.AuditLaws.{published_named, published_some}
-use Rattle.reh_model.proofs.AcceptedLaws.{IsSwappable, accepted_join, accepted_acquire, accepted_tick, accepted_copy, accepted_swap}
+use Rattle.reh_model.proofs.AcceptedLaws.{IsRollable, IsSwappable, accepted_join, accepted_acquire, accepted_grace, accepted_tick, accepted_roll, accepted_fence, accepted_seal, accepted_copy, accepted_swap}
 
--- Changes
+-- What is there
 
 -- a ledger of the cluster
 abbrev pub IsLedgerOf : Cluster → Ledger → Type 0
 IsLedgerOf s g = IsLedger (length s.names) (s.clock + s.grace) g
+
+-- A ledger that is found is one of the cluster.
+pub IsLedger-found : (s : Cluster) (l : ℕ) (g : Ledger) → IsWellFormed s → ledger_at s l ≡ Some g → IsLedgerOf s g
+IsLedger-found s l g was found = found_in s.ledgers was.ledgers.each found where
+  found_in : (gs : List Ledger) → All (IsLedgerOf s) gs → find (λ g. g.id == l) gs ≡ Some g → IsLedgerOf s g
+  found_in [] each found = cc
+  found_in (h ∷ gs) each found =
+      elim (h.id == l) as (λ b. cond b (Some h) (find (λ g. g.id == l) gs) ≡ Some g → IsLedgerOf s g) [
+        | true ↦ λ is. let same : h ≡ g = cc in subst (IsLedgerOf s) same (All-head (IsLedgerOf s) h gs each)
+        | false ↦ λ later. found_in gs (All-tail (IsLedgerOf s) h gs each) later
+      ] found
+
+-- Nobody holds an entry past the last one that there can be,
+pub held_below : (s : Cluster) (l e : ℕ) → IsWellFormed s → IsHeld s.held l e → e < ENTRY_END
+held_below s l e was held = within (ledger_at s l) refl copy.1 copy.2 where
+  copy : IsCopy (length s.names) s.ledgers (held.0, l, e)
+  copy = All-copy (IsCopy (length s.names) s.ledgers) s.held was.contents.copies (held.0, l, e) held.1
+
+  within : (o : Option Ledger) → ledger_at s l ≡ o → IsSome o → e < ENTRIES_IN_WORD * option_map_or (λ g. g.words) o 0 → e < ENTRY_END
+  within None found some below = cc
+  within (Some g) found some below = omega (arith, below, (IsLedger-found s l g was found).words)
+
+-- so the next entry is at most one past it,
+pub next_entry-within : (s : Cluster) (l : ℕ) (g : Ledger) → IsWellFormed s → ledger_at s l ≡ Some g → next_entry s g ≤ ENTRY_END
+next_entry-within s l g was found = within (greatest_held s.held g.id) refl where
+  first : (last_fragment g.metadata).first < ENTRY_END
+  first = first-last g.metadata (IsLedger-found s l g was found).metadata
+
+  within : (greatest : Option ℕ) → greatest_held s.held g.id ≡ greatest → option_map_or (λ greatest. max (last_fragment g.metadata).first (greatest + 1)) greatest (last_fragment g.metadata).first ≤ ENTRY_END
+  within None is = omega (arith, first)
+  within (Some greatest) is = omega (arith, first, held_below s g.id greatest was (greatest_held-held s.held g.id greatest is))
+
+-- and a recovery ends there at the latest.
+pub recovered_end-within : (s : Cluster) (l : ℕ) (g : Ledger) → IsWellFormed s → ledger_at s l ≡ Some g → recovered_end s g ≤ ENTRY_END
+recovered_end-within s l g was found =
+    let end : recovered_end s g ≤ next_entry s g = recovered_end-least s g (next_entry s g) (first_before_next s g) (next_entry-unreadable s g (last_fragment g.metadata)) in
+    omega (arith, end, next_entry-within s l g was found)
+
+-- Changes
 
 -- other bookies are registered
 pub IsWellFormed-up : (s : Cluster) (up : Set numbers) → IsWellFormed s → ((b : ℕ) → contains up b ≡ true → b < length s.names) → IsWellFormed (record s { up = up })
@@ -95,11 +141,21 @@ either : (a b : Bool) (P : Type 0) → (a ≡ true → P) → (b ≡ true → P)
 either true b P first second is = first refl
 either false b P first second is = second is
 
--- a bookie takes one more copy of an entry that is held
-pub IsWellFormed-copied : (s : Cluster) (w l e : ℕ) → IsWellFormed s → w < length s.names → IsHeld s.held l e → IsWellFormed (record s { held = insert s.held (w, l, e) })
-IsWellFormed-copied s w l e was named some =
+both : (a b : Bool) → (a && b) ≡ true → (a ≡ true) × (b ≡ true)
+both true b is = (refl, is)
+both false b is = cc
+
+-- what holds of each number of a list holds of one that is among them
+All-among : (P : ℕ → Type 0) (es : List ℕ) (e : ℕ) → All P es → list_any (nat_eq e) es ≡ true → P e
+All-among P [] e each among = cc
+All-among P (x ∷ es) e each among = either (nat_eq e x) (list_any (nat_eq e) es) (P e)
+    (λ tied. let same : x ≡ e = grind (arith, nat_tests, tied) in subst P same (All-head P x es each))
+    (All-among P es e (All-tail P x es each)) among
+
+-- bookies that have names take copies of entries that are held
+IsWellFormed-united : (s : Cluster) (more : Contents) → IsWellFormed s → ((b l e : ℕ) → has more b l e ≡ true → (b < length s.names) × IsHeld s.held l e) → IsWellFormed (record s { held = union s.held more })
+IsWellFormed-united s more was each =
     let can_be : ℕ × ℕ × ℕ → Type 0 = IsCopy (length s.names) s.ledgers in
-    let known : can_be (some.0, l, e) = All-copy can_be s.held was.contents.copies (some.0, l, e) some.1 in
     record {
       names = was.names;
       grace = was.grace;
@@ -107,23 +163,26 @@ IsWellFormed-copied s w l e was named some =
       up = was.up;
       ledgers = was.ledgers;
       contents = record {
-        copies = All-items can_be (insert s.held (w, l, e)) (λ q one.
-            either (eq_by_cmp triple_cmp q (w, l, e)) (contains s.held q) (can_be q)
-            (λ tied. subst can_be (sym (triple_exact q (w, l, e) ((Equal-is (triple_cmp q (w, l, e))).0 tied))) (named, known.1, known.2))
+        copies = All-items can_be (union s.held more) (λ q one.
+            either (contains s.held q) (contains more q) (can_be q)
             (All-copy can_be s.held was.contents.copies q)
-            (sym (contains-insert s.held (w, l, e) q) ∙ one));
+            (λ new.
+                let may = each q.0 q.1 q.2 new in
+                let known : can_be (may.1.0, q.1, q.2) = All-copy can_be s.held was.contents.copies (may.1.0, q.1, q.2) may.1.1 in
+                (may.0, known.1, known.2))
+            (sym (contains-union s.held more q) ∙ one));
         words = was.contents.words;
       };
     }
 
--- and of each of some entries
+-- one bookie takes copies of some entries
 pub IsWellFormed-copied_all : (s : Cluster) (w l : ℕ) (es : List ℕ) → IsWellFormed s → w < length s.names → All (λ e. IsHeld s.held l e) es → IsWellFormed (record s { held = union s.held (copies_of w l es) })
-IsWellFormed-copied_all s w l [] was named held = subst (λ (contents : Contents). IsWellFormed (record s { held = contents })) (sym (union-copies_of-none s.held w l)) was
-IsWellFormed-copied_all s w l (e ∷ es) was named held =
-    let t : Cluster = record s { held = insert s.held (w, l, e) } in
-    subst (λ (contents : Contents). IsWellFormed (record s { held = contents })) (sym (union-copies_of-cons s.held w l e es))
-    (IsWellFormed-copied_all t w l es (IsWellFormed-copied s w l e was named (All-head (λ e. IsHeld s.held l e) e es held)) named
-    (All-weaker (λ e. IsHeld s.held l e) (λ e. IsHeld t.held l e) (λ x is. IsHeld-insert s.held w l e l x is) es (All-tail (λ e. IsHeld s.held l e) e es held)))
+IsWellFormed-copied_all s w l es was named held = IsWellFormed-united s (copies_of w l es) was (λ b k e is.
+    let parts = both (nat_eq b w && nat_eq k l) (list_any (nat_eq e) es) (sym (has-copies_of w l es b k e) ∙ is) in
+    let place = both (nat_eq b w) (nat_eq k l) parts.0 in
+    let bookie : b ≡ w = grind (arith, nat_tests, place.0) in
+    let ledger : k ≡ l = grind (arith, nat_tests, place.1) in
+    (omega (arith, bookie, named), subst (λ (j : ℕ). IsHeld s.held j e) (sym ledger) (All-among (λ x. IsHeld s.held l x) es e held parts.1)))
 
 -- a ledger of the cluster without its lock
 IsLedger-unlocked_ledger : (s : Cluster) (g : Ledger) → IsLedgerOf s g → IsLedgerOf s (unlocked_ledger g)
@@ -191,6 +250,113 @@ IsLedger-swapped_ledger s g w f i may was =
       due = was.due;
     })
 
+-- with other metadata
+IsLedger-remade : (s : Cluster) (g : Ledger) (m : Metadata) → IsMetadata m → All (λ (fragment : Fragment). All (λ b. b < length s.names) fragment.ensemble) m.fragments → ForSome (due_of g) (λ due. IsTrue (is_open m.state))
+    → IsLedgerOf s g → IsLedgerOf s (record g { metadata = m })
+IsLedger-remade s g m metadata members unfenced was = record {
+  id = was.id;
+  metadata = metadata;
+  members = members;
+  words = was.words;
+  task = was.task;
+  lock = was.lock;
+  due = λ due is. ((was.due due is).0, unfenced due is);
+}
+
+-- with that due tick, or none, at its lock
+IsLedger-with_due : (s : Cluster) (due : Option ℕ) (g : Ledger) → ForSome due (λ tick. (tick ≤ s.clock + s.grace) × IsTrue (is_open g.metadata.state)) → IsLedgerOf s g → IsLedgerOf s (with_due due g)
+IsLedger-with_due s due g may was = record {
+  id = was.id;
+  metadata = was.metadata;
+  members = was.members;
+  words = was.words;
+  task = was.task;
+  lock = owned g.lock was.lock;
+  due = dated g.lock;
+} where
+  owned : (o : Option Lock) → ForSome o (λ lock. (lock.owner < length s.names) × IsSome g.task) → ForSome (option_map (timed_lock due) o) (λ lock. (lock.owner < length s.names) × IsSome g.task)
+  owned None known lock is = cc
+  owned (Some old) known lock is = let owner : old.owner ≡ lock.owner = cc in (omega (arith, owner, (known old refl).0), (known old refl).1)
+
+  dated : (o : Option Lock) → ForSome (option_and_then (λ lock. lock.due) (option_map (timed_lock due) o)) (λ tick. (tick ≤ s.clock + s.grace) × IsTrue (is_open g.metadata.state))
+  dated None tick is = cc
+  dated (Some old) tick is = may tick is
+
+-- without a due tick none is set
+no_due : (g : Ledger) → due_of (with_due None g) ≡ None
+no_due g = none g.lock where
+  none : (o : Option Lock) → option_and_then (λ lock. lock.due) (option_map (timed_lock None) o) ≡ None
+  none None = refl
+  none (Some lock) = refl
+
+IsLedger-without_due : (s : Cluster) (g : Ledger) → IsLedgerOf s g → IsLedgerOf s (with_due None g)
+IsLedger-without_due s g was = IsLedger-with_due s None g (λ tick is. absurd (cc)) was
+
+-- with other metadata and without a due tick
+IsLedger-remade_without_due : (s : Cluster) (g : Ledger) (m : Metadata) → IsMetadata m → All (λ (fragment : Fragment). All (λ b. b < length s.names) fragment.ensemble) m.fragments → IsLedgerOf s g → IsLedgerOf s (record (with_due None g) { metadata = m })
+IsLedger-remade_without_due s g m metadata members was = IsLedger-remade s (with_due None g) m metadata members (λ due is. absurd (let none = no_due g in cc)) (IsLedger-without_due s g was)
+
+-- with another member in the last ensemble
+IsSwappable-last : (s : Cluster) (g : Ledger) (i b : ℕ) → IsLedgerOf s g → IsRollable s g i b → IsSwappable s g b (length g.metadata.fragments - 1) i
+IsSwappable-last s g i b was may = record {
+  named = may.named;
+  fragment = omega (arith, was.metadata.some_fragment);
+  index = may.index;
+  new = λ fragment is. subst (λ (o : Option Fragment). list_any (λ member. member == b) (unwrap_or o (record { first = 0; ensemble = [] })).ensemble ≡ false) is may.new;
+  version = may.version;
+}
+
+IsLedger-rolled_over : (s : Cluster) (g : Ledger) (i b : ℕ) → is_rolling_over s g ≡ true → IsRollable s g i b → IsLedgerOf s g → IsLedgerOf s (record (with_due None g) { metadata = next_version (with_fragment_at g.metadata (next_entry s g) i b) })
+IsLedger-rolled_over s g i b over may was =
+    let m = g.metadata in
+    let last : Fragment = last_fragment m in
+    let nobody : Fragment = record { first = 0; ensemble = [] } in
+    let named : Fragment → Type 0 = λ fragment. All (λ member. member < length s.names) fragment.ensemble in
+    let members : named last = subst named (sym (unwrap_or-slice_get m.fragments (length m.fragments - 1) nobody)) (was.members (length m.fragments - 1) nobody (omega (arith, was.metadata.some_fragment))) in
+    let added : Fragment = record (with_member last i b) { first = next_entry s g } in
+    let apart : not (next_entry s g == last.first) ≡ true = over in
+    let above : last.first < next_entry s g = (let least = first_before_next s g in grind (arith, nat_tests, apart, least)) in
+    IsLedger-remade_without_due s g (next_version (with_fragment_at m (next_entry s g) i b))
+    (IsMetadata-added m (next_entry s g) i b (end_of_open m.state may.state) above may.next (may.room over) may.new may.version was.metadata)
+    (All-append named m.fragments (added ∷ []) was.members (All-cons named added [] (All-set (λ member. member < length s.names) last.ensemble i b may.named members) (All-nil named)))
+    was
+  where
+    end_of_open : (state : LedgerState) → is_open state ≡ true → end_of_state state ≡ None
+    end_of_open Open is = refl
+    end_of_open InRecovery is = cc
+    end_of_open (Closed end) is = cc
+
+IsLedger-rolled_ledger : (s : Cluster) (g : Ledger) (i b : ℕ) → IsRollable s g i b → IsLedgerOf s g → IsLedgerOf s (rolled_ledger s i b g)
+IsLedger-rolled_ledger s g i b may was =
+    let m = g.metadata in
+    elim (is_rolling_over s g) as (λ over. is_rolling_over s g ≡ over
+    → IsLedgerOf s (record (with_due None g) { metadata = next_version (if over then with_fragment_at m (next_entry s g) i b else with_member_at m (length m.fragments - 1) i b) })) [
+      | true ↦ λ over. IsLedger-rolled_over s g i b over may was
+      | false ↦ λ _.
+          let place = IsSwappable-last s g i b was may in
+          IsLedger-swapped_ledger s (with_due None g) b (length m.fragments - 1) i (record { named = place.named; fragment = place.fragment; index = place.index; new = place.new; version = place.version }) (IsLedger-without_due s g was)
+    ] refl
+
+-- in recovery
+IsLedger-fenced_ledger : (s : Cluster) (g : Ledger) → g.metadata.version < MAX_VERSION → IsLedgerOf s g → IsLedgerOf s (fenced_ledger g)
+IsLedger-fenced_ledger s g version was =
+    let no_end : ForSome (end_of_state InRecovery) (λ end. ((last_fragment g.metadata).first ≤ end) × (end ≤ ENTRY_END)) = λ end is. absurd (cc) in
+    IsLedger-remade_without_due s g (next_version (with_state g.metadata InRecovery)) (IsMetadata-state g.metadata InRecovery no_end version was.metadata) was.members was
+
+-- closed
+IsLedger-sealed_ledger : (s : Cluster) (g : Ledger) → is_in_recovery g.metadata.state ≡ true → g.metadata.version < MAX_VERSION → recovered_end s g ≤ ENTRY_END → IsLedgerOf s g → IsLedgerOf s (sealed_ledger s g)
+IsLedger-sealed_ledger s g recovering version within was =
+    let m = g.metadata in
+    let state : LedgerState = Closed (recovered_end s g) in
+    let ends : ForSome (end_of_state state) (λ end. ((last_fragment m).first ≤ end) × (end ≤ ENTRY_END)) =
+    λ end is. (let same : recovered_end s g ≡ end = cc in (omega (arith, same, first_before_end s g), omega (arith, same, within))) in
+    IsLedger-remade s g (next_version (with_state m state)) (IsMetadata-state m state ends version was.metadata) was.members (λ due is. absurd (not_both m.state recovering (was.due due is).1)) was
+  where
+    not_both : (state : LedgerState) → is_in_recovery state ≡ true → IsTrue (is_open state) → ⊥
+    not_both Open recovering unfenced = cc
+    not_both InRecovery recovering unfenced = cc
+    not_both (Closed end) recovering unfenced = cc
+
 -- with the missing members in its task
 pub KeepsId-audited_ledger : (up : Set numbers) → KeepsId (audited_ledger up)
 KeepsId-audited_ledger up g = elim (is_empty (missing_members up g)) as (λ b. (if b then g else record g { task = Some (published_members up g) }).id ≡ g.id) [ true ↦ refl | false ↦ refl ]
@@ -240,7 +406,20 @@ IsWellFormed-after s (Acquire w l) was none = IsWellFormed-change_ledger s l (lo
 IsWellFormed-after s (Release w l) was none = IsWellFormed-change_ledger s l unlocked_ledger was (λ g. refl) (λ g. refl) (λ g _ is. IsLedger-unlocked_ledger s g is)
 IsWellFormed-after s (Finish w l) was none = IsWellFormed-change_ledger s l finished_ledger was (λ g. refl) (λ g. refl) (λ g _ is. IsLedger-finished_ledger s g is)
 IsWellFormed-after s (Expire w) was none = IsWellFormed-ledgers s (expired_ledger w) was (KeepsId-expired_ledger w) (KeepsWords-expired_ledger w) (λ g _ is. IsLedger-expired_ledger s w g is)
+IsWellFormed-after s (Grace w l) was none = IsWellFormed-change_ledger s l (graced_ledger (s.clock + s.grace)) was (λ g. refl) (λ g. refl) (λ g found is.
+    let unfenced : IsTrue (is_open g.metadata.state) = (accepted_grace s w l g found none).state in
+    IsLedger-with_due s (Some (s.clock + s.grace)) g (λ tick same. let due : s.clock + s.grace ≡ tick = cc in (omega (arith, due), unfenced)) is)
 IsWellFormed-after s (Tick n) was none = IsWellFormed-clock s (s.clock + n) was (omega arith) (accepted_tick s n none)
+IsWellFormed-after s (Roll l i b) was none = IsWellFormed-change_ledger s l (rolled_ledger s i b) was (λ g. refl) (λ g. refl) (λ g found is.
+    IsLedger-rolled_ledger s g i b (accepted_roll s l i b g found (next_entry-within s l g was found) is.metadata.version none) is)
+IsWellFormed-after s (Fence w l) was none = IsWellFormed-change_ledger s l fenced_ledger was (λ g. refl) (λ g. refl) (λ g found is.
+    IsLedger-fenced_ledger s g (accepted_fence s w l g found is.metadata.version none).version is)
+IsWellFormed-after s (Seal w l) was none =
+    let t : Cluster = record s { held = union s.held (recovered_at s l) } in
+    let copied : IsWellFormed t = IsWellFormed-united s (recovered_at s l) was (λ b k e is. let shows = IsRecovered-at s l b k e is in (was.up b shows.up, shows.held)) in
+    IsWellFormed-change_ledger t l (sealed_ledger s) copied (λ g. refl) (λ g. refl) (λ g found is.
+    let may = accepted_seal s w l g found is.metadata.version none in
+    IsLedger-sealed_ledger s g may.state may.version (recovered_end-within s l g was found) is)
 IsWellFormed-after s (Copy w l f i v) was none =
     let may = accepted_copy s w l f i v none in
     IsWellFormed-copied_all s w l (stripe_at s l f i) was may.named may.held
@@ -256,20 +435,13 @@ words_among-after s (Acquire w k) l = words_among-changed_ledger l k (locked_led
 words_among-after s (Release w k) l = words_among-changed_ledger l k unlocked_ledger (λ g. refl) (λ g. refl) s.ledgers
 words_among-after s (Finish w k) l = words_among-changed_ledger l k finished_ledger (λ g. refl) (λ g. refl) s.ledgers
 words_among-after s (Expire w) l = words_among-map l (expired_ledger w) (KeepsId-expired_ledger w) (KeepsWords-expired_ledger w) s.ledgers
+words_among-after s (Grace w k) l = words_among-changed_ledger l k (graced_ledger (s.clock + s.grace)) (λ g. refl) (λ g. refl) s.ledgers
 words_among-after s (Tick n) l = refl
+words_among-after s (Roll k i b) l = words_among-changed_ledger l k (rolled_ledger s i b) (λ g. refl) (λ g. refl) s.ledgers
+words_among-after s (Fence w k) l = words_among-changed_ledger l k fenced_ledger (λ g. refl) (λ g. refl) s.ledgers
+words_among-after s (Seal w k) l = words_among-changed_ledger l k (sealed_ledger s) (λ g. refl) (λ g. refl) s.ledgers
 words_among-after s (Copy w k f i v) l = refl
 words_among-after s (Swap w k f i v) l = words_among-changed_ledger l k (swapped_ledger f i w) (λ g. refl) (λ g. refl) s.ledgers
-
--- A ledger that is found is one of the cluster.
-pub IsLedger-found : (s : Cluster) (l : ℕ) (g : Ledger) → IsWellFormed s → ledger_at s l ≡ Some g → IsLedgerOf s g
-IsLedger-found s l g was found = found_in s.ledgers was.ledgers.each found where
-  found_in : (gs : List Ledger) → All (IsLedgerOf s) gs → find (λ g. g.id == l) gs ≡ Some g → IsLedgerOf s g
-  found_in [] each found = cc
-  found_in (h ∷ gs) each found =
-      elim (h.id == l) as (λ b. cond b (Some h) (find (λ g. g.id == l) gs) ≡ Some g → IsLedgerOf s g) [
-        | true ↦ λ is. let same : h ≡ g = cc in subst (IsLedgerOf s) same (All-head (IsLedgerOf s) h gs each)
-        | false ↦ λ later. found_in gs (All-tail (IsLedgerOf s) h gs each) later
-      ] found
 
 -- An accepted swap of a ledger that is found.
 pub swappable-found : (s : Cluster) (w l f i v : ℕ) (g : Ledger) → IsWellFormed s → ledger_at s l ≡ Some g → refusal_of s (Swap w l f i v) ≡ None → IsSwappable s g w f i
