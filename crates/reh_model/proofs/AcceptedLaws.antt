@@ -1,5 +1,5 @@
 -- What an accepted event shows, and what the replies of a session tell of its event: this file alone takes the checks of events apart.
-use Rattle.std.proofs.Common.{◌≡◌, ℕ, Bool, true, false, not, ◌&&◌, ◌||◌, ◌+◌, ◌-◌, ◌<◌, ◌≤◌, List, [], ◌∷◌, ◌++◌, length, Option, None, Some, IsSome, refl, sym, ap, ◌∙◌, subst, arith, nat_lt, nat_le}
+use Rattle.std.proofs.Common.{◌≡◌, ℕ, Bool, true, false, not, ◌&&◌, ◌+◌, ◌-◌, ◌<◌, ◌≤◌, List, [], ◌∷◌, ◌++◌, length, Option, None, Some, IsSome, refl, sym, ap, ◌∙◌, subst, arith, nat_lt, nat_le}
 use Rattle.std.specs.Prelude.{◌==◌, is_none, All, slice_get}
 use Rattle.std.specs.List.{list_any}
 use Rattle.std.specs.Option.{ForSome, option_map, option_and_then}
@@ -167,17 +167,25 @@ fragments_full-none s g none over =
     let few : nat_le MAX_FRAGMENTS (length g.metadata.fragments) ≡ false = sym (ap (λ b. b && nat_le MAX_FRAGMENTS (length g.metadata.fragments)) over) ∙ reason_if-none _ _ none in
     grind (arith, nat_tests, few)
 
+accepted_roll-passes : (s : Cluster) (l i b : ℕ) (g : Ledger) → ledger_at s l ≡ Some g → refusal_of s (Roll l i b) ≡ None → first_reason (roll_checks s i b g) ≡ None
+accepted_roll-passes s l i b g found none = at_ledger-none s l (roll_checks s i b) g found (check-none (no_bookie s b ∷ []) (at_ledger s l (roll_checks s i b)) [] none)
+
+pub accepted_roll_open : (s : Cluster) (l i b : ℕ) (g : Ledger) → ledger_at s l ≡ Some g → refusal_of s (Roll l i b) ≡ None → is_open g.metadata.state ≡ true
+accepted_roll_open s l i b g found none =
+    let last : Fragment = last_fragment g.metadata in
+    not_open-none g (check-none [] (not_open g) (no_index g i ∷ member_up s last i ∷ target_down s b ∷ target_is_member last b ∷ entry_end s g ∷ fragments_full s g ∷ version_end g ∷ []) (accepted_roll-passes s l i b g found none))
+
 pub accepted_roll : (s : Cluster) (l i b : ℕ) (g : Ledger) → ledger_at s l ≡ Some g → next_entry s g ≤ ENTRY_END → g.metadata.version ≤ MAX_VERSION → refusal_of s (Roll l i b) ≡ None → IsRollable s g i b
 accepted_roll s l i b g found within few none =
     let last : Fragment = last_fragment g.metadata in
-    let passes : first_reason (roll_checks s i b g) ≡ None = at_ledger-none s l (roll_checks s i b) g found (check-none (no_bookie s b ∷ []) (at_ledger s l (roll_checks s i b)) [] none) in
+    let passes : first_reason (roll_checks s i b g) ≡ None = accepted_roll-passes s l i b g found none in
     let place : List (Option Refusal) = not_open g ∷ no_index g i ∷ member_up s last i ∷ target_down s b ∷ [] in
-    let new : target_is_member last b ≡ None = check-none place (target_is_member last b) (entry_end s g ∷ fragments_full s g ∷ version_end g ∷ []) passes in
+    let room : List (Option Refusal) = entry_end s g ∷ fragments_full s g ∷ version_end g ∷ [] in
     record {
       named = no_bookie-none s b (check-none [] (no_bookie s b) (at_ledger s l (roll_checks s i b) ∷ []) none);
-      state = not_open-none g (check-none [] (not_open g) (no_index g i ∷ member_up s last i ∷ target_down s b ∷ target_is_member last b ∷ entry_end s g ∷ fragments_full s g ∷ version_end g ∷ []) passes);
-      index = no_index-none g i (check-none (not_open g ∷ []) (no_index g i) (member_up s last i ∷ target_down s b ∷ target_is_member last b ∷ entry_end s g ∷ fragments_full s g ∷ version_end g ∷ []) passes);
-      new = reason_if-none _ _ new;
+      state = accepted_roll_open s l i b g found none;
+      index = no_index-none g i (check-none (not_open g ∷ []) (no_index g i) (member_up s last i ∷ target_down s b ∷ target_is_member last b ∷ room) passes);
+      new = reason_if-none _ _ (check-none place (target_is_member last b) room passes);
       next = entry_end-none s g within (check-none (place ++ target_is_member last b ∷ []) (entry_end s g) (fragments_full s g ∷ version_end g ∷ []) passes);
       room = fragments_full-none s g (check-none (place ++ target_is_member last b ∷ entry_end s g ∷ []) (fragments_full s g) (version_end g ∷ []) passes);
       version = version_end-none g few (check-none (place ++ target_is_member last b ∷ entry_end s g ∷ fragments_full s g ∷ []) (version_end g) [] passes);
@@ -192,14 +200,20 @@ pub record IsFenceable (s : Cluster) (g : Ledger) (w : ℕ) : Type 0 where
   pub over : due ≤ s.clock
   pub version : g.metadata.version < MAX_VERSION
 
+accepted_fence-passes : (s : Cluster) (w l : ℕ) (g : Ledger) → ledger_at s l ≡ Some g → refusal_of s (Fence w l) ≡ None → first_reason (fence_checks s w g) ≡ None
+accepted_fence-passes s w l g found none = at_ledger-none s l (fence_checks s w) g found (check-none (no_bookie s w ∷ []) (at_ledger s l (fence_checks s w)) [] none)
+
+pub accepted_fence_open : (s : Cluster) (w l : ℕ) (g : Ledger) → ledger_at s l ≡ Some g → refusal_of s (Fence w l) ≡ None → is_open g.metadata.state ≡ true
+accepted_fence_open s w l g found none = not_open-none g (check-none (not_owner w g ∷ []) (not_open g) (not_needed s g ∷ no_grace g ∷ grace_runs s g ∷ version_end g ∷ []) (accepted_fence-passes s w l g found none))
+
 pub accepted_fence : (s : Cluster) (w l : ℕ) (g : Ledger) → ledger_at s l ≡ Some g → g.metadata.version ≤ MAX_VERSION → refusal_of s (Fence w l) ≡ None → IsFenceable s g w
 accepted_fence s w l g found few none =
-    let passes : first_reason (fence_checks s w g) ≡ None = at_ledger-none s l (fence_checks s w) g found (check-none (no_bookie s w ∷ []) (at_ledger s l (fence_checks s w)) [] none) in
+    let passes : first_reason (fence_checks s w g) ≡ None = accepted_fence-passes s w l g found none in
     let before : List (Option Refusal) = not_owner w g ∷ not_open g ∷ not_needed s g ∷ [] in
     let has_come = come (due_of g) (check-none before (no_grace g) (grace_runs s g ∷ version_end g ∷ []) passes) (check-none (before ++ no_grace g ∷ []) (grace_runs s g) (version_end g ∷ []) passes) in
     record {
       owned = not_owner-none w g (check-none [] (not_owner w g) (not_open g ∷ not_needed s g ∷ no_grace g ∷ grace_runs s g ∷ version_end g ∷ []) passes);
-      state = not_open-none g (check-none (not_owner w g ∷ []) (not_open g) (not_needed s g ∷ no_grace g ∷ grace_runs s g ∷ version_end g ∷ []) passes);
+      state = accepted_fence_open s w l g found none;
       due = has_come.0;
       set = has_come.1;
       over = has_come.2;
@@ -218,18 +232,24 @@ pub record IsSealable (s : Cluster) (g : Ledger) (w : ℕ) : Type 0 where
   pub decided : g.metadata.write_quorum - g.metadata.ack_quorum + 1 ≤ length (up_writes s g (recovered_end s g))
   pub version : g.metadata.version < MAX_VERSION
 
+accepted_seal-passes : (s : Cluster) (w l : ℕ) (g : Ledger) → ledger_at s l ≡ Some g → refusal_of s (Seal w l) ≡ None → first_reason (seal_checks s w g) ≡ None
+accepted_seal-passes s w l g found none = at_ledger-none s l (seal_checks s w) g found (check-none (no_bookie s w ∷ []) (at_ledger s l (seal_checks s w)) [] none)
+
+pub accepted_seal_recovering : (s : Cluster) (w l : ℕ) (g : Ledger) → ledger_at s l ≡ Some g → refusal_of s (Seal w l) ≡ None → is_in_recovery g.metadata.state ≡ true
+accepted_seal_recovering s w l g found none =
+    not_not (is_in_recovery g.metadata.state) (reason_if-none _ _ (check-none (not_owner w g ∷ []) (not_recovering g) (too_few s g ∷ undecided s g ∷ version_end g ∷ []) (accepted_seal-passes s w l g found none)))
+
 pub accepted_seal : (s : Cluster) (w l : ℕ) (g : Ledger) → ledger_at s l ≡ Some g → g.metadata.version ≤ MAX_VERSION → refusal_of s (Seal w l) ≡ None → IsSealable s g w
 accepted_seal s w l g found few none =
-    let passes : first_reason (seal_checks s w g) ≡ None = at_ledger-none s l (seal_checks s w) g found (check-none (no_bookie s w ∷ []) (at_ledger s l (seal_checks s w)) [] none) in
+    let passes : first_reason (seal_checks s w g) ≡ None = accepted_seal-passes s w l g found none in
     let state : List (Option Refusal) = not_owner w g ∷ not_recovering g ∷ [] in
     let acks : ℕ = g.metadata.ack_quorum in
-    let recovering : not (is_in_recovery g.metadata.state) ≡ false = reason_if-none _ _ (check-none (not_owner w g ∷ []) (not_recovering g) (too_few s g ∷ undecided s g ∷ version_end g ∷ []) passes) in
     let each : All (λ e. nat_lt (length (up_writes s g e)) acks ≡ false) (recovered_entries s g) =
     find-none (λ e. nat_lt (length (up_writes s g e)) acks) (λ e. TooFew e) (recovered_entries s g) (check-none state (too_few s g) (undecided s g ∷ version_end g ∷ []) passes) in
     let lacking : nat_lt (length (up_writes s g (recovered_end s g))) (g.metadata.write_quorum - acks + 1) ≡ false = reason_if-none _ _ (check-none (state ++ too_few s g ∷ []) (undecided s g) (version_end g ∷ []) passes) in
     record {
       owned = not_owner-none w g (check-none [] (not_owner w g) (not_recovering g ∷ too_few s g ∷ undecided s g ∷ version_end g ∷ []) passes);
-      state = not_not (is_in_recovery g.metadata.state) recovering;
+      state = accepted_seal_recovering s w l g found none;
       enough = All-weaker (λ e. nat_lt (length (up_writes s g e)) acks ≡ false) (λ e. acks ≤ length (up_writes s g e)) (λ e is. grind (arith, nat_tests, is)) (recovered_entries s g) each;
       decided = grind (arith, nat_tests, lacking);
       version = version_end-none g few (check-none (state ++ too_few s g ∷ undecided s g ∷ []) (version_end g) [] passes);

@@ -1,5 +1,5 @@
 -- Metadata with a new fragment, or another state.
-use Rattle.std.proofs.Common.{◌≡◌, ℕ, ◌+◌, ◌-◌, ◌<◌, ◌≤◌, false, List, [], ◌∷◌, ◌++◌, map, length, get_or, None, inl, inr, sym, ap, ◌∙◌, subst, arith}
+use Rattle.std.proofs.Common.{◌≡◌, ℕ, ◌+◌, ◌-◌, ◌<◌, ◌≤◌, true, false, List, [], ◌∷◌, ◌++◌, map, length, get_or, None, inl, inr, refl, sym, ap, ◌∙◌, subst, arith}
 use Rattle.std.specs.Prelude.{◌==◌, slice_get, slice_index}
 use Rattle.std.specs.List.{list_any}
 use Rattle.std.specs.List.Sorted.{IsStrictlyIncreasing}
@@ -12,8 +12,21 @@ use Rattle.std.proofs.lemmas.List.Elements.{All-append, All-cons, All-nil}
 use Rattle.std.proofs.lemmas.Option.{unwrap_or-slice_get}
 use Rattle.reh_types.specs.declared.limits.TheConstants.{ENTRY_END, MAX_FRAGMENTS, MAX_VERSION}
 use Rattle.reh_types.specs.declared.names.LedgerState.{LedgerState}
-use Rattle.reh_model.specs.Metadata.{Metadata, Fragment, IsEnsemble, IsMetadata, end_of_state, last_fragment, with_member, with_fragment_at, with_state, next_version}
+use Rattle.reh_types.specs.declared.names.LedgerState.TheVariants.{Open, InRecovery, Closed}
+use Rattle.reh_model.specs.Metadata.{Metadata, Fragment, IsEnsemble, IsMetadata, is_open, is_in_recovery, end_of_state, last_fragment, with_member, with_fragment_at, with_state, next_version}
 use Rattle.reh_model.proofs.MemberLaws.{IsDistinct-set, first-slice_get}
+
+-- an open ledger has no end,
+pub no_end-open : (state : LedgerState) → is_open state ≡ true → end_of_state state ≡ None
+no_end-open Open is = refl
+no_end-open InRecovery is = refl
+no_end-open (Closed end) is = cc
+
+-- nor has one in recovery
+pub no_end-recovering : (state : LedgerState) → is_in_recovery state ≡ true → end_of_state state ≡ None
+no_end-recovering Open is = refl
+no_end-recovering InRecovery is = refl
+no_end-recovering (Closed end) is = cc
 
 -- a number above the last one, at the end
 rising-append : (ns : List ℕ) (n : ℕ) → IsStrictlyIncreasing ns → get_or ns (length ns - 1) 0 < n → IsStrictlyIncreasing (ns ++ n ∷ [])

@@ -1,24 +1,21 @@
 -- The next entry of a ledger, and where its recovery ends: at the least entry of the last fragment that can't be read, of all numbers.
-use Rattle.std.proofs.Common.{◌≡◌, ℕ, ◌+◌, ◌-◌, ◌*◌, ◌<◌, ◌≤◌, Bool, true, false, not, ◌&&◌, ◌||◌, List, [], ◌∷◌, map, length, Option, None, Some, inl, inr, refl, sym, ap, ◌∙◌, subst, arith, nat_eq, true≢false}
-use Rattle.std.specs.Prelude.{◌==◌, max, unwrap_or}
-use Rattle.std.specs.List.{find, list_any, filter, flat_map}
+use Rattle.std.proofs.Common.{◌≡◌, ℕ, ◌+◌, ◌-◌, ◌<◌, ◌≤◌, Bool, true, false, not, ◌&&◌, ◌||◌, List, [], ◌∷◌, map, Option, None, Some, inl, inr, refl, sym, ap, ◌∙◌, subst, arith, nat_eq, true≢false}
+use Rattle.std.specs.Prelude.{max}
+use Rattle.std.specs.List.{list_any, flat_map}
 use Rattle.std.specs.Option.{option_map_or}
 use Rattle.std.proofs.lemmas.Bool.{cases_lt}
-use Rattle.std.proofs.lemmas.Option.{unwrap_or-slice_get}
 use Rattle.std.specs.Ordering.{eq_by_cmp}
 use Rattle.std.proofs.lemmas.Bool.Decides.{nat_tests}
 use Rattle.std.proofs.lemmas.List.Folds.{list_any-append}
 use Rattle.std.proofs.lemmas.Map.Views.{any-filter_same}
 use Rattle.reh_types.specs.Sets as set
 use Rattle.reh_types.specs.Sets.{triples, triple_cmp, contains-empty, contains-from_list}
-use Rattle.reh_types.specs.declared.limits.TheConstants.{ENTRIES_IN_WORD, ENTRY_END}
-use Rattle.reh_model.specs.Striping.{range}
 use Rattle.reh_model.specs.Contents.{IsHeld, has, greatest_held}
-use Rattle.reh_model.specs.Metadata.{Fragment, Metadata, IsMetadata, last_fragment, writes}
+use Rattle.reh_model.specs.Metadata.{Fragment, last_fragment, writes}
 use Rattle.reh_model.specs.Cluster.{Cluster, Ledger, is_up, holds, is_readable, ledger_at}
 use Rattle.reh_model.specs.Recovery.{next_entry, up_writes, recovered_end, recovered_entries, recovered_copies, recovered_at}
 use Rattle.reh_model.proofs.Ranges.{IsFirst, IsFirst-one, IsFirst-found, any_passes, list_any-map, list_any-same}
-use Rattle.reh_model.proofs.ContentsLaws.{triples_tied, All-copy, IsReached, greatest_held-reached, greatest_held-held}
+use Rattle.reh_model.proofs.ContentsLaws.{triples_tied, greatest_held-reached}
 
 -- What is held
 

@@ -4,7 +4,7 @@ use Rattle.std.specs.Prelude.{◌==◌, if◌then◌else◌, slice_get, max, unw
 use Rattle.std.specs.List.{IsDistinct, find, list_any}
 use Rattle.std.specs.Option.{ForSome, option_map, option_map_or, option_and_then}
 use Rattle.std.specs.Ordering.{nat_cmp, eq_by_cmp}
-use Rattle.std.specs.Cmp.{unsigned_tied, Equal-is}
+use Rattle.std.specs.Cmp.{unsigned_tied}
 use Rattle.std.proofs.lemmas.Bool.Decides.{nat_tests}
 use Rattle.std.proofs.lemmas.List.{length-map}
 use Rattle.std.proofs.lemmas.List.Elements.{All-append, All-cons, All-head, All-map, All-nil, All-set, All-tail, All-weaker}
@@ -15,7 +15,7 @@ use Rattle.reh_types.specs.declared.moves.Event.{Event}
 use Rattle.reh_types.specs.declared.moves.Event.TheVariants.{Lose, Join, Audit, Acquire, Release, Finish, Expire, Grace, Tick, Roll, Fence, Seal, Copy, Swap}
 use Rattle.reh_types.specs.declared.names.LedgerState.{LedgerState}
 use Rattle.reh_types.specs.declared.names.LedgerState.TheVariants.{Open, InRecovery, Closed}
-use Rattle.reh_types.specs.Sets.{Set, numbers, triple_cmp, triple_exact, contains, insert, remove, union, is_empty, len, items, contains-insert, contains-remove, contains-union}
+use Rattle.reh_types.specs.Sets.{Set, numbers, contains, insert, remove, union, is_empty, len, items, contains-insert, contains-remove, contains-union}
 use Rattle.reh_types.proofs.SetLaws.{All-items}
 use Rattle.reh_model.specs.Contents.{Contents, IsHeld, has, copies_of, greatest_held}
 use Rattle.reh_model.specs.Metadata.{Metadata, Fragment, IsMetadata, is_open, is_in_recovery, end_of_state, last_fragment, with_member, with_member_at, with_fragment_at, with_state, next_version}
@@ -27,7 +27,7 @@ use Rattle.reh_model.specs.WellFormed.{IsLedger, IsCopy, IsWellFormed}
 use Rattle.reh_model.proofs.LedgerLaws.{KeepsId, KeepsWords, changed_ledger, KeepsId-changed_ledger, KeepsWords-changed_ledger, ids-map, sum_by-words, words_among-map, words_among-changed_ledger, is_found-map, found_itself}
 use Rattle.reh_model.proofs.ContentsLaws.{All-copy, has-copies_of, greatest_held-held}
 use Rattle.reh_model.proofs.RecoveryLaws.{first_before_next, next_entry-unreadable, first_before_end, recovered_end-least, IsRecovered-at}
-use Rattle.reh_model.proofs.FragmentLaws.{first-last, IsMetadata-added, IsMetadata-state}
+use Rattle.reh_model.proofs.FragmentLaws.{no_end-open, first-last, IsMetadata-added, IsMetadata-state}
 use Rattle.reh_model.proofs.MemberLaws.{IsMetadata-set, with_member_at-found}
 use Rattle.reh_model.proofs.AuditLaws.{published_named, published_some}
 use Rattle.reh_model.proofs.AcceptedLaws.{IsRollable, IsSwappable, accepted_join, accepted_acquire, accepted_grace, accepted_tick, accepted_roll, accepted_fence, accepted_seal, accepted_copy, accepted_swap}
@@ -317,14 +317,9 @@ IsLedger-rolled_over s g i b over may was =
     let apart : not (next_entry s g == last.first) ≡ true = over in
     let above : last.first < next_entry s g = (let least = first_before_next s g in grind (arith, nat_tests, apart, least)) in
     IsLedger-remade_without_due s g (next_version (with_fragment_at m (next_entry s g) i b))
-    (IsMetadata-added m (next_entry s g) i b (end_of_open m.state may.state) above may.next (may.room over) may.new may.version was.metadata)
+    (IsMetadata-added m (next_entry s g) i b (no_end-open m.state may.state) above may.next (may.room over) may.new may.version was.metadata)
     (All-append named m.fragments (added ∷ []) was.members (All-cons named added [] (All-set (λ member. member < length s.names) last.ensemble i b may.named members) (All-nil named)))
     was
-  where
-    end_of_open : (state : LedgerState) → is_open state ≡ true → end_of_state state ≡ None
-    end_of_open Open is = refl
-    end_of_open InRecovery is = cc
-    end_of_open (Closed end) is = cc
 
 IsLedger-rolled_ledger : (s : Cluster) (g : Ledger) (i b : ℕ) → IsRollable s g i b → IsLedgerOf s g → IsLedgerOf s (rolled_ledger s i b g)
 IsLedger-rolled_ledger s g i b may was =
