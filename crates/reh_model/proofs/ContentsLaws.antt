@@ -1,5 +1,5 @@
 -- What is held after copies are added.
-use Rattle.std.proofs.Common.{◌≡◌, ℕ, ◌+◌, Bool, true, false, ◌≤◌, ◌&&◌, ◌||◌, List, [], ◌∷◌, ◌++◌, map, inl, inr, refl, sym, ap, ◌∙◌, subst, nat_eq, arith}
+use Rattle.std.proofs.Common.{◌≡◌, ℕ, ◌+◌, Bool, true, false, ◌≤◌, ◌&&◌, ◌||◌, List, [], ◌∷◌, map, inl, inr, refl, sym, ap, ◌∙◌, subst, nat_eq, arith}
 use Rattle.std.specs.Prelude.{◌==◌, cond, max, count_by, All}
 use Rattle.std.specs.List.{list_any, filter, fold, reduce}
 use Rattle.std.specs.Option.{option_map_or}
@@ -11,7 +11,6 @@ use Rattle.std.specs.Cmp.{unsigned_tied, Equal-is}
 use Rattle.std.proofs.lemmas.Bool.{cases_lt}
 use Rattle.std.proofs.lemmas.Bool.Decides.{nat_tests}
 use Rattle.std.proofs.lemmas.List.Elements.{All-head, All-tail}
-use Rattle.std.proofs.Math.Bool.{or-false}
 use Rattle.std.proofs.lemmas.List.Sums.{sum_by-cons}
 use Rattle.std.specs.declared.cmp.Ordering.{Ordering}
 use Rattle.std.specs.declared.cmp.Ordering.TheVariants.{Less, Equal, Greater}
@@ -58,20 +57,6 @@ pub has-union-copies_of : (contents : Contents) (w l : ℕ) (es : List ℕ) (b k
     → has (set.union contents (copies_of w l es)) b k e ≡ (has contents b k e || ((nat_eq b w && nat_eq k l) && list_any (nat_eq e) es))
 has-union-copies_of contents w l es b k e = contains-union contents (copies_of w l es) (b, k, e) ∙ ap (λ c. has contents b k e || c) (has-copies_of w l es b k e)
 
-any_last : (p : ℕ → Bool) (es : List ℕ) (x : ℕ) → list_any p (es ++ x ∷ []) ≡ (list_any p es || p x)
-any_last p [] x = or-false (p x)
-any_last p (e ∷ es) x = elim (p e) as (λ here. (here || list_any p (es ++ x ∷ [])) ≡ ((here || list_any p es) || p x)) [ true ↦ refl | false ↦ any_last p es x ]
-
-one_more : (held place copied new : Bool) → (held || (place && (copied || new))) ≡ ((place && new) || (held || (place && copied)))
-one_more true true copied true = refl
-one_more true true copied false = refl
-one_more true false copied new = refl
-one_more false true true true = refl
-one_more false true true false = refl
-one_more false true false true = refl
-one_more false true false false = refl
-one_more false false copied new = refl
-
 -- no entries add nothing
 pub union-copies_of-none : (contents : Contents) (w l : ℕ) → set.union contents (copies_of w l []) ≡ contents
 union-copies_of-none contents w l = same_set (set.union contents (copies_of w l [])) contents (λ t.
@@ -80,37 +65,6 @@ union-copies_of-none contents w l = same_set (set.union contents (copies_of w l 
       none true place = refl
       none false true = refl
       none false false = refl
-
--- the first of some entries may be copied before the others
-first_before : (held place first others : Bool) → (held || (place && (first || others))) ≡ (((place && first) || held) || (place && others))
-first_before true true true others = refl
-first_before true true false others = refl
-first_before true false first others = refl
-first_before false true true others = refl
-first_before false true false others = refl
-first_before false false first others = refl
-
-pub union-copies_of-cons : (contents : Contents) (w l e : ℕ) (es : List ℕ)
-    → set.union contents (copies_of w l (e ∷ es)) ≡ set.union (set.insert contents (w, l, e)) (copies_of w l es)
-union-copies_of-cons contents w l e es = same_set (set.union contents (copies_of w l (e ∷ es))) (set.union (set.insert contents (w, l, e)) (copies_of w l es)) (λ t.
-    let place = nat_eq t.0 w && nat_eq t.1 l in
-    let others = list_any (nat_eq t.2) es in
-    has-union-copies_of contents w l (e ∷ es) t.0 t.1 t.2
-    ∙ first_before (has contents t.0 t.1 t.2) place (nat_eq t.2 e) others
-    ∙ sym (has-union-copies_of (set.insert contents (w, l, e)) w l es t.0 t.1 t.2
-    ∙ ap (λ before. before || (place && others)) (has-insert contents w l e t.0 t.1 t.2)))
-
--- one entry more is one copy more
-pub union-copies_of-push : (contents : Contents) (w l : ℕ) (es : List ℕ) (x : ℕ)
-    → set.union contents (copies_of w l (es ++ x ∷ [])) ≡ set.insert (set.union contents (copies_of w l es)) (w, l, x)
-union-copies_of-push contents w l es x = same_set (set.union contents (copies_of w l (es ++ x ∷ []))) (set.insert (set.union contents (copies_of w l es)) (w, l, x)) (λ t.
-    let held = has contents t.0 t.1 t.2 in
-    let place = nat_eq t.0 w && nat_eq t.1 l in
-    has-union-copies_of contents w l (es ++ x ∷ []) t.0 t.1 t.2
-    ∙ ap (λ copied. held || (place && copied)) (any_last (nat_eq t.2) es x)
-    ∙ one_more held place (list_any (nat_eq t.2) es) (nat_eq t.2 x)
-    ∙ sym (has-insert (set.union contents (copies_of w l es)) w l x t.0 t.1 t.2
-    ∙ ap (λ before. (place && nat_eq t.2 x) || before) (has-union-copies_of contents w l es t.0 t.1 t.2)))
 
 -- The greatest entry of a ledger
 
@@ -248,14 +202,7 @@ greatest_held-held contents l e is =
     let among = greatest_among-held l e (items contents) is in
     (among.0, contains-items contents (among.0, l, e) ∙ among.1)
 
--- What some bookie holds
-
--- an entry that is held stays held where copies are added
-pub IsHeld-insert : (contents : Contents) (w k x l e : ℕ) → IsHeld contents l e → IsHeld (set.insert contents (w, k, x)) l e
-IsHeld-insert contents w k x l e held = (held.0, has-insert contents w k x held.0 l e ∙ or_true ((nat_eq held.0 w && nat_eq l k) && nat_eq e x) (has contents held.0 l e) held.1)
-
-pub IsHeld-union : (contents more : Contents) (l e : ℕ) → IsHeld contents l e → IsHeld (set.union contents more) l e
-IsHeld-union contents more l e held = (held.0, contains-union contents more (held.0, l, e) ∙ ap (λ b. b || has more held.0 l e) held.1)
+-- What holds of copies
 
 -- what holds of each copy holds of one that is there
 pub All-copy : (P : ℕ × ℕ × ℕ → Type 0) (contents : Contents) → All P (items contents) → (t : ℕ × ℕ × ℕ) → set.contains contents t ≡ true → P t
