@@ -72,17 +72,20 @@ without_entries = record five_bookies { held = from_list (row 0 7 (0 ∷ 2 ∷ 3
 abbrev empty_fragment : Metadata
 empty_fragment = record open_ledger.metadata { fragments = fragment_from 0 ∷ fragment_from 5 ∷ [] }
 
--- the open ledger is at the last version
-abbrev at_last_version : Cluster
-at_last_version = with_metadata (record open_ledger.metadata { version = 10 ^ 12 })
-
 -- the first bookie holds the last entry that there can be
 abbrev at_last_entry : Ledger → Cluster
 at_last_entry g = record five_bookies { ledgers = closed_ledger ∷ record g { words = 1024 } ∷ []; held = insert five_bookies.held (0, 9, 65535) }
 
--- the open ledger has as many fragments as there can be, the last one from entry 255 on
-abbrev full_metadata : Metadata
-full_metadata = record open_ledger.metadata { fragments = map fragment_from (range 0 256) }
+-- the open ledger has as many fragments as there can be, the last one from entry 255 on, which the first bookie holds
+abbrev full_ledger : Ledger
+full_ledger = record open_ledger { metadata = record open_ledger.metadata { fragments = map fragment_from (range 0 256) }; words = 4 }
+
+abbrev with_last_fragment_held : Ledger → Cluster
+with_last_fragment_held g = record (with_ledger g) { held = insert five_bookies.held (0, 9, 255) }
+
+-- a ledger at the last version
+abbrev at_last_version : Ledger → Ledger
+at_last_version g = record g { metadata = record g.metadata { version = 10 ^ 12 } }
 
 -- a ledger in recovery, whose last fragment begins at the last entry, which the first bookie holds
 abbrev recovery_at_last_entry : Cluster
@@ -252,13 +255,13 @@ unfolding contains insert retain remove empty from_list union items is_subset is
 no_entry_behind_the_last = refl
 
 -- beside 256 fragments there is no room for another one
-pub no_room_for_a_fragment : answers (record (with_metadata full_metadata) { held = insert (insert five_bookies.held (0, 9, 255)) (0, 9, 4) }) (Lose 1 ∷ Roll 9 1 4 ∷ [])
+pub no_room_for_a_fragment : answers (with_last_fragment_held full_ledger) (Lose 1 ∷ Roll 9 1 4 ∷ [])
     ≡ Done ∷ Refused FragmentsFull ∷ []
 unfolding contains insert retain remove empty from_list union items is_subset is_empty len
 no_room_for_a_fragment = refl
 
 -- but a member of the last one can be replaced in place
-pub in_place_beside_256 : answers (with_metadata full_metadata) (Lose 1 ∷ Roll 9 1 4 ∷ [])
+pub in_place_beside_256 : answers (with_ledger full_ledger) (Lose 1 ∷ Roll 9 1 4 ∷ [])
     ≡ Done ∷ Done ∷ []
 unfolding contains insert retain remove empty from_list union items is_subset is_empty len
 in_place_beside_256 = refl
@@ -272,13 +275,13 @@ unfolding contains insert retain remove empty from_list union items is_subset is
 order_of_grace = refl
 
 -- of a fence
-pub order_of_fence : answers at_last_version (loss_and_lock ++ Fence 5 8 ∷ Fence 3 8 ∷ Fence 3 7 ∷ Acquire 3 7 ∷ Join 1 ∷ Fence 3 7 ∷ Fence 3 9 ∷ Lose 1 ∷ Fence 3 9 ∷ Grace 3 9 ∷ Fence 3 9 ∷ Tick 3 ∷ Fence 3 9 ∷ [])
+pub order_of_fence : answers (with_ledger (at_last_version open_ledger)) (loss_and_lock ++ Fence 5 8 ∷ Fence 3 8 ∷ Fence 3 7 ∷ Acquire 3 7 ∷ Join 1 ∷ Fence 3 7 ∷ Fence 3 9 ∷ Lose 1 ∷ Fence 3 9 ∷ Grace 3 9 ∷ Fence 3 9 ∷ Tick 3 ∷ Fence 3 9 ∷ [])
     ≡ Done ∷ Done ∷ Done ∷ Refused NoBookie ∷ Refused NoLedger ∷ Refused NotOwner ∷ Done ∷ Done ∷ Refused NotOpen ∷ Refused NotNeeded ∷ Done ∷ Refused NoGrace ∷ Done ∷ Refused (GraceRuns 3) ∷ Done ∷ Refused VersionEnd ∷ []
 unfolding contains insert retain remove empty from_list union items is_subset is_empty len
 order_of_fence = refl
 
 -- of a seal, up to the state
-pub order_of_seal : answers at_last_version (losses_and_lock ++ Seal 5 8 ∷ Seal 3 8 ∷ Seal 3 7 ∷ Seal 3 9 ∷ [])
+pub order_of_seal : answers (with_ledger (at_last_version open_ledger)) (losses_and_lock ++ Seal 5 8 ∷ Seal 3 8 ∷ Seal 3 7 ∷ Seal 3 9 ∷ [])
     ≡ Done ∷ Done ∷ Done ∷ Done ∷ Refused NoBookie ∷ Refused NoLedger ∷ Refused NotOwner ∷ Refused NotRecovering ∷ []
 unfolding contains insert retain remove empty from_list union items is_subset is_empty len
 order_of_seal = refl
@@ -300,19 +303,19 @@ unfolding contains insert retain remove empty from_list union items is_subset is
 undecided_before_version = refl
 
 -- of an ensemble change by the writer, up to the entry
-pub order_of_roll : answers (at_last_entry (record open_ledger { metadata = record full_metadata { version = 10 ^ 12 } })) (Lose 1 ∷ Roll 8 3 5 ∷ Roll 8 3 1 ∷ Roll 7 3 1 ∷ Roll 9 3 1 ∷ Roll 9 0 1 ∷ Roll 9 1 1 ∷ Roll 9 1 2 ∷ Roll 9 1 4 ∷ [])
+pub order_of_roll : answers (at_last_entry (at_last_version full_ledger)) (Lose 1 ∷ Roll 8 3 5 ∷ Roll 8 3 1 ∷ Roll 7 3 1 ∷ Roll 9 3 1 ∷ Roll 9 0 1 ∷ Roll 9 1 1 ∷ Roll 9 1 2 ∷ Roll 9 1 4 ∷ [])
     ≡ Done ∷ Refused NoBookie ∷ Refused NoLedger ∷ Refused NotOpen ∷ Refused NoIndex ∷ Refused MemberUp ∷ Refused TargetDown ∷ Refused TargetIsMember ∷ Refused EntryEnd ∷ []
 unfolding contains insert retain remove empty from_list union items is_subset is_empty len
 order_of_roll = refl
 
 -- then the fragments
-pub fragments_before_version : answers (record (with_metadata (record full_metadata { version = 10 ^ 12 })) { held = insert five_bookies.held (0, 9, 255) }) (Lose 1 ∷ Roll 9 1 4 ∷ [])
+pub fragments_before_version : answers (with_last_fragment_held (at_last_version full_ledger)) (Lose 1 ∷ Roll 9 1 4 ∷ [])
     ≡ Done ∷ Refused FragmentsFull ∷ []
 unfolding contains insert retain remove empty from_list union items is_subset is_empty len
 fragments_before_version = refl
 
 -- and the version, also in place
-pub version_of_roll : answers at_last_version (Lose 1 ∷ Roll 9 1 4 ∷ []) ++ answers (record at_last_version { held = without_entries.held }) (Lose 1 ∷ Roll 9 1 4 ∷ [])
+pub version_of_roll : answers (with_ledger (at_last_version open_ledger)) (Lose 1 ∷ Roll 9 1 4 ∷ []) ++ answers (record (with_ledger (at_last_version open_ledger)) { held = without_entries.held }) (Lose 1 ∷ Roll 9 1 4 ∷ [])
     ≡ Done ∷ Refused VersionEnd ∷ Done ∷ Refused VersionEnd ∷ []
 unfolding contains insert retain remove empty from_list union items is_subset is_empty len
 version_of_roll = refl
