@@ -1,5 +1,5 @@
 -- Worked runs of open ledgers: grace, ensemble changes by the writer, fences and recoveries, on the open ledger of the five bookies.
-use Rattle.std.specs.Prelude.{◌≡◌, refl, ℕ, ◌^◌, List, [], ◌∷◌, ◌++◌, map, Option, Some, None}
+use Rattle.std.specs.Prelude.{◌≡◌, refl, ℕ, ◌^◌, ◌==◌, List, [], ◌∷◌, ◌++◌, map, Option, Some, None}
 use Rattle.std.specs.Option.{option_map, option_and_then}
 use Rattle.reh_types.specs.declared.locks.Lock.{Lock}
 use Rattle.reh_types.specs.declared.moves.Event.{Event}
@@ -17,7 +17,7 @@ use Rattle.reh_model.specs.Metadata.{Fragment, Metadata}
 use Rattle.reh_model.specs.Cluster.{Cluster, Ledger, ledger_at, stop_at}
 use Rattle.reh_model.specs.Session.{opened_session, state_of}
 use Rattle.reh_model.proofs.Examples.{replies, played_session}
-use Rattle.reh_model.proofs.TaskExamples.{five_bookies, closed_ledger, open_ledger, row}
+use Rattle.reh_model.proofs.TaskExamples.{five_bookies, closed_ledger, open_ledger}
 use Rattle.reh_model.proofs.CopyExamples.{entries_of}
 
 -- Runs and what they leave
@@ -66,7 +66,7 @@ fragment_from first = record { first = first; ensemble = 0 ∷ 1 ∷ 2 ∷ [] }
 
 -- nobody holds an entry of the open ledger
 abbrev without_entries : Cluster
-without_entries = record five_bookies { held = from_list (row 0 7 (0 ∷ 2 ∷ 3 ∷ 5 ∷ []) ++ row 1 7 (0 ∷ 1 ∷ 3 ∷ 4 ∷ []) ++ row 2 7 (1 ∷ 2 ∷ 4 ∷ 5 ∷ [])) }
+without_entries = record five_bookies { held = retain five_bookies.held (λ t. t.1 == 7) }
 
 -- the metadata of an empty second fragment
 abbrev empty_fragment : Metadata
