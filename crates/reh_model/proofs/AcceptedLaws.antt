@@ -46,8 +46,8 @@ passed_before s w l g checks more named found none =
     ∙ first_reason-only (first_reason (checks g ++ more g)) ∙ first_reason-passed (checks g) (more g) none
 
 -- the checks of the ledger that is there
-at_ledger-none : (s : Cluster) (l : ℕ) (checks : Ledger → List (Option Refusal)) (g : Ledger) → ledger_at s l ≡ Some g → at_ledger s l checks ≡ None → first_reason (checks g) ≡ None
-at_ledger-none s l checks g found none = sym (ap (λ o. with_ledger o checks) found) ∙ none
+ledger_passes : (s : Cluster) (w l : ℕ) (checks : Ledger → List (Option Refusal)) (g : Ledger) → ledger_at s l ≡ Some g → first_reason (no_bookie s w ∷ at_ledger s l checks ∷ []) ≡ None → first_reason (checks g) ≡ None
+ledger_passes s w l checks g found none = sym (ap (λ o. with_ledger o checks) found) ∙ check-none (no_bookie s w ∷ []) (at_ledger s l checks) [] none
 
 -- a ledger is there, and its checks give none
 record FoundLedger (o : Option Ledger) (checks : Ledger → List (Option Refusal)) : Type 0 where
@@ -109,7 +109,7 @@ accepted_join s b none = no_bookie-none s b (check-none [] (no_bookie s b) (alre
 pub accepted_acquire : (s : Cluster) (w l : ℕ) (g : Ledger) → ledger_at s l ≡ Some g → refusal_of s (Acquire w l) ≡ None → (w < length s.names) × IsSome g.task
 accepted_acquire s w l g found none =
     let checks : Ledger → List (Option Refusal) = λ g. no_task g ∷ lock_held g ∷ [] in
-    let free : first_reason (checks g) ≡ None = at_ledger-none s l checks g found (check-none (no_bookie s w ∷ []) (at_ledger s l checks) [] none) in (
+    let free : first_reason (checks g) ≡ None = ledger_passes s w l checks g found none in (
       no_bookie-none s w (check-none [] (no_bookie s w) (at_ledger s l checks ∷ []) none),
       no_task-none g (check-none [] (no_task g) (lock_held g ∷ []) free),
     )
@@ -136,7 +136,7 @@ pub record IsGraceable (g : Ledger) (w : ℕ) : Type 0 where
 
 pub accepted_grace : (s : Cluster) (w l : ℕ) (g : Ledger) → ledger_at s l ≡ Some g → refusal_of s (Grace w l) ≡ None → IsGraceable g w
 accepted_grace s w l g found none =
-    let passes : first_reason (grace_checks s w g) ≡ None = at_ledger-none s l (grace_checks s w) g found (check-none (no_bookie s w ∷ []) (at_ledger s l (grace_checks s w)) [] none) in
+    let passes : first_reason (grace_checks s w g) ≡ None = ledger_passes s w l (grace_checks s w) g found none in
     record {
       owned = not_owner-none w g (check-none [] (not_owner w g) (not_open g ∷ not_needed s g ∷ grace_set g ∷ []) passes);
       state = not_open-none g (check-none (not_owner w g ∷ []) (not_open g) (not_needed s g ∷ grace_set g ∷ []) passes);
@@ -147,7 +147,7 @@ accepted_grace s w l g found none =
     no_due None none = refl
     no_due (Some due) none = cc
 
--- what an accepted ensemble change of the writer's shows: the bookie is registered and no member of the open ledger's last ensemble, the index is there, the next entry is one that there can be, and there is room for a fragment, where one is needed, and a next version
+-- what an accepted ensemble change of the writer's shows: the bookie is in the picture and no member of the last ensemble, the ledger is open, the index is there, the next entry is one that there can be, and there is room for a fragment, where one is needed, and a next version
 pub record IsRollable (s : Cluster) (g : Ledger) (i b : ℕ) : Type 0 where
   pub named : b < length s.names
   pub state : is_open g.metadata.state ≡ true
@@ -167,18 +167,16 @@ fragments_full-none s g none over =
     let few : nat_le MAX_FRAGMENTS (length g.metadata.fragments) ≡ false = sym (ap (λ b. b && nat_le MAX_FRAGMENTS (length g.metadata.fragments)) over) ∙ reason_if-none _ _ none in
     grind (arith, nat_tests, few)
 
-accepted_roll-passes : (s : Cluster) (l i b : ℕ) (g : Ledger) → ledger_at s l ≡ Some g → refusal_of s (Roll l i b) ≡ None → first_reason (roll_checks s i b g) ≡ None
-accepted_roll-passes s l i b g found none = at_ledger-none s l (roll_checks s i b) g found (check-none (no_bookie s b ∷ []) (at_ledger s l (roll_checks s i b)) [] none)
-
+-- the ledger is open
 pub accepted_roll_open : (s : Cluster) (l i b : ℕ) (g : Ledger) → ledger_at s l ≡ Some g → refusal_of s (Roll l i b) ≡ None → is_open g.metadata.state ≡ true
 accepted_roll_open s l i b g found none =
     let last : Fragment = last_fragment g.metadata in
-    not_open-none g (check-none [] (not_open g) (no_index g i ∷ member_up s last i ∷ target_down s b ∷ target_is_member last b ∷ entry_end s g ∷ fragments_full s g ∷ version_end g ∷ []) (accepted_roll-passes s l i b g found none))
+    not_open-none g (check-none [] (not_open g) (no_index g i ∷ member_up s last i ∷ target_down s b ∷ target_is_member last b ∷ entry_end s g ∷ fragments_full s g ∷ version_end g ∷ []) (ledger_passes s b l (roll_checks s i b) g found none))
 
 pub accepted_roll : (s : Cluster) (l i b : ℕ) (g : Ledger) → ledger_at s l ≡ Some g → next_entry s g ≤ ENTRY_END → g.metadata.version ≤ MAX_VERSION → refusal_of s (Roll l i b) ≡ None → IsRollable s g i b
 accepted_roll s l i b g found within few none =
     let last : Fragment = last_fragment g.metadata in
-    let passes : first_reason (roll_checks s i b g) ≡ None = accepted_roll-passes s l i b g found none in
+    let passes : first_reason (roll_checks s i b g) ≡ None = ledger_passes s b l (roll_checks s i b) g found none in
     let place : List (Option Refusal) = not_open g ∷ no_index g i ∷ member_up s last i ∷ target_down s b ∷ [] in
     let room : List (Option Refusal) = entry_end s g ∷ fragments_full s g ∷ version_end g ∷ [] in
     record {
@@ -200,15 +198,13 @@ pub record IsFenceable (s : Cluster) (g : Ledger) (w : ℕ) : Type 0 where
   pub over : due ≤ s.clock
   pub version : g.metadata.version < MAX_VERSION
 
-accepted_fence-passes : (s : Cluster) (w l : ℕ) (g : Ledger) → ledger_at s l ≡ Some g → refusal_of s (Fence w l) ≡ None → first_reason (fence_checks s w g) ≡ None
-accepted_fence-passes s w l g found none = at_ledger-none s l (fence_checks s w) g found (check-none (no_bookie s w ∷ []) (at_ledger s l (fence_checks s w)) [] none)
-
+-- the ledger is open
 pub accepted_fence_open : (s : Cluster) (w l : ℕ) (g : Ledger) → ledger_at s l ≡ Some g → refusal_of s (Fence w l) ≡ None → is_open g.metadata.state ≡ true
-accepted_fence_open s w l g found none = not_open-none g (check-none (not_owner w g ∷ []) (not_open g) (not_needed s g ∷ no_grace g ∷ grace_runs s g ∷ version_end g ∷ []) (accepted_fence-passes s w l g found none))
+accepted_fence_open s w l g found none = not_open-none g (check-none (not_owner w g ∷ []) (not_open g) (not_needed s g ∷ no_grace g ∷ grace_runs s g ∷ version_end g ∷ []) (ledger_passes s w l (fence_checks s w) g found none))
 
 pub accepted_fence : (s : Cluster) (w l : ℕ) (g : Ledger) → ledger_at s l ≡ Some g → g.metadata.version ≤ MAX_VERSION → refusal_of s (Fence w l) ≡ None → IsFenceable s g w
 accepted_fence s w l g found few none =
-    let passes : first_reason (fence_checks s w g) ≡ None = accepted_fence-passes s w l g found none in
+    let passes : first_reason (fence_checks s w g) ≡ None = ledger_passes s w l (fence_checks s w) g found none in
     let before : List (Option Refusal) = not_owner w g ∷ not_open g ∷ not_needed s g ∷ [] in
     let has_come = come (due_of g) (check-none before (no_grace g) (grace_runs s g ∷ version_end g ∷ []) passes) (check-none (before ++ no_grace g ∷ []) (grace_runs s g) (version_end g ∷ []) passes) in
     record {
@@ -232,16 +228,14 @@ pub record IsSealable (s : Cluster) (g : Ledger) (w : ℕ) : Type 0 where
   pub decided : g.metadata.write_quorum - g.metadata.ack_quorum + 1 ≤ length (up_writes s g (recovered_end s g))
   pub version : g.metadata.version < MAX_VERSION
 
-accepted_seal-passes : (s : Cluster) (w l : ℕ) (g : Ledger) → ledger_at s l ≡ Some g → refusal_of s (Seal w l) ≡ None → first_reason (seal_checks s w g) ≡ None
-accepted_seal-passes s w l g found none = at_ledger-none s l (seal_checks s w) g found (check-none (no_bookie s w ∷ []) (at_ledger s l (seal_checks s w)) [] none)
-
+-- the ledger is in recovery
 pub accepted_seal_recovering : (s : Cluster) (w l : ℕ) (g : Ledger) → ledger_at s l ≡ Some g → refusal_of s (Seal w l) ≡ None → is_in_recovery g.metadata.state ≡ true
 accepted_seal_recovering s w l g found none =
-    not_not (is_in_recovery g.metadata.state) (reason_if-none _ _ (check-none (not_owner w g ∷ []) (not_recovering g) (too_few s g ∷ undecided s g ∷ version_end g ∷ []) (accepted_seal-passes s w l g found none)))
+    not_not (is_in_recovery g.metadata.state) (reason_if-none _ _ (check-none (not_owner w g ∷ []) (not_recovering g) (too_few s g ∷ undecided s g ∷ version_end g ∷ []) (ledger_passes s w l (seal_checks s w) g found none)))
 
 pub accepted_seal : (s : Cluster) (w l : ℕ) (g : Ledger) → ledger_at s l ≡ Some g → g.metadata.version ≤ MAX_VERSION → refusal_of s (Seal w l) ≡ None → IsSealable s g w
 accepted_seal s w l g found few none =
-    let passes : first_reason (seal_checks s w g) ≡ None = accepted_seal-passes s w l g found none in
+    let passes : first_reason (seal_checks s w g) ≡ None = ledger_passes s w l (seal_checks s w) g found none in
     let state : List (Option Refusal) = not_owner w g ∷ not_recovering g ∷ [] in
     let acks : ℕ = g.metadata.ack_quorum in
     let each : All (λ e. nat_lt (length (up_writes s g e)) acks ≡ false) (recovered_entries s g) =
@@ -291,7 +285,7 @@ pub record IsSwappable (s : Cluster) (g : Ledger) (w f i : ℕ) : Type 0 where
 pub accepted_swap : (s : Cluster) (w l f i v : ℕ) (g : Ledger) → ledger_at s l ≡ Some g → g.metadata.version ≤ MAX_VERSION → refusal_of s (Swap w l f i v) ≡ None → IsSwappable s g w f i
 accepted_swap s w l f i v g found few none =
     let checks : Ledger → List (Option Refusal) = swap_checks s w f i v in
-    let passes : first_reason (checks g) ≡ None = at_ledger-none s l checks g found (check-none (no_bookie s w ∷ []) (at_ledger s l checks) [] none) in
+    let passes : first_reason (checks g) ≡ None = ledger_passes s w l checks g found none in
     let place = with_fragment-none (slice_get g.metadata.fragments f) _ (check-none (not_owner w g ∷ stale_version g v ∷ []) (no_place s w g f i) (missing_entry s w g f i ∷ version_end g ∷ []) passes) in
     let old = place.fragment in
     let new : list_any (λ member. member == w) old.ensemble ≡ false = reason_if-none _ _ (check-none (no_index g i ∷ member_up s old i ∷ target_down s w ∷ []) (target_is_member old w) (no_endpoint g f ∷ []) place.passes) in
