@@ -1,5 +1,5 @@
 // Fragments of a ledger.
-ghost use Rattle.std.specs.Prelude.{◌≡◌, ◌<◌, length};
+ghost use Rattle.std.specs.Prelude.{◌≡◌, ◌<◌, length, IfOk};
 ghost use Rattle.std.specs.List.{list_all};
 ghost use Rattle.reh_model.specs.Metadata as meta;
 
@@ -45,6 +45,23 @@ impl Fragment {
         ensures { self.new ≡ meta.with_member self.old index bookie }
     {
         self.ensemble[index] = bookie;
+    }
+
+    /// The fragment that begins at the entry `first`, with another bookie in a place of this one's ensemble.
+    pub(crate) fn successor(
+        &self,
+        first: u32,
+        index: usize,
+        bookie: BookieIx,
+    ) -> Result<Fragment, AllocError>
+        requires { index < length self.now.ensemble }
+        ensures { IfOk result (λ next. next
+            ≡ record (meta.with_member self.now index bookie) { first = first }) }
+    {
+        let ensemble = self.ensemble.clone()?;
+        let mut next = Fragment { first, ensemble };
+        next.replace(index, bookie);
+        Ok(next)
     }
 }
 

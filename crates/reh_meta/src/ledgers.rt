@@ -1,10 +1,11 @@
 // The metadata of a ledger.
-ghost use Rattle.std.specs.Prelude.{◌≡◌, ◌==◌, ◌<◌, ◌≤◌, false, length, IfOk, IfErr, All, slice_get};
+ghost use Rattle.std.specs.Prelude.{◌≡◌, ◌==◌, ◌<◌, ◌≤◌, false, length, None, IfOk, IfErr, All, slice_get};
 ghost use Rattle.std.specs.List.{list_any};
 ghost use Rattle.std.specs.Option.{ForSome};
 ghost use Rattle.reh_types.specs.declared.limits.TheConstants.{ENTRY_END, MAX_FRAGMENTS, MAX_VERSION};
+ghost use Rattle.reh_types.specs.declared.names.LedgerState.TheVariants.{InRecovery, Closed};
 ghost use Rattle.reh_model.specs.Metadata as meta;
-ghost use Rattle.reh_model.specs.Metadata.{IsMetadata, end_of_state, stop_of};
+ghost use Rattle.reh_model.specs.Metadata.{IsMetadata, end_of_state, last_fragment, stop_of};
 
 use crate::faults::MetaFault;
 use crate::fragments::{Fragment, have_ensembles, rise_from_zero};
@@ -83,6 +84,7 @@ impl Model for LedgerMeta {
 
 impl LedgerMeta {
     ghost use Rattle.reh_meta.specs.Faults.{metadata_of, fault_of, fault_found};
+    ghost use Rattle.reh_meta.specs.LedgerMeta.{changed_metadata};
 
     /// The metadata of these parts, if they keep the rules. The fragments are copied.
     ///
@@ -222,13 +224,87 @@ impl LedgerMeta {
     {
         let mut fragments = self.fragments.clone()?;
         fragments[fragment].replace(index, bookie);
-        Ok(LedgerMeta {
+        Ok(self.changed(self.state, fragments))
+    }
+
+    /// The metadata at the next version, with a new fragment from the entry `first` on: the last ensemble with
+    /// another bookie at an index of it. All else stays.
+    ///
+    /// This is the ensemble change of a writer that lost a member: BookKeeper's `LedgerMetadata` gets another
+    /// ensemble by its first entry, and what was written before stays with the old one. The ledger isn't closed,
+    /// `first` is above the last fragment's first entry and below 65,536, there are fewer than 256 fragments, the new
+    /// member is in no place of the last ensemble yet, and the version is below 10^12. Want of memory changes nothing.
+    pub fn with_fragment(
+        &self,
+        first: u32,
+        index: usize,
+        bookie: BookieIx,
+    ) -> Result<LedgerMeta, AllocError>
+        requires unended { end_of_state self.now.state ≡ None }
+        requires above { (last_fragment self.now).first < first }
+        requires first { first < ENTRY_END }
+        requires room { length self.now.fragments < MAX_FRAGMENTS }
+        requires index { index < self.now.size }
+        requires new { list_any (λ member. member == bookie) (last_fragment self.now).ensemble ≡ false }
+        requires version { self.now.version < MAX_VERSION }
+        ensures { IfOk result (λ changed. changed
+            ≡ meta.next_version (meta.with_fragment_at self.now first index bookie)) }
+    {
+        let last = &self.fragments[self.fragments.len() - 1];
+        let room = self.fragments.len() + 1;
+        let mut fragments = Vec::with_capacity(*self.fragments.allocator(), room)?;
+        fragments.extend_with_clones(&self.fragments)?;
+        fragments.push(last.successor(first, index, bookie)?)?;
+        Ok(self.changed(self.state, fragments))
+    }
+
+    /// The metadata at the next version, in recovery; all else stays.
+    ///
+    /// This is how a recovery begins: BookKeeper marks the ledger as IN_RECOVERY, so that the writer, which it fences
+    /// off, can't change the metadata any more. The version is below 10^12. Want of memory changes nothing.
+    pub fn fenced(&self) -> Result<LedgerMeta, AllocError>
+        requires version { self.now.version < MAX_VERSION }
+        ensures { IfOk result (λ changed. changed ≡ meta.next_version (meta.with_state self.now InRecovery)) }
+    {
+        self.with_state(LedgerState::InRecovery)
+    }
+
+    /// The metadata at the next version, closed at this end, one past its last entry id; all else stays.
+    ///
+    /// This is how a recovery ends: BookKeeper marks the ledger as CLOSED at the last entry that it recovered. The end
+    /// is at least the last fragment's first entry, and at most 65,536, and the version is below 10^12. Want of memory
+    /// changes nothing.
+    pub fn sealed(&self, end: u32) -> Result<LedgerMeta, AllocError>
+        requires last { (last_fragment self.now).first ≤ end }
+        requires end { end ≤ ENTRY_END }
+        requires version { self.now.version < MAX_VERSION }
+        ensures { IfOk result (λ changed. changed ≡ meta.next_version (meta.with_state self.now (Closed end))) }
+    {
+        self.with_state(LedgerState::Closed { end })
+    }
+
+    // The metadata at the next version, in another state, whose end it can have.
+    fn with_state(&self, state: LedgerState) -> Result<LedgerMeta, AllocError>
+        requires end { ForSome (end_of_state state)
+            (λ end. ((last_fragment self.now).first ≤ end) × (end ≤ ENTRY_END)) }
+        requires version { self.now.version < MAX_VERSION }
+        ensures { IfOk result (λ changed. changed ≡ meta.next_version (meta.with_state self.now state)) }
+    {
+        Ok(self.changed(state, self.fragments.clone()?))
+    }
+
+    // The metadata at the next version, with this state and these fragments, which keep its rules.
+    fn changed(&self, state: LedgerState, fragments: Vec<Fragment>) -> LedgerMeta
+        requires { IsMetadata (changed_metadata self.now state fragments.items) }
+        ensures { result ≡ changed_metadata self.now state fragments.items }
+    {
+        LedgerMeta {
             size: self.size,
             write_quorum: self.write_quorum,
             ack_quorum: self.ack_quorum,
-            state: self.state,
+            state,
             version: self.version + 1,
             fragments,
-        })
+        }
     }
 }

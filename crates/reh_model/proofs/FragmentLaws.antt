@@ -7,7 +7,7 @@ use Rattle.std.specs.Option.{ForSome}
 use Rattle.std.proofs.Math.ListN.{get_or-append}
 use Rattle.std.proofs.Math.Seq.{get_or-append_seam}
 use Rattle.std.proofs.lemmas.Bool.{cases_lt}
-use Rattle.std.proofs.lemmas.List.{length-append, length-map, length-set, map-append}
+use Rattle.std.proofs.lemmas.List.{get_or_default, length-append, length-map, length-set, map-append}
 use Rattle.std.proofs.lemmas.List.Elements.{All-append, All-cons, All-nil}
 use Rattle.std.proofs.lemmas.Option.{unwrap_or-slice_get}
 use Rattle.reh_types.specs.declared.limits.TheConstants.{ENTRY_END, MAX_FRAGMENTS, MAX_VERSION}
@@ -46,12 +46,16 @@ from_zero-append : (fragments : List Fragment) (added : Fragment) → 1 ≤ leng
 from_zero-append [] added some from_zero = absurd (omega arith)
 from_zero-append (x ∷ xs) added some from_zero = from_zero
 
--- the ensemble to which a writer appends
+-- the last fragment, as an element
+pub last_fragment-is : (m : Metadata) (d : Fragment) → IsMetadata m → last_fragment m ≡ get_or m.fragments (length m.fragments - 1) d
+last_fragment-is m d was =
+    let none : Fragment = record { first = 0; ensemble = [] } in
+    unwrap_or-slice_get m.fragments (length m.fragments - 1) none ∙ get_or_default m.fragments (length m.fragments - 1) none d (omega (arith, was.some_fragment))
+
 pub IsEnsemble-last : (m : Metadata) → IsMetadata m → IsEnsemble m.size (last_fragment m).ensemble
 IsEnsemble-last m was =
-    let none : Fragment = record { first = 0; ensemble = [] } in
-    subst (λ (x : Fragment). IsEnsemble m.size x.ensemble) (sym (unwrap_or-slice_get m.fragments (length m.fragments - 1) none))
-    (was.ensembles (length m.fragments - 1) none (omega (arith, was.some_fragment)))
+    let last = last_fragment m in
+    subst (λ (x : Fragment). IsEnsemble m.size x.ensemble) (sym (last_fragment-is m last was)) (was.ensembles (length m.fragments - 1) last (omega (arith, was.some_fragment)))
 
 -- its first entry is one that there can be
 pub first-last : (m : Metadata) → IsMetadata m → (last_fragment m).first < ENTRY_END

@@ -6,11 +6,11 @@ use Rattle.std.specs.List.Sorted.{IsStrictlyIncreasing}
 use Rattle.std.specs.Option.{ForSome, option_map_or}
 use Rattle.std.proofs.Math.Seq.{map-set_same}
 use Rattle.std.proofs.lemmas.Bool.Decides.{nat_tests}
-use Rattle.std.proofs.lemmas.List.{length-set}
+use Rattle.std.proofs.lemmas.List.{get_or_default, length-set}
 use Rattle.std.proofs.lemmas.Option.{slice_get-get_or}
 use Rattle.std.proofs.lemmas.List.Elements.{All-set}
 use Rattle.reh_types.specs.declared.limits.TheConstants.{ENTRY_END, MAX_VERSION}
-use Rattle.reh_model.specs.Metadata.{Metadata, Fragment, IsEnsemble, IsMetadata, last_fragment, with_member, with_member_at}
+use Rattle.reh_model.specs.Metadata.{Metadata, Fragment, IsEnsemble, IsMetadata, last_fragment, with_member, with_member_at, next_version}
 
 or-none : (a b : Bool) → (a || b) ≡ false → (a ≡ false) × (b ≡ false)
 or-none true b none = cc
@@ -78,3 +78,12 @@ IsMetadata-set m f i b fragment at within new version was =
 pub with_member_at-found : (m : Metadata) (f i b : ℕ) (fragment : Fragment) → f < length m.fragments → fragment ≡ get_or m.fragments f fragment → with_member_at m f i b ≡ record m { fragments = set m.fragments f (with_member fragment i b) }
 with_member_at-found m f i b fragment within at =
     ap (λ (o : Option Fragment). record m { fragments = option_map_or (λ x. set m.fragments f (with_member x i b)) o m.fragments }) (slice_get-get_or m.fragments f fragment within ∙ ap Some (sym at))
+
+-- the same, of the fragment at an index
+pub IsMetadata-member : (m : Metadata) (f i b : ℕ) → f < length m.fragments → ForSome (slice_get m.fragments f) (λ old. list_any (λ member. member == b) old.ensemble ≡ false) → m.version < MAX_VERSION → IsMetadata m → IsMetadata (next_version (with_member_at m f i b))
+IsMetadata-member m f i b within new version was =
+    let none : Fragment = record { first = 0; ensemble = [] } in
+    let old = get_or m.fragments f none in
+    let at : old ≡ get_or m.fragments f old = get_or_default m.fragments f none old within in
+    subst IsMetadata (sym (ap next_version (with_member_at-found m f i b old within at)))
+    (IsMetadata-set m f i b old at within (new old (slice_get-get_or m.fragments f none within)) (omega (arith, version)) was)
