@@ -11,6 +11,7 @@ pub mod LedgerLaws
 pub mod ListLaws
 pub mod PlaceLaws
 pub mod ExchangeLaws
+pub mod DeltaLaws
 pub mod AuditLaws
 pub mod Examples
 pub mod TaskExamples
