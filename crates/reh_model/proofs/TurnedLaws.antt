@@ -97,11 +97,11 @@ pub record HasBit (bits width : ℕ) : Type 0 where
 pub some_bit : (bits width : ℕ) → bits ≢ 0 → bits < 2 ^ width → HasBit bits width
 some_bit bits zero some below = absurd (some (omega (arith, below)))
 some_bit bits (suc width) some below = elim (bits % 2 == 1) as (λ b. (bits % 2 == 1) ≡ b → HasBit bits (suc width)) [
-    | true ↦ λ odd. record { at = 0; below = omega arith; is = bit_at_lowest bits ∙ grind (arith, nat_tests, odd) }
-    | false ↦ λ even.
-        let no : bits % 2 ≢ 1 = grind (arith, nat_tests, even) in
-        let half : bits / 2 ≢ 0 = λ e. some (omega (arith, e, no)) in
-        let more : bits < 2 ^ width * 2 = subst (λ n. bits < n) (pow-suc 2 width) below in
-        let rest = some_bit (bits / 2) width half (omega (arith, more)) in
-        record { at = suc rest.at; below = omega (arith, rest.below); is = bit_at-suc bits rest.at ∙ rest.is }
-  ] refl
+  | true ↦ λ odd. record { at = 0; below = omega arith; is = bit_at_lowest bits ∙ grind (arith, nat_tests, odd) }
+  | false ↦ λ even.
+      let no : bits % 2 ≢ 1 = grind (arith, nat_tests, even) in
+      let half : bits / 2 ≢ 0 = λ e. some (omega (arith, e, no)) in
+      let more : bits < 2 ^ width * 2 = subst (λ n. bits < n) (pow-suc 2 width) below in
+      let rest = some_bit (bits / 2) width half (omega (arith, more)) in
+      record { at = suc rest.at; below = omega (arith, rest.below); is = bit_at-suc bits rest.at ∙ rest.is }
+] refl
