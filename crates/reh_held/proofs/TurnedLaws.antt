@@ -1,7 +1,6 @@
 -- Contents with bits of a bookie's words turned.
-use Rattle.std.proofs.Common.{◌≡◌, ◌≢◌, ℕ, ◌+◌, ◌*◌, ◌/◌, ◌<◌, ◌≤◌, Bool, true, false, ◌&&◌, ◌||◌, List, [], ◌∷◌, ◌++◌, length, take, get_or, refl, sym, ap, ◌∙◌, arith, nat_eq}
+use Rattle.std.proofs.Common.{◌≡◌, ◌≢◌, ℕ, ◌+◌, ◌*◌, ◌^◌, ◌/◌, ◌<◌, ◌≤◌, Bool, true, false, ◌&&◌, ◌||◌, List, [], ◌∷◌, refl, sym, ap, ◌∙◌, arith, nat_eq}
 use Rattle.std.specs.Prelude.{not, All}
-use Rattle.std.proofs.lemmas.List.{take_more}
 use Rattle.std.proofs.lemmas.List.Elements.{All-nil, All-head}
 use Rattle.std.specs.List.{filter, list_any, range_with_len}
 use Rattle.std.specs.Ordering.{nat_cmp, eq_by_cmp}
@@ -10,13 +9,13 @@ use Rattle.std.proofs.lemmas.Bool.Decides.{nat_tests}
 use Rattle.reh_types.specs.Sets as set
 use Rattle.reh_types.specs.Sets.{contains-retain, contains-union, same_set}
 use Rattle.reh_types.proofs.BitLaws.{any_filtered, in_range}
-use Rattle.reh_model.specs.Contents.{Contents, has, copies_of}
+use Rattle.reh_model.specs.Contents.{Contents, has, copies_of, is_in_word, word_entries, turned}
 use Rattle.reh_model.proofs.ContentsLaws.{has-copies_of, has-union-copies_of, union-copies_of-none}
 use Rattle.reh_model.proofs.Ranges.{list_any-same}
 use Rattle.reh_held.specs.declared.turns.Turn.{Turn}
-use Rattle.reh_held.specs.Rows.{is_set, is_in_word, word_entries, one_of}
+use Rattle.reh_held.specs.Rows.{is_set, one_of}
 use Rattle.reh_held.specs.RowTurns.{is_turned, ArePlaces}
-use Rattle.reh_held.specs.Turns.{turned, turned_all, IsTurning}
+use Rattle.reh_held.specs.Turns.{turned_all, IsTurning}
 
 -- the numbers of a range that pass a test which none outside passes
 any-passing : (p : ℕ → Bool) (a n e : ℕ) → (p e ≡ true → (a ≤ e) × (e < a + n)) → list_any (nat_eq e) (filter p (range_with_len a n)) ≡ p e
@@ -119,17 +118,7 @@ turning-from_row s words bookie ledger row entries turns is places makes = recor
 pub turning-none : (s : Contents) (words bookie ledger : ℕ) (entries : List ℕ) → words ≡ 0 → All (λ e. e < 64 * words) entries
     → IsTurning words bookie ledger s (set.union s (copies_of bookie ledger entries)) []
 turning-none s words bookie ledger [] none within = record {
-  places = record { there = All-nil (λ u. u.number < words); rising = tt; some = All-nil (λ u. u.bits ≢ 0) };
+  places = record { there = All-nil (λ u. u.number < words); rising = tt; some = All-nil (λ u. (u.bits ≢ 0) × (u.bits < 2 ^ 64)) };
   makes = sym (union-copies_of-none s bookie ledger);
 }
 turning-none s words bookie ledger (e ∷ entries) none within = absurd (omega (arith, none, All-head (λ e. e < 64 * words) e entries within))
-
--- one turn more
-pub turned_all-push : (s : Contents) (bookie ledger : ℕ) (us : List Turn) (u : Turn) → turned_all s bookie ledger (us ++ u ∷ []) ≡ turned (turned_all s bookie ledger us) bookie ledger u.number u.bits
-turned_all-push s bookie ledger [] u = refl
-turned_all-push s bookie ledger (v ∷ us) u = turned_all-push (turned s bookie ledger v.number v.bits) bookie ledger us u
-
-pub turned_all-more : (s : Contents) (bookie ledger : ℕ) (us : List Turn) (i : ℕ) (d : Turn) → i < length us
-    → turned_all s bookie ledger (take (i + 1) us) ≡ turned (turned_all s bookie ledger (take i us)) bookie ledger (get_or us i d).number (get_or us i d).bits
-turned_all-more s bookie ledger us i d within =
-    ap (λ (us : List Turn). turned_all s bookie ledger us) (take_more us i d within) ∙ turned_all-push s bookie ledger (take i us) (get_or us i d)

@@ -15,14 +15,6 @@ is_between first last entry = nat_le first entry && nat_le entry last
 abbrev pub entries_in : List ℕ → List ℕ
 entries_in words = filter (is_set words) (range_with_len 0 (64 * length words))
 
--- whether the entry is one of those that the bits of this word stand for
-abbrev pub is_in_word : ℕ → ℕ → ℕ → Bool
-is_in_word number bits entry = (entry / 64 == number) && (bit_at bits (entry % 64) == 1)
-
--- the entries that the bits of this word stand for
-abbrev pub word_entries : ℕ → ℕ → List ℕ
-word_entries number bits = filter (is_in_word number bits) (range_with_len (64 * number) 64)
-
 -- one or the other and not both
 abbrev pub one_of : Bool → Bool → Bool
 one_of true b = not b
