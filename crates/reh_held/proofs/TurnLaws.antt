@@ -8,8 +8,9 @@ use Rattle.std.proofs.lemmas.Nat.Bits.{bit_at-zero, bit_at_xor, bit_at-lt}
 use Rattle.std.proofs.lemmas.Bool.{cases_order}
 use Rattle.std.proofs.lemmas.Bool.Decides.{nat_tests}
 use Rattle.std.proofs.lemmas.List.Elements.{All-nil, All-cons}
+use Rattle.reh_model.specs.Contents.{one_of}
 use Rattle.reh_held.specs.declared.turns.Turn.{Turn}
-use Rattle.reh_held.specs.Rows.{is_set, one_of}
+use Rattle.reh_held.specs.Rows.{is_set}
 use Rattle.reh_held.specs.RowTurns.{is_turned, AreRising, IsRowTurning, turns_between}
 use Rattle.reh_held.proofs.RowLaws.{bit_turns, one_of-false}
 

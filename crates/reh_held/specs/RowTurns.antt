@@ -1,8 +1,8 @@
 -- Lists of words of one row with bits to turn.
 use Rattle.std.specs.Prelude.{◌≡◌, ◌≢◌, ℕ, ◌+◌, ◌^◌, ◌<◌, ◌≤◌, ◌==◌, if◌then◌else◌, Bool, false, List, [], ◌∷◌, length, All, bit_xor}
+use Rattle.reh_model.specs.Contents.{is_in_word, one_of}
 use Rattle.reh_held.specs.declared.turns.Turn.{Turn}
-use Rattle.reh_model.specs.Contents.{is_in_word}
-use Rattle.reh_held.specs.Rows.{is_set, one_of}
+use Rattle.reh_held.specs.Rows.{is_set}
 
 -- whether the entry turns, by some of the turns and not by two
 abbrev pub is_turned : List Turn → ℕ → Bool

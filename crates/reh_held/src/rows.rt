@@ -2,9 +2,9 @@
 ghost use Rattle.std.specs.Prelude.{◌≡◌, ℕ, ◌+◌, ◌*◌, ◌^◌, ◌<◌, ◌≤◌, false, ◌==◌, ◌||◌, length, All, IfOk};
 ghost use Rattle.std.specs.List.{list_any};
 ghost use Rattle.std.specs.Int.{bit_at};
+ghost use Rattle.reh_model.specs.Contents.{is_in_word, one_of};
 ghost use Rattle.reh_held.specs.Rows as rows;
-ghost use Rattle.reh_model.specs.Contents.{is_in_word};
-ghost use Rattle.reh_held.specs.Rows.{is_set, is_between, entries_in, one_of, IsGreatest};
+ghost use Rattle.reh_held.specs.Rows.{is_set, is_between, entries_in, IsGreatest};
 ghost use Rattle.reh_held.specs.RowTurns.{IsRowTurning, turns_between};
 ghost use Rattle.reh_held.specs.declared.rows.TheConstants.{MAX_WIDTH};
 

@@ -2,8 +2,7 @@
 use Rattle.std.proofs.Common.{◌≤◌, ◌&&◌, ℕ, List, nat_eq, refl, sym, ap, subst, ◌∙◌, arith}
 use Rattle.std.specs.Option.{IsSome}
 use Rattle.std.specs.FinMap as finite
-use Rattle.reh_model.specs.Contents.{is_in_word, turned}
-use Rattle.reh_held.specs.Rows.{one_of}
+use Rattle.reh_model.specs.Contents.{is_in_word, turned, one_of}
 use Rattle.reh_held.specs.Tables.{TableValue, IsTable}
 use Rattle.reh_held.specs.Values.{HeldValue}
 use Rattle.reh_held.specs.Kept.{held_of, IsKept}
