@@ -12,7 +12,8 @@ use Rattle.reh_model.specs.Cluster.{Cluster, Ledger, words_among}
 use Rattle.reh_model.specs.WellFormed.{IsWellFormed}
 use Rattle.reh_model.specs.Places.{Change, place_of, put, back, exchanged, left, AreRising, IsThere, Fits}
 use Rattle.reh_model.proofs.ListLaws.{set-read, read_at-there}
-use Rattle.reh_cluster.proofs.Stub.{put-count, places-left, exchanged-left, left-left, words_among-exchanged, Fits-left}
+use Rattle.reh_model.proofs.PlaceLaws.{put-count}
+use Rattle.reh_model.proofs.ExchangeLaws.{places-left, exchanged-left, left-left, words_among-exchanged, Fits-left}
 use Rattle.reh_held.specs.Values.{HeldValue, words_in}
 use Rattle.reh_cluster.specs.Parts.{HasRows, IsReached}
 
@@ -84,23 +85,33 @@ reached s held rows few (Lock i lock) there = there
 reached s held rows few (Word b l k bits) there = (omega (arith, there.0, rows.bookies), omega (arith, there.1, rows.words l))
 reached s held rows few (Clock clock) there = tt
 
-module _ {s t : Cluster} {cs : List Change} (made : t ≡ exchanged s cs) where
-  -- the rows that there were serve what comes of an exchange
-  pub rows_kept : (held after : HeldValue) → HasRows (length s.names) s.ledgers held → after ≡ record held { contents = after.contents } → HasRows (length s.names) t.ledgers after
-  rows_kept held after rows kept = record {
-    bookies = ap (λ (h : HeldValue). h.bookies) kept ∙ rows.bookies;
-    words = λ l. ap (λ (h : HeldValue). words_in h l) kept ∙ rows.words l ∙ sym (words_among-exchanged s cs l) ∙ ap (λ (x : Cluster). words_among x.ledgers l) (sym made);
-  }
+-- which more changes do not alter
+pub still_reached : (m n : ℕ) (h k : HeldValue) → n ≡ m → k ≡ record h { contents = k.contents } → (c : Change) → IsReached m h c → IsReached n k c
+still_reached m n h k same kept (Registration b up) r = r
+still_reached m n h k same kept (Metadata i metadata) r = omega (arith, r, same)
+still_reached m n h k same kept (Task i task) r = omega (arith, r, same)
+still_reached m n h k same kept (Lock i lock) r = omega (arith, r, same)
+still_reached m n h k same kept (Word b l j bits) r = (omega (arith, r.0, ap (λ (v : HeldValue). v.bookies) kept), omega (arith, r.1, ap (λ (v : HeldValue). words_in v l) kept))
+still_reached m n h k same kept (Clock clock) r = tt
 
-  module _ {ds : List Change} (leaves : ds ≡ left s cs) where
-    pub rising_kept : AreRising (map place_of cs) → AreRising (map place_of ds)
-    rising_kept rising = subst AreRising (sym (ap (λ (xs : List Change). map place_of xs) leaves ∙ places-left s cs)) rising
+-- the rows that there were serve what comes of an exchange
+pub rows_kept : (s t : Cluster) (cs : List Change) (held after : HeldValue) → t ≡ exchanged s cs → HasRows (length s.names) s.ledgers held → after ≡ record held { contents = after.contents } → HasRows (length s.names) t.ledgers after
+rows_kept s t cs held after made rows kept = record {
+  bookies = ap (λ (v : HeldValue). v.bookies) kept ∙ rows.bookies;
+  words = λ l. ap (λ (v : HeldValue). words_in v l) kept ∙ rows.words l ∙ sym (words_among-exchanged s cs l) ∙ ap (λ (x : Cluster). words_among x.ledgers l) (sym made);
+}
 
-    pub fits_again : IsWellFormed s → AreRising (map place_of cs) → Fits s cs → Fits t ds
-    fits_again well rising fits = subst (λ (x : Cluster). Fits x ds) (sym made) (subst (λ (xs : List Change). Fits (exchanged s cs) xs) (sym leaves) (Fits-left s cs well rising fits))
+-- What comes of an exchange, and the record that it leaves
 
-    pub brought_back : AreRising (map place_of cs) → exchanged t ds ≡ s
-    brought_back rising = (λ i. exchanged (made i) (leaves i)) ∙ exchanged-left s cs rising
+pub rising_kept : (s : Cluster) (cs ds : List Change) → ds ≡ left s cs → AreRising (map place_of cs) → AreRising (map place_of ds)
+rising_kept s cs ds leaves rising = subst AreRising (sym (ap (λ (xs : List Change). map place_of xs) leaves ∙ places-left s cs)) rising
 
-    pub left_again : AreRising (map place_of cs) → left t ds ≡ cs
-    left_again rising = (λ i. left (made i) (leaves i)) ∙ left-left s cs rising
+module _ (s t : Cluster) (cs ds : List Change) (made : t ≡ exchanged s cs) (leaves : ds ≡ left s cs) (rising : AreRising (map place_of cs)) where
+  pub fits_again : IsWellFormed s → Fits s cs → Fits t ds
+  fits_again well fits = subst (λ (x : Cluster). Fits x ds) (sym made) (subst (λ (xs : List Change). Fits (exchanged s cs) xs) (sym leaves) (Fits-left s cs well rising fits))
+
+  pub brought_back : exchanged t ds ≡ s
+  brought_back = (λ i. exchanged (made i) (leaves i)) ∙ exchanged-left s cs rising
+
+  pub left_again : left t ds ≡ cs
+  left_again = (λ i. left (made i) (leaves i)) ∙ left-left s cs rising
