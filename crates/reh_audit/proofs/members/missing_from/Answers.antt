@@ -5,8 +5,8 @@ use Rattle.std.proofs.lemmas.List.{take_all}
 use Rattle.reh_types.specs.Sets.{numbers, contains, union, from_list}
 use Rattle.reh_types.proofs.SetLaws.{from_list-nil}
 use Rattle.reh_model.specs.Metadata.{Fragment}
-use Rattle.reh_cluster.proofs.MissingLaws.{missing_more-ensemble}
-use Rattle.reh_cluster.proofs.ledgers.missing_from.Goals as goal
+use Rattle.reh_audit.proofs.MissingLaws.{missing_more-ensemble}
+use Rattle.reh_audit.proofs.members.missing_from.Goals as goal
 
 pub loop-fragment-init : goal.loop-fragment-init
 loop-fragment-init c = c.new-missing.ensures ∙ sym (from_list-nil numbers)

@@ -3,7 +3,7 @@ use Rattle.std.proofs.Common.{◌≡◌, ℕ, Some, arith}
 use Rattle.reh_model.specs.Cluster.{Cluster, Ledger, ledger_at}
 use Rattle.reh_model.specs.WellFormed.{IsWellFormed}
 use Rattle.reh_model.proofs.WellFormedLaws.{IsLedger-found}
-use Rattle.reh_cluster.specs.Members.{HasBookies}
+use Rattle.reh_audit.specs.Members.{HasBookies}
 
 -- the ledger that is found
 pub HasBookies-found : (s : Cluster) (l : ℕ) (g : Ledger) → IsWellFormed s → ledger_at s l ≡ Some g → HasBookies g

@@ -4,9 +4,9 @@ use Rattle.std.specs.List.{filter}
 use Rattle.std.proofs.lemmas.List.{take_all}
 use Rattle.reh_types.specs.Sets.{numbers, contains, insert, from_list}
 use Rattle.reh_types.proofs.SetLaws.{from_list-nil}
-use Rattle.reh_cluster.proofs.MissingLaws.{missing_more-up, missing_more-down}
-use Rattle.reh_cluster.proofs.ledgers.missing_among.Goals as goal
-use Rattle.reh_cluster.proofs.ledgers.missing_among.Goals.{then-not-contains, else-not-contains}
+use Rattle.reh_audit.proofs.MissingLaws.{missing_more-up, missing_more-down}
+use Rattle.reh_audit.proofs.members.missing_among.Goals as goal
+use Rattle.reh_audit.proofs.members.missing_among.Goals.{then-not-contains, else-not-contains}
 
 pub loop-member-init : goal.loop-member-init
 loop-member-init c = c.new-missing.ensures ∙ sym (from_list-nil numbers)
