@@ -7,7 +7,7 @@ use Rattle.reh_model.specs.Metadata.{Metadata, Fragment, IsMetadata, stop_of}
 use Rattle.reh_model.specs.Cluster.{ledger_at}
 use Rattle.reh_model.proofs.LedgerLaws.{stripe_at-found}
 use Rattle.reh_model.proofs.StripedLaws.{stripe_of-found, stripe_of-outside}
-use Rattle.reh_step.proofs.steps.stripe_at.Goals as goal
+use Rattle.reh_step.proofs.records.stripe_at.Goals as goal
 
 pub returns-then-index-size : goal.returns-then-index-size
 returns-then-index-size c =
