@@ -3,10 +3,9 @@ use Rattle.std.proofs.Common.{◌≡◌, ◌≢◌, ◌<◌, ◌+◌, ◌*◌, �
 use Rattle.std.specs.Prelude.{not, ◌==◌, ◌^◌}
 use Rattle.std.specs.Option.{option_map_or}
 use Rattle.std.specs.Int.{bit_at}
+use Rattle.std.proofs.lemmas.Bool.{and_parts}
 use Rattle.std.proofs.lemmas.Bool.Decides.{nat_tests}
-use Rattle.std.specs.Cmp.{nat_cmp_total, tied_itself, Equal-is, eq_by_cmp_equiv}
-use Rattle.std.specs.Ordering.{nat_cmp, eq_by_cmp, is_eq}
-use Rattle.std.specs.FinMap.{nat_cmp-IsAntisymmetric}
+use Rattle.std.specs.Cmp.{nat_cmp_total, eq_by_cmp_equiv, unsigned_tied}
 use Rattle.reh_types.specs.declared.locks.Lock as locks
 use Rattle.reh_types.specs.declared.changes.Change.TheVariants.{Registration, Metadata, Task, Lock, Word, Clock}
 use Rattle.reh_types.specs.Sets as set
@@ -16,7 +15,7 @@ use Rattle.reh_model.specs.Contents.{Contents, has, is_in_word, one_of, turned}
 use Rattle.reh_model.specs.Cluster.{Cluster, Ledger, holds, ledger_among, words_among}
 use Rattle.reh_model.specs.Places.{Change, Place, at_registration, at_metadata, at_task, at_lock, at_word, at_clock, place_of, order_of, IsLess, IsBefore, change_at, with_member, put, back, IsThere, SameAt}
 use Rattle.reh_model.proofs.LedgerLaws.{KeepsId, KeepsWords}
-use Rattle.reh_model.proofs.TurnedLaws.{has-turned, turned-twice, turned-comm, some_bit}
+use Rattle.reh_model.proofs.TurnedLaws.{one_of-false, has-turned, turned-twice, turned-comm, some_bit}
 use Rattle.reh_model.proofs.ListLaws.{change_at-length, change_at-comm, change_at-apart, read_at-apart, read_at-part, slice_get-apart, slice_get-part, change_at-read, change_at-twice, read_at-put}
 
 -- no list of numbers is less than itself
@@ -85,17 +84,6 @@ place_of-back s (Clock clock) = refl
 
 -- Registrations
 
-tied : ℕ → ℕ → Bool
-tied a b = eq_by_cmp nat_cmp a b
-
-tied-same : (a b : ℕ) → tied a b ≡ true → a ≡ b
-unfolding tied
-tied-same a b tie = nat_cmp-IsAntisymmetric a b ((Equal-is (nat_cmp a b)).0 tie)
-
-tied-itself : (a : ℕ) → tied a a ≡ true
-unfolding tied
-tied-itself a = ap is_eq (tied_itself nat_cmp_total a)
-
 remove_cond : (t c : Bool) → (not t && c) ≡ cond t false c
 remove_cond true c = refl
 remove_cond false c = refl
@@ -104,39 +92,46 @@ insert_cond : (t c : Bool) → (t || c) ≡ cond t true c
 insert_cond true c = refl
 insert_cond false c = refl
 
-contains-with_member : (s : Set numbers) (b q : ℕ) (up : Bool) → set.contains (with_member s b up) q ≡ cond (tied q b) up (set.contains s q)
-unfolding tied
-contains-with_member s b q true = contains-insert s b q ∙ insert_cond (tied q b) (set.contains s q)
-contains-with_member s b q false = contains-remove s b q ∙ ap (λ t. not t && set.contains s q) ((eq_by_cmp_equiv nat_cmp_total).symm b q) ∙ remove_cond (tied q b) (set.contains s q)
+contains-with_member : (s : Set numbers) (b q : ℕ) (up : Bool) → set.contains (with_member s b up) q ≡ cond (nat_eq q b) up (set.contains s q)
+contains-with_member s b q true = contains-insert s b q ∙ insert_cond _ (set.contains s q) ∙ ap (λ t. cond t true (set.contains s q)) (unsigned_tied q b)
+contains-with_member s b q false =
+    contains-remove s b q ∙ remove_cond _ (set.contains s q)
+    ∙ ap (λ t. cond t false (set.contains s q)) ((eq_by_cmp_equiv nat_cmp_total).symm b q ∙ unsigned_tied q b)
 
 with_member-back : (s : Set numbers) (b : ℕ) (up : Bool) → with_member (with_member s b up) b (set.contains s b) ≡ s
 with_member-back s b up =
-    same_set _ _ (λ q. contains-with_member (with_member s b up) b q (set.contains s b) ∙ ap (λ c. cond (tied q b) (set.contains s b) c) (contains-with_member s b q up) ∙ step q)
+    same_set _ _ (λ q. contains-with_member (with_member s b up) b q (set.contains s b) ∙ ap (λ c. cond (nat_eq q b) (set.contains s b) c) (contains-with_member s b q up) ∙ again q)
   where
-    step : (q : ℕ) → cond (tied q b) (set.contains s b) (cond (tied q b) up (set.contains s q)) ≡ set.contains s q
-    step q = elim (tied q b) as (λ t. tied q b ≡ t → cond t (set.contains s b) (cond t up (set.contains s q)) ≡ set.contains s q) [ true ↦ λ tie. ap (set.contains s) (sym (tied-same q b tie)) | false ↦ λ _. refl ] refl
+    again : (q : ℕ) → cond (nat_eq q b) (set.contains s b) (cond (nat_eq q b) up (set.contains s q)) ≡ set.contains s q
+    again q = elim (nat_eq q b) as (λ t. nat_eq q b ≡ t → cond t (set.contains s b) (cond t up (set.contains s q)) ≡ set.contains s q) [
+      | true ↦ λ here. let same : b ≡ q = grind (arith, nat_tests, here) in ap (set.contains s) same
+      | false ↦ λ _. refl
+    ] refl
 
-with_member-apart : (s : Set numbers) (b d : ℕ) (up down : Bool) → b ≢ d → with_member (with_member s b up) d down ≡ with_member (with_member s d down) b up
-with_member-apart s b d up down apart =
+with_member-comm : (s : Set numbers) (b d : ℕ) (up down : Bool) → b ≢ d → with_member (with_member s b up) d down ≡ with_member (with_member s d down) b up
+with_member-comm s b d up down apart =
     same_set _ _ (λ q.
-    contains-with_member (with_member s b up) d q down ∙ ap (λ c. cond (tied q d) down c) (contains-with_member s b q up)
-    ∙ step q
-    ∙ ap (λ c. cond (tied q b) up c) (sym (contains-with_member s d q down)) ∙ sym (contains-with_member (with_member s d down) b q up))
+    contains-with_member (with_member s b up) d q down ∙ ap (λ c. cond (nat_eq q d) down c) (contains-with_member s b q up)
+    ∙ either_first q
+    ∙ ap (λ c. cond (nat_eq q b) up c) (sym (contains-with_member s d q down)) ∙ sym (contains-with_member (with_member s d down) b q up))
   where
-    step : (q : ℕ) → cond (tied q d) down (cond (tied q b) up (set.contains s q)) ≡ cond (tied q b) up (cond (tied q d) down (set.contains s q))
-    step q =
-        elim (tied q d) as (λ t. tied q d ≡ t → cond t down (cond (tied q b) up (set.contains s q)) ≡ cond (tied q b) up (cond t down (set.contains s q))) [
-          | true ↦ λ at_d. elim (tied q b) as (λ u. tied q b ≡ u → down ≡ cond u up down) [ true ↦ λ at_b. absurd (apart (sym (tied-same q b at_b) ∙ tied-same q d at_d)) | false ↦ λ _. refl ] refl
+    either_first : (q : ℕ) → cond (nat_eq q d) down (cond (nat_eq q b) up (set.contains s q)) ≡ cond (nat_eq q b) up (cond (nat_eq q d) down (set.contains s q))
+    either_first q =
+        elim (nat_eq q d) as (λ t. nat_eq q d ≡ t → cond t down (cond (nat_eq q b) up (set.contains s q)) ≡ cond (nat_eq q b) up (cond t down (set.contains s q))) [
+          | true ↦ λ here. let other : nat_eq q b ≡ false = grind (arith, nat_tests, here, apart) in ap (λ t. cond t up down) (sym other)
           | false ↦ λ _. refl
         ] refl
 
+-- the member is in the set as it was put
 pub contains-with_member-here : (s : Set numbers) (b : ℕ) (up : Bool) → set.contains (with_member s b up) b ≡ up
-contains-with_member-here s b up = contains-with_member s b b up ∙ ap (λ t. cond t up (set.contains s b)) (tied-itself b)
+contains-with_member-here s b up =
+    let here : nat_eq b b ≡ true = grind (arith, nat_tests) in
+    contains-with_member s b b up ∙ ap (λ t. cond t up (set.contains s b)) here
 
 contains-with_member-apart : (s : Set numbers) (b d : ℕ) (up : Bool) → b ≢ d → set.contains (with_member s b up) d ≡ set.contains s d
 contains-with_member-apart s b d up apart =
-    contains-with_member s b d up
-    ∙ elim (tied d b) as (λ t. tied d b ≡ t → cond t up (set.contains s d) ≡ set.contains s d) [ true ↦ λ tie. absurd (apart (sym (tied-same d b tie))) | false ↦ λ _. refl ] refl
+    let other : nat_eq d b ≡ false = grind (arith, nat_tests, apart) in
+    contains-with_member s b d up ∙ ap (λ t. cond t up (set.contains s d)) other
 
 -- Two changes
 
@@ -170,7 +165,7 @@ back-back s (Clock clock) = refl
 
 -- changes of different places commute
 pub put-comm : (s : Cluster) (c d : Change) → place_of c ≢ place_of d → put (put s c) d ≡ put (put s d) c
-put-comm s (Registration b up) (Registration d down) h = ap (λ (u : Set numbers). record s { up = u }) (with_member-apart s.up b d up down (λ e. h (ap at_registration e)))
+put-comm s (Registration b up) (Registration d down) h = ap (λ (u : Set numbers). record s { up = u }) (with_member-comm s.up b d up down (λ e. h (ap at_registration e)))
 put-comm s (Metadata i m) (Metadata j n) h = ap (λ (gs : List Ledger). record s { ledgers = gs }) (change_at-apart _ _ s.ledgers i j (λ e. h (ap at_metadata e)))
 put-comm s (Metadata i m) (Task j t) h = ap (λ (gs : List Ledger). record s { ledgers = gs }) (change_at-comm _ _ (λ g. refl) s.ledgers i j)
 put-comm s (Metadata i m) (Lock j k) h = ap (λ (gs : List Ledger). record s { ledgers = gs }) (change_at-comm _ _ (λ g. refl) s.ledgers i j)
@@ -225,24 +220,16 @@ SameAt-trans s t u (at_lock i) h k = h ∙ k
 SameAt-trans s t u (at_word b l n) h k = λ e within. h e within ∙ k e within
 SameAt-trans s t u at_clock h k = h ∙ k
 
-one_of-false : (b : Bool) → b ≡ one_of b false
-one_of-false true = refl
-one_of-false false = refl
-
-both : (a b : Bool) → (a && b) ≡ true → (a ≡ true) × (b ≡ true)
-both true b is = (refl, is)
-both false b is = cc
-
 -- a word that turns turns no entry of another one
 turned-apart : (s : Contents) (b l k bits c m n e : ℕ) → at_word b l k ≢ at_word c m n → e / 64 ≡ n → has s c m e ≡ has (turned s b l k bits) c m e
 turned-apart s b l k bits c m n e apart within =
     let turns : Bool = (nat_eq c b && nat_eq m l) && is_in_word k bits e in
-    one_of-false (has s c m e)
+    sym (one_of-false (has s c m e))
     ∙ elim turns as (λ t. turns ≡ t → one_of (has s c m e) false ≡ one_of (has s c m e) t) [
       | true ↦ λ is.
-          let outer = both (nat_eq c b && nat_eq m l) (is_in_word k bits e) is in
-          let pair = both (nat_eq c b) (nat_eq m l) outer.0 in
-          let word = both (e / 64 == k) _ outer.1 in
+          let outer = and_parts (nat_eq c b && nat_eq m l) (is_in_word k bits e) is in
+          let pair = and_parts (nat_eq c b) (nat_eq m l) outer.0 in
+          let word = and_parts (e / 64 == k) _ outer.1 in
           let first : b ≡ c = grind (arith, nat_tests, pair.0) in
           let second : l ≡ m = grind (arith, nat_tests, pair.1) in
           let third : k ≡ n = grind (arith, nat_tests, word.0, within) in
@@ -278,9 +265,9 @@ word_differs s b l k bits some below same =
     let e : ℕ = 64 * k + bit.at in
     let word : e / 64 ≡ k = omega (arith, bit.below) in
     let place : e % 64 ≡ bit.at = omega (arith, bit.below) in
-    let set : bit_at bits (e % 64) ≡ 1 = ap (bit_at bits) place ∙ bit.is in
+    let turns : bit_at bits (e % 64) ≡ 1 = ap (bit_at bits) place ∙ bit.is in
     let first : nat_eq b b ≡ true = grind (arith, nat_tests) in
     let second : nat_eq l l ≡ true = grind (arith, nat_tests) in
     let third : (e / 64 == k) ≡ true = grind (arith, nat_tests, word) in
-    let fourth : (bit_at bits (e % 64) == 1) ≡ true = ap (λ n. n == 1) set in
+    let fourth : (bit_at bits (e % 64) == 1) ≡ true = ap (λ n. n == 1) turns in
     not_itself (holds s b l e) (same e word ∙ has-turned s.held b l k bits b l e ∙ (λ i. one_of (holds s b l e) ((first i && second i) && (third i && fourth i))))
