@@ -1,5 +1,5 @@
 -- A ledger of a state, found by its place, is changed.
-use Rattle.std.proofs.Common.{◌≡◌, ◌*◌, ◌<◌, ◌∙◌, ℕ, ap, sym, subst, set, get_or, length, List, Option, None, Some, arith}
+use Rattle.std.proofs.Common.{◌≡◌, ◌*◌, ◌<◌, ◌∙◌, ℕ, ap, sym, subst, set, get_or, length, List, Option, None, Some}
 use Rattle.std.specs.Prelude.{◌==◌, position}
 use Rattle.reh_types.specs.declared.moves.Event.{Event}
 use Rattle.reh_types.specs.declared.limits.TheConstants.{ENTRIES_IN_WORD}
@@ -31,7 +31,7 @@ well_formed_after s m t event was is accepted made = subst IsWellFormed (sym mad
 pub rows_after : (s t : Cluster) (event : Event) (held : HeldValue) → HasRows (length s.names) s.ledgers held → t ≡ after s event → HasRows (length s.names) t.ledgers held
 rows_after s t event held rows made = record {
   bookies = rows.bookies;
-  words = λ l. omega (arith, rows.words l, ap (λ (x : Cluster). words_among x.ledgers l) made, words_among-after s event l);
+  words = λ l. rows.words l ∙ sym (ap (λ (x : Cluster). words_among x.ledgers l) made ∙ words_among-after s event l);
 }
 
 -- an entry that some bookie holds lies within the words of its ledger

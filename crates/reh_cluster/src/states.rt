@@ -1,12 +1,12 @@
 // The state of a cluster.
-ghost use Rattle.std.specs.Prelude.{◌≡◌, ℕ, ◌+◌, ◌<◌, ◌≤◌, length, None, All, IfOk, OnOk, OnErr};
+ghost use Rattle.std.specs.Prelude.{◌≡◌, ℕ, ◌+◌, ◌<◌, ◌≤◌, length, None, IfOk, OnOk, OnErr};
 ghost use Rattle.std.specs.List.{find};
 ghost use Rattle.std.specs.Prelude.{◌==◌};
 ghost use Rattle.std.specs.Option.{option_copied};
 ghost use Rattle.reh_types.specs.declared.limits.TheConstants.{CLOCK_END};
 ghost use Rattle.reh_types.specs.Sets as set;
 ghost use Rattle.reh_held.specs.Rows.{is_set};
-ghost use Rattle.reh_model.specs.Contents.{IsHeld, copies_of, count_held, greatest_held};
+ghost use Rattle.reh_model.specs.Contents.{count_held, greatest_held};
 ghost use Rattle.reh_model.specs.Cluster as model;
 ghost use Rattle.reh_model.specs.Step.{refusal_of, after};
 ghost use Rattle.reh_model.specs.WellFormed.{IsWellFormed};
@@ -15,7 +15,7 @@ use crate::ledgers::{Ledger, expire_all, place_of, publish_all};
 use crate::names::Names;
 use reh_held::Held;
 use reh_types::{BookieIx, BookieSet, LedgerId};
-use std::alloc::{AllocError, Global};
+use std::alloc::AllocError;
 use std::marker::Model;
 
 /// The cluster as it stands: names, registered bookies, ledgers in picture order with their tasks and locks, contents, clock and grace.
@@ -77,11 +77,6 @@ impl State {
         })
     }
 
-    /// The allocator that the state stands on.
-    pub fn allocator(&self) -> Global {
-        self.held.allocator()
-    }
-
     /// The names of the bookies.
     pub fn names(&self) -> &Names
         ensures names { result.now ≡ self.now.names }
@@ -126,7 +121,8 @@ impl State {
         self.held.holds(bookie, ledger, entry)
     }
 
-    /// The words of the bookie's row of the ledger: bit e % 64 of word e / 64 says whether it holds entry e.
+    /// The words of the bookie's row of the ledger, as many as the ledger has: bit e % 64 of word e / 64 says whether the
+    /// bookie holds entry e.
     pub fn row(&self, bookie: BookieIx, ledger: LedgerId) -> &[u64]
         ensures { (e : ℕ) → is_set result.now e ≡ model.holds self.now bookie ledger e }
     {
@@ -235,28 +231,6 @@ impl State {
         ensures { self.new ≡ after self.old (Expire worker) }
     {
         expire_all(&mut self.ledgers, worker);
-    }
-
-    /// The bookie holds these entries of the ledger from now on, each of which some bookie holds already. Want of
-    /// memory changes nothing.
-    pub fn hold_all(
-        &mut self,
-        bookie: BookieIx,
-        ledger: LedgerId,
-        entries: &[u32],
-    ) -> Result<(), AllocError>
-        requires bookie { bookie < length self.old.names }
-        requires held { All (λ e. IsHeld self.old.held ledger e) entries.now }
-        ensures ok { OnOk result (self.new ≡ record self.old {
-          held = set.union self.old.held (copies_of bookie ledger entries.now);
-        }) }
-        ensures err { OnErr result (self.new ≡ self.old) }
-    {
-        let turns = self
-            .held
-            .delta_of(self.allocator(), bookie, ledger, entries)?;
-        self.held.toggle_all(bookie, ledger, &turns);
-        Ok(())
     }
 
     /// An accepted swap: the worker's bookie takes that index of the fragment's ensemble, and the ledger's metadata
