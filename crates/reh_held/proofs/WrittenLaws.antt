@@ -42,13 +42,6 @@ insert-same words ledger n some enough =
       found None within = absurd (omega (arith, some))
       found (Some m) within = let kept : max m n ≡ m = omega arith in ap Some kept
 
-pub words-with_room : (held : HeldValue) (ledger entry : ℕ) → words_in (with_room held ledger entry) ledger ≡ max (words_in held ledger) (entry / 64 + 1)
-words-with_room held ledger entry =
-    let itself : nat_eq ledger ledger ≡ true = grind (arith, nat_tests) in
-    ap (λ o. unwrap_or o 0)
-    (get-insert nat_cmp_total held.words ledger (max (words_in held ledger) (entry / 64 + 1)) ledger
-    ∙ ap (λ b. cond b (Some (max (words_in held ledger) (entry / 64 + 1))) (finite.get held.words ledger)) (unsigned_tied ledger ledger ∙ itself))
-
 -- one ledger more at most
 pub len_insert : (words : FinMap nat_cmp ℕ) (ledger width : ℕ) {after : FinMap nat_cmp ℕ} → after ≡ finite.insert words ledger width → finite.len after ≤ finite.len words + 1
 len_insert words ledger width is = subst (λ n. n ≤ finite.len words + 1) (sym (ap finite.len is ∙ len-insert nat_cmp_total words ledger width)) (either (finite.contains_key words ledger) (finite.len words)) where
