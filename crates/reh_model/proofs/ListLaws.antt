@@ -1,6 +1,6 @@
 -- Lists with one element changed.
-use Rattle.std.proofs.Common.{◌≡◌, ◌≢◌, ◌<◌, ℕ, zero, suc, List, [], ◌∷◌, ◌++◌, length, get_or, set, map, refl, sym, ap, subst, ◌∙◌, arith}
-use Rattle.std.specs.Prelude.{Some, slice_get, slice_index, All}
+use Rattle.std.proofs.Common.{◌≡◌, ◌≢◌, ◌<◌, ℕ, zero, suc, List, [], ◌∷◌, ◌++◌, length, get_or, set, refl, sym, ap, subst, ◌∙◌, arith}
+use Rattle.std.specs.Prelude.{Some, slice_get, All}
 use Rattle.std.proofs.lemmas.List.Elements.{All-set}
 use Rattle.std.specs.Option.{option_map}
 use Rattle.reh_model.specs.Places.{change_at, read_at}
@@ -10,17 +10,6 @@ module _ {X : Type 0} where
   change_at-length [] i f = refl
   change_at-length (x ∷ xs) zero f = refl
   change_at-length (x ∷ xs) (suc i) f = ap suc (change_at-length xs i f)
-
-  pub map-change_at : {Y : Type 0} (g : X → Y) (f : X → X) → ((x : X) → g (f x) ≡ g x) → (xs : List X) (i : ℕ) → map g (change_at xs i f) ≡ map g xs
-  map-change_at g f h [] i = refl
-  map-change_at g f h (x ∷ xs) zero = ap (λ y. y ∷ map g xs) (h x)
-  map-change_at g f h (x ∷ xs) (suc i) = ap (λ ys. g x ∷ ys) (map-change_at g f h xs i)
-
-  -- a second change that takes the first back
-  pub change_at-undo : (f g : X → X) → ((x : X) → g (f x) ≡ x) → (xs : List X) (i : ℕ) → change_at (change_at xs i f) i g ≡ xs
-  change_at-undo f g h [] i = refl
-  change_at-undo f g h (x ∷ xs) zero = ap (λ y. y ∷ xs) (h x)
-  change_at-undo f g h (x ∷ xs) (suc i) = ap (λ ys. x ∷ ys) (change_at-undo f g h xs i)
 
   -- changes that commute at each element commute, wherever they are made
   pub change_at-comm : (f g : X → X) → ((x : X) → g (f x) ≡ f (g x)) → (xs : List X) (i j : ℕ) → change_at (change_at xs i f) j g ≡ change_at (change_at xs j g) i f
@@ -133,11 +122,6 @@ module _ {X : Type 0} where
   slice_get-here f [] i = refl
   slice_get-here f (x ∷ xs) zero = refl
   slice_get-here f (x ∷ xs) (suc i) = slice_get-here f xs i
-
-  pub slice_index-map : (size : X → ℕ) (xs : List X) (i : ℕ) (x : X) → i < length xs → x ≡ get_or xs i x → slice_index (map size xs) i ≡ size x
-  slice_index-map size [] i x within is = absurd (omega arith)
-  slice_index-map size (y ∷ ys) zero x within is = ap size (sym is)
-  slice_index-map size (y ∷ ys) (suc i) x within is = slice_index-map size ys i x (omega arith) is
 
   pub All-change_at : (P : X → Type 0) (f : X → X) (xs : List X) (i : ℕ) (x : X) → x ≡ get_or xs i x → All P xs → P (f x) → All P (change_at xs i f)
   All-change_at P f xs i x is all here = subst (All P) (set-read f xs i x is) (All-set P xs i (f x) here all)

@@ -6,6 +6,7 @@ use Rattle.std.specs.List.{filter, list_any, range_with_len}
 use Rattle.std.specs.Ordering.{nat_cmp, eq_by_cmp}
 use Rattle.std.specs.Cmp.{unsigned_tied}
 use Rattle.std.proofs.lemmas.Bool.Decides.{nat_tests}
+use Rattle.std.proofs.lemmas.Bool.{and_parts}
 use Rattle.std.proofs.lemmas.Nat.Bits.{bit_at_lowest, bit_at-suc}
 use Rattle.std.proofs.Math.Nat.{pow-suc}
 use Rattle.reh_types.specs.Sets as set
@@ -25,13 +26,9 @@ any-passing p a n e inside =
       | false ↦ λ _. refl
     ] refl
 
-both_first : (a b : Bool) → (a && b) ≡ true → a ≡ true
-both_first true b is = refl
-both_first false b is = is
-
 pub any-word_entries : (number bits e : ℕ) → list_any (nat_eq e) (word_entries number bits) ≡ is_in_word number bits e
 any-word_entries number bits e = any-passing (is_in_word number bits) (64 * number) 64 e (λ passes.
-    let first : nat_eq (e / 64) number ≡ true = both_first (nat_eq (e / 64) number) _ passes in
+    let first : nat_eq (e / 64) number ≡ true = (and_parts (nat_eq (e / 64) number) _ passes).0 in
     let same : e / 64 ≡ number = grind (arith, nat_tests, first) in
     (omega arith, omega arith))
 
@@ -40,6 +37,10 @@ one_of-and true true = refl
 one_of-and true false = refl
 one_of-and false true = refl
 one_of-and false false = refl
+
+pub one_of-false : (b : Bool) → one_of b false ≡ b
+one_of-false true = refl
+one_of-false false = refl
 
 -- a copy is held after the turn if it was held or turns, and not both
 pub has-turned : (s : Contents) (bookie ledger number bits : ℕ) (b l e : ℕ)
@@ -97,11 +98,11 @@ pub record HasBit (bits width : ℕ) : Type 0 where
 pub some_bit : (bits width : ℕ) → bits ≢ 0 → bits < 2 ^ width → HasBit bits width
 some_bit bits zero some below = absurd (some (omega (arith, below)))
 some_bit bits (suc width) some below = elim (bits % 2 == 1) as (λ b. (bits % 2 == 1) ≡ b → HasBit bits (suc width)) [
-    | true ↦ λ odd. record { at = 0; below = omega arith; is = bit_at_lowest bits ∙ grind (arith, nat_tests, odd) }
-    | false ↦ λ even.
-        let no : bits % 2 ≢ 1 = grind (arith, nat_tests, even) in
-        let half : bits / 2 ≢ 0 = λ e. some (omega (arith, e, no)) in
-        let more : bits < 2 ^ width * 2 = subst (λ n. bits < n) (pow-suc 2 width) below in
-        let rest = some_bit (bits / 2) width half (omega (arith, more)) in
-        record { at = suc rest.at; below = omega (arith, rest.below); is = bit_at-suc bits rest.at ∙ rest.is }
-  ] refl
+  | true ↦ λ odd. record { at = 0; below = omega arith; is = bit_at_lowest bits ∙ grind (arith, nat_tests, odd) }
+  | false ↦ λ even.
+      let no : bits % 2 ≢ 1 = grind (arith, nat_tests, even) in
+      let half : bits / 2 ≢ 0 = λ e. some (omega (arith, e, no)) in
+      let more : bits < 2 ^ width * 2 = subst (λ n. bits < n) (pow-suc 2 width) below in
+      let rest = some_bit (bits / 2) width half (omega (arith, more)) in
+      record { at = suc rest.at; below = omega (arith, rest.below); is = bit_at-suc bits rest.at ∙ rest.is }
+] refl
