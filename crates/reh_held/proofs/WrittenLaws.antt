@@ -1,6 +1,6 @@
 -- What becomes of contents and words as one table is written.
 use Rattle.std.proofs.Common.{◌≡◌, zero, suc, inl, inr, nat_le, ◌-◌, ℕ, ◌+◌, ◌<◌, ◌≤◌, Bool, true, false, cond, ◌&&◌, ◌||◌, List, [], get_or, refl, sym, ap, subst, ◌∙◌, arith, nat_eq}
-use Rattle.std.specs.Prelude.{max, ◌/◌, ◌⊎◌}
+use Rattle.std.specs.Prelude.{max, ◌⊎◌}
 use Rattle.std.specs.List.{list_any, range_with_len}
 use Rattle.std.proofs.lemmas.Bool.{cases_lt}
 use Rattle.reh_types.proofs.BitLaws.{in_range}
@@ -20,7 +20,6 @@ use Rattle.reh_model.proofs.ContentsLaws.{has-insert, has-union-copies_of}
 use Rattle.reh_model.proofs.TurnedLaws.{has-turned}
 use Rattle.reh_held.specs.Rows.{is_set, is_between}
 use Rattle.reh_held.specs.Tables.{TableValue, row_at, IsTable}
-use Rattle.reh_held.specs.Values.{HeldValue, words_in, with_room}
 use Rattle.reh_held.specs.Kept.{table_at, rows_in, contents_of, words_of}
 use Rattle.reh_held.proofs.HeldLaws.{contents_is, words_is, has-contents, get-words}
 

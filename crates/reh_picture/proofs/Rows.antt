@@ -16,7 +16,7 @@ use Rattle.reh_picture.specs.Contents.{Holding, HasEnds, FitsIn}
 abbrev words_found : Option Ledger → ℕ
 words_found found = option_map_or (λ g. g.words) found 0
 
--- where ids differ, a ledger is not among those before it
+-- where ids differ, the ledgers before one have no words of its id
 words_among-before : (gs : List Ledger) → IsDistinct nat_eq (map (λ g. g.id) gs) → (k : ℕ) (d : Ledger) → k < length gs → words_among (take k gs) (get_or gs k d).id ≡ 0
 unfolding IsDistinct
 words_among-before [] distinct k d within = absurd (omega arith)
@@ -25,7 +25,7 @@ words_among-before (g ∷ gs) distinct (suc k) d within =
     ap (λ b. words_found (cond b (Some g) (ledger_among (take k gs) (get_or gs k d).id))) (apart_at g.id gs k d (omega arith) distinct.0)
     ∙ words_among-before gs distinct.1 k d (omega arith)
 
--- with it, they have its words too
+-- and one more that is added has its words, and the others have theirs
 words_among-next : (gs : List Ledger) → IsDistinct nat_eq (map (λ g. g.id) gs) → (k : ℕ) (d : Ledger) → k < length gs → (l : ℕ)
     → words_among (take (suc k) gs) l ≡ cond (nat_eq l (get_or gs k d).id) (get_or gs k d).words (words_among (take k gs) l)
 unfolding IsDistinct
