@@ -28,7 +28,7 @@ pub fn decide(alloc: Global, state: &State, event: &Event) -> Result<Changes, Re
 /// The state after the event, or the first refusal that applies to it; the state that it is made on stays as it was.
 ///
 /// Want of memory comes after all other refusals: it is answered only where the event is accepted. The new
-/// state stands on the old one's allocator, and is made on a copy of it.
+/// state is a copy, on the old one's allocator, with which the event's record is exchanged.
 /// The events are those of BookKeeper's AutoRecovery: its auditor publishes tasks, and its replication
 /// workers lock them, give their locks back, end them, or lose them with their sessions. A worker copies a
 /// fragment's entries to its own bookie, and then puts that bookie into the fragment's ensemble.
