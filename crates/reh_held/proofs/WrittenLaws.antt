@@ -15,15 +15,14 @@ use Rattle.std.specs.FinMap as finite
 use Rattle.std.specs.FinMap.{FinMap, get-insert, len-insert, same_map, nat_cmp-IsAntisymmetric}
 use Rattle.std.proofs.lemmas.Bool.Decides.{nat_tests}
 use Rattle.reh_types.specs.Sets as set
-use Rattle.reh_model.specs.Contents.{Contents, has, copies_of}
+use Rattle.reh_model.specs.Contents.{Contents, has, copies_of, is_in_word, turned, one_of}
 use Rattle.reh_model.proofs.ContentsLaws.{has-insert, has-union-copies_of}
-use Rattle.reh_held.specs.Rows.{is_set, is_between, is_in_word, one_of}
+use Rattle.reh_model.proofs.TurnedLaws.{has-turned}
+use Rattle.reh_held.specs.Rows.{is_set, is_between}
 use Rattle.reh_held.specs.Tables.{TableValue, row_at, IsTable}
 use Rattle.reh_held.specs.Values.{HeldValue, words_in, with_room}
 use Rattle.reh_held.specs.Kept.{table_at, rows_in, contents_of, words_of}
-use Rattle.reh_held.specs.Turns.{turned}
 use Rattle.reh_held.proofs.HeldLaws.{contents_is, words_is, has-contents, get-words}
-use Rattle.reh_held.proofs.TurnedLaws.{has-turned}
 
 -- after this table is written for the ledger
 abbrev pub IsWritten : List (ℕ × TableValue) → List (ℕ × TableValue) → ℕ → TableValue → Type 0

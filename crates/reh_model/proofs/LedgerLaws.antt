@@ -1,11 +1,13 @@
 -- Ledgers in picture order: finding the ledger of an id, and changing it.
 use Rattle.std.proofs.Common.{◌≡◌, ℕ, zero, suc, true, false, cond, List, [], ◌∷◌, map, Option, None, Some, refl, sym, ap, ◌∙◌, arith, nat_eq, is_some, get_or, set, ◌<◌, ◌≤◌, nat_lt}
-use Rattle.std.specs.Prelude.{◌==◌, ◌+◌, if◌then◌else◌, sum_by, length, position}
+use Rattle.std.specs.Prelude.{◌==◌, ◌+◌, if◌then◌else◌, sum_by, length, position, slice_get}
 use Rattle.std.specs.List.{IsDistinct, AllByRecursion, find, position_or_len}
-use Rattle.std.specs.Option.{option_map, option_map_or, option_and_then}
+use Rattle.std.specs.Option.{IsSome, option_map, option_map_or, option_and_then}
 use Rattle.std.proofs.lemmas.Bool.Decides.{nat_tests}
 use Rattle.std.proofs.lemmas.List.Sums.{sum_by-cons, fails_before_first}
+use Rattle.std.proofs.lemmas.List.Folds.{find_at}
 use Rattle.std.proofs.lemmas.List.Quantifiers.{position-Some}
+use Rattle.std.proofs.lemmas.Option.{slice_get_within}
 use Rattle.reh_model.specs.Metadata.{stop_of, stripe_of}
 use Rattle.reh_model.specs.Cluster.{Cluster, Ledger, ledger_among, ledger_at, words_among, stop_at, stripe_at, change_ledger}
 
@@ -157,3 +159,21 @@ change_ledger-absent s l change none =
           | true ↦ λ _ none. cc
           | false ↦ λ past _. grind (arith, nat_tests)
         ] refl none
+
+-- The place of an id
+
+-- a ledger that is found has a place
+pub place-found : (l : ℕ) (gs : List Ledger) (g : Ledger) → find (λ g. g.id == l) gs ≡ Some g → IsSome (position (λ g. g.id == l) gs)
+place-found l gs g found =
+    let k : ℕ = position_or_len (λ g. g.id == l) gs in
+    let within : k < length gs = slice_get_within gs k g (sym (find_at (λ g. g.id == l) gs) ∙ found) in
+    let there : nat_lt k (length gs) ≡ true = grind (arith, nat_tests) in
+    ap (λ b. is_some (cond b (Some k) None)) there
+
+-- and stands there
+pub found_there : (l k : ℕ) (gs : List Ledger) (g : Ledger) → position (λ g. g.id == l) gs ≡ Some k → find (λ g. g.id == l) gs ≡ Some g → slice_get gs k ≡ Some g
+found_there l k gs g is found =
+    let first : ℕ = position_or_len (λ g. g.id == l) gs in
+    let same : first ≡ k =
+    elim (nat_lt first (length gs)) as (λ b. cond b (Some first) None ≡ Some k → first ≡ k) [ true ↦ λ is. cc | false ↦ λ none. cc ] is in
+    ap (λ n. slice_get gs n) (sym same) ∙ sym (find_at (λ g. g.id == l) gs) ∙ found

@@ -4,9 +4,14 @@ pub mod MetadataLaws
 pub mod MemberLaws
 pub mod WriteSetLaws
 pub mod ContentsLaws
+pub mod TurnedLaws
 pub mod StripedLaws
 pub mod SessionLaws
 pub mod LedgerLaws
+pub mod ListLaws
+pub mod PlaceLaws
+pub mod ExchangeLaws
+pub mod DeltaLaws
 pub mod AuditLaws
 pub mod Examples
 pub mod TaskExamples

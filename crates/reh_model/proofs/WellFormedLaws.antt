@@ -232,7 +232,7 @@ named-remove up k n named b is = named b (and_second (not (eq_by_cmp nat_cmp k b
 -- Each accepted event keeps a cluster well-formed.
 pub IsWellFormed-after : (s : Cluster) (event : Event) → IsWellFormed s → refusal_of s event ≡ None → IsWellFormed (after s event)
 IsWellFormed-after s (Lose b) was none = IsWellFormed-up s (remove s.up b) was (named-remove s.up b (length s.names) was.up)
-IsWellFormed-after s (Join b) was none = IsWellFormed-up s (insert s.up b) was (named-insert s.up b (length s.names) (accepted_join s b none) was.up)
+IsWellFormed-after s (Join b) was none = IsWellFormed-up s (insert s.up b) was (named-insert s.up b (length s.names) (accepted_join s b none).0 was.up)
 IsWellFormed-after s Audit was none = IsWellFormed-ledgers s (audited_ledger s.up) was (KeepsId-audited_ledger s.up) (KeepsWords-audited_ledger s.up) (λ g _ is. IsLedger-audited_ledger s g is)
 IsWellFormed-after s (Acquire w l) was none = IsWellFormed-change_ledger s l (locked_ledger w) was (λ g. refl) (λ g. refl) (λ g found is.
     let may = accepted_acquire s w l g found none in
@@ -240,7 +240,7 @@ IsWellFormed-after s (Acquire w l) was none = IsWellFormed-change_ledger s l (lo
 IsWellFormed-after s (Release w l) was none = IsWellFormed-change_ledger s l unlocked_ledger was (λ g. refl) (λ g. refl) (λ g _ is. IsLedger-unlocked_ledger s g is)
 IsWellFormed-after s (Finish w l) was none = IsWellFormed-change_ledger s l finished_ledger was (λ g. refl) (λ g. refl) (λ g _ is. IsLedger-finished_ledger s g is)
 IsWellFormed-after s (Expire w) was none = IsWellFormed-ledgers s (expired_ledger w) was (KeepsId-expired_ledger w) (KeepsWords-expired_ledger w) (λ g _ is. IsLedger-expired_ledger s w g is)
-IsWellFormed-after s (Tick n) was none = IsWellFormed-clock s (s.clock + n) was (omega arith) (accepted_tick s n none)
+IsWellFormed-after s (Tick n) was none = IsWellFormed-clock s (s.clock + n) was (omega arith) (accepted_tick s n none).1
 IsWellFormed-after s (Copy w l f i v) was none =
     let may = accepted_copy s w l f i v none in
     IsWellFormed-copied_all s w l (stripe_at s l f i) was may.named may.held

@@ -1,0 +1,273 @@
+-- What two changes of a cluster make of each other.
+use Rattle.std.proofs.Common.{◌≡◌, ◌≢◌, ◌<◌, ◌+◌, ◌*◌, ◌/◌, ◌%◌, ℕ, zero, suc, Bool, true, false, cond, ◌&&◌, ◌||◌, List, [], ◌∷◌, length, Option, Some, refl, sym, ap, subst, ◌∙◌, arith, inl, inr, nat_eq}
+use Rattle.std.specs.Prelude.{not, ◌==◌, ◌^◌}
+use Rattle.std.specs.Option.{option_map_or}
+use Rattle.std.specs.Int.{bit_at}
+use Rattle.std.proofs.lemmas.Bool.{and_parts}
+use Rattle.std.proofs.lemmas.Bool.Decides.{nat_tests}
+use Rattle.std.specs.Cmp.{nat_cmp_total, eq_by_cmp_equiv, unsigned_tied}
+use Rattle.reh_types.specs.declared.locks.Lock as locks
+use Rattle.reh_types.specs.declared.changes.Change.TheVariants.{Registration, Metadata, Task, Lock, Word, Clock}
+use Rattle.reh_types.specs.Sets as set
+use Rattle.reh_types.specs.Sets.{Set, numbers, contains-insert, contains-remove, same_set}
+use Rattle.reh_model.specs.Metadata as meta
+use Rattle.reh_model.specs.Contents.{Contents, has, is_in_word, one_of, turned}
+use Rattle.reh_model.specs.Cluster.{Cluster, Ledger, holds, ledger_among, words_among}
+use Rattle.reh_model.specs.Places.{Change, Place, at_registration, at_metadata, at_task, at_lock, at_word, at_clock, place_of, order_of, IsLess, IsBefore, change_at, with_member, put, back, IsThere, SameAt}
+use Rattle.reh_model.proofs.LedgerLaws.{KeepsId, KeepsWords}
+use Rattle.reh_model.proofs.TurnedLaws.{one_of-false, has-turned, turned-twice, turned-comm, some_bit}
+use Rattle.reh_model.proofs.ListLaws.{change_at-length, change_at-comm, change_at-apart, read_at-apart, read_at-part, slice_get-apart, slice_get-part, change_at-read, change_at-twice, read_at-put}
+
+-- no list of numbers is less than itself
+not_less : (ms : List ℕ) → IsLess ms ms → ⊥
+not_less [] h = h
+not_less (m ∷ ms) h = elim h [ inl less ↦ absurd (omega (arith, less)) | inr later ↦ not_less ms later.1 ]
+
+-- a place that is before another one is not the other one
+pub IsBefore-different : (p q : Place) → IsBefore p q → p ≢ q
+IsBefore-different p q before same = not_less (order_of p) (subst (λ r. IsLess (order_of p) (order_of r)) (sym same) before)
+
+-- a change keeps the names
+pub put-names : (s : Cluster) (c : Change) → (put s c).names ≡ s.names
+put-names s (Registration b up) = refl
+put-names s (Metadata i metadata) = refl
+put-names s (Task i task) = refl
+put-names s (Lock i lock) = refl
+put-names s (Word b l k bits) = refl
+put-names s (Clock clock) = refl
+
+-- and as many ledgers
+pub put-count : (s : Cluster) (c : Change) → length (put s c).ledgers ≡ length s.ledgers
+put-count s (Metadata i metadata) = change_at-length s.ledgers i _
+put-count s (Task i task) = change_at-length s.ledgers i _
+put-count s (Lock i lock) = change_at-length s.ledgers i _
+put-count s c = refl
+
+abbrev words_of : Option Ledger → ℕ
+words_of g = option_map_or (λ g. g.words) g 0
+
+words_among-change_at : (change : Ledger → Ledger) → KeepsId change → KeepsWords change → (gs : List Ledger) (i l : ℕ) → words_among (change_at gs i change) l ≡ words_among gs l
+words_among-change_at change id words [] i l = refl
+words_among-change_at change id words (g ∷ gs) zero l =
+    ap (λ (k : ℕ). words_of (cond (k == l) (Some (change g)) (ledger_among gs l))) (id g)
+    ∙ elim (g.id == l) as (λ b. words_of (cond b (Some (change g)) (ledger_among gs l)) ≡ words_of (cond b (Some g) (ledger_among gs l))) [ true ↦ words g | false ↦ refl ]
+words_among-change_at change id words (g ∷ gs) (suc i) l =
+    elim (g.id == l) as (λ b. words_of (cond b (Some g) (ledger_among (change_at gs i change) l)) ≡ words_of (cond b (Some g) (ledger_among gs l))) [
+      | true ↦ refl
+      | false ↦ words_among-change_at change id words gs i l
+    ]
+
+-- with as many words each
+pub words_among-put : (s : Cluster) (c : Change) (l : ℕ) → words_among (put s c).ledgers l ≡ words_among s.ledgers l
+words_among-put s (Metadata i metadata) l = words_among-change_at _ (λ g. refl) (λ g. refl) s.ledgers i l
+words_among-put s (Task i task) l = words_among-change_at _ (λ g. refl) (λ g. refl) s.ledgers i l
+words_among-put s (Lock i lock) l = words_among-change_at _ (λ g. refl) (λ g. refl) s.ledgers i l
+words_among-put s c l = refl
+
+-- so the places stay that there are
+pub IsThere-put : (s : Cluster) (c d : Change) → IsThere s d → IsThere (put s c) d
+IsThere-put s c (Registration b up) h = subst (λ names. b < length names) (sym (put-names s c)) h
+IsThere-put s c (Metadata i metadata) h = subst (λ n. i < n) (sym (put-count s c)) h
+IsThere-put s c (Task i task) h = subst (λ n. i < n) (sym (put-count s c)) h
+IsThere-put s c (Lock i lock) h = subst (λ n. i < n) (sym (put-count s c)) h
+IsThere-put s c (Word b l k bits) h = (subst (λ names. b < length names) (sym (put-names s c)) h.0, subst (λ n. k < n) (sym (words_among-put s c l)) h.1)
+IsThere-put s c (Clock clock) h = h
+
+-- a change leaves its own place
+pub place_of-back : (s : Cluster) (c : Change) → place_of (back s c) ≡ place_of c
+place_of-back s (Registration b up) = refl
+place_of-back s (Metadata i metadata) = refl
+place_of-back s (Task i task) = refl
+place_of-back s (Lock i lock) = refl
+place_of-back s (Word b l k bits) = refl
+place_of-back s (Clock clock) = refl
+
+-- Registrations
+
+remove_cond : (t c : Bool) → (not t && c) ≡ cond t false c
+remove_cond true c = refl
+remove_cond false c = refl
+
+insert_cond : (t c : Bool) → (t || c) ≡ cond t true c
+insert_cond true c = refl
+insert_cond false c = refl
+
+contains-with_member : (s : Set numbers) (b q : ℕ) (up : Bool) → set.contains (with_member s b up) q ≡ cond (nat_eq q b) up (set.contains s q)
+contains-with_member s b q true = contains-insert s b q ∙ insert_cond _ (set.contains s q) ∙ ap (λ t. cond t true (set.contains s q)) (unsigned_tied q b)
+contains-with_member s b q false =
+    contains-remove s b q ∙ remove_cond _ (set.contains s q)
+    ∙ ap (λ t. cond t false (set.contains s q)) ((eq_by_cmp_equiv nat_cmp_total).symm b q ∙ unsigned_tied q b)
+
+with_member-back : (s : Set numbers) (b : ℕ) (up : Bool) → with_member (with_member s b up) b (set.contains s b) ≡ s
+with_member-back s b up =
+    same_set _ _ (λ q. contains-with_member (with_member s b up) b q (set.contains s b) ∙ ap (λ c. cond (nat_eq q b) (set.contains s b) c) (contains-with_member s b q up) ∙ again q)
+  where
+    again : (q : ℕ) → cond (nat_eq q b) (set.contains s b) (cond (nat_eq q b) up (set.contains s q)) ≡ set.contains s q
+    again q = elim (nat_eq q b) as (λ t. nat_eq q b ≡ t → cond t (set.contains s b) (cond t up (set.contains s q)) ≡ set.contains s q) [
+      | true ↦ λ here. let same : b ≡ q = grind (arith, nat_tests, here) in ap (set.contains s) same
+      | false ↦ λ _. refl
+    ] refl
+
+with_member-comm : (s : Set numbers) (b d : ℕ) (up down : Bool) → b ≢ d → with_member (with_member s b up) d down ≡ with_member (with_member s d down) b up
+with_member-comm s b d up down apart =
+    same_set _ _ (λ q.
+    contains-with_member (with_member s b up) d q down ∙ ap (λ c. cond (nat_eq q d) down c) (contains-with_member s b q up)
+    ∙ either_first q
+    ∙ ap (λ c. cond (nat_eq q b) up c) (sym (contains-with_member s d q down)) ∙ sym (contains-with_member (with_member s d down) b q up))
+  where
+    either_first : (q : ℕ) → cond (nat_eq q d) down (cond (nat_eq q b) up (set.contains s q)) ≡ cond (nat_eq q b) up (cond (nat_eq q d) down (set.contains s q))
+    either_first q =
+        elim (nat_eq q d) as (λ t. nat_eq q d ≡ t → cond t down (cond (nat_eq q b) up (set.contains s q)) ≡ cond (nat_eq q b) up (cond t down (set.contains s q))) [
+          | true ↦ λ here. let other : nat_eq q b ≡ false = grind (arith, nat_tests, here, apart) in ap (λ t. cond t up down) (sym other)
+          | false ↦ λ _. refl
+        ] refl
+
+-- the member is in the set as it was put
+pub contains-with_member-here : (s : Set numbers) (b : ℕ) (up : Bool) → set.contains (with_member s b up) b ≡ up
+contains-with_member-here s b up =
+    let here : nat_eq b b ≡ true = grind (arith, nat_tests) in
+    contains-with_member s b b up ∙ ap (λ t. cond t up (set.contains s b)) here
+
+contains-with_member-apart : (s : Set numbers) (b d : ℕ) (up : Bool) → b ≢ d → set.contains (with_member s b up) d ≡ set.contains s d
+contains-with_member-apart s b d up apart =
+    let other : nat_eq d b ≡ false = grind (arith, nat_tests, apart) in
+    contains-with_member s b d up ∙ ap (λ t. cond t up (set.contains s d)) other
+
+-- Two changes
+
+-- what a change leaves takes it back
+pub put-back : (s : Cluster) (c : Change) → put (put s c) (back s c) ≡ s
+put-back s (Registration b up) = ap (λ (u : Set numbers). record s { up = u }) (with_member-back s.up b up)
+put-back s (Metadata i metadata) =
+    ap (λ (gs : List Ledger). record s { ledgers = gs })
+    (change_at-twice (λ (g : Ledger). g.metadata) (λ (m : meta.Metadata) (g : Ledger). record g { metadata = m }) (λ m n g. refl) _ metadata s.ledgers i
+    ∙ change_at-read (λ (g : Ledger). g.metadata) (λ (m : meta.Metadata) (g : Ledger). record g { metadata = m }) (λ g. refl) s.ledgers i metadata)
+put-back s (Task i task) =
+    ap (λ (gs : List Ledger). record s { ledgers = gs })
+    (change_at-twice (λ (g : Ledger). g.task) (λ (t : Option (Set numbers)) (g : Ledger). record g { task = t }) (λ t u g. refl) _ task s.ledgers i
+    ∙ change_at-read (λ (g : Ledger). g.task) (λ (t : Option (Set numbers)) (g : Ledger). record g { task = t }) (λ g. refl) s.ledgers i task)
+put-back s (Lock i lock) =
+    ap (λ (gs : List Ledger). record s { ledgers = gs })
+    (change_at-twice (λ (g : Ledger). g.lock) (λ (k : Option locks.Lock) (g : Ledger). record g { lock = k }) (λ k o g. refl) _ lock s.ledgers i
+    ∙ change_at-read (λ (g : Ledger). g.lock) (λ (k : Option locks.Lock) (g : Ledger). record g { lock = k }) (λ g. refl) s.ledgers i lock)
+put-back s (Word b l k bits) = ap (λ (held : Contents). record s { held = held }) (turned-twice s.held b l k bits)
+put-back s (Clock clock) = refl
+
+-- and then leaves the change again
+pub back-back : (s : Cluster) (c : Change) → back (put s c) (back s c) ≡ c
+back-back s (Registration b up) = ap (Registration b) (contains-with_member-here s.up b up)
+back-back s (Metadata i metadata) =
+    ap (Metadata i) (read_at-put (λ (g : Ledger). g.metadata) (λ (m : meta.Metadata) (g : Ledger). record g { metadata = m }) (λ m g. refl) metadata s.ledgers i)
+back-back s (Task i task) = ap (Task i) (read_at-put (λ (g : Ledger). g.task) (λ (t : Option (Set numbers)) (g : Ledger). record g { task = t }) (λ t g. refl) task s.ledgers i)
+back-back s (Lock i lock) = ap (Lock i) (read_at-put (λ (g : Ledger). g.lock) (λ (k : Option locks.Lock) (g : Ledger). record g { lock = k }) (λ k g. refl) lock s.ledgers i)
+back-back s (Word b l k bits) = refl
+back-back s (Clock clock) = refl
+
+-- changes of different places commute
+pub put-comm : (s : Cluster) (c d : Change) → place_of c ≢ place_of d → put (put s c) d ≡ put (put s d) c
+put-comm s (Registration b up) (Registration d down) h = ap (λ (u : Set numbers). record s { up = u }) (with_member-comm s.up b d up down (λ e. h (ap at_registration e)))
+put-comm s (Metadata i m) (Metadata j n) h = ap (λ (gs : List Ledger). record s { ledgers = gs }) (change_at-apart _ _ s.ledgers i j (λ e. h (ap at_metadata e)))
+put-comm s (Metadata i m) (Task j t) h = ap (λ (gs : List Ledger). record s { ledgers = gs }) (change_at-comm _ _ (λ g. refl) s.ledgers i j)
+put-comm s (Metadata i m) (Lock j k) h = ap (λ (gs : List Ledger). record s { ledgers = gs }) (change_at-comm _ _ (λ g. refl) s.ledgers i j)
+put-comm s (Task i t) (Metadata j m) h = ap (λ (gs : List Ledger). record s { ledgers = gs }) (change_at-comm _ _ (λ g. refl) s.ledgers i j)
+put-comm s (Task i t) (Task j u) h = ap (λ (gs : List Ledger). record s { ledgers = gs }) (change_at-apart _ _ s.ledgers i j (λ e. h (ap at_task e)))
+put-comm s (Task i t) (Lock j k) h = ap (λ (gs : List Ledger). record s { ledgers = gs }) (change_at-comm _ _ (λ g. refl) s.ledgers i j)
+put-comm s (Lock i k) (Metadata j m) h = ap (λ (gs : List Ledger). record s { ledgers = gs }) (change_at-comm _ _ (λ g. refl) s.ledgers i j)
+put-comm s (Lock i k) (Task j t) h = ap (λ (gs : List Ledger). record s { ledgers = gs }) (change_at-comm _ _ (λ g. refl) s.ledgers i j)
+put-comm s (Lock i k) (Lock j o) h = ap (λ (gs : List Ledger). record s { ledgers = gs }) (change_at-apart _ _ s.ledgers i j (λ e. h (ap at_lock e)))
+put-comm s (Word b l k x) (Word c m n y) h = ap (λ (held : Contents). record s { held = held }) (turned-comm s.held b l k x c m n y)
+put-comm s (Clock clock) (Clock other) h = absurd (h refl)
+put-comm s c d h = refl
+
+-- a change leaves what another one leaves
+pub back-put : (s : Cluster) (c d : Change) → place_of c ≢ place_of d → back (put s c) d ≡ back s d
+back-put s (Registration b up) (Registration d down) h = ap (Registration d) (contains-with_member-apart s.up b d up (λ e. h (ap at_registration e)))
+back-put s (Metadata i m) (Metadata j n) h = ap (Metadata j) (read_at-apart (λ (g : Ledger). g.metadata) _ s.ledgers i j n (λ e. h (ap at_metadata e)))
+back-put s (Task i t) (Task j u) h = ap (Task j) (read_at-apart (λ (g : Ledger). g.task) _ s.ledgers i j u (λ e. h (ap at_task e)))
+back-put s (Lock i k) (Lock j o) h = ap (Lock j) (read_at-apart (λ (g : Ledger). g.lock) _ s.ledgers i j o (λ e. h (ap at_lock e)))
+back-put s (Task i t) (Metadata j n) h = ap (Metadata j) (read_at-part (λ (g : Ledger). g.metadata) _ (λ g. refl) s.ledgers i j n)
+back-put s (Lock i k) (Metadata j n) h = ap (Metadata j) (read_at-part (λ (g : Ledger). g.metadata) _ (λ g. refl) s.ledgers i j n)
+back-put s (Metadata i m) (Task j u) h = ap (Task j) (read_at-part (λ (g : Ledger). g.task) _ (λ g. refl) s.ledgers i j u)
+back-put s (Lock i k) (Task j u) h = ap (Task j) (read_at-part (λ (g : Ledger). g.task) _ (λ g. refl) s.ledgers i j u)
+back-put s (Metadata i m) (Lock j o) h = ap (Lock j) (read_at-part (λ (g : Ledger). g.lock) _ (λ g. refl) s.ledgers i j o)
+back-put s (Task i t) (Lock j o) h = ap (Lock j) (read_at-part (λ (g : Ledger). g.lock) _ (λ g. refl) s.ledgers i j o)
+back-put s (Clock clock) (Clock other) h = absurd (h refl)
+back-put s c d h = refl
+
+-- Differences
+
+pub SameAt-refl : (s : Cluster) (p : Place) → SameAt s s p
+SameAt-refl s (at_registration b) = refl
+SameAt-refl s (at_metadata i) = refl
+SameAt-refl s (at_task i) = refl
+SameAt-refl s (at_lock i) = refl
+SameAt-refl s (at_word b l k) = λ e within. refl
+SameAt-refl s at_clock = refl
+
+pub SameAt-sym : (s t : Cluster) (p : Place) → SameAt s t p → SameAt t s p
+SameAt-sym s t (at_registration b) h = sym h
+SameAt-sym s t (at_metadata i) h = sym h
+SameAt-sym s t (at_task i) h = sym h
+SameAt-sym s t (at_lock i) h = sym h
+SameAt-sym s t (at_word b l k) h = λ e within. sym (h e within)
+SameAt-sym s t at_clock h = sym h
+
+pub SameAt-trans : (s t u : Cluster) (p : Place) → SameAt s t p → SameAt t u p → SameAt s u p
+SameAt-trans s t u (at_registration b) h k = h ∙ k
+SameAt-trans s t u (at_metadata i) h k = h ∙ k
+SameAt-trans s t u (at_task i) h k = h ∙ k
+SameAt-trans s t u (at_lock i) h k = h ∙ k
+SameAt-trans s t u (at_word b l n) h k = λ e within. h e within ∙ k e within
+SameAt-trans s t u at_clock h k = h ∙ k
+
+-- a word that turns turns no entry of another one
+turned-apart : (s : Contents) (b l k bits c m n e : ℕ) → at_word b l k ≢ at_word c m n → e / 64 ≡ n → has s c m e ≡ has (turned s b l k bits) c m e
+turned-apart s b l k bits c m n e apart within =
+    let turns : Bool = (nat_eq c b && nat_eq m l) && is_in_word k bits e in
+    sym (one_of-false (has s c m e))
+    ∙ elim turns as (λ t. turns ≡ t → one_of (has s c m e) false ≡ one_of (has s c m e) t) [
+      | true ↦ λ is.
+          let outer = and_parts (nat_eq c b && nat_eq m l) (is_in_word k bits e) is in
+          let pair = and_parts (nat_eq c b) (nat_eq m l) outer.0 in
+          let word = and_parts (e / 64 == k) _ outer.1 in
+          let first : b ≡ c = grind (arith, nat_tests, pair.0) in
+          let second : l ≡ m = grind (arith, nat_tests, pair.1) in
+          let third : k ≡ n = grind (arith, nat_tests, word.0, within) in
+          absurd (apart (λ i. at_word (first i) (second i) (third i)))
+      | false ↦ λ _. refl
+    ] refl
+    ∙ sym (has-turned s b l k bits c m e)
+
+-- a change leaves what stands at other places
+pub SameAt-put : (s : Cluster) (c : Change) (p : Place) → place_of c ≢ p → SameAt s (put s c) p
+SameAt-put s (Registration b up) (at_registration d) h = sym (contains-with_member-apart s.up b d up (λ e. h (ap at_registration e)))
+SameAt-put s (Metadata i m) (at_metadata j) h = sym (slice_get-apart (λ (g : Ledger). g.metadata) _ s.ledgers i j (λ e. h (ap at_metadata e)))
+SameAt-put s (Task i t) (at_task j) h = sym (slice_get-apart (λ (g : Ledger). g.task) _ s.ledgers i j (λ e. h (ap at_task e)))
+SameAt-put s (Lock i k) (at_lock j) h = sym (slice_get-apart (λ (g : Ledger). g.lock) _ s.ledgers i j (λ e. h (ap at_lock e)))
+SameAt-put s (Task i t) (at_metadata j) h = sym (slice_get-part (λ (g : Ledger). g.metadata) _ (λ g. refl) s.ledgers i j)
+SameAt-put s (Lock i k) (at_metadata j) h = sym (slice_get-part (λ (g : Ledger). g.metadata) _ (λ g. refl) s.ledgers i j)
+SameAt-put s (Metadata i m) (at_task j) h = sym (slice_get-part (λ (g : Ledger). g.task) _ (λ g. refl) s.ledgers i j)
+SameAt-put s (Lock i k) (at_task j) h = sym (slice_get-part (λ (g : Ledger). g.task) _ (λ g. refl) s.ledgers i j)
+SameAt-put s (Metadata i m) (at_lock j) h = sym (slice_get-part (λ (g : Ledger). g.lock) _ (λ g. refl) s.ledgers i j)
+SameAt-put s (Task i t) (at_lock j) h = sym (slice_get-part (λ (g : Ledger). g.lock) _ (λ g. refl) s.ledgers i j)
+SameAt-put s (Word b l k bits) (at_word c m n) h = λ e within. turned-apart s.held b l k bits c m n e h within
+SameAt-put s (Clock clock) at_clock h = absurd (h refl)
+SameAt-put s c p h = SameAt-refl s p
+
+not_itself : (b : Bool) → b ≢ one_of b true
+not_itself true e = cc
+not_itself false e = cc
+
+-- where some bits of a word turn, the word differs
+pub word_differs : (s : Cluster) (b l k bits : ℕ) → bits ≢ 0 → bits < 2 ^ 64 → ¬ SameAt s (put s (Word b l k bits)) (at_word b l k)
+word_differs s b l k bits some below same =
+    let bit = some_bit bits 64 some below in
+    let e : ℕ = 64 * k + bit.at in
+    let word : e / 64 ≡ k = omega (arith, bit.below) in
+    let place : e % 64 ≡ bit.at = omega (arith, bit.below) in
+    let turns : bit_at bits (e % 64) ≡ 1 = ap (bit_at bits) place ∙ bit.is in
+    let first : nat_eq b b ≡ true = grind (arith, nat_tests) in
+    let second : nat_eq l l ≡ true = grind (arith, nat_tests) in
+    let third : (e / 64 == k) ≡ true = grind (arith, nat_tests, word) in
+    let fourth : (bit_at bits (e % 64) == 1) ≡ true = ap (λ n. n == 1) turns in
+    not_itself (holds s b l e) (same e word ∙ has-turned s.held b l k bits b l e ∙ (λ i. one_of (holds s b l e) ((first i && second i) && (third i && fourth i))))
