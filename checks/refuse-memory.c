@@ -1,0 +1,32 @@
+/* Refuses one request for memory of a program that this library is loaded into: the one whose number, counted from 1,
+   the environment's REFUSE names. The file that the environment's REFUSED names is made then. */
+typedef __SIZE_TYPE__ size_t;
+extern void *dlsym(void *library, const char *name);
+extern char *getenv(const char *name);
+extern int atoi(const char *text);
+extern int creat(const char *file, unsigned mode);
+
+static int is_refused(void) {
+    static int count;
+    const char *number = getenv("REFUSE");
+    count += 1;
+    if (!number || count != atoi(number))
+        return 0;
+    const char *file = getenv("REFUSED");
+    if (file)
+        creat(file, 0600);
+    return 1;
+}
+
+/* The C library's own function of that name. */
+static void *next(const char *name) {
+    return dlsym((void *) -1L, name);
+}
+
+void *malloc(size_t size) {
+    return is_refused() ? 0 : ((void *(*)(size_t)) next("malloc"))(size);
+}
+
+void *realloc(void *block, size_t size) {
+    return is_refused() ? 0 : ((void *(*)(void *, size_t)) next("realloc"))(block, size);
+}

@@ -1,0 +1,125 @@
+// Sessions where there is no memory.
+use crate::pictures::{FIVE_BOOKIES, state_of};
+use reh_script::report_text;
+use reh_session::Session;
+use reh_types::{BookieIx, Event, LedgerId, Refusal, Reply};
+use std::alloc::{AllocError, Global};
+use std::test::Fail;
+
+const LOST: BookieIx = BookieIx(1);
+
+const WORKER: BookieIx = BookieIx(3);
+
+const LEDGER: LedgerId = LedgerId(7);
+
+const COPY: Event = Event::Copy {
+    worker: WORKER,
+    ledger: LEDGER,
+    fragment: 0,
+    index: 1,
+    version: 0,
+};
+
+const SWAP: Event = Event::Swap {
+    worker: WORKER,
+    ledger: LEDGER,
+    fragment: 0,
+    index: 1,
+    version: 0,
+};
+
+const FINISH: Event = Event::Finish {
+    worker: WORKER,
+    ledger: LEDGER,
+};
+
+// Events with their replies: the worker takes the place of the lost bookie, and tries to too early.
+const EVENTS: [(Event, &str); 8] = [
+    (Event::Lose { bookie: LOST }, "ok"),
+    (Event::Audit, "ok"),
+    (
+        Event::Acquire {
+            worker: WORKER,
+            ledger: LEDGER,
+        },
+        "ok",
+    ),
+    (SWAP, "refused 26 MissingEntry 0"),
+    (FINISH, "refused 9 StillUnder 0"),
+    (COPY, "ok"),
+    (SWAP, "ok"),
+    (FINISH, "ok"),
+];
+
+// A session on five bookies, of which the worker's holds one entry of the ledger.
+fn opened(alloc: Global) -> Result<Session, Fail> {
+    let open = FIVE_BOOKIES.strip_suffix("]}").unwrap_or(FIVE_BOOKIES);
+    let picture = format!(in alloc; "{open},{{\"bookie\":\"b4:3181\",\"ledger\":7,\"entries\":[[3,3]]}}]}}")?;
+    let state = state_of(alloc, &picture)?;
+    Ok(Session::open(alloc, state)?)
+}
+
+// The state, and how many events survive and are undone.
+fn shown(alloc: Global, session: &Session) -> Result<String, AllocError> {
+    let mut text = report_text(alloc, session.state())?;
+    write!(
+        text,
+        "{} {}\n",
+        session.done().len(),
+        session.undone().len()
+    )?;
+    Ok(text)
+}
+
+// The event's reply. Where there is no memory for it nothing has changed, and it is asked for once more.
+fn asked_again(
+    rt: &HostRuntime,
+    session: &mut Session,
+    event: &Event,
+) -> Result<Result<(), Refusal>, AllocError> {
+    let before = shown(rt.alloc(), session)?;
+    let reply = session.act(event);
+    if reply != Err(Refusal::NoMemory) {
+        return Ok(reply);
+    }
+    let after = shown(rt.alloc(), session)?;
+    assert_eq!(rt; after.as_str(), before.as_str());
+    Ok(session.act(event))
+}
+
+// All events are made, undone, and made again; then one is undone and another made in its place.
+fn goes_there_and_back(rt: &HostRuntime, session: &mut Session) -> Result<(), AllocError> {
+    for (event, expected) in EVENTS {
+        let reply = match asked_again(rt, session, &event)? {
+            Ok(()) => Reply::Done,
+            Err(refusal) => Reply::Refused(refusal),
+        };
+        let text = format!(in rt.alloc(); "{reply}")?;
+        assert_eq!(rt; text.as_str(), expected);
+    }
+    for _ in 0..6 {
+        assert_eq!(rt; session.undo(), Ok(()));
+    }
+    assert_eq!(rt; session.undo(), Err(Refusal::NothingToUndo));
+    for _ in 0..6 {
+        assert_eq!(rt; session.redo(), Ok(()));
+    }
+    assert_eq!(rt; session.redo(), Err(Refusal::NothingToRedo));
+    assert_eq!(rt; session.undo(), Ok(()));
+    assert_eq!(rt;
+        asked_again(rt, session, &Event::Tick { ticks: 1 })?,
+        Ok(())
+    );
+    assert_eq!(rt; session.undone().len(), 0);
+    Ok(())
+}
+
+// The test is run with each request for memory refused in turn. It ends well where that is no event's: an undo and a redo make none.
+#[test]
+fn want_of_memory_changes_nothing(rt: HostRuntime) {
+    if let Ok(mut session) = opened(rt.alloc()) {
+        if goes_there_and_back(&rt, &mut session).is_ok() {
+            assert_eq!(rt; session.done().len(), 6);
+        }
+    }
+}
