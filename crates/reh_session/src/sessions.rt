@@ -160,7 +160,7 @@ impl Session {
     }
 
     /// Makes moves in order. Room for all answers is taken first, and where there is none, nothing changes.
-    /// Later a move for which there is no memory is answered so, and the run goes on. No swap of the run loses an entry.
+    /// Later an event for which there is no memory is answered so, and the run goes on. No swap of the run loses an entry.
     pub fn run(&mut self, moves: &[Move]) -> Result<Vec<Reply>, AllocError>
         ensures run { IfOk result (λ replies. Run self.old moves.now replies.items self.new) }
         ensures safe { IfOk result (λ replies. IsSafeRun self.old moves.now replies.items) }
