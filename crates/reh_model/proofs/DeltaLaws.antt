@@ -21,8 +21,8 @@ use Rattle.reh_model.proofs.LedgerLaws.{change_ledger-set, found_there, ledger_a
 use Rattle.reh_model.proofs.PlaceLaws.{contains-with_member-here}
 use Rattle.reh_model.proofs.ListLaws.{set-read, change_at-then, change_at-here, change_at-front, slice_get-here, slice_get-front}
 use Rattle.reh_model.proofs.AuditLaws.{audited_news, audited_same, news_differs}
-use Rattle.reh_model.proofs.AcceptedLaws.{accepted_lose, accepted_join, accepted_tick, accepted_free, accepted_owner}
-use Rattle.reh_model.proofs.WellFormedLaws.{IsLedgerOf, IsLedger-found, IsWellFormed-after}
+use Rattle.reh_model.proofs.AcceptedLaws.{IsSwappable, accepted_lose, accepted_join, accepted_tick, accepted_free, accepted_owner}
+use Rattle.reh_model.proofs.WellFormedLaws.{IsLedgerOf, IsLedger-found, IsWellFormed-after, swappable-found}
 use Rattle.reh_model.proofs.ExchangeLaws.{delta_of_changes}
 
 -- Records of one change
@@ -128,6 +128,10 @@ swap_delta s w l f i v k g m was is read made none =
     one_change s (after s (Swap w l f i v)) (Metadata k m) (IsWellFormed-after s (Swap w l f i v) was none) place.there
     (ap (λ (gs : List Ledger). record s { ledgers = gs }) (change_at-here change (swapped_ledger f i w) s.ledgers k g read (ap (λ (m : meta.Metadata). record g { metadata = m }) made)) ∙ place.changed (swapped_ledger f i w))
     (part_differs (λ g. g.metadata) change s.ledgers k g place.here (λ same. absurd (omega (arith, ap (λ (m : meta.Metadata). m.version) (same ∙ made)))))
+
+-- what such a swap shows of the ledger
+pub swappable_there : (s : Cluster) (w l f i v k : ℕ) (g : Ledger) → IsWellFormed s → position (λ g. g.id == l) s.ledgers ≡ Some k → g ≡ get_or s.ledgers k g → refusal_of s (Swap w l f i v) ≡ None → IsSwappable s g w f i
+swappable_there s w l f i v k g was is read none = swappable-found s w l f i v g was (ledger_at-position s l k g was.ledgers.different is read) none
 
 -- Each ledger that an event changes
 

@@ -162,15 +162,20 @@ change_ledger-absent s l change none =
 
 -- The place of an id
 
--- a ledger that is found has a place
-pub place-found : (l : ℕ) (gs : List Ledger) (g : Ledger) → find (λ g. g.id == l) gs ≡ Some g → IsSome (position (λ g. g.id == l) gs)
-place-found l gs g found =
-    let k : ℕ = position_or_len (λ g. g.id == l) gs in
-    let within : k < length gs = slice_get_within gs k g (sym (find_at (λ g. g.id == l) gs) ∙ found) in
-    let there : nat_lt k (length gs) ≡ true = grind (arith, nat_tests) in
-    ap (λ b. is_some (cond b (Some k) None)) there
+-- an id that a ledger has has a place,
+pub place-found : (l : ℕ) (gs : List Ledger) → IsSome (find (λ g. g.id == l) gs) → IsSome (position (λ g. g.id == l) gs)
+place-found l gs = has_place (find (λ g. g.id == l) gs) refl where
+  first : ℕ
+  first = position_or_len (λ g. g.id == l) gs
 
--- and stands there
+  has_place : (o : Option Ledger) → find (λ g. g.id == l) gs ≡ o → IsSome o → IsSome (position (λ g. g.id == l) gs)
+  has_place None is none = cc
+  has_place (Some g) is some =
+      let within : first < length gs = slice_get_within gs first g (sym (find_at (λ g. g.id == l) gs) ∙ is) in
+      let there : nat_lt first (length gs) ≡ true = grind (arith, nat_tests) in
+      ap (λ b. is_some (cond b (Some first) None)) there
+
+-- where the one that is found stands
 pub found_there : (l k : ℕ) (gs : List Ledger) (g : Ledger) → position (λ g. g.id == l) gs ≡ Some k → find (λ g. g.id == l) gs ≡ Some g → slice_get gs k ≡ Some g
 found_there l k gs g is found =
     let first : ℕ = position_or_len (λ g. g.id == l) gs in
