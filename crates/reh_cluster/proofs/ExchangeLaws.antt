@@ -1,41 +1,22 @@
--- What a swap with a ledger's part makes of the cluster, and a loop over a record.
-use Rattle.std.proofs.Common.{◌≡◌, ◌<◌, ◌≤◌, ◌+◌, ℕ, List, [], ◌∷◌, ◌++◌, length, map, take, drop, get_or, set, sym, ap, Option, ◌∙◌, subst, arith}
+-- What becomes of a cluster and of a record as its changes are exchanged one by one.
+use Rattle.std.proofs.Common.{◌≡◌, ◌<◌, ◌≤◌, ◌+◌, ℕ, List, [], ◌∷◌, ◌++◌, length, map, take, drop, get_or, set, sym, ap, ◌∙◌, subst, arith}
 use Rattle.std.specs.Prelude.{All}
 use Rattle.std.proofs.lemmas.List.{drop_more, take_more_set, drop-set-lt, drop-drop, append_assoc}
 use Rattle.std.proofs.lemmas.List.Elements.{All-drop, All-head, All-same}
 use Rattle.reh_types.specs.declared.changes.Change.TheVariants.{Registration, Metadata, Task, Lock, Word, Clock}
 use Rattle.reh_types.specs.declared.limits.TheConstants.{MAX_BOOKIES}
-use Rattle.reh_types.specs.declared.locks.Lock as locks
-use Rattle.reh_types.specs.Sets.{Set, numbers}
-use Rattle.reh_model.specs.Metadata as meta
 use Rattle.reh_model.specs.Cluster.{Cluster, Ledger, words_among}
 use Rattle.reh_model.specs.WellFormed.{IsWellFormed}
-use Rattle.reh_model.specs.Places.{Change, place_of, put, back, exchanged, left, AreRising, IsThere, Fits}
-use Rattle.reh_model.proofs.ListLaws.{set-read, read_at-there}
+use Rattle.reh_model.specs.Places.{Change, place_of, change_at, put, back, exchanged, left, AreRising, IsThere, Fits}
+use Rattle.reh_model.proofs.ListLaws.{set-read}
 use Rattle.reh_model.proofs.PlaceLaws.{put-count}
 use Rattle.reh_model.proofs.ExchangeLaws.{places-left, exchanged-left, left-left, words_among-exchanged, Fits-left}
 use Rattle.reh_held.specs.Values.{HeldValue, words_in}
 use Rattle.reh_cluster.specs.Parts.{HasRows, IsReached}
 
--- One change of a ledger's part
-
-pub metadata_put : (s : Cluster) (i : ℕ) (m : meta.Metadata) (g : Ledger) → g ≡ get_or s.ledgers i g → record s { ledgers = set s.ledgers i (record g { metadata = m }) } ≡ put s (Metadata i m)
-metadata_put s i m g is = ap (λ (gs : List Ledger). record s { ledgers = gs }) (set-read (λ g. record g { metadata = m }) s.ledgers i g is)
-
-pub metadata_back : (s : Cluster) (i : ℕ) (m : meta.Metadata) (g : Ledger) → i < length s.ledgers → g ≡ get_or s.ledgers i g → Metadata i g.metadata ≡ back s (Metadata i m)
-metadata_back s i m g within is = ap (Metadata i) (read_at-there (λ g. g.metadata) s.ledgers i g m within is)
-
-pub task_put : (s : Cluster) (i : ℕ) (t : Option (Set numbers)) (g : Ledger) → g ≡ get_or s.ledgers i g → record s { ledgers = set s.ledgers i (record g { task = t }) } ≡ put s (Task i t)
-task_put s i t g is = ap (λ (gs : List Ledger). record s { ledgers = gs }) (set-read (λ g. record g { task = t }) s.ledgers i g is)
-
-pub task_back : (s : Cluster) (i : ℕ) (t : Option (Set numbers)) (g : Ledger) → i < length s.ledgers → g ≡ get_or s.ledgers i g → Task i g.task ≡ back s (Task i t)
-task_back s i t g within is = ap (Task i) (read_at-there (λ g. g.task) s.ledgers i g t within is)
-
-pub lock_put : (s : Cluster) (i : ℕ) (k : Option locks.Lock) (g : Ledger) → g ≡ get_or s.ledgers i g → record s { ledgers = set s.ledgers i (record g { lock = k }) } ≡ put s (Lock i k)
-lock_put s i k g is = ap (λ (gs : List Ledger). record s { ledgers = gs }) (set-read (λ g. record g { lock = k }) s.ledgers i g is)
-
-pub lock_back : (s : Cluster) (i : ℕ) (k : Option locks.Lock) (g : Ledger) → i < length s.ledgers → g ≡ get_or s.ledgers i g → Lock i g.lock ≡ back s (Lock i k)
-lock_back s i k g within is = ap (Lock i) (read_at-there (λ g. g.lock) s.ledgers i g k within is)
+-- a ledger that is changed where it stands
+pub changed_there : (s : Cluster) (i : ℕ) (change : Ledger → Ledger) (g : Ledger) → g ≡ get_or s.ledgers i g → record s { ledgers = set s.ledgers i (change g) } ≡ record s { ledgers = change_at s.ledgers i change }
+changed_there s i change g is = ap (λ (gs : List Ledger). record s { ledgers = gs }) (set-read change s.ledgers i g is)
 
 -- The loop over a record
 

@@ -14,7 +14,7 @@ use std::mem;
 pub struct Ledger {
     id: LedgerId,
     metadata: LedgerMeta,
-    // How many words of 64 entries the ledger has: each bookie's row of it has at least as many.
+    // How many words of 64 entries the ledger has: each bookie's row of it has as many.
     words: usize,
     task: Option<BookieSet>,
     lock: Option<Lock>,
@@ -49,7 +49,7 @@ impl Clone for Ledger {
 }
 
 impl Ledger {
-    /// A ledger with no task and so many words of 64 entries: each bookie's row of it has at least as many.
+    /// A ledger with no task and so many words of 64 entries: each bookie's row of it has as many.
     pub fn new(id: LedgerId, metadata: LedgerMeta, words: usize) -> Ledger
         ensures { result
             ≡ record { id = id; metadata = metadata; words = words; task = None; lock = None } }
@@ -77,7 +77,7 @@ impl Ledger {
         &self.metadata
     }
 
-    /// How many words of 64 entries the ledger has: each bookie's row of it has at least as many. No event changes it.
+    /// How many words of 64 entries the ledger has: each bookie's row of it has as many. No event changes it.
     pub fn words(&self) -> usize
         ensures { result ≡ self.now.words }
     {
