@@ -39,12 +39,6 @@ has-turned_all s bookie ledger (u ∷ us) b l e =
     ∙ ap (λ h. one_of h (place && is_turned us e)) (has-turned s bookie ledger u.number u.bits b l e)
     ∙ one_of-more (has s b l e) place (is_in_word u.number u.bits e) (is_turned us e)
 
-elsewhere : (held place turns : Bool) (more : Bool) → place ≡ false → one_of held (place && turns) ≡ (held || (place && more))
-elsewhere true true turns more differ = cc
-elsewhere true false turns more differ = refl
-elsewhere false true turns more differ = cc
-elsewhere false false turns more differ = refl
-
 both_true : (a b : Bool) → (a && b) ≡ true → (a ≡ true) × (b ≡ true)
 both_true true b is = (refl, is)
 both_true false b is = cc

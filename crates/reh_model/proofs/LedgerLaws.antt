@@ -91,10 +91,10 @@ words_among-changed_ledger l k change keeps_id keeps gs = words_among-map l (cha
 -- Where ids differ
 
 -- a ledger that stands among others with other ids
-abbrev IsApart : ℕ → List Ledger → Type 0
+abbrev pub IsApart : ℕ → List Ledger → Type 0
 IsApart l gs = AllByRecursion (λ k. nat_eq l k ≡ false) (map (λ g. g.id) gs)
 
-apart_at : (l : ℕ) (gs : List Ledger) (k : ℕ) (d : Ledger) → k < length gs → IsApart l gs → nat_eq l (get_or gs k d).id ≡ false
+pub apart_at : (l : ℕ) (gs : List Ledger) (k : ℕ) (d : Ledger) → k < length gs → IsApart l gs → nat_eq l (get_or gs k d).id ≡ false
 apart_at l [] k d within apart = absurd (omega arith)
 apart_at l (g ∷ gs) zero d within apart = apart.0
 apart_at l (g ∷ gs) (suc k) d within apart = apart_at l gs k d (omega arith) apart.1

@@ -472,6 +472,11 @@ pictured_ledgers d good =
 pub pictured_words : (d : Data) → IsFaultless d → All (λ g. ENTRIES_IN_WORD * g.words ≤ ENTRY_END) (pictured_cluster d).ledgers
 pictured_words d good = λ k g within. (pictured_ledgers d good k g within).words
 
+-- their ids differ
+pub pictured_ids : (d : Data) → IsFaultless d → IsDistinct nat_eq (map (λ g. g.id) (pictured_cluster d).ledgers)
+pictured_ids d good =
+    subst (λ (ids : List ℕ). IsDistinct nat_eq ids) (sym (ids_made (names_of d) (contents_of d) (list_of d field.Ledgers))) (ids_differ (names_of d) (list_of d field.Ledgers) good.each_ledger)
+
 -- such parts within the limit of words are a well-formed cluster
 pub IsWellFormed-pictured_cluster : (d : Data) → IsFaultless d → words_in_all (pictured_cluster d) ≤ MAX_WORDS → IsWellFormed (pictured_cluster d)
 IsWellFormed-pictured_cluster d good words =
@@ -488,7 +493,7 @@ IsWellFormed-pictured_cluster d good words =
       up = registered_named (list_of d field.Bookies);
       ledgers = record {
         few = omega (arith, length-map (list_of d field.Ledgers) (ledger_in (names_of d) s.held), good.ledgers);
-        different = subst (λ (ids : List ℕ). IsDistinct nat_eq ids) (sym (ids_made (names_of d) s.held (list_of d field.Ledgers))) (ids_differ (names_of d) (list_of d field.Ledgers) good.each_ledger);
+        different = pictured_ids d good;
         each = pictured_ledgers d good;
       };
       contents = record {
