@@ -1,0 +1,2 @@
+pub mod MissingLaws
+pub mod MemberLaws

@@ -5,8 +5,9 @@ ghost use Rattle.reh_types.specs.declared.moves.Event.TheVariants.{Audit};
 ghost use Rattle.reh_model.specs.Audit as model;
 ghost use Rattle.reh_model.specs.Refusals.{or_no_memory};
 ghost use Rattle.reh_model.specs.Step.{refusal_of};
-ghost use Rattle.reh_cluster.specs.Members.{HasBookies};
+ghost use Rattle.reh_audit.specs.Members.{HasBookies};
 
+use crate::members::{missing_of, published_of};
 use reh_cluster::{Ledger, State};
 use reh_types::{BookieSet, LedgerId, Refusal};
 use std::alloc::{AllocError, Global};
@@ -42,7 +43,7 @@ fn published_tasks(
     let mut tasks = Vec::new(alloc);
     for ledger in ledgers {
         if is_news(ledger, up) {
-            tasks.push((ledger.id(), ledger.published(up)))?;
+            tasks.push((ledger.id(), published_of(ledger, up)))?;
         }
     }
     Ok(tasks)
@@ -63,10 +64,11 @@ fn any_news(ledgers: &[Ledger], up: &BookieSet) -> bool
     ledgers.iter().any(|ledger| is_news(ledger, up))
 }
 
-/// Whether an audit changes the ledger's task.
-fn is_news(ledger: &Ledger, up: &BookieSet) -> bool
+/// Whether an audit changes the ledger's task: not all missing members are in it, of which each has to be one of the
+/// 64 bookies that there can be.
+pub fn is_news(ledger: &Ledger, up: &BookieSet) -> bool
     requires { HasBookies ledger.now }
     ensures { result ≡ model.is_news up.now ledger.now }
 {
-    !ledger.missing(up).is_subset(&ledger.task_set())
+    !missing_of(ledger, up).is_subset(&ledger.task_set())
 }

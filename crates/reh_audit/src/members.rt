@@ -1,12 +1,16 @@
 // Members that aren't registered.
-ghost use Rattle.std.specs.Prelude.{◌≡◌, position};
+ghost use Rattle.std.specs.Prelude.{◌≡◌, ◌<◌, not, position, All};
+ghost use Rattle.std.specs.List.{filter, flat_map};
 ghost use Rattle.std.specs.Option.{ForSome, IsSome};
+ghost use Rattle.reh_types.specs.declared.limits.TheConstants.{MAX_BOOKIES};
+ghost use Rattle.reh_types.specs.Sets as set;
 ghost use Rattle.reh_model.specs.Cluster.{ledger_at};
 ghost use Rattle.reh_model.specs.Audit as model;
+ghost use Rattle.reh_audit.specs.Members.{HasBookies};
 
 use reh_cluster::{Ledger, State};
 use reh_meta::Fragment;
-use reh_types::{BookieSet, LedgerId};
+use reh_types::{BookieIx, BookieSet, LedgerId};
 
 /// The members of the ledger's ensembles that aren't registered. The ledger has to be in the picture.
 ///
@@ -19,7 +23,52 @@ pub fn missing(state: &State, ledger: LedgerId) -> BookieSet
 {
     let up = state.up();
     let found = state.ledger(ledger).unwrap();
-    found.missing(up)
+    missing_of(found, up)
+}
+
+/// The members of the ledger's ensembles that aren't among the registered bookies: what BookKeeper's
+/// auditor finds where a bookie is lost. Each member has to be one of the 64 bookies that there can be.
+pub fn missing_of(ledger: &Ledger, up: &BookieSet) -> BookieSet
+    requires { HasBookies ledger.now }
+    ensures { result ≡ model.missing_members up.now ledger.now }
+{
+    missing_from(ledger.metadata().fragments(), up)
+}
+
+/// The bookies that the ledger's task names after an audit: those that it named, and the missing members,
+/// of which each has to be one of the 64 bookies that there can be.
+pub fn published_of(ledger: &Ledger, up: &BookieSet) -> BookieSet
+    requires { HasBookies ledger.now }
+    ensures { result ≡ model.published_members up.now ledger.now }
+{
+    ledger.task_set().union(&missing_of(ledger, up))
+}
+
+/// The members of all ensembles that aren't registered.
+fn missing_from(fragments: &[Fragment], up: &BookieSet) -> BookieSet
+    requires { All (λ fragment. All (λ b. b < MAX_BOOKIES) fragment.ensemble) fragments.now }
+    ensures { result ≡ set.from_list (filter (λ b. not (set.contains up.now b))
+        (flat_map (λ fragment. fragment.ensemble) fragments.now)) }
+{
+    let mut missing = BookieSet::new();
+    for fragment in fragments {
+        missing = missing.union(&missing_among(&fragment.ensemble, up));
+    }
+    missing
+}
+
+/// The members of one ensemble that aren't registered.
+fn missing_among(ensemble: &[BookieIx], up: &BookieSet) -> BookieSet
+    requires { All (λ b. b < MAX_BOOKIES) ensemble.now }
+    ensures { result ≡ set.from_list (filter (λ b. not (set.contains up.now b)) ensemble.now) }
+{
+    let mut missing = BookieSet::new();
+    for member in ensemble {
+        if !up.contains(*member) {
+            missing.insert(*member);
+        }
+    }
+    missing
 }
 
 /// The least fragment of the ledger with a member that isn't registered, if there is one: the ledger is

@@ -1,25 +1,20 @@
 // A ledger of the cluster, with its task and its lock.
-ghost use Rattle.std.specs.Prelude.{◌≡◌, ◌==◌, ◌<◌, false, not, map, length, position, slice_get, All, None, OnOk, OnErr};
-ghost use Rattle.std.specs.List.{filter, flat_map, list_any};
-ghost use Rattle.std.specs.Option.{ForSome, option_copied};
-ghost use Rattle.reh_types.specs.declared.limits.TheConstants.{MAX_BOOKIES, MAX_VERSION};
-ghost use Rattle.reh_types.specs.Sets as set;
+ghost use Rattle.std.specs.Prelude.{◌≡◌, None};
+ghost use Rattle.std.specs.Option.{option_copied};
 ghost use Rattle.reh_model.specs.Cluster as model;
-ghost use Rattle.reh_model.specs.Audit as audit;
-ghost use Rattle.reh_model.specs.Step.{locked_ledger, unlocked_ledger, finished_ledger, expired_ledger, swapped_ledger};
-ghost use Rattle.reh_cluster.specs.Members.{HasBookies};
 
-use reh_meta::{Fragment, LedgerMeta};
+use reh_meta::LedgerMeta;
 use reh_types::{BookieIx, BookieSet, LedgerId, Lock};
 use std::alloc::AllocError;
 use std::marker::Model;
+use std::mem;
 
 /// A ledger with room for a rereplication task and its lock; contracts see it as `Ledger` of the definitions.
 #[derive(Drop)]
 pub struct Ledger {
     id: LedgerId,
     metadata: LedgerMeta,
-    // How many words of 64 entries the ledger has: each bookie's row of it has at least as many.
+    // How many words of 64 entries the ledger has: each bookie's row of it has as many.
     words: usize,
     task: Option<BookieSet>,
     lock: Option<Lock>,
@@ -54,7 +49,7 @@ impl Clone for Ledger {
 }
 
 impl Ledger {
-    /// A ledger with no task and so many words of 64 entries: each bookie's row of it has at least as many.
+    /// A ledger with no task and so many words of 64 entries: each bookie's row of it has as many.
     pub fn new(id: LedgerId, metadata: LedgerMeta, words: usize) -> Ledger
         ensures { result
             ≡ record { id = id; metadata = metadata; words = words; task = None; lock = None } }
@@ -82,7 +77,7 @@ impl Ledger {
         &self.metadata
     }
 
-    /// How many words of 64 entries the ledger has: each bookie's row of it has at least as many. No event changes it.
+    /// How many words of 64 entries the ledger has: each bookie's row of it has as many. No event changes it.
     pub fn words(&self) -> usize
         ensures { result ≡ self.now.words }
     {
@@ -103,15 +98,6 @@ impl Ledger {
         self.lock
     }
 
-    /// The members of the ledger's ensembles that aren't among the registered bookies: what BookKeeper's
-    /// auditor finds where a bookie is lost. Each member has to be one of the 64 bookies that there can be.
-    pub fn missing(&self, up: &BookieSet) -> BookieSet
-        requires { HasBookies self.now }
-        ensures { result ≡ audit.missing_members up.now self.now }
-    {
-        missing_from(self.metadata.fragments(), up)
-    }
-
     /// The bookies that the ledger's task names, none without a task.
     pub fn task_set(&self) -> BookieSet
         ensures { result ≡ model.task_set self.now }
@@ -119,79 +105,6 @@ impl Ledger {
         match &self.task {
             Some(bookies) => bookies.copied(),
             None => BookieSet::new(),
-        }
-    }
-
-    /// The bookies that the ledger's task names after an audit: those that it named, and the missing members,
-    /// of which each has to be one of the 64 bookies that there can be.
-    pub fn published(&self, up: &BookieSet) -> BookieSet
-        requires { HasBookies self.now }
-        ensures { result ≡ audit.published_members up.now self.now }
-    {
-        self.task_set().union(&self.missing(up))
-    }
-
-    /// Adds the missing members to the ledger's task, which is made if there is none.
-    fn publish(&mut self, up: &BookieSet)
-        requires { HasBookies self.old }
-        ensures { self.new ≡ audit.audited_ledger up.now self.old }
-    {
-        if !self.missing(up).is_empty() {
-            self.task = Some(self.published(up));
-        }
-    }
-
-    /// The worker locks the ledger's task.
-    pub(crate) fn lock_by(&mut self, worker: BookieIx)
-        ensures { self.new ≡ locked_ledger worker self.old }
-    {
-        self.lock = Some(Lock {
-            owner: worker,
-            due: None,
-        });
-    }
-
-    /// Takes the lock away.
-    pub(crate) fn unlock(&mut self)
-        ensures { self.new ≡ unlocked_ledger self.old }
-    {
-        self.lock = None;
-    }
-
-    /// Takes the task away, with its lock.
-    pub(crate) fn finish(&mut self)
-        ensures { self.new ≡ finished_ledger self.old }
-    {
-        self.task = None;
-        self.lock = None;
-    }
-
-    /// Puts the bookie at an index of a fragment's ensemble, and the metadata to its next version. Want of memory
-    /// changes nothing. The bookie is in no place of the ensemble yet, and the version is below 10^12.
-    pub(crate) fn replace_member(
-        &mut self,
-        fragment: usize,
-        index: usize,
-        bookie: BookieIx,
-    ) -> Result<(), AllocError>
-        requires fragment { fragment < length self.old.metadata.fragments }
-        requires index { index < self.old.metadata.size }
-        requires new { ForSome (slice_get self.old.metadata.fragments fragment)
-            (λ old. list_any (λ member. member == bookie) old.ensemble ≡ false) }
-        requires version { self.old.metadata.version < MAX_VERSION }
-        ensures ok { OnOk result (self.new ≡ swapped_ledger fragment index bookie self.old) }
-        ensures err { OnErr result (self.new ≡ self.old) }
-    {
-        self.metadata = self.metadata.with_member(fragment, index, bookie)?;
-        Ok(())
-    }
-
-    /// Takes the lock away if it is this worker's.
-    fn expire(&mut self, worker: BookieIx)
-        ensures { self.new ≡ expired_ledger worker self.old }
-    {
-        if self.is_locked_by(worker) {
-            self.unlock();
         }
     }
 
@@ -204,57 +117,28 @@ impl Ledger {
             None => false,
         }
     }
-}
 
-/// The members of one ensemble that aren't registered.
-fn missing_among(ensemble: &[BookieIx], up: &BookieSet) -> BookieSet
-    requires { All (λ b. b < MAX_BOOKIES) ensemble.now }
-    ensures { result ≡ set.from_list (filter (λ b. not (set.contains up.now b)) ensemble.now) }
-{
-    let mut missing = BookieSet::new();
-    for member in ensemble {
-        if !up.contains(*member) {
-            missing.insert(*member);
-        }
+    /// Swaps the metadata with another.
+    pub(crate) fn swap_metadata(&mut self, metadata: &mut LedgerMeta)
+        ensures ledger { self.new ≡ record self.old { metadata = metadata.old } }
+        ensures other { metadata.new ≡ self.old.metadata }
+    {
+        mem::swap(&mut self.metadata, metadata);
     }
-    missing
-}
 
-/// The members of all ensembles that aren't registered.
-fn missing_from(fragments: &[Fragment], up: &BookieSet) -> BookieSet
-    requires { All (λ fragment. All (λ b. b < MAX_BOOKIES) fragment.ensemble) fragments.now }
-    ensures { result ≡ set.from_list (filter (λ b. not (set.contains up.now b))
-        (flat_map (λ fragment. fragment.ensemble) fragments.now)) }
-{
-    let mut missing = BookieSet::new();
-    for fragment in fragments {
-        missing = missing.union(&missing_among(&fragment.ensemble, up));
+    /// Swaps the task with another.
+    pub(crate) fn swap_task(&mut self, task: &mut Option<BookieSet>)
+        ensures ledger { self.new ≡ record self.old { task = task.old } }
+        ensures other { task.new ≡ self.old.task }
+    {
+        mem::swap(&mut self.task, task);
     }
-    missing
-}
 
-/// Publishes the missing members of each ledger.
-pub(crate) fn publish_all(ledgers: &mut [Ledger], up: &BookieSet)
-    requires { All HasBookies ledgers.old }
-    ensures { ledgers.new ≡ map (audit.audited_ledger up.now) ledgers.old }
-{
-    for ledger in ledgers.iter_mut() {
-        ledger.publish(up);
+    /// Swaps the lock with another.
+    pub(crate) fn swap_lock(&mut self, lock: &mut Option<Lock>)
+        ensures ledger { self.new ≡ record self.old { lock = lock.old } }
+        ensures other { lock.new ≡ self.old.lock }
+    {
+        mem::swap(&mut self.lock, lock);
     }
-}
-
-/// Takes away all locks of the worker.
-pub(crate) fn expire_all(ledgers: &mut [Ledger], worker: BookieIx)
-    ensures { ledgers.new ≡ map (expired_ledger worker) ledgers.old }
-{
-    for ledger in ledgers.iter_mut() {
-        ledger.expire(worker);
-    }
-}
-
-/// The place of the ledger of that id, if there is one.
-pub(crate) fn place_of(ledgers: &[Ledger], ledger: LedgerId) -> Option<usize>
-    ensures { result ≡ position (λ g. g.id == ledger) ledgers.now }
-{
-    ledgers.iter().position(|g| g.id() == ledger)
 }

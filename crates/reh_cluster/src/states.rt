@@ -1,19 +1,22 @@
 // The state of a cluster.
-ghost use Rattle.std.specs.Prelude.{◌≡◌, ℕ, ◌+◌, ◌<◌, ◌≤◌, length, None, All, IfOk, OnOk, OnErr};
-ghost use Rattle.std.specs.List.{find};
-ghost use Rattle.std.specs.Prelude.{◌==◌};
+ghost use Rattle.std.specs.Prelude.{◌≡◌, ℕ, ◌*◌, ◌<◌, ◌≤◌, ◌==◌, length, map, position, All, IfOk};
 ghost use Rattle.std.specs.Option.{option_copied};
 ghost use Rattle.reh_types.specs.declared.limits.TheConstants.{CLOCK_END};
 ghost use Rattle.reh_types.specs.Sets as set;
 ghost use Rattle.reh_held.specs.Rows.{is_set};
-ghost use Rattle.reh_model.specs.Contents.{IsHeld, copies_of, count_held, greatest_held};
+ghost use Rattle.reh_held.specs.Turns.{IsTurning};
+ghost use Rattle.reh_model.specs.Contents.{copies_of, count_held, greatest_held};
 ghost use Rattle.reh_model.specs.Cluster as model;
-ghost use Rattle.reh_model.specs.Step.{refusal_of, after};
+ghost use Rattle.reh_model.specs.Cluster.{words_among};
+ghost use Rattle.reh_model.specs.Places.{Fits, exchanged, left};
 ghost use Rattle.reh_model.specs.WellFormed.{IsWellFormed};
 
-use crate::ledgers::{Ledger, expire_all, place_of, publish_all};
+use crate::changes::Changes;
+use crate::exchanges::exchange_all;
+use crate::ledgers::Ledger;
 use crate::names::Names;
-use reh_held::Held;
+use indexmap::IndexSet;
+use reh_held::{Held, Turn};
 use reh_types::{BookieIx, BookieSet, LedgerId};
 use std::alloc::{AllocError, Global};
 use std::marker::Model;
@@ -26,6 +29,8 @@ pub struct State {
     names: Names,
     grace: u64,
     up: BookieSet,
+    // The ids of the ledgers, by which one is found.
+    ids: IndexSet<u64>,
     ledgers: Vec<Ledger>,
     held: Held,
     clock: u64,
@@ -44,12 +49,19 @@ impl Model for State {
 }
 
 impl State {
-    ghost use Rattle.reh_types.specs.declared.moves.Event.TheVariants.{Audit, Acquire, Release, Finish, Expire, Swap};
     ghost use Rattle.reh_cluster.specs.Parts.{HasRows, cluster_of};
 
-    /// The state at clock 0 with these names, registered bookies, grace in ticks, ledgers in picture order, and contents.
-    pub fn build(names: Names, up: BookieSet, grace: u64, ledgers: Vec<Ledger>, held: Held) -> State
+    /// The state at clock 0 with these names, registered bookies, grace in ticks, ledgers in picture order with their ids, and contents.
+    pub fn build(
+        names: Names,
+        up: BookieSet,
+        grace: u64,
+        ids: IndexSet<u64>,
+        ledgers: Vec<Ledger>,
+        held: Held,
+    ) -> State
         requires cluster { IsWellFormed (cluster_of names up grace ledgers.items held.contents) }
+        requires ids { ids.keys ≡ map (λ g. g.id) ledgers.items }
         requires rows { HasRows (length names) ledgers.items held }
         ensures { result ≡ cluster_of names up grace ledgers.items held.contents }
     {
@@ -57,6 +69,7 @@ impl State {
             names,
             grace,
             up,
+            ids,
             ledgers,
             held,
             clock: 0,
@@ -71,15 +84,11 @@ impl State {
             names: self.names.clone_in()?,
             grace: self.grace,
             up: self.up.copied(),
+            ids: self.ids.clone()?,
             ledgers: self.ledgers.clone()?,
             held: self.held.clone_in()?,
             clock: self.clock,
         })
-    }
-
-    /// The allocator that the state stands on.
-    pub fn allocator(&self) -> Global {
-        self.held.allocator()
     }
 
     /// The names of the bookies.
@@ -107,16 +116,25 @@ impl State {
 
     /// The ledgers, in picture order.
     pub fn ledgers(&self) -> &[Ledger]
-        ensures { result.now ≡ self.now.ledgers }
+        ensures ledgers { result.now ≡ self.now.ledgers }
+        ensures well_formed { IsWellFormed self.now }
     {
         &self.ledgers
+    }
+
+    /// The place of the ledger of that id, if there is one.
+    pub fn place(&self, ledger: LedgerId) -> Option<usize>
+        ensures { result ≡ position (λ g. g.id == ledger) self.now.ledgers }
+    {
+        self.ids.get_index_of(&ledger.0)
     }
 
     /// The ledger of that id, if there is one.
     pub fn ledger(&self, ledger: LedgerId) -> Option<&Ledger>
         ensures { option_copied result ≡ model.ledger_at self.now ledger }
     {
-        find_ledger(&self.ledgers, ledger)
+        let place = self.place(ledger)?;
+        Some(&self.ledgers[place])
     }
 
     /// Whether the bookie, registered or not, holds the entry of the ledger.
@@ -162,129 +180,42 @@ impl State {
         self.grace
     }
 
-    /// Takes the bookie out of the register.
-    pub fn lose(&mut self, bookie: BookieIx)
-        ensures { self.new ≡ record self.old { up = set.remove self.old.up bookie } }
-    {
-        self.up.remove(bookie);
-    }
-
-    /// Puts the bookie into the register.
-    pub fn join(&mut self, bookie: BookieIx)
-        requires { bookie < length self.old.names }
-        ensures { self.new ≡ record self.old { up = set.insert self.old.up bookie } }
-    {
-        self.up.insert(bookie);
-    }
-
-    /// Lets the clock go on by so many ticks.
-    pub fn advance(&mut self, ticks: u64)
-        requires { self.old.clock + ticks ≤ CLOCK_END }
-        ensures { self.new ≡ record self.old { clock = self.old.clock + ticks } }
-    {
-        self.clock += ticks;
-    }
-
-    /// An accepted audit: the missing members of each ledger join its task. It takes no memory.
-    ///
-    /// BookKeeper's auditor does so by `markLedgerUnderreplicated`, which adds to a task that is there.
-    pub fn publish(&mut self)
-        requires { refusal_of self.old Audit ≡ None }
-        ensures { self.new ≡ after self.old Audit }
-    {
-        publish_all(&mut self.ledgers, &self.up);
-    }
-
-    /// An accepted acquire: the worker locks the ledger's task, with no due tick
-    /// (BookKeeper's `acquireUnderreplicatedLedger`). It takes no memory.
-    pub fn lock(&mut self, worker: BookieIx, ledger: LedgerId)
-        requires { refusal_of self.old (Acquire worker ledger) ≡ None }
-        ensures { self.new ≡ after self.old (Acquire worker ledger) }
-    {
-        if let Some(place) = place_of(&self.ledgers, ledger) {
-            self.ledgers[place].lock_by(worker);
-        }
-    }
-
-    /// An accepted release: the worker gives the ledger's lock back, and its due tick goes
-    /// (BookKeeper's `releaseUnderreplicatedLedger`). It takes no memory.
-    pub fn unlock(&mut self, worker: BookieIx, ledger: LedgerId)
-        requires { refusal_of self.old (Release worker ledger) ≡ None }
-        ensures { self.new ≡ after self.old (Release worker ledger) }
-    {
-        if let Some(place) = place_of(&self.ledgers, ledger) {
-            self.ledgers[place].unlock();
-        }
-    }
-
-    /// An accepted finish: the ledger's task goes, and its lock
-    /// (BookKeeper's `markLedgerReplicated`). It takes no memory.
-    pub fn finish(&mut self, worker: BookieIx, ledger: LedgerId)
-        requires { refusal_of self.old (Finish worker ledger) ≡ None }
-        ensures { self.new ≡ after self.old (Finish worker ledger) }
-    {
-        if let Some(place) = place_of(&self.ledgers, ledger) {
-            self.ledgers[place].finish();
-        }
-    }
-
-    /// An accepted expiry: the worker's session ends, and all its locks go, which BookKeeper keeps as
-    /// ephemeral nodes of that session. It takes no memory.
-    pub fn expire(&mut self, worker: BookieIx)
-        requires { refusal_of self.old (Expire worker) ≡ None }
-        ensures { self.new ≡ after self.old (Expire worker) }
-    {
-        expire_all(&mut self.ledgers, worker);
-    }
-
-    /// The bookie holds these entries of the ledger from now on, each of which some bookie holds already. Want of
-    /// memory changes nothing.
-    pub fn hold_all(
-        &mut self,
+    /// The turns after which the bookie holds these entries of the ledger too: for each word of 64 entries in which that
+    /// changes something, its number and the bits that change. The bookie has to be in the picture, and the entries have
+    /// to lie within the ledger's words.
+    pub fn delta_of(
+        &self,
+        alloc: Global,
         bookie: BookieIx,
         ledger: LedgerId,
         entries: &[u32],
-    ) -> Result<(), AllocError>
-        requires bookie { bookie < length self.old.names }
-        requires held { All (λ e. IsHeld self.old.held ledger e) entries.now }
-        ensures ok { OnOk result (self.new ≡ record self.old {
-          held = set.union self.old.held (copies_of bookie ledger entries.now);
-        }) }
-        ensures err { OnErr result (self.new ≡ self.old) }
+    ) -> Result<Vec<Turn>, AllocError>
+        requires bookie { bookie < length self.now.names }
+        requires entries { All (λ e. e < 64 * words_among self.now.ledgers ledger) entries.now }
+        ensures { IfOk result (λ turns. IsTurning (words_among self.now.ledgers ledger) bookie ledger self.now.held
+            (set.union self.now.held (copies_of bookie ledger entries.now)) turns.items) }
     {
-        let turns = self
-            .held
-            .delta_of(self.allocator(), bookie, ledger, entries)?;
-        self.held.toggle_all(bookie, ledger, &turns);
-        Ok(())
+        let turns = self.held.delta_of(alloc, bookie, ledger, entries)?;
+        Ok(turns)
     }
 
-    /// An accepted swap: the worker's bookie takes that index of the fragment's ensemble, and the ledger's metadata
-    /// goes to its next version. BookKeeper's worker does so by `updateEnsembleInfo`, which writes the ledger's
-    /// metadata conditional on its version. Want of memory changes nothing.
-    pub fn swap(
-        &mut self,
-        worker: BookieIx,
-        ledger: LedgerId,
-        fragment: u64,
-        index: u64,
-        version: u64,
-    ) -> Result<(), AllocError>
-        requires { refusal_of self.old (Swap worker ledger fragment index version) ≡ None }
-        ensures ok { OnOk result
-            (self.new ≡ after self.old (Swap worker ledger fragment index version)) }
-        ensures err { OnErr result (self.new ≡ self.old) }
+    /// Swaps what the changes hold with what stands at their places: the state has what they held, and they hold what
+    /// brings it back. A word's bits turn, and are the same ones afterwards. The places have to be the state's, and what
+    /// comes of it has to be well-formed. It takes no memory.
+    pub fn exchange(&mut self, changes: &mut Changes)
+        requires { Fits self.old changes.old }
+        ensures state { self.new ≡ exchanged self.old changes.old }
+        ensures inverse { changes.new ≡ left self.old changes.old }
+        ensures fits { Fits self.new changes.new }
+        ensures back { exchanged self.new changes.new ≡ self.old }
+        ensures again { left self.new changes.new ≡ changes.old }
     {
-        if let Some(place) = place_of(&self.ledgers, ledger) {
-            self.ledgers[place].replace_member(fragment as usize, index as usize, worker)?;
-        }
-        Ok(())
+        exchange_all(
+            &mut self.up,
+            &mut self.ledgers,
+            &mut self.held,
+            &mut self.clock,
+            &mut changes.parts,
+        );
     }
-}
-
-/// The ledger of that id among some.
-fn find_ledger(ledgers: &[Ledger], ledger: LedgerId) -> Option<&Ledger>
-    ensures { option_copied result ≡ find (λ g. g.id == ledger) ledgers.now }
-{
-    ledgers.iter().find(|g| g.id() == ledger)
 }

@@ -5,7 +5,8 @@ use Rattle.std.specs.Int.{bit_at, w64}
 use Rattle.std.proofs.lemmas.Bool.Decides.{nat_tests}
 use Rattle.std.proofs.lemmas.Nat.Bits.{bit_at_xor, bit_at-lt, bit_at_set_same, bit_at_set_other}
 use Rattle.std.proofs.lemmas.List.{get_or_read, take_all}
-use Rattle.reh_held.specs.Rows.{is_set, is_in_word, one_of}
+use Rattle.reh_model.specs.Contents.{is_in_word, one_of}
+use Rattle.reh_held.specs.Rows.{is_set}
 
 -- the word at a place, after one word is written
 pub read_written : (words : List ℕ) (k v m : ℕ) → k < length words → get_or (set words k v) m 0 ≡ cond (nat_eq m k) v (get_or words m 0)

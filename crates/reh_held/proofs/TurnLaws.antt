@@ -1,15 +1,16 @@
 -- The turns between two rows of words make the one the other.
-use Rattle.std.proofs.Common.{◌≡◌, ◌≢◌, ℕ, suc, ◌+◌, ◌-◌, ◌/◌, ◌%◌, ◌<◌, ◌≤◌, Bool, true, false, cond, ◌&&◌, List, [], ◌∷◌, length, get_or, refl, sym, ap, ◌∙◌, arith, nat_eq, nat_lt, inl, inr}
+use Rattle.std.proofs.Common.{◌≡◌, ◌≢◌, ℕ, suc, ◌+◌, ◌-◌, ◌^◌, ◌/◌, ◌%◌, ◌<◌, ◌≤◌, Bool, true, false, cond, ◌&&◌, List, [], ◌∷◌, length, get_or, refl, sym, ap, ◌∙◌, arith, nat_eq, nat_lt, inl, inr}
 use Rattle.std.specs.Prelude.{◌==◌, bit_xor, if◌then◌else◌, All}
 use Rattle.std.specs.Int.{bit_at}
 use Rattle.std.specs.Int.Bits.{xor_self, xor_zero_l, xor_zero_r, xor_assoc}
-use Rattle.std.proofs.lemmas.Nat.{xor_comm}
+use Rattle.std.proofs.lemmas.Nat.{xor_comm, xor_lt}
 use Rattle.std.proofs.lemmas.Nat.Bits.{bit_at-zero, bit_at_xor, bit_at-lt}
 use Rattle.std.proofs.lemmas.Bool.{cases_order}
 use Rattle.std.proofs.lemmas.Bool.Decides.{nat_tests}
 use Rattle.std.proofs.lemmas.List.Elements.{All-nil, All-cons}
+use Rattle.reh_model.specs.Contents.{one_of}
 use Rattle.reh_held.specs.declared.turns.Turn.{Turn}
-use Rattle.reh_held.specs.Rows.{is_set, one_of}
+use Rattle.reh_held.specs.Rows.{is_set}
 use Rattle.reh_held.specs.RowTurns.{is_turned, AreRising, IsRowTurning, turns_between}
 use Rattle.reh_held.proofs.RowLaws.{bit_turns, one_of-false}
 
@@ -45,6 +46,17 @@ bits_make v u = ap (bit_xor v) (xor_comm u v) ∙ sym (xor_assoc v v u) ∙ ap (
 
 some_bits : (v u : ℕ) → v ≢ u → bit_xor u v ≢ 0
 some_bits v u other none = other (sym (xor_zero_r v) ∙ ap (bit_xor v) (sym none) ∙ bits_make v u)
+
+-- words of 64 bits differ in such words
+pub between-small : (k : ℕ) (vs us : List ℕ) → ((i : ℕ) → get_or vs i 0 < 2 ^ 64) → ((i : ℕ) → get_or us i 0 < 2 ^ 64) → All (λ u. u.bits < 2 ^ 64) (turns_between k vs us)
+between-small k [] us first second = All-nil (λ u. u.bits < 2 ^ 64)
+between-small k (v ∷ vs) [] first second = All-nil (λ u. u.bits < 2 ^ 64)
+between-small k (v ∷ vs) (u ∷ us) first second =
+    let turn : Turn = record { number = k; bits = bit_xor u v } in
+    let turns : List Turn = turns_between (k + 1) vs us in
+    let rest : All (λ u. u.bits < 2 ^ 64) turns = between-small (k + 1) vs us (λ i. first (suc i)) (λ i. second (suc i)) in
+    same_or_not v u (λ b. All (λ u. u.bits < 2 ^ 64) (if b then turns else turn ∷ turns)) (λ is. rest)
+    (λ other. All-cons (λ u. u.bits < 2 ^ 64) turn turns (xor_lt 64 u v (second 0) (first 0)) rest)
 
 -- What they make
 
@@ -123,12 +135,12 @@ turned-all vs us same e =
     ∙ ap (λ (b : ℕ). b == 1) (bit_at_xor (get_or us (e / 64) 0) (get_or vs (e / 64) 0) (e % 64))
     ∙ bit_turns (bit_at (get_or us (e / 64) 0) (e % 64)) (bit_at (get_or vs (e / 64) 0) (e % 64)) (bit_at-lt _ _) (bit_at-lt _ _)
 
-pub turning : (vs us : List ℕ) (after : ℕ → Bool) → length us ≡ length vs → ((e : ℕ) → is_set us e ≡ after e) → IsRowTurning vs after (turns_between 0 vs us)
-turning vs us after same is = record {
+pub turning : (vs us : List ℕ) (after : ℕ → Bool) → length us ≡ length vs → All (λ u. u.bits < 2 ^ 64) (turns_between 0 vs us) → ((e : ℕ) → is_set us e ≡ after e) → IsRowTurning vs after (turns_between 0 vs us)
+turning vs us after same small is = record {
   places = record {
     there = between-each (λ u. u.number < length vs) 0 vs us (λ j v u le lt ne. omega arith);
     rising = between-rising 0 vs us;
-    some = between-each (λ u. u.bits ≢ 0) 0 vs us (λ j v u le lt ne. some_bits v u ne);
+    some = λ k d within. (between-each (λ u. u.bits ≢ 0) 0 vs us (λ j v u le lt ne. some_bits v u ne) k d within, small k d within);
   };
   makes = λ e. ap (one_of (is_set vs e)) (turned-all vs us same e) ∙ one_of-undo (is_set vs e) (is_set us e) ∙ is e;
 }

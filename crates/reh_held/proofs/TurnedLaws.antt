@@ -1,58 +1,18 @@
--- Contents with bits of a bookie's words turned.
-use Rattle.std.proofs.Common.{◌≡◌, ◌≢◌, ℕ, ◌+◌, ◌*◌, ◌/◌, ◌<◌, ◌≤◌, Bool, true, false, ◌&&◌, ◌||◌, List, [], ◌∷◌, ◌++◌, length, take, get_or, refl, sym, ap, ◌∙◌, arith, nat_eq}
-use Rattle.std.specs.Prelude.{not, All}
-use Rattle.std.proofs.lemmas.List.{take_more}
+-- Contents with all turns of a bookie's row.
+use Rattle.std.proofs.Common.{◌≡◌, ◌≢◌, ℕ, ◌*◌, ◌^◌, ◌<◌, Bool, true, false, ◌&&◌, ◌||◌, List, [], ◌∷◌, refl, sym, ap, ◌∙◌, arith, nat_eq}
+use Rattle.std.specs.Prelude.{All}
 use Rattle.std.proofs.lemmas.List.Elements.{All-nil, All-head}
-use Rattle.std.specs.List.{filter, list_any, range_with_len}
-use Rattle.std.specs.Ordering.{nat_cmp, eq_by_cmp}
-use Rattle.std.specs.Cmp.{unsigned_tied}
+use Rattle.std.specs.List.{list_any}
 use Rattle.std.proofs.lemmas.Bool.Decides.{nat_tests}
 use Rattle.reh_types.specs.Sets as set
 use Rattle.reh_types.specs.Sets.{contains-retain, contains-union, same_set}
-use Rattle.reh_types.proofs.BitLaws.{any_filtered, in_range}
-use Rattle.reh_model.specs.Contents.{Contents, has, copies_of}
-use Rattle.reh_model.proofs.ContentsLaws.{has-copies_of, has-union-copies_of, union-copies_of-none}
-use Rattle.reh_model.proofs.Ranges.{list_any-same}
+use Rattle.reh_model.specs.Contents.{Contents, has, copies_of, is_in_word, turned, one_of}
+use Rattle.reh_model.proofs.ContentsLaws.{has-union-copies_of, union-copies_of-none}
+use Rattle.reh_model.proofs.TurnedLaws.{has-turned}
 use Rattle.reh_held.specs.declared.turns.Turn.{Turn}
-use Rattle.reh_held.specs.Rows.{is_set, is_in_word, word_entries, one_of}
+use Rattle.reh_held.specs.Rows.{is_set}
 use Rattle.reh_held.specs.RowTurns.{is_turned, ArePlaces}
-use Rattle.reh_held.specs.Turns.{turned, turned_all, IsTurning}
-
--- the numbers of a range that pass a test which none outside passes
-any-passing : (p : ℕ → Bool) (a n e : ℕ) → (p e ≡ true → (a ≤ e) × (e < a + n)) → list_any (nat_eq e) (filter p (range_with_len a n)) ≡ p e
-any-passing p a n e inside =
-    list_any-same (nat_eq e) (eq_by_cmp nat_cmp e) (λ x. sym (unsigned_tied e x)) (filter p (range_with_len a n))
-    ∙ any_filtered p e a n
-    ∙ elim (p e) as (λ b. p e ≡ b → (b && list_any (eq_by_cmp nat_cmp e) (range_with_len a n)) ≡ b) [
-      | true ↦ λ yes. in_range e a n ((inside yes).0) ((inside yes).1)
-      | false ↦ λ _. refl
-    ] refl
-
-both_first : (a b : Bool) → (a && b) ≡ true → a ≡ true
-both_first true b is = refl
-both_first false b is = is
-
-pub any-word_entries : (number bits e : ℕ) → list_any (nat_eq e) (word_entries number bits) ≡ is_in_word number bits e
-any-word_entries number bits e = any-passing (is_in_word number bits) (64 * number) 64 e (λ passes.
-    let first : nat_eq (e / 64) number ≡ true = both_first (nat_eq (e / 64) number) _ passes in
-    let same : e / 64 ≡ number = grind (arith, nat_tests, first) in
-    (omega arith, omega arith))
-
-one_of-and : (a b : Bool) → (not (a && b) && (a || b)) ≡ one_of a b
-one_of-and true true = refl
-one_of-and true false = refl
-one_of-and false true = refl
-one_of-and false false = refl
-
--- a copy is held after the turn if it was held or turns, and not both
-pub has-turned : (s : Contents) (bookie ledger number bits : ℕ) (b l e : ℕ)
-    → has (turned s bookie ledger number bits) b l e ≡ one_of (has s b l e) ((nat_eq b bookie && nat_eq l ledger) && is_in_word number bits e)
-has-turned s bookie ledger number bits b l e =
-    let t : Contents = copies_of bookie ledger (word_entries number bits) in
-    contains-retain (set.union s t) (λ q. not (set.contains s q && set.contains t q)) (b, l, e)
-    ∙ ap (λ c. not (has s b l e && has t b l e) && c) (contains-union s t (b, l, e))
-    ∙ one_of-and (has s b l e) (has t b l e)
-    ∙ ap (one_of (has s b l e)) (has-copies_of bookie ledger (word_entries number bits) b l e ∙ ap (λ c. (nat_eq b bookie && nat_eq l ledger) && c) (any-word_entries number bits e))
+use Rattle.reh_held.specs.Turns.{turned_all, IsTurning}
 
 one_of-more : (held place first others : Bool) → one_of (one_of held (place && first)) (place && others) ≡ one_of held (place && one_of first others)
 one_of-more true true true true = refl
@@ -78,12 +38,6 @@ has-turned_all s bookie ledger (u ∷ us) b l e =
     has-turned_all (turned s bookie ledger u.number u.bits) bookie ledger us b l e
     ∙ ap (λ h. one_of h (place && is_turned us e)) (has-turned s bookie ledger u.number u.bits b l e)
     ∙ one_of-more (has s b l e) place (is_in_word u.number u.bits e) (is_turned us e)
-
-elsewhere : (held place turns : Bool) (more : Bool) → place ≡ false → one_of held (place && turns) ≡ (held || (place && more))
-elsewhere true true turns more differ = cc
-elsewhere true false turns more differ = refl
-elsewhere false true turns more differ = cc
-elsewhere false false turns more differ = refl
 
 both_true : (a b : Bool) → (a && b) ≡ true → (a ≡ true) × (b ≡ true)
 both_true true b is = (refl, is)
@@ -119,17 +73,7 @@ turning-from_row s words bookie ledger row entries turns is places makes = recor
 pub turning-none : (s : Contents) (words bookie ledger : ℕ) (entries : List ℕ) → words ≡ 0 → All (λ e. e < 64 * words) entries
     → IsTurning words bookie ledger s (set.union s (copies_of bookie ledger entries)) []
 turning-none s words bookie ledger [] none within = record {
-  places = record { there = All-nil (λ u. u.number < words); rising = tt; some = All-nil (λ u. u.bits ≢ 0) };
+  places = record { there = All-nil (λ u. u.number < words); rising = tt; some = All-nil (λ u. (u.bits ≢ 0) × (u.bits < 2 ^ 64)) };
   makes = sym (union-copies_of-none s bookie ledger);
 }
 turning-none s words bookie ledger (e ∷ entries) none within = absurd (omega (arith, none, All-head (λ e. e < 64 * words) e entries within))
-
--- one turn more
-pub turned_all-push : (s : Contents) (bookie ledger : ℕ) (us : List Turn) (u : Turn) → turned_all s bookie ledger (us ++ u ∷ []) ≡ turned (turned_all s bookie ledger us) bookie ledger u.number u.bits
-turned_all-push s bookie ledger [] u = refl
-turned_all-push s bookie ledger (v ∷ us) u = turned_all-push (turned s bookie ledger v.number v.bits) bookie ledger us u
-
-pub turned_all-more : (s : Contents) (bookie ledger : ℕ) (us : List Turn) (i : ℕ) (d : Turn) → i < length us
-    → turned_all s bookie ledger (take (i + 1) us) ≡ turned (turned_all s bookie ledger (take i us)) bookie ledger (get_or us i d).number (get_or us i d).bits
-turned_all-more s bookie ledger us i d within =
-    ap (λ (us : List Turn). turned_all s bookie ledger us) (take_more us i d within) ∙ turned_all-push s bookie ledger (take i us) (get_or us i d)

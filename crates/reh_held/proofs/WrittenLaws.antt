@@ -1,6 +1,6 @@
 -- What becomes of contents and words as one table is written.
 use Rattle.std.proofs.Common.{◌≡◌, zero, suc, inl, inr, nat_le, ◌-◌, ℕ, ◌+◌, ◌<◌, ◌≤◌, Bool, true, false, cond, ◌&&◌, ◌||◌, List, [], get_or, refl, sym, ap, subst, ◌∙◌, arith, nat_eq}
-use Rattle.std.specs.Prelude.{max, ◌/◌, ◌⊎◌}
+use Rattle.std.specs.Prelude.{max, ◌⊎◌}
 use Rattle.std.specs.List.{list_any, range_with_len}
 use Rattle.std.proofs.lemmas.Bool.{cases_lt}
 use Rattle.reh_types.proofs.BitLaws.{in_range}
@@ -15,15 +15,13 @@ use Rattle.std.specs.FinMap as finite
 use Rattle.std.specs.FinMap.{FinMap, get-insert, len-insert, same_map, nat_cmp-IsAntisymmetric}
 use Rattle.std.proofs.lemmas.Bool.Decides.{nat_tests}
 use Rattle.reh_types.specs.Sets as set
-use Rattle.reh_model.specs.Contents.{Contents, has, copies_of}
+use Rattle.reh_model.specs.Contents.{Contents, has, copies_of, is_in_word, turned, one_of}
 use Rattle.reh_model.proofs.ContentsLaws.{has-insert, has-union-copies_of}
-use Rattle.reh_held.specs.Rows.{is_set, is_between, is_in_word, one_of}
+use Rattle.reh_model.proofs.TurnedLaws.{has-turned}
+use Rattle.reh_held.specs.Rows.{is_set, is_between}
 use Rattle.reh_held.specs.Tables.{TableValue, row_at, IsTable}
-use Rattle.reh_held.specs.Values.{HeldValue, words_in, with_room}
 use Rattle.reh_held.specs.Kept.{table_at, rows_in, contents_of, words_of}
-use Rattle.reh_held.specs.Turns.{turned}
 use Rattle.reh_held.proofs.HeldLaws.{contents_is, words_is, has-contents, get-words}
-use Rattle.reh_held.proofs.TurnedLaws.{has-turned}
 
 -- after this table is written for the ledger
 abbrev pub IsWritten : List (ℕ × TableValue) → List (ℕ × TableValue) → ℕ → TableValue → Type 0
@@ -42,13 +40,6 @@ insert-same words ledger n some enough =
       found : (o : Option ℕ) → n ≤ unwrap_or o 0 → Some (max (unwrap_or o 0) n) ≡ o
       found None within = absurd (omega (arith, some))
       found (Some m) within = let kept : max m n ≡ m = omega arith in ap Some kept
-
-pub words-with_room : (held : HeldValue) (ledger entry : ℕ) → words_in (with_room held ledger entry) ledger ≡ max (words_in held ledger) (entry / 64 + 1)
-words-with_room held ledger entry =
-    let itself : nat_eq ledger ledger ≡ true = grind (arith, nat_tests) in
-    ap (λ o. unwrap_or o 0)
-    (get-insert nat_cmp_total held.words ledger (max (words_in held ledger) (entry / 64 + 1)) ledger
-    ∙ ap (λ b. cond b (Some (max (words_in held ledger) (entry / 64 + 1))) (finite.get held.words ledger)) (unsigned_tied ledger ledger ∙ itself))
 
 -- one ledger more at most
 pub len_insert : (words : FinMap nat_cmp ℕ) (ledger width : ℕ) {after : FinMap nat_cmp ℕ} → after ≡ finite.insert words ledger width → finite.len after ≤ finite.len words + 1

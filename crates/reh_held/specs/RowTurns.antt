@@ -1,7 +1,8 @@
 -- Lists of words of one row with bits to turn.
-use Rattle.std.specs.Prelude.{◌≡◌, ◌≢◌, ℕ, ◌+◌, ◌<◌, ◌≤◌, ◌==◌, if◌then◌else◌, Bool, false, List, [], ◌∷◌, length, All, bit_xor}
+use Rattle.std.specs.Prelude.{◌≡◌, ◌≢◌, ℕ, ◌+◌, ◌^◌, ◌<◌, ◌≤◌, ◌==◌, if◌then◌else◌, Bool, false, List, [], ◌∷◌, length, All, bit_xor}
+use Rattle.reh_model.specs.Contents.{is_in_word, one_of}
 use Rattle.reh_held.specs.declared.turns.Turn.{Turn}
-use Rattle.reh_held.specs.Rows.{is_set, is_in_word, one_of}
+use Rattle.reh_held.specs.Rows.{is_set}
 
 -- whether the entry turns, by some of the turns and not by two
 abbrev pub is_turned : List Turn → ℕ → Bool
@@ -13,11 +14,11 @@ abbrev pub AreRising : ℕ → List Turn → Type 0
 AreRising k [] = Unit {0}
 AreRising k (u ∷ us) = (k ≤ u.number) × AreRising (u.number + 1) us
 
--- there is a turn for each word in which something changes, in order and each once
+-- the turns are of words of 64 bits that there are, in order and each once, and something turns in each
 pub record ArePlaces (words : ℕ) (turns : List Turn) : Type 0 where
   pub there : All (λ u. u.number < words) turns
   pub rising : AreRising 0 turns
-  pub some : All (λ u. u.bits ≢ 0) turns
+  pub some : All (λ u. (u.bits ≢ 0) × (u.bits < 2 ^ 64)) turns
 
 -- the turns of places of the row that leave in it what passes the test
 pub record IsRowTurning (words : List ℕ) (after : ℕ → Bool) (turns : List Turn) : Type 0 where

@@ -1,5 +1,5 @@
 -- A row of words: the entries that its bits stand for, 64 to a word.
-use Rattle.std.specs.Prelude.{◌≡◌, ℕ, ◌*◌, ◌/◌, ◌%◌, ◌≤◌, Bool, true, false, not, ◌&&◌, ◌==◌, nat_le, List, length, slice_index, Option, MatchOption}
+use Rattle.std.specs.Prelude.{◌≡◌, ℕ, ◌*◌, ◌/◌, ◌%◌, ◌≤◌, Bool, true, false, ◌&&◌, ◌==◌, nat_le, List, length, slice_index, Option, MatchOption}
 use Rattle.std.specs.List.{filter, range_with_len}
 use Rattle.std.specs.Int.{bit_at}
 
@@ -14,19 +14,6 @@ is_between first last entry = nat_le first entry && nat_le entry last
 -- the entries whose bits are set
 abbrev pub entries_in : List ℕ → List ℕ
 entries_in words = filter (is_set words) (range_with_len 0 (64 * length words))
-
--- whether the entry is one of those that the bits of this word stand for
-abbrev pub is_in_word : ℕ → ℕ → ℕ → Bool
-is_in_word number bits entry = (entry / 64 == number) && (bit_at bits (entry % 64) == 1)
-
--- the entries that the bits of this word stand for
-abbrev pub word_entries : ℕ → ℕ → List ℕ
-word_entries number bits = filter (is_in_word number bits) (range_with_len (64 * number) 64)
-
--- one or the other and not both
-abbrev pub one_of : Bool → Bool → Bool
-one_of true b = not b
-one_of false b = b
 
 -- this entry passes the test and no greater one does, or none does
 abbrev pub IsGreatest : (ℕ → Bool) → Option ℕ → Type 0

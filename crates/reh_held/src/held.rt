@@ -5,10 +5,10 @@ ghost use Rattle.std.specs.Ordering.{nat_cmp};
 ghost use Rattle.std.specs.FinMap as map;
 ghost use Rattle.reh_types.specs.declared.limits.TheConstants.{MAX_LEDGERS};
 ghost use Rattle.reh_types.specs.Sets as set;
-ghost use Rattle.reh_model.specs.Contents.{has, copies_of, count_held, greatest_held};
+ghost use Rattle.reh_model.specs.Contents.{has, copies_of, count_held, greatest_held, turned};
 ghost use Rattle.reh_held.specs.Rows.{is_set};
 ghost use Rattle.reh_held.specs.Tables.{row_at, IsTable};
-ghost use Rattle.reh_held.specs.Turns.{turned, turned_all, IsTurning};
+ghost use Rattle.reh_held.specs.Turns.{IsTurning};
 ghost use Rattle.reh_held.specs.Values.{words_in, with_room};
 ghost use Rattle.reh_held.specs.declared.rows.TheConstants.{MAX_WIDTH};
 
@@ -68,11 +68,6 @@ impl Held {
             bookies: self.bookies,
             tables: self.tables.clone()?,
         })
-    }
-
-    /// The allocator that the rows stand on.
-    pub fn allocator(&self) -> Global {
-        self.alloc
     }
 
     /// How many words the rows of the ledger have, 0 where it has none.
@@ -174,17 +169,6 @@ impl Held {
         match self.tables.get_mut(&ledger) {
             Some(table) => table.toggle(bookie, number, bits),
             None => {}
-        }
-    }
-
-    /// Makes all these turns in the bookie's row of the ledger.
-    pub fn toggle_all(&mut self, bookie: BookieIx, ledger: LedgerId, turns: &[Turn])
-        requires bookie { bookie < self.old.bookies }
-        requires numbers { All (λ u. u.number < words_in self.old ledger) turns.now }
-        ensures { self.new ≡ record self.old { contents = turned_all self.old.contents bookie ledger turns.now } }
-    {
-        for turn in turns {
-            self.toggle(bookie, ledger, turn.number, turn.bits);
         }
     }
 
@@ -308,9 +292,9 @@ mod tests {
             .as_slice()
         );
 
-        held.toggle_all(bookie, ledger, &turns);
+        held.toggle(bookie, ledger, 0, 19);
         assert_eq!(rt; held.row(bookie, ledger), [27].as_slice());
-        held.toggle_all(bookie, ledger, &turns);
+        held.toggle(bookie, ledger, 0, 19);
         assert_eq!(rt; held.row(bookie, ledger), [8].as_slice());
         Ok(())
     }

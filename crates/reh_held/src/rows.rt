@@ -2,8 +2,9 @@
 ghost use Rattle.std.specs.Prelude.{◌≡◌, ℕ, ◌+◌, ◌*◌, ◌^◌, ◌<◌, ◌≤◌, false, ◌==◌, ◌||◌, length, All, IfOk};
 ghost use Rattle.std.specs.List.{list_any};
 ghost use Rattle.std.specs.Int.{bit_at};
+ghost use Rattle.reh_model.specs.Contents.{is_in_word, one_of};
 ghost use Rattle.reh_held.specs.Rows as rows;
-ghost use Rattle.reh_held.specs.Rows.{is_set, is_between, entries_in, is_in_word, one_of, IsGreatest};
+ghost use Rattle.reh_held.specs.Rows.{is_set, is_between, entries_in, IsGreatest};
 ghost use Rattle.reh_held.specs.RowTurns.{IsRowTurning, turns_between};
 ghost use Rattle.reh_held.specs.declared.rows.TheConstants.{MAX_WIDTH};
 
@@ -166,7 +167,8 @@ pub fn is_set(words: &[u64], entry: u32) -> bool
 /// The turns from some words to others.
 fn find_turns(alloc: Global, words: &[u64], others: &[u64]) -> Result<Vec<Turn>, AllocError>
     requires { length words.now ≡ length others.now }
-    ensures { IfOk result (λ turns. turns.items ≡ turns_between 0 words.now others.now) }
+    ensures turns { IfOk result (λ turns. turns.items ≡ turns_between 0 words.now others.now) }
+    ensures bits { IfOk result (λ turns. All (λ u. u.bits < 2 ^ 64) turns.items) }
 {
     let mut turns = Vec::new(alloc);
     for number in 0..words.len() {

@@ -1,7 +1,8 @@
 // Tables of rows.
 ghost use Rattle.std.specs.Prelude.{◌≡◌, ℕ, ◌*◌, ◌^◌, ◌<◌, ◌≤◌, ◌==◌, ◌&&◌, ◌||◌, Bool, false, length, All, IfOk};
 ghost use Rattle.std.specs.List.{list_any};
-ghost use Rattle.reh_held.specs.Rows.{is_set, is_between, entries_in, is_in_word, one_of, IsGreatest};
+ghost use Rattle.reh_model.specs.Contents.{is_in_word, one_of};
+ghost use Rattle.reh_held.specs.Rows.{is_set, is_between, entries_in, IsGreatest};
 ghost use Rattle.reh_held.specs.RowTurns.{IsRowTurning};
 ghost use Rattle.reh_held.specs.Tables.{row_at, IsTable};
 ghost use Rattle.reh_held.specs.declared.rows.TheConstants.{MAX_WIDTH};

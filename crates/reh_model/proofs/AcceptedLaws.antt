@@ -1,26 +1,27 @@
 -- What an accepted event shows, and what the replies of a session tell of its event: this file alone takes the checks of events apart.
-use Rattle.std.proofs.Common.{◌≡◌, ℕ, Bool, true, false, not, ◌&&◌, ◌+◌, ◌-◌, ◌<◌, ◌≤◌, List, [], ◌∷◌, ◌++◌, length, Option, None, Some, IsSome, refl, sym, ap, ◌∙◌, subst, arith, nat_lt, nat_le}
+use Rattle.std.proofs.Common.{◌≡◌, ℕ, Bool, true, false, not, ◌&&◌, ◌||◌, ◌+◌, ◌-◌, ◌<◌, ◌≤◌, List, [], ◌∷◌, ◌++◌, length, Option, None, Some, IsSome, refl, sym, ap, ◌∙◌, subst, arith, nat_lt, nat_le}
 use Rattle.std.specs.Prelude.{◌==◌, is_none, All, slice_get}
 use Rattle.std.specs.List.{list_any}
 use Rattle.std.specs.Option.{ForSome, option_map, option_and_then}
 use Rattle.std.proofs.lemmas.Bool.Decides.{nat_tests}
 use Rattle.std.proofs.lemmas.List.Elements.{All-weaker}
 use Rattle.std.proofs.lemmas.Option.{slice_get_within}
-use Rattle.reh_types.specs.declared.limits.TheConstants.{CLOCK_END, ENTRY_END, MAX_EVENTS, MAX_FRAGMENTS, MAX_VERSION}
+use Rattle.reh_types.specs.declared.limits.TheConstants.{CLOCK_END, ENTRY_END, MAX_EVENTS, MAX_FRAGMENTS, MAX_VERSION, MAX_TICKS}
 use Rattle.reh_types.specs.declared.moves.Event.{Event}
-use Rattle.reh_types.specs.declared.moves.Event.TheVariants.{Join, Acquire, Grace, Tick, Roll, Fence, Seal, Copy, Swap}
+use Rattle.reh_types.specs.declared.moves.Event.TheVariants.{Join, Acquire, Grace, Tick, Roll, Fence, Seal, Copy, Swap, Lose}
 use Rattle.reh_types.specs.declared.moves.Move.TheVariants.{Do}
 use Rattle.reh_types.specs.declared.moves.Reply.TheVariants.{Done, Refused}
 use Rattle.reh_types.specs.declared.refusals.Refusal.{Refusal}
-use Rattle.reh_types.specs.declared.refusals.Refusal.TheVariants.{GraceSet, GraceRuns, NoGrace, NoSource, MissingEntry, TooFew, Full}
+use Rattle.reh_types.specs.declared.refusals.Refusal.TheVariants.{GraceSet, GraceRuns, NoGrace, NoSource, MissingEntry, TooFew, Full, Locked}
 use Rattle.reh_types.specs.Sets.{Set, numbers}
 use Rattle.reh_model.specs.Contents.{IsHeld}
 use Rattle.reh_model.specs.Metadata.{Fragment, is_open, is_in_recovery, last_fragment, stop_of, stripe_of}
-use Rattle.reh_model.specs.Cluster.{Cluster, Ledger, holds, is_readable, is_locked_by, due_of, ledger_at, stripe_at}
+use Rattle.reh_model.specs.Cluster.{Cluster, Ledger, holds, is_readable, is_locked_by, due_of, ledger_at, stripe_at, is_up}
 use Rattle.reh_model.specs.Recovery.{next_entry, is_rolling_over, up_writes, recovered_end, recovered_entries}
 use Rattle.reh_model.specs.Checks.{first_reason, reason_if}
-use Rattle.reh_model.specs.Refusals.{with_ledger, at_ledger, with_fragment, no_bookie, already_up, no_task, lock_held, bad_tick, clock_end, not_open, not_recovering, not_needed, grace_set, no_grace, grace_runs, too_few, undecided, fragments_full, entry_end, stale_version, not_owner, no_index, member_up, target_down, target_is_member, no_endpoint, no_place, no_source, missing_entry, version_end}
+use Rattle.reh_model.specs.Refusals.{with_ledger, at_ledger, with_fragment, no_bookie, already_up, no_task, lock_held, bad_tick, clock_end, not_open, not_recovering, not_needed, grace_set, no_grace, grace_runs, too_few, undecided, fragments_full, entry_end, stale_version, not_owner, no_index, member_up, target_down, target_is_member, no_endpoint, no_place, no_source, missing_entry, version_end, already_down}
 use Rattle.reh_model.specs.Step.{refusal_of, grace_checks, roll_checks, fence_checks, seal_checks, place_checks, copy_checks, swap_checks}
+use Rattle.reh_types.specs.declared.locks.Lock.{Lock}
 use Rattle.reh_model.specs.Session.{Session, state_of, reply_unless, no_room, reply_to}
 use Rattle.reh_model.specs.Swaps.{HoldsStripe}
 use Rattle.reh_model.proofs.CheckLaws.{reason_if-none, find-none, check-none, first_reason-only, first_reason-found, first_reason-passed}
@@ -50,10 +51,10 @@ ledger_passes : (s : Cluster) (w l : ℕ) (checks : Ledger → List (Option Refu
 ledger_passes s w l checks g found none = sym (ap (λ o. with_ledger o checks) found) ∙ check-none (no_bookie s w ∷ []) (at_ledger s l checks) [] none
 
 -- a ledger is there, and its checks give none
-record FoundLedger (o : Option Ledger) (checks : Ledger → List (Option Refusal)) : Type 0 where
-  ledger : Ledger
-  is : o ≡ Some ledger
-  passes : first_reason (checks ledger) ≡ None
+pub record FoundLedger (o : Option Ledger) (checks : Ledger → List (Option Refusal)) : Type 0 where
+  pub ledger : Ledger
+  pub is : o ≡ Some ledger
+  pub passes : first_reason (checks ledger) ≡ None
 
 with_ledger-none : (o : Option Ledger) (checks : Ledger → List (Option Refusal)) → with_ledger o checks ≡ None → FoundLedger o checks
 with_ledger-none None checks none = cc
@@ -82,6 +83,20 @@ no_task-none g none = some g.task (reason_if-none _ _ none) where
   some None none = cc
   some (Some task) none = refl
 
+-- the ledger has no lock
+lock_held-none : (g : Ledger) → lock_held g ≡ None → g.lock ≡ None
+lock_held-none g = no_lock g.lock where
+  no_lock : (o : Option Lock) → option_map (λ lock. Locked lock.owner) o ≡ None → o ≡ None
+  no_lock None none = refl
+  no_lock (Some lock) none = cc
+
+-- the clock goes on
+bad_tick-none : (n : ℕ) → bad_tick n ≡ None → 0 < n
+bad_tick-none n none = some (n == 0) (nat_lt MAX_TICKS n) refl (reason_if-none _ _ none) where
+  some : (a b : Bool) → (n == 0) ≡ a → (a || b) ≡ false → 0 < n
+  some true b is none = cc
+  some false b is none = grind (arith, nat_tests)
+
 -- the clock does not pass its end
 clock_end-none : (s : Cluster) (n : ℕ) → clock_end s n ≡ None → s.clock + n ≤ CLOCK_END
 clock_end-none s n none = let within : nat_lt CLOCK_END (s.clock + n) ≡ false = reason_if-none _ _ none in grind (arith, nat_tests)
@@ -101,9 +116,33 @@ not_not false is = cc
 
 -- Events
 
--- a bookie that joins is in the picture
-pub accepted_join : (s : Cluster) (b : ℕ) → refusal_of s (Join b) ≡ None → b < length s.names
-accepted_join s b none = no_bookie-none s b (check-none [] (no_bookie s b) (already_up s b ∷ []) none)
+-- a bookie that is lost was registered
+pub accepted_lose : (s : Cluster) (b : ℕ) → refusal_of s (Lose b) ≡ None → is_up s b ≡ true
+accepted_lose s b none = not_not (is_up s b) (reason_if-none _ _ (check-none (no_bookie s b ∷ []) (already_down s b) [] none))
+
+-- a bookie that joins is in the picture, and was not registered
+pub accepted_join : (s : Cluster) (b : ℕ) → refusal_of s (Join b) ≡ None → (b < length s.names) × (is_up s b ≡ false)
+accepted_join s b none = (
+  no_bookie-none s b (check-none [] (no_bookie s b) (already_up s b ∷ []) none),
+  reason_if-none _ _ (check-none (no_bookie s b ∷ []) (already_up s b) [] none),
+)
+
+-- the ledger that a worker's event names is there, and its checks give none
+pub accepted_ledger : (s : Cluster) (w l : ℕ) (checks : Ledger → List (Option Refusal)) → first_reason (no_bookie s w ∷ at_ledger s l checks ∷ []) ≡ None → FoundLedger (ledger_at s l) checks
+accepted_ledger s w l checks none = with_ledger-none (ledger_at s l) checks (check-none (no_bookie s w ∷ []) (at_ledger s l checks) [] none)
+
+-- a ledger whose task a worker locks has no lock
+pub accepted_free : (s : Cluster) (w l : ℕ) → refusal_of s (Acquire w l) ≡ None → (g : Ledger) × (ledger_at s l ≡ Some g) × (g.lock ≡ None)
+accepted_free s w l none =
+    let found = accepted_ledger s w l (λ g. no_task g ∷ lock_held g ∷ []) none in
+    (found.ledger, found.is, lock_held-none found.ledger (check-none (no_task found.ledger ∷ []) (lock_held found.ledger) [] found.passes))
+
+-- one whose owner is asked for is locked by the worker
+pub accepted_owner : (s : Cluster) (w l : ℕ) (more : Ledger → List (Option Refusal)) → first_reason (no_bookie s w ∷ at_ledger s l (λ g. not_owner w g ∷ more g) ∷ []) ≡ None → (g : Ledger) × (ledger_at s l ≡ Some g) × (is_locked_by w g ≡ true)
+accepted_owner s w l more none =
+    let found = accepted_ledger s w l (λ g. not_owner w g ∷ more g) none in
+    let g : Ledger = found.ledger in
+    (g, found.is, not_not (is_locked_by w g) (reason_if-none _ _ (check-none [] (not_owner w g) (more g) found.passes)))
 
 -- a worker that locks a ledger is in the picture, and the ledger has a task
 pub accepted_acquire : (s : Cluster) (w l : ℕ) (g : Ledger) → ledger_at s l ≡ Some g → refusal_of s (Acquire w l) ≡ None → (w < length s.names) × IsSome g.task
@@ -114,9 +153,12 @@ accepted_acquire s w l g found none =
       no_task-none g (check-none [] (no_task g) (lock_held g ∷ []) free),
     )
 
--- ticks do not pass the clock's end
-pub accepted_tick : (s : Cluster) (n : ℕ) → refusal_of s (Tick n) ≡ None → s.clock + n ≤ CLOCK_END
-accepted_tick s n none = clock_end-none s n (check-none (bad_tick n ∷ []) (clock_end s n) [] none)
+-- ticks move the clock, and not past its end
+pub accepted_tick : (s : Cluster) (n : ℕ) → refusal_of s (Tick n) ≡ None → (0 < n) × (s.clock + n ≤ CLOCK_END)
+accepted_tick s n none = (
+  bad_tick-none n (check-none [] (bad_tick n) (clock_end s n ∷ []) none),
+  clock_end-none s n (check-none (bad_tick n ∷ []) (clock_end s n) [] none),
+)
 
 -- Open ledgers
 
@@ -259,7 +301,7 @@ pub record IsCopyable (s : Cluster) (w l f i : ℕ) : Type 0 where
 pub accepted_copy : (s : Cluster) (w l f i v : ℕ) → refusal_of s (Copy w l f i v) ≡ None → IsCopyable s w l f i
 accepted_copy s w l f i v none =
     let checks : Ledger → List (Option Refusal) = copy_checks s w f i v in
-    let found = with_ledger-none (ledger_at s l) checks (check-none (no_bookie s w ∷ []) (at_ledger s l checks) [] none) in
+    let found = accepted_ledger s w l checks none in
     let g = found.ledger in
     let source = with_fragment-none (slice_get g.metadata.fragments f) _ (check-none (place_checks s w f i v g) (no_source s g f i) [] found.passes) in
     let fragment = source.fragment in
@@ -308,7 +350,7 @@ no_endpoint-none g f none = some (stop_of g.metadata f) (reason_if-none _ _ none
 pub accepted_swap_holds : (s : Cluster) (w l f i v : ℕ) → refusal_of s (Swap w l f i v) ≡ None → HoldsStripe s (Swap w l f i v)
 accepted_swap_holds s w l f i v none =
     let checks : Ledger → List (Option Refusal) = swap_checks s w f i v in
-    let found = with_ledger-none (ledger_at s l) checks (check-none (no_bookie s w ∷ []) (at_ledger s l checks) [] none) in
+    let found = accepted_ledger s w l checks none in
     let g : Ledger = found.ledger in
     let entries : List ℕ = stripe_of g.metadata f i in
     let place = with_fragment-none (slice_get g.metadata.fragments f) _ (check-none (not_owner w g ∷ stale_version g v ∷ []) (no_place s w g f i) (missing_entry s w g f i ∷ version_end g ∷ []) found.passes) in
@@ -340,3 +382,10 @@ done_within m event accepted room =
     let few : nat_le MAX_EVENTS (length m.done) ≡ false = grind (arith, nat_tests) in
     ap (λ (o : Option Refusal). reply_unless (first_reason (o ∷ no_room m ∷ []))) accepted
     ∙ ap (λ (b : Bool). reply_unless (first_reason (reason_if b Full ∷ []))) few
+
+-- and where there is none, it is refused for that
+pub full_without : (m : Session) (event : Event) → refusal_of (state_of m) event ≡ None → MAX_EVENTS ≤ length m.done → reply_to m (Do event) ≡ Refused Full
+full_without m event accepted many =
+    let full : nat_le MAX_EVENTS (length m.done) ≡ true = grind (arith, nat_tests) in
+    ap (λ (o : Option Refusal). reply_unless (first_reason (o ∷ no_room m ∷ []))) accepted
+    ∙ ap (λ (b : Bool). reply_unless (first_reason (reason_if b Full ∷ []))) full

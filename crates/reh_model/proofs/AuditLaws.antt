@@ -1,16 +1,16 @@
 -- What an audit publishes: bookies of the cluster, and at least one.
-use Rattle.std.proofs.Common.{◌+◌, ◌≡◌, ℕ, ◌<◌, Bool, true, false, not, ◌||◌, List, [], ◌∷◌, None, Some, refl, sym, ◌∙◌, true≢false, arith, length, subst}
-use Rattle.std.specs.Prelude.{unwrap_or}
+use Rattle.std.proofs.Common.{◌+◌, ◌≡◌, ◌≢◌, ap, Option, ℕ, ◌<◌, Bool, true, false, not, ◌||◌, List, [], ◌∷◌, None, Some, refl, sym, ◌∙◌, true≢false, arith, length, subst}
+use Rattle.std.specs.Prelude.{if◌then◌else◌, unwrap_or}
 use Rattle.std.specs.List.{All, filter, flat_map, list_any}
 use Rattle.std.specs.Ordering.{nat_cmp, eq_by_cmp}
 use Rattle.std.specs.Cmp.{unsigned_tied}
 use Rattle.std.proofs.lemmas.Bool.Decides.{nat_tests}
 use Rattle.std.proofs.lemmas.List.Elements.{All-nil, All-append, All-filter, All-head, All-tail}
-use Rattle.reh_types.specs.Sets.{numbers, contains, items, empty, is_empty, len, contains-empty, contains-items, contains-from_list, contains-union}
-use Rattle.reh_types.proofs.SetLaws.{is_empty-union, All-items}
+use Rattle.reh_types.specs.Sets.{Set, numbers, contains, items, empty, union, is_subset, is_empty, len, contains-empty, contains-items, contains-from_list, contains-union, is_subset-contains, contains-is_subset, same_set}
+use Rattle.reh_types.proofs.SetLaws.{is_empty-empty, is_empty-union, empty-from_is_empty, All-items}
 use Rattle.reh_model.specs.Metadata.{Fragment}
 use Rattle.reh_model.specs.Cluster.{Cluster, Ledger, task_set}
-use Rattle.reh_model.specs.Audit.{members_of, missing_members, published_members}
+use Rattle.reh_model.specs.Audit.{members_of, missing_members, is_news, published_members, audited_ledger}
 use Rattle.reh_model.specs.WellFormed.{IsLedger}
 
 -- what holds of each number of a list holds of one that is found there
@@ -59,3 +59,65 @@ published_some s g some =
       | true ↦ λ none. absurd (true≢false (sym (is_empty-union (task_set g) (missing_members s.up g) none) ∙ some))
       | false ↦ λ more. grind (arith, nat_tests)
     ] refl
+
+-- What an audit changes
+
+or_both : (a b : Bool) → (b ≡ true → a ≡ true) → (a || b) ≡ a
+or_both true b gives = refl
+or_both false true gives = sym (gives refl)
+or_both false false gives = refl
+
+or_second : (a b : Bool) → b ≡ true → (a || b) ≡ true
+or_second true b is = refl
+or_second false b is = is
+
+not_not : (b : Bool) → not b ≡ false → b ≡ true
+not_not true is = refl
+not_not false is = cc
+
+not_true : (b : Bool) → not b ≡ true → b ≡ false
+not_true true is = cc
+not_true false is = refl
+
+-- where all missing members are in the task, the same bookies are published
+published_same : (up : Set numbers) (g : Ledger) → is_subset (missing_members up g) (task_set g) ≡ true → published_members up g ≡ task_set g
+published_same up g all = same_set (published_members up g) (task_set g) (λ q.
+    contains-union (task_set g) (missing_members up g) q
+    ∙ or_both (contains (task_set g) q) (contains (missing_members up g) q) (is_subset-contains (missing_members up g) (task_set g) all q))
+
+-- a set that has no member is a part of each
+subset_none : (s t : Set numbers) → is_empty s ≡ true → is_subset s t ≡ true
+subset_none s t none = contains-is_subset s t (λ q one. absurd (true≢false (sym one ∙ ap (λ (u : Set numbers). contains u q) (empty-from_is_empty s none) ∙ contains-empty numbers q)))
+
+-- and only such a one is a part of the empty set
+none_subset : (s : Set numbers) → is_subset s empty ≡ true → is_empty s ≡ true
+none_subset s all = is_empty-union empty s (ap is_empty (same_set (union empty s) empty (λ q. contains-union empty s q ∙ or_both (contains empty q) (contains s q) (is_subset-contains s empty all q))) ∙ is_empty-empty numbers)
+
+-- an audit changes a ledger's task as it says,
+pub audited_news : (up : Set numbers) (g : Ledger) → is_news up g ≡ true → audited_ledger up g ≡ record g { task = Some (published_members up g) }
+audited_news up g news =
+    elim (is_empty (missing_members up g)) as (λ b. is_empty (missing_members up g) ≡ b → (if b then g else record g { task = Some (published_members up g) }) ≡ record g { task = Some (published_members up g) }) [
+      | true ↦ λ none. absurd (true≢false (sym (subset_none (missing_members up g) (task_set g) none) ∙ not_true (is_subset (missing_members up g) (task_set g)) news))
+      | false ↦ λ _. refl
+    ] refl
+
+-- and no other's
+pub audited_same : (up : Set numbers) (g : Ledger) → is_news up g ≡ false → audited_ledger up g ≡ g
+audited_same up g old =
+    let all : is_subset (missing_members up g) (task_set g) ≡ true = not_not (is_subset (missing_members up g) (task_set g)) old in
+    elim (is_empty (missing_members up g)) as (λ b. is_empty (missing_members up g) ≡ b → (if b then g else record g { task = Some (published_members up g) }) ≡ g) [
+      | true ↦ λ _. refl
+      | false ↦ λ some. ap (λ (o : Option (Set numbers)). record g { task = o }) (ap Some (published_same up g all) ∙ has_task g.task refl some)
+    ] refl
+  where
+    has_task : (o : Option (Set numbers)) → g.task ≡ o → is_empty (missing_members up g) ≡ false → Some (task_set g) ≡ g.task
+    has_task None is some = absurd (true≢false (sym (none_subset (missing_members up g) (subst (λ (o : Option (Set numbers)). is_subset (missing_members up g) (unwrap_or o empty) ≡ true) is (not_not _ old))) ∙ some))
+    has_task (Some task) is some = ap (λ (o : Option (Set numbers)). Some (unwrap_or o empty)) is ∙ sym is
+
+-- a task that an audit changes is another one after it
+pub news_differs : (up : Set numbers) (g : Ledger) → is_news up g ≡ true → g.task ≢ Some (published_members up g)
+news_differs up g news same =
+    let told : task_set g ≡ published_members up g = ap (λ (o : Option (Set numbers)). unwrap_or o empty) same in
+    true≢false (sym (contains-is_subset (missing_members up g) (task_set g) (λ q one.
+    ap (λ (s : Set numbers). contains s q) told ∙ contains-union (task_set g) (missing_members up g) q ∙ or_second (contains (task_set g) q) (contains (missing_members up g) q) one))
+    ∙ not_true (is_subset (missing_members up g) (task_set g)) news)

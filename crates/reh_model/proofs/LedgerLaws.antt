@@ -1,11 +1,13 @@
 -- Ledgers in picture order: finding the ledger of an id, and changing it.
-use Rattle.std.proofs.Common.{◌≡◌, ℕ, zero, suc, true, false, cond, List, [], ◌∷◌, map, Option, None, Some, refl, sym, ap, ◌∙◌, arith, nat_eq, is_some, get_or, set, ◌<◌, ◌≤◌, nat_lt}
-use Rattle.std.specs.Prelude.{◌==◌, ◌+◌, if◌then◌else◌, sum_by, length, position}
+use Rattle.std.proofs.Common.{◌≡◌, ℕ, zero, suc, true, false, cond, List, [], ◌∷◌, map, Option, None, Some, refl, sym, ap, ◌∙◌, arith, nat_eq, is_some, get_or, set, ◌<◌, nat_lt}
+use Rattle.std.specs.Prelude.{◌==◌, ◌+◌, if◌then◌else◌, sum_by, length, position, slice_get}
 use Rattle.std.specs.List.{IsDistinct, AllByRecursion, find, position_or_len}
-use Rattle.std.specs.Option.{option_map, option_map_or, option_and_then}
+use Rattle.std.specs.Option.{IsSome, option_map, option_map_or, option_and_then}
 use Rattle.std.proofs.lemmas.Bool.Decides.{nat_tests}
-use Rattle.std.proofs.lemmas.List.Sums.{sum_by-cons, fails_before_first}
+use Rattle.std.proofs.lemmas.List.Sums.{sum_by-cons}
+use Rattle.std.proofs.lemmas.List.Folds.{find_at}
 use Rattle.std.proofs.lemmas.List.Quantifiers.{position-Some}
+use Rattle.std.proofs.lemmas.Option.{slice_get_within}
 use Rattle.reh_model.specs.Metadata.{stop_of, stripe_of}
 use Rattle.reh_model.specs.Cluster.{Cluster, Ledger, ledger_among, ledger_at, words_among, stop_at, stripe_at, change_ledger}
 
@@ -89,10 +91,10 @@ words_among-changed_ledger l k change keeps_id keeps gs = words_among-map l (cha
 -- Where ids differ
 
 -- a ledger that stands among others with other ids
-abbrev IsApart : ℕ → List Ledger → Type 0
+abbrev pub IsApart : ℕ → List Ledger → Type 0
 IsApart l gs = AllByRecursion (λ k. nat_eq l k ≡ false) (map (λ g. g.id) gs)
 
-apart_at : (l : ℕ) (gs : List Ledger) (k : ℕ) (d : Ledger) → k < length gs → IsApart l gs → nat_eq l (get_or gs k d).id ≡ false
+pub apart_at : (l : ℕ) (gs : List Ledger) (k : ℕ) (d : Ledger) → k < length gs → IsApart l gs → nat_eq l (get_or gs k d).id ≡ false
 apart_at l [] k d within apart = absurd (omega arith)
 apart_at l (g ∷ gs) zero d within apart = apart.0
 apart_at l (g ∷ gs) (suc k) d within apart = apart_at l gs k d (omega arith) apart.1
@@ -142,18 +144,25 @@ ledger_at-position s l k g distinct is stood =
     let id : (get_or s.ledgers k g).id ≡ l = grind (arith, nat_tests, at.1) in
     ap (λ (j : ℕ). find (λ g. g.id == j) s.ledgers) (sym id) ∙ found_itself s.ledgers distinct k g at.0 ∙ ap Some (sym stood)
 
--- and where there is none of that id, it is to change nothing
-pub change_ledger-absent : (s : Cluster) (l : ℕ) (change : Ledger → Ledger) → position (λ g. g.id == l) s.ledgers ≡ None → s ≡ change_ledger s l change
-change_ledger-absent s l change none =
-    let past : length s.ledgers ≤ first s.ledgers = none_past none in
-    ap (λ (gs : List Ledger). record s { ledgers = gs }) (sym (kept_absent l change s.ledgers (λ k d within. fails_before_first (λ g. g.id == l) s.ledgers k d (omega arith))))
-  where
-    first : List Ledger → ℕ
-    first gs = position_or_len (λ g. g.id == l) gs
+-- The place of an id
 
-    none_past : position (λ g. g.id == l) s.ledgers ≡ None → length s.ledgers ≤ first s.ledgers
-    none_past none =
-        elim (nat_lt (first s.ledgers) (length s.ledgers)) as (λ b. nat_lt (first s.ledgers) (length s.ledgers) ≡ b → cond b (Some (first s.ledgers)) None ≡ None → length s.ledgers ≤ first s.ledgers) [
-          | true ↦ λ _ none. cc
-          | false ↦ λ past _. grind (arith, nat_tests)
-        ] refl none
+-- an id that a ledger has has a place,
+pub place-found : (l : ℕ) (gs : List Ledger) → IsSome (find (λ g. g.id == l) gs) → IsSome (position (λ g. g.id == l) gs)
+place-found l gs = has_place (find (λ g. g.id == l) gs) refl where
+  first : ℕ
+  first = position_or_len (λ g. g.id == l) gs
+
+  has_place : (o : Option Ledger) → find (λ g. g.id == l) gs ≡ o → IsSome o → IsSome (position (λ g. g.id == l) gs)
+  has_place None is none = cc
+  has_place (Some g) is some =
+      let within : first < length gs = slice_get_within gs first g (sym (find_at (λ g. g.id == l) gs) ∙ is) in
+      let there : nat_lt first (length gs) ≡ true = grind (arith, nat_tests) in
+      ap (λ b. is_some (cond b (Some first) None)) there
+
+-- where the one that is found stands
+pub found_there : (l k : ℕ) (gs : List Ledger) (g : Ledger) → position (λ g. g.id == l) gs ≡ Some k → find (λ g. g.id == l) gs ≡ Some g → slice_get gs k ≡ Some g
+found_there l k gs g is found =
+    let first : ℕ = position_or_len (λ g. g.id == l) gs in
+    let same : first ≡ k =
+    elim (nat_lt first (length gs)) as (λ b. cond b (Some first) None ≡ Some k → first ≡ k) [ true ↦ λ is. cc | false ↦ λ none. cc ] is in
+    ap (λ n. slice_get gs n) (sym same) ∙ sym (find_at (λ g. g.id == l) gs) ∙ found

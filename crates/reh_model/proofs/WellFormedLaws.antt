@@ -19,12 +19,12 @@ use Rattle.reh_types.specs.Sets.{Set, numbers, contains, insert, remove, union, 
 use Rattle.reh_types.proofs.SetLaws.{All-items}
 use Rattle.reh_model.specs.Contents.{Contents, IsHeld, has, copies_of, greatest_held}
 use Rattle.reh_model.specs.Metadata.{Metadata, Fragment, IsMetadata, is_open, is_in_recovery, end_of_state, last_fragment, with_member, with_member_at, with_fragment_at, with_state, next_version}
-use Rattle.reh_model.specs.Cluster.{Cluster, Ledger, ledger_at, words_among, change_ledger, is_locked_by, due_of, stripe_at}
+use Rattle.reh_model.specs.Cluster.{Cluster, Ledger, ledger_at, change_ledger, is_locked_by, due_of, stripe_at}
 use Rattle.reh_model.specs.Audit.{missing_members, published_members, audited_ledger}
 use Rattle.reh_model.specs.Recovery.{next_entry, is_rolling_over, recovered_end, recovered_at}
 use Rattle.reh_model.specs.Step.{refusal_of, after, locked_ledger, unlocked_ledger, finished_ledger, expired_ledger, timed_lock, with_due, graced_ledger, rolled_ledger, fenced_ledger, sealed_ledger, swapped_ledger}
 use Rattle.reh_model.specs.WellFormed.{IsLedger, IsCopy, IsWellFormed}
-use Rattle.reh_model.proofs.LedgerLaws.{KeepsId, KeepsWords, changed_ledger, KeepsId-changed_ledger, KeepsWords-changed_ledger, ids-map, sum_by-words, words_among-map, words_among-changed_ledger, is_found-map, found_itself}
+use Rattle.reh_model.proofs.LedgerLaws.{KeepsId, KeepsWords, changed_ledger, KeepsId-changed_ledger, KeepsWords-changed_ledger, ids-map, sum_by-words, words_among-map, is_found-map, found_itself}
 use Rattle.reh_model.proofs.ContentsLaws.{All-copy, has-copies_of, greatest_held-held}
 use Rattle.reh_model.proofs.RecoveryLaws.{first_before_next, next_entry-unreadable, first_before_end, recovered_end-least, IsRecovered-at}
 use Rattle.reh_model.proofs.FragmentLaws.{no_end-open, first-last, IsMetadata-added, IsMetadata-state}
@@ -167,9 +167,9 @@ IsWellFormed-united s more was each =
             either (contains s.held q) (contains more q) (can_be q)
             (All-copy can_be s.held was.contents.copies q)
             (λ new.
-                let may = each q.0 q.1 q.2 new in
-                let known : can_be (may.1.0, q.1, q.2) = All-copy can_be s.held was.contents.copies (may.1.0, q.1, q.2) may.1.1 in
-                (may.0, known.1, known.2))
+            let may = each q.0 q.1 q.2 new in
+            let known : can_be (may.1.0, q.1, q.2) = All-copy can_be s.held was.contents.copies (may.1.0, q.1, q.2) may.1.1 in
+            (may.0, known.1, known.2))
             (sym (contains-union s.held more q) ∙ one));
         words = was.contents.words;
       };
@@ -393,7 +393,7 @@ named-remove up k n named b is = named b (and_second (not (eq_by_cmp nat_cmp k b
 -- Each accepted event keeps a cluster well-formed.
 pub IsWellFormed-after : (s : Cluster) (event : Event) → IsWellFormed s → refusal_of s event ≡ None → IsWellFormed (after s event)
 IsWellFormed-after s (Lose b) was none = IsWellFormed-up s (remove s.up b) was (named-remove s.up b (length s.names) was.up)
-IsWellFormed-after s (Join b) was none = IsWellFormed-up s (insert s.up b) was (named-insert s.up b (length s.names) (accepted_join s b none) was.up)
+IsWellFormed-after s (Join b) was none = IsWellFormed-up s (insert s.up b) was (named-insert s.up b (length s.names) (accepted_join s b none).0 was.up)
 IsWellFormed-after s Audit was none = IsWellFormed-ledgers s (audited_ledger s.up) was (KeepsId-audited_ledger s.up) (KeepsWords-audited_ledger s.up) (λ g _ is. IsLedger-audited_ledger s g is)
 IsWellFormed-after s (Acquire w l) was none = IsWellFormed-change_ledger s l (locked_ledger w) was (λ g. refl) (λ g. refl) (λ g found is.
     let may = accepted_acquire s w l g found none in
@@ -404,7 +404,7 @@ IsWellFormed-after s (Expire w) was none = IsWellFormed-ledgers s (expired_ledge
 IsWellFormed-after s (Grace w l) was none = IsWellFormed-change_ledger s l (graced_ledger (s.clock + s.grace)) was (λ g. refl) (λ g. refl) (λ g found is.
     let unfenced : IsTrue (is_open g.metadata.state) = (accepted_grace s w l g found none).state in
     IsLedger-with_due s (Some (s.clock + s.grace)) g (λ tick same. let due : s.clock + s.grace ≡ tick = cc in (omega (arith, due), unfenced)) is)
-IsWellFormed-after s (Tick n) was none = IsWellFormed-clock s (s.clock + n) was (omega arith) (accepted_tick s n none)
+IsWellFormed-after s (Tick n) was none = IsWellFormed-clock s (s.clock + n) was (omega arith) (accepted_tick s n none).1
 IsWellFormed-after s (Roll l i b) was none = IsWellFormed-change_ledger s l (rolled_ledger s i b) was (λ g. refl) (λ g. refl) (λ g found is.
     IsLedger-rolled_ledger s g i b (accepted_roll s l i b g found (next_entry-within s l g was found) is.metadata.version none) is)
 IsWellFormed-after s (Fence w l) was none = IsWellFormed-change_ledger s l fenced_ledger was (λ g. refl) (λ g. refl) (λ g found is.
@@ -420,23 +420,6 @@ IsWellFormed-after s (Copy w l f i v) was none =
     IsWellFormed-copied_all s w l (stripe_at s l f i) was may.named may.held
 IsWellFormed-after s (Swap w l f i v) was none = IsWellFormed-change_ledger s l (swapped_ledger f i w) was (λ g. refl) (λ g. refl) (λ g found is.
     IsLedger-swapped_ledger s g w f i (accepted_swap s w l f i v g found is.metadata.version none) is)
-
--- No event changes how many words a ledger has.
-pub words_among-after : (s : Cluster) (event : Event) (l : ℕ) → words_among (after s event).ledgers l ≡ words_among s.ledgers l
-words_among-after s (Lose b) l = refl
-words_among-after s (Join b) l = refl
-words_among-after s Audit l = words_among-map l (audited_ledger s.up) (KeepsId-audited_ledger s.up) (KeepsWords-audited_ledger s.up) s.ledgers
-words_among-after s (Acquire w k) l = words_among-changed_ledger l k (locked_ledger w) (λ g. refl) (λ g. refl) s.ledgers
-words_among-after s (Release w k) l = words_among-changed_ledger l k unlocked_ledger (λ g. refl) (λ g. refl) s.ledgers
-words_among-after s (Finish w k) l = words_among-changed_ledger l k finished_ledger (λ g. refl) (λ g. refl) s.ledgers
-words_among-after s (Expire w) l = words_among-map l (expired_ledger w) (KeepsId-expired_ledger w) (KeepsWords-expired_ledger w) s.ledgers
-words_among-after s (Grace w k) l = words_among-changed_ledger l k (graced_ledger (s.clock + s.grace)) (λ g. refl) (λ g. refl) s.ledgers
-words_among-after s (Tick n) l = refl
-words_among-after s (Roll k i b) l = words_among-changed_ledger l k (rolled_ledger s i b) (λ g. refl) (λ g. refl) s.ledgers
-words_among-after s (Fence w k) l = words_among-changed_ledger l k fenced_ledger (λ g. refl) (λ g. refl) s.ledgers
-words_among-after s (Seal w k) l = words_among-changed_ledger l k (sealed_ledger s) (λ g. refl) (λ g. refl) s.ledgers
-words_among-after s (Copy w k f i v) l = refl
-words_among-after s (Swap w k f i v) l = words_among-changed_ledger l k (swapped_ledger f i w) (λ g. refl) (λ g. refl) s.ledgers
 
 -- An accepted swap of a ledger that is found.
 pub swappable-found : (s : Cluster) (w l f i v : ℕ) (g : Ledger) → IsWellFormed s → ledger_at s l ≡ Some g → refusal_of s (Swap w l f i v) ≡ None → IsSwappable s g w f i

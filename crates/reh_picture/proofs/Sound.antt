@@ -249,7 +249,7 @@ unfolding each_ledger_fault
 ids_differ names ledgers none = differ nat_eq nat_eq_equiv (λ d. number_of d field.Id) (λ before d. ledger_fault names (ids_in before) d) (ledger_differs names) ledgers none
 
 -- the ids of the ledgers that are made
-ids_made : (names : List (List ℕ)) (held : model.Contents) (ledgers : List Data) → map {A = Ledger} {B = ℕ} (λ g. g.id) (map (ledger_in names held) ledgers) ≡ ids_in ledgers
+pub ids_made : (names : List (List ℕ)) (held : model.Contents) (ledgers : List Data) → map {A = Ledger} {B = ℕ} (λ g. g.id) (map (ledger_in names held) ledgers) ≡ ids_in ledgers
 ids_made names held [] = refl
 ids_made names held (d ∷ ds) = ap (λ (ids : List ℕ). number_of d field.Id ∷ ids) (ids_made names held ds)
 
@@ -472,6 +472,11 @@ pictured_ledgers d good =
 pub pictured_words : (d : Data) → IsFaultless d → All (λ g. ENTRIES_IN_WORD * g.words ≤ ENTRY_END) (pictured_cluster d).ledgers
 pictured_words d good = λ k g within. (pictured_ledgers d good k g within).words
 
+-- their ids differ
+pub pictured_ids : (d : Data) → IsFaultless d → IsDistinct nat_eq (map (λ g. g.id) (pictured_cluster d).ledgers)
+pictured_ids d good =
+    subst (λ (ids : List ℕ). IsDistinct nat_eq ids) (sym (ids_made (names_of d) (contents_of d) (list_of d field.Ledgers))) (ids_differ (names_of d) (list_of d field.Ledgers) good.each_ledger)
+
 -- such parts within the limit of words are a well-formed cluster
 pub IsWellFormed-pictured_cluster : (d : Data) → IsFaultless d → words_in_all (pictured_cluster d) ≤ MAX_WORDS → IsWellFormed (pictured_cluster d)
 IsWellFormed-pictured_cluster d good words =
@@ -488,7 +493,7 @@ IsWellFormed-pictured_cluster d good words =
       up = registered_named (list_of d field.Bookies);
       ledgers = record {
         few = omega (arith, length-map (list_of d field.Ledgers) (ledger_in (names_of d) s.held), good.ledgers);
-        different = subst (λ (ids : List ℕ). IsDistinct nat_eq ids) (sym (ids_made (names_of d) s.held (list_of d field.Ledgers))) (ids_differ (names_of d) (list_of d field.Ledgers) good.each_ledger);
+        different = pictured_ids d good;
         each = pictured_ledgers d good;
       };
       contents = record {

@@ -1,5 +1,6 @@
 // What the bookies of a picture hold.
 ghost use Rattle.std.specs.Prelude.{◌≡◌, ◌≤◌, ◌<◌, ◌+◌, ◌*◌, length, [], ◌∷◌, ◌++◌, ℕ, Some, map, fold, max, cond, nat_eq, IfOk, OnOk, All};
+ghost use Rattle.std.specs.List.{IsDistinct};
 ghost use Rattle.std.specs.Option.{option_map_or};
 ghost use Rattle.std.specs.BTreeMap.{get};
 ghost use Rattle.std.specs.Ordering.{nat_cmp};
@@ -229,7 +230,7 @@ fn note_end(
     Ok(())
 }
 
-/// The contents that are these holdings, of so many bookies, with rows of each ledger for at least as many words as it has.
+/// The contents that are these holdings, of so many bookies, with rows of each ledger for as many words as it has.
 pub(crate) fn hold(
     alloc: Global,
     bookies: usize,
@@ -237,6 +238,7 @@ pub(crate) fn hold(
     holdings: &[Holding],
 ) -> Result<Held, AllocError>
     requires few { length ledgers.now ≤ MAX_LEDGERS }
+    requires different { IsDistinct nat_eq (map (λ g. g.id) ledgers.now) }
     requires words { All (λ g. ENTRIES_IN_WORD * g.words ≤ ENTRY_END) ledgers.now }
     requires ends { All (HasEnds bookies ledgers.now) holdings.now }
     ensures contents { IfOk result (λ held. held.contents ≡ held_in holdings.now) }
@@ -249,9 +251,10 @@ pub(crate) fn hold(
     Ok(held)
 }
 
-/// Contents in which none of so many bookies holds an entry, with rows of each ledger for at least as many words as it has.
+/// Contents in which none of so many bookies holds an entry, with rows of each ledger for as many words as it has.
 fn empty_rows(alloc: Global, bookies: usize, ledgers: &[Ledger]) -> Result<Held, AllocError>
     requires few { length ledgers.now ≤ MAX_LEDGERS }
+    requires different { IsDistinct nat_eq (map (λ g. g.id) ledgers.now) }
     requires words { All (λ g. ENTRIES_IN_WORD * g.words ≤ ENTRY_END) ledgers.now }
     ensures contents { IfOk result (λ held. held.contents ≡ set.empty) }
     ensures rows { IfOk result (HasRows bookies ledgers.now) }

@@ -1,139 +1,296 @@
--- Each move keeps what a session keeps.
-use Rattle.std.proofs.Common.{◌≡◌, ℕ, ◌+◌, ◌-◌, ◌<◌, ◌≤◌, List, [], ◌∷◌, ◌++◌, length, get_or, take, drop, sym, ap, subst, ◌∙◌, Option, None, Some, IsSome, is_some, inl, arith, length-append, refl}
-use Rattle.std.proofs.lemmas.List.{take_more, drop_more, take-take, drop-take, drop-drop, take_all, drop_all, length-take-le, length-drop, take-append-drop}
-use Rattle.std.proofs.Math.Seq.{take-add}
+-- Each move is answered as the machine says, and keeps what a session keeps.
+use Rattle.std.proofs.Common.{◌≡◌, ◌<◌, ◌≤◌, ◌+◌, ◌-◌, ℕ, zero, suc, List, [], ◌∷◌, ◌++◌, length, take, drop, get_or, set, sym, ap, subst, ◌∙◌, refl, arith, Option, Some, None, IsSome, is_some, inl, inr, length-append}
 use Rattle.std.specs.Prelude.{unwrap_or}
+use Rattle.std.proofs.lemmas.List.{take_more, drop_more, take_all, drop_all, take_more_set, take-set, drop-set, drop-set-lt, drop-drop, drop-take, take-take, take-append-drop, length-take-le, length-drop, length-set}
+use Rattle.std.proofs.Math.Seq.{take-add}
 use Rattle.reh_types.specs.declared.limits.TheConstants.{MAX_EVENTS}
 use Rattle.reh_types.specs.declared.moves.Event.{Event}
 use Rattle.reh_types.specs.declared.moves.Move.{Move}
-use Rattle.reh_types.specs.declared.moves.Move.TheVariants.{Do, Undo, Redo}
+use Rattle.reh_types.specs.declared.moves.Move.TheVariants.{Do, Undo, Redo, Look}
 use Rattle.reh_types.specs.declared.moves.Reply.{Reply}
-use Rattle.reh_types.specs.declared.moves.Reply.TheVariants.{Done, Refused}
+use Rattle.reh_types.specs.declared.moves.Reply.TheVariants.{Done, Clock, Refused}
 use Rattle.reh_types.specs.declared.refusals.Refusal.{Refusal}
-use Rattle.reh_types.specs.declared.refusals.Refusal.TheVariants.{NothingToUndo, NothingToRedo}
+use Rattle.reh_types.specs.declared.refusals.Refusal.TheVariants.{NothingToUndo, NothingToRedo, Full, NoMemory}
 use Rattle.reh_model.specs.Cluster.{Cluster}
+use Rattle.reh_model.specs.WellFormed.{IsWellFormed}
+use Rattle.reh_model.specs.Places.{Change, exchanged, left, Fits, IsDelta}
 use Rattle.reh_model.specs.Step.{refusal_of, after}
 use Rattle.reh_model.specs.Swaps.{AllSafe}
-use Rattle.reh_model.specs.Session.{Session, replay, state_of, reply_to, moved_session, Performs, Run}
-use Rattle.reh_model.proofs.SessionLaws.{replay_first, replay-append, replay-prefix, replay_one, reply_unless-some}
+use Rattle.reh_model.specs.Session.{Session, replay, state_of, reply_to, moved_session, Answers, Performs, Run}
+use Rattle.reh_model.proofs.SessionLaws.{replay-append, reply_unless-some}
+use Rattle.reh_model.proofs.ExchangeLaws.{IsDelta-left}
 use Rattle.reh_model.proofs.SwapLaws.{CanRedoAll, CanRedoAll-run, all_safe}
-use Rattle.reh_model.proofs.AcceptedLaws.{done_within, refused_first}
-use Rattle.reh_session.specs.Kept.{session_of, IsKept}
+use Rattle.reh_model.proofs.AcceptedLaws.{done_within, full_without, refused_first}
+use Rattle.reh_session.specs.Kept.{led_back, led_on, session_of, Trail, Ahead, IsKept}
+use Rattle.reh_session.proofs.Trails.{led_back-trail, replay-trail, replay-trail-first, replay-ahead, replay-ahead-first, trail_more, trail_less, IsLast}
 
--- the state is that of the session
-state_is : {o s : Cluster} {es : List Event} {k : ℕ} → IsKept o s es k → (m : Session) → session_of o es k ≡ m → state_of m ≡ s
-state_is {o} {s} {es} {k} h m is = ap (λ (n : Session). state_of n) (sym is) ∙ ap (λ (x : Option Cluster). unwrap_or x o) h.replayed
+-- Lists
 
--- an event is done where the state accepts it, and there is room
-pub act_done : {o s : Cluster} {es : List Event} {k : ℕ} → IsKept o s es k → (e : Event) → refusal_of s e ≡ None → k < MAX_EVENTS → (m : Session) → session_of o es k ≡ m → reply_to m (Do e) ≡ Done
-act_done {o} {s} {es} {k} h e accepted room m is =
-    let few : length m.done < MAX_EVENTS = omega (arith, length-take-le k es h.within, ap (λ (n : Session). length n.done) is) in
-    done_within m e (ap (λ (x : Cluster). refusal_of x e) (state_is h m is) ∙ accepted) few
+-- the element at a place
+one_at : {X : Type 0} (xs : List X) (j : ℕ) → j < length xs → (x : X) × (x ≡ get_or xs j x)
+one_at [] j h = absurd (omega arith)
+one_at (x ∷ xs) zero h = (x, refl)
+one_at (x ∷ xs) (suc j) h = one_at xs j (omega arith)
 
--- and it is answered with the state's refusal, if there is one
-pub act_refused : {o s : Cluster} {es : List Event} {k : ℕ} → IsKept o s es k → (e : Event) (r : Refusal) → refusal_of s e ≡ Some r → (m : Session) → session_of o es k ≡ m → Performs m (Do e) (Refused r) m
-act_refused {o} {s} {es} {k} h e r refused m is = inl (sym (refused_first m e r (ap (λ (x : Cluster). refusal_of x e) (state_is h m is) ∙ refused)), refl)
+take_one : {X : Type 0} (xs : List X) (j : ℕ) (x : X) → j < length xs → x ≡ get_or xs j x → take (j + 1) xs ≡ take j xs ++ x ∷ []
+take_one xs j x h is = take_more xs j x h ∙ ap (λ y. take j xs ++ y ∷ []) (sym is)
 
--- an event is made, and what was undone is dropped
-pub acted : {o s : Cluster} {es : List Event} {k : ℕ} → IsKept o s es k → (e : Event) (new : List Event) → refusal_of s e ≡ None → k < MAX_EVENTS → new ≡ take k es ++ e ∷ [] → IsKept o (after s e) new (k + 1)
-acted {o} {s} {es} {k} h e new accepted room is =
-    let front : length (take k es) ≡ k = length-take-le k es h.within in
-    let size : length new ≡ k + 1 = ap length is ∙ length-append (take k es) (e ∷ []) ∙ ap (λ n. n + 1) front in
-    record {
-      within = omega arith;
-      few = omega arith;
-      replayed =
-          ap (replay o) (take_all (k + 1) new (omega arith) ∙ is)
-          ∙ replay-append o s (take k es) (e ∷ []) h.replayed ∙ replay_one s e accepted;
-      redoable = ap (λ fs. is_some (replay (after s e) fs)) (drop_all (k + 1) new (omega arith));
-    }
+drop_one : {X : Type 0} (xs : List X) (j : ℕ) (x : X) → j < length xs → x ≡ get_or xs j x → drop j xs ≡ x ∷ drop (j + 1) xs
+drop_one xs j x h is = drop_more xs j x h ∙ ap (λ y. y ∷ drop (j + 1) xs) (sym is)
 
--- and the session is what the move makes of it
-pub act_moves : {o s : Cluster} {es : List Event} {k : ℕ} → IsKept o s es k → (e : Event) (new : List Event) → new ≡ take k es ++ e ∷ [] → session_of o new (k + 1) ≡ moved_session (session_of o es k) (Do e)
-act_moves {o} {s} {es} {k} h e new is =
-    let size : length new ≡ k + 1 = ap length is ∙ length-append (take k es) (e ∷ []) ∙ ap (λ n. n + 1) (length-take-le k es h.within) in
-    λ i. record { opening = o; done = (take_all (k + 1) new (omega arith) ∙ is) i; undone = drop_all (k + 1) new (omega arith) i }
-
--- the event behind the cursor can be made
-pub redo_accepted : {o s : Cluster} {es : List Event} {k : ℕ} → IsKept o s es k → (e : Event) → k < length es → e ≡ get_or es k e → (refusal_of s e ≡ None) × IsSome (replay (after s e) (drop (k + 1) es))
-redo_accepted {o} {s} {es} {k} h e more is =
-    let rest : drop k es ≡ e ∷ drop (k + 1) es = drop_more es k e more ∙ ap (λ (x : Event). x ∷ drop (k + 1) es) (sym is) in
-    let there : IsSome (replay s (e ∷ drop (k + 1) es)) = ap (λ fs. is_some (replay s fs)) (sym rest) ∙ h.redoable in
-    let first : (refusal_of s e ≡ None) × (replay s (e ∷ drop (k + 1) es) ≡ replay (after s e) (drop (k + 1) es)) = replay_first s e (drop (k + 1) es) there in
-    (first.0, ap is_some (sym first.1) ∙ there)
-
--- an event is redone
-pub redone : {o s : Cluster} {es : List Event} {k : ℕ} → IsKept o s es k → (e : Event) → k < length es → e ≡ get_or es k e → IsKept o (after s e) es (k + 1)
-redone {o} {s} {es} {k} h e more is =
-    let ok : (refusal_of s e ≡ None) × IsSome (replay (after s e) (drop (k + 1) es)) = redo_accepted h e more is in
-    record {
-      within = omega arith;
-      few = h.few;
-      replayed =
-          ap (replay o) (take_more es k e more ∙ ap (λ (x : Event). take k es ++ x ∷ []) (sym is))
-          ∙ replay-append o s (take k es) (e ∷ []) h.replayed ∙ replay_one s e ok.0;
-      redoable = ok.1;
-    }
-
--- all events but the newest surviving one can be replayed
-pub undo_replays : {o s : Cluster} {es : List Event} {k : ℕ} → IsKept o s es k → IsSome (replay o (take (k - 1) es))
-undo_replays {o} {s} {es} {k} h =
-    replay-prefix o (take (k - 1) es) (drop (k - 1) (take k es))
-    (ap (λ fs. is_some (replay o fs)) (shorter es k h.within) ∙ ap is_some h.replayed)
-  where
-    shorter : (es : List Event) (k : ℕ) → k ≤ length es → take (k - 1) es ++ drop (k - 1) (take k es) ≡ take k es
-    shorter es k h = ap (λ fs. fs ++ drop (k - 1) (take k es)) (sym (take-take (k - 1) k es (omega arith))) ∙ take-append-drop (k - 1) (take k es)
-
--- the events from a place on, cut one further
-pub drop_in_two : (es : List Event) (k : ℕ) → 0 < k → drop (k - 1) (take k es) ++ drop k es ≡ drop (k - 1) es
-drop_in_two es k some =
+-- the elements from a place on, cut one further
+drop_in_two : {X : Type 0} (xs : List X) (k : ℕ) → 0 < k → drop (k - 1) (take k xs) ++ drop k xs ≡ drop (k - 1) xs
+drop_in_two xs k some =
     let one : k ≡ (k - 1) + 1 = omega arith in
-    ap (λ n. drop (k - 1) (take n es) ++ drop n es) one
-    ∙ ap (λ fs. fs ++ drop ((k - 1) + 1) es) (drop-take (k - 1) 1 es)
-    ∙ ap (λ fs. take 1 (drop (k - 1) es) ++ fs) (sym (drop-drop 1 (k - 1) es))
-    ∙ take-append-drop 1 (drop (k - 1) es)
+    ap (λ n. drop (k - 1) (take n xs) ++ drop n xs) one
+    ∙ ap (λ ys. ys ++ drop ((k - 1) + 1) xs) (drop-take (k - 1) 1 xs)
+    ∙ ap (λ ys. take 1 (drop (k - 1) xs) ++ ys) (sym (drop-drop 1 (k - 1) xs))
+    ∙ take-append-drop 1 (drop (k - 1) xs)
 
--- the newest surviving event is undone
-pub undone_one : {o s : Cluster} {es : List Event} {k : ℕ} → IsKept o s es k → (t : Cluster) → 0 < k → replay o (take (k - 1) es) ≡ Some t → IsKept o t es (k - 1)
-undone_one {o} {s} {es} {k} h t some is = record {
-  within = omega arith;
-  few = h.few;
-  replayed = is;
-  redoable =
-      let front : replay t (drop (k - 1) (take k es)) ≡ Some s =
-      sym (replay-append o t (take (k - 1) (take k es)) (drop (k - 1) (take k es)) (ap (replay o) (take-take (k - 1) k es (omega arith)) ∙ is))
-      ∙ ap (replay o) (take-append-drop (k - 1) (take k es)) ∙ h.replayed in
-      ap (λ fs. is_some (replay t fs)) (sym (drop_in_two es k some))
-      ∙ ap is_some (replay-append t s (drop (k - 1) (take k es)) (drop k es) front) ∙ h.redoable;
-}
+-- What is kept of a session
 
--- undo moves the cursor back by one
-pub undo_performs : (o : Cluster) (es : List Event) (k : ℕ) → k ≤ length es → 0 < k → Performs (session_of o es k) Undo Done (session_of o es (k - 1))
-undo_performs o es k within some =
-    let size : length (take k es) ≡ k = length-take-le k es within in inl (
-      sym (reply_unless-some (length (take k es)) NothingToUndo (omega arith)),
-      (λ i. record {
-        opening = o;
-        done = (sym (take-take (k - 1) k es (omega arith)) ∙ ap (λ n. take (n - 1) (take k es)) (sym size)) i;
-        undone = (sym (drop_in_two es k some) ∙ ap (λ n. drop (n - 1) (take k es) ++ drop k es) (sym size)) i;
-      }),
-    )
+module _ {s : Cluster} {es : List Event} {rs : List (List Change)} {k : ℕ} (h : IsKept s es rs k) where
+  -- the surviving events lead from the opening cluster to the state
+  pub replay_done : replay (led_back s (take k rs)) (take k es) ≡ Some s
+  replay_done = replay-trail (led_back s (take k rs)) (take k es) (take k rs) s h.done
 
--- redo moves it on by one
-pub redo_performs : (o : Cluster) (es : List Event) (k : ℕ) → k < length es → Performs (session_of o es k) Redo Done (session_of o es (k + 1))
-redo_performs o es k more = inl (
-  sym (reply_unless-some (length (drop k es)) NothingToRedo (omega (arith, length-drop k es))),
-  (λ i. record { opening = o; done = take-add k 1 es i; undone = sym (drop-drop 1 k es) i }),
-)
+  -- all events can be made again, those that survive and then those that are undone
+  pub all_redoable : IsSome (replay (led_back s (take k rs)) (take k es ++ drop k es))
+  all_redoable = ap is_some (replay-append (led_back s (take k rs)) s (take k es) (drop k es) replay_done) ∙ replay-ahead s (drop k es) (drop k rs) h.undone
 
--- all events can be made again, those that survive and then those that are undone
-pub all_redoable : {o s : Cluster} {es : List Event} {k : ℕ} → IsKept o s es k → IsSome (replay o (take k es ++ drop k es))
-all_redoable {o} {s} {es} {k} h = ap is_some (replay-append o s (take k es) (drop k es) h.replayed) ∙ h.redoable
+  module _ (m : Session) (is : session_of s es rs k ≡ m) where
+    -- the state is that of the session
+    state_is : state_of m ≡ s
+    state_is = ap (λ (n : Session). state_of n) (sym is) ∙ ap (λ (x : Option Cluster). unwrap_or x (led_back s (take k rs))) replay_done
 
--- so each surviving swap keeps its promise
-pub kept_safe : {o s : Cluster} {es : List Event} {k : ℕ} → IsKept o s es k → (m : Session) → session_of o es k ≡ m → AllSafe m
-kept_safe h m is = subst AllSafe is (all_safe _ (all_redoable h))
+    -- an event is answered with the state's refusal, if there is one
+    pub act_refused : (e : Event) (r : Refusal) → refusal_of s e ≡ Some r → Performs m (Do e) (Refused r) m
+    act_refused e r refused = inl (sym (refused_first m e r (ap (λ (x : Cluster). refusal_of x e) state_is ∙ refused)), refl)
 
--- and still does after a run
-pub run_safe : {o s : Cluster} {es : List Event} {k : ℕ} → IsKept o s es k → (m n : Session) (moves : List Move) (replies : List Reply) → session_of o es k ≡ m → Run m moves replies n → AllSafe n
-run_safe h m n moves replies is run = all_safe n (CanRedoAll-run m moves replies n run (subst CanRedoAll is (all_redoable h)))
+    -- else with `Full`, where there is no room for it
+    pub act_full : (e : Event) → refusal_of s e ≡ None → MAX_EVENTS ≤ k → Performs m (Do e) (Refused Full) m
+    act_full e accepted full =
+        let many : MAX_EVENTS ≤ length m.done = omega (arith, length-take-le k es h.within, ap (λ (n : Session). length n.done) is) in
+        inl (sym (full_without m e (ap (λ (x : Cluster). refusal_of x e) state_is ∙ accepted) many), refl)
+
+    -- else it is done
+    pub act_done : (e : Event) → refusal_of s e ≡ None → k < MAX_EVENTS → reply_to m (Do e) ≡ Done
+    act_done e accepted room =
+        let few : length m.done < MAX_EVENTS = omega (arith, length-take-le k es h.within, ap (λ (n : Session). length n.done) is) in
+        done_within m e (ap (λ (x : Cluster). refusal_of x e) state_is ∙ accepted) few
+
+    -- or nothing changes, where there is no memory for it
+    pub act_wants : (e : Event) → refusal_of s e ≡ None → k < MAX_EVENTS → (n : Session) → n ≡ m → Performs m (Do e) (Refused NoMemory) n
+    act_wants e accepted room n same = inr (refl, refl, act_done e accepted room, same)
+
+    -- a look shows the state's clock
+    pub look_answers : (clock : ℕ) → clock ≡ s.clock → Performs m Look (Clock clock) m
+    look_answers clock shown = inl (ap Clock (shown ∙ ap (λ (x : Cluster). x.clock) (sym state_is)), refl)
+
+    -- each surviving swap keeps its promise
+    pub kept_safe : AllSafe m
+    kept_safe = subst AllSafe is (all_safe _ all_redoable)
+
+    -- and still does after a run
+    pub run_safe : (n : Session) (moves : List Move) (replies : List Reply) → Run m moves replies n → AllSafe n
+    run_safe n moves replies run = all_safe n (CanRedoAll-run m moves replies n run (subst CanRedoAll is all_redoable))
+
+-- the records lead back from the state, each to where its event was made
+pub replay_back : {s : Cluster} {es : List Event} {rs : List (List Change)} {k : ℕ} → IsKept s es rs k → (j : ℕ) → j ≤ length (take k es)
+    → replay (led_back s (take k rs)) (take j (take k es)) ≡ Some (led_back (state_of (session_of s es rs k)) (drop j (take (length (take k es)) rs)))
+replay_back {s} {es} {rs} {k} h j within =
+    replay-trail-first (led_back s (take k rs)) (take k es) (take k rs) s h.done j within
+    ∙ (λ i. Some (led_back (sym (state_is h (session_of s es rs k) refl) i) (drop j (take (sym (length-take-le k es h.within) i) rs))))
+
+-- and on, each to where its event leads
+pub replay_forth : {s : Cluster} {es : List Event} {rs : List (List Change)} {k : ℕ} → IsKept s es rs k → (j : ℕ) → j ≤ length (drop k es)
+    → replay (led_back s (take k rs)) (take k es ++ take j (drop k es)) ≡ Some (led_on (state_of (session_of s es rs k)) (take j (drop (length (take k es)) rs)))
+replay_forth {s} {es} {rs} {k} h j within =
+    replay-append (led_back s (take k rs)) s (take k es) (take j (drop k es)) (replay_done h)
+    ∙ replay-ahead-first s (drop k es) (drop k rs) h.undone j within
+    ∙ (λ i. Some (led_on (sym (state_is h (session_of s es rs k) refl) i) (take j (drop (sym (length-take-le k es h.within) i) rs))))
+
+-- Undo
+
+-- the cursor behind an event
+module _ (s : Cluster) (es : List Event) (rs : List (List Change)) (j : ℕ) (h : IsKept s es rs (j + 1)) (r : List Change) (at_j : r ≡ get_or rs j r) where
+  in_es : j < length es
+  in_es = omega (arith, h.within)
+
+  in_rs : j < length rs
+  in_rs = omega (arith, h.within, h.paired)
+
+  last_event : (e : Event) × (e ≡ get_or es j e)
+  last_event = one_at es j in_es
+
+  last : IsLast (led_back s (take (j + 1) rs)) (take j es) (take j rs) (last_event.0) r s
+  last =
+      trail_less (led_back s (take (j + 1) rs)) (take j es) (take j rs) (last_event.0) r s
+      (subst (λ (xs : List Event). Trail (led_back s (take (j + 1) rs)) xs (take j rs ++ r ∷ []) s) (take_one es j (last_event.0) in_es (last_event.1))
+      (subst (λ (qs : List (List Change)). Trail (led_back s (take (j + 1) rs)) (take (j + 1) es) qs s) (take_one rs j r in_rs at_j) h.done))
+
+  same_opening : led_back (exchanged s r) (take j (set rs j (left s r))) ≡ led_back s (take (j + 1) rs)
+  same_opening = ap (λ (qs : List (List Change)). led_back (exchanged s r) qs) (take-set rs j (left s r)) ∙ led_back-trail _ (take j es) (take j rs) (exchanged s r) last.before
+
+  undo_keeps_at : IsKept (exchanged s r) es (set rs j (left s r)) j
+  undo_keeps_at =
+      let e : Event = last_event.0 in
+      record {
+        within = omega (arith, h.within);
+        few = h.few;
+        paired = length-set rs j (left s r) ∙ h.paired;
+        well_formed = last.delta.fits.well_formed;
+        done =
+            subst (λ (o : Cluster). Trail o (take j es) (take j (set rs j (left s r))) (exchanged s r)) (sym same_opening)
+            (subst (λ (qs : List (List Change)). Trail (led_back s (take (j + 1) rs)) (take j es) qs (exchanged s r)) (sym (take-set rs j (left s r))) last.before);
+        undone =
+            subst (λ (xs : List Event). Ahead (exchanged s r) xs (drop j (set rs j (left s r)))) (sym (drop_one es j e in_es (last_event.1)))
+            (subst (λ (qs : List (List Change)). Ahead (exchanged s r) (e ∷ drop (j + 1) es) qs) (sym (drop-set rs j (left s r) in_rs)) (
+              last.accepted,
+              subst (λ (t : Cluster). IsDelta (exchanged s r) t (left s r)) (sym last.made) (IsDelta-left s (exchanged s r) r h.well_formed last.delta),
+              subst (λ (t : Cluster). Ahead t (drop (j + 1) es) (drop (j + 1) rs)) (sym last.made) h.undone,
+            ));
+      }
+
+one_less : (k : ℕ) → 0 < k → (k - 1) + 1 ≡ k
+one_less k h = omega arith
+
+kept_at : {s : Cluster} {es : List Event} {rs : List (List Change)} {k : ℕ} → 0 < k → IsKept s es rs k → IsKept s es rs ((k - 1) + 1)
+kept_at {s} {es} {rs} {k} some h = subst (λ n. IsKept s es rs n) (sym (one_less k some)) h
+
+-- the record before the cursor
+module _ {s : Cluster} {es : List Event} {rs : List (List Change)} {k : ℕ} (h : IsKept s es rs k) (some : 0 < k) (r : List Change) (is : r ≡ get_or rs (k - 1) r) where
+  -- it can be exchanged
+  pub undo_fits : Fits s r
+  undo_fits = (last s es rs (k - 1) (kept_at some h) r is).delta.fits
+
+  module _ (l : List Change) (u : Cluster) (made : u ≡ exchanged s r) (leaves : l ≡ left s r) where
+    -- which keeps what a session keeps,
+    pub undo_keeps : IsKept u es (set rs (k - 1) l) (k - 1)
+    undo_keeps =
+        subst (λ (t : Cluster). IsKept t es (set rs (k - 1) l) (k - 1)) (sym made)
+        (subst (λ (q : List Change). IsKept (exchanged s r) es (set rs (k - 1) q) (k - 1)) (sym leaves) (undo_keeps_at s es rs (k - 1) (kept_at some h) r is))
+
+    -- and is an undo
+    pub undo_answers : Answers (session_of s es rs k) Undo Done (session_of u es (set rs (k - 1) l) (k - 1))
+    undo_answers =
+        let size : length (take k es) ≡ k = length-take-le k es h.within in
+        let opening : led_back u (take (k - 1) (set rs (k - 1) l)) ≡ led_back s (take k rs) =
+        ap (λ (t : Cluster). led_back t (take (k - 1) (set rs (k - 1) l))) made
+        ∙ ap (λ (q : List Change). led_back (exchanged s r) (take (k - 1) (set rs (k - 1) q))) leaves
+        ∙ same_opening s es rs (k - 1) (kept_at some h) r is
+        ∙ ap (λ n. led_back s (take n rs)) (one_less k some) in (
+          sym (reply_unless-some (length (take k es)) NothingToUndo (omega (arith, size))),
+          (λ i. record {
+            opening = opening i;
+            done = (sym (take-take (k - 1) k es (omega arith)) ∙ ap (λ n. take (n - 1) (take k es)) (sym size)) i;
+            undone = (sym (drop_in_two es k some) ∙ ap (λ n. drop (n - 1) (take k es) ++ drop k es) (sym size)) i;
+          }),
+        )
+
+-- Redo
+
+-- the record behind the cursor
+module _ {s : Cluster} {es : List Event} {rs : List (List Change)} {k : ℕ} (h : IsKept s es rs k) (more : k < length es) (r : List Change) (at_k : r ≡ get_or rs k r) where
+  next_event : (e : Event) × (e ≡ get_or es k e)
+  next_event = one_at es k more
+
+  more_records : k < length rs
+  more_records = omega (arith, h.paired)
+
+  next : (refusal_of s (next_event.0) ≡ None) × IsDelta s (after s (next_event.0)) r × Ahead (after s (next_event.0)) (drop (k + 1) es) (drop (k + 1) rs)
+  next =
+      subst (λ (xs : List Event). Ahead s xs (r ∷ drop (k + 1) rs)) (drop_one es k (next_event.0) more (next_event.1))
+      (subst (λ (qs : List (List Change)). Ahead s (drop k es) qs) (drop_one rs k r more_records at_k) h.undone)
+
+  -- it can be exchanged
+  pub redo_fits : Fits s r
+  redo_fits = next.1.fits
+
+  redo_trail : Trail (led_back s (take k rs)) (take (k + 1) es) (take (k + 1) (set rs k (left s r))) (after s (next_event.0))
+  redo_trail =
+      let e : Event = next_event.0 in
+      subst (λ (xs : List Event). Trail (led_back s (take k rs)) xs (take (k + 1) (set rs k (left s r))) (after s e)) (sym (take_one es k e more (next_event.1)))
+      (subst (λ (qs : List (List Change)). Trail (led_back s (take k rs)) (take k es ++ e ∷ []) qs (after s e)) (sym (take_more_set rs k (left s r) more_records))
+      (trail_more (led_back s (take k rs)) (take k es) (take k rs) s h.done e (left s r) next.0 (IsDelta-left s (after s e) r h.well_formed next.1)))
+
+  redo_opening : led_back (after s (next_event.0)) (take (k + 1) (set rs k (left s r))) ≡ led_back s (take k rs)
+  redo_opening = led_back-trail _ (take (k + 1) es) _ _ redo_trail
+
+  redo_keeps_at : IsKept (after s (next_event.0)) es (set rs k (left s r)) (k + 1)
+  redo_keeps_at = record {
+    within = omega arith;
+    few = h.few;
+    paired = length-set rs k (left s r) ∙ h.paired;
+    well_formed = subst IsWellFormed next.1.makes next.1.fits.well_formed;
+    done = subst (λ (o : Cluster). Trail o (take (k + 1) es) (take (k + 1) (set rs k (left s r))) (after s (next_event.0))) (sym redo_opening) redo_trail;
+    undone = subst (λ (qs : List (List Change)). Ahead (after s (next_event.0)) (drop (k + 1) es) qs) (sym (drop-set-lt (k + 1) rs k (left s r) (omega arith))) next.2;
+  }
+
+  module _ (l : List Change) (u : Cluster) (made : u ≡ exchanged s r) (leaves : l ≡ left s r) where
+    made_after : u ≡ after s (next_event.0)
+    made_after = made ∙ next.1.makes
+
+    -- which keeps what a session keeps,
+    pub redo_keeps : IsKept u es (set rs k l) (k + 1)
+    redo_keeps =
+        subst (λ (t : Cluster). IsKept t es (set rs k l) (k + 1)) (sym made_after)
+        (subst (λ (q : List Change). IsKept (after s (next_event.0)) es (set rs k q) (k + 1)) (sym leaves) redo_keeps_at)
+
+    -- and is a redo
+    pub redo_answers : Answers (session_of s es rs k) Redo Done (session_of u es (set rs k l) (k + 1))
+    redo_answers =
+        let opening : led_back u (take (k + 1) (set rs k l)) ≡ led_back s (take k rs) =
+        ap (λ (t : Cluster). led_back t (take (k + 1) (set rs k l))) made_after
+        ∙ ap (λ (q : List Change). led_back (after s (next_event.0)) (take (k + 1) (set rs k q))) leaves ∙ redo_opening in (
+          sym (reply_unless-some (length (drop k es)) NothingToRedo (omega (arith, length-drop k es))),
+          (λ i. record { opening = opening i; done = take-add k 1 es i; undone = sym (drop-drop 1 k es) i }),
+        )
+
+-- Act
+
+module _ {s : Cluster} {es : List Event} {rs : List (List Change)} {k : ℕ} (h : IsKept s es rs k) (e : Event) (accepted : refusal_of s e ≡ None) (room : k < MAX_EVENTS) (r : List Change) (delta : IsDelta s (after s e) r) where
+  act_trail : Trail (led_back s (take k rs)) (take k es ++ e ∷ []) (take k rs ++ left s r ∷ []) (after s e)
+  act_trail = trail_more (led_back s (take k rs)) (take k es) (take k rs) s h.done e (left s r) accepted (IsDelta-left s (after s e) r h.well_formed delta)
+
+  module _ (l : List Change) (u : Cluster) (fs : List Event) (qs : List (List Change)) (made : u ≡ exchanged s r) (leaves : l ≡ left s r) (events : fs ≡ take k es ++ e ∷ []) (records : qs ≡ take k rs ++ l ∷ []) where
+    event_count : length fs ≡ k + 1
+    event_count = ap length events ∙ length-append (take k es) (e ∷ []) ∙ ap (λ n. n + 1) (length-take-le k es h.within)
+
+    record_count : length qs ≡ k + 1
+    record_count = ap length records ∙ length-append (take k rs) (l ∷ []) ∙ ap (λ n. n + 1) (length-take-le k rs (omega (arith, h.within, h.paired)))
+
+    all_events : take (k + 1) fs ≡ take k es ++ e ∷ []
+    all_events = take_all (k + 1) fs (omega (arith, event_count)) ∙ events
+
+    all_records : take (k + 1) qs ≡ take k rs ++ left s r ∷ []
+    all_records = take_all (k + 1) qs (omega (arith, record_count)) ∙ records ∙ ap (λ (q : List Change). take k rs ++ q ∷ []) leaves
+
+    act_made : u ≡ after s e
+    act_made = made ∙ delta.makes
+
+    trail_now : Trail (led_back s (take k rs)) (take (k + 1) fs) (take (k + 1) qs) u
+    trail_now =
+        subst (λ (xs : List Event). Trail (led_back s (take k rs)) xs (take (k + 1) qs) u) (sym all_events)
+        (subst (λ (ys : List (List Change)). Trail (led_back s (take k rs)) (take k es ++ e ∷ []) ys u) (sym all_records)
+        (subst (λ (t : Cluster). Trail (led_back s (take k rs)) (take k es ++ e ∷ []) (take k rs ++ left s r ∷ []) t) (sym act_made) act_trail))
+
+    opening_now : led_back u (take (k + 1) qs) ≡ led_back s (take k rs)
+    opening_now = led_back-trail _ (take (k + 1) fs) _ _ trail_now
+
+    -- an event is made, and what was undone is dropped
+    pub act_keeps : IsKept u fs qs (k + 1)
+    act_keeps = record {
+      within = omega (arith, event_count);
+      few = omega (arith, event_count);
+      paired = record_count ∙ sym event_count;
+      well_formed = subst IsWellFormed (sym made) delta.fits.well_formed;
+      done = subst (λ (o : Cluster). Trail o (take (k + 1) fs) (take (k + 1) qs) u) (sym opening_now) trail_now;
+      undone =
+          subst (λ (xs : List Event). Ahead u xs (drop (k + 1) qs)) (sym (drop_all (k + 1) fs (omega (arith, event_count))))
+          (subst (λ (ys : List (List Change)). Ahead u [] ys) (sym (drop_all (k + 1) qs (omega (arith, record_count)))) tt);
+    }
+
+    -- and the session is what the move makes of it
+    pub act_moves : session_of u fs qs (k + 1) ≡ moved_session (session_of s es rs k) (Do e)
+    act_moves = λ i. record { opening = opening_now i; done = all_events i; undone = drop_all (k + 1) fs (omega (arith, event_count)) i }

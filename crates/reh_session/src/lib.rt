@@ -2,7 +2,6 @@
 #![tactic(auto)]
 
 mod laws;
-mod replays;
 mod sessions;
 
 pub use laws::{stripes_stay, undo_restores};

@@ -1,23 +1,24 @@
 // Sessions, which can undo and redo.
-ghost use Rattle.std.specs.Prelude.{◌≡◌, All, ◌+◌, ◌-◌, ◌<◌, ◌≤◌, ◌∷◌, [], ◌++◌, length, take, Some, IsSome, IfOk, IfErr, OnErr, OnOk};
+ghost use Rattle.std.specs.Prelude.{◌≡◌, ℕ, All, ◌+◌, ◌<◌, ◌≤◌, ◌∷◌, [], ◌++◌, length, take, drop, Some, IsSome, IfOk, OnErr, OnOk, vec_capacity};
 ghost use Rattle.reh_types.specs.declared.limits.TheConstants.{MAX_EVENTS};
+ghost use Rattle.std.specs.Result.{IsOkAnd};
 ghost use Rattle.reh_model.specs.Session.{replay as replayed};
 
-use crate::replays::replay;
-use reh_cluster::State;
-use reh_step::{apply, check};
+use reh_cluster::{Changes, State};
+use reh_step::{changes_of, check};
 use reh_types::{Event, MAX_EVENTS, Move, Refusal, Reply};
 use std::alloc::{AllocError, Global};
 use std::marker::Model;
 
 /// The events that were made on a cluster, with undo and redo.
 ///
-/// Contracts see the opening cluster, the surviving events and the undone ones.
+/// Contracts see the opening cluster, the surviving events and the undone ones. No field keeps the opening cluster: it
+/// is the one to which the records of the surviving events lead back.
 #[derive(Drop)]
 pub struct Session {
-    opening: State,
     state: State,
     events: Vec<Event>,
+    records: Vec<Changes>,
     cursor: usize,
 }
 
@@ -27,25 +28,26 @@ impl Model for Session {
 
     ghost Value = { model.Session };
 
-    ghost view = { λ s. session_of s.opening s.events.items s.cursor };
+    ghost view = { λ s. session_of s.state s.events.items s.records.items s.cursor };
 
-    ghost invariant = { λ s. IsKept s.opening s.state s.events.items s.cursor };
+    ghost invariant = { λ s. IsKept s.state s.events.items s.records.items s.cursor };
 }
 
 impl Session {
     ghost use Rattle.reh_types.specs.declared.moves.Move.TheVariants.{Do, Undo, Redo};
-    ghost use Rattle.reh_model.specs.Session.{opened_session, state_of, Performs, Run, reply_of};
+    ghost use Rattle.reh_model.specs.Session.{opened_session, state_of, Answers, Performs, Run, reply_of};
     ghost use Rattle.reh_model.specs.Swaps.{HoldsStripe, IsSafe, IsSafeRun, AllSafe};
+    ghost use Rattle.reh_session.specs.Kept.{led_back, led_on};
 
-    /// A session on this state, with no event. Where there is no memory, the state is dropped.
+    /// A session on this state, with no event. It takes no memory and cannot fail.
     pub fn open(alloc: Global, state: State) -> Result<Session, AllocError>
-        ensures { IfOk result (λ session. session ≡ opened_session state) }
+        ensures { IsOkAnd result (λ session. session ≡ opened_session state) }
     {
-        let opening = state.clone_in()?;
+        let _well_formed = state.names();
         Ok(Session {
-            opening,
             state,
             events: Vec::new(alloc),
+            records: Vec::new(alloc),
             cursor: 0,
         })
     }
@@ -75,6 +77,18 @@ impl Session {
         &self.events[self.cursor..]
     }
 
+    /// The records of these events: first those of the surviving ones, oldest first, each of which leads back over its
+    /// event; and then those of the undone ones, each of which makes its event again.
+    pub fn records(&self) -> &[Changes]
+        ensures count { length result.now ≡ length self.now.done + length self.now.undone }
+        ensures back { (k : ℕ) → k ≤ length self.now.done → replayed self.now.opening (take k self.now.done)
+            ≡ Some (led_back (state_of self.now) (drop k (take (length self.now.done) result.now))) }
+        ensures forth { (k : ℕ) → k ≤ length self.now.undone → replayed self.now.opening (self.now.done ++ take k self.now.undone)
+            ≡ Some (led_on (state_of self.now) (take k (drop (length self.now.done) result.now))) }
+    {
+        &self.records
+    }
+
     /// Makes an event, unless it is refused: by the event's own refusals first, then by `Full`, and then for want of memory. A refused event changes nothing.
     ///
     /// No swap that is made loses an entry (`safe`): the worker's bookie holds each one that the fragment stripes
@@ -88,39 +102,41 @@ impl Session {
         if self.cursor >= MAX_EVENTS {
             return Err(Refusal::Full);
         }
-        let state = apply(&self.state, event)?;
-        keep(&mut self.events, self.cursor, *event)?;
+        let alloc = *self.events.allocator();
+        let mut changes = changes_of(alloc, &self.state, event)?;
+        make_room(&mut self.events, self.cursor)?;
+        make_room(&mut self.records, self.cursor)?;
+        self.state.exchange(&mut changes);
+        keep(&mut self.events, self.cursor, *event);
+        keep(&mut self.records, self.cursor, changes);
         self.cursor += 1;
-        self.state = state;
         Ok(())
     }
 
-    /// Undoes the newest surviving event.
+    /// Undoes the newest surviving event. It takes no memory, and cannot fail but for `NothingToUndo`, which changes
+    /// nothing.
     pub fn undo(&mut self) -> Result<(), Refusal>
-        ensures answers { Performs self.old Undo (reply_of result) self.new }
+        ensures answers { Answers self.old Undo (reply_of result) self.new }
         ensures lasting { AllSafe self.new }
     {
         if self.cursor == 0 {
             return Err(Refusal::NothingToUndo);
         }
-        let before = without_newest(&self.events, self.cursor);
-        let restored = replay(&self.opening, before)?;
-        self.state = restored;
+        self.state.exchange(&mut self.records[self.cursor - 1]);
         self.cursor -= 1;
         Ok(())
     }
 
-    /// Makes the event that was undone last once more.
+    /// Makes the event that was undone last once more. It takes no memory, and cannot fail but for `NothingToRedo`,
+    /// which changes nothing.
     pub fn redo(&mut self) -> Result<(), Refusal>
-        ensures answers { Performs self.old Redo (reply_of result) self.new }
+        ensures answers { Answers self.old Redo (reply_of result) self.new }
         ensures lasting { AllSafe self.new }
     {
         if self.cursor == self.events.len() {
             return Err(Refusal::NothingToRedo);
         }
-        let event = self.events[self.cursor];
-        let state = apply(&self.state, &event)?;
-        self.state = state;
+        self.state.exchange(&mut self.records[self.cursor]);
         self.cursor += 1;
         Ok(())
     }
@@ -144,7 +160,7 @@ impl Session {
     }
 
     /// Makes moves in order. Room for all answers is taken first, and where there is none, nothing changes.
-    /// Later a move for which there is no memory is answered so, and the run goes on. No swap of the run loses an entry.
+    /// Later an event for which there is no memory is answered so, and the run goes on. No swap of the run loses an entry.
     pub fn run(&mut self, moves: &[Move]) -> Result<Vec<Reply>, AllocError>
         ensures run { IfOk result (λ replies. Run self.old moves.now replies.items self.new) }
         ensures safe { IfOk result (λ replies. IsSafeRun self.old moves.now replies.items) }
@@ -162,26 +178,24 @@ impl Session {
     }
 }
 
-/// The first `cursor` events without the last of them.
-fn without_newest(events: &[Event], cursor: usize) -> &[Event]
-    requires some { 0 < cursor }
-    requires within { cursor ≤ length events.now }
-    ensures { result.now ≡ take (cursor - 1) events.now }
+/// Makes room for one element behind the first `cursor`.
+fn make_room<T>(items: &mut Vec<T>, cursor: usize) -> Result<(), AllocError>
+    requires { cursor ≤ length items.old.items }
+    ensures items { items.new.items ≡ items.old.items }
+    ensures room { OnOk result (cursor < vec_capacity items.new) }
 {
-    &events[..cursor - 1]
-}
-
-/// Puts an event behind the first `cursor` events, and drops what lay there.
-fn keep(events: &mut Vec<Event>, cursor: usize, event: Event) -> Result<(), AllocError>
-    requires { cursor ≤ length events.old.items }
-    ensures ok { OnOk result (events.new.items ≡ take cursor events.old.items ++ event ∷ []) }
-    ensures err { OnErr result (events.new.items ≡ events.old.items) }
-{
-    if cursor < events.len() {
-        events[cursor] = event;
-        events.truncate(cursor + 1);
+    if cursor < items.len() {
         return Ok(());
     }
-    events.push(event)?;
-    Ok(())
+    items.reserve(1)
+}
+
+/// Puts an element behind the first `cursor`, where there is room for it, and drops what lay there.
+fn keep<T: Drop>(items: &mut Vec<T>, cursor: usize, item: T)
+    requires place { cursor ≤ length items.old.items }
+    requires room { cursor < vec_capacity items.old }
+    ensures { items.new.items ≡ take cursor items.old.items ++ item ∷ [] }
+{
+    items.truncate(cursor);
+    items.push(item).unwrap();
 }

@@ -1,8 +1,10 @@
-// One event on the state of a cluster: its decision, and what it makes of the state.
+// One event on the state of a cluster: its decision, and its record.
 #![tactic(auto)]
 
 mod decisions;
+mod records;
 mod steps;
 
 pub use decisions::check;
-pub use steps::{apply, change, step};
+pub use records::changes_of;
+pub use steps::{decide, step};

@@ -2,10 +2,9 @@
 use Rattle.std.proofs.Common.{◌≤◌, ◌&&◌, ℕ, List, nat_eq, refl, sym, ap, subst, ◌∙◌, arith}
 use Rattle.std.specs.Option.{IsSome}
 use Rattle.std.specs.FinMap as finite
-use Rattle.reh_held.specs.Rows.{is_in_word, one_of}
+use Rattle.reh_model.specs.Contents.{is_in_word, turned, one_of}
 use Rattle.reh_held.specs.Tables.{TableValue, IsTable}
 use Rattle.reh_held.specs.Values.{HeldValue}
-use Rattle.reh_held.specs.Turns.{turned}
 use Rattle.reh_held.specs.Kept.{held_of, IsKept}
 use Rattle.reh_types.specs.declared.limits.TheConstants.{MAX_LEDGERS}
 use Rattle.reh_held.proofs.HeldLaws.{kept_table, own_table, words-found, words-none, has-found}

@@ -1,6 +1,7 @@
 -- The bits of one word turn.
 use Rattle.std.proofs.Common.{◌<◌, List, ℕ, length, ap, ◌∙◌}
-use Rattle.reh_held.specs.Rows.{is_set, is_in_word, one_of}
+use Rattle.reh_model.specs.Contents.{is_in_word, one_of}
+use Rattle.reh_held.specs.Rows.{is_set}
 use Rattle.reh_held.proofs.RowLaws.{is_set-toggle}
 use Rattle.reh_held.proofs.rows.Row.toggle.Goals as goal
 

@@ -26,4 +26,4 @@ returns-clause-safe c =
 pub returns-clause-lasting : goal.returns-clause-lasting
 returns-clause-lasting c =
     let told : Run c.args.self.now c.args.moves.now c.loop-step.replies.items c.loop-step.self = rw (take_all c.loop-step.step-index c.args.moves.now (omega arith)) at c.loop-step.invariant.told in
-    run_safe c.self.invariant c.args.self.now c.loop-step.self c.args.moves.now c.loop-step.replies.items c.self.view_is told
+    run_safe c.self.invariant _ c.self.view_is c.loop-step.self c.args.moves.now c.loop-step.replies.items told

@@ -1,19 +1,18 @@
--- The surviving events but the newest can be replayed, as an undo is to, and the swaps among them keep their promises.
+-- The newest record that leads back can be exchanged, which is an undo, and the swaps that survive keep their promises.
 use Rattle.std.proofs.Common.{arith, refl}
-use Rattle.reh_session.proofs.Keeps.{undo_replays, undone_one, undo_performs, kept_safe}
+use Rattle.reh_session.proofs.Keeps.{undo_fits, undo_keeps, undo_answers, kept_safe}
 use Rattle.reh_session.proofs.sessions.Session.undo.Goals as goal
 
-pub replay-requires : goal.replay-requires
-replay-requires c = rw (c.without_newest-before.ensures, c.deref.ensures.value) (undo_replays c.self.invariant)
+pub exchange-requires : goal.exchange-requires
+exchange-requires c = undo_fits c.self.invariant (omega arith) c.index_mut.result.now c.index_mut.ensures.value
 
 pub invariant_of-self : goal.invariant_of-self
-invariant_of-self c = undone_one c.self.invariant _ (omega arith) (rw (c.without_newest-before.ensures, c.deref.ensures.value) at c.in_ok-restored.ensures)
-
-pub returns-in_err-restored-clause-lasting : goal.returns-in_err-restored-clause-lasting
-returns-in_err-restored-clause-lasting c = kept_safe c.self.invariant _ c.self.view_is
+invariant_of-self c = undo_keeps c.self.invariant (omega arith) c.index_mut.result.now c.index_mut.ensures.value _ _ c.exchange.ensures.state c.exchange.ensures.inverse
 
 pub returns-clause-answers : goal.returns-clause-answers
-returns-clause-answers c = rw (← c.self.view_is) (undo_performs c.self.inside.opening c.self.inside.events.items c.self.inside.cursor c.self.invariant.within (omega arith))
+returns-clause-answers c =
+    rw (← c.self.view_is)
+    (undo_answers c.self.invariant (omega arith) c.index_mut.result.now c.index_mut.ensures.value c.exchange.new.changes c.exchange.new.self c.exchange.ensures.state c.exchange.ensures.inverse)
 
 pub returns-clause-lasting : goal.returns-clause-lasting
-returns-clause-lasting c = kept_safe (undone_one c.self.invariant _ (omega arith) (rw (c.without_newest-before.ensures, c.deref.ensures.value) at c.in_ok-restored.ensures)) _ refl
+returns-clause-lasting c = kept_safe (invariant_of-self c) _ refl

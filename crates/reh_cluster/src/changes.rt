@@ -1,0 +1,53 @@
+// Records of changes.
+ghost use Rattle.std.specs.Prelude.{◌≡◌, [], ◌∷◌, map, IfOk};
+ghost use Rattle.reh_model.specs.Places.{place_of, AreRising};
+
+use reh_meta::LedgerMeta;
+use reh_types::Change;
+use std::alloc::{AllocError, Global};
+use std::marker::Model;
+
+/// Changes of a state's places, in the places' order and at most one of each; contracts see the list of them.
+#[derive(Drop)]
+pub struct Changes {
+    pub(crate) parts: Vec<Change<LedgerMeta>>,
+}
+
+impl Model for Changes {
+    ghost use Rattle.std.specs.Prelude.{List, map};
+    ghost use Rattle.reh_model.specs.Places as places;
+
+    ghost Value = { List places.Change };
+
+    ghost view = { λ changes. changes.parts.items };
+
+    ghost invariant = { λ changes. places.AreRising (map places.place_of changes.parts.items) };
+}
+
+impl Changes {
+    /// The record of these changes, whose places have to be in order, each once: registrations, metadata, tasks, locks,
+    /// words and the clock, and each kind by its numbers.
+    pub fn of(parts: Vec<Change<LedgerMeta>>) -> Changes
+        requires { AreRising (map place_of parts.items) }
+        ensures { result ≡ parts.items }
+    {
+        Changes { parts }
+    }
+
+    /// The record of one change, with room for no more.
+    pub fn one(alloc: Global, change: Change<LedgerMeta>) -> Result<Changes, AllocError>
+        ensures { IfOk result (λ changes. changes ≡ change ∷ []) }
+    {
+        let mut parts = Vec::with_capacity(alloc, 1)?;
+        parts.push(change)?;
+        Ok(Changes { parts })
+    }
+
+    /// The changes, in order.
+    pub fn parts(&self) -> &[Change<LedgerMeta>]
+        ensures parts { result.now ≡ self.now }
+        ensures rising { AreRising (map place_of self.now) }
+    {
+        &self.parts
+    }
+}

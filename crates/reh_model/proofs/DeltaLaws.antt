@@ -1,0 +1,241 @@
+-- The record of each accepted event but a copy is the difference of the cluster before and after it.
+use Rattle.std.proofs.Common.{◌≡◌, ◌≢◌, ◌<◌, ◌+◌, ℕ, Bool, true, false, true≢false, List, [], ◌∷◌, ◌++◌, length, map, get_or, Option, None, Some, refl, sym, ap, subst, ◌∙◌, arith, inl, inr, is_some, ◌≤◌}
+use Rattle.std.specs.Prelude.{All, position, ◌==◌, slice_get, if◌then◌else◌}
+use Rattle.std.specs.Option.{option_map, option_map_or}
+use Rattle.std.proofs.lemmas.List.{append_assoc, length-append}
+use Rattle.std.proofs.lemmas.List.Elements.{All-nil, All-cons, All-map}
+use Rattle.std.proofs.lemmas.Option.{slice_get_within, get_or_from_slice_get}
+use Rattle.reh_types.specs.Sets.{Set, numbers}
+use Rattle.reh_types.specs.declared.locks.Lock as locks
+use Rattle.reh_types.specs.declared.changes.Change.TheVariants.{Registration, Metadata, Task, Lock, Clock}
+use Rattle.reh_types.specs.declared.moves.Event.TheVariants.{Lose, Join, Audit, Acquire, Release, Finish, Expire, Tick, Swap}
+use Rattle.reh_model.specs.Metadata as meta
+use Rattle.reh_model.specs.Metadata.{next_version, with_member_at}
+use Rattle.reh_model.specs.Cluster.{Cluster, Ledger, ledger_at, change_ledger, is_up, is_locked_by}
+use Rattle.reh_model.specs.Audit.{is_news, published_members, audited_ledger}
+use Rattle.reh_model.specs.WellFormed.{IsWellFormed}
+use Rattle.reh_model.specs.Step.{refusal_of, after, locked_ledger, unlocked_ledger, finished_ledger, expired_ledger, swapped_ledger}
+use Rattle.reh_model.specs.Refusals.{still_under}
+use Rattle.reh_model.specs.Places.{Change, Place, at_task, at_lock, place_of, IsBefore, AreRising, change_at, put, exchanged, IsThere, SameAt, IsDelta}
+use Rattle.reh_model.proofs.LedgerLaws.{change_ledger-set, found_there, ledger_at-position}
+use Rattle.reh_model.proofs.PlaceLaws.{contains-with_member-here}
+use Rattle.reh_model.proofs.ListLaws.{set-read, change_at-then, change_at-here, change_at-front, slice_get-here, slice_get-front}
+use Rattle.reh_model.proofs.AuditLaws.{audited_news, audited_same, news_differs}
+use Rattle.reh_model.proofs.AcceptedLaws.{IsSwappable, accepted_lose, accepted_join, accepted_tick, accepted_free, accepted_owner}
+use Rattle.reh_model.proofs.WellFormedLaws.{IsLedgerOf, IsLedger-found, IsWellFormed-after, swappable-found}
+use Rattle.reh_model.proofs.ExchangeLaws.{delta_of_changes}
+
+-- Records of one change
+
+-- one change that makes the cluster after it, and a difference
+one_change : (s t : Cluster) (c : Change) → IsWellFormed t → IsThere s c → put s c ≡ t → ¬ SameAt s (put s c) (place_of c) → IsDelta s t (c ∷ [])
+one_change s t c well there makes differs =
+    delta_of_changes s t (c ∷ []) well (All-nil (IsBefore (place_of c)), tt) (All-cons (IsThere s) c [] there (All-nil (IsThere s))) makes
+    (All-cons (λ c. ¬ SameAt s (put s c) (place_of c)) c [] differs (All-nil (λ c. ¬ SameAt s (put s c) (place_of c))))
+
+-- a bookie that is lost
+pub lose_delta : (s : Cluster) (b : ℕ) → IsWellFormed s → refusal_of s (Lose b) ≡ None → IsDelta s (after s (Lose b)) (Registration b false ∷ [])
+lose_delta s b was none =
+    let up : is_up s b ≡ true = accepted_lose s b none in
+    one_change s (after s (Lose b)) (Registration b false) (IsWellFormed-after s (Lose b) was none) (was.up b up) refl
+    (λ same. true≢false (sym up ∙ same ∙ contains-with_member-here s.up b false))
+
+-- a bookie that joins
+pub join_delta : (s : Cluster) (b : ℕ) → IsWellFormed s → refusal_of s (Join b) ≡ None → IsDelta s (after s (Join b)) (Registration b true ∷ [])
+join_delta s b was none =
+    let may : (b < length s.names) × (is_up s b ≡ false) = accepted_join s b none in
+    one_change s (after s (Join b)) (Registration b true) (IsWellFormed-after s (Join b) was none) may.0 refl
+    (λ same. true≢false (sym (contains-with_member-here s.up b true) ∙ sym same ∙ may.1))
+
+-- ticks
+pub tick_delta : (s : Cluster) (n : ℕ) → IsWellFormed s → refusal_of s (Tick n) ≡ None → IsDelta s (after s (Tick n)) (Clock (s.clock + n) ∷ [])
+tick_delta s n was none =
+    one_change s (after s (Tick n)) (Clock (s.clock + n)) (IsWellFormed-after s (Tick n) was none) tt refl
+    (λ same. absurd (omega (arith, same, (accepted_tick s n none).0)))
+
+-- One ledger
+
+-- another part of a ledger that stands there
+part_differs : {C : Type 0} (part : Ledger → C) (change : Ledger → Ledger) (gs : List Ledger) (k : ℕ) (g : Ledger) → slice_get gs k ≡ Some g → part g ≢ part (change g)
+    → option_map part (slice_get gs k) ≢ option_map part (slice_get (change_at gs k change) k)
+part_differs {C = C} part change gs k g here other same =
+    let parts : ◌≡◌ {A = Option C} (Some (part g)) (Some (part (change g))) = sym (ap (option_map part) here) ∙ same ∙ ap (option_map part) (slice_get-here change gs k ∙ ap (option_map change) here) in
+    other cc
+
+-- the ledger of that id stands at that place, and its change is one at the place
+record Stands (s : Cluster) (l k : ℕ) (g : Ledger) : Type 0 where
+  there : k < length s.ledgers
+  here : slice_get s.ledgers k ≡ Some g
+  changed : (change : Ledger → Ledger) → record s { ledgers = change_at s.ledgers k change } ≡ change_ledger s l change
+
+stands : (s : Cluster) (l k : ℕ) (g : Ledger) → IsWellFormed s → position (λ g. g.id == l) s.ledgers ≡ Some k → ledger_at s l ≡ Some g → Stands s l k g
+stands s l k g was is found =
+    let here : slice_get s.ledgers k ≡ Some g = found_there l k s.ledgers g is found in
+    let read : g ≡ get_or s.ledgers k g = sym (get_or_from_slice_get s.ledgers k g g here) in
+    record {
+      there = slice_get_within s.ledgers k g here;
+      here = here;
+      changed = λ change. ap (λ (gs : List Ledger). record s { ledgers = gs }) (sym (set-read change s.ledgers k g read)) ∙ change_ledger-set s l change k g (change g) was.ledgers.different is read refl;
+    }
+
+-- a worker's ledger is locked
+locked_some : (w : ℕ) (g : Ledger) → is_locked_by w g ≡ true → g.lock ≢ None
+locked_some w g is none = true≢false (sym is ∙ ap (λ (o : Option locks.Lock). option_map_or (λ lock. lock.owner == w) o false) none)
+
+-- so it has a task
+locked_task : (s : Cluster) (w : ℕ) (g : Ledger) → IsLedgerOf s g → is_locked_by w g ≡ true → g.task ≢ None
+locked_task s w g was is none =
+    elim g.lock as (λ o. g.lock ≡ o → option_map_or (λ lock. lock.owner == w) o false ≡ true → ⊥) [
+      | None ↦ λ _ is. true≢false (sym is)
+      | Some lock ↦ λ held _. true≢false (sym (was.lock lock held).1 ∙ ap is_some none)
+    ] refl is
+
+-- a worker locks a ledger's task
+pub acquire_delta : (s : Cluster) (w l k : ℕ) → IsWellFormed s → position (λ g. g.id == l) s.ledgers ≡ Some k → refusal_of s (Acquire w l) ≡ None → IsDelta s (after s (Acquire w l)) (Lock k (Some (record { owner = w; due = None })) ∷ [])
+acquire_delta s w l k was is none =
+    let free : (g : Ledger) × (ledger_at s l ≡ Some g) × (g.lock ≡ None) = accepted_free s w l none in
+    let place : Stands s l k free.0 = stands s l k free.0 was is free.1 in
+    one_change s (after s (Acquire w l)) (Lock k (Some (record { owner = w; due = None }))) (IsWellFormed-after s (Acquire w l) was none) place.there (place.changed (locked_ledger w))
+    (part_differs (λ g. g.lock) (locked_ledger w) s.ledgers k free.0 place.here (λ same. let locked : None ≡ (locked_ledger w free.0).lock = sym free.2 ∙ same in cc))
+
+-- it gives the lock back
+pub release_delta : (s : Cluster) (w l k : ℕ) → IsWellFormed s → position (λ g. g.id == l) s.ledgers ≡ Some k → refusal_of s (Release w l) ≡ None → IsDelta s (after s (Release w l)) (Lock k None ∷ [])
+release_delta s w l k was is none =
+    let owned : (g : Ledger) × (ledger_at s l ≡ Some g) × (is_locked_by w g ≡ true) = accepted_owner s w l (λ g. []) none in
+    let place : Stands s l k owned.0 = stands s l k owned.0 was is owned.1 in
+    one_change s (after s (Release w l)) (Lock k None) (IsWellFormed-after s (Release w l) was none) place.there (place.changed unlocked_ledger)
+    (part_differs (λ g. g.lock) unlocked_ledger s.ledgers k owned.0 place.here (locked_some w owned.0 owned.2))
+
+-- it ends the task
+pub finish_delta : (s : Cluster) (w l k : ℕ) → IsWellFormed s → position (λ g. g.id == l) s.ledgers ≡ Some k → refusal_of s (Finish w l) ≡ None → IsDelta s (after s (Finish w l)) (Task k None ∷ Lock k None ∷ [])
+finish_delta s w l k was is none =
+    let owned : (g : Ledger) × (ledger_at s l ≡ Some g) × (is_locked_by w g ≡ true) = accepted_owner s w l (λ g. still_under s g ∷ []) none in
+    let place : Stands s l k owned.0 = stands s l k owned.0 was is owned.1 in
+    let differs : Change → Type 0 = λ c. ¬ SameAt s (put s c) (place_of c) in
+    delta_of_changes s (after s (Finish w l)) (Task k None ∷ Lock k None ∷ []) (IsWellFormed-after s (Finish w l) was none)
+    (All-cons (IsBefore (at_task k)) (at_lock k) [] (inl (omega arith)) (All-nil (IsBefore (at_task k))), (All-nil (IsBefore (at_lock k)), tt))
+    (All-cons (IsThere s) (Task k None) (Lock k None ∷ []) place.there (All-cons (IsThere s) (Lock k None) [] place.there (All-nil (IsThere s))))
+    (ap (λ (gs : List Ledger). record s { ledgers = gs }) (change_at-then (λ g. record g { task = None }) unlocked_ledger s.ledgers k) ∙ place.changed finished_ledger)
+    (All-cons differs (Task k None) (Lock k None ∷ []) (part_differs (λ g. g.task) (λ g. record g { task = None }) s.ledgers k owned.0 place.here (locked_task s w owned.0 (IsLedger-found s l owned.0 was owned.1) owned.2))
+    (All-cons differs (Lock k None) [] (part_differs (λ g. g.lock) unlocked_ledger s.ledgers k owned.0 place.here (locked_some w owned.0 owned.2)) (All-nil differs)))
+
+-- it puts its bookie into an ensemble
+pub swap_delta : (s : Cluster) (w l f i v k : ℕ) (g : Ledger) (m : meta.Metadata) → IsWellFormed s → position (λ g. g.id == l) s.ledgers ≡ Some k → g ≡ get_or s.ledgers k g → m ≡ next_version (with_member_at g.metadata f i w)
+    → refusal_of s (Swap w l f i v) ≡ None → IsDelta s (after s (Swap w l f i v)) (Metadata k m ∷ [])
+swap_delta s w l f i v k g m was is read made none =
+    let place : Stands s l k g = stands s l k g was is (ledger_at-position s l k g was.ledgers.different is read) in
+    let change : Ledger → Ledger = λ x. record x { metadata = m } in
+    one_change s (after s (Swap w l f i v)) (Metadata k m) (IsWellFormed-after s (Swap w l f i v) was none) place.there
+    (ap (λ (gs : List Ledger). record s { ledgers = gs }) (change_at-here change (swapped_ledger f i w) s.ledgers k g read (ap (λ (m : meta.Metadata). record g { metadata = m }) made)) ∙ place.changed (swapped_ledger f i w))
+    (part_differs (λ g. g.metadata) change s.ledgers k g place.here (λ same. absurd (omega (arith, ap (λ (m : meta.Metadata). m.version) (same ∙ made)))))
+
+-- what such a swap shows of the ledger
+pub swappable_there : (s : Cluster) (w l f i v k : ℕ) (g : Ledger) → IsWellFormed s → position (λ g. g.id == l) s.ledgers ≡ Some k → g ≡ get_or s.ledgers k g → refusal_of s (Swap w l f i v) ≡ None → IsSwappable s g w f i
+swappable_there s w l f i v k g was is read none = swappable-found s w l f i v g was (ledger_at-position s l k g was.ledgers.different is read) none
+
+-- Each ledger that an event changes
+
+-- from place k on, the change of each ledger that passes the test
+abbrev pub changes_where : (Ledger → Bool) → (ℕ → Ledger → Change) → ℕ → List Ledger → List Change
+changes_where test change k [] = []
+changes_where test change k (g ∷ gs) = if test g then change k g ∷ changes_where test change (k + 1) gs else changes_where test change (k + 1) gs
+
+-- such changes stand at rising places and make the ledgers after them
+record AreChanges (test : Ledger → Bool) (change : ℕ → Ledger → Change) (made : Ledger → Ledger) : Type 0 where
+  before : (j k : ℕ) (g h : Ledger) → j < k → IsBefore (place_of (change j g)) (place_of (change k h))
+  there : (s : Cluster) (k : ℕ) (g : Ledger) → k < length s.ledgers → IsThere s (change k g)
+  makes : (s : Cluster) (front gs : List Ledger) (g : Ledger) → test g ≡ true → put (record s { ledgers = front ++ g ∷ gs }) (change (length front) g) ≡ record s { ledgers = front ++ made g ∷ gs }
+  keeps : (g : Ledger) → test g ≡ false → made g ≡ g
+  differs : (s : Cluster) (k : ℕ) (g : Ledger) → test g ≡ true → slice_get s.ledgers k ≡ Some g → ¬ SameAt s (put s (change k g)) (place_of (change k g))
+
+length-more : (front : List Ledger) (g : Ledger) → length (front ++ g ∷ []) ≡ length front + 1
+length-more front g = length-append front (g ∷ [])
+
+module _ (test : Ledger → Bool) (change : ℕ → Ledger → Change) (made : Ledger → Ledger) (are : AreChanges test change made) where
+  -- the changes of the ledgers behind these
+  abbrev behind : List Ledger → List Ledger → List Change
+  behind front gs = changes_where test change (length front) gs
+
+  -- what holds of the change of each ledger that passes
+  where-each : (P : Change → Type 0) (all front gs : List Ledger) → all ≡ front ++ gs → ((j : ℕ) (g : Ledger) → length front ≤ j → test g ≡ true → slice_get all j ≡ Some g → P (change j g)) → All P (behind front gs)
+  where-each P all front [] is each = All-nil P
+  where-each P all front (g ∷ gs) is each =
+      let here : slice_get all (length front) ≡ Some g = ap (λ (hs : List Ledger). slice_get hs (length front)) is ∙ slice_get-front front g gs in
+      let more : All P (behind (front ++ g ∷ []) gs) = where-each P all (front ++ g ∷ []) gs (is ∙ sym (append_assoc front (g ∷ []) gs)) (λ j h later. each j h (omega (arith, later, length-more front g))) in
+      let rest : All P (changes_where test change (length front + 1) gs) = subst (λ n. All P (changes_where test change n gs)) (length-more front g) more in
+      elim (test g) as (λ b. test g ≡ b → All P (if b then change (length front) g ∷ changes_where test change (length front + 1) gs else changes_where test change (length front + 1) gs)) [
+        | true ↦ λ passes. All-cons P (change (length front) g) (changes_where test change (length front + 1) gs) (each (length front) g (omega arith) passes here) rest
+        | false ↦ λ _. rest
+      ] refl
+
+  -- their places rise
+  where-rising : (front gs : List Ledger) → AreRising (map place_of (behind front gs))
+  where-rising front [] = tt
+  where-rising front (g ∷ gs) =
+      let place : Place = place_of (change (length front) g) in
+      let later : List Change = changes_where test change (length front + 1) gs in
+      let same : behind (front ++ g ∷ []) gs ≡ later = ap (λ n. changes_where test change n gs) (length-more front g) in
+      let rest : AreRising (map place_of later) = subst (λ (cs : List Change). AreRising (map place_of cs)) same (where-rising (front ++ g ∷ []) gs) in
+      let after_it : All (λ c. IsBefore place (place_of c)) later =
+      subst (All (λ c. IsBefore place (place_of c))) same (where-each (λ c. IsBefore place (place_of c)) ((front ++ g ∷ []) ++ gs) (front ++ g ∷ []) gs refl (λ j h on _ _. are.before (length front) j g h (omega (arith, on, length-more front g)))) in
+      elim (test g) as (λ b. AreRising (map place_of (if b then change (length front) g ∷ later else later))) [
+        | true ↦ (All-map (IsBefore place) place_of later after_it, rest)
+        | false ↦ rest
+      ]
+
+  -- they make each ledger in turn
+  exchanged-where : (s : Cluster) (front gs : List Ledger) → exchanged (record s { ledgers = front ++ gs }) (behind front gs) ≡ record s { ledgers = front ++ map made gs }
+  exchanged-where s front [] = refl
+  exchanged-where s front (g ∷ gs) =
+      let later : List Change = changes_where test change (length front + 1) gs in
+      let rest : exchanged (record s { ledgers = front ++ made g ∷ gs }) later ≡ record s { ledgers = front ++ made g ∷ map made gs } =
+      ap (λ (hs : List Ledger). exchanged (record s { ledgers = hs }) later) (sym (append_assoc front (made g ∷ []) gs))
+      ∙ ap (λ n. exchanged (record s { ledgers = (front ++ made g ∷ []) ++ gs }) (changes_where test change n gs)) (sym (length-more front (made g)))
+      ∙ exchanged-where s (front ++ made g ∷ []) gs
+      ∙ ap (λ (hs : List Ledger). record s { ledgers = hs }) (append_assoc front (made g ∷ []) (map made gs)) in
+      elim (test g) as (λ b. test g ≡ b → exchanged (record s { ledgers = front ++ g ∷ gs }) (if b then change (length front) g ∷ later else later) ≡ record s { ledgers = front ++ made g ∷ map made gs }) [
+        | true ↦ λ passes. ap (λ (t : Cluster). exchanged t later) (are.makes s front gs g passes) ∙ rest
+        | false ↦ λ fails. ap (λ (h : Ledger). exchanged (record s { ledgers = front ++ h ∷ gs }) later) (sym (are.keeps g fails)) ∙ rest
+      ] refl
+
+  -- so they are the difference
+  delta_where : (s : Cluster) → IsWellFormed (record s { ledgers = map made s.ledgers }) → IsDelta s (record s { ledgers = map made s.ledgers }) (changes_where test change 0 s.ledgers)
+  delta_where s well =
+      delta_of_changes s (record s { ledgers = map made s.ledgers }) (changes_where test change 0 s.ledgers) well (where-rising [] s.ledgers)
+      (where-each (IsThere s) s.ledgers [] s.ledgers refl (λ j g _ _ here. are.there s j g (slice_get_within s.ledgers j g here)))
+      (exchanged-where s [] s.ledgers)
+      (where-each (λ c. ¬ SameAt s (put s c) (place_of c)) s.ledgers [] s.ledgers refl (λ j g _ passes here. are.differs s j g passes here))
+
+-- the locks that go with a worker's session
+abbrev pub lost_locks : ℕ → ℕ → List Ledger → List Change
+lost_locks w = changes_where (is_locked_by w) (λ k g. Lock k None)
+
+lock_changes : (w : ℕ) → AreChanges (is_locked_by w) (λ k g. Lock k None) (expired_ledger w)
+lock_changes w = record {
+  before = λ j k g h less. inr (refl, inl less);
+  there = λ s k g within. within;
+  makes = λ s front gs g passes. ap (λ (hs : List Ledger). record s { ledgers = hs })
+      (change_at-front unlocked_ledger front g gs ∙ ap (λ (h : Ledger). front ++ h ∷ gs) (sym (ap (λ b. if b then unlocked_ledger g else g) passes)));
+  keeps = λ g fails. ap (λ b. if b then unlocked_ledger g else g) fails;
+  differs = λ s k g passes here. part_differs (λ g. g.lock) unlocked_ledger s.ledgers k g here (locked_some w g passes);
+}
+
+pub expire_delta : (s : Cluster) (w : ℕ) → IsWellFormed s → refusal_of s (Expire w) ≡ None → IsDelta s (after s (Expire w)) (lost_locks w 0 s.ledgers)
+expire_delta s w was none = delta_where (is_locked_by w) (λ k g. Lock k None) (expired_ledger w) (lock_changes w) s (IsWellFormed-after s (Expire w) was none)
+
+-- the tasks that an audit publishes
+abbrev pub news_tasks : Set numbers → ℕ → List Ledger → List Change
+news_tasks up = changes_where (is_news up) (λ k g. Task k (Some (published_members up g)))
+
+task_changes : (up : Set numbers) → AreChanges (is_news up) (λ k g. Task k (Some (published_members up g))) (audited_ledger up)
+task_changes up = record {
+  before = λ j k g h less. inr (refl, inl less);
+  there = λ s k g within. within;
+  makes = λ s front gs g news. ap (λ (hs : List Ledger). record s { ledgers = hs })
+      (change_at-front (λ h. record h { task = Some (published_members up g) }) front g gs ∙ ap (λ (h : Ledger). front ++ h ∷ gs) (sym (audited_news up g news)));
+  keeps = audited_same up;
+  differs = λ s k g news here. part_differs (λ g. g.task) (λ h. record h { task = Some (published_members up g) }) s.ledgers k g here (news_differs up g news);
+}
+
+pub audit_delta : (s : Cluster) → IsWellFormed s → refusal_of s Audit ≡ None → IsDelta s (after s Audit) (news_tasks s.up 0 s.ledgers)
+audit_delta s was none = delta_where (is_news s.up) (λ k g. Task k (Some (published_members s.up g))) (audited_ledger s.up) (task_changes s.up) s (IsWellFormed-after s Audit was none)

@@ -1,0 +1,9 @@
+-- The records lead from the state to where each event was made, and to where each one leads.
+use Rattle.reh_session.proofs.Keeps.{replay_back, replay_forth}
+use Rattle.reh_session.proofs.sessions.Session.records.Goals as goal
+
+pub returns-clause-back : goal.returns-clause-back
+returns-clause-back c = rw (← c.self.view_is, c.deref.ensures.value) (replay_back c.self.invariant)
+
+pub returns-clause-forth : goal.returns-clause-forth
+returns-clause-forth c = rw (← c.self.view_is, c.deref.ensures.value) (replay_forth c.self.invariant)

@@ -1,0 +1,70 @@
+-- Records of one change, and loops over ledgers that list changes.
+use Rattle.std.proofs.Common.{◌≡◌, ◌<◌, ◌+◌, ℕ, Bool, true, false, List, [], ◌∷◌, ◌++◌, ◌≤◌, length, get_or, drop, sym, ap, subst, ◌∙◌}
+use Rattle.std.specs.Prelude.{if◌then◌else◌, IfOk, Result, None, Some}
+use Rattle.std.proofs.lemmas.List.{append-nil, drop_all, drop_more}
+use Rattle.std.proofs.lemmas.Result.{IfOk-weaker}
+use Rattle.reh_types.specs.Sets.{Set, numbers}
+use Rattle.reh_types.specs.declared.changes.Change.TheVariants.{Task, Lock}
+use Rattle.reh_model.specs.Cluster.{Cluster, Ledger, is_locked_by}
+use Rattle.reh_model.specs.Audit.{is_news, published_members}
+use Rattle.reh_types.specs.declared.moves.Event.TheVariants.{Audit, Expire}
+use Rattle.reh_model.specs.WellFormed.{IsWellFormed}
+use Rattle.reh_model.specs.Step.{refusal_of, after}
+use Rattle.reh_model.specs.Places.{Change, IsDelta}
+use Rattle.reh_model.proofs.DeltaLaws.{changes_where, lost_locks, expire_delta, news_tasks, audit_delta}
+
+-- the record of one change that is the difference of two clusters
+pub one_delta : {E : Type 0} (s t : Cluster) (result : Result (List Change) E) (change : Change) → IfOk result (λ changes. changes ≡ change ∷ []) → IsDelta s t (change ∷ []) → IfOk result (λ changes. IsDelta s t changes)
+one_delta s t result change made delta = IfOk-weaker result (λ changes. changes ≡ change ∷ []) (λ changes. IsDelta s t changes) (λ changes is. subst (λ (cs : List Change). IsDelta s t cs) (sym is) delta) made
+
+-- the changes of the ledgers from place k on begin with the one that stands there
+module _ (test : Ledger → Bool) (change : ℕ → Ledger → Change) (gs : List Ledger) (k : ℕ) (g : Ledger) (within : k < length gs) (is : g ≡ get_or gs k g) where
+  opened : changes_where test change k (drop k gs) ≡ (if test g then change k g ∷ changes_where test change (k + 1) (drop (k + 1) gs) else changes_where test change (k + 1) (drop (k + 1) gs))
+  opened = ap (λ (hs : List Ledger). changes_where test change k hs) (drop_more gs k g within ∙ ap (λ (h : Ledger). h ∷ drop (k + 1) gs) (sym is))
+
+  passed : test g ≡ true → changes_where test change k (drop k gs) ≡ change k g ∷ changes_where test change (k + 1) (drop (k + 1) gs)
+  passed passes = opened ∙ ap (λ b. if b then change k g ∷ changes_where test change (k + 1) (drop (k + 1) gs) else changes_where test change (k + 1) (drop (k + 1) gs)) passes
+
+  failed : test g ≡ false → changes_where test change k (drop k gs) ≡ changes_where test change (k + 1) (drop (k + 1) gs)
+  failed fails = opened ∙ ap (λ b. if b then change k g ∷ changes_where test change (k + 1) (drop (k + 1) gs) else changes_where test change (k + 1) (drop (k + 1) gs)) fails
+
+-- once no ledger is left, all changes are listed
+all_listed : (test : Ledger → Bool) (change : ℕ → Ledger → Change) (gs : List Ledger) (k : ℕ) (parts : List Change) → length gs ≤ k → changes_where test change 0 gs ≡ parts ++ changes_where test change k (drop k gs) → parts ≡ changes_where test change 0 gs
+all_listed test change gs k parts past is = sym (append-nil parts) ∙ ap (λ (hs : List Ledger). parts ++ changes_where test change k hs) (sym (drop_all k gs past)) ∙ sym is
+
+-- a worker's locks from place k on
+abbrev pub locks_from : ℕ → ℕ → List Ledger → List Change
+locks_from w k gs = lost_locks w k (drop k gs)
+
+module _ (w : ℕ) (gs : List Ledger) (k : ℕ) (g : Ledger) (within : k < length gs) (is : g ≡ get_or gs k g) where
+  pub lock_lost : is_locked_by w g ≡ true → locks_from w k gs ≡ Lock k None ∷ locks_from w (k + 1) gs
+  lock_lost = passed (is_locked_by w) (λ k g. Lock k None) gs k g within is
+
+  pub lock_kept : is_locked_by w g ≡ false → locks_from w k gs ≡ locks_from w (k + 1) gs
+  lock_kept = failed (is_locked_by w) (λ k g. Lock k None) gs k g within is
+
+-- listed ledger by ledger, the locks that go with a worker's session are the difference
+pub expire_listed : (s : Cluster) (w : ℕ) (gs : List Ledger) (k : ℕ) (parts : List Change) → IsWellFormed s → refusal_of s (Expire w) ≡ None → gs ≡ s.ledgers → length gs ≤ k → locks_from w 0 gs ≡ parts ++ locks_from w k gs → IsDelta s (after s (Expire w)) parts
+expire_listed s w gs k parts was none same past is =
+    subst (λ (cs : List Change). IsDelta s (after s (Expire w)) cs)
+    (ap (λ (hs : List Ledger). lost_locks w 0 hs) (sym same) ∙ sym (all_listed (is_locked_by w) (λ k g. Lock k None) gs k parts past is))
+    (expire_delta s w was none)
+
+-- an audit's tasks from place k on
+abbrev pub tasks_from : Set numbers → ℕ → List Ledger → List Change
+tasks_from up k gs = news_tasks up k (drop k gs)
+
+module _ (up : Set numbers) (gs : List Ledger) (k : ℕ) (g : Ledger) (within : k < length gs) (is : g ≡ get_or gs k g) where
+  pub task_new : is_news up g ≡ true → tasks_from up k gs ≡ Task k (Some (published_members up g)) ∷ tasks_from up (k + 1) gs
+  task_new = passed (is_news up) (λ k g. Task k (Some (published_members up g))) gs k g within is
+
+  pub task_old : is_news up g ≡ false → tasks_from up k gs ≡ tasks_from up (k + 1) gs
+  task_old = failed (is_news up) (λ k g. Task k (Some (published_members up g))) gs k g within is
+
+-- listed ledger by ledger, the tasks that an audit changes are the difference
+pub audit_listed : (s : Cluster) (up : Set numbers) (gs : List Ledger) (k : ℕ) (parts : List Change) → IsWellFormed s → refusal_of s Audit ≡ None → up ≡ s.up → gs ≡ s.ledgers → length gs ≤ k → tasks_from up 0 gs ≡ parts ++ tasks_from up k gs
+    → IsDelta s (after s Audit) parts
+audit_listed s up gs k parts was none same_up same past is =
+    subst (λ (cs : List Change). IsDelta s (after s Audit) cs)
+    ((λ i. news_tasks (sym same_up i) 0 (sym same i)) ∙ sym (all_listed (is_news up) (λ k g. Task k (Some (published_members up g))) gs k parts past is))
+    (audit_delta s was none)

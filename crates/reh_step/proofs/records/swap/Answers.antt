@@ -1,0 +1,36 @@
+-- The metadata is the only difference; the fragment and the index are there, the bookie is no member yet, and there is a next version.
+use Rattle.std.proofs.Common.{◌≡◌, get_or}
+use Rattle.reh_model.specs.Metadata.{next_version, with_member_at}
+use Rattle.reh_model.specs.Cluster.{Cluster, Ledger}
+use Rattle.reh_model.proofs.AcceptedLaws.{IsSwappable}
+use Rattle.reh_model.proofs.DeltaLaws.{swappable_there, swap_delta}
+use Rattle.reh_step.proofs.RecordLaws.{one_delta}
+use Rattle.reh_step.proofs.records.swap.Goals as goal
+
+-- what the swap shows of the ledger that stands at the place
+may : (c : goal.After-metadata-stored) → IsSwappable c.args.state.now c.index-ledgers-place.result c.args.worker c.args.fragment c.args.index
+may c =
+    let g : Ledger = c.index-ledgers-place.result in
+    let read : g ≡ get_or c.args.state.now.ledgers c.place_of-place.result g = rw (← c.ledgers.ensures.ledgers) c.index-ledgers-place.is in
+    swappable_there c.args.state.now c.args.worker c.args.ledger c.args.fragment c.args.index c.args.version c.place_of-place.result g c.requires.well_formed c.place_of-place.ensures read c.requires.accepted
+
+pub with_member-requires-clause-fragment : goal.with_member-requires-clause-fragment
+with_member-requires-clause-fragment c = rw c.metadata-stored.ensures ((may c).fragment)
+
+pub with_member-requires-clause-index : goal.with_member-requires-clause-index
+with_member-requires-clause-index c = rw c.metadata-stored.ensures ((may c).index)
+
+pub with_member-requires-clause-new : goal.with_member-requires-clause-new
+with_member-requires-clause-new c = rw c.metadata-stored.ensures ((may c).new)
+
+pub with_member-requires-clause-version : goal.with_member-requires-clause-version
+with_member-requires-clause-version c = rw c.metadata-stored.ensures ((may c).version)
+
+pub returns : goal.returns
+returns c =
+    let s : Cluster = c.args.state.now in
+    let g : Ledger = c.index-ledgers-place.result in
+    let read : g ≡ get_or s.ledgers c.place_of-place.result g = rw (← c.ledgers.ensures.ledgers) c.index-ledgers-place.is in
+    let made : c.in_ok-metadata.metadata ≡ next_version (with_member_at g.metadata c.args.fragment c.args.index c.args.worker) = rw c.metadata-stored.ensures at c.in_ok-metadata.ensures in
+    one_delta s _ c.one.result _ c.one.ensures
+    (swap_delta s c.args.worker c.args.ledger c.args.fragment c.args.index c.args.version c.place_of-place.result g c.in_ok-metadata.metadata c.requires.well_formed c.place_of-place.ensures read made c.requires.accepted)
