@@ -1,6 +1,6 @@
 -- Worked lines and texts: the definitions, computed.
 use Rattle.std.specs.Prelude.{◌≡◌, refl, ℕ, List, [], ◌∷◌, ◌++◌, codes, map, replicate, Option, Some, None, Result, Ok, Err}
-use Rattle.reh_types.specs.declared.moves.Event.TheVariants.{Lose, Acquire, Tick, Copy}
+use Rattle.reh_types.specs.declared.moves.Event.TheVariants.{Lose, Acquire, Grace, Tick, Roll, Fence, Seal, Copy}
 use Rattle.reh_types.specs.declared.moves.Move.TheVariants.{Do, Look}
 use Rattle.reh_script.specs.declared.commands.Command.{Command}
 use Rattle.reh_script.specs.declared.commands.Command.TheVariants.{Make, Report}
@@ -47,6 +47,12 @@ pub order_of_faults : asked (codes "copy nobody x 0 0 0" ∷ codes "copy nobody 
     ≡ faulty BadWords ∷ faulty BadWords ∷ faulty UnknownName ∷ faulty UnknownCommand ∷ faulty BadWords ∷ faulty BadWords ∷ faulty UnknownName ∷ faulty UnknownCommand ∷ []
 unfolding forms
 order_of_faults = refl
+
+-- an open ledger's commands; a roll names the bookie behind the numbers, and its form is judged first, too
+pub open_ledgers : asked (codes "grace b1:3181 9" ∷ codes "roll 9 1 b2:3181" ∷ codes "fence b2:3181 9" ∷ codes "seal b2:3181 9" ∷ codes "roll b2:3181 9 1" ∷ codes "roll 9 x nobody" ∷ codes "roll 9 1 nobody" ∷ codes "roll 9 1" ∷ [])
+    ≡ made (Make (Do (Grace 0 9))) ∷ made (Make (Do (Roll 9 1 1))) ∷ made (Make (Do (Fence 1 9))) ∷ made (Make (Do (Seal 1 9))) ∷ faulty BadWords ∷ faulty BadWords ∷ faulty UnknownName ∷ faulty BadWords ∷ []
+unfolding forms
+open_ledgers = refl
 
 -- one CR at the end is dropped; a second one belongs to the last word
 pub one_cr : asked (codes "clock\r" ∷ codes "clock\r\r" ∷ codes "tick 1\r" ∷ codes "tick 1\r\r" ∷ codes "\r\r" ∷ codes "clock\r " ∷ [])

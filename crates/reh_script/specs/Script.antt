@@ -5,7 +5,7 @@ use Rattle.std.specs.Str.{bytes_eq, all_ascii_digits}
 use Rattle.std.specs.Str.Lines.{strip_carriage_return}
 use Rattle.reh_types.specs.declared.limits.TheConstants.{MAX_LINE_BYTES}
 use Rattle.reh_types.specs.declared.moves.Event.{Event}
-use Rattle.reh_types.specs.declared.moves.Event.TheVariants.{Lose, Join, Audit, Acquire, Release, Finish, Expire, Tick, Copy, Swap}
+use Rattle.reh_types.specs.declared.moves.Event.TheVariants.{Lose, Join, Audit, Acquire, Release, Finish, Expire, Grace, Tick, Roll, Fence, Seal, Copy, Swap}
 use Rattle.reh_types.specs.declared.moves.Move.TheVariants.{Do, Undo, Redo, Look}
 use Rattle.reh_model.specs.Cluster.{bookie_named}
 use Rattle.reh_script.specs.declared.commands.Command.{Command}
@@ -100,7 +100,11 @@ forms =
     ∷ form (codes "release") (Bookie ∷ Number ∷ []) (λ a. event (Release a.bookie a.first))
     ∷ form (codes "finish") (Bookie ∷ Number ∷ []) (λ a. event (Finish a.bookie a.first))
     ∷ form (codes "expire") (Bookie ∷ []) (λ a. event (Expire a.bookie))
+    ∷ form (codes "grace") (Bookie ∷ Number ∷ []) (λ a. event (Grace a.bookie a.first))
     ∷ form (codes "tick") (Number ∷ []) (λ a. event (Tick a.first))
+    ∷ form (codes "roll") (Number ∷ Number ∷ Bookie ∷ []) (λ a. event (Roll a.first a.second a.bookie))
+    ∷ form (codes "fence") (Bookie ∷ Number ∷ []) (λ a. event (Fence a.bookie a.first))
+    ∷ form (codes "seal") (Bookie ∷ Number ∷ []) (λ a. event (Seal a.bookie a.first))
     ∷ form (codes "copy") (Bookie ∷ Number ∷ Number ∷ Number ∷ Number ∷ []) (λ a. event (Copy a.bookie a.first a.second a.third a.fourth))
     ∷ form (codes "swap") (Bookie ∷ Number ∷ Number ∷ Number ∷ Number ∷ []) (λ a. event (Swap a.bookie a.first a.second a.third a.fourth))
     ∷ form (codes "undo") [] (λ a. Make Undo)

@@ -17,6 +17,9 @@ const BOOKIE: &[Kind] = &[Bookie];
 /// The words of a worker and a ledger with a task.
 const TASK: &[Kind] = &[Bookie, Number];
 
+/// The words of a ledger, an index of its last ensemble, and the bookie that takes it.
+const ROLL: &[Kind] = &[Number, Number, Bookie];
+
 /// The words of a worker, a ledger, a fragment, an index of its ensemble, and the ledger's version.
 const MEMBER: &[Kind] = &[Bookie, Number, Number, Number, Number];
 
@@ -50,7 +53,18 @@ pub(crate) fn form_of(verb: &[u8], a: Arguments) -> Option<Form>
         _ if is(verb, b"release") => row(TASK, event(Event::Release { worker, ledger })),
         _ if is(verb, b"finish") => row(TASK, event(Event::Finish { worker, ledger })),
         _ if is(verb, b"expire") => row(BOOKIE, event(Event::Expire { worker })),
+        _ if is(verb, b"grace") => row(TASK, event(Event::Grace { worker, ledger })),
         _ if is(verb, b"tick") => row(&[Number], event(Event::Tick { ticks })),
+        _ if is(verb, b"roll") => row(
+            ROLL,
+            event(Event::Roll {
+                ledger,
+                index: a.second,
+                bookie,
+            }),
+        ),
+        _ if is(verb, b"fence") => row(TASK, event(Event::Fence { worker, ledger })),
+        _ if is(verb, b"seal") => row(TASK, event(Event::Seal { worker, ledger })),
         _ if is(verb, b"copy") => row(
             MEMBER,
             event(Event::Copy {
