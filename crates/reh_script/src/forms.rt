@@ -1,6 +1,7 @@
 // The commands: one table.
 ghost use Rattle.std.specs.Prelude.{◌≡◌, Some, option_map};
 ghost use Rattle.std.specs.Str.{bytes_eq};
+ghost use Rattle.reh_types.specs.declared.moves.Event.TheVariants.{Roll, Copy, Swap};
 ghost use Rattle.reh_types.specs.declared.moves.Move.TheVariants.{Do};
 ghost use Rattle.reh_script.specs.declared.commands.Command.TheVariants.{Make};
 ghost use Rattle.reh_script.specs.Script as script;
@@ -43,8 +44,8 @@ impl Model for Form {
 pub(crate) fn form_of(verb: &[u8], a: Arguments) -> Option<Form>
     ensures { result ≡ option_map (script.filled a) (script.form_of verb.now) }
 {
-    let (bookie, worker, ticks) = (a.bookie, a.bookie, a.first);
-    let (ledger, fragment, index, version) = (LedgerId(a.first), a.second, a.third, a.fourth);
+    let (bookie, worker) = (a.bookie, a.bookie);
+    let (ledger, ticks) = (LedgerId(a.first), a.first);
     match verb {
         _ if is(verb, b"lose") => row(BOOKIE, event(Event::Lose { bookie })),
         _ if is(verb, b"join") => row(BOOKIE, event(Event::Join { bookie })),
@@ -55,36 +56,11 @@ pub(crate) fn form_of(verb: &[u8], a: Arguments) -> Option<Form>
         _ if is(verb, b"expire") => row(BOOKIE, event(Event::Expire { worker })),
         _ if is(verb, b"grace") => row(TASK, event(Event::Grace { worker, ledger })),
         _ if is(verb, b"tick") => row(&[Number], event(Event::Tick { ticks })),
-        _ if is(verb, b"roll") => row(
-            ROLL,
-            event(Event::Roll {
-                ledger,
-                index: a.second,
-                bookie,
-            }),
-        ),
+        _ if is(verb, b"roll") => row(ROLL, event(roll(a))),
         _ if is(verb, b"fence") => row(TASK, event(Event::Fence { worker, ledger })),
         _ if is(verb, b"seal") => row(TASK, event(Event::Seal { worker, ledger })),
-        _ if is(verb, b"copy") => row(
-            MEMBER,
-            event(Event::Copy {
-                worker,
-                ledger,
-                fragment,
-                index,
-                version,
-            }),
-        ),
-        _ if is(verb, b"swap") => row(
-            MEMBER,
-            event(Event::Swap {
-                worker,
-                ledger,
-                fragment,
-                index,
-                version,
-            }),
-        ),
+        _ if is(verb, b"copy") => row(MEMBER, event(copy(a))),
+        _ if is(verb, b"swap") => row(MEMBER, event(swap(a))),
         _ if is(verb, b"undo") => row(&[], Command::Make(Move::Undo)),
         _ if is(verb, b"redo") => row(&[], Command::Make(Move::Redo)),
         _ if is(verb, b"clock") => row(&[], Command::Make(Move::Look)),
@@ -112,4 +88,41 @@ fn event(event: Event) -> Command
     ensures { result ≡ Make (Do event) }
 {
     Command::Make(Move::Do(event))
+}
+
+/// The writer's change of the ensemble that the arguments name.
+fn roll(a: Arguments) -> Event
+    ensures { result ≡ Roll a.first a.second a.bookie }
+{
+    Event::Roll {
+        ledger: LedgerId(a.first),
+        index: a.second,
+        bookie: a.bookie,
+    }
+}
+
+/// The copy that the arguments name.
+fn copy(a: Arguments) -> Event
+    ensures { result ≡ Copy a.bookie a.first a.second a.third a.fourth }
+{
+    Event::Copy {
+        worker: a.bookie,
+        ledger: LedgerId(a.first),
+        fragment: a.second,
+        index: a.third,
+        version: a.fourth,
+    }
+}
+
+/// The swap that the arguments name.
+fn swap(a: Arguments) -> Event
+    ensures { result ≡ Swap a.bookie a.first a.second a.third a.fourth }
+{
+    Event::Swap {
+        worker: a.bookie,
+        ledger: LedgerId(a.first),
+        fragment: a.second,
+        index: a.third,
+        version: a.fourth,
+    }
 }
