@@ -1,5 +1,5 @@
 // A ledger of the cluster, with its task and its lock.
-ghost use Rattle.std.specs.Prelude.{◌≡◌, ◌==◌, position, None};
+ghost use Rattle.std.specs.Prelude.{◌≡◌, None};
 ghost use Rattle.std.specs.Option.{option_copied};
 ghost use Rattle.reh_model.specs.Cluster as model;
 
@@ -141,11 +141,4 @@ impl Ledger {
     {
         mem::swap(&mut self.lock, lock);
     }
-}
-
-/// The place of the ledger of that id, if there is one.
-pub(crate) fn place_of(ledgers: &[Ledger], ledger: LedgerId) -> Option<usize>
-    ensures { result ≡ position (λ g. g.id == ledger) ledgers.now }
-{
-    ledgers.iter().position(|g| g.id() == ledger)
 }

@@ -1,6 +1,5 @@
 // The state of a cluster.
-ghost use Rattle.std.specs.Prelude.{◌≡◌, ℕ, ◌*◌, ◌<◌, ◌≤◌, ◌==◌, length, position, All, IfOk};
-ghost use Rattle.std.specs.List.{find};
+ghost use Rattle.std.specs.Prelude.{◌≡◌, ℕ, ◌*◌, ◌<◌, ◌≤◌, ◌==◌, length, map, position, All, IfOk};
 ghost use Rattle.std.specs.Option.{option_copied};
 ghost use Rattle.reh_types.specs.declared.limits.TheConstants.{CLOCK_END};
 ghost use Rattle.reh_types.specs.Sets as set;
@@ -14,8 +13,9 @@ ghost use Rattle.reh_model.specs.WellFormed.{IsWellFormed};
 
 use crate::changes::Changes;
 use crate::exchanges::exchange_all;
-use crate::ledgers::{Ledger, place_of};
+use crate::ledgers::Ledger;
 use crate::names::Names;
+use indexmap::IndexSet;
 use reh_held::{Held, Turn};
 use reh_types::{BookieIx, BookieSet, LedgerId};
 use std::alloc::{AllocError, Global};
@@ -29,6 +29,8 @@ pub struct State {
     names: Names,
     grace: u64,
     up: BookieSet,
+    // The ids of the ledgers, by which one is found.
+    ids: IndexSet<u64>,
     ledgers: Vec<Ledger>,
     held: Held,
     clock: u64,
@@ -49,9 +51,17 @@ impl Model for State {
 impl State {
     ghost use Rattle.reh_cluster.specs.Parts.{HasRows, cluster_of};
 
-    /// The state at clock 0 with these names, registered bookies, grace in ticks, ledgers in picture order, and contents.
-    pub fn build(names: Names, up: BookieSet, grace: u64, ledgers: Vec<Ledger>, held: Held) -> State
+    /// The state at clock 0 with these names, registered bookies, grace in ticks, ledgers in picture order with their ids, and contents.
+    pub fn build(
+        names: Names,
+        up: BookieSet,
+        grace: u64,
+        ids: IndexSet<u64>,
+        ledgers: Vec<Ledger>,
+        held: Held,
+    ) -> State
         requires cluster { IsWellFormed (cluster_of names up grace ledgers.items held.contents) }
+        requires ids { ids.keys ≡ map (λ g. g.id) ledgers.items }
         requires rows { HasRows (length names) ledgers.items held }
         ensures { result ≡ cluster_of names up grace ledgers.items held.contents }
     {
@@ -59,6 +69,7 @@ impl State {
             names,
             grace,
             up,
+            ids,
             ledgers,
             held,
             clock: 0,
@@ -73,6 +84,7 @@ impl State {
             names: self.names.clone_in()?,
             grace: self.grace,
             up: self.up.copied(),
+            ids: self.ids.clone()?,
             ledgers: self.ledgers.clone()?,
             held: self.held.clone_in()?,
             clock: self.clock,
@@ -114,14 +126,15 @@ impl State {
     pub fn place(&self, ledger: LedgerId) -> Option<usize>
         ensures { result ≡ position (λ g. g.id == ledger) self.now.ledgers }
     {
-        place_of(&self.ledgers, ledger)
+        self.ids.get_index_of(&ledger.0)
     }
 
     /// The ledger of that id, if there is one.
     pub fn ledger(&self, ledger: LedgerId) -> Option<&Ledger>
         ensures { option_copied result ≡ model.ledger_at self.now ledger }
     {
-        find_ledger(&self.ledgers, ledger)
+        let place = self.place(ledger)?;
+        Some(&self.ledgers[place])
     }
 
     /// Whether the bookie, registered or not, holds the entry of the ledger.
@@ -205,11 +218,4 @@ impl State {
             &mut changes.parts,
         );
     }
-}
-
-/// The ledger of that id among some.
-fn find_ledger(ledgers: &[Ledger], ledger: LedgerId) -> Option<&Ledger>
-    ensures { option_copied result ≡ find (λ g. g.id == ledger) ledgers.now }
-{
-    ledgers.iter().find(|g| g.id() == ledger)
 }

@@ -1,5 +1,5 @@
 -- What an accepted event shows, and what the replies of a session tell of its event: this file alone takes the checks of events apart.
-use Rattle.std.proofs.Common.{◌≡◌, ℕ, Bool, true, false, not, ◌&&◌, ◌||◌, ◌+◌, ◌<◌, ◌≤◌, List, [], ◌∷◌, ◌++◌, length, Option, None, Some, IsSome, is_some, refl, sym, ap, ◌∙◌, subst, arith, nat_lt, nat_le}
+use Rattle.std.proofs.Common.{◌≡◌, ℕ, Bool, true, false, not, ◌&&◌, ◌||◌, ◌+◌, ◌<◌, ◌≤◌, List, [], ◌∷◌, ◌++◌, length, Option, None, Some, IsSome, refl, sym, ap, ◌∙◌, subst, arith, nat_lt, nat_le}
 use Rattle.std.specs.Prelude.{◌==◌, is_none, All, slice_get}
 use Rattle.std.specs.List.{list_any}
 use Rattle.std.specs.Option.{ForSome, option_map}
@@ -128,10 +128,6 @@ accepted_join s b none = (
 -- the ledger that a worker's event names is there, and its checks give none
 pub accepted_ledger : (s : Cluster) (w l : ℕ) (checks : Ledger → List (Option Refusal)) → first_reason (no_bookie s w ∷ at_ledger s l checks ∷ []) ≡ None → FoundLedger (ledger_at s l) checks
 accepted_ledger s w l checks none = with_ledger-none (ledger_at s l) checks (check-none (no_bookie s w ∷ []) (at_ledger s l checks) [] none)
-
--- so there is one of that id
-pub accepted_named : (s : Cluster) (w l : ℕ) (checks : Ledger → List (Option Refusal)) → first_reason (no_bookie s w ∷ at_ledger s l checks ∷ []) ≡ None → IsSome (ledger_at s l)
-accepted_named s w l checks none = ap is_some (accepted_ledger s w l checks none).is
 
 -- a ledger whose task a worker locks has no lock
 pub accepted_free : (s : Cluster) (w l : ℕ) → refusal_of s (Acquire w l) ≡ None → (g : Ledger) × (ledger_at s l ≡ Some g) × (g.lock ≡ None)

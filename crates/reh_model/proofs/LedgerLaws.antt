@@ -1,10 +1,10 @@
 -- Ledgers in picture order: finding the ledger of an id, and changing it.
-use Rattle.std.proofs.Common.{◌≡◌, ℕ, zero, suc, true, false, cond, List, [], ◌∷◌, map, Option, None, Some, refl, sym, ap, ◌∙◌, arith, nat_eq, is_some, get_or, set, ◌<◌, ◌≤◌, nat_lt}
+use Rattle.std.proofs.Common.{◌≡◌, ℕ, zero, suc, true, false, cond, List, [], ◌∷◌, map, Option, None, Some, refl, sym, ap, ◌∙◌, arith, nat_eq, is_some, get_or, set, ◌<◌, nat_lt}
 use Rattle.std.specs.Prelude.{◌==◌, ◌+◌, if◌then◌else◌, sum_by, length, position, slice_get}
 use Rattle.std.specs.List.{IsDistinct, AllByRecursion, find, position_or_len}
 use Rattle.std.specs.Option.{IsSome, option_map, option_map_or, option_and_then}
 use Rattle.std.proofs.lemmas.Bool.Decides.{nat_tests}
-use Rattle.std.proofs.lemmas.List.Sums.{sum_by-cons, fails_before_first}
+use Rattle.std.proofs.lemmas.List.Sums.{sum_by-cons}
 use Rattle.std.proofs.lemmas.List.Folds.{find_at}
 use Rattle.std.proofs.lemmas.List.Quantifiers.{position-Some}
 use Rattle.std.proofs.lemmas.Option.{slice_get_within}
@@ -143,22 +143,6 @@ ledger_at-position s l k g distinct is stood =
     let at : (k < length s.ledgers) × (((get_or s.ledgers k g).id == l) ≡ true) × ((j : ℕ) → j < k → ((get_or s.ledgers j g).id == l) ≡ false) = position-Some (λ g. g.id == l) s.ledgers k g is in
     let id : (get_or s.ledgers k g).id ≡ l = grind (arith, nat_tests, at.1) in
     ap (λ (j : ℕ). find (λ g. g.id == j) s.ledgers) (sym id) ∙ found_itself s.ledgers distinct k g at.0 ∙ ap Some (sym stood)
-
--- and where there is none of that id, it is to change nothing
-pub change_ledger-absent : (s : Cluster) (l : ℕ) (change : Ledger → Ledger) → position (λ g. g.id == l) s.ledgers ≡ None → s ≡ change_ledger s l change
-change_ledger-absent s l change none =
-    let past : length s.ledgers ≤ first s.ledgers = none_past none in
-    ap (λ (gs : List Ledger). record s { ledgers = gs }) (sym (kept_absent l change s.ledgers (λ k d within. fails_before_first (λ g. g.id == l) s.ledgers k d (omega arith))))
-  where
-    first : List Ledger → ℕ
-    first gs = position_or_len (λ g. g.id == l) gs
-
-    none_past : position (λ g. g.id == l) s.ledgers ≡ None → length s.ledgers ≤ first s.ledgers
-    none_past none =
-        elim (nat_lt (first s.ledgers) (length s.ledgers)) as (λ b. nat_lt (first s.ledgers) (length s.ledgers) ≡ b → cond b (Some (first s.ledgers)) None ≡ None → length s.ledgers ≤ first s.ledgers) [
-          | true ↦ λ _ none. cc
-          | false ↦ λ past _. grind (arith, nat_tests)
-        ] refl none
 
 -- The place of an id
 

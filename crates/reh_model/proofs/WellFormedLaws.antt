@@ -15,11 +15,11 @@ use Rattle.reh_types.specs.Sets.{Set, numbers, triple_cmp, triple_exact, contain
 use Rattle.reh_types.proofs.SetLaws.{All-items}
 use Rattle.reh_model.specs.Contents.{Contents, IsHeld, copies_of}
 use Rattle.reh_model.specs.Metadata.{Metadata, Fragment, with_member, with_member_at, next_version}
-use Rattle.reh_model.specs.Cluster.{Cluster, Ledger, ledger_at, words_among, change_ledger, is_locked_by, stripe_at}
+use Rattle.reh_model.specs.Cluster.{Cluster, Ledger, ledger_at, change_ledger, is_locked_by, stripe_at}
 use Rattle.reh_model.specs.Audit.{missing_members, published_members, audited_ledger}
 use Rattle.reh_model.specs.Step.{refusal_of, after, locked_ledger, unlocked_ledger, finished_ledger, expired_ledger, swapped_ledger}
 use Rattle.reh_model.specs.WellFormed.{IsLedger, IsCopy, IsWellFormed}
-use Rattle.reh_model.proofs.LedgerLaws.{KeepsId, KeepsWords, changed_ledger, KeepsId-changed_ledger, KeepsWords-changed_ledger, ids-map, sum_by-words, words_among-map, words_among-changed_ledger, is_found-map, found_itself}
+use Rattle.reh_model.proofs.LedgerLaws.{KeepsId, KeepsWords, changed_ledger, KeepsId-changed_ledger, KeepsWords-changed_ledger, ids-map, sum_by-words, words_among-map, is_found-map, found_itself}
 use Rattle.reh_model.proofs.ContentsLaws.{All-copy, IsHeld-insert, union-copies_of-none, union-copies_of-cons}
 use Rattle.reh_model.proofs.MemberLaws.{IsMetadata-set, with_member_at-found}
 use Rattle.reh_model.proofs.AuditLaws.{published_named, published_some}
@@ -246,19 +246,6 @@ IsWellFormed-after s (Copy w l f i v) was none =
     IsWellFormed-copied_all s w l (stripe_at s l f i) was may.named may.held
 IsWellFormed-after s (Swap w l f i v) was none = IsWellFormed-change_ledger s l (swapped_ledger f i w) was (λ g. refl) (λ g. refl) (λ g found is.
     IsLedger-swapped_ledger s g w f i (accepted_swap s w l f i v g found is.metadata.version none) is)
-
--- No event changes how many words a ledger has.
-pub words_among-after : (s : Cluster) (event : Event) (l : ℕ) → words_among (after s event).ledgers l ≡ words_among s.ledgers l
-words_among-after s (Lose b) l = refl
-words_among-after s (Join b) l = refl
-words_among-after s Audit l = words_among-map l (audited_ledger s.up) (KeepsId-audited_ledger s.up) (KeepsWords-audited_ledger s.up) s.ledgers
-words_among-after s (Acquire w k) l = words_among-changed_ledger l k (locked_ledger w) (λ g. refl) (λ g. refl) s.ledgers
-words_among-after s (Release w k) l = words_among-changed_ledger l k unlocked_ledger (λ g. refl) (λ g. refl) s.ledgers
-words_among-after s (Finish w k) l = words_among-changed_ledger l k finished_ledger (λ g. refl) (λ g. refl) s.ledgers
-words_among-after s (Expire w) l = words_among-map l (expired_ledger w) (KeepsId-expired_ledger w) (KeepsWords-expired_ledger w) s.ledgers
-words_among-after s (Tick n) l = refl
-words_among-after s (Copy w k f i v) l = refl
-words_among-after s (Swap w k f i v) l = words_among-changed_ledger l k (swapped_ledger f i w) (λ g. refl) (λ g. refl) s.ledgers
 
 -- A ledger that is found is one of the cluster.
 pub IsLedger-found : (s : Cluster) (l : ℕ) (g : Ledger) → IsWellFormed s → ledger_at s l ≡ Some g → IsLedgerOf s g

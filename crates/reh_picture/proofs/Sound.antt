@@ -249,7 +249,7 @@ unfolding each_ledger_fault
 ids_differ names ledgers none = differ nat_eq nat_eq_equiv (λ d. number_of d field.Id) (λ before d. ledger_fault names (ids_in before) d) (ledger_differs names) ledgers none
 
 -- the ids of the ledgers that are made
-ids_made : (names : List (List ℕ)) (held : model.Contents) (ledgers : List Data) → map {A = Ledger} {B = ℕ} (λ g. g.id) (map (ledger_in names held) ledgers) ≡ ids_in ledgers
+pub ids_made : (names : List (List ℕ)) (held : model.Contents) (ledgers : List Data) → map {A = Ledger} {B = ℕ} (λ g. g.id) (map (ledger_in names held) ledgers) ≡ ids_in ledgers
 ids_made names held [] = refl
 ids_made names held (d ∷ ds) = ap (λ (ids : List ℕ). number_of d field.Id ∷ ids) (ids_made names held ds)
 

@@ -5,7 +5,7 @@ ghost use Rattle.serde_json.specs.View.{view};
 ghost use Rattle.reh_types.specs.declared.limits.TheConstants.{ENTRIES_IN_WORD, ENTRY_END, MAX_BOOKIES, MAX_GRACE, MAX_LEDGERS};
 ghost use Rattle.reh_picture.specs.Members.{number_of};
 ghost use Rattle.reh_picture.specs.Faults.{FailsWith};
-ghost use Rattle.reh_picture.specs.Pictures.{picture_of, head_fault, parts_fault, fields_fault, pictured_cluster, IsShown, json_of};
+ghost use Rattle.reh_picture.specs.Pictures.{picture_of, head_fault, parts_fault, fields_fault, pictured_cluster, IsShown, ids_of, json_of};
 
 use crate::bookies::read_bookies;
 use crate::contents::{Holding, greatest_ends, hold, read_contents};
@@ -13,6 +13,7 @@ use crate::faults::PictureFault;
 use crate::fields::Field;
 use crate::ledgers::{Ledgers, ListedLedger, read_ledgers, with_words};
 use crate::members::number_within;
+use indexmap::IndexSet;
 use reh_cluster::{Ledger, Names, State};
 use reh_types::{BookieSet, MAX_GRACE, MAX_PICTURE_BYTES, MAX_WORDS};
 use serde_json::Value;
@@ -53,6 +54,7 @@ fn read_cluster(alloc: Global, picture: &Value) -> Result<State, PictureFault>
         names,
         up,
         grace,
+        ids,
         listed,
         holdings,
     } = read_parts(alloc, picture)?;
@@ -62,7 +64,7 @@ fn read_cluster(alloc: Global, picture: &Value) -> Result<State, PictureFault>
         return Err(PictureFault::Limit(Field::Contents));
     }
     let held = hold(alloc, names.len(), &ledgers, &holdings)?;
-    Ok(State::build(names, up, grace, ledgers, held))
+    Ok(State::build(names, up, grace, ids, ledgers, held))
 }
 
 /// How many words of entries so many bookies take, each as many for a ledger as it has.
@@ -85,6 +87,7 @@ struct Parts {
     names: Names,
     up: BookieSet,
     grace: u64,
+    ids: IndexSet<u64>,
     listed: Vec<ListedLedger>,
     holdings: Vec<Holding>,
 }
@@ -108,6 +111,7 @@ fn read_parts(alloc: Global, picture: &Value) -> Result<Parts, PictureFault>
     ensures fault { FailsWith result (parts_fault (view picture.now)) }
     ensures shown { IfOk result (λ p. IsShown (view picture.now)
         p.names p.up p.grace p.listed.items p.holdings.items) }
+    ensures ids { IfOk result (λ p. p.ids.keys ≡ ids_of (view picture.now)) }
 {
     let grace = read_grace(picture)?;
     let (names, up) = read_bookies(alloc, picture)?;
@@ -117,6 +121,7 @@ fn read_parts(alloc: Global, picture: &Value) -> Result<Parts, PictureFault>
         names,
         up,
         grace,
+        ids,
         listed,
         holdings,
     })

@@ -18,6 +18,7 @@ pub fn changes_of(alloc: Global, state: &State, event: &Event) -> Result<Changes
     requires { refusal_of state.now event.now ≡ None }
     ensures { IfOk result (λ changes. IsDelta state.now (after state.now event.now) changes) }
 {
+    let _well_formed = state.up();
     match event {
         Event::Lose { bookie } => lose(alloc, state, *bookie),
         Event::Join { bookie } => join(alloc, state, *bookie),
@@ -46,19 +47,19 @@ pub fn changes_of(alloc: Global, state: &State, event: &Event) -> Result<Changes
 
 /// The bookie's registration goes.
 fn lose(alloc: Global, state: &State, bookie: BookieIx) -> Result<Changes, AllocError>
-    requires { refusal_of state.now (Lose bookie) ≡ None }
+    requires accepted { refusal_of state.now (Lose bookie) ≡ None }
+    requires well_formed { IsWellFormed state.now }
     ensures { IfOk result (λ changes. IsDelta state.now (after state.now (Lose bookie)) changes) }
 {
-    let _known = state.up();
     Changes::one(alloc, Change::Registration { bookie, up: false })
 }
 
 /// The bookie is registered.
 fn join(alloc: Global, state: &State, bookie: BookieIx) -> Result<Changes, AllocError>
-    requires { refusal_of state.now (Join bookie) ≡ None }
+    requires accepted { refusal_of state.now (Join bookie) ≡ None }
+    requires well_formed { IsWellFormed state.now }
     ensures { IfOk result (λ changes. IsDelta state.now (after state.now (Join bookie)) changes) }
 {
-    let _known = state.up();
     Changes::one(alloc, Change::Registration { bookie, up: true })
 }
 
@@ -70,8 +71,7 @@ fn audit(alloc: Global, state: &State) -> Result<Changes, AllocError>
     let up = state.up();
     let ledgers = state.ledgers();
     let mut parts = Vec::new(alloc);
-    for place in 0..ledgers.len() {
-        let ledger = &ledgers[place];
+    for (place, ledger) in ledgers.iter().enumerate() {
         if is_news(ledger, up) {
             let task = Some(published_of(ledger, up));
             parts.push(Change::Task { place, task })?;
@@ -87,7 +87,8 @@ fn acquire(
     worker: BookieIx,
     ledger: LedgerId,
 ) -> Result<Changes, AllocError>
-    requires { refusal_of state.now (Acquire worker ledger) ≡ None }
+    requires accepted { refusal_of state.now (Acquire worker ledger) ≡ None }
+    requires well_formed { IsWellFormed state.now }
     ensures { IfOk result
         (λ changes. IsDelta state.now (after state.now (Acquire worker ledger)) changes) }
 {
@@ -106,7 +107,8 @@ fn release(
     worker: BookieIx,
     ledger: LedgerId,
 ) -> Result<Changes, AllocError>
-    requires { refusal_of state.now (Release worker ledger) ≡ None }
+    requires accepted { refusal_of state.now (Release worker ledger) ≡ None }
+    requires well_formed { IsWellFormed state.now }
     ensures { IfOk result
         (λ changes. IsDelta state.now (after state.now (Release worker ledger)) changes) }
 {
@@ -121,7 +123,8 @@ fn finish(
     worker: BookieIx,
     ledger: LedgerId,
 ) -> Result<Changes, AllocError>
-    requires { refusal_of state.now (Finish worker ledger) ≡ None }
+    requires accepted { refusal_of state.now (Finish worker ledger) ≡ None }
+    requires well_formed { IsWellFormed state.now }
     ensures { IfOk result
         (λ changes. IsDelta state.now (after state.now (Finish worker ledger)) changes) }
 {
@@ -139,8 +142,8 @@ fn expire(alloc: Global, state: &State, worker: BookieIx) -> Result<Changes, All
 {
     let ledgers = state.ledgers();
     let mut parts = Vec::new(alloc);
-    for place in 0..ledgers.len() {
-        if ledgers[place].is_locked_by(worker) {
+    for (place, ledger) in ledgers.iter().enumerate() {
+        if ledger.is_locked_by(worker) {
             parts.push(Change::Lock { place, lock: None })?;
         }
     }
@@ -149,10 +152,10 @@ fn expire(alloc: Global, state: &State, worker: BookieIx) -> Result<Changes, All
 
 /// The clock goes on.
 fn tick(alloc: Global, state: &State, ticks: u64) -> Result<Changes, AllocError>
-    requires { refusal_of state.now (Tick ticks) ≡ None }
+    requires accepted { refusal_of state.now (Tick ticks) ≡ None }
+    requires well_formed { IsWellFormed state.now }
     ensures { IfOk result (λ changes. IsDelta state.now (after state.now (Tick ticks)) changes) }
 {
-    let _known = state.up();
     let clock = state.clock() + ticks;
     Changes::one(alloc, Change::Clock { clock })
 }
@@ -167,11 +170,11 @@ fn copy(
     index: u64,
     version: u64,
 ) -> Result<Changes, AllocError>
-    requires { refusal_of state.now (Copy worker ledger fragment index version) ≡ None }
+    requires accepted { refusal_of state.now (Copy worker ledger fragment index version) ≡ None }
+    requires well_formed { IsWellFormed state.now }
     ensures { IfOk result (λ changes. IsDelta state.now
         (after state.now (Copy worker ledger fragment index version)) changes) }
 {
-    let _known = state.up();
     let entries = striped_entries(alloc, state, ledger, fragment, index)?;
     let turns = state.delta_of(alloc, worker, ledger, &entries)?;
     let mut parts = Vec::with_capacity(alloc, turns.len())?;
@@ -197,7 +200,8 @@ fn swap(
     index: u64,
     version: u64,
 ) -> Result<Changes, AllocError>
-    requires { refusal_of state.now (Swap worker ledger fragment index version) ≡ None }
+    requires accepted { refusal_of state.now (Swap worker ledger fragment index version) ≡ None }
+    requires well_formed { IsWellFormed state.now }
     ensures { IfOk result (λ changes. IsDelta state.now
         (after state.now (Swap worker ledger fragment index version)) changes) }
 {
@@ -212,10 +216,8 @@ fn swap(
 /// Where the ledger of that id stands; there has to be one.
 fn place_of(state: &State, ledger: LedgerId) -> usize
     requires { IsSome (cluster.ledger_at state.now ledger) }
-    ensures place { position (λ g. g.id == ledger) state.now.ledgers ≡ Some result }
-    ensures well_formed { IsWellFormed state.now }
+    ensures { position (λ g. g.id == ledger) state.now.ledgers ≡ Some result }
 {
-    let _known = state.up();
     state.place(ledger).unwrap()
 }
 

@@ -1,5 +1,5 @@
 -- The parts without a fault, and with few words, are a well-formed cluster; with too many, the limit is the fault.
-use Rattle.std.proofs.Common.{◌≡◌, ℕ, ◌≤◌, ◌*◌, ◌∙◌, List, map, length, sym, ap, subst, arith, nat_eq}
+use Rattle.std.proofs.Common.{◌≡◌, ℕ, ◌≤◌, ◌*◌, ◌∙◌, List, map, length, sym, ap, subst, arith, nat_eq, rules}
 use Rattle.std.specs.Prelude.{All}
 use Rattle.std.specs.List.{IsDistinct}
 use Rattle.std.specs.BTreeMap.{get}
@@ -14,7 +14,7 @@ use Rattle.reh_picture.specs.Members.{list_of}
 use Rattle.reh_picture.specs.Ledgers.{ledger_in}
 use Rattle.reh_picture.specs.Contents.{Holding, held_in}
 use Rattle.reh_picture.specs.Pictures.{pictured_cluster, words_in_all, names_of, ids_of, contents_of}
-use Rattle.reh_picture.proofs.Sound.{IsFaultless-none, IsWellFormed-pictured_cluster, contents_rise, pictured_words, pictured_ids, ledgers-shown, ends-shown, cluster_of-shown, words_in_all-shown, fields_fault-within, fields_fault-past}
+use Rattle.reh_picture.proofs.Sound.{ids_made, IsFaultless-none, IsWellFormed-pictured_cluster, contents_rise, pictured_words, pictured_ids, ledgers-shown, ends-shown, cluster_of-shown, words_in_all-shown, fields_fault-within, fields_fault-past}
 use Rattle.reh_picture.proofs.pictures.read_cluster.Goals as goal
 
 pub greatest_ends-requires : goal.greatest_ends-requires
@@ -82,6 +82,17 @@ build-requires-clause-cluster c =
     let words : c.words_in_all.result ≡ words_in_all (pictured_cluster d) = words_in_all-shown d _ _ _ _ read.shown.names_are made c.len.ensures.count c.words_in_all.ensures in
     let whole = cluster_of-shown d _ _ _ _ _ _ _ read.shown (sym c.deref-2.ensures.value ∙ made) (c.in_ok-held.ensures.contents ∙ ap (λ (holdings : List Holding). held_in holdings) c.deref-4.ensures.value) in
     subst (λ (s : Cluster). IsWellFormed s) (sym whole) (IsWellFormed-pictured_cluster d (IsFaultless-none d read.fault) (omega (arith, words)))
+
+pub build-requires-clause-ids : goal.build-requires-clause-ids
+build-requires-clause-ids c =
+    let d = view c.args.picture.now in
+    let read = c.in_ok-names.ensures in
+    let made = c.deref-2.ensures.value ∙ ledgers-shown d _ _ _ _ _ c.deref.result.now (get nat_cmp c.in_ok-greatest.greatest) _ read.shown c.deref.ensures.value c.in_ok-greatest.ensures c.in_ok-ledgers.ensures in
+    read.ids ∙ sym (ap (λ (ledgers : List Ledger). map (λ g. g.id) ledgers) (sym c.deref-2.ensures.value ∙ made) ∙ ids_made (names_of d) (contents_of d) (list_of d field.Ledgers))
+
+-- there is no memory for the rows
+pub returns-in_err-held-clause-fault : goal.returns-in_err-held-clause-fault
+returns-in_err-held-clause-fault c = search (rules, c.from_residual-in_err-held.ensures)
 
 pub returns-clause-fault : goal.returns-clause-fault
 returns-clause-fault c =

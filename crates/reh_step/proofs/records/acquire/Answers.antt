@@ -4,4 +4,4 @@ use Rattle.reh_step.proofs.RecordLaws.{one_delta}
 use Rattle.reh_step.proofs.records.acquire.Goals as goal
 
 pub returns : goal.returns
-returns c = one_delta c.args.state.now _ c.one.result _ c.one.ensures (acquire_delta c.args.state.now c.args.worker c.args.ledger c.place_of-place.result c.place_of-place.ensures.well_formed c.place_of-place.ensures.place c.requires)
+returns c = one_delta c.args.state.now _ c.one.result _ c.one.ensures (acquire_delta c.args.state.now c.args.worker c.args.ledger c.place_of-place.result c.requires.well_formed c.place_of-place.ensures c.requires.accepted)

@@ -1,7 +1,6 @@
 -- The words that turn are the only differences.
 use Rattle.std.proofs.Common.{ℕ, List, ◌<◌, ◌*◌, ◌∙◌, All, sym, subst, arith}
 use Rattle.reh_types.specs.Sets.{union}
-use Rattle.reh_held.specs.declared.turns.Turn.{Turn}
 use Rattle.reh_held.specs.Turns.{IsTurning}
 use Rattle.reh_model.specs.Contents.{copies_of}
 use Rattle.reh_model.specs.Cluster.{Cluster, words_among}
@@ -12,13 +11,13 @@ pub delta_of-requires-clause-entries : goal.delta_of-requires-clause-entries
 delta_of-requires-clause-entries c =
     let s : Cluster = c.args.state.now in
     subst (λ (es : List ℕ). All (λ e. e < 64 * words_among s.ledgers c.args.ledger) es) (sym (c.deref.ensures.value ∙ c.in_ok-entries.ensures))
-    (copied_within s c.args.worker c.args.ledger c.args.fragment c.args.index c.args.version c.up-known.ensures.well_formed c.requires)
+    (copied_within s c.args.worker c.args.ledger c.args.fragment c.args.index c.args.version c.requires.well_formed c.requires.accepted)
 
 pub of-requires : goal.of-requires
 of-requires c =
     let s : Cluster = c.args.state.now in
     let turning : IsTurning (words_among s.ledgers c.args.ledger) c.args.worker c.args.ledger s.held (union s.held (copies_of c.args.worker c.args.ledger c.deref.result.now)) c.deref-turn-items.result.now = rw c.deref-turn-items.ensures.value c.in_ok-turns.ensures in
-    (copy_listed s c.args.worker c.args.ledger c.args.fragment c.args.index c.args.version c.deref.result.now c.deref-turn-items.result.now c.loop-turn.turn-index c.loop-turn.parts.items c.up-known.ensures.well_formed c.requires
+    (copy_listed s c.args.worker c.args.ledger c.args.fragment c.args.index c.args.version c.deref.result.now c.deref-turn-items.result.now c.loop-turn.turn-index c.loop-turn.parts.items c.requires.well_formed c.requires.accepted
     (c.deref.ensures.value ∙ c.in_ok-entries.ensures) turning (omega arith) c.loop-turn.invariant).rising
 
 pub returns : goal.returns
@@ -26,5 +25,5 @@ returns c =
     let s : Cluster = c.args.state.now in
     let turning : IsTurning (words_among s.ledgers c.args.ledger) c.args.worker c.args.ledger s.held (union s.held (copies_of c.args.worker c.args.ledger c.deref.result.now)) c.deref-turn-items.result.now = rw c.deref-turn-items.ensures.value c.in_ok-turns.ensures in
     rw c.of.ensures
-    (copy_listed s c.args.worker c.args.ledger c.args.fragment c.args.index c.args.version c.deref.result.now c.deref-turn-items.result.now c.loop-turn.turn-index c.loop-turn.parts.items c.up-known.ensures.well_formed c.requires
+    (copy_listed s c.args.worker c.args.ledger c.args.fragment c.args.index c.args.version c.deref.result.now c.deref-turn-items.result.now c.loop-turn.turn-index c.loop-turn.parts.items c.requires.well_formed c.requires.accepted
     (c.deref.ensures.value ∙ c.in_ok-entries.ensures) turning (omega arith) c.loop-turn.invariant)

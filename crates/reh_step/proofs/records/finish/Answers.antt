@@ -5,4 +5,4 @@ use Rattle.reh_step.proofs.records.finish.Goals as goal
 pub returns : goal.returns
 returns c =
     rw (c.of.ensures, c.in_ok-push-2.ensures.items, c.in_ok-push.ensures.items, c.in_ok-parts.ensures.items)
-    (finish_delta c.args.state.now c.args.worker c.args.ledger c.place_of-place.result c.place_of-place.ensures.well_formed c.place_of-place.ensures.place c.requires)
+    (finish_delta c.args.state.now c.args.worker c.args.ledger c.place_of-place.result c.requires.well_formed c.place_of-place.ensures c.requires.accepted)

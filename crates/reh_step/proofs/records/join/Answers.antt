@@ -4,4 +4,4 @@ use Rattle.reh_step.proofs.RecordLaws.{one_delta}
 use Rattle.reh_step.proofs.records.join.Goals as goal
 
 pub returns : goal.returns
-returns c = one_delta c.args.state.now _ c.one.result _ c.one.ensures (join_delta c.args.state.now c.args.bookie c.up-known.ensures.well_formed c.requires)
+returns c = one_delta c.args.state.now _ c.one.result _ c.one.ensures (join_delta c.args.state.now c.args.bookie c.requires.well_formed c.requires.accepted)

@@ -12,7 +12,7 @@ may : (c : goal.After-metadata-stored) → IsSwappable c.args.state.now c.index-
 may c =
     let g : Ledger = c.index-ledgers-place.result in
     let read : g ≡ get_or c.args.state.now.ledgers c.place_of-place.result g = rw (← c.ledgers.ensures.ledgers) c.index-ledgers-place.is in
-    swappable_there c.args.state.now c.args.worker c.args.ledger c.args.fragment c.args.index c.args.version c.place_of-place.result g c.place_of-place.ensures.well_formed c.place_of-place.ensures.place read c.requires
+    swappable_there c.args.state.now c.args.worker c.args.ledger c.args.fragment c.args.index c.args.version c.place_of-place.result g c.requires.well_formed c.place_of-place.ensures read c.requires.accepted
 
 pub with_member-requires-clause-fragment : goal.with_member-requires-clause-fragment
 with_member-requires-clause-fragment c = rw c.metadata-stored.ensures ((may c).fragment)
@@ -33,4 +33,4 @@ returns c =
     let read : g ≡ get_or s.ledgers c.place_of-place.result g = rw (← c.ledgers.ensures.ledgers) c.index-ledgers-place.is in
     let made : c.in_ok-metadata.metadata ≡ next_version (with_member_at g.metadata c.args.fragment c.args.index c.args.worker) = rw c.metadata-stored.ensures at c.in_ok-metadata.ensures in
     one_delta s _ c.one.result _ c.one.ensures
-    (swap_delta s c.args.worker c.args.ledger c.args.fragment c.args.index c.args.version c.place_of-place.result g c.in_ok-metadata.metadata c.place_of-place.ensures.well_formed c.place_of-place.ensures.place read made c.requires)
+    (swap_delta s c.args.worker c.args.ledger c.args.fragment c.args.index c.args.version c.place_of-place.result g c.in_ok-metadata.metadata c.requires.well_formed c.place_of-place.ensures read made c.requires.accepted)

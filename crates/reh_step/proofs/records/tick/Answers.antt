@@ -13,4 +13,4 @@ pub returns : goal.returns
 returns c =
     let s : Cluster = c.args.state.now in
     one_delta s (after s (Tick c.args.ticks)) c.one.result _ c.one.ensures
-    (subst (λ n. IsDelta s (after s (Tick c.args.ticks)) (Clock (n + c.args.ticks) ∷ [])) (sym c.clock.ensures.clock) (tick_delta s c.args.ticks c.up-known.ensures.well_formed c.requires))
+    (subst (λ n. IsDelta s (after s (Tick c.args.ticks)) (Clock (n + c.args.ticks) ∷ [])) (sym c.clock.ensures.clock) (tick_delta s c.args.ticks c.requires.well_formed c.requires.accepted))

@@ -1,5 +1,5 @@
 -- The record that is left fits the state that comes of it, and an exchange of it brings back both.
-use Rattle.std.proofs.Common.{◌≡◌, ◌∙◌, List, ap, sym, subst, arith}
+use Rattle.std.proofs.Common.{◌≡◌, ◌∙◌, List, map, ap, sym, subst, arith}
 use Rattle.std.proofs.lemmas.List.{with_items_is}
 use Rattle.std.specs.Vec.{with_items}
 use Rattle.reh_model.specs.Cluster.{Cluster}
@@ -7,6 +7,7 @@ use Rattle.reh_model.specs.WellFormed.{IsWellFormed}
 use Rattle.reh_model.specs.Places.{Change, Fits, exchanged, left}
 use Rattle.reh_cluster.specs.Parts.{cluster_with}
 use Rattle.reh_cluster.specs.State.{cluster_in}
+use Rattle.reh_cluster.proofs.IdLaws.{ids-exchanged}
 use Rattle.reh_cluster.proofs.ExchangeLaws.{rows_kept, rising_kept, fits_again, brought_back, left_again}
 use Rattle.reh_cluster.proofs.states.State.exchange.Goals as goal
 
@@ -24,6 +25,7 @@ leaves c =
 pub invariant_of-self : goal.invariant_of-self
 invariant_of-self c = record {
   cluster = subst IsWellFormed (sym (made c)) (fits c).well_formed;
+  ids = c.self.invariant.ids ∙ sym (ap (λ (s : Cluster). map (λ g. g.id) s.ledgers) (made c) ∙ ids-exchanged (cluster_in c.self.inside) c.changes.inside.parts.items);
   rows = rows_kept (cluster_in c.self.inside) _ c.changes.inside.parts.items c.self.inside.held c.exchange_all.new.held (made c) c.self.invariant.rows c.exchange_all.ensures.rows;
 }
 
