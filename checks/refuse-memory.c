@@ -1,13 +1,16 @@
 /* Refuses one request for memory of a program that this library is loaded into: the one whose number, counted from 1,
-   the environment's REFUSE names. The file that the environment's REFUSED names is made then. */
+   the environment's REFUSE names. The file that the environment's REFUSED names is made then. When the program ends, the
+   file that COUNTED names has the number of all requests. */
 typedef __SIZE_TYPE__ size_t;
 extern void *dlsym(void *library, const char *name);
 extern char *getenv(const char *name);
 extern int atoi(const char *text);
 extern int creat(const char *file, unsigned mode);
+extern int dprintf(int file, const char *format, ...);
+
+static int count;
 
 static int is_refused(void) {
-    static int count;
     const char *number = getenv("REFUSE");
     count += 1;
     if (!number || count != atoi(number))
@@ -29,4 +32,10 @@ void *malloc(size_t size) {
 
 void *realloc(void *block, size_t size) {
     return is_refused() ? 0 : ((void *(*)(void *, size_t)) next("realloc"))(block, size);
+}
+
+__attribute__((destructor)) static void tell(void) {
+    const char *file = getenv("COUNTED");
+    if (file)
+        dprintf(creat(file, 0600), "%d\n", count);
 }

@@ -95,6 +95,18 @@ module _ {s : Cluster} {es : List Event} {rs : List (List Change)} {k : ℕ} (h 
     pub run_safe : (n : Session) (moves : List Move) (replies : List Reply) → Run m moves replies n → AllSafe n
     run_safe n moves replies run = all_safe n (CanRedoAll-run m moves replies n run (subst CanRedoAll is all_redoable))
 
+-- each record of a surviving event is the difference that leads back over it
+pub trail_shown : {s : Cluster} {es : List Event} {rs : List (List Change)} {k : ℕ} → IsKept s es rs k → Trail (led_back s (take k rs)) (take k es) (take (length (take k es)) rs) (state_of (session_of s es rs k))
+trail_shown {s} {es} {rs} {k} h =
+    subst (λ (t : Cluster). Trail (led_back s (take k rs)) (take k es) (take (length (take k es)) rs) t) (sym (state_is h (session_of s es rs k) refl))
+    (subst (λ n. Trail (led_back s (take k rs)) (take k es) (take n rs) s) (sym (length-take-le k es h.within)) h.done)
+
+-- and each one of an undone event the difference that makes it
+pub ahead_shown : {s : Cluster} {es : List Event} {rs : List (List Change)} {k : ℕ} → IsKept s es rs k → Ahead (state_of (session_of s es rs k)) (drop k es) (drop (length (take k es)) rs)
+ahead_shown {s} {es} {rs} {k} h =
+    subst (λ (t : Cluster). Ahead t (drop k es) (drop (length (take k es)) rs)) (sym (state_is h (session_of s es rs k) refl))
+    (subst (λ n. Ahead s (drop k es) (drop n rs)) (sym (length-take-le k es h.within)) h.undone)
+
 -- the records lead back from the state, each to where its event was made
 pub replay_back : {s : Cluster} {es : List Event} {rs : List (List Change)} {k : ℕ} → IsKept s es rs k → (j : ℕ) → j ≤ length (take k es)
     → replay (led_back s (take k rs)) (take j (take k es)) ≡ Some (led_back (state_of (session_of s es rs k)) (drop j (take (length (take k es)) rs)))

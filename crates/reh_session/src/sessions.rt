@@ -37,7 +37,7 @@ impl Session {
     ghost use Rattle.reh_types.specs.declared.moves.Move.TheVariants.{Do, Undo, Redo};
     ghost use Rattle.reh_model.specs.Session.{opened_session, state_of, Answers, Performs, Run, reply_of};
     ghost use Rattle.reh_model.specs.Swaps.{HoldsStripe, IsSafe, IsSafeRun, AllSafe};
-    ghost use Rattle.reh_session.specs.Kept.{led_back, led_on};
+    ghost use Rattle.reh_session.specs.Kept.{led_back, led_on, Trail, Ahead};
 
     /// A session on this state, with no event. It takes no memory and cannot fail.
     pub fn open(alloc: Global, state: State) -> Result<Session, AllocError>
@@ -78,9 +78,12 @@ impl Session {
     }
 
     /// The records of these events: first those of the surviving ones, oldest first, each of which leads back over its
-    /// event; and then those of the undone ones, each of which makes its event again.
+    /// event (`trail`); and then those of the undone ones, each of which makes its event again (`ahead`). Each has exactly
+    /// one change for each place in which its event made a difference.
     pub fn records(&self) -> &[Changes]
         ensures count { length result.now ≡ length self.now.done + length self.now.undone }
+        ensures trail { Trail self.now.opening self.now.done (take (length self.now.done) result.now) (state_of self.now) }
+        ensures ahead { Ahead (state_of self.now) self.now.undone (drop (length self.now.done) result.now) }
         ensures back { (k : ℕ) → k ≤ length self.now.done → replayed self.now.opening (take k self.now.done)
             ≡ Some (led_back (state_of self.now) (drop k (take (length self.now.done) result.now))) }
         ensures forth { (k : ℕ) → k ≤ length self.now.undone → replayed self.now.opening (self.now.done ++ take k self.now.undone)

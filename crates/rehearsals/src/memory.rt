@@ -1,10 +1,11 @@
 // Sessions where there is no memory.
-use crate::pictures::{FIVE_BOOKIES, state_of};
+use crate::pictures::FIVE_BOOKIES;
+use reh_picture::{PictureFault, read_picture};
 use reh_script::report_text;
 use reh_session::Session;
 use reh_types::{BookieIx, Event, LedgerId, Refusal, Reply};
 use std::alloc::{AllocError, Global};
-use std::test::Fail;
+use std::process::Abort;
 
 const LOST: BookieIx = BookieIx(1);
 
@@ -51,12 +52,17 @@ const EVENTS: [(Event, &str); 8] = [
     (FINISH, "ok"),
 ];
 
-// A session on five bookies, of which the worker's holds one entry of the ledger.
-fn opened(alloc: Global) -> Result<Session, Fail> {
+// A session on five bookies, of which the worker's holds one entry of the ledger; none where there is no memory.
+fn opened(rt: &impl Abort, alloc: Global) -> Result<Session, AllocError> {
     let open = FIVE_BOOKIES.strip_suffix("]}").unwrap_or(FIVE_BOOKIES);
-    let picture = format!(in alloc; "{open},{{\"bookie\":\"b4:3181\",\"ledger\":7,\"entries\":[[3,3]]}}]}}")?;
-    let state = state_of(alloc, &picture)?;
-    Ok(Session::open(alloc, state)?)
+    let picture = format!(in alloc;
+        "{open},{{\"bookie\":\"b4:3181\",\"ledger\":7,\"entries\":[[3,3]]}}]}}"
+    )?;
+    match read_picture(alloc, picture.as_bytes()) {
+        Ok(state) => Session::open(alloc, state),
+        Err(PictureFault::NoMemory) => Err(AllocError),
+        Err(fault) => panic!(rt; "{fault}"),
+    }
 }
 
 // The state, and how many events survive and are undone.
@@ -73,28 +79,33 @@ fn shown(alloc: Global, session: &Session) -> Result<String, AllocError> {
 
 // The event's reply. Where there is no memory for it nothing has changed, and it is asked for once more.
 fn asked_again(
-    rt: &HostRuntime,
+    rt: &impl Abort,
+    alloc: Global,
     session: &mut Session,
     event: &Event,
 ) -> Result<Result<(), Refusal>, AllocError> {
-    let before = shown(rt.alloc(), session)?;
+    let before = shown(alloc, session)?;
     let reply = session.act(event);
     if reply != Err(Refusal::NoMemory) {
         return Ok(reply);
     }
-    let after = shown(rt.alloc(), session)?;
+    let after = shown(alloc, session)?;
     assert_eq!(rt; after.as_str(), before.as_str());
     Ok(session.act(event))
 }
 
 // All events are made, undone, and made again; then one is undone and another made in its place.
-fn goes_there_and_back(rt: &HostRuntime, session: &mut Session) -> Result<(), AllocError> {
+fn goes_there_and_back(
+    rt: &impl Abort,
+    alloc: Global,
+    session: &mut Session,
+) -> Result<(), AllocError> {
     for (event, expected) in EVENTS {
-        let reply = match asked_again(rt, session, &event)? {
+        let reply = match asked_again(rt, alloc, session, &event)? {
             Ok(()) => Reply::Done,
             Err(refusal) => Reply::Refused(refusal),
         };
-        let text = format!(in rt.alloc(); "{reply}")?;
+        let text = format!(in alloc; "{reply}")?;
         assert_eq!(rt; text.as_str(), expected);
     }
     for _ in 0..6 {
@@ -107,7 +118,7 @@ fn goes_there_and_back(rt: &HostRuntime, session: &mut Session) -> Result<(), Al
     assert_eq!(rt; session.redo(), Err(Refusal::NothingToRedo));
     assert_eq!(rt; session.undo(), Ok(()));
     assert_eq!(rt;
-        asked_again(rt, session, &Event::Tick { ticks: 1 })?,
+        asked_again(rt, alloc, session, &Event::Tick { ticks: 1 })?,
         Ok(())
     );
     assert_eq!(rt; session.undone().len(), 0);
@@ -117,8 +128,8 @@ fn goes_there_and_back(rt: &HostRuntime, session: &mut Session) -> Result<(), Al
 // The test is run with each request for memory refused in turn. It ends well where that is no event's: an undo and a redo make none.
 #[test]
 fn want_of_memory_changes_nothing(rt: HostRuntime) {
-    if let Ok(mut session) = opened(rt.alloc()) {
-        if goes_there_and_back(&rt, &mut session).is_ok() {
+    if let Ok(mut session) = opened(&rt, rt.alloc()) {
+        if goes_there_and_back(&rt, rt.alloc(), &mut session).is_ok() {
             assert_eq!(rt; session.done().len(), 6);
         }
     }

@@ -1,7 +1,7 @@
 // Sessions by their own calls, and a long run, on two bookies.
 use crate::pictures::{TWO_BOOKIES, state_of};
 use reh_session::Session;
-use reh_types::{BookieIx, Event, Move, Refusal, Reply};
+use reh_types::{BookieIx, Change, Event, Move, Refusal, Reply};
 use std::alloc::{AllocError, Global};
 use std::test::Fail;
 
@@ -36,6 +36,29 @@ fn undoes_and_redoes(rt: HostRuntime) -> Result<(), Fail> {
     undo_tick(&mut session)?;
     assert!(rt; are_just(session.done(), LOSE));
     assert!(rt; are_just(session.undone(), TICK));
+    Ok(())
+}
+
+// The clock that the first record would give the state.
+fn recorded_clock(session: &Session) -> Option<u64> {
+    let record = session.records().first()?;
+    match record.parts().first()? {
+        Change::Clock { clock } => Some(*clock),
+        _ => None,
+    }
+}
+
+// While the event survives its record leads back over it, and once it is undone the record makes it again.
+#[test]
+fn a_record_leads_there_and_back(rt: HostRuntime) -> Result<(), Fail> {
+    let mut session = opened(rt.alloc(), TWO_BOOKIES)?;
+    session.act(&TICK)?;
+    assert_eq!(rt; recorded_clock(&session), Some(0));
+    session.undo()?;
+    assert_eq!(rt; recorded_clock(&session), Some(2));
+    session.redo()?;
+    assert_eq!(rt; recorded_clock(&session), Some(0));
+    assert_eq!(rt; session.records().len(), 1);
     Ok(())
 }
 
