@@ -13,6 +13,8 @@ const WORKER: BookieIx = BookieIx(3);
 
 const LEDGER: LedgerId = LedgerId(7);
 
+const OPEN: LedgerId = LedgerId(9);
+
 const COPY: Event = Event::Copy {
     worker: WORKER,
     ledger: LEDGER,
@@ -34,8 +36,14 @@ const FINISH: Event = Event::Finish {
     ledger: LEDGER,
 };
 
-// Events with their replies: the worker takes the place of the lost bookie, and tries to too early.
-const EVENTS: [(Event, &str); 8] = [
+const FENCE: Event = Event::Fence {
+    worker: WORKER,
+    ledger: OPEN,
+};
+
+// Events with their replies: the worker takes the place of the lost bookie, and tries to too early; so it
+// fences the open ledger, and recovers it.
+const EVENTS: [(Event, &str); 14] = [
     (Event::Lose { bookie: LOST }, "ok"),
     (Event::Audit, "ok"),
     (
@@ -50,6 +58,30 @@ const EVENTS: [(Event, &str); 8] = [
     (COPY, "ok"),
     (SWAP, "ok"),
     (FINISH, "ok"),
+    (
+        Event::Acquire {
+            worker: WORKER,
+            ledger: OPEN,
+        },
+        "ok",
+    ),
+    (
+        Event::Grace {
+            worker: WORKER,
+            ledger: OPEN,
+        },
+        "ok",
+    ),
+    (FENCE, "refused 14 GraceRuns 3"),
+    (Event::Tick { ticks: 3 }, "ok"),
+    (FENCE, "ok"),
+    (
+        Event::Seal {
+            worker: WORKER,
+            ledger: OPEN,
+        },
+        "ok",
+    ),
 ];
 
 // A session on five bookies, of which the worker's holds one entry of the ledger; none where there is no memory.
@@ -108,11 +140,11 @@ fn goes_there_and_back(
         let text = format!(in alloc; "{reply}")?;
         assert_eq!(rt; text.as_str(), expected);
     }
-    for _ in 0..6 {
+    for _ in 0..11 {
         assert_eq!(rt; session.undo(), Ok(()));
     }
     assert_eq!(rt; session.undo(), Err(Refusal::NothingToUndo));
-    for _ in 0..6 {
+    for _ in 0..11 {
         assert_eq!(rt; session.redo(), Ok(()));
     }
     assert_eq!(rt; session.redo(), Err(Refusal::NothingToRedo));
@@ -130,7 +162,7 @@ fn goes_there_and_back(
 fn want_of_memory_changes_nothing(rt: HostRuntime) {
     if let Ok(mut session) = opened(&rt, rt.alloc()) {
         if goes_there_and_back(&rt, rt.alloc(), &mut session).is_ok() {
-            assert_eq!(rt; session.done().len(), 6);
+            assert_eq!(rt; session.done().len(), 11);
         }
     }
 }
