@@ -20,12 +20,13 @@ use Rattle.reh_model.specs.WellFormed.{IsWellFormed}
 use Rattle.reh_model.specs.Step.{refusal_of, after, locked_ledger, unlocked_ledger, finished_ledger, expired_ledger, swapped_ledger, timed_lock, with_due, graced_ledger, rolled_metadata, rolled_ledger, fenced_ledger}
 use Rattle.reh_model.specs.Refusals.{still_under, not_open, not_needed, grace_set}
 use Rattle.reh_model.specs.Places.{Change, Place, at_metadata, at_task, at_lock, place_of, IsBefore, AreRising, change_at, put, exchanged, IsThere, SameAt, IsDelta}
+use Rattle.reh_model.specs.Records.{due_gone}
 use Rattle.reh_model.proofs.LedgerLaws.{change_ledger-set, found_there, ledger_at-position}
 use Rattle.reh_model.proofs.PlaceLaws.{contains-with_member-here}
 use Rattle.reh_model.proofs.ListLaws.{set-read, change_at-then, change_at-here, change_at-front, slice_get-here, slice_get-front}
 use Rattle.reh_model.proofs.AuditLaws.{audited_news, audited_same, news_differs}
 use Rattle.reh_model.proofs.AcceptedLaws.{IsRollable, IsFenceable, IsSealable, IsSwappable, accepted_lose, accepted_join, accepted_tick, accepted_free, accepted_owner, accepted_grace, accepted_roll, accepted_fence, accepted_seal}
-use Rattle.reh_model.proofs.WellFormedLaws.{IsLedgerOf, IsLedger-found, next_entry-within, IsWellFormed-after, swappable-found}
+use Rattle.reh_model.proofs.WellFormedLaws.{IsLedgerOf, IsLedger-found, next_entry-within, IsSwappable-last, IsWellFormed-after, swappable-found}
 use Rattle.reh_model.proofs.ExchangeLaws.{delta_of_changes}
 
 -- Records of one change
@@ -59,20 +60,20 @@ tick_delta s n was none =
 -- One ledger
 
 -- another part of a ledger that stands there
-part_differs : {C : Type 0} (part : Ledger → C) (change : Ledger → Ledger) (gs : List Ledger) (k : ℕ) (g : Ledger) → slice_get gs k ≡ Some g → part g ≢ part (change g)
+pub part_differs : {C : Type 0} (part : Ledger → C) (change : Ledger → Ledger) (gs : List Ledger) (k : ℕ) (g : Ledger) → slice_get gs k ≡ Some g → part g ≢ part (change g)
     → option_map part (slice_get gs k) ≢ option_map part (slice_get (change_at gs k change) k)
 part_differs {C = C} part change gs k g here other same =
     let parts : ◌≡◌ {A = Option C} (Some (part g)) (Some (part (change g))) = sym (ap (option_map part) here) ∙ same ∙ ap (option_map part) (slice_get-here change gs k ∙ ap (option_map change) here) in
     other cc
 
 -- the ledger of that id stands at that place, and its change is one at the place
-record Stands (s : Cluster) (l k : ℕ) (g : Ledger) : Type 0 where
-  there : k < length s.ledgers
-  here : slice_get s.ledgers k ≡ Some g
-  read : g ≡ get_or s.ledgers k g
-  changed : (change : Ledger → Ledger) → record s { ledgers = change_at s.ledgers k change } ≡ change_ledger s l change
+pub record Stands (s : Cluster) (l k : ℕ) (g : Ledger) : Type 0 where
+  pub there : k < length s.ledgers
+  pub here : slice_get s.ledgers k ≡ Some g
+  pub read : g ≡ get_or s.ledgers k g
+  pub changed : (change : Ledger → Ledger) → record s { ledgers = change_at s.ledgers k change } ≡ change_ledger s l change
 
-stands : (s : Cluster) (l k : ℕ) (g : Ledger) → IsWellFormed s → position (λ g. g.id == l) s.ledgers ≡ Some k → ledger_at s l ≡ Some g → Stands s l k g
+pub stands : (s : Cluster) (l k : ℕ) (g : Ledger) → IsWellFormed s → position (λ g. g.id == l) s.ledgers ≡ Some k → ledger_at s l ≡ Some g → Stands s l k g
 stands s l k g was is found =
     let here : slice_get s.ledgers k ≡ Some g = found_there l k s.ledgers g is found in
     let read : g ≡ get_or s.ledgers k g = sym (get_or_from_slice_get s.ledgers k g g here) in
@@ -152,10 +153,6 @@ grace_delta s w l k was is none =
     ∙ place.changed (graced_ledger (s.clock + s.grace)))
     (part_differs (λ g. g.lock) change s.ledgers k g place.here (λ same. let set : due_of g ≡ due = ap (λ (o : Option locks.Lock). option_and_then (λ lock. lock.due) o) same in let unset : due_of g ≡ None = (accepted_grace s w l g owned.1 none).unset in cc))
 
--- the change of a lock whose due tick goes, where it has one
-abbrev pub due_gone : ℕ → Ledger → List Change
-due_gone k g = option_map_or (λ due. Lock k (option_map (timed_lock None) g.lock) ∷ []) (due_of g) []
-
 -- a lock without a due tick stays
 undue_lock : (o : Option locks.Lock) → option_and_then (λ lock. lock.due) o ≡ None → option_map (timed_lock None) o ≡ o
 undue_lock None none = refl
@@ -222,6 +219,10 @@ pub rollable_there : (s : Cluster) (l i b k : ℕ) (g : Ledger) → IsWellFormed
 rollable_there s l i b k g was is read none =
     let found : ledger_at s l ≡ Some g = ledger_at-position s l k g was.ledgers.different is read in
     accepted_roll s l i b g found (next_entry-within s l g was found) (IsLedger-found s l g was found).metadata.version none
+
+-- so the bookie can take its place in the last fragment
+pub rollable_last : (s : Cluster) (l i b k : ℕ) (g : Ledger) → IsWellFormed s → position (λ g. g.id == l) s.ledgers ≡ Some k → g ≡ get_or s.ledgers k g → refusal_of s (Roll l i b) ≡ None → IsSwappable s g b (length g.metadata.fragments - 1) i
+rollable_last s l i b k g was is read none = IsSwappable-last s g i b (IsLedger-found s l g was (ledger_at-position s l k g was.ledgers.different is read)) (rollable_there s l i b k g was is read none)
 
 -- what such a fence shows of it
 pub fenceable_there : (s : Cluster) (w l k : ℕ) (g : Ledger) → IsWellFormed s → position (λ g. g.id == l) s.ledgers ≡ Some k → g ≡ get_or s.ledgers k g → refusal_of s (Fence w l) ≡ None → IsFenceable s g w
