@@ -1,3 +1,5 @@
 pub mod ReadingLaws
 pub mod CopyLaws
+pub mod RollLaws
+pub mod SealLaws
 pub mod RecordLaws
