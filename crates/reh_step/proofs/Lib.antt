@@ -1,3 +1,4 @@
 pub mod ReadingLaws
 pub mod CopyLaws
 pub mod RecordLaws
+pub mod WalkLaws
