@@ -387,11 +387,11 @@ pub(crate) fn recovered_end(state: &State, ledger: &Ledger) -> u32
     end
 }
 
-/// Whether enough registered members answer a recovery: an ack quorum for each entry that it passes, and where it ends
-/// so many of those that lack the entry that the others of its write set are no ack quorum.
+/// Whether enough registered members answer a recovery: for each entry that it passes, an ack quorum of its write set,
+/// and for the one where it ends, which all that answer lack, so many that the others are no ack quorum.
 ///
-/// BookKeeper's recovery reads on from the last fragment's first entry and writes each entry back. It ends at an entry
-/// that was never acknowledged, as far as those that answer can tell.
+/// BookKeeper's recovery (`LedgerRecoveryOp`) reads on from the last fragment's first entry, writes each entry back, and
+/// ends at the first one that no ack quorum can have stored.
 fn check_answers(state: &State, ledger: &Ledger) -> Result<(), Refusal>
     ensures { Decides result (first_reason
         (model.too_few state.now ledger.now ∷ model.undecided state.now ledger.now ∷ [])) }
@@ -413,38 +413,6 @@ fn check_answers(state: &State, ledger: &Ledger) -> Result<(), Refusal>
         return Err(Refusal::Undecided(entry as u64));
     }
     Ok(())
-}
-
-/// Whether the bookie at each index of an ensemble is registered.
-type Registered = [bool; MAX_ENSEMBLE_SIZE as usize];
-
-/// Which of the fragment's members are registered, by their indexes.
-fn registered_members(state: &State, ledger: &Ledger, fragment: &Fragment) -> Registered
-    requires { length fragment.now.ensemble ≡ ledger.now.metadata.size }
-    ensures well_formed { IsMetadata ledger.now.metadata }
-    ensures registered { (index : ℕ) → index < ledger.now.metadata.size
-        → is_marked result index
-        ≡ cluster.is_up state.now (slice_index fragment.now.ensemble index) }
-{
-    let mut registered = [false; MAX_ENSEMBLE_SIZE as usize];
-    for index in 0..ledger.metadata().size() as usize {
-        registered[index] = state.is_up(fragment.ensemble[index]);
-    }
-    registered
-}
-
-/// How many of the members at the indexes of the entry's write set are registered.
-fn count_registered(registered: &Registered, metadata: &LedgerMeta, entry: u32) -> u32
-    ensures { result ≡ count_by (is_marked registered.now)
-        (stripe.write_set entry metadata.now.size metadata.now.write_quorum) }
-{
-    let mut count = 0;
-    for index in write_set(entry, metadata.size(), metadata.write_quorum()) {
-        if registered[index as usize] {
-            count += 1;
-        }
-    }
-    count
 }
 
 // Copies and swaps
@@ -597,6 +565,8 @@ fn first_lacked(state: &State, bookie: BookieIx, ledger: &Ledger, entries: Strip
     None
 }
 
+// The members of an ensemble
+
 /// A row of words for each index of an ensemble.
 type Rows<'a> = [&'a [u64]; MAX_ENSEMBLE_SIZE as usize];
 
@@ -638,4 +608,36 @@ fn is_readable(rows: &Rows<'_>, metadata: &LedgerMeta, entry: u32) -> bool
         }
     }
     false
+}
+
+/// Whether the bookie at each index of an ensemble is registered.
+type Registered = [bool; MAX_ENSEMBLE_SIZE as usize];
+
+/// Which of the fragment's members are registered, by their indexes.
+fn registered_members(state: &State, ledger: &Ledger, fragment: &Fragment) -> Registered
+    requires { length fragment.now.ensemble ≡ ledger.now.metadata.size }
+    ensures well_formed { IsMetadata ledger.now.metadata }
+    ensures registered { (index : ℕ) → index < ledger.now.metadata.size
+        → is_marked result index
+        ≡ cluster.is_up state.now (slice_index fragment.now.ensemble index) }
+{
+    let mut registered = [false; MAX_ENSEMBLE_SIZE as usize];
+    for index in 0..ledger.metadata().size() as usize {
+        registered[index] = state.is_up(fragment.ensemble[index]);
+    }
+    registered
+}
+
+/// How many of the members at the indexes of the entry's write set are registered.
+fn count_registered(registered: &Registered, metadata: &LedgerMeta, entry: u32) -> u32
+    ensures { result ≡ count_by (is_marked registered.now)
+        (stripe.write_set entry metadata.now.size metadata.now.write_quorum) }
+{
+    let mut count = 0;
+    for index in write_set(entry, metadata.size(), metadata.write_quorum()) {
+        if registered[index as usize] {
+            count += 1;
+        }
+    }
+    count
 }
