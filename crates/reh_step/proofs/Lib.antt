@@ -1,4 +1,4 @@
 pub mod ReadingLaws
+pub mod WalkLaws
 pub mod CopyLaws
 pub mod RecordLaws
-pub mod WalkLaws

@@ -350,7 +350,7 @@ fn check_room(state: &State, ledger: &Ledger) -> Result<(), Refusal>
 }
 
 /// The last fragment, to which the ledger's writer appends.
-fn last_fragment(ledger: &Ledger) -> &Fragment
+pub(crate) fn last_fragment(ledger: &Ledger) -> &Fragment
     ensures last { result.now ≡ meta.last_fragment ledger.now.metadata }
     ensures whole { length result.now.ensemble ≡ ledger.now.metadata.size }
 {
