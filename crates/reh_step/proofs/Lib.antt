@@ -1,4 +1,5 @@
 pub mod ReadingLaws
+pub mod WalkLaws
 pub mod CopyLaws
 pub mod RollLaws
 pub mod SealLaws
