@@ -5,4 +5,4 @@ mod audits;
 mod members;
 
 pub use audits::{audit, has_news, is_news};
-pub use members::{missing, missing_of, published_of, under, under_of};
+pub use members::{is_under, missing, missing_of, published_of, under, under_of};

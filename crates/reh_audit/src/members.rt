@@ -97,8 +97,8 @@ fn first_under(fragments: &[Fragment], up: &BookieSet) -> Option<usize>
     fragments.iter().position(|fragment| is_under(fragment, up))
 }
 
-/// Whether some member of the fragment isn't registered.
-fn is_under(fragment: &Fragment, up: &BookieSet) -> bool
+/// Whether some member of the fragment isn't among the registered bookies.
+pub fn is_under(fragment: &Fragment, up: &BookieSet) -> bool
     ensures { result ≡ model.is_under up.now fragment.now }
 {
     fragment.ensemble.iter().any(|member| !up.contains(*member))

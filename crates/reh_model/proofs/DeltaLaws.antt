@@ -1,28 +1,32 @@
--- The record of each accepted event but a copy is the difference of the cluster before and after it.
-use Rattle.std.proofs.Common.{◌≡◌, ◌≢◌, ◌<◌, ◌+◌, ℕ, Bool, true, false, true≢false, List, [], ◌∷◌, ◌++◌, length, map, get_or, Option, None, Some, refl, sym, ap, subst, ◌∙◌, arith, inl, inr, is_some, ◌≤◌}
+-- The record of each accepted event but a copy and a seal is the difference of the cluster before and after it.
+use Rattle.std.proofs.Common.{◌≡◌, ◌≢◌, ◌<◌, ◌+◌, ◌-◌, ℕ, Bool, true, false, true≢false, List, [], ◌∷◌, ◌++◌, length, map, get_or, Option, None, Some, refl, sym, ap, subst, ◌∙◌, arith, inl, inr, is_some, ◌≤◌}
 use Rattle.std.specs.Prelude.{All, position, ◌==◌, slice_get, if◌then◌else◌}
-use Rattle.std.specs.Option.{option_map, option_map_or}
+use Rattle.std.specs.Option.{option_and_then, option_map, option_map_or}
+use Rattle.std.proofs.lemmas.Bool.Decides.{nat_tests}
 use Rattle.std.proofs.lemmas.List.{append_assoc, length-append}
 use Rattle.std.proofs.lemmas.List.Elements.{All-nil, All-cons, All-map}
 use Rattle.std.proofs.lemmas.Option.{slice_get_within, get_or_from_slice_get}
 use Rattle.reh_types.specs.Sets.{Set, numbers}
 use Rattle.reh_types.specs.declared.locks.Lock as locks
 use Rattle.reh_types.specs.declared.changes.Change.TheVariants.{Registration, Metadata, Task, Lock, Clock}
-use Rattle.reh_types.specs.declared.moves.Event.TheVariants.{Lose, Join, Audit, Acquire, Release, Finish, Expire, Tick, Swap}
+use Rattle.reh_types.specs.declared.moves.Event.TheVariants.{Lose, Join, Audit, Acquire, Release, Finish, Expire, Grace, Tick, Roll, Fence, Seal, Swap}
+use Rattle.reh_types.specs.declared.names.LedgerState.TheVariants.{InRecovery}
 use Rattle.reh_model.specs.Metadata as meta
-use Rattle.reh_model.specs.Metadata.{next_version, with_member_at}
-use Rattle.reh_model.specs.Cluster.{Cluster, Ledger, ledger_at, change_ledger, is_up, is_locked_by}
+use Rattle.reh_model.specs.Metadata.{next_version, with_member_at, with_fragment_at, with_state}
+use Rattle.reh_model.specs.Cluster.{Cluster, Ledger, ledger_at, change_ledger, is_up, is_locked_by, due_of}
+use Rattle.reh_model.specs.Recovery.{next_entry, is_rolling_over}
 use Rattle.reh_model.specs.Audit.{is_news, published_members, audited_ledger}
 use Rattle.reh_model.specs.WellFormed.{IsWellFormed}
-use Rattle.reh_model.specs.Step.{refusal_of, after, locked_ledger, unlocked_ledger, finished_ledger, expired_ledger, swapped_ledger}
-use Rattle.reh_model.specs.Refusals.{still_under}
-use Rattle.reh_model.specs.Places.{Change, Place, at_task, at_lock, place_of, IsBefore, AreRising, change_at, put, exchanged, IsThere, SameAt, IsDelta}
+use Rattle.reh_model.specs.Step.{refusal_of, after, locked_ledger, unlocked_ledger, finished_ledger, expired_ledger, swapped_ledger, timed_lock, with_due, graced_ledger, rolled_metadata, rolled_ledger, fenced_ledger}
+use Rattle.reh_model.specs.Refusals.{still_under, not_open, not_needed, grace_set}
+use Rattle.reh_model.specs.Places.{Change, Place, at_metadata, at_task, at_lock, place_of, IsBefore, AreRising, change_at, put, exchanged, IsThere, SameAt, IsDelta}
+use Rattle.reh_model.specs.Records.{due_gone}
 use Rattle.reh_model.proofs.LedgerLaws.{change_ledger-set, found_there, ledger_at-position}
 use Rattle.reh_model.proofs.PlaceLaws.{contains-with_member-here}
 use Rattle.reh_model.proofs.ListLaws.{set-read, change_at-then, change_at-here, change_at-front, slice_get-here, slice_get-front}
 use Rattle.reh_model.proofs.AuditLaws.{audited_news, audited_same, news_differs}
-use Rattle.reh_model.proofs.AcceptedLaws.{IsSwappable, accepted_lose, accepted_join, accepted_tick, accepted_free, accepted_owner}
-use Rattle.reh_model.proofs.WellFormedLaws.{IsLedgerOf, IsLedger-found, IsWellFormed-after, swappable-found}
+use Rattle.reh_model.proofs.AcceptedLaws.{IsRollable, IsFenceable, IsSealable, IsSwappable, accepted_lose, accepted_join, accepted_tick, accepted_free, accepted_owner, accepted_grace, accepted_roll, accepted_fence, accepted_seal}
+use Rattle.reh_model.proofs.WellFormedLaws.{IsLedgerOf, IsLedger-found, next_entry-within, IsSwappable-last, IsWellFormed-after, swappable-found}
 use Rattle.reh_model.proofs.ExchangeLaws.{delta_of_changes}
 
 -- Records of one change
@@ -56,25 +60,27 @@ tick_delta s n was none =
 -- One ledger
 
 -- another part of a ledger that stands there
-part_differs : {C : Type 0} (part : Ledger → C) (change : Ledger → Ledger) (gs : List Ledger) (k : ℕ) (g : Ledger) → slice_get gs k ≡ Some g → part g ≢ part (change g)
+pub part_differs : {C : Type 0} (part : Ledger → C) (change : Ledger → Ledger) (gs : List Ledger) (k : ℕ) (g : Ledger) → slice_get gs k ≡ Some g → part g ≢ part (change g)
     → option_map part (slice_get gs k) ≢ option_map part (slice_get (change_at gs k change) k)
 part_differs {C = C} part change gs k g here other same =
     let parts : ◌≡◌ {A = Option C} (Some (part g)) (Some (part (change g))) = sym (ap (option_map part) here) ∙ same ∙ ap (option_map part) (slice_get-here change gs k ∙ ap (option_map change) here) in
     other cc
 
 -- the ledger of that id stands at that place, and its change is one at the place
-record Stands (s : Cluster) (l k : ℕ) (g : Ledger) : Type 0 where
-  there : k < length s.ledgers
-  here : slice_get s.ledgers k ≡ Some g
-  changed : (change : Ledger → Ledger) → record s { ledgers = change_at s.ledgers k change } ≡ change_ledger s l change
+pub record Stands (s : Cluster) (l k : ℕ) (g : Ledger) : Type 0 where
+  pub there : k < length s.ledgers
+  pub here : slice_get s.ledgers k ≡ Some g
+  pub read : g ≡ get_or s.ledgers k g
+  pub changed : (change : Ledger → Ledger) → record s { ledgers = change_at s.ledgers k change } ≡ change_ledger s l change
 
-stands : (s : Cluster) (l k : ℕ) (g : Ledger) → IsWellFormed s → position (λ g. g.id == l) s.ledgers ≡ Some k → ledger_at s l ≡ Some g → Stands s l k g
+pub stands : (s : Cluster) (l k : ℕ) (g : Ledger) → IsWellFormed s → position (λ g. g.id == l) s.ledgers ≡ Some k → ledger_at s l ≡ Some g → Stands s l k g
 stands s l k g was is found =
     let here : slice_get s.ledgers k ≡ Some g = found_there l k s.ledgers g is found in
     let read : g ≡ get_or s.ledgers k g = sym (get_or_from_slice_get s.ledgers k g g here) in
     record {
       there = slice_get_within s.ledgers k g here;
       here = here;
+      read = read;
       changed = λ change. ap (λ (gs : List Ledger). record s { ledgers = gs }) (sym (set-read change s.ledgers k g read)) ∙ change_ledger-set s l change k g (change g) was.ledgers.different is read refl;
     }
 
@@ -129,9 +135,106 @@ swap_delta s w l f i v k g m was is read made none =
     (ap (λ (gs : List Ledger). record s { ledgers = gs }) (change_at-here change (swapped_ledger f i w) s.ledgers k g read (ap (λ (m : meta.Metadata). record g { metadata = m }) made)) ∙ place.changed (swapped_ledger f i w))
     (part_differs (λ g. g.metadata) change s.ledgers k g place.here (λ same. absurd (omega (arith, ap (λ (m : meta.Metadata). m.version) (same ∙ made)))))
 
+-- its lock gets a due tick
+timed : (w : ℕ) (due : Option ℕ) (o : Option locks.Lock) → option_map_or (λ lock. lock.owner == w) o false ≡ true → ◌≡◌ {A = Option locks.Lock} (Some (record { owner = w; due = due })) (option_map (timed_lock due) o)
+timed w due None is = cc
+timed w due (Some lock) is = let same : lock.owner ≡ w = grind (arith, nat_tests, is) in ap (λ n. Some (record lock { owner = n; due = due })) (sym same)
+
+pub grace_delta : (s : Cluster) (w l k : ℕ) → IsWellFormed s → position (λ g. g.id == l) s.ledgers ≡ Some k → refusal_of s (Grace w l) ≡ None → IsDelta s (after s (Grace w l)) (Lock k (Some (record { owner = w; due = Some (s.clock + s.grace) })) ∷ [])
+grace_delta s w l k was is none =
+    let owned : (g : Ledger) × (ledger_at s l ≡ Some g) × (is_locked_by w g ≡ true) = accepted_owner s w l (λ g. not_open g ∷ not_needed s g ∷ grace_set g ∷ []) none in
+    let g : Ledger = owned.0 in
+    let due : Option ℕ = Some (s.clock + s.grace) in
+    let lock : Option locks.Lock = Some (record { owner = w; due = due }) in
+    let place : Stands s l k g = stands s l k g was is owned.1 in
+    let change : Ledger → Ledger = λ x. record x { lock = lock } in
+    one_change s (after s (Grace w l)) (Lock k lock) (IsWellFormed-after s (Grace w l) was none) place.there
+    (ap (λ (gs : List Ledger). record s { ledgers = gs }) (change_at-here change (graced_ledger (s.clock + s.grace)) s.ledgers k g place.read (ap (λ (o : Option locks.Lock). record g { lock = o }) (timed w due g.lock owned.2)))
+    ∙ place.changed (graced_ledger (s.clock + s.grace)))
+    (part_differs (λ g. g.lock) change s.ledgers k g place.here (λ same. let set : due_of g ≡ due = ap (λ (o : Option locks.Lock). option_and_then (λ lock. lock.due) o) same in let unset : due_of g ≡ None = (accepted_grace s w l g owned.1 none).unset in cc))
+
+-- a lock without a due tick stays
+undue_lock : (o : Option locks.Lock) → option_and_then (λ lock. lock.due) o ≡ None → option_map (timed_lock None) o ≡ o
+undue_lock None none = refl
+undue_lock (Some lock) none = ap (λ (due : Option ℕ). Some (record lock { due = due })) (sym none)
+
+no_due : (o : Option locks.Lock) → option_and_then (λ lock. lock.due) (option_map (timed_lock None) o) ≡ None
+no_due None = refl
+no_due (Some lock) = refl
+
+-- a ledger's metadata goes to a next version, and its lock's due tick goes
+pub undue_delta : (s : Cluster) (l k : ℕ) (g : Ledger) (m : meta.Metadata) (change : Ledger → Ledger) → IsWellFormed s → position (λ g. g.id == l) s.ledgers ≡ Some k → g ≡ get_or s.ledgers k g → m.version ≡ g.metadata.version + 1
+    → record (with_due None g) { metadata = m } ≡ change g → IsWellFormed (change_ledger s l change) → IsDelta s (change_ledger s l change) (Metadata k m ∷ due_gone k g)
+undue_delta s l k g m change was is read later made well = dated (due_of g) refl where
+  place : Stands s l k g
+  place = stands s l k g was is (ledger_at-position s l k g was.ledgers.different is read)
+
+  differs : Change → Type 0
+  differs c = ¬ SameAt s (put s c) (place_of c)
+
+  renewed : Ledger → Ledger
+  renewed x = record x { metadata = m }
+
+  freed : Ledger → Ledger
+  freed x = record x { lock = option_map (timed_lock None) g.lock }
+
+  renews : ¬ SameAt s (put s (Metadata k m)) (at_metadata k)
+  renews = part_differs (λ g. g.metadata) renewed s.ledgers k g place.here (λ same. absurd (omega (arith, later, ap (λ (m : meta.Metadata). m.version) same)))
+
+  dated : (due : Option ℕ) → due_of g ≡ due → IsDelta s (change_ledger s l change) (Metadata k m ∷ option_map_or (λ due. Lock k (option_map (timed_lock None) g.lock) ∷ []) due [])
+  dated None none =
+      one_change s (change_ledger s l change) (Metadata k m) well place.there
+      (ap (λ (gs : List Ledger). record s { ledgers = gs }) (change_at-here renewed change s.ledgers k g read (ap (λ (o : Option locks.Lock). record g { metadata = m; lock = o }) (sym (undue_lock g.lock none)) ∙ made)) ∙ place.changed change)
+      renews
+  dated (Some due) set =
+      delta_of_changes s (change_ledger s l change) (Metadata k m ∷ Lock k (option_map (timed_lock None) g.lock) ∷ []) well
+      (All-cons (IsBefore (at_metadata k)) (at_lock k) [] (inl (omega arith)) (All-nil (IsBefore (at_metadata k))), (All-nil (IsBefore (at_lock k)), tt))
+      (All-cons (IsThere s) (Metadata k m) (Lock k (option_map (timed_lock None) g.lock) ∷ []) place.there (All-cons (IsThere s) (Lock k (option_map (timed_lock None) g.lock)) [] place.there (All-nil (IsThere s))))
+      (ap (λ (gs : List Ledger). record s { ledgers = gs }) (change_at-then renewed freed s.ledgers k ∙ change_at-here (λ x. freed (renewed x)) change s.ledgers k g read made) ∙ place.changed change)
+      (All-cons differs (Metadata k m) (Lock k (option_map (timed_lock None) g.lock) ∷ []) renews
+      (All-cons differs (Lock k (option_map (timed_lock None) g.lock)) [] (part_differs (λ g. g.lock) freed s.ledgers k g place.here (λ same.
+      let unset : due_of g ≡ None = ap (λ (o : Option locks.Lock). option_and_then (λ lock. lock.due) o) same ∙ no_due g.lock in cc)) (All-nil differs)))
+
+-- the writer puts a bookie into the last ensemble
+pub roll_delta : (s : Cluster) (l i b k : ℕ) (g : Ledger) (m : meta.Metadata) → IsWellFormed s → position (λ g. g.id == l) s.ledgers ≡ Some k → g ≡ get_or s.ledgers k g → m ≡ next_version (rolled_metadata s i b g)
+    → refusal_of s (Roll l i b) ≡ None → IsDelta s (after s (Roll l i b)) (Metadata k m ∷ due_gone k g)
+roll_delta s l i b k g m was is read made none =
+    undue_delta s l k g m (rolled_ledger s i b) was is read (ap (λ (m : meta.Metadata). m.version) made ∙ rolled-version s i b g) (ap (λ (m : meta.Metadata). record (with_due None g) { metadata = m }) made) (IsWellFormed-after s (Roll l i b) was none)
+  where
+    rolled-version : (s : Cluster) (i b : ℕ) (g : Ledger) → (next_version (rolled_metadata s i b g)).version ≡ g.metadata.version + 1
+    rolled-version s i b g = elim (is_rolling_over s g) as (λ over. (if over then with_fragment_at g.metadata (next_entry s g) i b else with_member_at g.metadata (length g.metadata.fragments - 1) i b).version + 1 ≡ g.metadata.version + 1) [ true ↦ refl | false ↦ refl ]
+
+-- a worker fences its ledger
+pub fence_delta : (s : Cluster) (w l k : ℕ) (g : Ledger) (m : meta.Metadata) → IsWellFormed s → position (λ g. g.id == l) s.ledgers ≡ Some k → g ≡ get_or s.ledgers k g → m ≡ next_version (with_state g.metadata InRecovery)
+    → refusal_of s (Fence w l) ≡ None → IsDelta s (after s (Fence w l)) (Metadata k m ∷ due_gone k g)
+fence_delta s w l k g m was is read made none =
+    undue_delta s l k g m fenced_ledger was is read (ap (λ (m : meta.Metadata). m.version) made) (ap (λ (m : meta.Metadata). record (with_due None g) { metadata = m }) made) (IsWellFormed-after s (Fence w l) was none)
+
 -- what such a swap shows of the ledger
 pub swappable_there : (s : Cluster) (w l f i v k : ℕ) (g : Ledger) → IsWellFormed s → position (λ g. g.id == l) s.ledgers ≡ Some k → g ≡ get_or s.ledgers k g → refusal_of s (Swap w l f i v) ≡ None → IsSwappable s g w f i
 swappable_there s w l f i v k g was is read none = swappable-found s w l f i v g was (ledger_at-position s l k g was.ledgers.different is read) none
+
+-- what such an ensemble change shows of it
+pub rollable_there : (s : Cluster) (l i b k : ℕ) (g : Ledger) → IsWellFormed s → position (λ g. g.id == l) s.ledgers ≡ Some k → g ≡ get_or s.ledgers k g → refusal_of s (Roll l i b) ≡ None → IsRollable s g i b
+rollable_there s l i b k g was is read none =
+    let found : ledger_at s l ≡ Some g = ledger_at-position s l k g was.ledgers.different is read in
+    accepted_roll s l i b g found (next_entry-within s l g was found) (IsLedger-found s l g was found).metadata.version none
+
+-- so the bookie can take its place in the last fragment
+pub rollable_last : (s : Cluster) (l i b k : ℕ) (g : Ledger) → IsWellFormed s → position (λ g. g.id == l) s.ledgers ≡ Some k → g ≡ get_or s.ledgers k g → refusal_of s (Roll l i b) ≡ None → IsSwappable s g b (length g.metadata.fragments - 1) i
+rollable_last s l i b k g was is read none = IsSwappable-last s g i b (IsLedger-found s l g was (ledger_at-position s l k g was.ledgers.different is read)) (rollable_there s l i b k g was is read none)
+
+-- what such a fence shows of it
+pub fenceable_there : (s : Cluster) (w l k : ℕ) (g : Ledger) → IsWellFormed s → position (λ g. g.id == l) s.ledgers ≡ Some k → g ≡ get_or s.ledgers k g → refusal_of s (Fence w l) ≡ None → IsFenceable s g w
+fenceable_there s w l k g was is read none =
+    let found : ledger_at s l ≡ Some g = ledger_at-position s l k g was.ledgers.different is read in
+    accepted_fence s w l g found (IsLedger-found s l g was found).metadata.version none
+
+-- what such a seal shows of it
+pub sealable_there : (s : Cluster) (w l k : ℕ) (g : Ledger) → IsWellFormed s → position (λ g. g.id == l) s.ledgers ≡ Some k → g ≡ get_or s.ledgers k g → refusal_of s (Seal w l) ≡ None → IsSealable s g w
+sealable_there s w l k g was is read none =
+    let found : ledger_at s l ≡ Some g = ledger_at-position s l k g was.ledgers.different is read in
+    accepted_seal s w l g found (IsLedger-found s l g was found).metadata.version none
 
 -- Each ledger that an event changes
 

@@ -1,20 +1,22 @@
--- The next entry of a ledger, and where its recovery ends: at the least entry of the last fragment that can't be read, of all numbers.
-use Rattle.std.proofs.Common.{◌≡◌, ℕ, ◌+◌, ◌-◌, ◌<◌, ◌≤◌, Bool, true, false, not, ◌&&◌, ◌||◌, List, [], ◌∷◌, map, Option, None, Some, inl, inr, refl, sym, ap, ◌∙◌, subst, arith, nat_eq, true≢false}
+-- The next entry of a ledger, where its recovery ends, at the least entry of the last fragment that can't be read, of all numbers, and the first entry on the way with too few members.
+use Rattle.std.proofs.Common.{◌≡◌, ℕ, ◌+◌, ◌-◌, ◌<◌, ◌≤◌, Bool, true, false, not, ◌&&◌, ◌||◌, List, [], ◌∷◌, map, length, Option, None, Some, inl, inr, refl, sym, ap, ◌∙◌, subst, arith, nat_eq, nat_lt, true≢false}
 use Rattle.std.specs.Prelude.{max}
 use Rattle.std.specs.List.{list_any, flat_map}
-use Rattle.std.specs.Option.{option_map_or}
+use Rattle.std.specs.Option.{option_map, option_map_or}
 use Rattle.std.proofs.lemmas.Bool.{cases_lt}
 use Rattle.std.specs.Ordering.{eq_by_cmp}
 use Rattle.std.proofs.lemmas.Bool.Decides.{nat_tests}
 use Rattle.std.proofs.lemmas.List.Folds.{list_any-append}
 use Rattle.std.proofs.lemmas.Map.Views.{any-filter_same}
+use Rattle.reh_types.specs.declared.refusals.Refusal.TheVariants.{TooFew}
 use Rattle.reh_types.specs.Sets as set
 use Rattle.reh_types.specs.Sets.{triples, triple_cmp, contains-empty, contains-from_list}
 use Rattle.reh_model.specs.Contents.{IsHeld, has, greatest_held}
 use Rattle.reh_model.specs.Metadata.{Fragment, last_fragment, writes}
 use Rattle.reh_model.specs.Cluster.{Cluster, Ledger, is_up, holds, is_readable, ledger_at}
 use Rattle.reh_model.specs.Recovery.{next_entry, up_writes, recovered_end, recovered_entries, recovered_copies, recovered_at}
-use Rattle.reh_model.proofs.Ranges.{IsFirst, IsFirst-one, IsFirst-found, any_passes, list_any-map, list_any-same}
+use Rattle.reh_model.specs.Refusals.{too_few}
+use Rattle.reh_model.proofs.Ranges.{IsFirst, IsFirst-one, IsFirst-found, find_first, find_none, any_passes, list_any-map, list_any-same}
 use Rattle.reh_model.proofs.ContentsLaws.{triples_tied, greatest_held-reached}
 
 -- What is held
@@ -99,6 +101,39 @@ pub recovered_end-is : (s : Cluster) (g : Ledger) (end : ℕ) → (last_fragment
 recovered_end-is s g end from passed stands =
     IsFirst-one (λ e. not (is_readable s g (last_fragment g.metadata) e)) (last_fragment g.metadata).first end (recovered_end s g)
     (record { from = from; passes = ap not stands; before = λ e first before. ap not (passed e first before) }) (is_end s g)
+
+-- Too few members
+
+-- whether too few members of the entry's write set are registered
+abbrev lacks_acks : Cluster → Ledger → ℕ → Bool
+lacks_acks s g e = nat_lt (length (up_writes s g e)) g.metadata.ack_quorum
+
+-- A recovery that passes entries, each with enough members, meets the first with too few, which can be read too: that one is the reason to refuse it;
+pub too_few-first : (s : Cluster) (g : Ledger) (e : ℕ) → (last_fragment g.metadata).first ≤ e → ((k : ℕ) → (last_fragment g.metadata).first ≤ k → k < e → is_readable s g (last_fragment g.metadata) k ≡ true)
+    → ((k : ℕ) → (last_fragment g.metadata).first ≤ k → k < e → nat_lt (length (up_writes s g k)) g.metadata.ack_quorum ≡ false)
+    → is_readable s g (last_fragment g.metadata) e ≡ true → nat_lt (length (up_writes s g e)) g.metadata.ack_quorum ≡ true → too_few s g ≡ Some (TooFew e)
+too_few-first s g e from passed enough readable lacks =
+    let first : ℕ = (last_fragment g.metadata).first in
+    let within : e < first + (recovered_end s g - first) = omega (arith, from, before_end) in
+    ap (option_map (λ e. TooFew e)) (find_first (lacks_acks s g) first (recovered_end s g - first) e within (record { from = from; passes = lacks; before = enough }))
+  where
+    unread : (end : ℕ) → recovered_end s g ≡ end → end ≤ e → is_readable s g (last_fragment g.metadata) end ≡ true
+    unread end is within = elim (cases_lt end e) [
+      | inl before ↦ passed end (let from : (last_fragment g.metadata).first ≤ recovered_end s g = first_before_end s g in omega (arith, is, from)) before
+      | inr here ↦ let same : e ≡ end = omega (arith, within, here) in subst (λ (k : ℕ). is_readable s g (last_fragment g.metadata) k ≡ true) same readable
+    ]
+
+    before_end : e < recovered_end s g
+    before_end = elim (cases_lt e (recovered_end s g)) [
+      | inl before ↦ before
+      | inr past ↦ absurd (true≢false (sym (unread (recovered_end s g) refl past) ∙ recovered_end-unreadable s g))
+    ]
+
+-- and where each has enough, that is no reason
+pub too_few-none : (s : Cluster) (g : Ledger) → ((k : ℕ) → (last_fragment g.metadata).first ≤ k → k < recovered_end s g → nat_lt (length (up_writes s g k)) g.metadata.ack_quorum ≡ false) → too_few s g ≡ None
+too_few-none s g enough =
+    let first : ℕ = (last_fragment g.metadata).first in
+    ap (option_map (λ e. TooFew e)) (find_none (lacks_acks s g) first (recovered_end s g - first) (λ k from below. enough k from (omega (arith, from, below, first_before_end s g))))
 
 -- The copies of a recovery
 

@@ -297,7 +297,7 @@ IsLedger-remade_without_due : (s : Cluster) (g : Ledger) (m : Metadata) → IsMe
 IsLedger-remade_without_due s g m metadata members was = IsLedger-remade s (with_due None g) m metadata members (λ due is. absurd (let none = no_due g in cc)) (IsLedger-without_due s g was)
 
 -- with another member in the last ensemble
-IsSwappable-last : (s : Cluster) (g : Ledger) (i b : ℕ) → IsLedgerOf s g → IsRollable s g i b → IsSwappable s g b (length g.metadata.fragments - 1) i
+pub IsSwappable-last : (s : Cluster) (g : Ledger) (i b : ℕ) → IsLedgerOf s g → IsRollable s g i b → IsSwappable s g b (length g.metadata.fragments - 1) i
 IsSwappable-last s g i b was may = record {
   named = may.named;
   fragment = omega (arith, was.metadata.some_fragment);

@@ -9,5 +9,6 @@ pub mod Checks
 pub mod Refusals
 pub mod Step
 pub mod Places
+pub mod Records
 pub mod Session
 pub mod Swaps

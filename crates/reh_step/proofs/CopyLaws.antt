@@ -1,7 +1,6 @@
 -- The turns of a bookie's words that an accepted copy makes are the difference of the cluster before and after it.
-use Rattle.std.proofs.Common.{◌≡◌, ◌≢◌, ◌<◌, ◌≤◌, ◌+◌, ◌*◌, ℕ, List, [], ◌∷◌, length, map, take, None, refl, sym, ap, subst, ◌∙◌, arith, inl, inr}
+use Rattle.std.proofs.Common.{◌≡◌, ◌≢◌, ◌<◌, ◌≤◌, ◌+◌, ◌*◌, ℕ, List, [], ◌∷◌, length, map, None, refl, sym, ap, subst, ◌∙◌, arith, inl, inr}
 use Rattle.std.specs.Prelude.{All, ◌^◌}
-use Rattle.std.proofs.lemmas.List.{take_all}
 use Rattle.std.proofs.lemmas.List.Elements.{All-nil, All-cons, All-map, All-weaker}
 use Rattle.reh_types.specs.Sets as set
 use Rattle.reh_types.specs.declared.changes.Change.TheVariants.{Word}
@@ -14,19 +13,12 @@ use Rattle.reh_model.specs.Cluster.{Cluster, words_among, stripe_at}
 use Rattle.reh_model.specs.WellFormed.{IsCopy, IsWellFormed}
 use Rattle.reh_model.specs.Step.{refusal_of, after}
 use Rattle.reh_model.specs.Places.{Change, at_word, place_of, IsBefore, AreRising, put, exchanged, IsThere, SameAt, IsDelta}
+use Rattle.reh_step.specs.Records.{word_change, word_changes}
 use Rattle.reh_model.proofs.ContentsLaws.{All-copy}
 use Rattle.reh_model.proofs.AcceptedLaws.{accepted_copy}
 use Rattle.reh_model.proofs.WellFormedLaws.{IsWellFormed-after}
 use Rattle.reh_model.proofs.PlaceLaws.{word_differs}
 use Rattle.reh_model.proofs.ExchangeLaws.{delta_of_changes}
-
--- the change of a word that turns
-abbrev pub word_change : ℕ → ℕ → Turn → Change
-word_change b l u = Word b l u.number u.bits
-
--- the changes of all words that turn
-abbrev pub word_changes : ℕ → ℕ → List Turn → List Change
-word_changes b l us = map (word_change b l) us
 
 -- a place behind which all places of later words are
 words-after : (b l n k : ℕ) (us : List Turn) → n < k → turns.AreRising k us → All (λ c. IsBefore (at_word b l n) (place_of c)) (word_changes b l us)
@@ -36,7 +28,7 @@ words-after b l n k (u ∷ us) less rising =
     (words-after b l n (u.number + 1) us (omega (arith, rising.0)) rising.1)
 
 -- words of one bookie and ledger rise with their numbers
-words-rising : (b l k : ℕ) (us : List Turn) → turns.AreRising k us → AreRising (map place_of (word_changes b l us))
+pub words-rising : (b l k : ℕ) (us : List Turn) → turns.AreRising k us → AreRising (map place_of (word_changes b l us))
 words-rising b l k [] rising = tt
 words-rising b l k (u ∷ us) rising = (
   All-map (IsBefore (at_word b l u.number)) place_of (word_changes b l us) (words-after b l u.number (u.number + 1) us (omega arith) rising.1),
@@ -44,18 +36,25 @@ words-rising b l k (u ∷ us) rising = (
 )
 
 -- all turns, one by one
-exchanged-words : (s : Cluster) (b l : ℕ) (us : List Turn) → exchanged s (word_changes b l us) ≡ record s { held = turned_all s.held b l us }
+pub exchanged-words : (s : Cluster) (b l : ℕ) (us : List Turn) → exchanged s (word_changes b l us) ≡ record s { held = turned_all s.held b l us }
 exchanged-words s b l [] = refl
 exchanged-words s b l (u ∷ us) = exchanged-words (put s (word_change b l u)) b l us
+
+-- the words are there,
+pub words-there : (s : Cluster) (b l : ℕ) (us : List Turn) → b < length s.names → turns.ArePlaces (words_among s.ledgers l) us → All (IsThere s) (word_changes b l us)
+words-there s b l us named places = All-map (IsThere s) (word_change b l) us (All-weaker (λ (u : Turn). u.number < words_among s.ledgers l) (λ u. IsThere s (word_change b l u)) (λ u is. (named, is)) us places.there)
+
+-- and in each something turns
+pub words-differ : (s : Cluster) (b l : ℕ) (us : List Turn) → turns.ArePlaces (words_among s.ledgers l) us → All (λ c. ¬ SameAt s (put s c) (place_of c)) (word_changes b l us)
+words-differ s b l us places =
+    let differs : Change → Type 0 = λ c. ¬ SameAt s (put s c) (place_of c) in
+    All-map differs (word_change b l) us (All-weaker (λ (u : Turn). (u.bits ≢ 0) × (u.bits < 2 ^ 64)) (λ u. differs (word_change b l u)) (λ u is. word_differs s b l u.number u.bits is.0 is.1) us places.some)
 
 -- what turns of the ledger's words make of what is held is a delta
 words_delta : (s : Cluster) (b l : ℕ) (held : Contents) (us : List Turn) → b < length s.names → IsTurning (words_among s.ledgers l) b l s.held held us → IsWellFormed (record s { held = held }) → IsDelta s (record s { held = held }) (word_changes b l us)
 words_delta s b l held us named turning well =
-    let differs : Change → Type 0 = λ c. ¬ SameAt s (put s c) (place_of c) in
-    delta_of_changes s (record s { held = held }) (word_changes b l us) well (words-rising b l 0 us turning.places.rising)
-    (All-map (IsThere s) (word_change b l) us (All-weaker (λ (u : Turn). u.number < words_among s.ledgers l) (λ u. IsThere s (word_change b l u)) (λ u is. (named, is)) us turning.places.there))
-    (exchanged-words s b l us ∙ ap (λ (h : Contents). record s { held = h }) turning.makes)
-    (All-map differs (word_change b l) us (All-weaker (λ (u : Turn). (u.bits ≢ 0) × (u.bits < 2 ^ 64)) (λ u. differs (word_change b l u)) (λ u is. word_differs s b l u.number u.bits is.0 is.1) us turning.places.some))
+    delta_of_changes s (record s { held = held }) (word_changes b l us) well (words-rising b l 0 us turning.places.rising) (words-there s b l us named turning.places)
+    (exchanged-words s b l us ∙ ap (λ (h : Contents). record s { held = h }) turning.makes) (words-differ s b l us turning.places)
 
 -- the entries that an accepted copy takes lie within the ledger's words
 pub copied_within : (s : Cluster) (w l f i v : ℕ) → IsWellFormed s → refusal_of s (Copy w l f i v) ≡ None → All (λ e. e < 64 * words_among s.ledgers l) (stripe_at s l f i)
@@ -70,9 +69,9 @@ pub copy_delta : (s : Cluster) (w l f i v : ℕ) (us : List Turn) → IsWellForm
 copy_delta s w l f i v us was none turning =
     words_delta s w l (set.union s.held (copies_of w l (stripe_at s l f i))) us (accepted_copy s w l f i v none).named turning (IsWellFormed-after s (Copy w l f i v) was none)
 
--- listed turn by turn, the words that change are the difference
-pub copy_listed : (s : Cluster) (w l f i v : ℕ) (entries : List ℕ) (us : List Turn) (n : ℕ) (parts : List Change) → IsWellFormed s → refusal_of s (Copy w l f i v) ≡ None → entries ≡ stripe_at s l f i
-    → IsTurning (words_among s.ledgers l) w l s.held (set.union s.held (copies_of w l entries)) us → length us ≤ n → parts ≡ word_changes w l (take n us) → IsDelta s (after s (Copy w l f i v)) parts
-copy_listed s w l f i v entries us n parts was none same turning past is =
-    subst (λ (cs : List Change). IsDelta s (after s (Copy w l f i v)) cs) (ap (word_changes w l) (sym (take_all n us past)) ∙ sym is)
+-- listed, the words that change are the difference
+pub copy_listed : (s : Cluster) (w l f i v : ℕ) (entries : List ℕ) (us : List Turn) (parts : List Change) → IsWellFormed s → refusal_of s (Copy w l f i v) ≡ None → entries ≡ stripe_at s l f i
+    → IsTurning (words_among s.ledgers l) w l s.held (set.union s.held (copies_of w l entries)) us → parts ≡ word_changes w l us → IsDelta s (after s (Copy w l f i v)) parts
+copy_listed s w l f i v entries us parts was none same turning is =
+    subst (λ (cs : List Change). IsDelta s (after s (Copy w l f i v)) cs) (sym is)
     (copy_delta s w l f i v us was none (subst (λ (es : List ℕ). IsTurning (words_among s.ledgers l) w l s.held (set.union s.held (copies_of w l es)) us) same turning))

@@ -1,3 +1,6 @@
 pub mod ReadingLaws
+pub mod WalkLaws
 pub mod CopyLaws
+pub mod RollLaws
+pub mod SealLaws
 pub mod RecordLaws

@@ -13,9 +13,9 @@ use Rattle.reh_model.specs.Step.{refusal_of, after}
 use Rattle.reh_model.specs.Places.{Change, IsDelta}
 use Rattle.reh_model.proofs.DeltaLaws.{changes_where, lost_locks, expire_delta, news_tasks, audit_delta}
 
--- the record of one change that is the difference of two clusters
-pub one_delta : {E : Type 0} (s t : Cluster) (result : Result (List Change) E) (change : Change) → IfOk result (λ changes. changes ≡ change ∷ []) → IsDelta s t (change ∷ []) → IfOk result (λ changes. IsDelta s t changes)
-one_delta s t result change made delta = IfOk-weaker result (λ changes. changes ≡ change ∷ []) (λ changes. IsDelta s t changes) (λ changes is. subst (λ (cs : List Change). IsDelta s t cs) (sym is) delta) made
+-- a record of changes that are the difference of two clusters
+pub made_delta : {E : Type 0} (s t : Cluster) (result : Result (List Change) E) (made : List Change) → IfOk result (λ changes. changes ≡ made) → IsDelta s t made → IfOk result (λ changes. IsDelta s t changes)
+made_delta s t result made is_made delta = IfOk-weaker result (λ changes. changes ≡ made) (λ changes. IsDelta s t changes) (λ changes is. subst (λ (cs : List Change). IsDelta s t cs) (sym is) delta) is_made
 
 -- the changes of the ledgers from place k on begin with the one that stands there
 module _ (test : Ledger → Bool) (change : ℕ → Ledger → Change) (gs : List Ledger) (k : ℕ) (g : Ledger) (within : k < length gs) (is : g ≡ get_or gs k g) where

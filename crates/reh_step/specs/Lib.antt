@@ -1,2 +1,3 @@
 pub mod Decisions
 pub mod Sources
+pub mod Records

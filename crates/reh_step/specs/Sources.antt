@@ -1,5 +1,5 @@
 -- From whom an entry can be copied.
-use Rattle.std.specs.Prelude.{ℕ, Bool, false, ◌&&◌, List, slice_get, slice_index}
+use Rattle.std.specs.Prelude.{ℕ, Bool, false, ◌&&◌, List, unwrap_or, slice_get, slice_index}
 use Rattle.std.specs.Borrow.{Bor}
 use Rattle.std.specs.Option.{option_map_or}
 use Rattle.reh_held.specs.Rows.{is_set}
@@ -17,3 +17,7 @@ is_source_at s g fragment entry index = is_source s g (slice_index fragment.ense
 -- whether the entry's bit is set in the row at that index
 abbrev pub is_set_at : List (Bor (List ℕ)) → ℕ → ℕ → Bool
 is_set_at rows entry index = option_map_or (λ row. is_set row.now entry) (slice_get rows index) false
+
+-- whether the index is marked
+abbrev pub is_marked : List Bool → ℕ → Bool
+is_marked marks index = unwrap_or (slice_get marks index) false

@@ -1,25 +1,28 @@
 // When an event is refused: one function for each event, over checks that they share.
-ghost use Rattle.std.specs.Prelude.{◌≡◌, ◌==◌, ◌<◌, ℕ, [], ◌∷◌, length, None, Some, MatchResult, not, slice_get};
-ghost use Rattle.reh_types.specs.declared.moves.Event.TheVariants.{Lose, Join, Audit, Acquire, Release, Finish, Expire, Tick, Copy, Swap};
+ghost use Rattle.std.specs.Prelude.{◌≡◌, ◌==◌, ◌<◌, ℕ, [], ◌∷◌, length, None, Some, IfOk, MatchResult, not, slice_get, slice_index, count_by};
+ghost use Rattle.reh_types.specs.declared.moves.Event.TheVariants.{Lose, Join, Audit, Acquire, Release, Finish, Expire, Grace, Tick, Roll, Fence, Seal, Copy, Swap};
 ghost use Rattle.std.specs.List.{find, list_any};
+ghost use Rattle.reh_model.specs.Metadata as meta;
 ghost use Rattle.reh_model.specs.Metadata.{IsMetadata, stripe_of};
 ghost use Rattle.reh_model.specs.Cluster as cluster;
 ghost use Rattle.reh_model.specs.Cluster.{ledger_at, is_locked_by};
+ghost use Rattle.reh_model.specs.Recovery as recovery;
 ghost use Rattle.reh_model.specs.Refusals as model;
 ghost use Rattle.reh_model.specs.Checks.{first_reason};
 ghost use Rattle.reh_model.specs.Striping as stripe;
 ghost use Rattle.reh_model.specs.Step.{refusal_of, place_checks};
 ghost use Rattle.reh_held.specs.Rows.{is_set};
 ghost use Rattle.reh_step.specs.Decisions.{Decides};
-ghost use Rattle.reh_step.specs.Sources.{is_set_at, is_source, is_source_at};
+ghost use Rattle.reh_step.specs.Sources.{is_marked, is_set_at, is_source, is_source_at};
 
-use reh_audit::{has_news, under_of};
+use reh_audit::{has_news, is_under, under_of};
 use reh_cluster::{Ledger, State};
 use reh_held::is_set;
 use reh_meta::{Fragment, LedgerMeta};
 use reh_stripe::{Striped, write_set};
 use reh_types::{
-    BookieIx, CLOCK_END, Event, LedgerId, MAX_ENSEMBLE_SIZE, MAX_TICKS, MAX_VERSION, Refusal,
+    BookieIx, CLOCK_END, ENTRY_END, Event, LedgerId, LedgerState, MAX_ENSEMBLE_SIZE, MAX_FRAGMENTS,
+    MAX_TICKS, MAX_VERSION, Refusal,
 };
 
 /// Whether the event is accepted, or else the first refusal that applies. It takes no memory.
@@ -36,7 +39,15 @@ pub fn check(state: &State, event: &Event) -> Result<(), Refusal>
         Event::Release { worker, ledger } => check_release(state, *worker, *ledger),
         Event::Finish { worker, ledger } => check_finish(state, *worker, *ledger),
         Event::Expire { worker } => check_expire(state, *worker),
+        Event::Grace { worker, ledger } => check_grace(state, *worker, *ledger),
         Event::Tick { ticks } => check_tick(state, *ticks),
+        Event::Roll {
+            ledger,
+            index,
+            bookie,
+        } => check_roll(state, *ledger, *index, *bookie),
+        Event::Fence { worker, ledger } => check_fence(state, *worker, *ledger),
+        Event::Seal { worker, ledger } => check_seal(state, *worker, *ledger),
         Event::Copy {
             worker,
             ledger,
@@ -126,6 +137,18 @@ fn check_expire(state: &State, worker: BookieIx) -> Result<(), Refusal>
     Ok(())
 }
 
+fn check_grace(state: &State, worker: BookieIx, ledger: LedgerId) -> Result<(), Refusal>
+    ensures { Decides result (refusal_of state.now (Grace worker ledger)) }
+{
+    let ledger = find_owned(state, worker, ledger)?;
+    check_open(ledger)?;
+    check_needed(state, ledger)?;
+    if let Some(due) = due_of(ledger) {
+        return Err(Refusal::GraceSet(due));
+    }
+    Ok(())
+}
+
 fn check_tick(state: &State, ticks: u64) -> Result<(), Refusal>
     ensures { Decides result (refusal_of state.now (Tick ticks)) }
 {
@@ -136,6 +159,43 @@ fn check_tick(state: &State, ticks: u64) -> Result<(), Refusal>
         return Err(Refusal::ClockEnd);
     }
     Ok(())
+}
+
+fn check_roll(state: &State, ledger: LedgerId, index: u64, bookie: BookieIx) -> Result<(), Refusal>
+    ensures { Decides result (refusal_of state.now (Roll ledger index bookie)) }
+{
+    check_bookie(state, bookie)?;
+    let ledger = find_ledger(state, ledger)?;
+    check_open(ledger)?;
+    check_member(state, ledger, last_fragment(ledger), index, bookie)?;
+    check_room(state, ledger)?;
+    check_next_version(ledger)
+}
+
+fn check_fence(state: &State, worker: BookieIx, ledger: LedgerId) -> Result<(), Refusal>
+    ensures { Decides result (refusal_of state.now (Fence worker ledger)) }
+{
+    let ledger = find_owned(state, worker, ledger)?;
+    check_open(ledger)?;
+    check_needed(state, ledger)?;
+    let Some(due) = due_of(ledger) else {
+        return Err(Refusal::NoGrace);
+    };
+    if state.clock() < due {
+        return Err(Refusal::GraceRuns(due));
+    }
+    check_next_version(ledger)
+}
+
+fn check_seal(state: &State, worker: BookieIx, ledger: LedgerId) -> Result<(), Refusal>
+    ensures { Decides result (refusal_of state.now (Seal worker ledger)) }
+{
+    let ledger = find_owned(state, worker, ledger)?;
+    if ledger.metadata().state() != LedgerState::InRecovery {
+        return Err(Refusal::NotRecovering);
+    }
+    check_answers(state, ledger)?;
+    check_next_version(ledger)
 }
 
 fn check_copy(
@@ -169,10 +229,7 @@ fn check_swap(
     if let Some(entry) = first_lacked(state, worker, ledger, stripe) {
         return Err(Refusal::MissingEntry(entry as u64));
     }
-    if ledger.metadata().version() == MAX_VERSION {
-        return Err(Refusal::VersionEnd);
-    }
-    Ok(())
+    check_next_version(ledger)
 }
 
 // Checks that events share
@@ -227,11 +284,135 @@ fn check_owner(ledger: &Ledger, worker: BookieIx) -> Result<(), Refusal>
     }
 }
 
+/// Whether the ledger's metadata can go to a next version.
+fn check_next_version(ledger: &Ledger) -> Result<(), Refusal>
+    ensures { Decides result (model.version_end ledger.now) }
+{
+    if ledger.metadata().version() == MAX_VERSION {
+        Err(Refusal::VersionEnd)
+    } else {
+        Ok(())
+    }
+}
+
 /// Whether the worker holds the lock of one of these ledgers.
 fn holds_lock(worker: BookieIx, ledgers: &[Ledger]) -> bool
     ensures { result ≡ list_any (is_locked_by worker) ledgers.now }
 {
     ledgers.iter().any(|ledger| ledger.is_locked_by(worker))
+}
+
+// Open ledgers
+
+/// Whether a writer may still append to the ledger.
+fn check_open(ledger: &Ledger) -> Result<(), Refusal>
+    ensures { Decides result (model.not_open ledger.now) }
+{
+    if ledger.metadata().state() == LedgerState::Open {
+        Ok(())
+    } else {
+        Err(Refusal::NotOpen)
+    }
+}
+
+/// Whether some member of the ensemble to which the writer appends isn't registered.
+fn check_needed(state: &State, ledger: &Ledger) -> Result<(), Refusal>
+    ensures { Decides result (model.not_needed state.now ledger.now) }
+{
+    if is_under(last_fragment(ledger), state.up()) {
+        Ok(())
+    } else {
+        Err(Refusal::NotNeeded)
+    }
+}
+
+/// The tick from which the ledger may be fenced, if its lock has one.
+fn due_of(ledger: &Ledger) -> Option<u64>
+    ensures { result ≡ cluster.due_of ledger.now }
+{
+    ledger.lock()?.due
+}
+
+/// Whether there is a next entry for the writer, and room for the fragment that begins there, if one is needed.
+fn check_room(state: &State, ledger: &Ledger) -> Result<(), Refusal>
+    ensures { Decides result (first_reason
+        (model.entry_end state.now ledger.now ∷ model.fragments_full state.now ledger.now ∷ [])) }
+{
+    let next = next_entry(state, ledger);
+    if next as u64 == ENTRY_END {
+        return Err(Refusal::EntryEnd);
+    }
+    let needed = next != last_fragment(ledger).first;
+    if needed && ledger.metadata().fragments().len() >= MAX_FRAGMENTS {
+        return Err(Refusal::FragmentsFull);
+    }
+    Ok(())
+}
+
+/// The last fragment, to which the ledger's writer appends.
+pub(crate) fn last_fragment(ledger: &Ledger) -> &Fragment
+    ensures last { result.now ≡ meta.last_fragment ledger.now.metadata }
+    ensures whole { length result.now.ensemble ≡ ledger.now.metadata.size }
+{
+    let fragments = ledger.metadata().fragments();
+    &fragments[fragments.len() - 1]
+}
+
+/// The writer's next entry: one more than the greatest that any bookie holds, and no less than the last fragment's first.
+pub(crate) fn next_entry(state: &State, ledger: &Ledger) -> u32
+    ensures { result ≡ recovery.next_entry state.now ledger.now }
+{
+    let _well_formed = state.up();
+    let first = last_fragment(ledger).first;
+    match state.greatest(ledger.id()) {
+        Some(greatest) => first.max(greatest + 1),
+        None => first,
+    }
+}
+
+// Recovery
+
+/// Where a recovery ends the ledger: the first entry of the last fragment that can't be read.
+pub(crate) fn recovered_end(state: &State, ledger: &Ledger) -> u32
+    ensures { result ≡ recovery.recovered_end state.now ledger.now }
+{
+    let _well_formed = state.up();
+    let metadata = ledger.metadata();
+    let last = last_fragment(ledger);
+    let rows = source_rows(state, ledger, last);
+    let mut end = last.first;
+    while is_readable(&rows, metadata, end) {
+        end += 1;
+    }
+    end
+}
+
+/// Whether enough registered members answer a recovery: for each entry that it passes, an ack quorum of its write set,
+/// and for the one where it ends, which all that answer lack, so many that the others are no ack quorum.
+///
+/// BookKeeper's recovery (`LedgerRecoveryOp`) reads on from the last fragment's first entry, writes each entry back, and
+/// ends at the first one that no ack quorum can have stored.
+fn check_answers(state: &State, ledger: &Ledger) -> Result<(), Refusal>
+    ensures { Decides result (first_reason
+        (model.too_few state.now ledger.now ∷ model.undecided state.now ledger.now ∷ [])) }
+{
+    let _well_formed = state.up();
+    let metadata = ledger.metadata();
+    let last = last_fragment(ledger);
+    let rows = source_rows(state, ledger, last);
+    let registered = registered_members(state, ledger, last);
+    let mut entry = last.first;
+    while is_readable(&rows, metadata, entry) {
+        if count_registered(&registered, metadata, entry) < metadata.ack_quorum() {
+            return Err(Refusal::TooFew(entry as u64));
+        }
+        entry += 1;
+    }
+    let decisive = metadata.write_quorum() - metadata.ack_quorum() + 1;
+    if count_registered(&registered, metadata, entry) < decisive {
+        return Err(Refusal::Undecided(entry as u64));
+    }
+    Ok(())
 }
 
 // Copies and swaps
@@ -298,18 +479,7 @@ fn check_place<'a>(
     let Some(found) = metadata.fragments().get(fragment as usize) else {
         return Err(Refusal::NoFragment);
     };
-    if index >= metadata.size() as u64 {
-        return Err(Refusal::NoIndex);
-    }
-    if state.is_up(found.ensemble[index as usize]) {
-        return Err(Refusal::MemberUp);
-    }
-    if !state.is_up(worker) {
-        return Err(Refusal::TargetDown);
-    }
-    if is_member(found, worker) {
-        return Err(Refusal::TargetIsMember);
-    }
+    check_member(state, ledger, found, index, worker)?;
     let Some(stop) = metadata.end_of(fragment as usize) else {
         return Err(Refusal::NoEndpoint);
     };
@@ -321,6 +491,37 @@ fn check_place<'a>(
         metadata.write_quorum(),
     );
     Ok((found, stripe))
+}
+
+/// Whether the bookie can take that index of the fragment's ensemble from a member that isn't registered.
+fn check_member(
+    state: &State,
+    ledger: &Ledger,
+    fragment: &Fragment,
+    index: u64,
+    target: BookieIx,
+) -> Result<(), Refusal>
+    requires { length fragment.now.ensemble ≡ ledger.now.metadata.size }
+    ensures checks { Decides result (first_reason (model.no_index ledger.now index
+        ∷ model.member_up state.now fragment.now index
+        ∷ model.target_down state.now target
+        ∷ model.target_is_member fragment.now target
+        ∷ [])) }
+    ensures index { IfOk result (λ _. index < ledger.now.metadata.size) }
+{
+    if index >= ledger.metadata().size() as u64 {
+        return Err(Refusal::NoIndex);
+    }
+    if state.is_up(fragment.ensemble[index as usize]) {
+        return Err(Refusal::MemberUp);
+    }
+    if !state.is_up(target) {
+        return Err(Refusal::TargetDown);
+    }
+    if is_member(fragment, target) {
+        return Err(Refusal::TargetIsMember);
+    }
+    Ok(())
 }
 
 /// Whether the bookie is in the fragment's ensemble.
@@ -364,6 +565,8 @@ fn first_lacked(state: &State, bookie: BookieIx, ledger: &Ledger, entries: Strip
     None
 }
 
+// The members of an ensemble
+
 /// A row of words for each index of an ensemble.
 type Rows<'a> = [&'a [u64]; MAX_ENSEMBLE_SIZE as usize];
 
@@ -405,4 +608,36 @@ fn is_readable(rows: &Rows<'_>, metadata: &LedgerMeta, entry: u32) -> bool
         }
     }
     false
+}
+
+/// Whether the bookie at each index of an ensemble is registered.
+type Registered = [bool; MAX_ENSEMBLE_SIZE as usize];
+
+/// Which of the fragment's members are registered, by their indexes.
+fn registered_members(state: &State, ledger: &Ledger, fragment: &Fragment) -> Registered
+    requires { length fragment.now.ensemble ≡ ledger.now.metadata.size }
+    ensures well_formed { IsMetadata ledger.now.metadata }
+    ensures registered { (index : ℕ) → index < ledger.now.metadata.size
+        → is_marked result index
+        ≡ cluster.is_up state.now (slice_index fragment.now.ensemble index) }
+{
+    let mut registered = [false; MAX_ENSEMBLE_SIZE as usize];
+    for index in 0..ledger.metadata().size() as usize {
+        registered[index] = state.is_up(fragment.ensemble[index]);
+    }
+    registered
+}
+
+/// How many of the members at the indexes of the entry's write set are registered.
+fn count_registered(registered: &Registered, metadata: &LedgerMeta, entry: u32) -> u32
+    ensures { result ≡ count_by (is_marked registered.now)
+        (stripe.write_set entry metadata.now.size metadata.now.write_quorum) }
+{
+    let mut count = 0;
+    for index in write_set(entry, metadata.size(), metadata.write_quorum()) {
+        if registered[index as usize] {
+            count += 1;
+        }
+    }
+    count
 }

@@ -1,14 +1,22 @@
 // What an event that is accepted changes: one function for each kind of event.
-ghost use Rattle.std.specs.Prelude.{◌≡◌, ◌==◌, [], unwrap_or, position, None, Some, IfOk};
+ghost use Rattle.std.specs.Prelude.{◌≡◌, ◌==◌, [], ◌∷◌, ◌++◌, unwrap_or, position, None, Some, IfOk};
 ghost use Rattle.std.specs.Option.{IsSome};
-ghost use Rattle.reh_types.specs.declared.moves.Event.TheVariants.{Lose, Join, Audit, Acquire, Release, Finish, Expire, Tick, Copy, Swap};
+ghost use Rattle.reh_types.specs.declared.moves.Event.TheVariants.{Lose, Join, Audit, Acquire, Release, Finish, Expire, Grace, Tick, Roll, Fence, Seal, Copy, Swap};
 ghost use Rattle.reh_model.specs.Cluster as cluster;
+ghost use Rattle.reh_model.specs.Recovery.{recovered_end};
 ghost use Rattle.reh_model.specs.WellFormed.{IsWellFormed};
 ghost use Rattle.reh_model.specs.Places.{IsDelta};
 ghost use Rattle.reh_model.specs.Step.{refusal_of, after};
+ghost use Rattle.reh_model.specs.Records.{due_gone};
+ghost use Rattle.reh_step.specs.Records as records;
+ghost use Rattle.reh_step.specs.Records.{word_changes};
+ghost use Rattle.reh_types.specs.declared.changes.Change.TheVariants.{Metadata};
 
+use crate::decisions::{last_fragment, next_entry, recovered_end};
 use reh_audit::{is_news, published_of};
-use reh_cluster::{Changes, State};
+use reh_cluster::{Changes, Ledger, State};
+use reh_held::Turn;
+use reh_meta::{Fragment, LedgerMeta};
 use reh_stripe::Striped;
 use reh_types::{BookieIx, Change, Event, LedgerId, Lock};
 use std::alloc::{AllocError, Global};
@@ -27,7 +35,15 @@ pub fn changes_of(alloc: Global, state: &State, event: &Event) -> Result<Changes
         Event::Release { worker, ledger } => release(alloc, state, *worker, *ledger),
         Event::Finish { worker, ledger } => finish(alloc, state, *worker, *ledger),
         Event::Expire { worker } => expire(alloc, state, *worker),
+        Event::Grace { worker, ledger } => grace(alloc, state, *worker, *ledger),
         Event::Tick { ticks } => tick(alloc, state, *ticks),
+        Event::Roll {
+            ledger,
+            index,
+            bookie,
+        } => roll(alloc, state, *ledger, *index, *bookie),
+        Event::Fence { worker, ledger } => fence(alloc, state, *worker, *ledger),
+        Event::Seal { worker, ledger } => seal(alloc, state, *worker, *ledger),
         Event::Copy {
             worker,
             ledger,
@@ -150,6 +166,26 @@ fn expire(alloc: Global, state: &State, worker: BookieIx) -> Result<Changes, All
     Ok(Changes::of(parts))
 }
 
+/// The due tick of the ledger's lock is set: a grace from now.
+fn grace(
+    alloc: Global,
+    state: &State,
+    worker: BookieIx,
+    ledger: LedgerId,
+) -> Result<Changes, AllocError>
+    requires accepted { refusal_of state.now (Grace worker ledger) ≡ None }
+    requires well_formed { IsWellFormed state.now }
+    ensures { IfOk result
+        (λ changes. IsDelta state.now (after state.now (Grace worker ledger)) changes) }
+{
+    let place = place_of(state, ledger);
+    let lock = Some(Lock {
+        owner: worker,
+        due: Some(state.clock() + state.grace()),
+    });
+    Changes::one(alloc, Change::Lock { place, lock })
+}
+
 /// The clock goes on.
 fn tick(alloc: Global, state: &State, ticks: u64) -> Result<Changes, AllocError>
     requires accepted { refusal_of state.now (Tick ticks) ≡ None }
@@ -158,6 +194,80 @@ fn tick(alloc: Global, state: &State, ticks: u64) -> Result<Changes, AllocError>
 {
     let clock = state.clock() + ticks;
     Changes::one(alloc, Change::Clock { clock })
+}
+
+/// The bookie takes that index of the last ensemble, in a new fragment from the next entry on, or in the last fragment
+/// itself while none of its entries is held. The ledger's metadata goes to its next version, and the due tick of its
+/// lock goes.
+fn roll(
+    alloc: Global,
+    state: &State,
+    ledger: LedgerId,
+    index: u64,
+    bookie: BookieIx,
+) -> Result<Changes, AllocError>
+    requires accepted { refusal_of state.now (Roll ledger index bookie) ≡ None }
+    requires well_formed { IsWellFormed state.now }
+    ensures { IfOk result
+        (λ changes. IsDelta state.now (after state.now (Roll ledger index bookie)) changes) }
+{
+    let place = place_of(state, ledger);
+    let stored = &state.ledgers()[place];
+    let metadata = stored.metadata();
+    let next = next_entry(state, stored);
+    if next != last_fragment(stored).first {
+        let rolled = metadata.with_fragment(next, index as usize, bookie)?;
+        return without_due(alloc, place, stored, rolled);
+    }
+    let last = metadata.fragments().len() - 1;
+    let rolled = metadata.with_member(last, index as usize, bookie)?;
+    without_due(alloc, place, stored, rolled)
+}
+
+/// The ledger is in recovery, its metadata goes to its next version, and the due tick of its lock goes.
+fn fence(
+    alloc: Global,
+    state: &State,
+    worker: BookieIx,
+    ledger: LedgerId,
+) -> Result<Changes, AllocError>
+    requires accepted { refusal_of state.now (Fence worker ledger) ≡ None }
+    requires well_formed { IsWellFormed state.now }
+    ensures { IfOk result
+        (λ changes. IsDelta state.now (after state.now (Fence worker ledger)) changes) }
+{
+    let place = place_of(state, ledger);
+    let stored = &state.ledgers()[place];
+    let metadata = stored.metadata().fenced()?;
+    without_due(alloc, place, stored, metadata)
+}
+
+/// The ledger is closed where its recovery ends it, its metadata goes to its next version, and each entry that the
+/// recovery passes is held by all registered members of its write set, word by word. The lock stays.
+fn seal(
+    alloc: Global,
+    state: &State,
+    worker: BookieIx,
+    ledger: LedgerId,
+) -> Result<Changes, AllocError>
+    requires accepted { refusal_of state.now (Seal worker ledger) ≡ None }
+    requires well_formed { IsWellFormed state.now }
+    ensures { IfOk result
+        (λ changes. IsDelta state.now (after state.now (Seal worker ledger)) changes) }
+{
+    let place = place_of(state, ledger);
+    let stored = &state.ledgers()[place];
+    let end = recovered_end(state, stored);
+    let metadata = stored.metadata().sealed(end)?;
+    let mut parts = Vec::new(alloc);
+    parts.push(Change::Metadata { place, metadata })?;
+    for bookie in 0..state.names().len() {
+        let bookie = BookieIx(bookie as u8);
+        let entries = recovered_by(alloc, state, stored, end, bookie)?;
+        let turns = state.delta_of(alloc, bookie, ledger, &entries)?;
+        push_words(&mut parts, bookie, ledger, &turns)?;
+    }
+    Ok(Changes::of(parts))
 }
 
 /// The striped entries that the worker's bookie lacks are held, word by word.
@@ -178,14 +288,7 @@ fn copy(
     let entries = striped_entries(alloc, state, ledger, fragment, index)?;
     let turns = state.delta_of(alloc, worker, ledger, &entries)?;
     let mut parts = Vec::with_capacity(alloc, turns.len())?;
-    for turn in &turns {
-        parts.push(Change::Word {
-            bookie: worker,
-            ledger,
-            number: turn.number,
-            bits: turn.bits,
-        })?;
-    }
+    push_words(&mut parts, worker, ledger, &turns)?;
     Ok(Changes::of(parts))
 }
 
@@ -211,7 +314,67 @@ fn swap(
     Changes::one(alloc, Change::Metadata { place, metadata })
 }
 
-// Places and entries
+// Open ledgers
+
+/// The record of a ledger's metadata that changes, and of its lock, whose due tick goes if it has one.
+fn without_due(
+    alloc: Global,
+    place: usize,
+    ledger: &Ledger,
+    metadata: LedgerMeta,
+) -> Result<Changes, AllocError>
+    ensures { IfOk result
+        (λ changes. changes ≡ Metadata place metadata ∷ due_gone place ledger.now) }
+{
+    let mut parts = Vec::with_capacity(alloc, 2)?;
+    parts.push(Change::Metadata { place, metadata })?;
+    if let Some(Lock {
+        owner,
+        due: Some(_),
+    }) = ledger.lock()
+    {
+        let lock = Some(Lock { owner, due: None });
+        parts.push(Change::Lock { place, lock })?;
+    }
+    Ok(Changes::of(parts))
+}
+
+/// The entries that a recovery of the ledger up to this end writes back to the bookie, as a list; none for one that isn't
+/// registered, or is no member of the last ensemble.
+fn recovered_by(
+    alloc: Global,
+    state: &State,
+    ledger: &Ledger,
+    end: u32,
+    bookie: BookieIx,
+) -> Result<Vec<u32>, AllocError>
+    requires { end ≡ recovered_end state.now ledger.now }
+    ensures { IfOk result
+        (λ entries. entries.items ≡ records.recovered_by state.now ledger.now bookie) }
+{
+    if !state.is_up(bookie) {
+        return Ok(Vec::new(alloc));
+    }
+    let metadata = ledger.metadata();
+    let (size, quorum) = (metadata.size(), metadata.write_quorum());
+    let last = last_fragment(ledger);
+    let Some(index) = member_index(last, bookie) else {
+        return Ok(Vec::new(alloc));
+    };
+    listed(
+        alloc,
+        Striped::new(last.first, end, index as u32, size, quorum),
+    )
+}
+
+/// The index of the bookie in the fragment's ensemble, if it is there.
+fn member_index(fragment: &Fragment, bookie: BookieIx) -> Option<usize>
+    ensures { result ≡ position (λ member. member == bookie) fragment.now.ensemble }
+{
+    fragment.ensemble.iter().position(|member| *member == bookie)
+}
+
+// Places, entries and words
 
 /// Where the ledger of that id stands; there has to be one.
 fn place_of(state: &State, ledger: LedgerId) -> usize
@@ -263,4 +426,25 @@ fn listed(alloc: Global, entries: Striped) -> Result<Vec<u32>, AllocError>
     ensures { IfOk result (λ listed. listed.items ≡ entries) }
 {
     entries.collect(alloc)
+}
+
+/// Adds the words that turn, as changes of what the bookie holds of the ledger.
+fn push_words(
+    parts: &mut Vec<Change<LedgerMeta>>,
+    bookie: BookieIx,
+    ledger: LedgerId,
+    turns: &[Turn],
+) -> Result<(), AllocError>
+    ensures { IfOk result
+        (λ _. parts.new.items ≡ parts.old.items ++ word_changes bookie ledger turns.now) }
+{
+    for turn in turns {
+        parts.push(Change::Word {
+            bookie,
+            ledger,
+            number: turn.number,
+            bits: turn.bits,
+        })?;
+    }
+    Ok(())
 }

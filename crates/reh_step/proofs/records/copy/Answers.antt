@@ -1,9 +1,11 @@
 -- The words that turn are the only differences.
-use Rattle.std.proofs.Common.{ℕ, List, ◌<◌, ◌*◌, ◌∙◌, All, sym, subst, arith}
+use Rattle.std.proofs.Common.{ℕ, List, ◌<◌, ◌*◌, ◌∙◌, ◌++◌, All, ap, sym, subst}
 use Rattle.reh_types.specs.Sets.{union}
 use Rattle.reh_held.specs.Turns.{IsTurning}
 use Rattle.reh_model.specs.Contents.{copies_of}
 use Rattle.reh_model.specs.Cluster.{Cluster, words_among}
+use Rattle.reh_model.specs.Places.{Change}
+use Rattle.reh_step.specs.Records.{word_changes}
 use Rattle.reh_step.proofs.CopyLaws.{copied_within, copy_listed}
 use Rattle.reh_step.proofs.records.copy.Goals as goal
 
@@ -16,14 +18,14 @@ delta_of-requires-clause-entries c =
 pub of-requires : goal.of-requires
 of-requires c =
     let s : Cluster = c.args.state.now in
-    let turning : IsTurning (words_among s.ledgers c.args.ledger) c.args.worker c.args.ledger s.held (union s.held (copies_of c.args.worker c.args.ledger c.deref.result.now)) c.deref-turn-items.result.now = rw c.deref-turn-items.ensures.value c.in_ok-turns.ensures in
-    (copy_listed s c.args.worker c.args.ledger c.args.fragment c.args.index c.args.version c.deref.result.now c.deref-turn-items.result.now c.loop-turn.turn-index c.loop-turn.parts.items c.requires.well_formed c.requires.accepted
-    (c.deref.ensures.value ∙ c.in_ok-entries.ensures) turning (omega arith) c.loop-turn.invariant).rising
+    let turning : IsTurning (words_among s.ledgers c.args.ledger) c.args.worker c.args.ledger s.held (union s.held (copies_of c.args.worker c.args.ledger c.deref.result.now)) c.deref-2.result.now = rw c.deref-2.ensures.value c.in_ok-turns.ensures in
+    (copy_listed s c.args.worker c.args.ledger c.args.fragment c.args.index c.args.version c.deref.result.now c.deref-2.result.now c.push_words.new.parts.items c.requires.well_formed c.requires.accepted
+    (c.deref.ensures.value ∙ c.in_ok-entries.ensures) turning (c.in_ok-push_words.ensures ∙ ap (λ (cs : List Change). cs ++ word_changes c.args.worker c.args.ledger c.deref-2.result.now) c.in_ok-parts.ensures.items)).rising
 
 pub returns : goal.returns
 returns c =
     let s : Cluster = c.args.state.now in
-    let turning : IsTurning (words_among s.ledgers c.args.ledger) c.args.worker c.args.ledger s.held (union s.held (copies_of c.args.worker c.args.ledger c.deref.result.now)) c.deref-turn-items.result.now = rw c.deref-turn-items.ensures.value c.in_ok-turns.ensures in
+    let turning : IsTurning (words_among s.ledgers c.args.ledger) c.args.worker c.args.ledger s.held (union s.held (copies_of c.args.worker c.args.ledger c.deref.result.now)) c.deref-2.result.now = rw c.deref-2.ensures.value c.in_ok-turns.ensures in
     rw c.of.ensures
-    (copy_listed s c.args.worker c.args.ledger c.args.fragment c.args.index c.args.version c.deref.result.now c.deref-turn-items.result.now c.loop-turn.turn-index c.loop-turn.parts.items c.requires.well_formed c.requires.accepted
-    (c.deref.ensures.value ∙ c.in_ok-entries.ensures) turning (omega arith) c.loop-turn.invariant)
+    (copy_listed s c.args.worker c.args.ledger c.args.fragment c.args.index c.args.version c.deref.result.now c.deref-2.result.now c.push_words.new.parts.items c.requires.well_formed c.requires.accepted
+    (c.deref.ensures.value ∙ c.in_ok-entries.ensures) turning (c.in_ok-push_words.ensures ∙ ap (λ (cs : List Change). cs ++ word_changes c.args.worker c.args.ledger c.deref-2.result.now) c.in_ok-parts.ensures.items))

@@ -4,7 +4,7 @@ use Rattle.reh_model.specs.Metadata.{next_version, with_member_at}
 use Rattle.reh_model.specs.Cluster.{Cluster, Ledger}
 use Rattle.reh_model.proofs.AcceptedLaws.{IsSwappable}
 use Rattle.reh_model.proofs.DeltaLaws.{swappable_there, swap_delta}
-use Rattle.reh_step.proofs.RecordLaws.{one_delta}
+use Rattle.reh_step.proofs.RecordLaws.{made_delta}
 use Rattle.reh_step.proofs.records.swap.Goals as goal
 
 -- what the swap shows of the ledger that stands at the place
@@ -32,5 +32,5 @@ returns c =
     let g : Ledger = c.index-ledgers-place.result in
     let read : g ≡ get_or s.ledgers c.place_of-place.result g = rw (← c.ledgers.ensures.ledgers) c.index-ledgers-place.is in
     let made : c.in_ok-metadata.metadata ≡ next_version (with_member_at g.metadata c.args.fragment c.args.index c.args.worker) = rw c.metadata-stored.ensures at c.in_ok-metadata.ensures in
-    one_delta s _ c.one.result _ c.one.ensures
+    made_delta s _ c.one.result _ c.one.ensures
     (swap_delta s c.args.worker c.args.ledger c.args.fragment c.args.index c.args.version c.place_of-place.result g c.in_ok-metadata.metadata c.requires.well_formed c.place_of-place.ensures read made c.requires.accepted)
