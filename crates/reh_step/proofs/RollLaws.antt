@@ -22,7 +22,7 @@ module _ (s : Cluster) (g : Ledger) (next first : ℕ) (is : next ≡ next_entry
   rolls_in_place tied = let same : (next_entry s g == (last_fragment g.metadata).first) ≡ true = grind (arith, nat_tests) in ap not same
 
   module _ (i b : ℕ) (m n : Metadata) (stored : m ≡ g.metadata) where
-    made : Bool → Metadata
+    abbrev made : Bool → Metadata
     made over = next_version (if over then with_fragment_at g.metadata (next_entry s g) i b else with_member_at g.metadata (length g.metadata.fragments - 1) i b)
 
     -- the metadata that is made with a new fragment,

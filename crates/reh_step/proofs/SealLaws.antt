@@ -1,6 +1,6 @@
 -- A seal's record: the ledger's metadata, and word by word what each bookie gets of the entries that the recovery passes.
 use Rattle.std.proofs.Common.{◌≡◌, ◌≢◌, ◌<◌, ◌≤◌, ◌+◌, ◌-◌, ◌*◌, ℕ, Bool, true, false, cond, ◌&&◌, ◌||◌, nat_eq, nat_lt, List, [], ◌∷◌, ◌++◌, length, map, get_or, None, Some, Option, refl, sym, ap, subst, ◌∙◌, arith, inl, inr}
-use Rattle.std.specs.Prelude.{All, ◌==◌, position, slice_index}
+use Rattle.std.specs.Prelude.{All, if◌then◌else◌, ◌==◌, position, slice_index}
 use Rattle.std.specs.List.{filter, list_any, position_or_len}
 use Rattle.std.proofs.lemmas.Bool.Decides.{nat_tests}
 use Rattle.std.proofs.lemmas.List.{map-append}
@@ -27,7 +27,7 @@ use Rattle.reh_model.specs.Recovery.{up_writes, recovered_end, recovered_entries
 use Rattle.reh_model.specs.WellFormed.{IsCopy, IsWellFormed}
 use Rattle.reh_model.specs.Step.{refusal_of, after, sealed_ledger}
 use Rattle.reh_model.specs.Places.{Change, Place, at_metadata, at_word, place_of, IsBefore, AreRising, change_at, put, exchanged, IsThere, SameAt, IsDelta}
-use Rattle.reh_step.specs.Records.{word_change, word_changes, recovered_by}
+use Rattle.reh_step.specs.Records.{word_change, word_changes, registered_index, recovered_by}
 use Rattle.reh_model.proofs.ContentsLaws.{All-copy, has-copies_of}
 use Rattle.reh_model.proofs.FragmentLaws.{IsEnsemble-last}
 use Rattle.reh_model.proofs.Ranges.{list_any-same, same_answer}
@@ -235,12 +235,12 @@ nothing_kept : (p : ℕ → Bool) → ((e : ℕ) → p e ≡ false) → (es : Li
 nothing_kept p none [] = refl
 nothing_kept p none (e ∷ es) = ap (λ b. cond b (e ∷ filter p es) (filter p es)) (none e) ∙ nothing_kept p none es
 
--- none, while it is not registered
-pub recovered_down : (s : Cluster) (g : Ledger) (b : ℕ) → is_up s b ≡ false → recovered_by s g b ≡ []
+-- none, while it is not registered,
+recovered_down : (s : Cluster) (g : Ledger) (b : ℕ) → is_up s b ≡ false → recovered_by s g b ≡ []
 recovered_down s g b down =
     nothing_kept (λ e. list_any (nat_eq b) (up_writes s g e)) (λ e. any-up_writes s g e b ∙ ap (λ up. up && list_any (nat_eq b) (writes g.metadata (last_fragment g.metadata) e)) down) (recovered_entries s g)
 
--- none, where it is no member
+-- or where it is no member
 nowhere : (p : ℕ → Bool) (xs : List ℕ) → position p xs ≡ None → (k : ℕ) → k < length xs → p (slice_index xs k) ≡ false
 nowhere p xs is k within =
     let first : ℕ = position_or_len p xs in
@@ -256,7 +256,7 @@ none_among b members none (i ∷ is) within =
     let here : nat_eq b (slice_index members i) ≡ false = grind (arith, nat_tests, apart) in
     ap (λ c. c || list_any (nat_eq b) (map (λ i. slice_index members i) is)) here ∙ none_among b members none is (All-tail (λ i. i < length members) i is within)
 
-pub recovered_stranger : (s : Cluster) (g : Ledger) (b : ℕ) → IsMetadata g.metadata → position (λ member. member == b) (last_fragment g.metadata).ensemble ≡ None → recovered_by s g b ≡ []
+recovered_stranger : (s : Cluster) (g : Ledger) (b : ℕ) → IsMetadata g.metadata → position (λ member. member == b) (last_fragment g.metadata).ensemble ≡ None → recovered_by s g b ≡ []
 recovered_stranger s g b was is =
     let last : Fragment = last_fragment g.metadata in
     let whole : length last.ensemble ≡ g.metadata.size = (IsEnsemble-last g.metadata was).whole in
@@ -270,20 +270,39 @@ recovered_stranger s g b was is =
     none true = refl
     none false = refl
 
+pub recovered_none : (s : Cluster) (g : Ledger) (b : ℕ) → IsMetadata g.metadata → registered_index s (last_fragment g.metadata).ensemble b ≡ None → recovered_by s g b ≡ []
+recovered_none s g b was is =
+    elim (is_up s b) as (λ up. is_up s b ≡ up → (if up then position (λ member. member == b) (last_fragment g.metadata).ensemble else None) ≡ None → recovered_by s g b ≡ []) [
+      | true ↦ λ _ is. recovered_stranger s g b was is
+      | false ↦ λ down _. recovered_down s g b down
+    ] refl is
+
+-- a registered member
+registered_at : (s : Cluster) (members : List ℕ) (b i : ℕ) → registered_index s members b ≡ Some i → (is_up s b ≡ true) × (i < length members) × (slice_index members i ≡ b)
+registered_at s members b i is = elim (is_up s b) as (λ up. is_up s b ≡ up → (if up then position (λ member. member == b) members else None) ≡ Some i → (is_up s b ≡ true) × (i < length members) × (slice_index members i ≡ b)) [
+  | true ↦ λ up is.
+      let at = position-Some (λ member. member == b) members i 0 is in
+      let tied : (slice_index members i == b) ≡ true = at.1 in
+      (up, at.0, grind (arith, nat_tests, tied))
+  | false ↦ λ _ is. cc
+] refl is
+
+pub registered_within : (s : Cluster) (members : List ℕ) (b i : ℕ) → registered_index s members b ≡ Some i → i < length members
+registered_within s members b i is = (registered_at s members b i is).1
+
 -- those that are striped onto its index, where it is one
-pub recovered_member : (s : Cluster) (g : Ledger) (b i : ℕ) → IsMetadata g.metadata → is_up s b ≡ true → position (λ member. member == b) (last_fragment g.metadata).ensemble ≡ Some i
+pub recovered_member : (s : Cluster) (g : Ledger) (b i : ℕ) → IsMetadata g.metadata → registered_index s (last_fragment g.metadata).ensemble b ≡ Some i
     → recovered_by s g b ≡ striped_entries (last_fragment g.metadata).first (recovered_end s g) i g.metadata.size g.metadata.write_quorum
-recovered_member s g b i was up is =
+recovered_member s g b i was is =
     let m : meta.Metadata = g.metadata in
     let last : Fragment = last_fragment m in
     let ensemble : IsEnsemble m.size last.ensemble = IsEnsemble-last m was in
-    let at = position-Some (λ member. member == b) last.ensemble i 0 is in
-    let inside : i < m.size = omega (arith, at.0, ensemble.whole) in
-    let member : slice_index last.ensemble i ≡ b = (let tied : (slice_index last.ensemble i == b) ≡ true = at.1 in grind (arith, nat_tests, tied)) in
+    let at = registered_at s last.ensemble b i is in
+    let inside : i < m.size = omega (arith, at.1, ensemble.whole) in
     let same : (e : ℕ) → list_any (nat_eq b) (up_writes s g e) ≡ is_striped e i m.size m.write_quorum = λ e.
-    any-up_writes s g e b ∙ ap (λ u. u && list_any (nat_eq b) (writes m last e)) up
+    any-up_writes s g e b ∙ ap (λ u. u && list_any (nat_eq b) (writes m last e)) at.0
     ∙ list_any-same (nat_eq b) (λ x. x == b) (λ x. flipped b x) (writes m last e)
-    ∙ ap (λ c. list_any (λ x. x == c) (writes m last e)) (sym member) ∙ writes-member m last e i ensemble inside in
+    ∙ ap (λ c. list_any (λ x. x == c) (writes m last e)) (sym at.2) ∙ writes-member m last e i ensemble inside in
     ap (λ (p : ℕ → Bool). filter p (recovered_entries s g)) (λ j e. same e j)
   where
     flipped : (b x : ℕ) → nat_eq b x ≡ (x == b)

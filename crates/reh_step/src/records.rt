@@ -328,10 +328,12 @@ fn without_due(
 {
     let mut parts = Vec::with_capacity(alloc, 2)?;
     parts.push(Change::Metadata { place, metadata })?;
-    if let Some(Lock {
-        owner,
-        due: Some(_),
-    }) = ledger.lock()
+    if let Some(
+        Lock {
+            owner,
+            due: Some(_),
+        },
+    ) = ledger.lock()
     {
         let lock = Some(Lock { owner, due: None });
         parts.push(Change::Lock { place, lock })?;
@@ -352,13 +354,10 @@ fn recovered_by(
     ensures { IfOk result
         (λ entries. entries.items ≡ records.recovered_by state.now ledger.now bookie) }
 {
-    if !state.is_up(bookie) {
-        return Ok(Vec::new(alloc));
-    }
     let metadata = ledger.metadata();
     let (size, quorum) = (metadata.size(), metadata.write_quorum());
     let last = last_fragment(ledger);
-    let Some(index) = member_index(last, bookie) else {
+    let Some(index) = registered_index(state, last, bookie) else {
         return Ok(Vec::new(alloc));
     };
     listed(
@@ -367,11 +366,25 @@ fn recovered_by(
     )
 }
 
+/// The index of the bookie in the fragment's ensemble, if it is there and registered.
+fn registered_index(state: &State, fragment: &Fragment, bookie: BookieIx) -> Option<usize>
+    ensures { result ≡ records.registered_index state.now fragment.now.ensemble bookie }
+{
+    if state.is_up(bookie) {
+        member_index(fragment, bookie)
+    } else {
+        None
+    }
+}
+
 /// The index of the bookie in the fragment's ensemble, if it is there.
 fn member_index(fragment: &Fragment, bookie: BookieIx) -> Option<usize>
     ensures { result ≡ position (λ member. member == bookie) fragment.now.ensemble }
 {
-    fragment.ensemble.iter().position(|member| *member == bookie)
+    fragment
+        .ensemble
+        .iter()
+        .position(|member| *member == bookie)
 }
 
 // Places, entries and words

@@ -1,31 +1,26 @@
 -- A registered member gets what is striped onto its index; others get nothing.
-use Rattle.std.proofs.Common.{◌≡◌, ◌∙◌, ◌<◌, Option, ℕ, None, Some, ap, sym, subst, arith}
-use Rattle.std.specs.Prelude.{◌==◌, position}
-use Rattle.std.proofs.lemmas.List.Quantifiers.{position-Some}
+use Rattle.std.proofs.Common.{◌≡◌, ◌∙◌, None, Some, ap, sym, subst, arith}
 use Rattle.std.proofs.lemmas.Result.{IfOk-weaker}
 use Rattle.reh_model.specs.Metadata.{Metadata, Fragment, IsMetadata, last_fragment}
 use Rattle.reh_model.specs.Striping.{striped_entries}
 use Rattle.reh_model.specs.Cluster.{Cluster, Ledger}
 use Rattle.reh_model.specs.Recovery.{recovered_end}
-use Rattle.reh_step.specs.Records.{recovered_by}
-use Rattle.reh_step.proofs.SealLaws.{recovered_down, recovered_stranger, recovered_member}
+use Rattle.reh_step.specs.Records.{registered_index, recovered_by}
+use Rattle.reh_step.proofs.SealLaws.{recovered_none, registered_within, recovered_member}
 use Rattle.reh_step.proofs.records.recovered_by.Goals as goal
-
-pub returns-then-not-is_up : goal.returns-then-not-is_up
-returns-then-not-is_up c = c.new.ensures.items ∙ sym (recovered_down c.args.state.now c.args.ledger.now c.args.bookie (sym c.is_up.ensures ∙ c.if-not-is_up.true))
 
 pub returns-in_default : goal.returns-in_default
 returns-in_default c =
-    let m : Metadata = c.args.ledger.now.metadata in
-    let nowhere : position (λ member. member == c.args.bookie) (last_fragment m).ensemble ≡ None =
-    ap (λ (fragment : Fragment). position (λ member. member == c.args.bookie) fragment.ensemble) (sym c.last_fragment-last.ensures.last) ∙ sym c.member_index.ensures ∙ c.in_default.is in
-    c.new-in_default.ensures.items ∙ sym (recovered_stranger c.args.state.now c.args.ledger.now c.args.bookie (subst IsMetadata c.metadata-metadata.ensures c.size-size.ensures.well_formed) nowhere)
+    let s : Cluster = c.args.state.now in
+    let g : Ledger = c.args.ledger.now in
+    let nowhere : registered_index s (last_fragment g.metadata).ensemble c.args.bookie ≡ None =
+    ap (λ (fragment : Fragment). registered_index s fragment.ensemble c.args.bookie) (sym c.last_fragment-last.ensures.last) ∙ sym c.registered_index.ensures ∙ c.in_default.is in
+    c.new.ensures.items ∙ sym (recovered_none s g c.args.bookie (subst IsMetadata c.metadata-metadata.ensures c.size-size.ensures.well_formed) nowhere)
 
 pub overflow_cast-index : goal.overflow_cast-index
 overflow_cast-index c =
-    let at = position-Some (λ member. member == c.args.bookie) c.last_fragment-last.result.now.ensemble c.in-Some.index 0 (sym c.member_index.ensures ∙ c.in-Some.is) in
     let was : IsMetadata c.args.ledger.now.metadata = subst IsMetadata c.metadata-metadata.ensures c.size-size.ensures.well_formed in
-    omega (arith, at.0, c.last_fragment-last.ensures.whole, was.small)
+    omega (arith, registered_within c.args.state.now c.last_fragment-last.result.now.ensemble c.args.bookie c.in-Some.index (sym c.registered_index.ensures ∙ c.in-Some.is), c.last_fragment-last.ensures.whole, was.small)
 
 pub returns : goal.returns
 returns c =
@@ -35,9 +30,9 @@ returns c =
     let first : c.last.inside.first ≡ (last_fragment m).first = ap (λ (fragment : Fragment). fragment.first) (c.last.view_is ∙ c.last_fragment-last.ensures.last) in
     let size : c.size-size.result ≡ m.size = c.size-size.ensures.size ∙ ap (λ (x : Metadata). x.size) c.metadata-metadata.ensures in
     let quorum : c.write_quorum-quorum.result ≡ m.write_quorum = c.write_quorum-quorum.ensures ∙ ap (λ (x : Metadata). x.write_quorum) c.metadata-metadata.ensures in
-    let somewhere : position (λ member. member == c.args.bookie) (last_fragment m).ensemble ≡ Some c.in-Some.index =
-    ap (λ (fragment : Fragment). position (λ member. member == c.args.bookie) fragment.ensemble) (sym c.last_fragment-last.ensures.last) ∙ sym c.member_index.ensures ∙ c.in-Some.is in
+    let somewhere : registered_index s (last_fragment m).ensemble c.args.bookie ≡ Some c.in-Some.index =
+    ap (λ (fragment : Fragment). registered_index s fragment.ensemble c.args.bookie) (sym c.last_fragment-last.ensures.last) ∙ sym c.registered_index.ensures ∙ c.in-Some.is in
     let striped : recovered_by s g c.args.bookie ≡ striped_entries (last_fragment m).first (recovered_end s g) c.in-Some.index m.size m.write_quorum =
-    recovered_member s g c.args.bookie c.in-Some.index (subst IsMetadata c.metadata-metadata.ensures c.size-size.ensures.well_formed) (sym c.is_up.ensures ∙ c.if-not-is_up.false) somewhere in
+    recovered_member s g c.args.bookie c.in-Some.index (subst IsMetadata c.metadata-metadata.ensures c.size-size.ensures.well_formed) somewhere in
     IfOk-weaker c.listed.result _ (λ entries. entries.items ≡ recovered_by s g c.args.bookie)
     (λ entries is. is ∙ c.new-2.ensures ∙ (λ i. striped_entries (first i) (c.requires i) c.in-Some.index (size i) (quorum i)) ∙ sym striped) c.listed.ensures
