@@ -1,7 +1,8 @@
 -- A seal's record: the ledger's metadata, and word by word what each bookie gets of the entries that the recovery passes.
-use Rattle.std.proofs.Common.{◌≡◌, ◌≢◌, ◌<◌, ◌≤◌, ◌+◌, ◌-◌, ◌*◌, ℕ, Bool, true, false, cond, ◌&&◌, ◌||◌, nat_eq, nat_lt, List, [], ◌∷◌, ◌++◌, length, map, get_or, None, Some, Option, refl, sym, ap, subst, ◌∙◌, arith, inl, inr}
+use Rattle.std.proofs.Common.{◌≡◌, ◌<◌, ◌≤◌, ◌+◌, ◌-◌, ◌*◌, ℕ, Bool, true, false, cond, ◌&&◌, ◌||◌, nat_eq, nat_lt, List, [], ◌∷◌, ◌++◌, length, map, get_or, None, Some, Option, refl, sym, ap, subst, ◌∙◌, arith, inl, inr}
 use Rattle.std.specs.Prelude.{All, if◌then◌else◌, ◌==◌, position, slice_index}
 use Rattle.std.specs.List.{filter, list_any, position_or_len}
+use Rattle.std.proofs.Math.Bool.{and_comm, and-false, or-false}
 use Rattle.std.proofs.lemmas.Bool.Decides.{nat_tests}
 use Rattle.std.proofs.lemmas.List.{map-append}
 use Rattle.std.proofs.lemmas.List.Elements.{All-nil, All-cons, All-append, All-filter, All-head, All-tail, All-map, All-weaker}
@@ -10,7 +11,7 @@ use Rattle.std.proofs.lemmas.List.Quantifiers.{position-Some}
 use Rattle.std.proofs.lemmas.List.Sums.{fails_before_first}
 use Rattle.std.proofs.lemmas.Map.Views.{any-filter_same}
 use Rattle.reh_types.specs.Sets as set
-use Rattle.reh_types.specs.Sets.{triples, contains-retain, contains-union, same_set}
+use Rattle.reh_types.specs.Sets.{contains-retain, contains-union, same_set}
 use Rattle.reh_types.specs.declared.changes.Change.TheVariants.{Metadata}
 use Rattle.reh_types.specs.declared.moves.Event.TheVariants.{Seal}
 use Rattle.reh_held.specs.declared.turns.Turn.{Turn}
@@ -32,9 +33,9 @@ use Rattle.reh_model.proofs.ContentsLaws.{All-copy, has-copies_of}
 use Rattle.reh_model.proofs.FragmentLaws.{IsEnsemble-last}
 use Rattle.reh_model.proofs.Ranges.{list_any-same, same_answer}
 use Rattle.reh_model.proofs.WriteSetLaws.{writes-member}
-use Rattle.reh_model.proofs.LedgerLaws.{id_found, ledger_at-position}
+use Rattle.reh_model.proofs.LedgerLaws.{ledger_at-position}
 use Rattle.reh_model.proofs.ListLaws.{change_at-here}
-use Rattle.reh_model.proofs.RecoveryLaws.{IsHeld-readable, readable_before_end, first_before_end, has-recovered_copies, any-up_writes, IsRecovered-at}
+use Rattle.reh_model.proofs.RecoveryLaws.{IsHeld-readable, readable_before_end, has-recovered_copies, any-up_writes, IsRecovered-at}
 use Rattle.reh_model.proofs.TurnedLaws.{one_of-false}
 use Rattle.reh_model.proofs.WellFormedLaws.{IsWellFormed-after}
 use Rattle.reh_model.proofs.ExchangeLaws.{delta_of_changes}
@@ -61,20 +62,13 @@ has-recovered_by s g n b l e =
       | true ↦ λ tied.
           let same : n ≡ b = grind (arith, nat_tests, tied) in
           ap (λ c. nat_eq l g.id && (list_any (nat_eq c) (up_writes s g e) && passed)) same
-          ∙ turned_round (nat_eq l g.id) (list_any (nat_eq b) (up_writes s g e)) passed
+          ∙ ap (λ c. nat_eq l g.id && c) (and_comm (list_any (nat_eq b) (up_writes s g e)) passed)
           ∙ sym (has-recovered_copies s g b l e)
       | false ↦ λ _. refl
     ] refl
   where
     passed : Bool
     passed = list_any (nat_eq e) (recovered_entries s g)
-
-    turned_round : (a b c : Bool) → (a && (b && c)) ≡ (a && (c && b))
-    turned_round false b c = refl
-    turned_round true true true = refl
-    turned_round true true false = refl
-    turned_round true false true = refl
-    turned_round true false false = refl
 
 -- one bookie more: its words turn to what it gets, whatever the bookies before it got
 turned_next : (s : Cluster) (g : Ledger) (n : ℕ) (us : List Turn) → turned_all s.held n g.id us ≡ set.union s.held (copies_of n g.id (recovered_by s g n))
@@ -114,14 +108,10 @@ turned_next s g n us makes =
 nothing_below : (s : Cluster) (g : Ledger) → set.union s.held (recovered_below s g 0) ≡ s.held
 nothing_below s g = same_set (set.union s.held (recovered_below s g 0)) s.held (λ t.
     contains-union s.held (recovered_below s g 0) t ∙ ap (λ h. set.contains s.held t || h) (has-below s g 0 t.0 t.1 t.2)
-    ∙ ap (λ below. set.contains s.held t || (below && has (recovered_copies s g) t.0 t.1 t.2)) (none_below t.0) ∙ no_more (set.contains s.held t))
+    ∙ ap (λ below. set.contains s.held t || (below && has (recovered_copies s g) t.0 t.1 t.2)) (none_below t.0) ∙ or-false (set.contains s.held t))
   where
     none_below : (b : ℕ) → nat_lt b 0 ≡ false
     none_below b = grind (arith, nat_tests)
-
-    no_more : (h : Bool) → (h || false) ≡ h
-    no_more true = refl
-    no_more false = refl
 
 -- behind the last bookie
 all_below : (s : Cluster) (l : ℕ) (g : Ledger) (n : ℕ) → IsWellFormed s → ledger_at s l ≡ Some g → length s.names ≤ n → recovered_below s g n ≡ recovered_at s l
@@ -129,16 +119,12 @@ all_below s l g n was found past = same_set (recovered_below s g n) (recovered_c
   copied : recovered_at s l ≡ recovered_copies s g
   copied = ap (λ (o : Option Ledger). option_map_or (recovered_copies s) o set.empty) found
 
-  none : (a : Bool) → (a && false) ≡ false
-  none true = refl
-  none false = refl
-
   all : (b k e : ℕ) (r : Bool) → has (recovered_copies s g) b k e ≡ r → (nat_lt b n && r) ≡ r
   all b k e true is =
       let named : b < length s.names = was.up b (IsRecovered-at s l b k e (ap (λ (c : Contents). has c b k e) copied ∙ is)).up in
       let below : nat_lt b n ≡ true = grind (arith, nat_tests, named, past) in
       ap (λ x. x && true) below
-  all b k e false is = none (nat_lt b n)
+  all b k e false is = and-false (nat_lt b n)
 
 -- The record
 
@@ -264,11 +250,7 @@ recovered_stranger s g b was is =
     any-up_writes s g e b
     ∙ ap (λ among. is_up s b && among) (none_among b last.ensemble (nowhere (λ member. member == b) last.ensemble is) (write_set e g.metadata.size g.metadata.write_quorum)
     (subst (λ n. All (λ i. i < n) (write_set e g.metadata.size g.metadata.write_quorum)) (sym whole) (write_set_within g.metadata e was)))
-    ∙ none (is_up s b)) (recovered_entries s g)
-  where
-    none : (a : Bool) → (a && false) ≡ false
-    none true = refl
-    none false = refl
+    ∙ and-false (is_up s b)) (recovered_entries s g)
 
 pub recovered_none : (s : Cluster) (g : Ledger) (b : ℕ) → IsMetadata g.metadata → registered_index s (last_fragment g.metadata).ensemble b ≡ None → recovered_by s g b ≡ []
 recovered_none s g b was is =

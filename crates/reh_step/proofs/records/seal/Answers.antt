@@ -1,5 +1,5 @@
 -- The metadata and the words that the registered members get are the only differences.
-use Rattle.std.proofs.Common.{◌≡◌, ◌∙◌, ◌<◌, ◌≤◌, ℕ, Some, List, length, get_or, ap, sym, arith}
+use Rattle.std.proofs.Common.{◌≡◌, ◌∙◌, ◌<◌, ◌≤◌, ℕ, Some, List, length, get_or, ap, arith}
 use Rattle.reh_held.specs.Turns.{IsTurning}
 use Rattle.reh_types.specs.Sets.{union}
 use Rattle.reh_model.specs.Contents.{copies_of}
