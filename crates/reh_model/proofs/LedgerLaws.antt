@@ -84,10 +84,6 @@ KeepsId-changed_ledger l change keeps g = elim (g.id == l) as (λ b. (cond b (ch
 pub KeepsWords-changed_ledger : (l : ℕ) (change : Ledger → Ledger) → KeepsWords change → KeepsWords (changed_ledger l change)
 KeepsWords-changed_ledger l change keeps g = elim (g.id == l) as (λ b. (cond b (change g) g).words ≡ g.words) [ true ↦ keeps g | false ↦ refl ]
 
--- the words of a ledger, where the ledger of one id is changed
-pub words_among-changed_ledger : (l k : ℕ) (change : Ledger → Ledger) → KeepsId change → KeepsWords change → (gs : List Ledger) → words_among (map (changed_ledger k change) gs) l ≡ words_among gs l
-words_among-changed_ledger l k change keeps_id keeps gs = words_among-map l (changed_ledger k change) (KeepsId-changed_ledger k change keeps_id) (KeepsWords-changed_ledger k change keeps) gs
-
 -- Where ids differ
 
 -- a ledger that stands among others with other ids

@@ -1,7 +1,6 @@
 -- Lists with one element changed.
-use Rattle.std.proofs.Common.{◌≡◌, ◌≢◌, ◌<◌, ℕ, zero, suc, List, [], ◌∷◌, ◌++◌, length, get_or, set, refl, sym, ap, subst, ◌∙◌, arith}
-use Rattle.std.specs.Prelude.{Some, slice_get, All}
-use Rattle.std.proofs.lemmas.List.Elements.{All-set}
+use Rattle.std.proofs.Common.{◌≡◌, ◌≢◌, ◌<◌, ℕ, zero, suc, List, [], ◌∷◌, ◌++◌, length, get_or, set, refl, sym, ap, ◌∙◌, arith}
+use Rattle.std.specs.Prelude.{Some, slice_get}
 use Rattle.std.specs.Option.{option_map}
 use Rattle.reh_model.specs.Places.{change_at, read_at}
 
@@ -122,6 +121,3 @@ module _ {X : Type 0} where
   slice_get-here f [] i = refl
   slice_get-here f (x ∷ xs) zero = refl
   slice_get-here f (x ∷ xs) (suc i) = slice_get-here f xs i
-
-  pub All-change_at : (P : X → Type 0) (f : X → X) (xs : List X) (i : ℕ) (x : X) → x ≡ get_or xs i x → All P xs → P (f x) → All P (change_at xs i f)
-  All-change_at P f xs i x is all here = subst (All P) (set-read f xs i x is) (All-set P xs i (f x) here all)
