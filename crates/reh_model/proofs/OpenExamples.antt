@@ -1,5 +1,5 @@
 -- Worked runs of open ledgers: grace, ensemble changes by the writer, fences and recoveries, on the open ledger of the five bookies.
-use Rattle.std.specs.Prelude.{◌≡◌, refl, ℕ, ◌^◌, ◌==◌, List, [], ◌∷◌, ◌++◌, map, Option, Some, None}
+use Rattle.std.specs.Prelude.{◌≡◌, refl, ℕ, ◌^◌, ◌==◌, ◌||◌, nat_lt, List, [], ◌∷◌, ◌++◌, map, Option, Some, None}
 use Rattle.std.specs.Option.{option_map, option_and_then}
 use Rattle.reh_types.specs.declared.locks.Lock.{Lock}
 use Rattle.reh_types.specs.declared.moves.Event.{Event}
@@ -67,6 +67,12 @@ fragment_from first = record { first = first; ensemble = 0 ∷ 1 ∷ 2 ∷ [] }
 -- nobody holds an entry of the open ledger
 abbrev without_entries : Cluster
 without_entries = record five_bookies { held = retain five_bookies.held (λ t. t.1 == 7) }
+
+-- 2 of 3 members are written to, the last fragment begins at entry 2, and nobody holds an entry from 3 on
+abbrev two_written : Cluster
+two_written = record (with_metadata (record open_ledger.metadata { write_quorum = 2; fragments = fragment_from 0 ∷ fragment_from 2 ∷ [] })) {
+  held = retain five_bookies.held (λ t. t.1 == 7 || nat_lt t.2 3);
+}
 
 -- the metadata of an empty second fragment
 abbrev empty_fragment : Metadata
@@ -138,6 +144,24 @@ pub too_few_lack : answers without_entries (losses_and_lock ++ fence_and_seal)
 unfolding contains insert retain remove empty from_list union items is_subset is_empty len
 too_few_lack = refl
 
+-- where 2 of 3 members are written to and both have to answer, an entry with one registered member of its write set has too few
+pub too_few_of_two : answers (with_metadata (record open_ledger.metadata { write_quorum = 2 })) (loss_and_lock ++ fence_and_seal)
+    ≡ Done ∷ Done ∷ Done ∷ Done ∷ Done ∷ Done ∷ Refused (TooFew 0) ∷ []
+unfolding contains insert retain remove empty from_list union items is_subset is_empty len
+too_few_of_two = refl
+
+-- and one is enough to tell that an entry was not acknowledged: entry 2 is passed, and entry 3 ends the ledger
+pub one_tells : metadata_of (state_after two_written (map Do (loss_and_lock ++ fence_and_seal))) 9
+    ≡ Some (record { size = 3; write_quorum = 2; ack_quorum = 2; state = Closed 3; version = 2; fragments = fragment_from 0 ∷ fragment_from 2 ∷ [] })
+unfolding contains insert retain remove empty from_list union items is_subset is_empty len
+one_tells = refl
+
+-- where one answer is enough, two registered members have no too few, and cannot tell
+pub two_cannot_tell : answers (with_metadata (record open_ledger.metadata { ack_quorum = 1 })) (loss_and_lock ++ fence_and_seal)
+    ≡ Done ∷ Done ∷ Done ∷ Done ∷ Done ∷ Done ∷ Refused (Undecided 5) ∷ []
+unfolding contains insert retain remove empty from_list union items is_subset is_empty len
+two_cannot_tell = refl
+
 -- a recovery can reach the last entry that there can be
 pub recovery_to_the_end : answers recovery_at_last_entry (Lose 1 ∷ Audit ∷ Acquire 3 3 ∷ Seal 3 3 ∷ [])
     ≡ Done ∷ Done ∷ Done ∷ Done ∷ []
@@ -188,11 +212,17 @@ grace_past_the_clock = refl
 
 -- Ensemble changes by the writer
 
--- the writer needs no lock, and takes the due tick away; then its ledger needs no fence, and the entries of the former fragment can be copied
-pub rolled_over : answers five_bookies (loss_and_lock ++ Grace 3 9 ∷ Roll 9 1 4 ∷ Fence 3 9 ∷ Copy 3 9 0 1 1 ∷ [])
-    ≡ Done ∷ Done ∷ Done ∷ Done ∷ Done ∷ Refused NotNeeded ∷ Done ∷ []
+-- the writer needs no lock, and takes the due tick away; then its ledger needs no grace and no fence, and the entries of the former fragment can be copied
+pub rolled_over : answers five_bookies (loss_and_lock ++ Grace 3 9 ∷ Roll 9 1 4 ∷ Grace 3 9 ∷ Fence 3 9 ∷ Copy 3 9 0 1 1 ∷ [])
+    ≡ Done ∷ Done ∷ Done ∷ Done ∷ Done ∷ Refused NotNeeded ∷ Refused NotNeeded ∷ Done ∷ []
 unfolding contains insert retain remove empty from_list union items is_subset is_empty len
 rolled_over = refl
+
+-- the member that the last fragment has at the index is asked for, and not the one before it
+pub rolled_again : answers five_bookies (Lose 1 ∷ Roll 9 1 4 ∷ Roll 9 1 3 ∷ [])
+    ≡ Done ∷ Done ∷ Refused MemberUp ∷ []
+unfolding contains insert retain remove empty from_list union items is_subset is_empty len
+rolled_again = refl
 
 -- a new fragment begins behind the entries that are held
 pub metadata_rolled_over : metadata_of (state_after five_bookies (map Do (loss_and_lock ++ Grace 3 9 ∷ Roll 9 1 4 ∷ []))) 9
