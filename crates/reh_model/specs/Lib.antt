@@ -7,8 +7,10 @@ pub mod Audit
 pub mod Recovery
 pub mod Checks
 pub mod Refusals
+pub mod Scan
 pub mod Step
 pub mod Places
 pub mod Records
 pub mod Session
 pub mod Swaps
+pub mod Book

@@ -3,13 +3,14 @@ use Rattle.std.specs.Prelude.{◌≡◌, ◌-◌, ◌==◌, Bool, true, false, I
 use Rattle.reh_types.specs.declared.limits.TheConstants.{MAX_EVENTS}
 use Rattle.reh_types.specs.declared.moves.Event.{Event}
 use Rattle.reh_types.specs.declared.moves.Move.{Move}
-use Rattle.reh_types.specs.declared.moves.Move.TheVariants.{Do, Undo, Redo, Look}
+use Rattle.reh_types.specs.declared.moves.Move.TheVariants.{Do, Post, Undo, Redo, Look}
 use Rattle.reh_types.specs.declared.moves.Reply.{Reply}
-use Rattle.reh_types.specs.declared.moves.Reply.TheVariants.{Done, Clock, Refused}
+use Rattle.reh_types.specs.declared.moves.Reply.TheVariants.{Done, Clock, Issued, Discarded, Refused}
 use Rattle.reh_types.specs.declared.refusals.Refusal.{Refusal}
 use Rattle.reh_types.specs.declared.refusals.Refusal.TheVariants.{NothingToUndo, NothingToRedo, Full, NoMemory}
 use Rattle.reh_model.specs.Cluster.{Cluster}
 use Rattle.reh_model.specs.Checks.{first_reason, reason_if}
+use Rattle.reh_model.specs.Scan.{post_refusal, copy_of}
 use Rattle.reh_model.specs.Step.{refusal_of, after}
 
 -- Replays
@@ -54,13 +55,19 @@ no_room m = reason_if (nat_le MAX_EVENTS (length m.done)) Full
 -- the reply to a move
 abbrev pub reply_to : Session → Move → Reply
 reply_to m (Do event) = reply_unless (first_reason (refusal_of (state_of m) event ∷ no_room m ∷ []))
+reply_to m (Post content) = reply_unless (first_reason (post_refusal (state_of m) content ∷ no_room m ∷ []))
 reply_to m Undo = reply_unless (reason_if (length m.done == 0) NothingToUndo)
 reply_to m Redo = reply_unless (reason_if (length m.undone == 0) NothingToRedo)
 reply_to m Look = Clock (state_of m).clock
 
--- what a move that is done makes of a session: a new event survives and none is undone any more; undo and redo move one event across
+-- a new event survives, and none is undone any more
+abbrev pub with_event : Session → Event → Session
+with_event m event = record m { done = m.done ++ event ∷ []; undone = [] }
+
+-- what a move that is done makes of a session: an event, or the copy that a post stands for, is added; undo and redo move one event across
 abbrev pub moved_session : Session → Move → Session
-moved_session m (Do event) = record m { done = m.done ++ event ∷ []; undone = [] }
+moved_session m (Do event) = with_event m event
+moved_session m (Post content) = with_event m (copy_of content)
 moved_session m Undo = record m { done = take (length m.done - 1) m.done; undone = drop (length m.done - 1) m.done ++ m.undone }
 moved_session m Redo = record m { done = m.done ++ take 1 m.undone; undone = drop 1 m.undone }
 moved_session m Look = m
@@ -69,6 +76,8 @@ moved_session m Look = m
 abbrev pub session_after : Session → Move → Reply → Session
 session_after m move Done = moved_session m move
 session_after m move (Clock clock) = m
+session_after m move (Issued number) = m
+session_after m move Discarded = m
 session_after m move (Refused refusal) = m
 
 -- Answers
@@ -77,9 +86,10 @@ session_after m move (Refused refusal) = m
 abbrev pub Answers : Session → Move → Reply → Session → Type 0
 Answers m move reply n = (reply ≡ reply_to m move) × (n ≡ session_after m move reply)
 
--- whether a move takes memory: an event does, and nothing else
+-- whether a move takes memory: an event does, and a post, and nothing else
 abbrev pub takes_memory : Move → Bool
 takes_memory (Do event) = true
+takes_memory (Post content) = true
 takes_memory move = false
 
 -- From m a move has this reply, and leaves n: as the machine says; or there is no memory for a move that takes some, only where the machine says done, and nothing changes.

@@ -45,6 +45,9 @@ pub const CLOCK_END: u64 = 1_000_000_000;
 /// How many events of a session may survive.
 pub const MAX_EVENTS: usize = 100_000;
 
+/// How many lines a book's tape may have, with one for each ticket that is out.
+pub const MAX_LINES: usize = 200_000;
+
 /// The longest picture, in bytes.
 pub const MAX_PICTURE_BYTES: usize = 8_388_608;
 

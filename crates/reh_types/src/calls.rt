@@ -1,0 +1,33 @@
+// What a seat calls at a book, and the lines of its tape.
+use crate::contents::Content;
+use crate::moves::{Move, Reply};
+use crate::names::Aim;
+
+/// A call of a seat at a book.
+#[derive(Drop)]
+pub enum Call {
+    /// A move of the book's session.
+    Ask(Move),
+    /// A ticket is asked for, with which a worker scans the fragment of its aim.
+    Checkout(Aim),
+    /// What a worker found with the ticket of this number is posted.
+    Spend { number: u32, content: Content },
+    /// The ticket of this number is given back.
+    Discard { number: u32, aim: Aim },
+}
+
+/// A line of a book's tape: a call of a seat, and the reply.
+#[derive(Drop)]
+pub struct Line {
+    pub seat: u32,
+    pub call: Call,
+    pub reply: Reply,
+}
+
+/// A ticket that was issued to a seat, and was neither spent nor given back.
+#[derive(Clone, Copy, PartialEq, Eq, Debug)]
+pub struct TicketOut {
+    pub seat: u32,
+    pub number: u32,
+    pub aim: Aim,
+}

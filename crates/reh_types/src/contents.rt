@@ -1,0 +1,113 @@
+// What a worker finds when it scans a fragment.
+ghost use Rattle.std.specs.Prelude.{◌≡◌, IfOk};
+
+use crate::names::{Aim, BookieIx};
+use std::alloc::AllocError;
+use std::marker::Model;
+
+/// The members of an ensemble, by their indexes; contracts see the list.
+#[derive(Drop)]
+pub struct Members {
+    items: Vec<BookieIx>,
+}
+
+impl Model for Members {
+    ghost use Rattle.std.specs.Prelude.{List, ℕ};
+
+    ghost Value = { List ℕ };
+
+    ghost view = { λ m. m.items.items };
+}
+
+impl Members {
+    /// These members.
+    pub fn of(items: Vec<BookieIx>) -> Members
+        ensures { result ≡ items.items }
+    {
+        Members { items }
+    }
+
+    /// The members, as a slice.
+    pub fn as_slice(&self) -> &[BookieIx]
+        ensures { result.now ≡ self.now }
+    {
+        &self.items
+    }
+
+    /// A copy.
+    pub fn clone_in(&self) -> Result<Members, AllocError>
+        ensures { IfOk result (λ copy. copy ≡ self.now) }
+    {
+        let items = self.items.clone()?;
+        Ok(Members { items })
+    }
+}
+
+/// For each entry that a fragment stripes onto an index, rising, a bookie from which it can be copied, or none; contracts
+/// see the list.
+#[derive(Drop)]
+pub struct Sources {
+    items: Vec<Option<BookieIx>>,
+}
+
+impl Model for Sources {
+    ghost use Rattle.std.specs.Prelude.{List, ℕ, Option};
+
+    ghost Value = { List (Option ℕ) };
+
+    ghost view = { λ s. s.items.items };
+}
+
+impl Sources {
+    /// These sources.
+    pub fn of(items: Vec<Option<BookieIx>>) -> Sources
+        ensures { result ≡ items.items }
+    {
+        Sources { items }
+    }
+
+    /// The sources, as a slice.
+    pub fn as_slice(&self) -> &[Option<BookieIx>]
+        ensures { result.now ≡ self.now }
+    {
+        &self.items
+    }
+
+    /// A copy.
+    pub fn clone_in(&self) -> Result<Sources, AllocError>
+        ensures { IfOk result (λ copy. copy ≡ self.now) }
+    {
+        let items = self.items.clone()?;
+        Ok(Sources { items })
+    }
+}
+
+/// What a worker found when it scanned the fragment of its aim: the metadata's version and the fragment as they were read,
+/// and a source, or none, for each striped entry.
+#[derive(Drop)]
+pub struct Content {
+    pub aim: Aim,
+    pub version: u64,
+    /// The fragment's first entry.
+    pub first: u32,
+    /// The first entry past the fragment.
+    pub stop: u32,
+    pub ensemble: Members,
+    pub sources: Sources,
+}
+
+impl Content {
+    /// A copy.
+    pub fn clone_in(&self) -> Result<Content, AllocError>
+        ensures { IfOk result (λ copy. copy ≡ self.now) }
+    {
+        Ok(Content {
+            aim: self.aim,
+            version: self.version,
+            first: self.first,
+            stop: self.stop,
+            ensemble: self.ensemble.clone_in()?,
+            sources: self.sources.clone_in()?,
+        })
+    }
+}
