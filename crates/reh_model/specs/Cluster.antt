@@ -67,9 +67,13 @@ due_of g = option_and_then (λ lock. lock.due) g.lock
 abbrev pub holds : Cluster → ℕ → ℕ → ℕ → Bool
 holds s bookie ledger entry = has s.held bookie ledger entry
 
--- whether the entry can be read: some registered member of its write set holds it
+-- whether the ledger's entry can be copied from the bookie: it is registered, and holds the entry
+abbrev pub is_source : Cluster → ℕ → ℕ → ℕ → Bool
+is_source s ledger entry bookie = is_up s bookie && holds s bookie ledger entry
+
+-- whether the entry can be read: some member of its write set is a source of it
 abbrev pub is_readable : Cluster → Ledger → Fragment → ℕ → Bool
-is_readable s g fragment entry = list_any (λ b. is_up s b && holds s b g.id entry) (writes g.metadata fragment entry)
+is_readable s g fragment entry = list_any (is_source s g.id entry) (writes g.metadata fragment entry)
 
 -- the stop of a ledger's fragment, if there is such a fragment and it has one
 abbrev pub stop_at : Cluster → ℕ → ℕ → Option ℕ

@@ -1,5 +1,5 @@
 -- When each refusal applies, as a check that gives the refusal or none.
-use Rattle.std.specs.Prelude.{ℕ, ◌+◌, ◌-◌, not, ◌&&◌, ◌||◌, ◌==◌, nat_lt, nat_le, List, [], ◌∷◌, length, Option, None, Some, is_none, unwrap_or, slice_get, slice_index}
+use Rattle.std.specs.Prelude.{◌≡◌, ℕ, ◌+◌, ◌-◌, not, ◌&&◌, ◌||◌, ◌==◌, nat_lt, nat_le, List, [], ◌∷◌, length, Option, None, Some, is_none, unwrap_or, slice_get, slice_index, Result, MatchResult}
 use Rattle.std.specs.List.{find, list_any}
 use Rattle.std.specs.Option.{option_map, option_and_then}
 use Rattle.reh_types.specs.declared.limits.TheConstants.{CLOCK_END, ENTRY_END, MAX_FRAGMENTS, MAX_TICKS, MAX_VERSION}
@@ -10,6 +10,10 @@ use Rattle.reh_model.specs.Cluster.{Cluster, Ledger, is_up, holds, is_readable, 
 use Rattle.reh_model.specs.Audit.{is_news, first_under, is_needed}
 use Rattle.reh_model.specs.Recovery.{next_entry, is_rolling_over, up_writes, recovered_end, recovered_entries}
 use Rattle.reh_model.specs.Checks.{reason_if, first_reason}
+
+-- what decides whether something is refused: accepted where there is no refusal, and else refused with it
+abbrev pub Decides : Result (Unit {0}) Refusal → Option Refusal → Type 0
+Decides result refusal = MatchResult result (λ _. refusal ≡ None) (λ reason. refusal ≡ Some reason)
 
 -- the refusal; where there is none, want of memory, which comes after all others
 abbrev pub or_no_memory : Option Refusal → Refusal

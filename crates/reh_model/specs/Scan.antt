@@ -10,15 +10,11 @@ use Rattle.reh_types.specs.declared.names.Aim.{Aim}
 use Rattle.reh_types.specs.declared.refusals.Refusal.{Refusal}
 use Rattle.reh_types.specs.declared.refusals.Refusal.TheVariants.{NoSource, SourceGone, Stale}
 use Rattle.reh_model.specs.Metadata.{Metadata, Fragment, stop_of, stripe_of, writes}
-use Rattle.reh_model.specs.Cluster.{Cluster, Ledger, is_up, holds, ledger_at}
+use Rattle.reh_model.specs.Cluster.{Cluster, Ledger, is_source, ledger_at}
 use Rattle.reh_model.specs.Checks.{reason_if, first_reason}
 use Rattle.reh_model.specs.Refusals.{at_ledger, at_fragment, no_bookie, not_owner, no_place, member_up, target_down, target_is_member}
 
 -- Scans
-
--- whether the entry can be copied from the bookie: it is registered, and holds it
-abbrev pub is_source : Cluster → ℕ → ℕ → ℕ → Bool
-is_source s l entry b = is_up s b && holds s b l entry
 
 -- the member of least rank in the entry's write set from which it can be copied, if there is one
 abbrev pub source_of : Cluster → Ledger → Fragment → ℕ → Option ℕ

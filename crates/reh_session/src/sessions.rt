@@ -6,7 +6,7 @@ ghost use Rattle.reh_model.specs.Session.{replay as replayed};
 
 use reh_cluster::{Changes, State};
 use reh_step::{changes_of, check};
-use reh_types::{Event, MAX_EVENTS, Move, Refusal, Reply};
+use reh_types::{Content, Event, MAX_EVENTS, Move, Refusal, Reply};
 use std::alloc::{AllocError, Global};
 use std::marker::Model;
 
@@ -34,8 +34,10 @@ impl Model for Session {
 }
 
 impl Session {
-    ghost use Rattle.reh_types.specs.declared.moves.Move.TheVariants.{Do, Undo, Redo};
+    ghost use Rattle.std.specs.Prelude.{None};
+    ghost use Rattle.reh_types.specs.declared.moves.Move.TheVariants.{Do, Post, Undo, Redo};
     ghost use Rattle.reh_model.specs.Session.{opened_session, state_of, Answers, Performs, Run, reply_of};
+    ghost use Rattle.reh_model.specs.Step.{refusal_of};
     ghost use Rattle.reh_model.specs.Swaps.{HoldsStripe, IsSafe, IsSafeRun, AllSafe};
     ghost use Rattle.reh_session.specs.Kept.{led_back, led_on, Trail, Ahead};
 
@@ -50,6 +52,11 @@ impl Session {
             records: Vec::new(alloc),
             cursor: 0,
         })
+    }
+
+    /// The allocator from which the session takes its memory.
+    pub fn allocator(&self) -> Global {
+        *self.events.allocator()
     }
 
     /// The state now: the surviving events, replayed from the opening state. Each swap among them still keeps
@@ -102,15 +109,41 @@ impl Session {
         ensures lasting { AllSafe self.new }
     {
         check(&self.state, event)?;
+        self.make(*event)
+    }
+
+    /// Posts what a worker found, unless it is refused: by the refusals of a post first, then by `Full`, and then for want
+    /// of memory. A refused post changes nothing. An accepted one is the copy to its aim at its version, which survives,
+    /// and is undone, as that event.
+    pub fn post(&mut self, content: &Content) -> Result<(), Refusal>
+        ensures answers { Performs self.old (Post content.now) (reply_of result) self.new }
+        ensures lasting { AllSafe self.new }
+    {
+        reh_scan::check(&self.state, content)?;
+        let aim = content.aim;
+        self.make(Event::Copy {
+            worker: aim.worker,
+            ledger: aim.ledger,
+            fragment: aim.fragment,
+            index: aim.index,
+            version: content.version,
+        })
+    }
+
+    /// Makes an event that is accepted, where there is room for it.
+    fn make(&mut self, event: Event) -> Result<(), Refusal>
+        requires { refusal_of (state_of self.old) event ≡ None }
+        ensures { Performs self.old (Do event) (reply_of result) self.new }
+    {
         if self.cursor >= MAX_EVENTS {
             return Err(Refusal::Full);
         }
         let alloc = *self.events.allocator();
-        let mut changes = changes_of(alloc, &self.state, event)?;
+        let mut changes = changes_of(alloc, &self.state, &event)?;
         make_room(&mut self.events, self.cursor)?;
         make_room(&mut self.records, self.cursor)?;
         self.state.exchange(&mut changes);
-        keep(&mut self.events, self.cursor, *event);
+        keep(&mut self.events, self.cursor, event);
         keep(&mut self.records, self.cursor, changes);
         self.cursor += 1;
         Ok(())
@@ -152,6 +185,7 @@ impl Session {
     {
         let outcome = match step {
             Move::Do(event) => self.act(event),
+            Move::Post(content) => self.post(content),
             Move::Undo => self.undo(),
             Move::Redo => self.redo(),
             Move::Look => return Reply::Clock(self.state.clock()),

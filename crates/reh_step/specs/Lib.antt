@@ -1,3 +1,2 @@
-pub mod Decisions
-pub mod Sources
+pub mod Marks
 pub mod Records

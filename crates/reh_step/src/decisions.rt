@@ -8,20 +8,20 @@ ghost use Rattle.reh_model.specs.Cluster as cluster;
 ghost use Rattle.reh_model.specs.Cluster.{ledger_at, is_locked_by};
 ghost use Rattle.reh_model.specs.Recovery as recovery;
 ghost use Rattle.reh_model.specs.Refusals as model;
+ghost use Rattle.reh_model.specs.Refusals.{Decides};
 ghost use Rattle.reh_model.specs.Checks.{first_reason};
 ghost use Rattle.reh_model.specs.Striping as stripe;
 ghost use Rattle.reh_model.specs.Step.{refusal_of, place_checks};
-ghost use Rattle.reh_held.specs.Rows.{is_set};
-ghost use Rattle.reh_step.specs.Decisions.{Decides};
-ghost use Rattle.reh_step.specs.Sources.{is_marked, is_set_at, is_source, is_source_at};
+ghost use Rattle.reh_step.specs.Marks.{is_marked};
 
 use reh_audit::{has_news, is_under, under_of};
 use reh_cluster::{Ledger, State};
 use reh_held::is_set;
 use reh_meta::{Fragment, LedgerMeta};
+use reh_scan::{check_bookie, check_member, check_place, find_ledger, find_owned, first_unreadable, is_readable, source_rows};
 use reh_stripe::{Striped, write_set};
 use reh_types::{
-    BookieIx, CLOCK_END, ENTRY_END, Event, LedgerId, LedgerState, MAX_ENSEMBLE_SIZE, MAX_FRAGMENTS,
+    Aim, BookieIx, CLOCK_END, ENTRY_END, Event, LedgerId, LedgerState, MAX_ENSEMBLE_SIZE, MAX_FRAGMENTS,
     MAX_TICKS, MAX_VERSION, Refusal,
 };
 
@@ -54,14 +54,32 @@ pub fn check(state: &State, event: &Event) -> Result<(), Refusal>
             fragment,
             index,
             version,
-        } => check_copy(state, *worker, *ledger, *fragment, *index, *version),
+        } => check_copy(
+            state,
+            &Aim {
+                worker: *worker,
+                ledger: *ledger,
+                fragment: *fragment,
+                index: *index,
+            },
+            *version,
+        ),
         Event::Swap {
             worker,
             ledger,
             fragment,
             index,
             version,
-        } => check_swap(state, *worker, *ledger, *fragment, *index, *version),
+        } => check_swap(
+            state,
+            &Aim {
+                worker: *worker,
+                ledger: *ledger,
+                fragment: *fragment,
+                index: *index,
+            },
+            *version,
+        ),
     }
 }
 
@@ -198,91 +216,29 @@ fn check_seal(state: &State, worker: BookieIx, ledger: LedgerId) -> Result<(), R
     check_next_version(ledger)
 }
 
-fn check_copy(
-    state: &State,
-    worker: BookieIx,
-    ledger: LedgerId,
-    fragment: u64,
-    index: u64,
-    version: u64,
-) -> Result<(), Refusal>
-    ensures { Decides result (refusal_of state.now (Copy worker ledger fragment index version)) }
+fn check_copy(state: &State, aim: &Aim, version: u64) -> Result<(), Refusal>
+    ensures { Decides result (refusal_of state.now
+        (Copy aim.now.worker aim.now.ledger aim.now.fragment aim.now.index version)) }
 {
-    let (ledger, fragment, stripe) = find_place(state, worker, ledger, fragment, index, version)?;
+    let (ledger, fragment, stripe) = find_place(state, aim, version)?;
     if let Some(entry) = first_unreadable(state, ledger, fragment, stripe) {
         return Err(Refusal::NoSource(entry as u64));
     }
     Ok(())
 }
 
-fn check_swap(
-    state: &State,
-    worker: BookieIx,
-    ledger: LedgerId,
-    fragment: u64,
-    index: u64,
-    version: u64,
-) -> Result<(), Refusal>
-    ensures { Decides result (refusal_of state.now (Swap worker ledger fragment index version)) }
+fn check_swap(state: &State, aim: &Aim, version: u64) -> Result<(), Refusal>
+    ensures { Decides result (refusal_of state.now
+        (Swap aim.now.worker aim.now.ledger aim.now.fragment aim.now.index version)) }
 {
-    let (ledger, _, stripe) = find_place(state, worker, ledger, fragment, index, version)?;
-    if let Some(entry) = first_lacked(state, worker, ledger, stripe) {
+    let (ledger, _, stripe) = find_place(state, aim, version)?;
+    if let Some(entry) = first_lacked(state, aim.worker, ledger, stripe) {
         return Err(Refusal::MissingEntry(entry as u64));
     }
     check_next_version(ledger)
 }
 
 // Checks that events share
-
-/// Whether the bookie, or the worker that stands for it, is in the picture.
-fn check_bookie(state: &State, bookie: BookieIx) -> Result<(), Refusal>
-    ensures { Decides result (model.no_bookie state.now bookie) }
-{
-    if (bookie.0 as usize) < state.names().len() {
-        Ok(())
-    } else {
-        Err(Refusal::NoBookie)
-    }
-}
-
-/// The ledger of that id, if it is in the picture.
-fn find_ledger(state: &State, ledger: LedgerId) -> Result<&Ledger, Refusal>
-    ensures { MatchResult result
-        (λ g. ledger_at state.now ledger ≡ Some g.now)
-        (λ refusal. (ledger_at state.now ledger ≡ None) × (refusal ≡ Refusal.NoLedger)) }
-{
-    match state.ledger(ledger) {
-        Some(found) => Ok(found),
-        None => Err(Refusal::NoLedger),
-    }
-}
-
-/// The ledger of that id, if the worker holds its lock.
-fn find_owned(state: &State, worker: BookieIx, ledger: LedgerId) -> Result<&Ledger, Refusal>
-    ensures { MatchResult result
-        (λ g. (model.no_bookie state.now worker ≡ None)
-        × (ledger_at state.now ledger ≡ Some g.now)
-        × (model.not_owner worker g.now ≡ None))
-        (λ refusal. first_reason (model.no_bookie state.now worker
-        ∷ model.at_ledger state.now ledger (λ g. model.not_owner worker g ∷ [])
-        ∷ []) ≡ Some refusal) }
-{
-    check_bookie(state, worker)?;
-    let ledger = find_ledger(state, ledger)?;
-    check_owner(ledger, worker)?;
-    Ok(ledger)
-}
-
-/// Whether the worker holds the ledger's lock.
-fn check_owner(ledger: &Ledger, worker: BookieIx) -> Result<(), Refusal>
-    ensures { Decides result (model.not_owner worker ledger.now) }
-{
-    if ledger.is_locked_by(worker) {
-        Ok(())
-    } else {
-        Err(Refusal::NotOwner)
-    }
-}
 
 /// Whether the ledger's metadata can go to a next version.
 fn check_next_version(ledger: &Ledger) -> Result<(), Refusal>
@@ -419,30 +375,27 @@ fn check_answers(state: &State, ledger: &Ledger) -> Result<(), Refusal>
 
 /// What a copy and a swap ask first: the ledger whose lock the worker holds, at that version, its fragment of that
 /// number, and the entries that this stripes onto the index, if the worker's bookie can take that place.
-fn find_place(
-    state: &State,
-    worker: BookieIx,
-    ledger: LedgerId,
-    fragment: u64,
-    index: u64,
+fn find_place<'a>(
+    state: &'a State,
+    aim: &Aim,
     version: u64,
-) -> Result<(&Ledger, &Fragment, Striped), Refusal>
+) -> Result<(&'a Ledger, &'a Fragment, Striped), Refusal>
     ensures { MatchResult result
-        (λ place. (model.no_bookie state.now worker ≡ None)
-        × (ledger_at state.now ledger ≡ Some place.0.now)
-        × (first_reason (place_checks state.now worker fragment index version place.0.now)
+        (λ place. (model.no_bookie state.now aim.now.worker ≡ None)
+        × (ledger_at state.now aim.now.ledger ≡ Some place.0.now)
+        × (first_reason (place_checks state.now aim.now.worker aim.now.fragment aim.now.index version place.0.now)
         ≡ None)
-        × (slice_get place.0.now.metadata.fragments fragment ≡ Some place.1.now)
+        × (slice_get place.0.now.metadata.fragments aim.now.fragment ≡ Some place.1.now)
         × (length place.1.now.ensemble ≡ place.0.now.metadata.size)
-        × (place.2 ≡ stripe_of place.0.now.metadata fragment index))
-        (λ refusal. first_reason (model.no_bookie state.now worker
-        ∷ model.at_ledger state.now ledger
-        (place_checks state.now worker fragment index version)
+        × (place.2 ≡ stripe_of place.0.now.metadata aim.now.fragment aim.now.index))
+        (λ refusal. first_reason (model.no_bookie state.now aim.now.worker
+        ∷ model.at_ledger state.now aim.now.ledger
+        (place_checks state.now aim.now.worker aim.now.fragment aim.now.index version)
         ∷ []) ≡ Some refusal) }
 {
-    let ledger = find_owned(state, worker, ledger)?;
+    let ledger = find_owned(state, aim.worker, aim.ledger)?;
     check_version(ledger, version)?;
-    let (fragment, stripe) = check_place(state, worker, ledger, fragment, index)?;
+    let (fragment, stripe) = check_place(state, ledger, aim)?;
     Ok((ledger, fragment, stripe))
 }
 
@@ -456,100 +409,6 @@ fn check_version(ledger: &Ledger, version: u64) -> Result<(), Refusal>
     } else {
         Err(Refusal::Stale(now))
     }
-}
-
-/// The fragment of that number, and the entries that it stripes onto the index, if the worker's bookie can take that place.
-///
-/// BookKeeper's replication worker puts its own bookie into the place of a lost member, in a fragment whose entries are fixed.
-fn check_place<'a>(
-    state: &State,
-    worker: BookieIx,
-    ledger: &'a Ledger,
-    fragment: u64,
-    index: u64,
-) -> Result<(&'a Fragment, Striped), Refusal>
-    ensures { MatchResult result
-        (λ place. (model.no_place state.now worker ledger.now fragment index ≡ None)
-        × (slice_get ledger.now.metadata.fragments fragment ≡ Some place.0.now)
-        × (length place.0.now.ensemble ≡ ledger.now.metadata.size)
-        × (place.1 ≡ stripe_of ledger.now.metadata fragment index))
-        (λ refusal. model.no_place state.now worker ledger.now fragment index ≡ Some refusal) }
-{
-    let metadata = ledger.metadata();
-    let Some(found) = metadata.fragments().get(fragment as usize) else {
-        return Err(Refusal::NoFragment);
-    };
-    check_member(state, ledger, found, index, worker)?;
-    let Some(stop) = metadata.end_of(fragment as usize) else {
-        return Err(Refusal::NoEndpoint);
-    };
-    let stripe = Striped::new(
-        found.first,
-        stop,
-        index as u32,
-        metadata.size(),
-        metadata.write_quorum(),
-    );
-    Ok((found, stripe))
-}
-
-/// Whether the bookie can take that index of the fragment's ensemble from a member that isn't registered.
-fn check_member(
-    state: &State,
-    ledger: &Ledger,
-    fragment: &Fragment,
-    index: u64,
-    target: BookieIx,
-) -> Result<(), Refusal>
-    requires { length fragment.now.ensemble ≡ ledger.now.metadata.size }
-    ensures checks { Decides result (first_reason (model.no_index ledger.now index
-        ∷ model.member_up state.now fragment.now index
-        ∷ model.target_down state.now target
-        ∷ model.target_is_member fragment.now target
-        ∷ [])) }
-    ensures index { IfOk result (λ _. index < ledger.now.metadata.size) }
-{
-    if index >= ledger.metadata().size() as u64 {
-        return Err(Refusal::NoIndex);
-    }
-    if state.is_up(fragment.ensemble[index as usize]) {
-        return Err(Refusal::MemberUp);
-    }
-    if !state.is_up(target) {
-        return Err(Refusal::TargetDown);
-    }
-    if is_member(fragment, target) {
-        return Err(Refusal::TargetIsMember);
-    }
-    Ok(())
-}
-
-/// Whether the bookie is in the fragment's ensemble.
-fn is_member(fragment: &Fragment, bookie: BookieIx) -> bool
-    ensures { result ≡ list_any (λ member. member == bookie) fragment.now.ensemble }
-{
-    fragment.ensemble.contains(&bookie)
-}
-
-/// The least of the entries that can't be read.
-fn first_unreadable(
-    state: &State,
-    ledger: &Ledger,
-    fragment: &Fragment,
-    entries: Striped,
-) -> Option<u32>
-    requires { length fragment.now.ensemble ≡ ledger.now.metadata.size }
-    ensures { result
-        ≡ find (λ e. not (cluster.is_readable state.now ledger.now fragment.now e)) entries }
-{
-    let metadata = ledger.metadata();
-    let rows = source_rows(state, ledger, fragment);
-    for entry in entries {
-        if !is_readable(&rows, metadata, entry) {
-            return Some(entry);
-        }
-    }
-    None
 }
 
 /// The least of the entries that the bookie lacks.
@@ -566,49 +425,6 @@ fn first_lacked(state: &State, bookie: BookieIx, ledger: &Ledger, entries: Strip
 }
 
 // The members of an ensemble
-
-/// A row of words for each index of an ensemble.
-type Rows<'a> = [&'a [u64]; MAX_ENSEMBLE_SIZE as usize];
-
-/// The rows of the fragment's members, by their indexes; without words where a member isn't registered.
-fn source_rows<'a>(state: &'a State, ledger: &Ledger, fragment: &Fragment) -> Rows<'a>
-    requires { length fragment.now.ensemble ≡ ledger.now.metadata.size }
-    ensures well_formed { IsMetadata ledger.now.metadata }
-    ensures rows { (index entry : ℕ) → index < ledger.now.metadata.size
-        → is_set_at result entry index
-        ≡ is_source_at state.now ledger.now fragment.now entry index }
-{
-    let mut rows: Rows<'a> = [&[]; MAX_ENSEMBLE_SIZE as usize];
-    for index in 0..ledger.metadata().size() as usize {
-        rows[index] = source_row(state, ledger, fragment.ensemble[index]);
-    }
-    rows
-}
-
-/// The bookie's row of the ledger; without words where the bookie isn't registered.
-fn source_row<'a>(state: &'a State, ledger: &Ledger, bookie: BookieIx) -> &'a [u64]
-    ensures { (entry : ℕ) → is_set result.now entry
-        ≡ is_source state.now ledger.now bookie entry }
-{
-    if state.is_up(bookie) {
-        state.row(bookie, ledger.id())
-    } else {
-        &[]
-    }
-}
-
-/// Whether the entry is in one of the rows at the indexes of its write set.
-fn is_readable(rows: &Rows<'_>, metadata: &LedgerMeta, entry: u32) -> bool
-    ensures { result ≡ list_any (is_set_at rows.now entry)
-        (stripe.write_set entry metadata.now.size metadata.now.write_quorum) }
-{
-    for index in write_set(entry, metadata.size(), metadata.write_quorum()) {
-        if is_set(rows[index as usize], entry) {
-            return true;
-        }
-    }
-    false
-}
 
 /// Whether the bookie at each index of an ensemble is registered.
 type Registered = [bool; MAX_ENSEMBLE_SIZE as usize];

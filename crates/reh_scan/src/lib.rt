@@ -1,0 +1,12 @@
+// What a worker finds for a place of a fragment, and whether it can be posted.
+#![tactic(auto)]
+
+mod jobs;
+mod places;
+mod posts;
+mod sources;
+
+pub use jobs::{Job, look};
+pub use places::{aimed, check_bookie, check_member, check_place, find_ledger, find_owned};
+pub use posts::check;
+pub use sources::{Rows, first_unreadable, is_readable, source_rows};

@@ -1,0 +1,79 @@
+// From which members of an ensemble an entry can be copied.
+ghost use Rattle.std.specs.Prelude.{◌≡◌, ℕ, ◌<◌, length, not};
+ghost use Rattle.std.specs.List.{find, list_any};
+ghost use Rattle.reh_model.specs.Metadata.{IsMetadata};
+ghost use Rattle.reh_model.specs.Cluster as cluster;
+ghost use Rattle.reh_model.specs.Cluster.{is_source};
+ghost use Rattle.reh_model.specs.Striping as stripe;
+ghost use Rattle.reh_held.specs.Rows.{is_set};
+ghost use Rattle.reh_scan.specs.Sources.{is_set_at, is_source_at};
+
+use reh_cluster::{Ledger, State};
+use reh_held::is_set;
+use reh_meta::{Fragment, LedgerMeta};
+use reh_stripe::{Striped, write_set};
+use reh_types::{BookieIx, MAX_ENSEMBLE_SIZE};
+
+/// The least of the entries that can't be read.
+pub fn first_unreadable(
+    state: &State,
+    ledger: &Ledger,
+    fragment: &Fragment,
+    entries: Striped,
+) -> Option<u32>
+    requires { length fragment.now.ensemble ≡ ledger.now.metadata.size }
+    ensures { result
+        ≡ find (λ e. not (cluster.is_readable state.now ledger.now fragment.now e)) entries }
+{
+    let metadata = ledger.metadata();
+    let rows = source_rows(state, ledger, fragment);
+    for entry in entries {
+        if !is_readable(&rows, metadata, entry) {
+            return Some(entry);
+        }
+    }
+    None
+}
+
+/// A row of words for each index of an ensemble.
+pub type Rows<'a> = [&'a [u64]; MAX_ENSEMBLE_SIZE as usize];
+
+/// The rows of the fragment's members, by their indexes; without words where a member isn't registered.
+pub fn source_rows<'a>(state: &'a State, ledger: &Ledger, fragment: &Fragment) -> Rows<'a>
+    requires { length fragment.now.ensemble ≡ ledger.now.metadata.size }
+    ensures well_formed { IsMetadata ledger.now.metadata }
+    ensures rows { (index entry : ℕ) → index < ledger.now.metadata.size
+        → is_set_at result entry index
+        ≡ is_source_at state.now ledger.now fragment.now entry index }
+{
+    let mut rows: Rows<'a> = [&[]; MAX_ENSEMBLE_SIZE as usize];
+    for index in 0..ledger.metadata().size() as usize {
+        rows[index] = source_row(state, ledger, fragment.ensemble[index]);
+    }
+    rows
+}
+
+/// The bookie's row of the ledger; without words where the bookie isn't registered.
+pub fn source_row<'a>(state: &'a State, ledger: &Ledger, bookie: BookieIx) -> &'a [u64]
+    ensures { (entry : ℕ) → is_set result.now entry
+        ≡ is_source state.now ledger.now.id entry bookie }
+{
+    if state.is_up(bookie) {
+        state.row(bookie, ledger.id())
+    } else {
+        &[]
+    }
+}
+
+/// Whether the entry is in one of the rows at the indexes of its write set.
+pub fn is_readable(rows: &Rows<'_>, metadata: &LedgerMeta, entry: u32) -> bool
+    ensures { result ≡ list_any (is_set_at rows.now entry)
+        (stripe.write_set entry metadata.now.size metadata.now.write_quorum) }
+{
+    for index in write_set(entry, metadata.size(), metadata.write_quorum()) {
+        if is_set(rows[index as usize], entry) {
+            return true;
+        }
+    }
+    false
+}
