@@ -4,9 +4,7 @@ use reh_desk::{Book, Finding, SpendCause, SpendFault, Unspent, scan};
 use reh_picture::read_picture;
 use reh_script::{Command, parse_line};
 use reh_session::Session;
-use reh_types::{
-    Aim, BookieIx, Content, Event, LedgerId, Members, Move, Refusal, Reply, Sources,
-};
+use reh_types::{Aim, BookieIx, Content, Event, LedgerId, Members, Move, Refusal, Reply, Sources};
 use std::alloc::{AllocError, Global};
 use std::process::Abort;
 use std::test::Fail;
@@ -29,6 +27,7 @@ const SIX_BOOKIES: &str =
     "{\"format\":1,\"grace\":0,\"bookies\":[{\"name\":\"b1:3181\",\"up\":true},{\"name\":\"b2:3181\",\"up\":true},{\"name\":\"b3:3181\",\"up\":true},{\"name\":\"b4:3181\",\"up\":true},{\"name\":\"b5:3181\",\"up\":true},{\"name\":\"b6:3181\",\"up\":true}],\"ledgers\":[{\"id\":7,\"state\":\"CLOSED\",\"lastEntryId\":5,\"ensembleSize\":3,\"writeQuorumSize\":3,\"ackQuorumSize\":2,\"version\":0,\"fragments\":[{\"firstEntry\":0,\"ensemble\":[\"b1:3181\",\"b2:3181\",\"b3:3181\"]}]}],\"contents\":[{\"bookie\":\"b1:3181\",\"ledger\":7,\"entries\":[[0,5]]},{\"bookie\":\"b2:3181\",\"ledger\":7,\"entries\":[[0,5]]},{\"bookie\":\"b3:3181\",\"ledger\":7,\"entries\":[[0,5]]}]}";
 
 /// Lines of a script, then a scan of an aim, and lines that come before what was found is spent.
+#[derive(Clone, Copy)]
 struct Round {
     before: &'static [&'static str],
     aim: Aim,
@@ -139,7 +138,13 @@ fn play_round(rt: &impl Abort, alloc: Global, book: &mut Book, text: &mut String
 }
 
 /// What rounds at a new book reply and find, how many entries the fourth bookie holds then, and how many lines and tickets there are.
-fn played(rt: &impl Abort, alloc: Global, picture: &str, rounds: &[Round], after: &[&str]) -> String {
+fn played(
+    rt: &impl Abort,
+    alloc: Global,
+    picture: &str,
+    rounds: &[Round],
+    after: &[&str],
+) -> String {
     let mut book = opened(rt, alloc, picture);
     let mut text = String::new(alloc);
     for round in rounds {
@@ -217,10 +222,14 @@ fn a_version_is_not_enough(rt: HostRuntime) {
 // Entry 1 was written to the second and third bookie, and the third lacks it.
 #[test]
 fn a_post_without_a_source_is_refused(rt: HostRuntime) -> Result<(), Fail> {
-    let picture = FIVE_BOOKIES
-        .replacen(rt.alloc(), "[[1,2],[4,5]]", "[[2,2],[4,5]]", 1)?;
+    let picture = FIVE_BOOKIES.replacen(rt.alloc(), "[[1,2],[4,5]]", "[[2,2],[4,5]]", 1)?;
     let round = Round {
-        before: &["lose b2:3181", "audit", "acquire b4:3181 7", "copy b4:3181 7 0 1 0"],
+        before: &[
+            "lose b2:3181",
+            "audit",
+            "acquire b4:3181 7",
+            "copy b4:3181 7 0 1 0",
+        ],
         aim: AIM,
         meanwhile: &[],
     };
@@ -264,7 +273,10 @@ fn a_full_tape_takes_what_is_out(rt: HostRuntime) {
     for _ in 0..199_995 {
         assert_eq!(rt; book.call(SEAT, Move::Look), Reply::Clock(0));
     }
-    assert_eq!(rt; book.call(SEAT, Move::Look), Reply::Refused(Refusal::TapeFull));
+    assert_eq!(rt;
+        book.call(SEAT, Move::Look),
+        Reply::Refused(Refusal::TapeFull)
+    );
     assert_eq!(rt; spend(&rt, &mut book, finding), Reply::Done);
     assert_eq!(rt; book.tape().len(), 200_000);
 }
@@ -367,7 +379,10 @@ fn a_post_is_a_copy(rt: HostRuntime) -> Result<(), Fail> {
     for reply in &session.run(&moves)? {
         write!(text, "{reply}\n")?;
     }
-    assert_eq!(rt; text.as_str(), "ok\nok\nok\nrefused 36 SourceGone 1\nok\nok\nok\n");
+    assert_eq!(rt;
+        text.as_str(),
+        "ok\nok\nok\nrefused 36 SourceGone 1\nok\nok\nok\n"
+    );
     let copied = Event::Copy {
         worker: AIM.worker,
         ledger: AIM.ledger,
