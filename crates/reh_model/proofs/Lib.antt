@@ -25,3 +25,4 @@ pub mod AcceptedLaws
 pub mod PostLaws
 pub mod WellFormedLaws
 pub mod SwapLaws
+pub mod BookLaws
