@@ -58,11 +58,11 @@ abbrev bookies_with_a_copy : Cluster
 bookies_with_a_copy = record five_bookies { held = insert five_bookies.held (3, 7, 3) }
 
 -- the third bookie lacks an entry that only the second one has besides
-abbrev bookies_without_a_source : Cluster
+abbrev pub bookies_without_a_source : Cluster
 bookies_without_a_source = record five_bookies { held = remove five_bookies.held (2, 7, 1) }
 
 -- a closed ledger without entries stands beside the others
-abbrev bookies_with_an_empty_ledger : Cluster
+abbrev pub bookies_with_an_empty_ledger : Cluster
 bookies_with_an_empty_ledger = record five_bookies { ledgers = record closed_ledger { id = 5; metadata = record closed_ledger.metadata { state = Closed 0 }; words = 0 } ∷ five_bookies.ledgers }
 
 -- the closed ledger is at the last version

@@ -20,6 +20,7 @@ pub mod TaskExamples
 pub mod CopyExamples
 pub mod OpenExamples
 pub mod PlaceExamples
+pub mod SurveyExamples
 pub mod CheckLaws
 pub mod AcceptedLaws
 pub mod PostLaws

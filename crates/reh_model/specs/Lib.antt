@@ -8,6 +8,7 @@ pub mod Recovery
 pub mod Checks
 pub mod Refusals
 pub mod Scan
+pub mod Survey
 pub mod Step
 pub mod Places
 pub mod Records
