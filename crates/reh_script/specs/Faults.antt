@@ -6,7 +6,10 @@ use Rattle.reh_script.specs.declared.commands.LineFault.{LineFault}
 use Rattle.reh_script.specs.declared.commands.LineFault.TheVariants.{TooLong, UnknownCommand, BadWords, UnknownName}
 use Rattle.reh_script.specs.declared.faults.PipeFault.{PipeFault}
 use Rattle.reh_script.specs.declared.faults.PipeFault.TheVariants.{Picture, Play}
-use Rattle.reh_script.specs.declared.faults.PlayFault.TheVariants.{NoMemory}
+use Rattle.reh_script.specs.declared.faults.PlayFault.{PlayFault}
+use Rattle.reh_script.specs.declared.faults.PlayFault.TheVariants.{NoMemory, NoThread}
+use Rattle.reh_crew.specs.declared.surveyors.SurveyFault.{SurveyFault}
+use Rattle.reh_crew.specs.declared.surveyors.SurveyFault.TheVariants as survey_fault
 
 -- the reply to the line
 abbrev pub line_fault_text : LineFault → List ℕ
@@ -19,3 +22,8 @@ line_fault_text UnknownName = codes "unknown name"
 abbrev pub pipe_fault_of : PictureFault → PipeFault
 pipe_fault_of picture_fault.NoMemory = Play NoMemory
 pipe_fault_of fault = Picture fault
+
+-- a survey's fault as a play's
+abbrev pub play_fault_of : SurveyFault → PlayFault
+play_fault_of survey_fault.NoMemory = NoMemory
+play_fault_of survey_fault.NoThread = NoThread

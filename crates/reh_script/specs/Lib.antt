@@ -3,7 +3,11 @@ pub mod Faults
 pub mod Script
 pub mod Texts
 pub mod Reports
+pub mod Answers
+pub mod Hand
 pub mod Transcript
 pub mod Readings
+pub mod Players
 pub mod Plays
+pub mod BookPlays
 pub mod Pipes

@@ -2,18 +2,21 @@
 use Rattle.std.specs.Prelude.{◌≡◌, ℕ, ◌⊎◌, Bool, false, List, Option, Result, Ok, Err, if◌then◌else◌}
 use Rattle.std.specs.Io.KnownBytes.{Keeps}
 use Rattle.reh_model.specs.Cluster.{Cluster}
-use Rattle.reh_model.specs.Session.{Session, opened_session}
+use Rattle.reh_model.specs.Session.{opened_session}
+use Rattle.reh_model.specs.Book.{Book, new_book}
 use Rattle.reh_picture.specs.declared.faults.PictureFault.{PictureFault}
 use Rattle.reh_picture.specs.Pictures.{picture_of}
 use Rattle.reh_script.specs.Lines.{cut_of, is_told, answered_lines}
 use Rattle.reh_script.specs.Readings.{Gives}
-use Rattle.reh_script.specs.Plays.{stop_of, IsPlayed, is_write_fault}
+use Rattle.reh_script.specs.Plays.{stop_of, is_write_fault}
+use Rattle.reh_script.specs.BookPlays.{IsPlayed}
+use Rattle.reh_script.specs.Transcript.{starting}
 use Rattle.reh_script.specs.declared.faults.PlayFault.{PlayFault}
 use Rattle.reh_script.specs.declared.faults.PlayFault.TheVariants.{ReadFault, NoMemory}
 use Rattle.reh_script.specs.declared.faults.PipeFault.{PipeFault}
 use Rattle.reh_script.specs.declared.faults.PipeFault.TheVariants.{Picture, Play}
 
--- the state that a session opens on, the lines that are answered, and the fault behind them, if there is one
+-- the state that a book opens on, the lines that are answered, and the fault behind them, if there is one
 pub record Rehearsal : Type 0 where
   pub state : Cluster
   pub lines : List (List ℕ)
@@ -32,14 +35,14 @@ abbrev pub piped : Result (Unit {0}) PlayFault → Result (Unit {0}) PipeFault
 piped (Ok x) = Ok x
 piped (Err fault) = Err (Play fault)
 
--- The pipe's end is that of a play of the rehearsal.
+-- The pipe's end is that of a play of the rehearsal by the one seat of a new book.
 pub record EndsAsPlayed (rehearsal : Rehearsal) (result : Result (Unit {0}) PipeFault) (old new : Option (List ℕ)) : Type 0 where
   pub end : Result (Unit {0}) PlayFault
-  pub session : Session
+  pub book : Book
   pub same : result ≡ piped end
-  pub played : IsPlayed rehearsal.lines rehearsal.stop end (opened_session rehearsal.state) session old new
+  pub played : IsPlayed rehearsal.state.names 0 rehearsal.lines rehearsal.stop end (starting (new_book (opened_session rehearsal.state))) book old new
 
--- There was no memory for the picture or the session, and nothing was written.
+-- There was no memory for the picture, the book or the hand, and nothing was written.
 abbrev pub LacksState : Result (Unit {0}) PipeFault → Option (List ℕ) → Option (List ℕ) → Type 0
 LacksState result old new = (result ≡ Err (Play NoMemory)) × Keeps old new
 

@@ -7,9 +7,10 @@ use Rattle.reh_types.specs.declared.limits.TheConstants.{MAX_LINE_BYTES}
 use Rattle.reh_types.specs.declared.moves.Event.{Event}
 use Rattle.reh_types.specs.declared.moves.Event.TheVariants.{Lose, Join, Audit, Acquire, Release, Finish, Expire, Grace, Tick, Roll, Fence, Seal, Copy, Swap}
 use Rattle.reh_types.specs.declared.moves.Move.TheVariants.{Do, Undo, Redo, Look}
+use Rattle.reh_types.specs.declared.names.Aim.{Aim}
 use Rattle.reh_model.specs.Cluster.{bookie_named}
 use Rattle.reh_script.specs.declared.commands.Command.{Command}
-use Rattle.reh_script.specs.declared.commands.Command.TheVariants.{Make, Report}
+use Rattle.reh_script.specs.declared.commands.Command.TheVariants.{Make, Checkout, Spend, Discard, Report, Survey}
 use Rattle.reh_script.specs.declared.commands.LineFault.{LineFault}
 use Rattle.reh_script.specs.declared.commands.LineFault.TheVariants.{TooLong, UnknownCommand, BadWords, UnknownName}
 use Rattle.reh_script.specs.declared.words.Kind.{Kind}
@@ -90,6 +91,10 @@ form verb kinds make = record { verb = verb; kinds = kinds; make = make }
 abbrev pub event : Event → Command
 event e = Make (Do e)
 
+-- the place of a fragment that a worker aims at
+abbrev pub aim_of : Arguments → Aim
+aim_of a = record { worker = a.bookie; ledger = a.first; fragment = a.second; index = a.third }
+
 -- all commands
 unfoldable pub forms : List Form
 forms =
@@ -110,7 +115,11 @@ forms =
     ∷ form (codes "undo") [] (λ a. Make Undo)
     ∷ form (codes "redo") [] (λ a. Make Redo)
     ∷ form (codes "clock") [] (λ a. Make Look)
+    ∷ form (codes "checkout") (Bookie ∷ Number ∷ Number ∷ Number ∷ []) (λ a. Checkout (aim_of a))
+    ∷ form (codes "spend") [] (λ a. Spend)
+    ∷ form (codes "discard") [] (λ a. Discard)
     ∷ form (codes "report") [] (λ a. Report)
+    ∷ form (codes "survey") [] (λ a. Survey)
     ∷ []
 
 -- a command with the arguments at hand

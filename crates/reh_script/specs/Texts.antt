@@ -9,6 +9,7 @@ use Rattle.reh_types.specs.declared.locks.Lock.{Lock}
 use Rattle.reh_types.specs.declared.refusals.Refusal.TheVariants.{Locked}
 use Rattle.reh_types.specs.declared.moves.Reply.{Reply}
 use Rattle.reh_types.specs.declared.moves.Reply.TheVariants.{Refused}
+use Rattle.reh_types.specs.declared.surveys.SurveyLine.{SurveyLine}
 use Rattle.reh_types.specs.Sets as set
 use Rattle.reh_types.specs.Sets.{Set, numbers}
 use Rattle.reh_types.specs.Texts as types
@@ -106,3 +107,9 @@ ledger_lines names g = ledger_line g.id g.metadata ∷ (fragment_lines names g.m
 -- the clock, the bookies and the ledgers, in picture order
 abbrev pub report : Cluster → List (List ℕ)
 report s = clock_line s ∷ (map (λ place. bookie_line s place.0 place.1) (enumerate_from 0 s.names) ++ flat_map (ledger_lines s.names) s.ledgers)
+
+-- The survey
+
+-- how many members of a fragment are not registered, and how many of its entries can't be read
+abbrev pub survey_line_text : SurveyLine → List ℕ
+survey_line_text line = spaced (codes "ledger" ∷ decimal line.ledger ∷ codes "fragment" ∷ decimal line.fragment ∷ codes "down" ∷ decimal line.down ∷ codes "lost" ∷ option_map_or decimal line.lost (codes "-") ∷ [])

@@ -1,48 +1,71 @@
--- What a script prints, and the session that it leaves.
-use Rattle.std.specs.Prelude.{ℕ, ◌+◌, List, [], ◌∷◌, ◌++◌, Option, None, Some, Result, Ok, Err, codes}
-use Rattle.std.specs.Fmt.{decimal}
+-- What a script prints that one seat of a book plays, with a hand of findings, and where it leaves the book.
+use Rattle.std.specs.Prelude.{ℕ, ◌+◌, List, [], ◌∷◌, ◌++◌, Option, None, Some, Result, Ok, Err}
+use Rattle.reh_types.specs.declared.calls.Call.{Call}
+use Rattle.reh_model.specs.Book.{Book, answer_to, book_after}
+use Rattle.reh_model.specs.Session.{state_of}
+use Rattle.reh_desk.specs.Numbered.{Numbered}
 use Rattle.reh_script.specs.declared.commands.Command.{Command}
-use Rattle.reh_script.specs.declared.commands.Command.TheVariants.{Make, Report}
 use Rattle.reh_script.specs.declared.commands.LineFault.{LineFault}
-use Rattle.reh_model.specs.Session.{Session, state_of, reply_to, session_after}
-use Rattle.reh_script.specs.Faults.{line_fault_text}
-use Rattle.reh_script.specs.Script.{command_of_line}
-use Rattle.reh_script.specs.Texts.{reply_text, report, text_of}
+use Rattle.reh_script.specs.Answers.{asked, numbered, reply_answer, fault_answer, own_answer}
+use Rattle.reh_script.specs.Hand.{call_of, hand_after, discard_of}
 
--- what a line asks for, at the session's present state; nothing, where the line has no answer
-abbrev pub asked : Session → List ℕ → Option (Result Command LineFault)
-asked m line = command_of_line (state_of m).names line
+-- a book, and the hand of the seat that plays there
+pub record BookPlayer : Type 0 where
+  pub book : Book
+  pub hand : List Numbered
 
--- what is printed for it behind the line's number
-abbrev pub answer_to : Session → Result Command LineFault → List ℕ
-answer_to m (Ok (Make move)) = reply_text (state_of m).names (reply_to m move) ++ codes "\n"
-answer_to m (Ok Report) = codes "report\n" ++ text_of (report (state_of m))
-answer_to m (Err fault) = line_fault_text fault ++ codes "\n"
+-- before the first line
+abbrev pub starting : Book → BookPlayer
+starting b = record { book = b; hand = [] }
+
+-- a call, after its reply, of a command
+abbrev pub called : BookPlayer → ℕ → Command → Call → BookPlayer
+called p seat command call =
+    let reply = answer_to p.book seat call in
+    record { book = book_after p.book seat call reply; hand = hand_after (state_of p.book.session) command reply p.hand }
+
+-- the answer to a command that makes this call, or none, and the player after it
+abbrev pub answer_by : List (List ℕ) → ℕ → BookPlayer → Command → Option Call → List ℕ
+answer_by names seat p command None = own_answer names (Some (state_of p.book.session)) command
+answer_by names seat p command (Some call) = reply_answer names (answer_to p.book seat call)
+
+abbrev pub after_by : ℕ → BookPlayer → Command → Option Call → BookPlayer
+after_by seat p command None = p
+after_by seat p command (Some call) = called p seat command call
 
 -- the answer to the n-th line, if it has one
-abbrev pub numbered_answer : Session → ℕ → Option (Result Command LineFault) → List ℕ
-numbered_answer m n None = []
-numbered_answer m n (Some command) = codes "line " ++ (decimal n ++ (codes ": " ++ answer_to m command))
+abbrev pub answer_of : List (List ℕ) → ℕ → BookPlayer → ℕ → Option (Result Command LineFault) → List ℕ
+answer_of names seat p n None = []
+answer_of names seat p n (Some (Ok command)) = numbered n (answer_by names seat p command (call_of command p.hand))
+answer_of names seat p n (Some (Err fault)) = numbered n (fault_answer fault)
 
-abbrev pub line_answer : Session → ℕ → List ℕ → List ℕ
-line_answer m n line = numbered_answer m n (asked m line)
+abbrev pub line_answer : List (List ℕ) → ℕ → BookPlayer → ℕ → List ℕ → List ℕ
+line_answer names seat p n line = answer_of names seat p n (asked names line)
 
--- the session after a line: a move is made, and anything else leaves it
-abbrev pub after_command : Session → Option (Result Command LineFault) → Session
-after_command m (Some (Ok (Make move))) = session_after m move (reply_to m move)
-after_command m (Some (Ok Report)) = m
-after_command m (Some (Err fault)) = m
-after_command m None = m
+-- the player after a line: a command makes its call, and anything else leaves it
+abbrev pub after_command : ℕ → BookPlayer → Option (Result Command LineFault) → BookPlayer
+after_command seat p None = p
+after_command seat p (Some (Ok command)) = after_by seat p command (call_of command p.hand)
+after_command seat p (Some (Err fault)) = p
 
-abbrev pub after_line : Session → List ℕ → Session
-after_line m line = after_command m (asked m line)
+abbrev pub after_line : List (List ℕ) → ℕ → BookPlayer → List ℕ → BookPlayer
+after_line names seat p line = after_command seat p (asked names line)
 
 -- the answers to lines, of which the first is the n-th
-abbrev pub transcript : Session → ℕ → List (List ℕ) → List ℕ
-transcript m n [] = []
-transcript m n (line ∷ lines) = line_answer m n line ++ transcript (after_line m line) (n + 1) lines
+abbrev pub transcript : List (List ℕ) → ℕ → BookPlayer → ℕ → List (List ℕ) → List ℕ
+transcript names seat p n [] = []
+transcript names seat p n (line ∷ lines) = line_answer names seat p n line ++ transcript names seat (after_line names seat p line) (n + 1) lines
 
--- the session after lines
-abbrev pub after_lines : Session → List (List ℕ) → Session
-after_lines m [] = m
-after_lines m (line ∷ lines) = after_lines (after_line m line) lines
+-- the player after lines
+abbrev pub after_lines : List (List ℕ) → ℕ → BookPlayer → List (List ℕ) → BookPlayer
+after_lines names seat p [] = p
+after_lines names seat p (line ∷ lines) = after_lines names seat (after_line names seat p line) lines
+
+-- the book after a hand is given back, the oldest first
+abbrev pub given_back : ℕ → Book → List Numbered → Book
+given_back seat b [] = b
+given_back seat b (finding ∷ hand) = given_back seat (book_after b seat (discard_of finding) (answer_to b seat (discard_of finding))) hand
+
+-- where a player ends: what is left in the hand is given back
+abbrev pub end_of : ℕ → BookPlayer → Book
+end_of seat p = given_back seat p.book p.hand

@@ -1,5 +1,5 @@
 // What a line of a script asks for.
-use reh_types::Move;
+use reh_types::{Aim, Move};
 use std::fmt;
 
 /// What a line of a script asks for.
@@ -7,8 +7,16 @@ use std::fmt;
 pub enum Command {
     /// A move of the session.
     Make(Move),
-    /// The report of the session's state.
+    /// A ticket for a place of a fragment, whose scan goes into the player's hand.
+    Checkout(Aim),
+    /// The oldest finding of the hand is posted.
+    Spend,
+    /// The oldest finding of the hand is given back.
+    Discard,
+    /// The report of the state.
     Report,
+    /// The survey of what can't be read any more.
+    Survey,
 }
 
 /// Why a line of a script asks for nothing. Its text is the line's reply.

@@ -1,4 +1,5 @@
 // Why a play or a pipe ends early.
+use reh_crew::SurveyFault;
 use reh_picture::PictureFault;
 use std::alloc::AllocError;
 
@@ -13,6 +14,8 @@ pub enum PlayFault {
     WriteFault,
     /// There is no memory for an answer.
     NoMemory,
+    /// There is no thread for a survey.
+    NoThread,
 }
 
 /// Why an input is not played to its end.
@@ -32,6 +35,20 @@ impl From<AllocError> for PlayFault {
 
     fn from(_want: AllocError) -> PlayFault {
         PlayFault::NoMemory
+    }
+}
+
+impl From<SurveyFault> for PlayFault {
+    ghost use Rattle.std.specs.Prelude.{◌≡◌};
+    ghost use Rattle.reh_script.specs.Faults.{play_fault_of};
+
+    ghost from_gives = { λ survey fault. fault ≡ play_fault_of survey };
+
+    fn from(fault: SurveyFault) -> PlayFault {
+        match fault {
+            SurveyFault::NoMemory => PlayFault::NoMemory,
+            SurveyFault::NoThread => PlayFault::NoThread,
+        }
     }
 }
 

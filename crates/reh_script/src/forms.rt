@@ -9,7 +9,7 @@ ghost use Rattle.reh_script.specs.Script as script;
 use crate::commands::Command;
 use crate::words::Kind::{Bookie, Number};
 use crate::words::{Arguments, Kind};
-use reh_types::{Event, LedgerId, Move};
+use reh_types::{Aim, Event, LedgerId, Move};
 use std::marker::Model;
 
 /// The word of a bookie.
@@ -20,6 +20,9 @@ const TASK: &[Kind] = &[Bookie, Number];
 
 /// The words of a ledger, an index of its last ensemble, and the bookie that takes it.
 const ROLL: &[Kind] = &[Number, Number, Bookie];
+
+/// The words of a worker, a ledger, a fragment, and an index of its ensemble.
+const PLACE: &[Kind] = &[Bookie, Number, Number, Number];
 
 /// The words of a worker, a ledger, a fragment, an index of its ensemble, and the ledger's version.
 const MEMBER: &[Kind] = &[Bookie, Number, Number, Number, Number];
@@ -64,7 +67,11 @@ pub(crate) fn form_of(verb: &[u8], a: Arguments) -> Option<Form>
         _ if is(verb, b"undo") => row(&[], Command::Make(Move::Undo)),
         _ if is(verb, b"redo") => row(&[], Command::Make(Move::Redo)),
         _ if is(verb, b"clock") => row(&[], Command::Make(Move::Look)),
+        _ if is(verb, b"checkout") => row(PLACE, Command::Checkout(aim(a))),
+        _ if is(verb, b"spend") => row(&[], Command::Spend),
+        _ if is(verb, b"discard") => row(&[], Command::Discard),
         _ if is(verb, b"report") => row(&[], Command::Report),
+        _ if is(verb, b"survey") => row(&[], Command::Survey),
         _ => None,
     }
 }
@@ -98,6 +105,18 @@ fn roll(a: Arguments) -> Event
         ledger: LedgerId(a.first),
         index: a.second,
         bookie: a.bookie,
+    }
+}
+
+/// The aim that the arguments name.
+fn aim(a: Arguments) -> Aim
+    ensures { result ≡ script.aim_of a }
+{
+    Aim {
+        worker: a.bookie,
+        ledger: LedgerId(a.first),
+        fragment: a.second,
+        index: a.third,
     }
 }
 

@@ -4,6 +4,7 @@
 mod commands;
 mod faults;
 mod forms;
+mod hand;
 mod inputs;
 mod pieces;
 mod pipes;
@@ -12,6 +13,7 @@ mod readings;
 mod reports;
 mod scripts;
 mod streams;
+mod surveys;
 mod texts;
 mod words;
 
@@ -19,7 +21,7 @@ pub use commands::{Command, LineFault};
 pub use faults::{PipeFault, PlayFault};
 pub use pieces::{PiecesIn, PiecesOut};
 pub use pipes::pipe;
-pub use plays::play;
+pub use plays::{play, play_book};
 pub use readings::{Reading, read};
 pub use reports::report_text;
 pub use scripts::parse_line;

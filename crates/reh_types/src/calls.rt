@@ -24,6 +24,13 @@ pub struct Line {
     pub reply: Reply,
 }
 
+/// A line of a seat's own list: a call that it made, and the reply.
+#[derive(Drop)]
+pub struct Exchange {
+    pub call: Call,
+    pub reply: Reply,
+}
+
 /// A ticket that was issued to a seat, and was neither spent nor given back.
 #[derive(Clone, Copy, PartialEq, Eq, Debug)]
 pub struct TicketOut {

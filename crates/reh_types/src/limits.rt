@@ -48,6 +48,9 @@ pub const MAX_EVENTS: usize = 100_000;
 /// How many lines a book's tape may have, with one for each ticket that is out.
 pub const MAX_LINES: usize = 200_000;
 
+/// How many findings a player's hand may hold.
+pub const MAX_HAND: usize = 8;
+
 /// The longest picture, in bytes.
 pub const MAX_PICTURE_BYTES: usize = 8_388_608;
 
