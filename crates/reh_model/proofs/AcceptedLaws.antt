@@ -61,12 +61,12 @@ with_ledger-none None checks none = cc
 with_ledger-none (Some g) checks none = record { ledger = g; is = refl; passes = none }
 
 -- a fragment is there, and its checks give none
-record FoundFragment (o : Option Fragment) (checks : Fragment → List (Option Refusal)) : Type 0 where
-  fragment : Fragment
-  is : o ≡ Some fragment
-  passes : first_reason (checks fragment) ≡ None
+pub record FoundFragment (o : Option Fragment) (checks : Fragment → List (Option Refusal)) : Type 0 where
+  pub fragment : Fragment
+  pub is : o ≡ Some fragment
+  pub passes : first_reason (checks fragment) ≡ None
 
-with_fragment-none : (o : Option Fragment) (checks : Fragment → List (Option Refusal)) → with_fragment o checks ≡ None → FoundFragment o checks
+pub with_fragment-none : (o : Option Fragment) (checks : Fragment → List (Option Refusal)) → with_fragment o checks ≡ None → FoundFragment o checks
 with_fragment-none None checks none = cc
 with_fragment-none (Some fragment) checks none = record { fragment = fragment; is = refl; passes = none }
 
@@ -110,7 +110,7 @@ version_end-none : (g : Ledger) → g.metadata.version ≤ MAX_VERSION → versi
 version_end-none g few none = let apart : (g.metadata.version == MAX_VERSION) ≡ false = reason_if-none _ _ none in grind (arith, nat_tests)
 
 -- whether a condition that must not fail holds
-not_not : (b : Bool) → not b ≡ false → b ≡ true
+pub not_not : (b : Bool) → not b ≡ false → b ≡ true
 not_not true is = refl
 not_not false is = cc
 

@@ -22,5 +22,7 @@ pub mod OpenExamples
 pub mod PlaceExamples
 pub mod CheckLaws
 pub mod AcceptedLaws
+pub mod PostLaws
 pub mod WellFormedLaws
 pub mod SwapLaws
+pub mod BookLaws

@@ -13,9 +13,9 @@ use Rattle.reh_types.specs.declared.names.LedgerState.TheVariants.{InRecovery, C
 use Rattle.reh_types.specs.declared.moves.Event.{Event}
 use Rattle.reh_types.specs.declared.moves.Event.TheVariants.{Lose, Join, Audit, Acquire, Release, Finish, Expire, Grace, Tick, Roll, Fence, Seal, Copy, Swap}
 use Rattle.reh_types.specs.declared.moves.Move.{Move}
-use Rattle.reh_types.specs.declared.moves.Move.TheVariants.{Do, Undo, Redo, Look}
+use Rattle.reh_types.specs.declared.moves.Move.TheVariants.{Do, Post, Undo, Redo, Look}
 use Rattle.reh_types.specs.declared.moves.Reply.{Reply}
-use Rattle.reh_types.specs.declared.moves.Reply.TheVariants.{Done, Clock, Refused}
+use Rattle.reh_types.specs.declared.moves.Reply.TheVariants.{Done, Clock, Issued, Discarded, Refused}
 use Rattle.reh_types.specs.Sets.{Set, numbers, is_empty, contains-union}
 use Rattle.reh_model.specs.Striping.{striped_entries}
 use Rattle.reh_model.specs.Contents.{Contents, has}
@@ -23,10 +23,12 @@ use Rattle.reh_model.specs.Metadata.{Metadata, Fragment, end_of_state, stop_of, 
 use Rattle.reh_model.specs.Cluster.{Cluster, Ledger, holds, is_locked_by, ledger_at, change_ledger, stop_at, stripe_at}
 use Rattle.reh_model.specs.Audit.{missing_members, published_members, audited_ledger}
 use Rattle.reh_model.specs.Recovery.{next_entry, is_rolling_over, recovered_end, recovered_at}
+use Rattle.reh_model.specs.Scan.{copy_of}
 use Rattle.reh_model.specs.Step.{refusal_of, after, locked_ledger, unlocked_ledger, finished_ledger, expired_ledger, with_due, graced_ledger, rolled_ledger, fenced_ledger, sealed_ledger, swapped_ledger}
-use Rattle.reh_model.specs.Session.{Session, replay, state_of, reply_to, moved_session, session_after, Performs, Run}
+use Rattle.reh_model.specs.Session.{Session, replay, state_of, reply_to, with_event, moved_session, session_after, Performs, Run}
 use Rattle.reh_model.specs.Swaps.{HoldsStripe, IsSafe, IsSafeRun, AllSafe}
 use Rattle.reh_model.proofs.AcceptedLaws.{accepted_roll_open, accepted_fence_open, accepted_seal_recovering, accepted_swap_holds, done_accepted}
+use Rattle.reh_model.proofs.PostLaws.{posted_accepted}
 use Rattle.reh_model.proofs.SessionLaws.{replay_first, replay-append, replay-prefix, replay_one}
 use Rattle.reh_model.proofs.LedgerLaws.{KeepsId, changed_ledger, KeepsId-changed_ledger, find-map, id_found}
 use Rattle.reh_model.proofs.FragmentLaws.{no_end-open, no_end-recovering}
@@ -319,11 +321,16 @@ replay_is m can = some (replay m.opening m.done) (replay-prefix m.opening m.done
 pub all_safe : (m : Session) → CanRedoAll m → AllSafe m
 all_safe m can = lasting m.opening (state_of m) m.done (replay_is m can)
 
--- a move that is done keeps that all can be redone
-CanRedoAll-moved_session : (m : Session) (move : Move) → reply_to m move ≡ Done → CanRedoAll m → CanRedoAll (moved_session m move)
-CanRedoAll-moved_session m (Do event) is can =
+-- an event that is accepted keeps that all can be redone
+CanRedoAll-with_event : (m : Session) (event : Event) → refusal_of (state_of m) event ≡ None → CanRedoAll m → CanRedoAll (with_event m event)
+CanRedoAll-with_event m event accepted can =
     ap (λ (es : List Event). is_some (replay m.opening es)) (append-nil (m.done ++ event ∷ []))
-    ∙ ap is_some (replay-append m.opening (state_of m) m.done (event ∷ []) (replay_is m can) ∙ replay_one (state_of m) event (done_accepted m event is))
+    ∙ ap is_some (replay-append m.opening (state_of m) m.done (event ∷ []) (replay_is m can) ∙ replay_one (state_of m) event accepted)
+
+-- so does a move that is done
+CanRedoAll-moved_session : (m : Session) (move : Move) → reply_to m move ≡ Done → CanRedoAll m → CanRedoAll (moved_session m move)
+CanRedoAll-moved_session m (Do event) is can = CanRedoAll-with_event m event (done_accepted m event is) can
+CanRedoAll-moved_session m (Post content) is can = CanRedoAll-with_event m (copy_of content) (posted_accepted m content is) can
 CanRedoAll-moved_session m Undo is can =
     ap (λ (es : List Event). is_some (replay m.opening es))
     (sym (append_assoc (take (length m.done - 1) m.done) (drop (length m.done - 1) m.done) m.undone) ∙ ap (λ (es : List Event). es ++ m.undone) (take-append-drop (length m.done - 1) m.done))
@@ -347,6 +354,8 @@ done_by m n move (inr wanted) = wanted.2
 CanRedoAll-after : (m : Session) (move : Move) (reply : Reply) (n : Session) → Performs m move reply n → CanRedoAll m → CanRedoAll (session_after m move reply)
 CanRedoAll-after m move Done n performs can = CanRedoAll-moved_session m move (done_by m n move performs) can
 CanRedoAll-after m move (Clock clock) n performs can = can
+CanRedoAll-after m move (Issued number) n performs can = can
+CanRedoAll-after m move Discarded n performs can = can
 CanRedoAll-after m move (Refused refusal) n performs can = can
 
 -- each move keeps that all can be redone
@@ -364,7 +373,10 @@ CanRedoAll-run m (move ∷ moves) (reply ∷ replies) n run can = CanRedoAll-run
 pub safe_move : (m : Session) (move : Move) (reply : Reply) (n : Session) → Performs m move reply n → IsSafe (state_of m) move reply
 safe_move m (Do event) Done n performs = accepted_safe (state_of m) event (done_accepted m event (done_by m n (Do event) performs))
 safe_move m (Do event) (Clock clock) n performs = tt
+safe_move m (Do event) (Issued number) n performs = tt
+safe_move m (Do event) Discarded n performs = tt
 safe_move m (Do event) (Refused refusal) n performs = tt
+safe_move m (Post content) reply n performs = tt
 safe_move m Undo reply n performs = tt
 safe_move m Redo reply n performs = tt
 safe_move m Look reply n performs = tt

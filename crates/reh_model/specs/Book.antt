@@ -1,5 +1,5 @@
 -- A book: a session for several seats, with tickets for scans, and a tape of calls and replies.
-use Rattle.std.specs.Prelude.{◌≡◌, ◌≢◌, ◌⊎◌, ℕ, ◌+◌, Bool, true, false, not, ◌&&◌, ◌==◌, nat_lt, IsTrue, if◌then◌else◌, List, [], ◌∷◌, ◌++◌, length, Option, None, Some, is_none, position, remove}
+use Rattle.std.specs.Prelude.{◌≡◌, ◌≢◌, ◌⊎◌, ℕ, ◌+◌, Bool, true, false, ◌&&◌, ◌==◌, nat_lt, IsTrue, if◌then◌else◌, List, [], ◌∷◌, ◌++◌, length, Option, None, Some, is_none, position, remove}
 use Rattle.std.specs.Option.{option_map_or}
 use Rattle.reh_types.specs.declared.limits.TheConstants.{MAX_LINES}
 use Rattle.reh_types.specs.declared.calls.Call.{Call}

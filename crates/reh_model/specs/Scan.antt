@@ -1,5 +1,5 @@
 -- What a worker finds for a place of a fragment, and when it can be posted.
-use Rattle.std.specs.Prelude.{◌≡◌, ℕ, Bool, false, not, ◌&&◌, ◌==◌, nat_eq, nat_lt, List, [], ◌∷◌, ◌++◌, map, length, Option, None, Some, slice_get}
+use Rattle.std.specs.Prelude.{ℕ, Bool, false, not, ◌&&◌, ◌==◌, nat_eq, nat_lt, List, [], ◌∷◌, map, length, Option, None, Some, slice_get}
 use Rattle.std.specs.List.{find, list_any, zip}
 use Rattle.std.specs.Option.{option_map, option_map_or, option_and_then, option_eq}
 use Rattle.std.specs.Str.{bytes_eq}
