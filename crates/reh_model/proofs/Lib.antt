@@ -19,6 +19,8 @@ pub mod Examples
 pub mod TaskExamples
 pub mod CopyExamples
 pub mod OpenExamples
+pub mod ScanExamples
+pub mod BookExamples
 pub mod PlaceExamples
 pub mod CheckLaws
 pub mod AcceptedLaws
