@@ -25,6 +25,7 @@ pub mod PlaceExamples
 pub mod CheckLaws
 pub mod AcceptedLaws
 pub mod PostLaws
+pub mod ScanLaws
 pub mod WellFormedLaws
 pub mod SwapLaws
 pub mod BookLaws
