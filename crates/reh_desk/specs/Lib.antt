@@ -1,2 +1,4 @@
-pub mod Tickets
+pub mod Numbered
+pub mod Unspent
+pub mod Replies
 pub mod Kept

@@ -1,20 +1,23 @@
 // Books: a session for several seats, with tickets, and a tape of what was called and replied.
-ghost use Rattle.std.specs.Prelude.{◌≡◌, ◌+◌, ◌≤◌, length, Some, IfOk, IfErr};
+ghost use Rattle.std.specs.Prelude.{◌≡◌, ◌+◌, ◌<◌, ◌≤◌, nat_lt, if◌then◌else◌, length, Some, IfSome, IfOk, IfErr, OnOk, MatchResult, IsTrue, vec_capacity};
 ghost use Rattle.std.specs.Option.{option_copied};
 ghost use Rattle.std.specs.Result.{IsOkAnd};
-ghost use Rattle.reh_types.specs.declared.calls.Call as call;
+ghost use Rattle.reh_types.specs.declared.calls.Call.TheVariants as call;
 ghost use Rattle.reh_types.specs.declared.limits.TheConstants.{MAX_LINES};
-ghost use Rattle.reh_model.specs.Book.{new_book, Legal};
+ghost use Rattle.reh_types.specs.declared.moves.Move.TheVariants.{Post};
+ghost use Rattle.reh_types.specs.declared.moves.Reply.TheVariants.{Done};
+ghost use Rattle.reh_model.specs.Book.{new_book, ticket, is_written, place_of, Legal};
 ghost use Rattle.reh_model.specs.Scan as model;
-ghost use Rattle.reh_model.specs.Session.{state_of};
-ghost use Rattle.reh_desk.specs.Kept.{opened, Called};
-ghost use Rattle.reh_desk.specs.Tickets.{number_of, aim_of, checked_out, spent, discarded};
+ghost use Rattle.reh_model.specs.Session.{state_of, reply_to, session_after};
+ghost use Rattle.reh_desk.specs.Kept.{line, opened, Called};
+ghost use Rattle.reh_desk.specs.Replies.{checked_out, spent, discarded};
+ghost use Rattle.reh_desk.specs.Unspent.{number_of, aim_of};
 
 use crate::tickets::{Finding, Stray, Ticket, Unspent};
 use reh_cluster::State;
 use reh_scan::{Job, aimed};
 use reh_session::Session;
-use reh_types::{Aim, Call, Line, MAX_LINES, Move, Refusal, Reply, TicketOut};
+use reh_types::{Aim, Call, Content, Line, MAX_LINES, Move, Refusal, Reply, TicketOut};
 use std::alloc::AllocError;
 use std::marker::Model;
 use std::snapshot::Snapshot;
@@ -47,4 +50,207 @@ pub struct Book {
     lines: Vec<Line>,
     last_ticket: u32,
     out: Vec<TicketOut>,
+}
+
+impl Model for Book {
+    ghost use Rattle.std.specs.Prelude.{vec_capacity};
+    ghost use Rattle.reh_desk.specs.Kept.{Kept, IsKept, kept_of};
+
+    ghost Value = { Kept };
+
+    ghost view = { λ b. kept_of b.opening.value b.session b.lines.items b.last_ticket b.out.items };
+
+    ghost invariant = { λ b. IsKept (kept_of b.opening.value b.session b.lines.items b.last_ticket b.out.items) (vec_capacity b.lines) };
+}
+
+impl Book {
+    /// A book on this session, before its first call. It takes no memory and cannot fail.
+    pub fn open(session: Session) -> Result<Book, (Session, AllocError)>
+        ensures { IsOkAnd result (λ book. book ≡ opened session) }
+    {
+        let alloc = session.allocator();
+        Ok(Book {
+            opening: Snapshot::of(&session),
+            session,
+            lines: Vec::new(alloc),
+            last_ticket: 0,
+            out: Vec::new(alloc),
+        })
+    }
+
+    /// Makes a move of the session for a seat, and answers it: with `TapeFull`, where no line is left that isn't reserved;
+    /// with `NoMemory`, where there is none for the line or the move; and else as the session does. The first two change nothing.
+    pub fn call(&mut self, seat: u32, step: Move) -> Reply
+        ensures { Called self.old seat (call.Ask step) result self.new }
+    {
+        let reserved = self.out.len();
+        if let Err(refusal) = make_room(&mut self.lines, reserved, 1) {
+            return Reply::Refused(refusal);
+        }
+        let reply = self.session.perform(&step);
+        if is_written(&reply) {
+            let call = Call::Ask(step);
+            self.lines.push_reserved(line_of(seat, call, &reply));
+        }
+        reply
+    }
+
+    /// Issues a ticket to a seat, with which it can scan the fragment of the aim, as it stands now. Of all refusals, the first that
+    /// applies is answered: `TapeFull`, where not two lines are left, one for this call and one for the ticket; and then that of the
+    /// aim, which gets a line. In place of any but `TapeFull` the answer may be `NoMemory`, which changes nothing. Only an issued ticket takes a number.
+    pub fn checkout(&mut self, seat: u32, aim: Aim) -> Result<Ticket, Refusal>
+        ensures called { Called self.old seat (call.Checkout aim) (checked_out result) self.new }
+        ensures ticket { IfOk result (λ ticket. model.scan (state_of self.old.book.session) aim ≡ Some ticket.content) }
+    {
+        let reserved = self.out.len();
+        make_room(&mut self.lines, reserved, 2)?;
+        if let Err(refusal) = aimed(self.session.state(), &aim) {
+            let reason = refusal;
+            let call = Call::Checkout(aim);
+            let reply = Reply::Refused(reason);
+            self.lines.push_reserved(Line { seat, call, reply });
+            return Err(refusal);
+        }
+        let job = Job::of(self.session.allocator(), self.session.state(), &aim)?;
+        self.out.reserve(1)?;
+        let number = self.last_ticket + 1;
+        let ticket = TicketOut { seat, number, aim };
+        let call = Call::Checkout(ticket.aim);
+        let reply = Reply::Issued(number);
+        self.last_ticket = number;
+        self.out.push_reserved(ticket);
+        self.lines.push_reserved(Line { seat, call, reply });
+        Ok(Ticket::new(number, job))
+    }
+
+    /// Posts what a seat found with a ticket, whose end this is, whether the session accepts or refuses it. It fails where the ticket isn't
+    /// out at this seat, or where there is no memory for an accepted post; then nothing has changed, and the finding is handed back.
+    pub fn spend(&mut self, seat: u32, finding: Finding) -> Result<Reply, SpendFault>
+        ensures called { Called self.old seat (call.Spend finding.number finding.content) (spent result) self.new }
+        ensures written { IfOk result (λ reply. IsTrue (is_written reply)) }
+        ensures back { IfErr result (λ fault. fault.finding ≡ finding) }
+    {
+        let number = finding.number();
+        let aim = finding.aim();
+        let Some(place) = place_of(&self.out, seat, number, &aim) else {
+            let cause = SpendCause::NotOut;
+            return Err(SpendFault { finding, cause });
+        };
+        let reply = match post(&mut self.session, finding.content()) {
+            Ok(reply) => reply,
+            Err(cause) => return Err(SpendFault { finding, cause }),
+        };
+        self.out.remove(place);
+        let content = finding.into_content();
+        let call = Call::Spend { number, content };
+        self.lines.push_reserved(line_of(seat, call, &reply));
+        Ok(reply)
+    }
+
+    /// Takes back a seat's ticket, scanned or not, which ends it. It takes no memory. What isn't out at this seat is handed back as a
+    /// stray, and nothing has changed.
+    pub fn discard(&mut self, seat: u32, unspent: Unspent) -> Result<(), Stray>
+        ensures called { Called self.old seat (call.Discard (number_of unspent) (aim_of unspent)) (discarded result) self.new }
+        ensures back { IfErr result (λ stray. stray ≡ unspent) }
+    {
+        let number = unspent.number();
+        let aim = unspent.aim();
+        let Some(place) = place_of(&self.out, seat, number, &aim) else {
+            return Err(Stray::new(unspent));
+        };
+        self.out.remove(place);
+        let call = Call::Discard { number, aim };
+        let reply = Reply::Discarded;
+        self.lines.push_reserved(Line { seat, call, reply });
+        unspent.end();
+        Ok(())
+    }
+
+    /// The session's state now.
+    pub fn whole(&self) -> Option<&State>
+        ensures { option_copied result ≡ Some (state_of self.now.book.session) }
+    {
+        Some(self.session.state())
+    }
+
+    /// How many tickets are out.
+    pub fn out(&self) -> u32
+        ensures { result ≡ length self.now.book.out }
+    {
+        self.out.len() as u32
+    }
+
+    /// The lines of the tape, oldest first: from the session that the book opened on they lead to where it is, and with one
+    /// for each ticket that is out there are at most 200,000.
+    pub fn tape(&self) -> &[Line]
+        ensures tape { result.now ≡ self.now.tape }
+        ensures legal { Legal (new_book self.now.opening) self.now.tape self.now.book }
+        ensures few { length self.now.tape + length self.now.book.out ≤ MAX_LINES }
+    {
+        &self.lines
+    }
+}
+
+/// Makes room on the tape for so many lines beside the reserved ones, unless that would be more than it may have, or there is no memory.
+fn make_room(lines: &mut Vec<Line>, reserved: usize, wanted: usize) -> Result<(), Refusal>
+    requires few { length lines.old.items + reserved ≤ MAX_LINES }
+    requires wanted { wanted ≤ 2 }
+    ensures items { lines.new.items ≡ lines.old.items }
+    ensures capacity { vec_capacity lines.old ≤ vec_capacity lines.new }
+    ensures room { OnOk result (length lines.old.items + reserved + wanted ≤ vec_capacity lines.new) }
+    ensures full { MatchResult result
+        (λ _. length lines.old.items + reserved + wanted ≤ MAX_LINES)
+        (λ refusal. refusal ≡ (if nat_lt MAX_LINES (length lines.old.items + reserved + wanted) then Refusal.TapeFull else Refusal.NoMemory)) }
+{
+    if lines.len() + reserved + wanted > MAX_LINES {
+        return Err(Refusal::TapeFull);
+    }
+    lines.reserve(reserved + wanted)?;
+    Ok(())
+}
+
+/// Whether a call with this reply adds a line to the tape.
+fn is_written(reply: &Reply) -> bool
+    ensures { result ≡ is_written reply.now }
+{
+    match reply {
+        Reply::Refused(Refusal::NotOut | Refusal::TapeFull | Refusal::NoMemory) => false,
+        _ => true,
+    }
+}
+
+fn line_of(seat: u32, call: Call, reply: &Reply) -> Line
+    ensures { result ≡ line seat call reply.now }
+{
+    Line {
+        seat,
+        call,
+        reply: *reply,
+    }
+}
+
+/// Where a seat's ticket stands among those that are out, if it is out.
+fn place_of(out: &[TicketOut], seat: u32, number: u32, aim: &Aim) -> Option<usize>
+    ensures place { result ≡ place_of (ticket seat number aim.now) out.now }
+    ensures within { IfSome result (λ place. place < length out.now) }
+{
+    let ticket = TicketOut {
+        seat,
+        number,
+        aim: *aim,
+    };
+    out.iter().position(|other| *other == ticket)
+}
+
+/// Posts what was found, and answers it, or that there is no memory for it.
+fn post(session: &mut Session, content: &Content) -> Result<Reply, SpendCause>
+    ensures { MatchResult result
+        (λ reply. (reply ≡ reply_to session.old (Post content.now)) × (session.new ≡ session_after session.old (Post content.now) reply))
+        (λ cause. (cause ≡ SpendCause.NoMemory) × (reply_to session.old (Post content.now) ≡ Done) × (session.new ≡ session.old)) }
+{
+    match session.post(content) {
+        Ok(()) => Ok(Reply::Done),
+        Err(Refusal::NoMemory) => Err(SpendCause::NoMemory),
+        Err(refusal) => Ok(Reply::Refused(refusal)),
+    }
 }

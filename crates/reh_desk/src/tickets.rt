@@ -1,6 +1,6 @@
 // Tickets, what is found with them, and what is left of one that a book doesn't know.
 ghost use Rattle.std.specs.Prelude.{◌≡◌, IfOk, IfErr};
-ghost use Rattle.reh_desk.specs.Tickets.{number_of, aim_of};
+ghost use Rattle.reh_desk.specs.Unspent.{number_of, aim_of};
 
 use reh_scan::{Job, look};
 use reh_types::{Aim, Content};
@@ -18,7 +18,7 @@ pub struct Ticket {
 }
 
 impl Model for Ticket {
-    ghost use Rattle.reh_desk.specs.Tickets.{Numbered};
+    ghost use Rattle.reh_desk.specs.Numbered.{Numbered};
 
     ghost Value = { Numbered };
 
@@ -37,7 +37,7 @@ pub struct Finding {
 
 impl Model for Finding {
     ghost use Rattle.std.specs.Prelude.{◌≡◌};
-    ghost use Rattle.reh_desk.specs.Tickets.{Numbered};
+    ghost use Rattle.reh_desk.specs.Numbered.{Numbered};
 
     ghost Value = { Numbered };
 
