@@ -2,3 +2,4 @@ pub mod Numbered
 pub mod Unspent
 pub mod Replies
 pub mod Kept
+pub mod Seats
