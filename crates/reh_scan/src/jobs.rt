@@ -1,9 +1,16 @@
 // Scans, apart from the state that they read.
-ghost use Rattle.std.specs.Prelude.{◌≡◌, None, Some, IfOk};
+ghost use Rattle.std.specs.Prelude.{◌≡◌, ℕ, ◌*◌, ◌/◌, ◌-◌, ◌<◌, ◌≤◌, length, map, None, Some, IfOk};
+ghost use Rattle.reh_held.specs.Rows.{is_set};
 ghost use Rattle.reh_model.specs.Scan.{aim_refusal, scan};
+ghost use Rattle.reh_model.specs.Striping.{striped_entries};
+ghost use Rattle.reh_scan.specs.Jobs.{AreCopies, IsReadingOf, IsReading, source_in};
 
-use reh_cluster::State;
-use reh_types::{Aim, Content, Members};
+use crate::sources::source_row;
+use reh_cluster::{Ledger, State};
+use reh_held::is_set;
+use reh_meta::Fragment;
+use reh_stripe::{Striped, write_set};
+use reh_types::{Aim, BookieIx, Content, Members, Sources};
 use std::alloc::{AllocError, Global};
 use std::marker::Model;
 
@@ -15,14 +22,47 @@ use std::marker::Model;
 pub struct Job {
     aim: Aim,
     version: u64,
+    reading: Reading,
+}
+
+// What was read of a fragment.
+#[derive(Drop)]
+struct Reading {
     first: u32,
     stop: u32,
+    // the ensemble size
     size: u32,
     write_quorum: u32,
     ensemble: Members,
-    // The words of what each member holds, from the word of the first entry on, by the members' indexes; none of one that
-    // isn't registered.
-    rows: Vec<Vec<u64>>,
+    // The words that each member holds of the fragment, from that of the first entry on, by the members' indexes; none of
+    // one that isn't registered.
+    rows: Vec<Words>,
+}
+
+// Words of a row; contracts see the list.
+#[derive(Drop)]
+struct Words {
+    items: Vec<u64>,
+}
+
+impl Model for Words {
+    ghost use Rattle.std.specs.Prelude.{List, ℕ};
+
+    ghost Value = { List ℕ };
+
+    ghost view = { λ w. w.items.items };
+}
+
+impl Model for Job {
+    ghost use Rattle.reh_types.specs.declared.contents.Content.{Content};
+
+    ghost Value = { Content };
+
+    ghost use Rattle.reh_scan.specs.Jobs.{content_in, IsJob};
+
+    ghost view = { content_in };
+
+    ghost invariant = { IsJob };
 }
 
 impl Job {
@@ -30,6 +70,24 @@ impl Job {
     pub fn of(alloc: Global, state: &State, aim: &Aim) -> Result<Job, AllocError>
         requires { aim_refusal state.now aim.now ≡ None }
         ensures { IfOk result (λ job. scan state.now aim.now ≡ Some job) }
+    {
+        let Some(ledger) = state.ledger(aim.ledger) else {
+            unreachable!()
+        };
+        let metadata = ledger.metadata();
+        let Some(fragment) = metadata.fragments().get(aim.fragment as usize) else {
+            unreachable!()
+        };
+        let Some(stop) = metadata.end_of(aim.fragment as usize) else {
+            unreachable!()
+        };
+        let reading = read(alloc, state, ledger, fragment, stop)?;
+        Ok(Job {
+            aim: *aim,
+            version: metadata.version(),
+            reading,
+        })
+    }
 
     /// The aim of the job.
     pub fn aim(&self) -> Aim
@@ -39,9 +97,112 @@ impl Job {
     }
 }
 
+// Reads a fragment that ends at the stop.
+fn read(
+    alloc: Global,
+    state: &State,
+    ledger: &Ledger,
+    fragment: &Fragment,
+    stop: u32,
+) -> Result<Reading, AllocError>
+    requires { length fragment.now.ensemble ≡ ledger.now.metadata.size }
+    ensures { IfOk result (IsReadingOf state.now ledger.now fragment.now stop) }
+{
+    let metadata = ledger.metadata();
+    Ok(Reading {
+        first: fragment.first,
+        stop,
+        size: metadata.size(),
+        write_quorum: metadata.write_quorum(),
+        ensemble: Members::of(fragment.ensemble.clone()?),
+        rows: copy_rows(alloc, state, ledger, fragment, stop)?,
+    })
+}
+
+// The words that each member of the fragment holds of it.
+fn copy_rows(
+    alloc: Global,
+    state: &State,
+    ledger: &Ledger,
+    fragment: &Fragment,
+    stop: u32,
+) -> Result<Vec<Words>, AllocError>
+    ensures { IfOk result (λ rows.
+        AreCopies state.now ledger.now.id fragment.now.first stop fragment.now.ensemble rows.items) }
+{
+    let mut rows = Vec::with_capacity(alloc, fragment.ensemble.len())?;
+    for bookie in &fragment.ensemble {
+        let row = source_row(state, ledger, *bookie);
+        rows.push(copy_words(alloc, row, fragment.first, stop)?)?;
+    }
+    Ok(rows)
+}
+
+// The words of a row in which the entries from the first up to, not including, the stop lie.
+fn copy_words(alloc: Global, row: &[u64], first: u32, stop: u32) -> Result<Words, AllocError>
+    ensures { IfOk result (λ words. (entry : ℕ) → first ≤ entry → entry < stop
+        → is_set words (entry - 64 * (first / 64)) ≡ is_set row.now entry) }
+{
+    let end = row.len().min((stop as usize).div_ceil(64));
+    let begin = end.min((first / 64) as usize);
+    let items = Vec::from_slice(alloc, &row[begin..end])?;
+    Ok(Words { items })
+}
+
 /// Looks for the source of each entry that the fragment stripes onto the index: the first member in the order of its write
 /// set that was registered, and held it.
 ///
 /// BookKeeper's replication worker reads an entry from the members of its write set in this order.
 pub fn look(alloc: Global, job: &Job) -> Result<Content, AllocError>
     ensures { IfOk result (λ content. content ≡ job.now) }
+{
+    let reading = &job.reading;
+    Ok(Content {
+        aim: job.aim,
+        version: job.version,
+        first: reading.first,
+        stop: reading.stop,
+        ensemble: reading.ensemble.clone_in()?,
+        sources: Sources::of(find_sources(alloc, reading, job.aim.index as u32)?),
+    })
+}
+
+// The source of each entry that the fragment stripes onto the index.
+fn find_sources(
+    alloc: Global,
+    reading: &Reading,
+    index: u32,
+) -> Result<Vec<Option<BookieIx>>, AllocError>
+    requires { IsReading reading.now }
+    ensures { IfOk result (λ sources. sources.items ≡ map (source_in reading.now)
+        (striped_entries reading.now.first reading.now.stop index reading.now.size reading.now.write_quorum)) }
+{
+    let mut sources = Vec::new(alloc);
+    let entries = Striped::new(
+        reading.first,
+        reading.stop,
+        index,
+        reading.size,
+        reading.write_quorum,
+    );
+    for entry in entries {
+        sources.push(find_source(reading, entry))?;
+    }
+    Ok(sources)
+}
+
+// The first member in the order of the entry's write set whose words have the entry.
+fn find_source(reading: &Reading, entry: u32) -> Option<BookieIx>
+    requires reading { IsReading reading.now }
+    requires entry { reading.now.first ≤ entry }
+    ensures { result ≡ source_in reading.now entry }
+{
+    let members = reading.ensemble.as_slice();
+    let place = entry - 64 * (reading.first / 64);
+    for index in write_set(entry, reading.size, reading.write_quorum) {
+        if is_set(&reading.rows[index as usize].items, place) {
+            return Some(members[index as usize]);
+        }
+    }
+    None
+}

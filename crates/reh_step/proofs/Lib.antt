@@ -1,4 +1,4 @@
-pub mod ReadingLaws
+pub mod MarkLaws
 pub mod WalkLaws
 pub mod CopyLaws
 pub mod RollLaws

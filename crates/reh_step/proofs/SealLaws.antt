@@ -40,7 +40,7 @@ use Rattle.reh_model.proofs.TurnedLaws.{one_of-false}
 use Rattle.reh_model.proofs.WellFormedLaws.{IsWellFormed-after}
 use Rattle.reh_model.proofs.ExchangeLaws.{delta_of_changes}
 use Rattle.reh_model.proofs.DeltaLaws.{Stands, stands, part_differs}
-use Rattle.reh_step.proofs.ReadingLaws.{write_set_within}
+use Rattle.reh_scan.proofs.ReadingLaws.{write_set_within}
 use Rattle.reh_step.proofs.CopyLaws.{words-rising, words-there, words-differ, exchanged-words}
 
 -- What the bookies get

@@ -18,8 +18,9 @@ use Rattle.reh_model.specs.Refusals.{too_few, undecided}
 use Rattle.reh_model.proofs.CheckLaws.{first_reason-only}
 use Rattle.reh_model.proofs.RecoveryLaws.{IsHeld-readable, recovered_end-is, too_few-first, too_few-none}
 use Rattle.reh_model.proofs.WellFormedLaws.{held_below}
-use Rattle.reh_step.specs.Sources.{is_marked, is_set_at, is_source_at}
-use Rattle.reh_step.proofs.ReadingLaws.{write_set_within, is_readable-rows}
+use Rattle.reh_scan.specs.Sources.{is_set_at, is_source_at}
+use Rattle.reh_scan.proofs.ReadingLaws.{write_set_within, is_readable-rows}
+use Rattle.reh_step.specs.Marks.{is_marked}
 
 -- Entries
 

@@ -5,8 +5,9 @@ use Rattle.std.proofs.lemmas.List.Elements.{All-tail}
 use Rattle.std.proofs.lemmas.List.Sums.{sum_by-cons}
 use Rattle.reh_model.specs.Striping.{write_set}
 use Rattle.reh_model.specs.Metadata.{Metadata, IsMetadata}
-use Rattle.reh_step.specs.Sources.{is_marked}
-use Rattle.reh_step.proofs.ReadingLaws.{first_within, write_set_within, write_set_long, is_marked_there}
+use Rattle.reh_step.specs.Marks.{is_marked}
+use Rattle.reh_scan.proofs.ReadingLaws.{first_within, write_set_within}
+use Rattle.reh_step.proofs.MarkLaws.{write_set_long, is_marked_there}
 use Rattle.reh_step.proofs.decisions.count_registered.Goals as goal
 
 pub loop-index-init : goal.loop-index-init

@@ -2,8 +2,8 @@
 use Rattle.std.proofs.Common.{◌≡◌, ◌<◌, All}
 use Rattle.std.specs.List.{list_any}
 use Rattle.reh_model.specs.Striping.{write_set}
-use Rattle.reh_step.specs.Sources.{is_set_at}
-use Rattle.reh_step.proofs.decisions.is_readable.Given as goal
+use Rattle.reh_scan.specs.Sources.{is_set_at}
+use Rattle.reh_scan.proofs.sources.is_readable.Given as goal
 
 abbrev pub invariant-loop-index : goal.invariant-loop-index
 invariant-loop-index l = record {

@@ -4,9 +4,9 @@ use Rattle.std.specs.List.{list_any}
 use Rattle.std.proofs.lemmas.List.Elements.{All-tail}
 use Rattle.reh_model.specs.Striping.{write_set}
 use Rattle.reh_model.specs.Metadata.{Metadata, IsMetadata}
-use Rattle.reh_step.specs.Sources.{is_set_at}
-use Rattle.reh_step.proofs.ReadingLaws.{first_within, is_set_there, write_set_within}
-use Rattle.reh_step.proofs.decisions.is_readable.Goals as goal
+use Rattle.reh_scan.specs.Sources.{is_set_at}
+use Rattle.reh_scan.proofs.ReadingLaws.{first_within, is_set_there, write_set_within}
+use Rattle.reh_scan.proofs.sources.is_readable.Goals as goal
 
 pub loop-index-init : goal.loop-index-init
 loop-index-init c =

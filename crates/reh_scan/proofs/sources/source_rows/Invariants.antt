@@ -1,8 +1,8 @@
 -- The rows of the members that are passed.
 use Rattle.std.proofs.Common.{◌≡◌, ◌<◌, ℕ, length}
 use Rattle.reh_types.specs.declared.limits.TheConstants.{MAX_ENSEMBLE_SIZE}
-use Rattle.reh_step.specs.Sources.{is_set_at, is_source_at}
-use Rattle.reh_step.proofs.decisions.source_rows.Given as goal
+use Rattle.reh_scan.specs.Sources.{is_set_at, is_source_at}
+use Rattle.reh_scan.proofs.sources.source_rows.Given as goal
 
 abbrev pub invariant-loop-index : goal.invariant-loop-index
 invariant-loop-index l = record {

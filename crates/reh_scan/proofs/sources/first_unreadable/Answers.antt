@@ -1,8 +1,8 @@
 -- An entry that no row of its write set has can't be read, and the others can.
 use Rattle.std.proofs.Common.{◌≡◌, ◌∙◌, sym, rules, true, false}
 use Rattle.reh_model.specs.Cluster.{is_readable}
-use Rattle.reh_step.proofs.ReadingLaws.{is_readable-rows}
-use Rattle.reh_step.proofs.decisions.first_unreadable.Goals as goal
+use Rattle.reh_scan.proofs.ReadingLaws.{is_readable-rows}
+use Rattle.reh_scan.proofs.sources.first_unreadable.Goals as goal
 
 pub returns-then-not-is_readable : goal.returns-then-not-is_readable
 returns-then-not-is_readable c =
