@@ -3,7 +3,7 @@ use reh_types::Move;
 use std::fmt;
 
 /// What a line of a script asks for.
-#[derive(Clone, Copy, PartialEq, Eq, Debug)]
+#[derive(Drop)]
 pub enum Command {
     /// A move of the session.
     Make(Move),

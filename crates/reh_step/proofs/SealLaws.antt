@@ -27,7 +27,7 @@ use Rattle.reh_model.specs.Cluster.{Cluster, Ledger, is_up, ledger_at, change_le
 use Rattle.reh_model.specs.Recovery.{up_writes, recovered_end, recovered_entries, recovered_copies, recovered_at}
 use Rattle.reh_model.specs.WellFormed.{IsCopy, IsWellFormed}
 use Rattle.reh_model.specs.Step.{refusal_of, after, sealed_ledger}
-use Rattle.reh_model.specs.Places.{Change, Place, at_metadata, at_word, place_of, IsBefore, AreRising, change_at, put, exchanged, IsThere, SameAt, IsDelta}
+use Rattle.reh_model.specs.Places.{Change, Place, at_metadata, at_word, place_of, IsBefore, AreRising, put, exchanged, IsThere, SameAt, IsDelta}
 use Rattle.reh_step.specs.Records.{word_change, word_changes, registered_index, recovered_by}
 use Rattle.reh_model.proofs.ContentsLaws.{All-copy, has-copies_of}
 use Rattle.reh_model.proofs.FragmentLaws.{IsEnsemble-last}

@@ -1,28 +1,27 @@
 // When an event is refused: one function for each event, over checks that they share.
-ghost use Rattle.std.specs.Prelude.{◌≡◌, ◌==◌, ◌<◌, ℕ, [], ◌∷◌, length, None, Some, IfOk, MatchResult, not, slice_get, slice_index, count_by};
+ghost use Rattle.std.specs.Prelude.{◌≡◌, [], ◌∷◌, length, None, Some, MatchResult, not, slice_get};
 ghost use Rattle.reh_types.specs.declared.moves.Event.TheVariants.{Lose, Join, Audit, Acquire, Release, Finish, Expire, Grace, Tick, Roll, Fence, Seal, Copy, Swap};
 ghost use Rattle.std.specs.List.{find, list_any};
-ghost use Rattle.reh_model.specs.Metadata as meta;
-ghost use Rattle.reh_model.specs.Metadata.{IsMetadata, stripe_of};
+ghost use Rattle.reh_model.specs.Metadata.{stripe_of};
 ghost use Rattle.reh_model.specs.Cluster as cluster;
 ghost use Rattle.reh_model.specs.Cluster.{ledger_at, is_locked_by};
-ghost use Rattle.reh_model.specs.Recovery as recovery;
 ghost use Rattle.reh_model.specs.Refusals as model;
 ghost use Rattle.reh_model.specs.Refusals.{Decides};
 ghost use Rattle.reh_model.specs.Checks.{first_reason};
-ghost use Rattle.reh_model.specs.Striping as stripe;
 ghost use Rattle.reh_model.specs.Step.{refusal_of, place_checks};
-ghost use Rattle.reh_step.specs.Marks.{is_marked};
 
+use crate::recoveries::{check_answers, last_fragment, next_entry};
 use reh_audit::{has_news, is_under, under_of};
 use reh_cluster::{Ledger, State};
 use reh_held::is_set;
-use reh_meta::{Fragment, LedgerMeta};
-use reh_scan::{check_bookie, check_member, check_place, find_ledger, find_owned, first_unreadable, is_readable, source_rows};
-use reh_stripe::{Striped, write_set};
+use reh_meta::Fragment;
+use reh_scan::{
+    check_bookie, check_member, check_place, find_ledger, find_owned, first_unreadable,
+};
+use reh_stripe::Striped;
 use reh_types::{
-    Aim, BookieIx, CLOCK_END, ENTRY_END, Event, LedgerId, LedgerState, MAX_ENSEMBLE_SIZE, MAX_FRAGMENTS,
-    MAX_TICKS, MAX_VERSION, Refusal,
+    Aim, BookieIx, CLOCK_END, ENTRY_END, Event, LedgerId, LedgerState, MAX_FRAGMENTS, MAX_TICKS,
+    MAX_VERSION, Refusal,
 };
 
 /// Whether the event is accepted, or else the first refusal that applies. It takes no memory.
@@ -56,12 +55,7 @@ pub fn check(state: &State, event: &Event) -> Result<(), Refusal>
             version,
         } => check_copy(
             state,
-            &Aim {
-                worker: *worker,
-                ledger: *ledger,
-                fragment: *fragment,
-                index: *index,
-            },
+            &aim_of(*worker, *ledger, *fragment, *index),
             *version,
         ),
         Event::Swap {
@@ -72,12 +66,7 @@ pub fn check(state: &State, event: &Event) -> Result<(), Refusal>
             version,
         } => check_swap(
             state,
-            &Aim {
-                worker: *worker,
-                ledger: *ledger,
-                fragment: *fragment,
-                index: *index,
-            },
+            &aim_of(*worker, *ledger, *fragment, *index),
             *version,
         ),
     }
@@ -305,73 +294,20 @@ fn check_room(state: &State, ledger: &Ledger) -> Result<(), Refusal>
     Ok(())
 }
 
-/// The last fragment, to which the ledger's writer appends.
-pub(crate) fn last_fragment(ledger: &Ledger) -> &Fragment
-    ensures last { result.now ≡ meta.last_fragment ledger.now.metadata }
-    ensures whole { length result.now.ensemble ≡ ledger.now.metadata.size }
-{
-    let fragments = ledger.metadata().fragments();
-    &fragments[fragments.len() - 1]
-}
-
-/// The writer's next entry: one more than the greatest that any bookie holds, and no less than the last fragment's first.
-pub(crate) fn next_entry(state: &State, ledger: &Ledger) -> u32
-    ensures { result ≡ recovery.next_entry state.now ledger.now }
-{
-    let _well_formed = state.up();
-    let first = last_fragment(ledger).first;
-    match state.greatest(ledger.id()) {
-        Some(greatest) => first.max(greatest + 1),
-        None => first,
-    }
-}
-
-// Recovery
-
-/// Where a recovery ends the ledger: the first entry of the last fragment that can't be read.
-pub(crate) fn recovered_end(state: &State, ledger: &Ledger) -> u32
-    ensures { result ≡ recovery.recovered_end state.now ledger.now }
-{
-    let _well_formed = state.up();
-    let metadata = ledger.metadata();
-    let last = last_fragment(ledger);
-    let rows = source_rows(state, ledger, last);
-    let mut end = last.first;
-    while is_readable(&rows, metadata, end) {
-        end += 1;
-    }
-    end
-}
-
-/// Whether enough registered members answer a recovery: for each entry that it passes, an ack quorum of its write set,
-/// and for the one where it ends, which all that answer lack, so many that the others are no ack quorum.
-///
-/// BookKeeper's recovery (`LedgerRecoveryOp`) reads on from the last fragment's first entry, writes each entry back, and
-/// ends at the first one that no ack quorum can have stored.
-fn check_answers(state: &State, ledger: &Ledger) -> Result<(), Refusal>
-    ensures { Decides result (first_reason
-        (model.too_few state.now ledger.now ∷ model.undecided state.now ledger.now ∷ [])) }
-{
-    let _well_formed = state.up();
-    let metadata = ledger.metadata();
-    let last = last_fragment(ledger);
-    let rows = source_rows(state, ledger, last);
-    let registered = registered_members(state, ledger, last);
-    let mut entry = last.first;
-    while is_readable(&rows, metadata, entry) {
-        if count_registered(&registered, metadata, entry) < metadata.ack_quorum() {
-            return Err(Refusal::TooFew(entry as u64));
-        }
-        entry += 1;
-    }
-    let decisive = metadata.write_quorum() - metadata.ack_quorum() + 1;
-    if count_registered(&registered, metadata, entry) < decisive {
-        return Err(Refusal::Undecided(entry as u64));
-    }
-    Ok(())
-}
-
 // Copies and swaps
+
+/// The place that a copy or a swap names, with its worker.
+pub(crate) fn aim_of(worker: BookieIx, ledger: LedgerId, fragment: u64, index: u64) -> Aim
+    ensures { result
+        ≡ record { worker = worker; ledger = ledger; fragment = fragment; index = index } }
+{
+    Aim {
+        worker,
+        ledger,
+        fragment,
+        index,
+    }
+}
 
 /// What a copy and a swap ask first: the ledger whose lock the worker holds, at that version, its fragment of that
 /// number, and the entries that this stripes onto the index, if the worker's bookie can take that place.
@@ -422,38 +358,4 @@ fn first_lacked(state: &State, bookie: BookieIx, ledger: &Ledger, entries: Strip
         }
     }
     None
-}
-
-// The members of an ensemble
-
-/// Whether the bookie at each index of an ensemble is registered.
-type Registered = [bool; MAX_ENSEMBLE_SIZE as usize];
-
-/// Which of the fragment's members are registered, by their indexes.
-fn registered_members(state: &State, ledger: &Ledger, fragment: &Fragment) -> Registered
-    requires { length fragment.now.ensemble ≡ ledger.now.metadata.size }
-    ensures well_formed { IsMetadata ledger.now.metadata }
-    ensures registered { (index : ℕ) → index < ledger.now.metadata.size
-        → is_marked result index
-        ≡ cluster.is_up state.now (slice_index fragment.now.ensemble index) }
-{
-    let mut registered = [false; MAX_ENSEMBLE_SIZE as usize];
-    for index in 0..ledger.metadata().size() as usize {
-        registered[index] = state.is_up(fragment.ensemble[index]);
-    }
-    registered
-}
-
-/// How many of the members at the indexes of the entry's write set are registered.
-fn count_registered(registered: &Registered, metadata: &LedgerMeta, entry: u32) -> u32
-    ensures { result ≡ count_by (is_marked registered.now)
-        (stripe.write_set entry metadata.now.size metadata.now.write_quorum) }
-{
-    let mut count = 0;
-    for index in write_set(entry, metadata.size(), metadata.write_quorum()) {
-        if registered[index as usize] {
-            count += 1;
-        }
-    }
-    count
 }

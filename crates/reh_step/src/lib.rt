@@ -3,6 +3,7 @@
 
 mod decisions;
 mod records;
+mod recoveries;
 mod steps;
 
 pub use decisions::check;

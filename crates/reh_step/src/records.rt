@@ -12,13 +12,14 @@ ghost use Rattle.reh_step.specs.Records as records;
 ghost use Rattle.reh_step.specs.Records.{word_changes};
 ghost use Rattle.reh_types.specs.declared.changes.Change.TheVariants.{Metadata};
 
-use crate::decisions::{last_fragment, next_entry, recovered_end};
+use crate::decisions::aim_of;
+use crate::recoveries::{last_fragment, next_entry, recovered_end};
 use reh_audit::{is_news, published_of};
 use reh_cluster::{Changes, Ledger, State};
 use reh_held::Turn;
 use reh_meta::{Fragment, LedgerMeta};
 use reh_stripe::Striped;
-use reh_types::{BookieIx, Change, Event, LedgerId, Lock};
+use reh_types::{Aim, BookieIx, Change, Event, LedgerId, Lock};
 use std::alloc::{AllocError, Global};
 
 /// The record of an event that is accepted: one change for each place in which the state differs after it.
@@ -50,14 +51,24 @@ pub fn changes_of(alloc: Global, state: &State, event: &Event) -> Result<Changes
             fragment,
             index,
             version,
-        } => copy(alloc, state, *worker, *ledger, *fragment, *index, *version),
+        } => copy(
+            alloc,
+            state,
+            &aim_of(*worker, *ledger, *fragment, *index),
+            *version,
+        ),
         Event::Swap {
             worker,
             ledger,
             fragment,
             index,
             version,
-        } => swap(alloc, state, *worker, *ledger, *fragment, *index, *version),
+        } => swap(
+            alloc,
+            state,
+            &aim_of(*worker, *ledger, *fragment, *index),
+            *version,
+        ),
     }
 }
 
@@ -271,46 +282,32 @@ fn seal(
 }
 
 /// The striped entries that the worker's bookie lacks are held, word by word.
-fn copy(
-    alloc: Global,
-    state: &State,
-    worker: BookieIx,
-    ledger: LedgerId,
-    fragment: u64,
-    index: u64,
-    version: u64,
-) -> Result<Changes, AllocError>
-    requires accepted { refusal_of state.now (Copy worker ledger fragment index version) ≡ None }
+fn copy(alloc: Global, state: &State, aim: &Aim, version: u64) -> Result<Changes, AllocError>
+    requires accepted { refusal_of state.now
+        (Copy aim.now.worker aim.now.ledger aim.now.fragment aim.now.index version) ≡ None }
     requires well_formed { IsWellFormed state.now }
     ensures { IfOk result (λ changes. IsDelta state.now
-        (after state.now (Copy worker ledger fragment index version)) changes) }
+        (after state.now (Copy aim.now.worker aim.now.ledger aim.now.fragment aim.now.index version)) changes) }
 {
-    let entries = striped_entries(alloc, state, ledger, fragment, index)?;
-    let turns = state.delta_of(alloc, worker, ledger, &entries)?;
+    let entries = striped_entries(alloc, state, aim)?;
+    let turns = state.delta_of(alloc, aim.worker, aim.ledger, &entries)?;
     let mut parts = Vec::with_capacity(alloc, turns.len())?;
-    push_words(&mut parts, worker, ledger, &turns)?;
+    push_words(&mut parts, aim.worker, aim.ledger, &turns)?;
     Ok(Changes::of(parts))
 }
 
 /// The worker's bookie takes that index of the fragment's ensemble, and the ledger's metadata goes to its next version.
 /// BookKeeper's worker does so by `updateEnsembleInfo`, which writes the ledger's metadata conditional on its version.
-fn swap(
-    alloc: Global,
-    state: &State,
-    worker: BookieIx,
-    ledger: LedgerId,
-    fragment: u64,
-    index: u64,
-    version: u64,
-) -> Result<Changes, AllocError>
-    requires accepted { refusal_of state.now (Swap worker ledger fragment index version) ≡ None }
+fn swap(alloc: Global, state: &State, aim: &Aim, version: u64) -> Result<Changes, AllocError>
+    requires accepted { refusal_of state.now
+        (Swap aim.now.worker aim.now.ledger aim.now.fragment aim.now.index version) ≡ None }
     requires well_formed { IsWellFormed state.now }
     ensures { IfOk result (λ changes. IsDelta state.now
-        (after state.now (Swap worker ledger fragment index version)) changes) }
+        (after state.now (Swap aim.now.worker aim.now.ledger aim.now.fragment aim.now.index version)) changes) }
 {
-    let place = place_of(state, ledger);
+    let place = place_of(state, aim.ledger);
     let stored = state.ledgers()[place].metadata();
-    let metadata = stored.with_member(fragment as usize, index as usize, worker)?;
+    let metadata = stored.with_member(aim.fragment as usize, aim.index as usize, aim.worker)?;
     Changes::one(alloc, Change::Metadata { place, metadata })
 }
 
@@ -397,38 +394,33 @@ fn place_of(state: &State, ledger: LedgerId) -> usize
     state.place(ledger).unwrap()
 }
 
-/// The entries that the ledger's fragment of that number stripes onto the index, as a list; none where there is no such
-/// fragment, or it has no stop.
-fn striped_entries(
-    alloc: Global,
-    state: &State,
-    ledger: LedgerId,
-    fragment: u64,
-    index: u64,
-) -> Result<Vec<u32>, AllocError>
-    ensures { IfOk result
-        (λ entries. entries.items ≡ cluster.stripe_at state.now ledger fragment index) }
+/// The entries that the aim's fragment stripes onto the index, as a list; none where there is no such fragment, or it has
+/// no stop.
+fn striped_entries(alloc: Global, state: &State, aim: &Aim) -> Result<Vec<u32>, AllocError>
+    ensures { IfOk result (λ entries. entries.items
+        ≡ cluster.stripe_at state.now aim.now.ledger aim.now.fragment aim.now.index) }
 {
-    match stripe_at(state, ledger, fragment, index) {
+    match stripe_at(state, aim) {
         Some(stripe) => listed(alloc, stripe),
         None => Ok(Vec::new(alloc)),
     }
 }
 
-/// The entries that the ledger's fragment of that number stripes onto the index, if there is such a fragment and it has a stop.
-fn stripe_at(state: &State, ledger: LedgerId, fragment: u64, index: u64) -> Option<Striped>
-    ensures { cluster.stripe_at state.now ledger fragment index ≡ unwrap_or result [] }
+/// The entries that the aim's fragment stripes onto the index, if there is such a fragment and it has a stop.
+fn stripe_at(state: &State, aim: &Aim) -> Option<Striped>
+    ensures { cluster.stripe_at state.now aim.now.ledger aim.now.fragment aim.now.index
+        ≡ unwrap_or result [] }
 {
-    let metadata = state.ledger(ledger)?.metadata();
-    if index >= metadata.size() as u64 {
+    let metadata = state.ledger(aim.ledger)?.metadata();
+    if aim.index >= metadata.size() as u64 {
         return None;
     }
-    let found = metadata.fragments().get(fragment as usize)?;
-    let stop = metadata.end_of(fragment as usize)?;
+    let fragment = metadata.fragments().get(aim.fragment as usize)?;
+    let stop = metadata.end_of(aim.fragment as usize)?;
     Some(Striped::new(
-        found.first,
+        fragment.first,
         stop,
-        index as u32,
+        aim.index as u32,
         metadata.size(),
         metadata.write_quorum(),
     ))

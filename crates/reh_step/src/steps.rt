@@ -31,7 +31,9 @@ pub fn decide(alloc: Global, state: &State, event: &Event) -> Result<Changes, Re
 /// state is a copy, on the old one's allocator, with which the event's record is exchanged.
 /// The events are those of BookKeeper's AutoRecovery: its auditor publishes tasks, and its replication
 /// workers lock them, give their locks back, end them, or lose them with their sessions. A worker copies a
-/// fragment's entries to its own bookie, and then puts that bookie into the fragment's ensemble.
+/// fragment's entries to its own bookie, and then puts that bookie into the fragment's ensemble. Where an open
+/// ledger misses a member of its last ensemble, a worker grants its writer a grace, in which the writer may go on
+/// with another bookie; when the grace is over, the worker fences the ledger, and a recovery closes it at its end.
 pub fn step(alloc: Global, state: &State, event: &Event) -> Result<State, Refusal>
     ensures accepted { IfOk result (λ _. refusal_of state.now event.now ≡ None) }
     ensures made { IfOk result (λ next. next ≡ after state.now event.now) }

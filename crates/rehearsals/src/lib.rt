@@ -4,6 +4,8 @@
 #[cfg(test)]
 mod audits;
 #[cfg(test)]
+mod books;
+#[cfg(test)]
 mod memory;
 #[cfg(test)]
 mod pictures;

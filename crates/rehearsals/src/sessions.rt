@@ -99,29 +99,21 @@ fn run(alloc: Global, picture: &str, moves: &[Move]) -> Result<String, Fail> {
     Ok(text)
 }
 
-// A tick of so many ticks, so often, and other moves behind.
-fn ticks_and_moves(
-    alloc: Global,
-    ticks: u64,
-    count: usize,
-    behind: &[Move],
-) -> Result<Vec<Move>, AllocError> {
-    let mut moves = vec![in alloc; Move::Do(Event::Tick { ticks }); count]?;
-    moves.extend_from_slice(behind)?;
+// A tick, so often, and behind it one event more than can survive, one that is refused, an undo, and an event again.
+fn ticks_and_moves(alloc: Global, count: usize) -> Result<Vec<Move>, AllocError> {
+    let mut moves = Vec::new(alloc);
+    for _ in 0..=count {
+        moves.push(Move::Do(Event::Tick { ticks: 1 }))?;
+    }
+    moves.push(Move::Do(Event::Tick { ticks: 0 }))?;
+    moves.push(Move::Undo)?;
+    moves.push(Move::Do(Event::Tick { ticks: 1 }))?;
     Ok(moves)
 }
 
-// One event more than can survive, one that is refused, an undo, and an event again.
-const BEHIND_THE_LAST: [Move; 4] = [
-    Move::Do(Event::Tick { ticks: 1 }),
-    Move::Do(Event::Tick { ticks: 0 }),
-    Move::Undo,
-    Move::Do(Event::Tick { ticks: 1 }),
-];
-
 #[test]
 fn a_session_is_full_at_100_000_events(rt: HostRuntime) -> Result<(), Fail> {
-    let moves = ticks_and_moves(rt.alloc(), 1, 100_000, &BEHIND_THE_LAST)?;
+    let moves = ticks_and_moves(rt.alloc(), 100_000)?;
     let shown = run(rt.alloc(), TWO_BOOKIES, &moves)?;
     assert_eq!(rt;
         shown.as_str(),

@@ -3,7 +3,7 @@ use Rattle.std.proofs.Common.{◌≡◌, ◌-◌, ◌<◌, ◌≤◌, ℕ, true}
 use Rattle.reh_types.specs.declared.limits.TheConstants.{ENTRY_END}
 use Rattle.reh_model.specs.Metadata.{last_fragment}
 use Rattle.reh_model.specs.Cluster.{is_readable}
-use Rattle.reh_step.proofs.decisions.recovered_end.Given as goal
+use Rattle.reh_step.proofs.recoveries.recovered_end.Given as goal
 
 abbrev pub invariant-loop-metadata : goal.invariant-loop-metadata
 invariant-loop-metadata l = record {

@@ -5,7 +5,7 @@ use Rattle.reh_model.specs.Metadata.{Metadata, last_fragment}
 use Rattle.reh_model.specs.Cluster.{Cluster, Ledger, is_readable}
 use Rattle.reh_model.specs.Recovery.{up_writes}
 use Rattle.reh_step.proofs.WalkLaws.{readable_below, one_more, last_readable, up_writes-marked, stops_before_end, undecided_at_end, decided_at_end}
-use Rattle.reh_step.proofs.decisions.check_answers.Goals as goal
+use Rattle.reh_step.proofs.recoveries.check_answers.Goals as goal
 
 pub returns-then-count_registered-ack_quorum : goal.returns-then-count_registered-ack_quorum
 returns-then-count_registered-ack_quorum c =

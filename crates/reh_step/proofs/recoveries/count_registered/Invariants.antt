@@ -4,7 +4,7 @@ use Rattle.std.specs.Prelude.{count_by}
 use Rattle.reh_types.specs.declared.limits.TheConstants.{MAX_ENSEMBLE_SIZE}
 use Rattle.reh_model.specs.Striping.{write_set}
 use Rattle.reh_step.specs.Marks.{is_marked}
-use Rattle.reh_step.proofs.decisions.count_registered.Given as goal
+use Rattle.reh_step.proofs.recoveries.count_registered.Given as goal
 
 abbrev pub invariant-loop-index : goal.invariant-loop-index
 invariant-loop-index l = record {

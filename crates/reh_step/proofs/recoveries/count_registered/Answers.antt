@@ -8,7 +8,7 @@ use Rattle.reh_model.specs.Metadata.{Metadata, IsMetadata}
 use Rattle.reh_step.specs.Marks.{is_marked}
 use Rattle.reh_scan.proofs.ReadingLaws.{first_within, write_set_within}
 use Rattle.reh_step.proofs.MarkLaws.{write_set_long, is_marked_there}
-use Rattle.reh_step.proofs.decisions.count_registered.Goals as goal
+use Rattle.reh_step.proofs.recoveries.count_registered.Goals as goal
 
 pub loop-index-init : goal.loop-index-init
 loop-index-init c =

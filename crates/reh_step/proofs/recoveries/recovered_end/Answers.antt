@@ -5,7 +5,7 @@ use Rattle.reh_model.specs.Metadata.{last_fragment}
 use Rattle.reh_model.specs.Cluster.{Cluster, Ledger, is_readable}
 use Rattle.reh_model.proofs.RecoveryLaws.{recovered_end-is}
 use Rattle.reh_step.proofs.WalkLaws.{readable_below, one_more, last_readable}
-use Rattle.reh_step.proofs.decisions.recovered_end.Goals as goal
+use Rattle.reh_step.proofs.recoveries.recovered_end.Goals as goal
 
 pub overflow_add-end : goal.overflow_add-end
 overflow_add-end c =

@@ -3,7 +3,7 @@ use Rattle.std.proofs.Common.{◌≡◌, ◌<◌, ℕ, length, slice_index}
 use Rattle.reh_types.specs.declared.limits.TheConstants.{MAX_ENSEMBLE_SIZE}
 use Rattle.reh_model.specs.Cluster.{is_up}
 use Rattle.reh_step.specs.Marks.{is_marked}
-use Rattle.reh_step.proofs.decisions.registered_members.Given as goal
+use Rattle.reh_step.proofs.recoveries.registered_members.Given as goal
 
 abbrev pub invariant-loop-index : goal.invariant-loop-index
 invariant-loop-index l = record {

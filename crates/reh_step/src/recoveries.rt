@@ -1,0 +1,115 @@
+// Where a writer goes on and a recovery ends, and whether enough members answer a recovery.
+ghost use Rattle.std.specs.Prelude.{◌≡◌, ◌<◌, ℕ, [], ◌∷◌, length, slice_index, count_by};
+ghost use Rattle.reh_model.specs.Metadata as meta;
+ghost use Rattle.reh_model.specs.Metadata.{IsMetadata};
+ghost use Rattle.reh_model.specs.Cluster as cluster;
+ghost use Rattle.reh_model.specs.Recovery as recovery;
+ghost use Rattle.reh_model.specs.Refusals as model;
+ghost use Rattle.reh_model.specs.Refusals.{Decides};
+ghost use Rattle.reh_model.specs.Checks.{first_reason};
+ghost use Rattle.reh_model.specs.Striping as stripe;
+ghost use Rattle.reh_step.specs.Marks.{is_marked};
+
+use reh_cluster::{Ledger, State};
+use reh_meta::{Fragment, LedgerMeta};
+use reh_scan::{is_readable, source_rows};
+use reh_stripe::write_set;
+use reh_types::{MAX_ENSEMBLE_SIZE, Refusal};
+
+/// The last fragment, to which the ledger's writer appends.
+pub(crate) fn last_fragment(ledger: &Ledger) -> &Fragment
+    ensures last { result.now ≡ meta.last_fragment ledger.now.metadata }
+    ensures whole { length result.now.ensemble ≡ ledger.now.metadata.size }
+{
+    let fragments = ledger.metadata().fragments();
+    &fragments[fragments.len() - 1]
+}
+
+/// The writer's next entry: one more than the greatest that any bookie holds, and no less than the last fragment's first.
+pub(crate) fn next_entry(state: &State, ledger: &Ledger) -> u32
+    ensures { result ≡ recovery.next_entry state.now ledger.now }
+{
+    let _well_formed = state.up();
+    let first = last_fragment(ledger).first;
+    match state.greatest(ledger.id()) {
+        Some(greatest) => first.max(greatest + 1),
+        None => first,
+    }
+}
+
+/// Where a recovery ends the ledger: the first entry of the last fragment that can't be read.
+pub(crate) fn recovered_end(state: &State, ledger: &Ledger) -> u32
+    ensures { result ≡ recovery.recovered_end state.now ledger.now }
+{
+    let _well_formed = state.up();
+    let metadata = ledger.metadata();
+    let last = last_fragment(ledger);
+    let rows = source_rows(state, ledger, last);
+    let mut end = last.first;
+    while is_readable(&rows, metadata, end) {
+        end += 1;
+    }
+    end
+}
+
+/// Whether enough registered members answer a recovery: for each entry that it passes, an ack quorum of its write set,
+/// and for the one where it ends, which all that answer lack, so many that the others are no ack quorum.
+///
+/// BookKeeper's recovery (`LedgerRecoveryOp`) reads on from the last fragment's first entry, writes each entry back, and
+/// ends at the first one that no ack quorum can have stored.
+pub(crate) fn check_answers(state: &State, ledger: &Ledger) -> Result<(), Refusal>
+    ensures { Decides result (first_reason
+        (model.too_few state.now ledger.now ∷ model.undecided state.now ledger.now ∷ [])) }
+{
+    let _well_formed = state.up();
+    let metadata = ledger.metadata();
+    let last = last_fragment(ledger);
+    let rows = source_rows(state, ledger, last);
+    let registered = registered_members(state, ledger, last);
+    let mut entry = last.first;
+    while is_readable(&rows, metadata, entry) {
+        if count_registered(&registered, metadata, entry) < metadata.ack_quorum() {
+            return Err(Refusal::TooFew(entry as u64));
+        }
+        entry += 1;
+    }
+    let decisive = metadata.write_quorum() - metadata.ack_quorum() + 1;
+    if count_registered(&registered, metadata, entry) < decisive {
+        return Err(Refusal::Undecided(entry as u64));
+    }
+    Ok(())
+}
+
+// The members of an ensemble
+
+/// Whether the bookie at each index of an ensemble is registered.
+type Registered = [bool; MAX_ENSEMBLE_SIZE as usize];
+
+/// Which of the fragment's members are registered, by their indexes.
+fn registered_members(state: &State, ledger: &Ledger, fragment: &Fragment) -> Registered
+    requires { length fragment.now.ensemble ≡ ledger.now.metadata.size }
+    ensures well_formed { IsMetadata ledger.now.metadata }
+    ensures registered { (index : ℕ) → index < ledger.now.metadata.size
+        → is_marked result index
+        ≡ cluster.is_up state.now (slice_index fragment.now.ensemble index) }
+{
+    let mut registered = [false; MAX_ENSEMBLE_SIZE as usize];
+    for index in 0..ledger.metadata().size() as usize {
+        registered[index] = state.is_up(fragment.ensemble[index]);
+    }
+    registered
+}
+
+/// How many of the members at the indexes of the entry's write set are registered.
+fn count_registered(registered: &Registered, metadata: &LedgerMeta, entry: u32) -> u32
+    ensures { result ≡ count_by (is_marked registered.now)
+        (stripe.write_set entry metadata.now.size metadata.now.write_quorum) }
+{
+    let mut count = 0;
+    for index in write_set(entry, metadata.size(), metadata.write_quorum()) {
+        if registered[index as usize] {
+            count += 1;
+        }
+    }
+    count
+}
