@@ -18,7 +18,7 @@ use Rattle.reh_model.proofs.Examples.{replies, played_session}
 use Rattle.reh_model.proofs.TaskExamples.{five_bookies, closed_ledger, open_ledger}
 
 -- the second bookie is lost, and the fourth bookie's worker locks the ledger's task
-abbrev loss_and_lock : ℕ → List Move
+abbrev pub loss_and_lock : ℕ → List Move
 loss_and_lock ledger = Do (Lose 1) ∷ Do Audit ∷ Do (Acquire 3 ledger) ∷ []
 
 -- what that worker then does for the lost member
@@ -58,7 +58,7 @@ abbrev bookies_with_a_copy : Cluster
 bookies_with_a_copy = record five_bookies { held = insert five_bookies.held (3, 7, 3) }
 
 -- the third bookie lacks an entry that only the second one has besides
-abbrev bookies_without_a_source : Cluster
+abbrev pub bookies_without_a_source : Cluster
 bookies_without_a_source = record five_bookies { held = remove five_bookies.held (2, 7, 1) }
 
 -- a closed ledger without entries stands beside the others
