@@ -198,7 +198,7 @@ fn find_source(reading: &Reading, entry: u32) -> Option<BookieIx>
     ensures { result ≡ source_in reading.now entry }
 {
     let members = reading.ensemble.as_slice();
-    let place = entry - reading.first / 64 * 64;
+    let place = entry - 64 * (reading.first / 64);
     for index in write_set(entry, reading.size, reading.write_quorum) {
         if is_set(&reading.rows[index as usize].items, place) {
             return Some(members[index as usize]);
