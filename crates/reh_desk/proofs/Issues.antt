@@ -1,5 +1,5 @@
 -- The tickets that are issued along a tape.
-use Rattle.std.proofs.Common.{◌≡◌, ℕ, suc, ◌+◌, ◌-◌, ◌<◌, ◌≤◌, ◌⊎◌, Bool, true, false, cond, List, [], ◌∷◌, ◌++◌, length, take, drop, get_or, Option, None, Some, refl, sym, ap, subst, ◌∙◌, inl, inr, arith, All, AllPairs, remove, position}
+use Rattle.std.proofs.Common.{◌≡◌, ℕ, suc, ◌+◌, ◌-◌, ◌<◌, ◌≤◌, ◌⊎◌, true, false, cond, List, [], ◌∷◌, ◌++◌, length, take, drop, Option, None, Some, refl, sym, ap, subst, ◌∙◌, inl, inr, arith, All, AllPairs, remove}
 use Rattle.std.specs.List.{Contains, range_with_len}
 use Rattle.std.proofs.lemmas.List.Elements.{All-nil, All-append, All-push, All-take, All-drop, All-weaker, Contains-append_left, Contains-append_right}
 use Rattle.std.proofs.lemmas.List.Quantifiers.{position-Some, all_pairs_push, all_pairs_remove}
@@ -10,12 +10,12 @@ use Rattle.reh_types.specs.declared.calls.TicketOut.{TicketOut}
 use Rattle.reh_types.specs.declared.moves.Move.{Move}
 use Rattle.reh_types.specs.declared.moves.Move.TheVariants.{Do, Post, Undo, Redo, Look}
 use Rattle.reh_types.specs.declared.moves.Reply.{Reply}
-use Rattle.reh_types.specs.declared.moves.Reply.TheVariants.{Done, Issued, Discarded, Refused}
+use Rattle.reh_types.specs.declared.moves.Reply.TheVariants.{Issued, Discarded, Refused}
 use Rattle.reh_types.specs.declared.names.Aim.{Aim}
 use Rattle.reh_types.specs.declared.refusals.Refusal.{Refusal}
 use Rattle.reh_model.specs.Checks.{first_reason}
 use Rattle.reh_model.specs.Scan.{aim_refusal}
-use Rattle.reh_model.specs.Session.{Session, state_of, reply_unless, reply_to, session_after}
+use Rattle.reh_model.specs.Session.{Session, state_of, reply_unless, reply_to}
 use Rattle.reh_model.specs.Striping.{range}
 use Rattle.reh_model.specs.Book.{Book, ticket, same_ticket, place_of, without, new_book, tape_full, not_out, or_refused, answer_to, is_written, changed, book_after, Legal, issued_by, issued_on, issue_of}
 use Rattle.reh_desk.specs.Kept.{line}

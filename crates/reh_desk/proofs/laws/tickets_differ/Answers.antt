@@ -1,5 +1,4 @@
 -- Each line of a tape issues the next ticket, or none, and takes one at most from those that are out.
-use Rattle.std.proofs.Common.{◌≡◌, ap, ◌∙◌}
 use Rattle.reh_desk.proofs.Issues.{numbered, issued_out, rising_out}
 use Rattle.reh_desk.proofs.laws.tickets_differ.Goals as goal
 
