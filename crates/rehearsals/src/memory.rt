@@ -1,87 +1,29 @@
 // Sessions where there is no memory.
 use crate::pictures::FIVE_BOOKIES;
 use reh_picture::{PictureFault, read_picture};
-use reh_script::report_text;
+use reh_script::{Command, parse_line, report_text};
 use reh_session::Session;
-use reh_types::{BookieIx, Event, LedgerId, Refusal, Reply};
+use reh_types::{Move, Refusal, Reply};
 use std::alloc::{AllocError, Global};
 use std::process::Abort;
 
-const LOST: BookieIx = BookieIx(1);
-
-const WORKER: BookieIx = BookieIx(3);
-
-const LEDGER: LedgerId = LedgerId(7);
-
-const OPEN: LedgerId = LedgerId(9);
-
-const COPY: Event = Event::Copy {
-    worker: WORKER,
-    ledger: LEDGER,
-    fragment: 0,
-    index: 1,
-    version: 0,
-};
-
-const SWAP: Event = Event::Swap {
-    worker: WORKER,
-    ledger: LEDGER,
-    fragment: 0,
-    index: 1,
-    version: 0,
-};
-
-const FINISH: Event = Event::Finish {
-    worker: WORKER,
-    ledger: LEDGER,
-};
-
-const FENCE: Event = Event::Fence {
-    worker: WORKER,
-    ledger: OPEN,
-};
-
-// Events with their replies: the worker takes the place of the lost bookie, and tries to too early; so it
+// Lines of a script with their replies: the worker takes the place of the lost bookie, and tries to too early; so it
 // fences the open ledger, and recovers it.
-const EVENTS: [(Event, &str); 14] = [
-    (Event::Lose { bookie: LOST }, "ok"),
-    (Event::Audit, "ok"),
-    (
-        Event::Acquire {
-            worker: WORKER,
-            ledger: LEDGER,
-        },
-        "ok",
-    ),
-    (SWAP, "refused 26 MissingEntry 0"),
-    (FINISH, "refused 9 StillUnder 0"),
-    (COPY, "ok"),
-    (SWAP, "ok"),
-    (FINISH, "ok"),
-    (
-        Event::Acquire {
-            worker: WORKER,
-            ledger: OPEN,
-        },
-        "ok",
-    ),
-    (
-        Event::Grace {
-            worker: WORKER,
-            ledger: OPEN,
-        },
-        "ok",
-    ),
-    (FENCE, "refused 14 GraceRuns 3"),
-    (Event::Tick { ticks: 3 }, "ok"),
-    (FENCE, "ok"),
-    (
-        Event::Seal {
-            worker: WORKER,
-            ledger: OPEN,
-        },
-        "ok",
-    ),
+const LINES: [(&str, &str); 14] = [
+    ("lose b2:3181", "ok"),
+    ("audit", "ok"),
+    ("acquire b4:3181 7", "ok"),
+    ("swap b4:3181 7 0 1 0", "refused 26 MissingEntry 0"),
+    ("finish b4:3181 7", "refused 9 StillUnder 0"),
+    ("copy b4:3181 7 0 1 0", "ok"),
+    ("swap b4:3181 7 0 1 0", "ok"),
+    ("finish b4:3181 7", "ok"),
+    ("acquire b4:3181 9", "ok"),
+    ("grace b4:3181 9", "ok"),
+    ("fence b4:3181 9", "refused 14 GraceRuns 3"),
+    ("tick 3", "ok"),
+    ("fence b4:3181 9", "ok"),
+    ("seal b4:3181 9", "ok"),
 ];
 
 // A session on five bookies, of which the worker's holds one entry of the ledger; none where there is no memory.
@@ -109,37 +51,48 @@ fn shown(alloc: Global, session: &Session) -> Result<String, AllocError> {
     Ok(text)
 }
 
-// The event's reply. Where there is no memory for it nothing has changed, and it is asked for once more.
+// The move that a line asks for.
+fn step_of(rt: &impl Abort, session: &Session, line: &str) -> Move {
+    match parse_line(session.state().names(), line.as_bytes()) {
+        Some(Ok(Command::Make(step))) => step,
+        _ => panic!(rt; "{line}"),
+    }
+}
+
+// The reply to a line. Where there is no memory for its move nothing has changed, and it is asked for once more.
 fn asked_again(
     rt: &impl Abort,
     alloc: Global,
     session: &mut Session,
-    event: &Event,
-) -> Result<Result<(), Refusal>, AllocError> {
+    line: &str,
+) -> Result<Reply, AllocError> {
+    let step = step_of(rt, session, line);
     let before = shown(alloc, session)?;
-    let reply = session.act(event);
-    if reply != Err(Refusal::NoMemory) {
+    let reply = session.perform(&step);
+    if reply != Reply::Refused(Refusal::NoMemory) {
         return Ok(reply);
     }
     let after = shown(alloc, session)?;
     assert_eq!(rt; after.as_str(), before.as_str());
-    Ok(session.act(event))
+    Ok(session.perform(&step))
 }
 
-// All events are made, undone, and made again; then one is undone and another made in its place.
-fn goes_there_and_back(
+// A line is replied to as expected.
+fn plays(
     rt: &impl Abort,
     alloc: Global,
     session: &mut Session,
+    line: &str,
+    expected: &str,
 ) -> Result<(), AllocError> {
-    for (event, expected) in EVENTS {
-        let reply = match asked_again(rt, alloc, session, &event)? {
-            Ok(()) => Reply::Done,
-            Err(refusal) => Reply::Refused(refusal),
-        };
-        let text = format!(in alloc; "{reply}")?;
-        assert_eq!(rt; text.as_str(), expected);
-    }
+    let reply = asked_again(rt, alloc, session, line)?;
+    let text = format!(in alloc; "{reply}")?;
+    assert_eq!(rt; text.as_str(), expected);
+    Ok(())
+}
+
+// All events are undone, and made again.
+fn goes_back_and_on(rt: &impl Abort, session: &mut Session) {
     for _ in 0..11 {
         assert_eq!(rt; session.undo(), Ok(()));
     }
@@ -148,11 +101,20 @@ fn goes_there_and_back(
         assert_eq!(rt; session.redo(), Ok(()));
     }
     assert_eq!(rt; session.redo(), Err(Refusal::NothingToRedo));
+}
+
+// All lines are played, undone, and made again; then one is undone and another made in its place.
+fn goes_there_and_back(
+    rt: &impl Abort,
+    alloc: Global,
+    session: &mut Session,
+) -> Result<(), AllocError> {
+    for (line, expected) in LINES {
+        plays(rt, alloc, session, line, expected)?;
+    }
+    goes_back_and_on(rt, session);
     assert_eq!(rt; session.undo(), Ok(()));
-    assert_eq!(rt;
-        asked_again(rt, alloc, session, &Event::Tick { ticks: 1 })?,
-        Ok(())
-    );
+    plays(rt, alloc, session, "tick 1", "ok")?;
     assert_eq!(rt; session.undone().len(), 0);
     Ok(())
 }
