@@ -4,10 +4,10 @@ use Rattle.std.specs.Prelude.{◌==◌, bit_and, bit_or, All}
 use Rattle.std.specs.Int.{bit_at, w64}
 use Rattle.std.specs.List.{list_any, range_with_len}
 use Rattle.std.proofs.Math.Bool.{or-false}
-use Rattle.std.proofs.Math.Nat.{add-mod-mod}
+use Rattle.std.proofs.Math.Nat.{add-mod-mod, mod-add-mod, mod-eq_of_lt}
 use Rattle.std.proofs.lemmas.Bool.Decides.{nat_tests}
-use Rattle.std.proofs.lemmas.Nat.{mod_below}
-use Rattle.std.proofs.lemmas.Nat.Bits.{bit_at-lt, bit_at-zero, bit_at_and, bit_at_or, bit_at_set_same, bit_at_set_other}
+use Rattle.std.proofs.lemmas.Nat.{mod_below, div-add-mod'}
+use Rattle.std.proofs.lemmas.Nat.Bits.{bit_at-lt, bit_at-zero, bit_at_lowest, bit_at-suc, bit_at_cat_low, bit_at_and, bit_at_or, bit_at_set_same, bit_at_set_other}
 use Rattle.std.proofs.lemmas.List.Elements.{All-filter, All-nil, All-cons}
 use Rattle.std.proofs.lemmas.List.Folds.{list_any-append}
 use Rattle.reh_held.specs.Rows.{is_set}
@@ -89,6 +89,63 @@ masking-more size quorum index mask e entries was within inside = record {
 
 pub masking-all : (size quorum index mask : ℕ) → IsMasking size quorum index mask [] → IsMask size quorum index mask
 masking-all size quorum index mask was = λ i inside. sym (or-false (has_bit mask i)) ∙ was.bits i inside
+
+-- the bits of a mask, one later
+has_bit-later : (mask i : ℕ) → suc i < 64 → has_bit (mask * 2 % 2 ^ 64) (suc i) ≡ has_bit mask i
+has_bit-later mask i inside =
+    let half : (mask * 2 % 2 ^ 64) / 2 ≡ mask % 2 ^ 63 = omega arith in
+    let parts : mask / 2 ^ 63 * 2 ^ 63 + mask % 2 ^ 63 ≡ mask = div-add-mod' mask (2 ^ 63) in
+    ap (λ (b : ℕ). b == 1) (bit_at-suc (mask * 2 % 2 ^ 64) i ∙ ap (λ n. bit_at n i) half ∙ sym (bit_at_cat_low (mask / 2 ^ 63) 63 (mask % 2 ^ 63) i (omega arith)) ∙ ap (λ n. bit_at n i) parts)
+
+has_bit-first : (mask : ℕ) → has_bit (mask * 2 % 2 ^ 64) 0 ≡ false
+has_bit-first mask = let even : (mask * 2 % 2 ^ 64) % 2 ≡ 0 = omega arith in ap (λ (b : ℕ). b == 1) (bit_at_lowest (mask * 2 % 2 ^ 64) ∙ even)
+
+-- each entry stands at the index behind that of the entry before it
+rank_of-next : (e i n : ℕ) → i + 1 < n → rank_of (suc e) (i + 1) n ≡ rank_of e i n
+rank_of-next e i n inside =
+    let j : ℕ = rank_of e i n in
+    let j_in : j < n = mod_below (i + n - e % n) n (omega arith) in
+    let group : suc e + j ≡ (e + j) + 1 = omega arith in
+    rank_of-index_at (suc e) (i + 1) n j j_in
+    (ap (λ k. k % n) group ∙ sym (mod-add-mod (e + j) n 1) ∙ ap (λ k. (k + 1) % n) (index_at-rank_of e i n (omega arith)) ∙ mod-eq_of_lt inside)
+
+-- at an index the first entry has the index for its rank
+rank_of-first : (i n : ℕ) → i < n → rank_of 0 i n ≡ i
+rank_of-first i n inside = rank_of-index_at 0 i n i inside (let none : 0 + i ≡ i = omega arith in ap (λ k. k % n) none ∙ mod-eq_of_lt inside)
+
+-- what the first entry's bit has to be, and the others, which are those of the index before
+pub mask-next : (size quorum before index mask next : ℕ) → 1 ≤ quorum → quorum ≤ size → before + 1 ≡ index → index < size → IsMask size quorum before mask
+    → has_bit next 0 ≡ nat_lt index quorum → ((i : ℕ) → suc i < 64 → has_bit next (suc i) ≡ has_bit (mask * 2 % 2 ^ 64) (suc i)) → IsMask size quorum index next
+mask-next size quorum before index mask next some within is inside was first others zero in_word =
+    first ∙ ap (λ n. nat_lt n quorum) (sym (rank_of-first index size inside)) ∙ sym (is_striped-rank_of 0 index size quorum some within inside)
+mask-next size quorum before index mask next some within is inside was first others (suc i) in_word =
+    others i in_word
+    ∙ has_bit-later mask i in_word
+    ∙ was i (omega arith)
+    ∙ is_striped-rank_of i before size quorum some within (omega arith)
+    ∙ ap (λ n. nat_lt n quorum) (sym (rank_of-next i before size (omega arith)) ∙ ap (λ k. rank_of (suc i) k size) is)
+    ∙ sym (is_striped-rank_of (suc i) index size quorum some within inside)
+
+-- the first bit alone
+has_bit-one_first : has_bit 1 0 ≡ true
+has_bit-one_first = ap (λ (b : ℕ). b == 1) (bit_at_lowest 1)
+
+has_bit-one_later : (i : ℕ) → has_bit 1 (suc i) ≡ false
+has_bit-one_later i = ap (λ (b : ℕ). b == 1) (bit_at-suc 1 i ∙ bit_at-zero i)
+
+pub mask-next_with : (size quorum before index mask : ℕ) → 1 ≤ quorum → quorum ≤ size → before + 1 ≡ index → index < size → IsMask size quorum before mask → index < quorum
+    → IsMask size quorum index (bit_or (mask * 2 % 2 ^ 64) 1)
+mask-next_with size quorum before index mask some within is inside was carried =
+    let yes : nat_lt index quorum ≡ true = grind (arith, nat_tests) in
+    mask-next size quorum before index mask (bit_or (mask * 2 % 2 ^ 64) 1) some within is inside was
+    (has_bit-or (mask * 2 % 2 ^ 64) 1 0 ∙ ap (λ b. has_bit (mask * 2 % 2 ^ 64) 0 || b) has_bit-one_first ∙ sym (or_true (has_bit (mask * 2 % 2 ^ 64) 0)) ∙ sym yes)
+    (λ i in_word. has_bit-or (mask * 2 % 2 ^ 64) 1 (suc i) ∙ ap (λ b. has_bit (mask * 2 % 2 ^ 64) (suc i) || b) (has_bit-one_later i) ∙ or-false (has_bit (mask * 2 % 2 ^ 64) (suc i)))
+
+pub mask-next_without : (size quorum before index mask : ℕ) → 1 ≤ quorum → quorum ≤ size → before + 1 ≡ index → index < size → IsMask size quorum before mask → quorum ≤ index
+    → IsMask size quorum index (mask * 2 % 2 ^ 64)
+mask-next_without size quorum before index mask some within is inside was missed =
+    let no : nat_lt index quorum ≡ false = grind (arith, nat_tests) in
+    mask-next size quorum before index mask (mask * 2 % 2 ^ 64) some within is inside was (has_bit-first mask ∙ sym no) (λ i in_word. refl)
 
 -- A word
 

@@ -1,10 +1,11 @@
 // What can't be read any more.
-ghost use Rattle.std.specs.Prelude.{◌≡◌, ℕ, ◌+◌, ◌*◌, ◌%◌, ◌^◌, ◌<◌, ◌≤◌, ◌++◌, length, not, Some, count_by, slice_index, IfOk};
+ghost use Rattle.std.specs.Prelude.{◌≡◌, ℕ, ◌+◌, ◌-◌, ◌*◌, ◌%◌, ◌^◌, ◌<◌, ◌≤◌, ◌++◌, length, not, Some, count_by, slice_index, IfOk};
 ghost use Rattle.std.specs.List.{list_any};
 ghost use Rattle.std.specs.Option.{IsSome};
 ghost use Rattle.reh_types.specs.declared.limits.TheConstants.{MAX_ENSEMBLE_SIZE};
 ghost use Rattle.reh_model.specs.Striping as stripe;
 ghost use Rattle.reh_model.specs.Striping.{range};
+ghost use Rattle.reh_model.specs.Metadata.{IsMetadata};
 ghost use Rattle.reh_model.specs.Cluster as cluster;
 ghost use Rattle.reh_model.specs.Survey as model;
 ghost use Rattle.reh_scan.specs.Sources.{is_set_at};
@@ -155,19 +156,37 @@ fn stripe_masks(metadata: &LedgerMeta) -> Masks
     ensures { AreMasks metadata.now.size metadata.now.write_quorum result }
 {
     let mut masks = [0; MAX_ENSEMBLE_SIZE as usize];
-    for index in 0..metadata.size() {
-        masks[index as usize] = stripe_mask(metadata, index);
+    masks[0] = first_mask(metadata);
+    for index in 1..metadata.size() {
+        let place = index as usize;
+        masks[place] = next_mask(metadata, index, masks[place - 1]);
     }
     masks
 }
 
-/// The mask of the entries that the index of the ledger's ensembles carries.
-fn stripe_mask(metadata: &LedgerMeta, index: u32) -> u64
-    ensures { IsMask metadata.now.size metadata.now.write_quorum index result }
+/// The mask of index 0 of the ledger's ensembles.
+fn first_mask(metadata: &LedgerMeta) -> u64
+    ensures { IsMask metadata.now.size metadata.now.write_quorum 0 result }
 {
     let mut mask = 0;
-    for entry in Striped::new(0, 64, index, metadata.size(), metadata.write_quorum()) {
+    for entry in Striped::new(0, 64, 0, metadata.size(), metadata.write_quorum()) {
         mask |= 1 << entry;
     }
     mask
+}
+
+/// The mask of a further index: what the index before it carries, one entry later.
+fn next_mask(metadata: &LedgerMeta, index: u32, before: u64) -> u64
+    requires well_formed { IsMetadata metadata.now }
+    requires some { 1 ≤ index }
+    requires inside { index < metadata.now.size }
+    requires mask { IsMask metadata.now.size metadata.now.write_quorum (index - 1) before }
+    ensures { IsMask metadata.now.size metadata.now.write_quorum index result }
+{
+    let later = before << 1;
+    if index < metadata.write_quorum() {
+        later | 1
+    } else {
+        later
+    }
 }
