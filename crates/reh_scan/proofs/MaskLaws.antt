@@ -10,11 +10,10 @@ use Rattle.std.proofs.lemmas.Nat.{mod_below, div-add-mod'}
 use Rattle.std.proofs.lemmas.Nat.Bits.{bit_at-lt, bit_at-zero, bit_at_lowest, bit_at-suc, bit_at_cat_low, bit_at_and, bit_at_or, bit_at_set_same, bit_at_set_other}
 use Rattle.std.proofs.lemmas.List.Elements.{All-filter, All-nil, All-cons}
 use Rattle.std.proofs.lemmas.List.Folds.{list_any-append}
-use Rattle.reh_held.specs.Rows.{is_set}
 use Rattle.reh_held.proofs.CountLaws.{range-append}
 use Rattle.reh_held.proofs.RangeLaws.{one_min, one_max}
 use Rattle.reh_model.specs.Striping.{range, index_at, rank_of, is_striped, write_set, striped_entries}
-use Rattle.reh_model.proofs.Ranges.{list_any-map, list_any-same, passes_any, any_passes, same_answer}
+use Rattle.reh_model.proofs.Ranges.{list_any-map, passes_any, any_passes, same_answer}
 use Rattle.reh_model.proofs.StripingLaws.{index_at-rank_of, rank_of-index_at, is_striped-rank_of, is_striped-ranks}
 use Rattle.reh_model.proofs.StripedLaws.{list_any-striped_entries}
 use Rattle.reh_scan.specs.Sources.{is_set_at}

@@ -1,5 +1,5 @@
 -- How many entries of the words that are passed no row has.
-use Rattle.std.proofs.Common.{◌≡◌, ℕ, Bool, not}
+use Rattle.std.proofs.Common.{◌≡◌, not}
 use Rattle.std.specs.List.{list_any}
 use Rattle.reh_model.specs.Striping.{write_set}
 use Rattle.reh_scan.specs.Sources.{is_set_at}

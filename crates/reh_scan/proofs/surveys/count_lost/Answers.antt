@@ -1,5 +1,5 @@
 -- An entry that no row of its write set has can't be read.
-use Rattle.std.proofs.Common.{◌≡◌, ◌∙◌, ◌+◌, ◌-◌, ℕ, not, ap, sym, arith}
+use Rattle.std.proofs.Common.{◌≡◌, ◌∙◌, ◌+◌, ◌-◌, not, ap, sym, arith}
 use Rattle.std.specs.Prelude.{count_by}
 use Rattle.reh_model.specs.Striping.{range}
 use Rattle.reh_model.specs.Metadata.{Fragment, Metadata}

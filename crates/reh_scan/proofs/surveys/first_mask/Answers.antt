@@ -1,5 +1,5 @@
 -- The mask gets the bit of each entry that index 0 carries.
-use Rattle.std.proofs.Common.{◌≡◌, ◌<◌, ℕ, List, All, subst, sym, ◌∙◌}
+use Rattle.std.proofs.Common.{◌≡◌, ◌<◌, ℕ, List, subst, sym, ◌∙◌}
 use Rattle.std.proofs.lemmas.List.Elements.{All-head, All-tail}
 use Rattle.reh_model.specs.Striping.{striped_entries}
 use Rattle.reh_model.specs.Metadata.{Metadata}

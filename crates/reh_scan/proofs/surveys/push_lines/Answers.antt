@@ -1,5 +1,5 @@
 -- A line more, and none is left.
-use Rattle.std.proofs.Common.{◌≡◌, ◌∙◌, ◌+◌, ◌++◌, ◌∷◌, [], ℕ, List, map, drop, ap, sym}
+use Rattle.std.proofs.Common.{◌∙◌, ◌+◌, ◌++◌, ◌∷◌, [], ℕ, List, map, drop, ap, sym}
 use Rattle.std.specs.List.{enumerate_from}
 use Rattle.reh_types.specs.declared.surveys.SurveyLine.{SurveyLine}
 use Rattle.reh_model.specs.Metadata.{Fragment}

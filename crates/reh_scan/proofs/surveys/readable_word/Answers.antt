@@ -1,5 +1,5 @@
 -- The word gets the bits of a row's word that the mask of its index leaves.
-use Rattle.std.proofs.Common.{◌≡◌, ◌∙◌, ◌+◌, ◌-◌, ◌*◌, ◌%◌, ◌<◌, ℕ, List, length, get_or, slice_index, ap, sym, subst, arith}
+use Rattle.std.proofs.Common.{◌≡◌, ◌∙◌, ◌+◌, ◌-◌, ◌*◌, ◌%◌, ◌<◌, ℕ, length, get_or, slice_index, ap, subst, arith}
 use Rattle.reh_model.specs.Metadata.{Metadata, IsMetadata}
 use Rattle.reh_model.specs.Striping.{rank_of}
 use Rattle.reh_scan.proofs.MaskLaws.{IsRead, read-more, read-all}
