@@ -1,5 +1,5 @@
 // Surveyors, which all find the same.
-ghost use Rattle.std.specs.Prelude.{◌≡◌, IfOk};
+ghost use Rattle.std.specs.Prelude.{◌≡◌, IfErr, IfOk};
 ghost use Rattle.reh_model.specs.Survey as model;
 
 use reh_cluster::State;
@@ -39,7 +39,10 @@ pub trait Surveyor {
 pub struct Plain;
 
 impl Surveyor for Plain {
-    fn survey(&self, alloc: Global, state: &State) -> Result<Vec<SurveyLine>, SurveyFault> {
+    fn survey(&self, alloc: Global, state: &State) -> Result<Vec<SurveyLine>, SurveyFault>
+        ensures lines { IfOk result (λ lines. lines.items ≡ model.survey state.now) }
+        ensures err { IfErr result (λ fault. fault ≡ SurveyFault.NoMemory) }
+    {
         let lines = survey_plain(alloc, state)?;
         Ok(lines)
     }
