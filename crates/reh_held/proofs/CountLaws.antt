@@ -11,11 +11,11 @@ use Rattle.std.proofs.lemmas.List.Sums.{sum_by-cons, sum_by-append, length-filte
 use Rattle.reh_held.specs.Rows.{is_set, entries_in}
 
 module _ (p : ℕ → Bool) where
-  count-cons : (x : ℕ) (xs : List ℕ) → count_by p (x ∷ xs) ≡ cond (p x) 1 0 + count_by p xs
+  pub count-cons : (x : ℕ) (xs : List ℕ) → count_by p (x ∷ xs) ≡ cond (p x) 1 0 + count_by p xs
   count-cons x xs = sum_by-cons (λ y. cond (p y) 1 0) x xs
 
 -- tests that answer alike over a range, where one is moved along
-count-range : (p q : ℕ → Bool) (a b n : ℕ) → ((i : ℕ) → i < n → p (a + i) ≡ q (b + i)) → count_by p (range_with_len a n) ≡ count_by q (range_with_len b n)
+pub count-range : (p q : ℕ → Bool) (a b n : ℕ) → ((i : ℕ) → i < n → p (a + i) ≡ q (b + i)) → count_by p (range_with_len a n) ≡ count_by q (range_with_len b n)
 count-range p q a b zero alike = refl
 count-range p q a b (suc n) alike =
     let rest : count_by p (range_with_len (a + 1) n) ≡ count_by q (range_with_len (b + 1) n) = count-range p q (a + 1) (b + 1) n (λ i within.
@@ -29,14 +29,14 @@ count-range p q a b (suc n) alike =
     ∙ (λ i. cond (first i) 1 0 + rest i)
     ∙ sym (count-cons q b (range_with_len (b + 1) n))
 
-range-append : (a m n : ℕ) → range_with_len a (m + n) ≡ range_with_len a m ++ range_with_len (a + m) n
+pub range-append : (a m n : ℕ) → range_with_len a (m + n) ≡ range_with_len a m ++ range_with_len (a + m) n
 range-append a zero n = let same : a ≡ a + 0 = omega arith in let none : 0 + n ≡ n = omega arith in ap (range_with_len a) none ∙ ap (λ b. range_with_len b n) same
 range-append a (suc m) n =
     let more : suc m + n ≡ suc (m + n) = omega arith in
     let moved : (a + 1) + m ≡ a + suc m = omega arith in
     ap (range_with_len a) more ∙ ap (λ xs. a ∷ xs) (range-append (a + 1) m n ∙ ap (λ b. range_with_len (a + 1) m ++ range_with_len b n) moved)
 
-count-append : (p : ℕ → Bool) (a m n : ℕ) → count_by p (range_with_len a (m + n)) ≡ count_by p (range_with_len a m) + count_by p (range_with_len (a + m) n)
+pub count-append : (p : ℕ → Bool) (a m n : ℕ) → count_by p (range_with_len a (m + n)) ≡ count_by p (range_with_len a m) + count_by p (range_with_len (a + m) n)
 count-append p a m n = ap (λ (xs : List ℕ). count_by p xs) (range-append a m n) ∙ sum_by-append (λ x. cond (p x) 1 0) (range_with_len a m) (range_with_len (a + m) n)
 
 one_number : (p : ℕ → Bool) (a : ℕ) → count_by p (range_with_len a 1) ≡ cond (p a) 1 0
@@ -58,7 +58,7 @@ unfolding ones
 no_ones zero within = refl
 no_ones (suc w) within = absurd (omega arith)
 
-count-ones : (k w : ℕ) → w < 2 ^ k → count_by (λ i. bit_at w i == 1) (range_with_len 0 k) ≡ ones w
+pub count-ones : (k w : ℕ) → w < 2 ^ k → count_by (λ i. bit_at w i == 1) (range_with_len 0 k) ≡ ones w
 count-ones zero w within = no_ones w within
 count-ones (suc k) w within =
     let high : ℕ = w / 2 ^ k in

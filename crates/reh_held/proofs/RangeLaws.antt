@@ -11,10 +11,10 @@ use Rattle.reh_held.proofs.RowLaws.{read_written}
 
 -- The mask
 
-one_min : (a b : ℕ) → a < 2 → b < 2 → (min a b == 1) ≡ ((a == 1) && (b == 1))
+pub one_min : (a b : ℕ) → a < 2 → b < 2 → (min a b == 1) ≡ ((a == 1) && (b == 1))
 one_min a b a_in b_in = grind (arith, nat_tests)
 
-one_max : (a b : ℕ) → a < 2 → b < 2 → (max a b == 1) ≡ ((a == 1) || (b == 1))
+pub one_max : (a b : ℕ) → a < 2 → b < 2 → (max a b == 1) ≡ ((a == 1) || (b == 1))
 one_max a b a_in b_in = grind (arith, nat_tests)
 
 bits_from : (low i : ℕ) → low < 64 → i < 64 → (bit_at ((2 ^ 64 - 1) * 2 ^ low % 2 ^ 64) i == 1) ≡ nat_le low i

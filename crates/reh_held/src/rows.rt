@@ -195,7 +195,7 @@ fn set_range(words: &mut Vec<u64>, first: u32, last: u32)
 }
 
 /// The bits of a word whose entries are from the first to the last.
-fn bits_between(number: u32, first: u32, last: u32) -> u64
+pub fn bits_between(number: u32, first: u32, last: u32) -> u64
     requires first { first < 64 * number + 64 }
     requires last { 64 * number ≤ last }
     ensures { (i : ℕ) → i < 64 → (bit_at result i == 1) ≡ is_between first last (64 * number + i) }

@@ -1,5 +1,5 @@
 -- Worked runs of surveys, of the five bookies and of ledgers with other sizes and quorums.
-use Rattle.std.specs.Prelude.{◌≡◌, refl, ℕ, List, [], ◌∷◌, ◌++◌, Option, Some, None}
+use Rattle.std.specs.Prelude.{◌≡◌, refl, ℕ, [], ◌∷◌, ◌++◌, Option, Some, None}
 use Rattle.reh_types.specs.declared.moves.Event.TheVariants.{Lose}
 use Rattle.reh_types.specs.declared.moves.Move.TheVariants.{Do}
 use Rattle.reh_types.specs.declared.names.LedgerState.TheVariants.{InRecovery, Closed}

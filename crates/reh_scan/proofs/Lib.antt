@@ -1,3 +1,5 @@
 pub mod JobLaws
 pub mod PostLaws
 pub mod ReadingLaws
+pub mod SurveyLaws
+pub mod MaskLaws

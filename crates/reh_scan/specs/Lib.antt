@@ -1,3 +1,4 @@
 pub mod Jobs
+pub mod Masks
 pub mod Posts
 pub mod Sources

@@ -4,7 +4,7 @@
 mod striped;
 mod writes;
 
-pub use striped::{Striped, is_striped};
+pub use striped::{Striped, is_striped, rank_from};
 pub use writes::{WriteSet, write_set};
 
 #[cfg(test)]

@@ -29,8 +29,8 @@ fn rank_of(entry: u32, index: u32, size: u32) -> u32
     rank_from(entry % size, index, size)
 }
 
-// The rank at which the index carries the entries whose rank 0 is at another index.
-fn rank_from(start: u32, index: u32, size: u32) -> u32
+/// The rank at which the index carries the entries whose rank 0 is at another index.
+pub fn rank_from(start: u32, index: u32, size: u32) -> u32
     requires start { start < size }
     requires inside { index < size }
     requires small { size ≤ MAX_ENSEMBLE_SIZE }

@@ -1,0 +1,192 @@
+// What can't be read any more.
+ghost use Rattle.std.specs.Prelude.{◌≡◌, ℕ, ◌+◌, ◌-◌, ◌*◌, ◌%◌, ◌^◌, ◌<◌, ◌≤◌, ◌++◌, length, not, Some, count_by, slice_index, IfOk};
+ghost use Rattle.std.specs.List.{list_any};
+ghost use Rattle.std.specs.Option.{IsSome};
+ghost use Rattle.reh_types.specs.declared.limits.TheConstants.{MAX_ENSEMBLE_SIZE};
+ghost use Rattle.reh_model.specs.Striping as stripe;
+ghost use Rattle.reh_model.specs.Striping.{range};
+ghost use Rattle.reh_model.specs.Metadata.{IsMetadata};
+ghost use Rattle.reh_model.specs.Cluster as cluster;
+ghost use Rattle.reh_model.specs.Survey as model;
+ghost use Rattle.reh_scan.specs.Sources.{is_set_at};
+ghost use Rattle.reh_scan.specs.Masks.{has_bit, IsMask, AreMasks};
+
+use crate::sources::{Rows, source_rows};
+use reh_cluster::{Ledger, State};
+use reh_held::bits_between;
+use reh_meta::{Fragment, LedgerMeta};
+use reh_stripe::{Striped, rank_from};
+use reh_types::{LedgerId, MAX_ENSEMBLE_SIZE, SurveyLine};
+use std::alloc::{AllocError, Global};
+
+/// The lines of all fragments, in picture order.
+pub fn survey_plain(alloc: Global, state: &State) -> Result<Vec<SurveyLine>, AllocError>
+    ensures { IfOk result (λ lines. lines.items ≡ model.survey state.now) }
+{
+    let mut lines = Vec::new(alloc);
+    for ledger in state.ledgers() {
+        push_lines(&mut lines, state, ledger)?;
+    }
+    Ok(lines)
+}
+
+/// Puts the lines of the ledger's fragments behind the others.
+fn push_lines(lines: &mut Vec<SurveyLine>, state: &State, ledger: &Ledger) -> Result<(), AllocError>
+    ensures { IfOk result
+        (λ _. lines.new.items ≡ lines.old.items ++ model.lines_of state.now ledger.now) }
+{
+    for (number, fragment) in ledger.metadata().fragments().iter().enumerate() {
+        lines.push(line_of(state, ledger, number, fragment))?;
+    }
+    Ok(())
+}
+
+/// The line of the fragment of that number, which has to be in the picture. It takes no memory.
+pub fn survey_line(state: &State, ledger: LedgerId, fragment: u64) -> SurveyLine
+    requires { IsSome (model.line_at state.now ledger fragment) }
+    ensures { model.line_at state.now ledger fragment ≡ Some result }
+{
+    let found = state.ledger(ledger).unwrap();
+    let number = fragment as usize;
+    line_of(state, found, number, &found.metadata().fragments()[number])
+}
+
+/// The line of a ledger's fragment.
+fn line_of(state: &State, ledger: &Ledger, number: usize, fragment: &Fragment) -> SurveyLine
+    requires { length fragment.now.ensemble ≡ ledger.now.metadata.size }
+    ensures { result ≡ model.line_of state.now ledger.now number fragment.now }
+{
+    SurveyLine {
+        ledger: ledger.id(),
+        fragment: number as u64,
+        down: count_down(state, ledger, fragment),
+        lost: lost_of(state, ledger, number, fragment),
+    }
+}
+
+/// How many members of the ledger's fragment aren't registered.
+fn count_down(state: &State, ledger: &Ledger, fragment: &Fragment) -> u32
+    requires { length fragment.now.ensemble ≡ ledger.now.metadata.size }
+    ensures { result ≡ model.down_of state.now fragment.now }
+{
+    let mut down = 0;
+    for index in 0..ledger.metadata().size() as usize {
+        if !state.is_up(fragment.ensemble[index]) {
+            down += 1;
+        }
+    }
+    down
+}
+
+/// How many entries of the ledger's fragment can't be read, if it has a stop.
+fn lost_of(state: &State, ledger: &Ledger, number: usize, fragment: &Fragment) -> Option<u32>
+    requires { length fragment.now.ensemble ≡ ledger.now.metadata.size }
+    ensures { result ≡ model.lost_of state.now ledger.now number fragment.now }
+{
+    let stop = ledger.metadata().end_of(number)?;
+    Some(count_lost(state, ledger, fragment, stop))
+}
+
+/// How many entries from the fragment's first one up to, not including, the stop can't be read.
+fn count_lost(state: &State, ledger: &Ledger, fragment: &Fragment, stop: u32) -> u32
+    requires { length fragment.now.ensemble ≡ ledger.now.metadata.size }
+    ensures { result ≡ count_by
+        (λ e. not (cluster.is_readable state.now ledger.now fragment.now e))
+        (range fragment.now.first stop) }
+{
+    if stop <= fragment.first {
+        return 0;
+    }
+    let rows = source_rows(state, ledger, fragment);
+    count_lacking(&rows, ledger.metadata(), fragment.first, stop - 1)
+}
+
+/// How many entries from the first to the last are in no row at an index of their write sets.
+///
+/// It goes by words, of 64 entries each: the entries that one index carries are a mask of the bits of its row's word.
+fn count_lacking(rows: &Rows<'_>, metadata: &LedgerMeta, first: u32, last: u32) -> u32
+    requires order { first ≤ last }
+    requires last { last + 1 < 2 ^ 32 }
+    ensures { result ≡ count_by
+        (λ e. not (list_any (is_set_at rows.now e) (stripe.write_set e metadata.now.size metadata.now.write_quorum)))
+        (range first (last + 1)) }
+{
+    let masks = stripe_masks(metadata);
+    let mut count = 0;
+    for number in first / 64..last / 64 + 1 {
+        let readable = readable_word(rows, &masks, metadata, number);
+        let lacking = bits_between(number, first, last) & !readable;
+        count += lacking.count_ones() as usize;
+    }
+    count as u32
+}
+
+/// The entries of a word that are in some row at an index of their write sets.
+fn readable_word(rows: &Rows<'_>, masks: &Masks, metadata: &LedgerMeta, number: u32) -> u64
+    requires masks { AreMasks metadata.now.size metadata.now.write_quorum masks.now }
+    requires number { 64 * number < 2 ^ 32 }
+    ensures { (i : ℕ) → i < 64 → has_bit result i ≡ list_any (is_set_at rows.now (64 * number + i))
+        (stripe.write_set (64 * number + i) metadata.now.size metadata.now.write_quorum) }
+{
+    let size = metadata.size();
+    let start = 64 * number % size;
+    let mut readable = 0;
+    for index in 0..size {
+        let mask = masks[rank_from(start, index, size) as usize];
+        readable |= word_at(rows[index as usize], number as usize) & mask;
+    }
+    readable
+}
+
+/// A word of a row, which has no entry past its words.
+fn word_at(row: &[u64], number: usize) -> u64
+    ensures { result ≡ slice_index row.now number }
+{
+    match row.get(number) {
+        Some(word) => *word,
+        None => 0,
+    }
+}
+
+/// A mask for each index of an ensemble: which of the entries from 0 to 63 it carries.
+type Masks = [u64; MAX_ENSEMBLE_SIZE as usize];
+
+/// The masks of the ledger's ensembles.
+fn stripe_masks(metadata: &LedgerMeta) -> Masks
+    ensures { AreMasks metadata.now.size metadata.now.write_quorum result }
+{
+    let mut masks = [0; MAX_ENSEMBLE_SIZE as usize];
+    masks[0] = first_mask(metadata);
+    for index in 1..metadata.size() {
+        let place = index as usize;
+        masks[place] = next_mask(metadata, index, masks[place - 1]);
+    }
+    masks
+}
+
+/// The mask of index 0 of the ledger's ensembles.
+fn first_mask(metadata: &LedgerMeta) -> u64
+    ensures { IsMask metadata.now.size metadata.now.write_quorum 0 result }
+{
+    let mut mask = 0;
+    for entry in Striped::new(0, 64, 0, metadata.size(), metadata.write_quorum()) {
+        mask |= 1 << entry;
+    }
+    mask
+}
+
+/// The mask of a further index: what the index before it carries, one entry later.
+fn next_mask(metadata: &LedgerMeta, index: u32, before: u64) -> u64
+    requires well_formed { IsMetadata metadata.now }
+    requires some { 1 ≤ index }
+    requires inside { index < metadata.now.size }
+    requires mask { IsMask metadata.now.size metadata.now.write_quorum (index - 1) before }
+    ensures { IsMask metadata.now.size metadata.now.write_quorum index result }
+{
+    let later = before << 1;
+    if index < metadata.write_quorum() {
+        later | 1
+    } else {
+        later
+    }
+}
