@@ -1,5 +1,5 @@
 -- Calls that add a line: what they answer, and that a book keeps what it keeps.
-use Rattle.std.proofs.Common.{◌≡◌, ◌≢◌, ℕ, ◌+◌, ◌<◌, ◌≤◌, Bool, true, false, cond, List, [], ◌∷◌, ◌++◌, length, Option, None, Some, refl, sym, ap, subst, ◌∙◌, inl, inr, arith, length-append, true≢false}
+use Rattle.std.proofs.Common.{◌≡◌, ◌≢◌, ℕ, ◌+◌, ◌≤◌, true, false, List, [], ◌∷◌, ◌++◌, length, Option, None, Some, refl, sym, ap, subst, ◌∙◌, inl, inr, arith, length-append, true≢false}
 use Rattle.std.specs.Prelude.{IsTrue, nat_lt, if◌then◌else◌, remove, unwrap_or}
 use Rattle.std.proofs.lemmas.Bool.Decides.{nat_tests}
 use Rattle.reh_types.specs.declared.limits.TheConstants.{MAX_LINES}
@@ -18,9 +18,9 @@ use Rattle.reh_types.specs.declared.refusals.Refusal.TheVariants.{TapeFull, NoMe
 use Rattle.reh_model.specs.Cluster.{Cluster}
 use Rattle.reh_model.specs.Scan.{aim_refusal}
 use Rattle.reh_model.specs.Session.{Session, replay, state_of, reply_unless, reply_to, session_after, Performs}
-use Rattle.reh_model.specs.Book.{Book, ticket, place_of, without, new_book, tape_full, not_out, or_refused, answer_to, is_written, changed, book_after, MayWantMemory, Answers, Legal}
+use Rattle.reh_model.specs.Book.{Book, ticket, place_of, new_book, answer_to, is_written, book_after, Legal}
 use Rattle.reh_model.proofs.BookLaws.{post_written, reply_written, aim_written, Legal-push}
-use Rattle.reh_desk.specs.Kept.{Kept, kept_of, line, tape_after, Called, IsKept}
+use Rattle.reh_desk.specs.Kept.{Kept, kept_of, line, Called, IsKept}
 
 -- Calls with a line
 

@@ -6,7 +6,7 @@ use Rattle.reh_types.specs.declared.calls.Line.{Line}
 use Rattle.reh_types.specs.declared.calls.TicketOut.{TicketOut}
 use Rattle.reh_types.specs.declared.moves.Reply.{Reply}
 use Rattle.reh_model.specs.Session.{Session}
-use Rattle.reh_model.specs.Book.{Book, new_book, book_after, is_written, Answers, Legal}
+use Rattle.reh_model.specs.Book.{Book, new_book, is_written, Answers, Legal}
 
 pub record Kept : Type 0 where
   pub opening : Session

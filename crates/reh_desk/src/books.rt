@@ -78,8 +78,9 @@ impl Book {
         })
     }
 
-    /// Makes a move of the session for a seat, and answers it: with `TapeFull`, where no line is left that isn't reserved;
-    /// with `NoMemory`, where there is none for the line or the move; and else as the session does. The first two change nothing.
+    /// Makes a move of the session for a seat, and answers it as the session does. Before that it is refused with `TapeFull`,
+    /// where no line is left that isn't reserved, and then with `NoMemory`, where there is none for the line. Both, and want of
+    /// memory for the move, change nothing; any other reply adds its line.
     pub fn call(&mut self, seat: u32, step: Move) -> Reply
         ensures { Called self.old seat (call.Ask step) result self.new }
     {
@@ -95,9 +96,10 @@ impl Book {
         reply
     }
 
-    /// Issues a ticket to a seat, with which it can scan the fragment of the aim, as it stands now. Of all refusals, the first that
-    /// applies is answered: `TapeFull`, where not two lines are left, one for this call and one for the ticket; and then that of the
-    /// aim, which gets a line. In place of any but `TapeFull` the answer may be `NoMemory`, which changes nothing. Only an issued ticket takes a number.
+    /// Issues a ticket to a seat, to scan the fragment of the aim as it stands now (`ticket`). It is refused with `TapeFull`, where
+    /// not two lines are left that aren't reserved, one for this call and one for the ticket; and then with the aim's own refusal,
+    /// which adds its line. `NoMemory` may stand in place of any answer but `TapeFull`. Both change nothing, and no refusal takes
+    /// a number.
     pub fn checkout(&mut self, seat: u32, aim: Aim) -> Result<Ticket, Refusal>
         ensures called { Called self.old seat (call.Checkout aim) (checked_out result) self.new }
         ensures ticket { IfOk result (λ ticket. model.scan (state_of self.old.book.session) aim ≡ Some ticket.content) }
@@ -105,6 +107,7 @@ impl Book {
         let reserved = self.out.len();
         make_room(&mut self.lines, reserved, 2)?;
         if let Err(refusal) = aimed(self.session.state(), &aim) {
+            // The borrow checker wants a second name for what is used twice and may name a bookie.
             let reason = refusal;
             let call = Call::Checkout(aim);
             let reply = Reply::Refused(reason);
@@ -123,8 +126,9 @@ impl Book {
         Ok(Ticket::new(number, job))
     }
 
-    /// Posts what a seat found with a ticket, whose end this is, whether the session accepts or refuses it. It fails where the ticket isn't
-    /// out at this seat, or where there is no memory for an accepted post; then nothing has changed, and the finding is handed back.
+    /// Posts what a seat found with a ticket. The ticket is out no more then, whether the session accepts the post or refuses it,
+    /// and the line that was reserved for it is this call's. It fails where the ticket isn't out at this seat, or where there is no
+    /// memory for a post that would be accepted; nothing has changed then, and the finding is handed back.
     pub fn spend(&mut self, seat: u32, finding: Finding) -> Result<Reply, SpendFault>
         ensures called { Called self.old seat (call.Spend finding.number finding.content) (spent result) self.new }
         ensures written { IfOk result (λ reply. IsTrue (is_written reply)) }
@@ -147,8 +151,9 @@ impl Book {
         Ok(reply)
     }
 
-    /// Takes back a seat's ticket, scanned or not, which ends it. It takes no memory. What isn't out at this seat is handed back as a
-    /// stray, and nothing has changed.
+    /// Takes a seat's ticket back, scanned or not, so that it is out no more; the line that was reserved for it is this call's. It
+    /// takes no memory. It fails where the ticket isn't out at this seat; nothing has changed then, and what was discarded is handed
+    /// back as a stray.
     pub fn discard(&mut self, seat: u32, unspent: Unspent) -> Result<(), Stray>
         ensures called { Called self.old seat (call.Discard (number_of unspent) (aim_of unspent)) (discarded result) self.new }
         ensures back { IfErr result (λ stray. stray ≡ unspent) }
@@ -166,7 +171,7 @@ impl Book {
         Ok(())
     }
 
-    /// The session's state now.
+    /// The session's state now; a book always has it.
     pub fn whole(&self) -> Option<&State>
         ensures { option_copied result ≡ Some (state_of self.now.book.session) }
     {
@@ -180,8 +185,8 @@ impl Book {
         self.out.len() as u32
     }
 
-    /// The lines of the tape, oldest first: from the session that the book opened on they lead to where it is, and with one
-    /// for each ticket that is out there are at most 200,000.
+    /// The lines of the tape, oldest first. From the session that the book opened on they lead to where it is (`legal`), and with
+    /// one for each ticket that is out there are at most 200,000 (`few`).
     pub fn tape(&self) -> &[Line]
         ensures tape { result.now ≡ self.now.tape }
         ensures legal { Legal (new_book self.now.opening) self.now.tape self.now.book }
@@ -191,7 +196,7 @@ impl Book {
     }
 }
 
-/// Makes room on the tape for so many lines beside the reserved ones, unless that would be more than it may have, or there is no memory.
+/// Makes room on the tape for so many lines beside the reserved ones, unless it may not have as many, or there is no memory.
 fn make_room(lines: &mut Vec<Line>, reserved: usize, wanted: usize) -> Result<(), Refusal>
     requires few { length lines.old.items + reserved ≤ MAX_LINES }
     requires wanted { wanted ≤ 2 }
@@ -219,6 +224,7 @@ fn is_written(reply: &Reply) -> bool
     }
 }
 
+/// A line of the tape.
 fn line_of(seat: u32, call: Call, reply: &Reply) -> Line
     ensures { result ≡ line seat call reply.now }
 {

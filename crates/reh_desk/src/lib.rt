@@ -2,8 +2,10 @@
 #![tactic(auto)]
 
 mod books;
+mod laws;
 mod tickets;
 
 pub use books::{Book, SpendCause, SpendFault};
+pub use laws::tickets_differ;
 pub use reh_types::{Call, Line};
 pub use tickets::{Finding, Stray, Ticket, Unspent, scan};

@@ -4,6 +4,7 @@ use Rattle.std.specs.Prelude.{◌==◌, is_none, slice_get}
 use Rattle.std.specs.List.{find, list_any, zip}
 use Rattle.std.specs.Option.{option_map, option_map_or, option_eq}
 use Rattle.std.specs.Str.{bytes_eq}
+use Rattle.std.proofs.Math.Bool.{or-true}
 use Rattle.std.proofs.lemmas.Bool.Decides.{nat_tests}
 use Rattle.reh_types.specs.declared.contents.Content.{Content}
 use Rattle.reh_types.specs.declared.moves.Move.TheVariants.{Do, Post}
@@ -33,12 +34,8 @@ any_member p b [] any passes = cc
 any_member p b (x ∷ xs) any passes =
     elim (x == b) as (λ same. (x == b) ≡ same → (same || list_any (λ member. member == b) xs) ≡ true → (p x || list_any p xs) ≡ true) [
       | true ↦ λ is _. let here : x ≡ b = grind (arith, nat_tests, is) in ap (λ a. a || list_any p xs) (ap p here ∙ passes)
-      | false ↦ λ _ later. ap (λ a. p x || a) (any_member p b xs later passes) ∙ or_true (p x)
+      | false ↦ λ _ later. ap (λ a. p x || a) (any_member p b xs later passes) ∙ or-true (p x)
     ] refl any
-  where
-    or_true : (a : Bool) → (a || true) ≡ true
-    or_true true = refl
-    or_true false = refl
 
 -- an entry whose source is not lost can be read
 lost_source-none : (s : Cluster) (g : Ledger) (fragment : Fragment) (entry : ℕ) (source : Option ℕ) → lost_source s g fragment (entry, source) ≡ None → is_readable s g fragment entry ≡ true

@@ -4,6 +4,7 @@ use Rattle.std.specs.Prelude.{◌==◌, slice_get}
 use Rattle.std.specs.List.{find, list_any, zip}
 use Rattle.std.specs.Option.{option_map, option_map_or, option_and_then, option_or, option_eq}
 use Rattle.std.specs.Str.{bytes_eq}
+use Rattle.std.proofs.Math.Bool.{or-true}
 use Rattle.std.proofs.lemmas.Bool.Decides.{Decides-eqb}
 use Rattle.std.proofs.lemmas.List.{length-map}
 use Rattle.std.proofs.lemmas.Option.{same_Some}
@@ -42,12 +43,8 @@ found_some p (x ∷ xs) b is =
           (refl, ap (λ a. a || list_any (λ x. x == b) xs) ((Decides-eqb x b).1 same), ap p (sym same) ∙ passes)
       | false ↦ λ _ found.
           let later = found_some p xs b found in
-          (later.0, ap (λ a. (x == b) || a) later.1 ∙ or_true (x == b), later.2)
+          (later.0, ap (λ a. (x == b) || a) later.1 ∙ or-true (x == b), later.2)
     ] refl is
-  where
-    or_true : (a : Bool) → (a || true) ≡ true
-    or_true true = refl
-    or_true false = refl
 
 -- where a scan was just made, a source is lost only where there is none
 lost_source-scanned : (s : Cluster) (g : Ledger) (fragment : Fragment) (entry : ℕ) → lost_source s g fragment (entry, source_of s g fragment entry) ≡ reason_if (not (is_readable s g fragment entry)) (NoSource entry)

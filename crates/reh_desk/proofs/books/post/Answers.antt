@@ -1,7 +1,6 @@
 -- A session answers a post with want of memory only where it would be accepted.
 use Rattle.std.proofs.Common.{◌≡◌, sym, ap, ◌∙◌, true≢false, refl, inl, inr}
 use Rattle.reh_types.specs.declared.moves.Move.TheVariants.{Post}
-use Rattle.reh_types.specs.declared.moves.Reply.{Reply}
 use Rattle.reh_types.specs.declared.moves.Reply.TheVariants.{Done, Refused}
 use Rattle.reh_types.specs.declared.refusals.Refusal.TheVariants.{NoMemory}
 use Rattle.reh_types.specs.declared.contents.Content.{Content}

@@ -1,9 +1,9 @@
 -- A move of the session adds its line, or there is no room for one.
-use Rattle.std.proofs.Common.{◌≡◌, ◌+◌, length, sym, ap, ◌∙◌, subst, arith, ℕ, List}
+use Rattle.std.proofs.Common.{◌≡◌, length, sym, ◌∙◌, subst, arith, List}
 use Rattle.reh_types.specs.declared.calls.Call.TheVariants.{Ask}
 use Rattle.reh_types.specs.declared.calls.Line.{Line}
 use Rattle.reh_types.specs.declared.moves.Reply.TheVariants.{Refused}
-use Rattle.reh_desk.specs.Kept.{Kept, kept_of, line, Called}
+use Rattle.reh_desk.specs.Kept.{Kept, kept_of, Called}
 use Rattle.reh_desk.proofs.Lines.{not_asked, asked_kept}
 use Rattle.reh_desk.proofs.books.Book.call.Goals as goal
 

@@ -1,8 +1,8 @@
 -- An aim that is refused gets its line, and a ticket that is issued its own and one in reserve.
-use Rattle.std.proofs.Common.{◌≡◌, ◌+◌, length, sym, ap, ◌∙◌, subst, arith, ℕ, List, Some}
+use Rattle.std.proofs.Common.{◌≡◌, length, subst, arith}
 use Rattle.reh_types.specs.declared.calls.Call.TheVariants.{Checkout}
 use Rattle.reh_types.specs.declared.moves.Reply.TheVariants.{Refused}
-use Rattle.reh_desk.specs.Kept.{Kept, kept_of, line, Called}
+use Rattle.reh_desk.specs.Kept.{Kept, kept_of, Called}
 use Rattle.reh_desk.proofs.Lines.{called_line, refused, refused_kept, issued_kept}
 use Rattle.reh_desk.proofs.books.Book.checkout.Goals as goal
 

@@ -1,5 +1,5 @@
 -- The ticket is out no more, and the line that was reserved for it is the call's.
-use Rattle.std.proofs.Common.{◌≡◌, ◌+◌, length, sym, ap, ◌∙◌, subst, arith, ℕ, List, Some, remove}
+use Rattle.std.proofs.Common.{◌≡◌, ◌+◌, length, sym, arith, Some, remove}
 use Rattle.reh_model.specs.Book.{ticket, place_of}
 use Rattle.reh_desk.proofs.Lines.{discarded_kept}
 use Rattle.reh_desk.proofs.books.Book.discard.Goals as goal
