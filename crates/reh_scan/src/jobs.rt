@@ -25,6 +25,18 @@ pub struct Job {
     reading: Reading,
 }
 
+impl Model for Job {
+    ghost use Rattle.reh_types.specs.declared.contents.Content.{Content};
+
+    ghost Value = { Content };
+
+    ghost use Rattle.reh_scan.specs.Jobs.{content_in, IsJob};
+
+    ghost view = { content_in };
+
+    ghost invariant = { IsJob };
+}
+
 // What was read of a fragment.
 #[derive(Drop)]
 struct Reading {
@@ -51,18 +63,6 @@ impl Model for Words {
     ghost Value = { List ℕ };
 
     ghost view = { λ w. w.items.items };
-}
-
-impl Model for Job {
-    ghost use Rattle.reh_types.specs.declared.contents.Content.{Content};
-
-    ghost Value = { Content };
-
-    ghost use Rattle.reh_scan.specs.Jobs.{content_in, IsJob};
-
-    ghost view = { content_in };
-
-    ghost invariant = { IsJob };
 }
 
 impl Job {

@@ -39,7 +39,10 @@ returns-in_err-check_source c =
 pub returns : goal.returns
 returns c =
     let lost : ℕ × Option ℕ → Option Refusal = lost_source c.args.state.now c.args.ledger.now c.args.fragment.now in
-    c.loop-entry.invariant ∙ elim c.in-None.ensures.steps [
-      | inl none ↦ lost-no_entry lost _ _ none.1.0
-      | inr none ↦ lost-no_source lost _ _ none.1.0
-    ]
+    let entries : List ℕ = zip_first c.loop-entry.entry-iterator in
+    let sources : List (Option ℕ) = iter_rest (zip_second c.loop-entry.entry-iterator) in
+    let none : first_reason (map lost (zip entries sources)) ≡ None = elim c.in-None.ensures.steps [
+      | inl ended ↦ lost-no_entry lost entries sources ended.1.0
+      | inr ended ↦ lost-no_source lost entries sources ended.1.0
+    ] in
+    c.loop-entry.invariant ∙ none
