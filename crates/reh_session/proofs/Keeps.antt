@@ -1,5 +1,5 @@
 -- Each move is answered as the machine says, and keeps what a session keeps.
-use Rattle.std.proofs.Common.{◌≡◌, ◌<◌, ◌≤◌, ◌+◌, ◌-◌, ℕ, zero, suc, List, [], ◌∷◌, ◌++◌, length, take, drop, get_or, set, sym, ap, subst, ◌∙◌, refl, arith, Option, Some, None, IsSome, is_some, inl, inr, length-append}
+use Rattle.std.proofs.Common.{◌≡◌, ◌<◌, ◌≤◌, ◌+◌, ◌-◌, ℕ, zero, suc, List, [], ◌∷◌, ◌++◌, length, take, drop, get_or, set, sym, ap, subst, ◌∙◌, refl, arith, Option, Some, None, IsSome, is_some, inl, length-append}
 use Rattle.std.specs.Prelude.{unwrap_or}
 use Rattle.std.proofs.lemmas.List.{take_more, drop_more, take_all, drop_all, take_more_set, take-set, drop-set, drop-set-lt, drop-drop, drop-take, take-take, take-append-drop, length-take-le, length-drop, length-set}
 use Rattle.std.proofs.Math.Seq.{take-add}
@@ -11,7 +11,7 @@ use Rattle.reh_types.specs.declared.moves.Move.TheVariants.{Do, Post, Undo, Redo
 use Rattle.reh_types.specs.declared.moves.Reply.{Reply}
 use Rattle.reh_types.specs.declared.moves.Reply.TheVariants.{Done, Clock, Refused}
 use Rattle.reh_types.specs.declared.refusals.Refusal.{Refusal}
-use Rattle.reh_types.specs.declared.refusals.Refusal.TheVariants.{NothingToUndo, NothingToRedo, Full, NoMemory}
+use Rattle.reh_types.specs.declared.refusals.Refusal.TheVariants.{NothingToUndo, NothingToRedo}
 use Rattle.reh_model.specs.Cluster.{Cluster}
 use Rattle.reh_model.specs.WellFormed.{IsWellFormed}
 use Rattle.reh_model.specs.Places.{Change, exchanged, left, Fits, IsDelta}
