@@ -58,7 +58,7 @@ kept_line kept h more lines numbered few reserved = record {
 }
 
 -- a reply that adds a line is no full tape
-not_full : (reply : Reply) → IsTrue (is_written reply) → reply ≢ Refused TapeFull
+pub not_full : (reply : Reply) → IsTrue (is_written reply) → reply ≢ Refused TapeFull
 not_full reply written full = true≢false (sym written ∙ ap is_written full)
 
 -- one line more

@@ -3,3 +3,4 @@ pub mod Unspent
 pub mod Replies
 pub mod Kept
 pub mod Seats
+pub mod Counted

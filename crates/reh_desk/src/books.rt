@@ -10,9 +10,11 @@ ghost use Rattle.reh_model.specs.Book.{new_book, ticket, is_written, place_of, L
 ghost use Rattle.reh_model.specs.Scan as model;
 ghost use Rattle.reh_model.specs.Session.{state_of, reply_to, session_after};
 ghost use Rattle.reh_desk.specs.Kept.{line, opened, Called};
-ghost use Rattle.reh_desk.specs.Replies.{checked_out, spent, discarded};
+ghost use Rattle.reh_desk.specs.Replies.{checked_out, spent, spent_twofold, discarded};
+ghost use Rattle.reh_desk.specs.Seats.{new_seat};
 ghost use Rattle.reh_desk.specs.Unspent.{number_of, aim_of};
 
+use crate::seats::Seat;
 use crate::tickets::{Finding, Stray, Ticket, Unspent};
 use reh_cluster::State;
 use reh_scan::{Job, aimed};
@@ -64,18 +66,19 @@ impl Model for Book {
 }
 
 impl Book {
-    /// A book on this session, before its first call. It takes no memory and cannot fail.
-    pub fn open(session: Session) -> Result<Book, (Session, AllocError)>
-        ensures { IsOkAnd result (λ book. book ≡ opened session) }
+    /// A book on this session, before its first call, and its one seat, of number 0. It takes no memory and cannot fail.
+    pub fn open(session: Session) -> Result<(Book, Seat), (Session, AllocError)>
+        ensures { IsOkAnd result (λ r. (r.0 ≡ opened session) × (r.1 ≡ new_seat 0)) }
     {
         let alloc = session.allocator();
-        Ok(Book {
+        let book = Book {
             opening: Snapshot::of(&session),
             session,
             lines: Vec::new(alloc),
             last_ticket: 0,
             out: Vec::new(alloc),
-        })
+        };
+        Ok((book, Seat::new(alloc, 0)))
     }
 
     /// Makes a move of the session for a seat, and answers it as the session does. Before that it is refused with `TapeFull`,
@@ -134,6 +137,23 @@ impl Book {
         ensures written { IfOk result (λ reply. IsTrue (is_written reply)) }
         ensures back { IfErr result (λ fault. fault.finding ≡ finding) }
     {
+        match self.spend_twofold(seat, finding) {
+            Ok((reply, _content)) => Ok(reply),
+            Err(fault) => Err(fault),
+        }
+    }
+
+    /// The same, and besides the content that is left for the list of the seat.
+    pub(crate) fn spend_twofold(
+        &mut self,
+        seat: u32,
+        finding: Finding,
+    ) -> Result<(Reply, Content), SpendFault>
+        ensures called { Called self.old seat (call.Spend finding.number finding.content) (spent_twofold result) self.new }
+        ensures written { IfOk result (λ r. IsTrue (is_written r.0)) }
+        ensures content { IfOk result (λ r. r.1 ≡ finding.content) }
+        ensures back { IfErr result (λ fault. fault.finding ≡ finding) }
+    {
         let number = finding.number();
         let aim = finding.aim();
         let Some(place) = place_of(&self.out, seat, number, &aim) else {
@@ -145,10 +165,10 @@ impl Book {
             Err(cause) => return Err(SpendFault { finding, cause }),
         };
         self.out.remove(place);
-        let content = finding.into_content();
+        let (content, copy) = finding.into_contents();
         let call = Call::Spend { number, content };
         self.lines.push_reserved(line_of(seat, call, &reply));
-        Ok(reply)
+        Ok((reply, copy))
     }
 
     /// Takes a seat's ticket back, scanned or not, so that it is out no more; the line that was reserved for it is this call's. It
@@ -169,6 +189,14 @@ impl Book {
         self.lines.push_reserved(Line { seat, call, reply });
         unspent.end();
         Ok(())
+    }
+
+    /// Whether fewer lines than wanted are left that aren't reserved.
+    pub(crate) fn is_full(&self, wanted: usize) -> bool
+        requires { wanted ≤ 2 }
+        ensures { result ≡ nat_lt MAX_LINES (self.now.book.lines + length self.now.book.out + wanted) }
+    {
+        self.lines.len() + self.out.len() + wanted > MAX_LINES
     }
 
     /// The session's state now; a book always has it.
@@ -215,7 +243,7 @@ fn make_room(lines: &mut Vec<Line>, reserved: usize, wanted: usize) -> Result<()
 }
 
 /// Whether a call with this reply adds a line to the tape.
-fn is_written(reply: &Reply) -> bool
+pub(crate) fn is_written(reply: &Reply) -> bool
     ensures { result ≡ is_written reply.now }
 {
     match reply {

@@ -117,16 +117,16 @@ impl Finding {
         &self.content
     }
 
-    // The content, for the tape's line.
-    pub(crate) fn into_content(self) -> Content
-        ensures { result ≡ self.content }
+    // The content, for the tape's line, and once more, for the seat's.
+    pub(crate) fn into_contents(self) -> (Content, Content)
+        ensures { (result.0 ≡ self.content) × (result.1 ≡ self.content) }
     {
         let Finding {
             number: _,
             content,
-            copy: _,
+            copy,
         } = self;
-        content
+        (content, copy)
     }
 }
 
@@ -156,7 +156,7 @@ impl Unspent {
         match self {
             Unspent::Unscanned(ticket) => ticket.end(),
             Unspent::Scanned(finding) => {
-                let _content = finding.into_content();
+                let _contents = finding.into_contents();
             }
         }
     }

@@ -9,8 +9,8 @@ use Rattle.reh_model.specs.Book.{ticket, place_of, is_written}
 use Rattle.reh_model.proofs.BookLaws.{post_written}
 use Rattle.reh_desk.specs.Kept.{Kept, kept_of, line, Called}
 use Rattle.reh_desk.proofs.Lines.{called_line, spent, spent_kept}
-use Rattle.reh_desk.proofs.books.Book.spend.Goals as goal
-use Rattle.reh_desk.proofs.books.Book.spend.Goals.{After-push_reserved}
+use Rattle.reh_desk.proofs.books.Book.spend_twofold.Goals as goal
+use Rattle.reh_desk.proofs.books.Book.spend_twofold.Goals.{After-push_reserved}
 
 found : (c : After-push_reserved) → place_of (ticket c.args.seat c.args.finding.number c.args.finding.content.aim) c.self.inside.out.items ≡ Some c.in-Some.place
 found c = (λ j. place_of (ticket c.args.seat (sym c.number-number.ensures j) (sym c.aim-aim.ensures j)) (sym c.deref.ensures.value j)) ∙ sym c.in-Some.ensures.place
@@ -24,7 +24,7 @@ made c = c.in-Ok.ensures.1 ∙ ap (λ (x : Content). session_after c.self.inside
 pushed : (c : After-push_reserved) → c.push_reserved.new.self.items ≡ c.self.inside.lines.items ++ line c.args.seat (Spend c.args.finding.number c.args.finding.content) c.in-Ok.reply ∷ []
 pushed c =
     c.push_reserved.ensures.items
-    ∙ ap (λ (l : Line). c.self.inside.lines.items ++ l ∷ []) (c.line_of.ensures ∙ (λ j. line c.args.seat (Spend (c.number-number.ensures j) (c.into_content-content.ensures j)) c.in-Ok.reply))
+    ∙ ap (λ (l : Line). c.self.inside.lines.items ++ l ∷ []) (c.line_of.ensures ∙ (λ j. line c.args.seat (Spend (c.number-number.ensures j) (c.into_contents-content.ensures.0 j)) c.in-Ok.reply))
 
 pub invariant_of-self-2 : goal.invariant_of-self-2
 invariant_of-self-2 c =
