@@ -1,14 +1,14 @@
 // The answers to the lines of a script.
 ghost use Rattle.std.specs.Prelude.{◌≡◌, ◌++◌, OnOk, string_bytes};
-ghost use Rattle.reh_model.specs.Cluster.{Cluster};
-ghost use Rattle.reh_script.specs.Answers.{numbered, shown, report_answer};
+ghost use Rattle.reh_script.specs.Answers.{numbered, reply_answer, shown, report_answer};
 ghost use Rattle.reh_script.specs.Turns.{answer_text};
 
 use crate::commands::LineFault;
 use crate::reports::push_report;
 use crate::surveys::push_survey;
 use crate::texts::Named;
-use reh_cluster::{Names, State};
+use reh_cluster::Names;
+use reh_desk::Counter;
 use reh_types::{Reply, SurveyLine};
 use std::alloc::AllocError;
 
@@ -27,38 +27,43 @@ pub(crate) enum Answer {
     Hidden,
 }
 
-/// Adds an answer behind its line's number, where this state is shown, or none.
-pub(crate) fn push_answer(
+/// Adds an answer behind its line's number. What a report shows is the state that the counter shows, if it shows one.
+pub(crate) fn push_answer<C: Counter>(
     text: &mut String,
     names: &Names,
-    scene: Option<&State>,
+    counter: &C,
     number: usize,
-    answer: &Answer,
+    answer: Answer,
 ) -> Result<(), AllocError>
     ensures { OnOk result (string_bytes text.new
-        ≡ string_bytes text.old ++ numbered number (answer_text names.now (option_copied scene) answer.now)) }
+        ≡ string_bytes text.old ++ numbered number (answer_text names.now (C.scene counter.now) answer)) }
 {
     write!(text, "line {number}: ")?;
     match answer {
-        Answer::Said(reply) => {
-            let reply = Named { names, reply };
-            write!(text, "{reply}\n")
-        }
+        Answer::Said(reply) => push_reply(text, names, &reply),
         Answer::Faulty(fault) => write!(text, "{fault}\n"),
-        Answer::Report => push_state(text, scene),
+        Answer::Report => push_state(text, counter),
         Answer::Survey(lines) => {
             text.push_str("survey\n")?;
-            push_survey(text, lines)
+            push_survey(text, &lines)
         }
-        Answer::Hidden => text.push_str("not in a drill\n"),
+        Answer::Hidden => write!(text, "not in a drill\n"),
     }
 }
 
-/// Adds the report of the state that is shown, if one is.
-fn push_state(text: &mut String, scene: Option<&State>) -> Result<(), AllocError>
-    ensures { OnOk result (string_bytes text.new ≡ string_bytes text.old ++ shown (option_copied scene) report_answer) }
+/// Adds a reply.
+fn push_reply(text: &mut String, names: &Names, reply: &Reply) -> Result<(), AllocError>
+    ensures { OnOk result (string_bytes text.new ≡ string_bytes text.old ++ reply_answer names.now reply.now) }
 {
-    match scene {
+    let reply = Named { names, reply };
+    write!(text, "{reply}\n")
+}
+
+/// Adds the report of the state that the counter shows, if it shows one.
+fn push_state<C: Counter>(text: &mut String, counter: &C) -> Result<(), AllocError>
+    ensures { OnOk result (string_bytes text.new ≡ string_bytes text.old ++ shown (C.scene counter.now) report_answer) }
+{
+    match counter.whole() {
         Some(state) => {
             text.push_str("report\n")?;
             push_report(text, state)

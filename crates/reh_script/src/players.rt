@@ -120,11 +120,7 @@ fn take<C: Counter>(
 }
 
 /// Spends the oldest finding. One whose ticket is not out stays the oldest.
-fn put<C: Counter>(
-    counter: &mut C,
-    seat: &mut Seat,
-    hand: &mut Hand,
-) -> Result<Answer, Unanswered>
+fn put<C: Counter>(counter: &mut C, seat: &mut Seat, hand: &mut Hand) -> Result<Answer, Unanswered>
     requires { C.may counter.old seat.old }
     ensures may { C.may counter.new seat.new }
     ensures ok { IfOk result (λ answer. IsAnswered C.goes C.scene (player counter.old seat.old hand.old) (Ok command.Spend) answer (player counter.new seat.new hand.new)) }

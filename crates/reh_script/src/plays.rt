@@ -183,7 +183,7 @@ fn answer_line<C: Counter, V: Surveyor>(
         return Ok(());
     };
     let answer = answer(tools, counter, seat, hand, asked)?;
-    push_answer(text, tools.names, counter.whole(), number, &answer)?;
+    push_answer(text, tools.names, counter, number, answer)?;
     Ok(())
 }
 
