@@ -3,14 +3,23 @@ use Rattle.std.specs.Prelude.{◌≡◌, ℕ, ◌+◌, ◌≤◌, if◌then◌el
 use Rattle.reh_types.specs.declared.limits.TheConstants.{MAX_LINES}
 use Rattle.reh_types.specs.declared.calls.Call.{Call}
 use Rattle.reh_types.specs.declared.calls.Line.{Line}
+use Rattle.reh_types.specs.declared.calls.TicketOut.{TicketOut}
 use Rattle.reh_types.specs.declared.moves.Reply.{Reply}
 use Rattle.reh_model.specs.Session.{Session}
-use Rattle.reh_model.specs.Book.{Book, new_book, book_after, is_written, Answers, Legal}
+use Rattle.reh_model.specs.Book.{Book, new_book, is_written, Answers, Legal}
 
 pub record Kept : Type 0 where
   pub opening : Session
   pub tape : List Line
   pub book : Book
+
+-- the same of a book's own parts
+abbrev pub kept_of : Session → Session → List Line → ℕ → List TicketOut → Kept
+kept_of opening session lines last_ticket out = record {
+  opening = opening;
+  tape = lines;
+  book = record { session = session; lines = length lines; last_ticket = last_ticket; out = out };
+}
 
 -- a book on a session, before its first call
 abbrev pub opened : Session → Kept

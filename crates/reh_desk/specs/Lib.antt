@@ -1,2 +1,6 @@
-pub mod Tickets
+pub mod Numbered
+pub mod Unspent
+pub mod Replies
 pub mod Kept
+pub mod Seats
+pub mod Counted

@@ -7,11 +7,13 @@ ghost use Rattle.reh_types.specs.declared.moves.Reply.{Reply};
 ghost use Rattle.reh_model.specs.Book.{is_written};
 ghost use Rattle.reh_model.specs.Cluster.{Cluster};
 ghost use Rattle.reh_model.specs.Scan.{scan};
+ghost use Rattle.reh_model.specs.Session.{state_of};
+ghost use Rattle.reh_desk.specs.Kept.{Called};
 ghost use Rattle.reh_desk.specs.Replies.{checked_out, spent, discarded};
 ghost use Rattle.reh_desk.specs.Seats.{SeatView, gained};
 ghost use Rattle.reh_desk.specs.Unspent.{number_of, aim_of};
 
-use crate::books::SpendFault;
+use crate::books::{Book, SpendFault};
 use crate::seats::Seat;
 use crate::tickets::{Finding, Stray, Ticket, Unspent};
 use reh_cluster::State;
@@ -67,4 +69,32 @@ pub trait Counter {
         ensures goes { goes self.old seat.old.number (call.Discard (number_of unspent) (aim_of unspent)) (discarded result) self.new }
         ensures seat { seat.new ≡ gained seat.old (call.Discard (number_of unspent) (aim_of unspent)) (discarded result) }
         ensures back { IfErr result (λ stray. stray ≡ unspent) };
+}
+
+impl Counter for Book {
+    ghost may = { λ k s. length k.book.out ≡ s.out };
+
+    ghost goes = { Called };
+
+    ghost scene = { λ k. Some (state_of k.book.session) };
+
+    fn whole(&self) -> Option<&State> {
+        Book::whole(self)
+    }
+
+    fn call(&mut self, seat: &mut Seat, step: Move) -> Reply {
+        self.call_for(seat, step)
+    }
+
+    fn checkout(&mut self, seat: &mut Seat, aim: Aim) -> Result<Ticket, Refusal> {
+        self.checkout_for(seat, aim)
+    }
+
+    fn spend(&mut self, seat: &mut Seat, finding: Finding) -> Result<Reply, SpendFault> {
+        self.spend_for(seat, finding)
+    }
+
+    fn discard(&mut self, seat: &mut Seat, unspent: Unspent) -> Result<(), Stray> {
+        self.discard_for(seat, unspent)
+    }
 }

@@ -1,9 +1,15 @@
-// Tickets and findings, which have to be spent or given back, and the book at which they are.
+// Tickets and findings, which have to be spent or given back, the book at which they are, and seats, which make its calls.
 #![tactic(auto)]
 
 mod books;
+mod counters;
+mod laws;
+mod seats;
 mod tickets;
 
 pub use books::{Book, SpendCause, SpendFault};
-pub use reh_types::{Call, Line};
+pub use counters::Counter;
+pub use laws::tickets_differ;
+pub use reh_types::{Call, Exchange, Line};
+pub use seats::Seat;
 pub use tickets::{Finding, Stray, Ticket, Unspent, scan};

@@ -1,6 +1,6 @@
 // Tickets, what is found with them, and what is left of one that a book doesn't know.
 ghost use Rattle.std.specs.Prelude.{◌≡◌, IfOk, IfErr};
-ghost use Rattle.reh_desk.specs.Tickets.{number_of, aim_of};
+ghost use Rattle.reh_desk.specs.Unspent.{number_of, aim_of};
 
 use reh_scan::{Job, look};
 use reh_types::{Aim, Content};
@@ -18,7 +18,7 @@ pub struct Ticket {
 }
 
 impl Model for Ticket {
-    ghost use Rattle.reh_desk.specs.Tickets.{Numbered};
+    ghost use Rattle.reh_desk.specs.Numbered.{Numbered};
 
     ghost Value = { Numbered };
 
@@ -37,7 +37,7 @@ pub struct Finding {
 
 impl Model for Finding {
     ghost use Rattle.std.specs.Prelude.{◌≡◌};
-    ghost use Rattle.reh_desk.specs.Tickets.{Numbered};
+    ghost use Rattle.reh_desk.specs.Numbered.{Numbered};
 
     ghost Value = { Numbered };
 
@@ -117,16 +117,16 @@ impl Finding {
         &self.content
     }
 
-    // The content, for the tape's line.
-    pub(crate) fn into_content(self) -> Content
-        ensures { result ≡ self.content }
+    // The content, for the tape's line, and once more, for the seat's.
+    pub(crate) fn into_contents(self) -> (Content, Content)
+        ensures { (result.0 ≡ self.content) × (result.1 ≡ self.content) }
     {
         let Finding {
             number: _,
             content,
-            copy: _,
+            copy,
         } = self;
-        content
+        (content, copy)
     }
 }
 
@@ -156,7 +156,7 @@ impl Unspent {
         match self {
             Unspent::Unscanned(ticket) => ticket.end(),
             Unspent::Scanned(finding) => {
-                let _content = finding.into_content();
+                let _contents = finding.into_contents();
             }
         }
     }

@@ -382,10 +382,3 @@ done_within m event accepted room =
     let few : nat_le MAX_EVENTS (length m.done) ≡ false = grind (arith, nat_tests) in
     ap (λ (o : Option Refusal). reply_unless (first_reason (o ∷ no_room m ∷ []))) accepted
     ∙ ap (λ (b : Bool). reply_unless (first_reason (reason_if b Full ∷ []))) few
-
--- and where there is none, it is refused for that
-pub full_without : (m : Session) (event : Event) → refusal_of (state_of m) event ≡ None → MAX_EVENTS ≤ length m.done → reply_to m (Do event) ≡ Refused Full
-full_without m event accepted many =
-    let full : nat_le MAX_EVENTS (length m.done) ≡ true = grind (arith, nat_tests) in
-    ap (λ (o : Option Refusal). reply_unless (first_reason (o ∷ no_room m ∷ []))) accepted
-    ∙ ap (λ (b : Bool). reply_unless (first_reason (reason_if b Full ∷ []))) full

@@ -18,7 +18,7 @@ use Rattle.reh_model.proofs.Examples.{replies, played_session}
 use Rattle.reh_model.proofs.TaskExamples.{five_bookies, closed_ledger, open_ledger}
 
 -- the second bookie is lost, and the fourth bookie's worker locks the ledger's task
-abbrev loss_and_lock : ℕ → List Move
+abbrev pub loss_and_lock : ℕ → List Move
 loss_and_lock ledger = Do (Lose 1) ∷ Do Audit ∷ Do (Acquire 3 ledger) ∷ []
 
 -- what that worker then does for the lost member

@@ -19,11 +19,14 @@ pub mod Examples
 pub mod TaskExamples
 pub mod CopyExamples
 pub mod OpenExamples
+pub mod ScanExamples
+pub mod BookExamples
 pub mod PlaceExamples
 pub mod SurveyExamples
 pub mod CheckLaws
 pub mod AcceptedLaws
 pub mod PostLaws
+pub mod ScanLaws
 pub mod WellFormedLaws
 pub mod SwapLaws
 pub mod BookLaws

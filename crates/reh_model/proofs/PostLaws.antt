@@ -1,13 +1,15 @@
 -- Posts: the copy that an accepted one stands for is accepted too.
-use Rattle.std.proofs.Common.{◌≡◌, ℕ, Bool, true, false, not, cond, ◌&&◌, ◌||◌, List, [], ◌∷◌, map, length, Option, None, Some, refl, sym, ap, ◌∙◌, arith, nat_eq, nat_lt}
+use Rattle.std.proofs.Common.{◌≡◌, ℕ, Bool, true, false, not, cond, ◌&&◌, ◌||◌, List, [], ◌∷◌, map, length, Option, None, Some, inl, inr, refl, sym, ap, ◌∙◌, arith, nat_eq, nat_lt}
 use Rattle.std.specs.Prelude.{◌==◌, is_none, slice_get}
 use Rattle.std.specs.List.{find, list_any, zip}
 use Rattle.std.specs.Option.{option_map, option_map_or, option_eq}
 use Rattle.std.specs.Str.{bytes_eq}
+use Rattle.std.proofs.Math.Bool.{or-true}
 use Rattle.std.proofs.lemmas.Bool.Decides.{nat_tests}
 use Rattle.reh_types.specs.declared.contents.Content.{Content}
-use Rattle.reh_types.specs.declared.moves.Move.TheVariants.{Post}
-use Rattle.reh_types.specs.declared.moves.Reply.TheVariants.{Done}
+use Rattle.reh_types.specs.declared.moves.Move.TheVariants.{Do, Post}
+use Rattle.reh_types.specs.declared.moves.Reply.{Reply}
+use Rattle.reh_types.specs.declared.moves.Reply.TheVariants.{Done, Clock, Issued, Discarded, Refused}
 use Rattle.reh_types.specs.declared.refusals.Refusal.{Refusal}
 use Rattle.reh_types.specs.declared.refusals.Refusal.TheVariants.{NoIndex, NoEndpoint, NoSource, Stale}
 use Rattle.reh_model.specs.Metadata.{Metadata, Fragment, stop_of, stripe_of, writes}
@@ -16,7 +18,7 @@ use Rattle.reh_model.specs.Checks.{first_reason, reason_if}
 use Rattle.reh_model.specs.Refusals.{with_ledger, at_ledger, with_fragment, at_fragment, no_bookie, not_owner, stale_version, no_index, member_up, target_down, target_is_member, no_endpoint, no_place, no_source}
 use Rattle.reh_model.specs.Scan.{is_fragment_as_seen, is_as_seen, not_as_seen, lost_source, lost_sources, source_checks, post_checks, post_refusal, copy_of}
 use Rattle.reh_model.specs.Step.{refusal_of, copy_checks}
-use Rattle.reh_model.specs.Session.{Session, state_of, reply_unless, no_room, reply_to}
+use Rattle.reh_model.specs.Session.{Session, state_of, reply_unless, no_room, reply_to, session_after, Performs}
 use Rattle.reh_model.proofs.CheckLaws.{reason_if-none, check-none, both-none}
 use Rattle.reh_model.proofs.AcceptedLaws.{with_fragment-none, not_not, accepted_ledger}
 
@@ -32,12 +34,8 @@ any_member p b [] any passes = cc
 any_member p b (x ∷ xs) any passes =
     elim (x == b) as (λ same. (x == b) ≡ same → (same || list_any (λ member. member == b) xs) ≡ true → (p x || list_any p xs) ≡ true) [
       | true ↦ λ is _. let here : x ≡ b = grind (arith, nat_tests, is) in ap (λ a. a || list_any p xs) (ap p here ∙ passes)
-      | false ↦ λ _ later. ap (λ a. p x || a) (any_member p b xs later passes) ∙ or_true (p x)
+      | false ↦ λ _ later. ap (λ a. p x || a) (any_member p b xs later passes) ∙ or-true (p x)
     ] refl any
-  where
-    or_true : (a : Bool) → (a || true) ≡ true
-    or_true true = refl
-    or_true false = refl
 
 -- an entry whose source is not lost can be read
 lost_source-none : (s : Cluster) (g : Ledger) (fragment : Fragment) (entry : ℕ) (source : Option ℕ) → lost_source s g fragment (entry, source) ≡ None → is_readable s g fragment entry ≡ true
@@ -159,9 +157,32 @@ accepted_post s content none =
     (λ j. first_reason (named j ∷ with_ledger (found.is j) (copy_checks s w f i content.version) ∷ []))
     ∙ (λ j. first_reason (first_reason (owner j ∷ version j ∷ place j ∷ source j ∷ []) ∷ []))
 
--- so is that of a post that a session does
+-- Sessions
+
+-- the copy of a post that is done is accepted
 pub posted_accepted : (m : Session) (content : Content) → reply_to m (Post content) ≡ Done → refusal_of (state_of m) (copy_of content) ≡ None
 posted_accepted m content done = accepted_post (state_of m) content (none (post_refusal (state_of m) content) done) where
   none : (o : Option Refusal) → reply_unless (first_reason (o ∷ no_room m ∷ [])) ≡ Done → o ≡ None
   none None is = refl
   none (Some refusal) is = cc
+
+-- a post that is refused is answered so
+pub posted_first : (m : Session) (content : Content) (refusal : Refusal) → post_refusal (state_of m) content ≡ Some refusal → reply_to m (Post content) ≡ Refused refusal
+posted_first m content refusal is = ap (λ (o : Option Refusal). reply_unless (first_reason (o ∷ no_room m ∷ []))) is
+
+-- one that is not is answered as its copy, and leaves what that leaves
+pub Performs-post : (m n : Session) (content : Content) (reply : Reply) → post_refusal (state_of m) content ≡ None → Performs m (Do (copy_of content)) reply n → Performs m (Post content) reply n
+Performs-post m n content reply none = performs where
+  same_reply : reply_to m (Do (copy_of content)) ≡ reply_to m (Post content)
+  same_reply = ap (λ (o : Option Refusal). reply_unless (first_reason (o ∷ no_room m ∷ []))) (accepted_post (state_of m) content none ∙ sym none)
+
+  same_session : (reply : Reply) → session_after m (Do (copy_of content)) reply ≡ session_after m (Post content) reply
+  same_session Done = refl
+  same_session (Clock clock) = refl
+  same_session (Issued number) = refl
+  same_session Discarded = refl
+  same_session (Refused refusal) = refl
+
+  performs : Performs m (Do (copy_of content)) reply n → Performs m (Post content) reply n
+  performs (inl answered) = inl (answered.0 ∙ same_reply, answered.1 ∙ same_session reply)
+  performs (inr wanted) = inr (refl, wanted.1, sym same_reply ∙ wanted.2, wanted.3)

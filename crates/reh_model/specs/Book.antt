@@ -1,5 +1,6 @@
 -- A book: a session for several seats, with tickets for scans, and a tape of calls and replies.
 use Rattle.std.specs.Prelude.{◌≡◌, ◌≢◌, ◌⊎◌, ℕ, ◌+◌, Bool, true, false, ◌&&◌, ◌==◌, nat_lt, IsTrue, if◌then◌else◌, List, [], ◌∷◌, ◌++◌, length, Option, None, Some, is_none, position, remove}
+use Rattle.std.specs.List.{flat_map}
 use Rattle.std.specs.Option.{option_map_or}
 use Rattle.reh_types.specs.declared.limits.TheConstants.{MAX_LINES}
 use Rattle.reh_types.specs.declared.calls.Call.{Call}
@@ -122,3 +123,16 @@ abbrev pub Legal : Book → List Line → Book → Type 0
 Legal b [] c = c ≡ b
 Legal b (line ∷ lines) c =
     (line.reply ≡ answer_to b line.seat line.call) × IsTrue (is_written line.reply) × Legal (book_after b line.seat line.call line.reply) lines c
+
+-- the number of the ticket that a reply issues, if it issues one
+abbrev pub issued_by : Reply → List ℕ
+issued_by (Issued number) = number ∷ []
+issued_by reply = []
+
+-- the numbers of the tickets that are issued on a tape, in its order
+abbrev pub issued_on : List Line → List ℕ
+issued_on tape = flat_map (λ line. issued_by line.reply) tape
+
+-- the line on which a ticket is issued
+abbrev pub issue_of : TicketOut → Line
+issue_of t = record { seat = t.seat; call = Checkout t.aim; reply = Issued t.number }

@@ -1,1 +1,3 @@
+pub mod JobLaws
+pub mod PostLaws
 pub mod ReadingLaws

@@ -1,5 +1,5 @@
 -- When the sources that a content names can still be used.
-use Rattle.std.specs.Prelude.{◌≡◌, ℕ, ◌<◌, Bool, true, not, ◌&&◌, ◌==◌, List, Option, None, Some, slice_get, slice_index}
+use Rattle.std.specs.Prelude.{◌≡◌, ℕ, ◌<◌, Bool, true, not, ◌&&◌, ◌==◌, List, length, Option, None, Some, slice_get, slice_index}
 use Rattle.std.specs.Borrow.{Bor}
 use Rattle.std.specs.List.{list_any}
 use Rattle.reh_types.specs.declared.contents.Content.{Content}
@@ -15,6 +15,7 @@ use Rattle.reh_scan.specs.Sources.{is_set_at}
 pub record IsSeen (m : Metadata) (content : Content) (fragment : Fragment) : Type 0 where
   pub seen : is_as_seen m content ≡ true
   pub there : slice_get m.fragments content.aim.fragment ≡ Some fragment
+  pub whole : length fragment.ensemble ≡ m.size
   pub index : content.aim.index < m.size
   pub entries : stripe_of m content.aim.fragment content.aim.index ≡ striped_entries content.first content.stop content.aim.index m.size m.write_quorum
 

@@ -25,6 +25,18 @@ pub struct Job {
     reading: Reading,
 }
 
+impl Model for Job {
+    ghost use Rattle.reh_types.specs.declared.contents.Content.{Content};
+
+    ghost Value = { Content };
+
+    ghost use Rattle.reh_scan.specs.Jobs.{content_in, IsJob};
+
+    ghost view = { content_in };
+
+    ghost invariant = { IsJob };
+}
+
 // What was read of a fragment.
 #[derive(Drop)]
 struct Reading {
@@ -51,18 +63,6 @@ impl Model for Words {
     ghost Value = { List ℕ };
 
     ghost view = { λ w. w.items.items };
-}
-
-impl Model for Job {
-    ghost use Rattle.reh_types.specs.declared.contents.Content.{Content};
-
-    ghost Value = { Content };
-
-    ghost use Rattle.reh_scan.specs.Jobs.{content_in, IsJob};
-
-    ghost view = { content_in };
-
-    ghost invariant = { IsJob };
 }
 
 impl Job {
@@ -198,7 +198,7 @@ fn find_source(reading: &Reading, entry: u32) -> Option<BookieIx>
     ensures { result ≡ source_in reading.now entry }
 {
     let members = reading.ensemble.as_slice();
-    let place = entry - reading.first / 64 * 64;
+    let place = entry - 64 * (reading.first / 64);
     for index in write_set(entry, reading.size, reading.write_quorum) {
         if is_set(&reading.rows[index as usize].items, place) {
             return Some(members[index as usize]);

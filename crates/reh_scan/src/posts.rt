@@ -1,8 +1,9 @@
 // Whether what a worker found can be posted.
-ghost use Rattle.std.specs.Prelude.{◌≡◌, ◌<◌, ◌&&◌, ◌==◌, false, length, map, slice_index, MatchOption};
+ghost use Rattle.std.specs.Prelude.{◌≡◌, ◌^◌, ◌<◌, ◌&&◌, ◌==◌, false, length, map, Some, slice_get, slice_index, MatchOption};
 ghost use Rattle.std.specs.List.{list_any, zip};
 ghost use Rattle.reh_model.specs.Checks.{first_reason};
 ghost use Rattle.reh_model.specs.Refusals.{Decides};
+ghost use Rattle.reh_model.specs.Scan as scan;
 ghost use Rattle.reh_model.specs.Scan.{is_as_seen, lost_source, post_refusal};
 ghost use Rattle.reh_model.specs.Striping as stripe;
 ghost use Rattle.reh_model.specs.Striping.{striped_entries};
@@ -37,28 +38,39 @@ fn find_seen<'a>(metadata: &'a LedgerMeta, content: &Content) -> Option<&'a Frag
     ensures { MatchOption result (is_as_seen metadata.now content.now ≡ false)
         (λ fragment. IsSeen metadata.now content.now fragment.now) }
 {
-    let number = content.aim.fragment as usize;
-    let fragment = metadata.fragments().get(number)?;
-    let is_as_seen = metadata.version() == content.version
-        && fragment.first == content.first
-        && metadata.end_of(number) == Some(content.stop)
+    let fragment = metadata.fragments().get(content.aim.fragment as usize)?;
+    if metadata.version() == content.version && is_fragment_as_seen(metadata, content, fragment) {
+        Some(fragment)
+    } else {
+        None
+    }
+}
+
+// Whether the fragment is as the content saw it, with a source, or none, for each striped entry.
+fn is_fragment_as_seen(metadata: &LedgerMeta, content: &Content, fragment: &Fragment) -> bool
+    requires { slice_get metadata.now.fragments content.now.aim.fragment ≡ Some fragment.now }
+    ensures { result ≡ scan.is_fragment_as_seen metadata.now content.now fragment.now }
+{
+    fragment.first == content.first
+        && metadata.end_of(content.aim.fragment as usize) == Some(content.stop)
         && fragment.ensemble.as_slice() == content.ensemble.as_slice()
         && content.aim.index < metadata.size() as u64
-        && content.sources.as_slice().len() == entries_of(metadata, content).count();
-    if is_as_seen { Some(fragment) } else { None }
+        && content.sources.as_slice().len() == entries_of(metadata, content).count()
 }
 
 // The entries that the content's fragment stripes onto the index, as it was seen.
 fn entries_of(metadata: &LedgerMeta, content: &Content) -> Striped
     requires { content.now.aim.index < metadata.now.size }
-    ensures { result ≡ striped_entries content.now.first content.now.stop content.now.aim.index
+    ensures entries { result ≡ striped_entries content.now.first content.now.stop content.now.aim.index
         metadata.now.size metadata.now.write_quorum }
+    ensures few { length result < 2 ^ 32 }
 {
+    let size = metadata.size();
     Striped::new(
         content.first,
         content.stop,
         content.aim.index as u32,
-        metadata.size(),
+        size,
         metadata.write_quorum(),
     )
 }

@@ -1,26 +1,29 @@
 -- Each move is answered as the machine says, and keeps what a session keeps.
-use Rattle.std.proofs.Common.{◌≡◌, ◌<◌, ◌≤◌, ◌+◌, ◌-◌, ℕ, zero, suc, List, [], ◌∷◌, ◌++◌, length, take, drop, get_or, set, sym, ap, subst, ◌∙◌, refl, arith, Option, Some, None, IsSome, is_some, inl, inr, length-append}
+use Rattle.std.proofs.Common.{◌≡◌, ◌<◌, ◌≤◌, ◌+◌, ◌-◌, ℕ, zero, suc, List, [], ◌∷◌, ◌++◌, length, take, drop, get_or, set, sym, ap, subst, ◌∙◌, refl, arith, Option, Some, None, IsSome, is_some, inl, length-append}
 use Rattle.std.specs.Prelude.{unwrap_or}
 use Rattle.std.proofs.lemmas.List.{take_more, drop_more, take_all, drop_all, take_more_set, take-set, drop-set, drop-set-lt, drop-drop, drop-take, take-take, take-append-drop, length-take-le, length-drop, length-set}
 use Rattle.std.proofs.Math.Seq.{take-add}
+use Rattle.reh_types.specs.declared.contents.Content.{Content}
 use Rattle.reh_types.specs.declared.limits.TheConstants.{MAX_EVENTS}
 use Rattle.reh_types.specs.declared.moves.Event.{Event}
 use Rattle.reh_types.specs.declared.moves.Move.{Move}
-use Rattle.reh_types.specs.declared.moves.Move.TheVariants.{Do, Undo, Redo, Look}
+use Rattle.reh_types.specs.declared.moves.Move.TheVariants.{Do, Post, Undo, Redo, Look}
 use Rattle.reh_types.specs.declared.moves.Reply.{Reply}
 use Rattle.reh_types.specs.declared.moves.Reply.TheVariants.{Done, Clock, Refused}
 use Rattle.reh_types.specs.declared.refusals.Refusal.{Refusal}
-use Rattle.reh_types.specs.declared.refusals.Refusal.TheVariants.{NothingToUndo, NothingToRedo, Full, NoMemory}
+use Rattle.reh_types.specs.declared.refusals.Refusal.TheVariants.{NothingToUndo, NothingToRedo}
 use Rattle.reh_model.specs.Cluster.{Cluster}
 use Rattle.reh_model.specs.WellFormed.{IsWellFormed}
 use Rattle.reh_model.specs.Places.{Change, exchanged, left, Fits, IsDelta}
+use Rattle.reh_model.specs.Scan.{post_refusal}
 use Rattle.reh_model.specs.Step.{refusal_of, after}
 use Rattle.reh_model.specs.Swaps.{AllSafe}
 use Rattle.reh_model.specs.Session.{Session, replay, state_of, reply_to, moved_session, Answers, Performs, Run}
 use Rattle.reh_model.proofs.SessionLaws.{replay-append, reply_unless-some}
 use Rattle.reh_model.proofs.ExchangeLaws.{IsDelta-left}
-use Rattle.reh_model.proofs.SwapLaws.{CanRedoAll, CanRedoAll-run, all_safe}
-use Rattle.reh_model.proofs.AcceptedLaws.{done_within, full_without, refused_first}
+use Rattle.reh_model.proofs.SwapLaws.{CanRedoAll, CanRedoAll-performs, CanRedoAll-run, all_safe}
+use Rattle.reh_model.proofs.AcceptedLaws.{done_within, refused_first}
+use Rattle.reh_model.proofs.PostLaws.{posted_first}
 use Rattle.reh_session.specs.Kept.{led_back, led_on, session_of, Trail, Ahead, IsKept}
 use Rattle.reh_session.proofs.Trails.{led_back-trail, replay-trail, replay-trail-first, replay-ahead, replay-ahead-first, trail_more, trail_less, IsLast}
 
@@ -63,25 +66,30 @@ module _ {s : Cluster} {es : List Event} {rs : List (List Change)} {k : ℕ} (h 
     state_is : state_of m ≡ s
     state_is = ap (λ (n : Session). state_of n) (sym is) ∙ ap (λ (x : Option Cluster). unwrap_or x (led_back s (take k rs))) replay_done
 
-    -- an event is answered with the state's refusal, if there is one
+    -- an event that the state accepts is accepted, and the other way round
+    pub accepted_now : (e : Event) → refusal_of s e ≡ None → refusal_of (state_of m) e ≡ None
+    accepted_now e accepted = ap (λ (x : Cluster). refusal_of x e) state_is ∙ accepted
+
+    pub accepted_inside : (e : Event) → refusal_of (state_of m) e ≡ None → refusal_of s e ≡ None
+    accepted_inside e accepted = ap (λ (x : Cluster). refusal_of x e) (sym state_is) ∙ accepted
+
+    -- so is a content
+    pub content_accepted : (content : Content) → post_refusal s content ≡ None → post_refusal (state_of m) content ≡ None
+    content_accepted content accepted = ap (λ (x : Cluster). post_refusal x content) state_is ∙ accepted
+
+    -- a post is answered with the state's refusal, if there is one
+    pub post_refused : (content : Content) (r : Refusal) → post_refusal s content ≡ Some r → Performs m (Post content) (Refused r) m
+    post_refused content r refused = inl (sym (posted_first m content r (ap (λ (x : Cluster). post_refusal x content) state_is ∙ refused)), refl)
+
+    -- so is an event
     pub act_refused : (e : Event) (r : Refusal) → refusal_of s e ≡ Some r → Performs m (Do e) (Refused r) m
     act_refused e r refused = inl (sym (refused_first m e r (ap (λ (x : Cluster). refusal_of x e) state_is ∙ refused)), refl)
 
-    -- else with `Full`, where there is no room for it
-    pub act_full : (e : Event) → refusal_of s e ≡ None → MAX_EVENTS ≤ k → Performs m (Do e) (Refused Full) m
-    act_full e accepted full =
-        let many : MAX_EVENTS ≤ length m.done = omega (arith, length-take-le k es h.within, ap (λ (n : Session). length n.done) is) in
-        inl (sym (full_without m e (ap (λ (x : Cluster). refusal_of x e) state_is ∙ accepted) many), refl)
-
-    -- else it is done
+    -- else an event is done, where there is room for it
     pub act_done : (e : Event) → refusal_of s e ≡ None → k < MAX_EVENTS → reply_to m (Do e) ≡ Done
     act_done e accepted room =
         let few : length m.done < MAX_EVENTS = omega (arith, length-take-le k es h.within, ap (λ (n : Session). length n.done) is) in
-        done_within m e (ap (λ (x : Cluster). refusal_of x e) state_is ∙ accepted) few
-
-    -- or nothing changes, where there is no memory for it
-    pub act_wants : (e : Event) → refusal_of s e ≡ None → k < MAX_EVENTS → (n : Session) → n ≡ m → Performs m (Do e) (Refused NoMemory) n
-    act_wants e accepted room n same = inr (refl, refl, act_done e accepted room, same)
+        done_within m e (accepted_now e accepted) few
 
     -- a look shows the state's clock
     pub look_answers : (clock : ℕ) → clock ≡ s.clock → Performs m Look (Clock clock) m
@@ -91,7 +99,11 @@ module _ {s : Cluster} {es : List Event} {rs : List (List Change)} {k : ℕ} (h 
     pub kept_safe : AllSafe m
     kept_safe = subst AllSafe is (all_safe _ all_redoable)
 
-    -- and still does after a run
+    -- and still does after a move
+    pub perform_safe : (n : Session) (move : Move) (reply : Reply) → Performs m move reply n → AllSafe n
+    perform_safe n move reply performs = all_safe n (CanRedoAll-performs m move reply n performs (subst CanRedoAll is all_redoable))
+
+    -- and after a run
     pub run_safe : (n : Session) (moves : List Move) (replies : List Reply) → Run m moves replies n → AllSafe n
     run_safe n moves replies run = all_safe n (CanRedoAll-run m moves replies n run (subst CanRedoAll is all_redoable))
 

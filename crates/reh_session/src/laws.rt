@@ -1,9 +1,12 @@
 // What holds of every session, whatever cluster it opened on.
-ghost use Rattle.std.specs.Prelude.{◌≡◌, ℕ, [], ◌∷◌, None, IsSome};
+ghost use Rattle.std.specs.Prelude.{◌≡◌, ℕ, [], ◌∷◌, None, Some, IsSome};
+ghost use Rattle.reh_types.specs.declared.contents.Content.{Content};
 ghost use Rattle.reh_types.specs.declared.moves.Event.{Event};
 ghost use Rattle.reh_types.specs.declared.moves.Move.TheVariants.{Do, Undo};
 ghost use Rattle.reh_types.specs.declared.moves.Reply.TheVariants.{Done};
+ghost use Rattle.reh_types.specs.declared.names.Aim.{Aim};
 ghost use Rattle.reh_model.specs.Cluster.{Cluster, stop_at, stripe_at};
+ghost use Rattle.reh_model.specs.Scan.{aim_refusal, scan, post_refusal, copy_of};
 ghost use Rattle.reh_model.specs.Step.{refusal_of, after};
 ghost use Rattle.reh_model.specs.Session.{Session, state_of, reply_to, moved_session};
 
@@ -24,4 +27,13 @@ pub fn stripes_stay()
         IsSome (stop_at s l f) → stop_at (after s event) l f ≡ stop_at s l f }
     ensures stripes { (s : Cluster) (event : Event) → refusal_of s event ≡ None → (l f i : ℕ) →
         IsSome (stop_at s l f) → stripe_at (after s event) l f i ≡ stripe_at s l f i }
+{}
+
+/// The copy that an accepted post stands for is accepted, too. What a scan finds for an aim that is not refused is posted in
+/// that state as its copy would be made: with the same refusal, or with none.
+pub fn posts_are_copies()
+    ensures accepted { (s : Cluster) (content : Content) → post_refusal s content ≡ None
+        → refusal_of s (copy_of content) ≡ None }
+    ensures scanned { (s : Cluster) (aim : Aim) (content : Content) → aim_refusal s aim ≡ None → scan s aim ≡ Some content
+        → post_refusal s content ≡ refusal_of s (copy_of content) }
 {}

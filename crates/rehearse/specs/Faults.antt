@@ -6,7 +6,7 @@ use Rattle.reh_script.specs.declared.faults.PipeFault.{PipeFault}
 use Rattle.reh_script.specs.declared.faults.PipeFault.TheVariants as pipe_fault
 use Rattle.rehearse.specs.declared.faults.RunFault.{RunFault}
 use Rattle.reh_script.specs.declared.streams.StreamFault.{StreamFault}
-use Rattle.rehearse.specs.declared.faults.RunFault.TheVariants.{Picture, ReadFault, TooLong, WriteFault, NoMemory}
+use Rattle.rehearse.specs.declared.faults.RunFault.TheVariants.{Picture, ReadFault, TooLong, WriteFault, NoMemory, NoThread}
 
 -- how a run ends once its answers were flushed: a failed flush is a write fault where answers were lost, and any other fault stays
 abbrev pub end_after_flush : Result (Unit {0}) RunFault → Result (Unit {0}) StreamFault → Result (Unit {0}) RunFault
@@ -23,6 +23,7 @@ status_number ReadFault = 4
 status_number TooLong = 4
 status_number WriteFault = 5
 status_number NoMemory = 6
+status_number NoThread = 7
 
 -- what standard error shows
 abbrev pub run_fault_text : RunFault → List ℕ
@@ -31,6 +32,7 @@ run_fault_text ReadFault = codes "read fault"
 run_fault_text TooLong = codes "script too long"
 run_fault_text WriteFault = codes "write fault"
 run_fault_text NoMemory = codes "no memory"
+run_fault_text NoThread = codes "no thread"
 
 -- a pipe's fault as the run's
 abbrev pub run_fault_of : PipeFault → RunFault
@@ -39,3 +41,4 @@ run_fault_of (pipe_fault.Play play_fault.ReadFault) = ReadFault
 run_fault_of (pipe_fault.Play play_fault.TooLong) = TooLong
 run_fault_of (pipe_fault.Play play_fault.WriteFault) = WriteFault
 run_fault_of (pipe_fault.Play play_fault.NoMemory) = NoMemory
+run_fault_of (pipe_fault.Play play_fault.NoThread) = NoThread

@@ -22,6 +22,8 @@ pub enum RunFault {
     WriteFault,
     /// There is no memory.
     NoMemory,
+    /// There is no thread for a survey.
+    NoThread,
 }
 
 /// The exit status of a fault.
@@ -33,6 +35,7 @@ pub fn status_of(fault: &RunFault) -> u8
         RunFault::ReadFault | RunFault::TooLong => 4,
         RunFault::WriteFault => 5,
         RunFault::NoMemory => 6,
+        RunFault::NoThread => 7,
     }
 }
 
@@ -49,6 +52,7 @@ impl fmt::Display for RunFault {
             RunFault::TooLong => write!(f, "script too long"),
             RunFault::WriteFault => write!(f, "write fault"),
             RunFault::NoMemory => write!(f, "no memory"),
+            RunFault::NoThread => write!(f, "no thread"),
         }
     }
 }
@@ -97,6 +101,7 @@ impl From<PipeFault> for RunFault {
             PipeFault::Play(PlayFault::TooLong) => RunFault::TooLong,
             PipeFault::Play(PlayFault::WriteFault) => RunFault::WriteFault,
             PipeFault::Play(PlayFault::NoMemory) => RunFault::NoMemory,
+            PipeFault::Play(PlayFault::NoThread) => RunFault::NoThread,
         }
     }
 }

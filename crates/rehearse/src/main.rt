@@ -8,8 +8,10 @@ mod tasks;
 
 use clap::Error;
 use faults::{RunFault, after_flush, status_of, want_of_memory};
+use reh_crew::Plain;
+use reh_desk::Book;
 use reh_picture::read_picture;
-use reh_script::{FromRead, ToWrite, pipe, play, read};
+use reh_script::{FromRead, ToWrite, pipe, play_book, read};
 use reh_session::Session;
 use reh_types::MAX_PICTURE_BYTES;
 use std::io::{BufWriter, Write};
@@ -67,7 +69,7 @@ fn run(rt: &HostRuntime, task: Task<'_>) -> Result<(), RunFault> {
     let played = match task {
         Task::Pipe => {
             let mut reader = FromRead::new(rt.reader());
-            pipe(rt.alloc(), &mut reader, &mut writer).map_err(RunFault::from)
+            pipe(rt.alloc(), &Plain, &mut reader, &mut writer).map_err(RunFault::from)
         }
         Task::Run { picture, script } => run_files(rt, picture, script, &mut writer),
     };
@@ -75,7 +77,7 @@ fn run(rt: &HostRuntime, task: Task<'_>) -> Result<(), RunFault> {
     after_flush(played, flushed)
 }
 
-/// Plays a script file on a picture file. The picture is judged before the script is opened.
+/// Plays a script file on a picture file, by the one seat of a book. The picture is judged before the script is opened.
 fn run_files<W: Write>(
     rt: &HostRuntime,
     picture: &str,
@@ -90,8 +92,20 @@ fn run_files<W: Write>(
         return Err(RunFault::ReadFault);
     }
     let state = read_picture(rt.alloc(), &picture.bytes)?;
-    let mut session = Session::open(rt.alloc(), state)?;
+    let names = state.names().clone_in()?;
+    let (mut book, mut seat) = match Book::open(Session::open(rt.alloc(), state)?) {
+        Ok(opened) => opened,
+        Err((_, want)) => return Err(RunFault::from(want)),
+    };
     let mut reader = FromRead::new(fs::open(rt, script)?);
-    play(rt.alloc(), &mut session, &mut reader, writer)?;
+    play_book(
+        rt.alloc(),
+        &mut book,
+        &mut seat,
+        &names,
+        &Plain,
+        &mut reader,
+        writer,
+    )?;
     Ok(())
 }
