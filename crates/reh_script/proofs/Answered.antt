@@ -1,14 +1,19 @@
 -- Which lines of a script are answered, and how a play of them ends.
 use Rattle.std.proofs.Common.{◌≡◌, ℕ, ◌<◌, ◌≤◌, Bool, true, false, cond, List, ◌++◌, length, take, sym, ap, ◌∙◌, arith, length-append, Option, None, Some, subst, inl, inr}
-use Rattle.std.specs.Prelude.{◌&&◌, not, Result, Ok, Err, IsErrAnd, ◌⊎◌}
+use Rattle.std.specs.Prelude.{◌&&◌, not, Ok, Err, ◌⊎◌}
 use Rattle.std.proofs.lemmas.Bool.Decides.{nat_tests}
 use Rattle.std.proofs.lemmas.List.{take_all, take-append-le}
 use Rattle.reh_types.specs.declared.limits.TheConstants.{MAX_SCRIPT_BYTES}
-use Rattle.reh_model.specs.Session.{Session}
+use Rattle.reh_types.specs.declared.calls.Call.{Call}
+use Rattle.reh_types.specs.declared.moves.Reply.{Reply}
+use Rattle.reh_model.specs.Cluster.{Cluster}
+use Rattle.reh_desk.specs.Seats.{SeatView}
 use Rattle.reh_script.specs.Lines.{lines_of, ended, is_script, answered_lines}
+use Rattle.reh_script.specs.Players.{Player, Ends}
 use Rattle.reh_script.specs.Plays.{stop_of, AnswersAll, IsPlayed}
+use Rattle.reh_script.specs.Turns.{LeadsTo}
 use Rattle.reh_script.specs.declared.faults.PlayFault.{PlayFault}
-use Rattle.reh_script.specs.declared.faults.PlayFault.TheVariants.{ReadFault, TooLong, WriteFault, NoMemory}
+use Rattle.reh_script.specs.declared.faults.PlayFault.TheVariants.{ReadFault, TooLong, WriteFault, NoMemory, NoThread}
 
 pub is_script-within : (script : List ℕ) → length script ≤ MAX_SCRIPT_BYTES → is_script script ≡ true
 is_script-within script within = grind (arith, nat_tests)
@@ -54,17 +59,18 @@ stop_of-append script more long =
     stop_of-long false (script ++ more) (not_script (script ++ more) longer) ∙ sym (stop_of-long false script (not_script script long))
 
 -- where a line's answer is the last
-pub stops_early : (lines all : List (List ℕ)) (stop : Option PlayFault) (fault : PlayFault) (result : Result (Unit {0}) PlayFault) (m n : Session) (old new : Option (List ℕ)) → lines ≡ all → IsErrAnd result (λ e. e ≡ fault)
-    → IsPlayed lines None (Err fault) m n old new → IsPlayed all stop result m n old new
-stops_early lines all stop fault (Ok x) m n old new same is played = absurd is
-stops_early lines all stop fault (Err e) m n old new same is played =
-    subst (λ (f : PlayFault). IsPlayed all stop (Err f) m n old new) (sym is) (subst (λ (ls : List (List ℕ)). IsPlayed ls stop (Err fault) m n old new) same (stops lines stop fault m n old new played))
-  where
-    stops : (lines : List (List ℕ)) (stop : Option PlayFault) (fault : PlayFault) (m n : Session) (old new : Option (List ℕ)) → IsPlayed lines None (Err fault) m n old new → IsPlayed lines stop (Err fault) m n old new
-    stops lines stop ReadFault m n old new played = let none : None ≡ Some ReadFault = played.0 in cc
-    stops lines stop TooLong m n old new played = let none : None ≡ Some TooLong = played.0 in cc
-    stops lines stop WriteFault m n old new played = played
-    stops lines stop NoMemory m n old new played = played
+stops : {S : Type 0} (go : S → ℕ → Call → Reply → S → Type 0) (scene : S → Option Cluster) (names : List (List ℕ)) (lines : List (List ℕ)) (stop : Option PlayFault) (fault : PlayFault) (x : Player S) (last : S) (end : SeatView) (old new : Option (List ℕ))
+    → IsPlayed go scene names lines None (Err fault) x last end old new → IsPlayed go scene names lines stop (Err fault) x last end old new
+stops go scene names lines stop ReadFault x last end old new played = let none : None ≡ Some ReadFault = played.0 in cc
+stops go scene names lines stop TooLong x last end old new played = let none : None ≡ Some TooLong = played.0 in cc
+stops go scene names lines stop WriteFault x last end old new played = played
+stops go scene names lines stop NoMemory x last end old new played = played
+stops go scene names lines stop NoThread x last end old new played = played
+
+pub stops_early : {S : Type 0} (go : S → ℕ → Call → Reply → S → Type 0) (scene : S → Option Cluster) (names : List (List ℕ)) (lines all : List (List ℕ)) (stop : Option PlayFault) (fault : PlayFault) (x y : Player S) (last : S) (end : SeatView) (old new : Option (List ℕ)) → lines ≡ all
+    → LeadsTo go scene names lines (Err fault) x y old new → Ends go y last end → IsPlayed go scene names all stop (Err fault) x last end old new
+stops_early go scene names lines all stop fault x y last end old new same leads ends =
+    subst (λ (ls : List (List ℕ)). IsPlayed go scene names ls stop (Err fault) x last end old new) same (stops go scene names lines stop fault x last end old new (leads last end ends))
 
 -- a play stops for no other fault
 not_lost : (failed : Bool) (script : List ℕ) (fault : PlayFault) → stop_of failed script ≡ Some fault → (fault ≡ ReadFault) ⊎ (fault ≡ TooLong)
@@ -78,15 +84,18 @@ not_lost failed script fault is =
     ] is
 
 -- where all lines are answered
-pub ends_well : (lines all : List (List ℕ)) (stop : Option PlayFault) (m n : Session) (old new : Option (List ℕ)) → lines ≡ all → stop ≡ None → AnswersAll lines m n old new → IsPlayed all stop (Ok tt) m n old new
-ends_well lines all stop m n old new same none answers = (none, subst (λ (ls : List (List ℕ)). AnswersAll ls m n old new) same answers)
+pub ends_well : {S : Type 0} (go : S → ℕ → Call → Reply → S → Type 0) (scene : S → Option Cluster) (names : List (List ℕ)) (lines all : List (List ℕ)) (stop : Option PlayFault) (x y : Player S) (last : S) (end : SeatView) (old new : Option (List ℕ)) → lines ≡ all → stop ≡ None
+    → LeadsTo go scene names lines (Ok tt) x y old new → Ends go y last end → IsPlayed go scene names all stop (Ok tt) x last end old new
+ends_well go scene names lines all stop x y last end old new same none leads ends =
+    (none, subst (λ (ls : List (List ℕ)). AnswersAll go scene names ls x last end old new) same (leads last end ends).1)
 
-pub ends_stopped : (failed : Bool) (script : List ℕ) (lines : List (List ℕ)) (fault : PlayFault) (m n : Session) (old new : Option (List ℕ)) → lines ≡ answered_lines failed script → Some fault ≡ stop_of failed script → AnswersAll lines m n old new
-    → IsPlayed (answered_lines failed script) (stop_of failed script) (Err fault) m n old new
-ends_stopped failed script lines fault m n old new same is answers =
-    let all : AnswersAll (answered_lines failed script) m n old new = subst (λ (ls : List (List ℕ)). AnswersAll ls m n old new) same answers in
-    let stops : PlayFault → Type 0 = λ f. IsPlayed (answered_lines failed script) (stop_of failed script) (Err f) m n old new in
+pub ends_stopped : {S : Type 0} (go : S → ℕ → Call → Reply → S → Type 0) (scene : S → Option Cluster) (names : List (List ℕ)) (failed : Bool) (script : List ℕ) (lines : List (List ℕ)) (fault : PlayFault) (x y : Player S) (last : S) (end : SeatView) (old new : Option (List ℕ))
+    → lines ≡ answered_lines failed script → Some fault ≡ stop_of failed script → LeadsTo go scene names lines (Ok tt) x y old new → Ends go y last end
+    → IsPlayed go scene names (answered_lines failed script) (stop_of failed script) (Err fault) x last end old new
+ends_stopped go scene names failed script lines fault x y last end old new same is leads ends =
+    let all : AnswersAll go scene names (answered_lines failed script) x last end old new = subst (λ (ls : List (List ℕ)). AnswersAll go scene names ls x last end old new) same (leads last end ends).1 in
+    let plays : PlayFault → Type 0 = λ f. IsPlayed go scene names (answered_lines failed script) (stop_of failed script) (Err f) x last end old new in
     elim (not_lost failed script fault (sym is)) [
-      | inl read ↦ subst stops (sym read) (sym is ∙ ap (λ (f : PlayFault). Some f) read, all)
-      | inr long ↦ subst stops (sym long) (sym is ∙ ap (λ (f : PlayFault). Some f) long, all)
+      | inl read ↦ subst plays (sym read) (sym is ∙ ap (λ (f : PlayFault). Some f) read, all)
+      | inr long ↦ subst plays (sym long) (sym is ∙ ap (λ (f : PlayFault). Some f) long, all)
     ]

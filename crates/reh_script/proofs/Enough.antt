@@ -1,28 +1,20 @@
--- What the first bytes of a long text tell of it.
-use Rattle.std.proofs.Common.{◌≡◌, ℕ, ◌<◌, Bool, true, false, cond, inl, inr, List, [], ◌++◌, length, refl, sym, ap, ◌∙◌, subst, arith, append-nil, nat_lt, Ok, Err, Result, Option, None, Some}
+-- What the first bytes of a long script tell of it.
+use Rattle.std.proofs.Common.{◌≡◌, ℕ, ◌<◌, Bool, true, false, inl, inr, List, [], ◌++◌, length, refl, sym, ap, ◌∙◌, subst, arith, append-nil, Ok, Err, Result, Option, None, Some}
 use Rattle.std.specs.Prelude.{IsErrAnd}
 use Rattle.std.proofs.lemmas.Bool.{cases_lt}
-use Rattle.std.proofs.lemmas.Bool.Decides.{nat_tests}
 use Rattle.std.proofs.KnownBytes.{Keeps-refl}
-use Rattle.reh_types.specs.declared.limits.TheConstants.{MAX_PICTURE_BYTES, MAX_SCRIPT_BYTES}
-use Rattle.reh_script.specs.declared.pipes.TheConstants.{MAX_INPUT}
+use Rattle.reh_types.specs.declared.calls.Call.{Call}
+use Rattle.reh_types.specs.declared.limits.TheConstants.{MAX_SCRIPT_BYTES}
+use Rattle.reh_types.specs.declared.moves.Reply.{Reply}
 use Rattle.reh_model.specs.Cluster.{Cluster}
-use Rattle.reh_model.specs.Session.{Session}
-use Rattle.reh_picture.specs.declared.faults.PictureFault.{PictureFault}
-use Rattle.reh_picture.specs.declared.faults.PictureFault.TheVariants.{TooLong}
-use Rattle.reh_picture.specs.Pictures.{picture_of, shown_by, json_of}
-use Rattle.reh_script.specs.Lines.{Cut, cut_of, answered_lines}
-use Rattle.reh_script.specs.Readings.{ReadsEnough, Reads}
+use Rattle.reh_desk.specs.Seats.{SeatView}
+use Rattle.reh_script.specs.Lines.{answered_lines}
+use Rattle.reh_script.specs.Players.{seated}
 use Rattle.reh_script.specs.Plays.{stop_of, IsPlayed, Plays}
-use Rattle.reh_script.specs.Pipes.{Rehearsal, rehearsal_by, rehearsal_of, IsPiped, Pipes}
+use Rattle.reh_script.specs.Readings.{ReadsEnough, Reads}
 use Rattle.reh_script.specs.declared.faults.PlayFault.{PlayFault}
 use Rattle.reh_script.specs.declared.faults.PlayFault.TheVariants.{NoMemory}
-use Rattle.reh_script.specs.declared.faults.PipeFault.{PipeFault}
-use Rattle.reh_script.specs.declared.faults.PipeFault.TheVariants.{Play}
-use Rattle.reh_script.proofs.Cuts.{cut_of-append}
 use Rattle.reh_script.proofs.Answered.{answered_lines-append, stop_of-append}
-
--- Scripts
 
 -- a script that was read far enough has the lines and the end of all
 script-enough : {Y : Type 0} (f : List ℕ → Y) → ((script more : List ℕ) → MAX_SCRIPT_BYTES < length script → f (script ++ more) ≡ f script) → (script all : List ℕ) → ReadsEnough 1_048_577 script all → f script ≡ f all
@@ -33,93 +25,29 @@ script-enough f stays script all (rest, whole, end) =
     ]
 
 -- a play of what was read is one of the text that the reader gives
-pub plays_all : (failed : Bool) (bytes : List ℕ) (left_old left_new : Option (List ℕ)) (result : Result (Unit {0}) PlayFault) (m n : Session) (old new : Option (List ℕ)) → Reads 1_048_577 failed bytes left_old left_new
-    → IsPlayed (answered_lines failed bytes) (stop_of failed bytes) result m n old new → Plays result failed left_old left_new m n old new
-plays_all true bytes left_old left_new result m n old new reads played = record { text = bytes; given = reads; played = inl played }
-plays_all false bytes None left_new result m n old new reads played = record { text = bytes; given = tt; played = inl played }
-plays_all false bytes (Some all) left_new result m n old new reads played = record {
+pub plays_all : {S : Type 0} (go : S → ℕ → Call → Reply → S → Type 0) (scene : S → Option Cluster) (names : List (List ℕ)) (failed : Bool) (bytes : List ℕ) (left_old left_new : Option (List ℕ)) (result : Result (Unit {0}) PlayFault) (s : S) (seat : SeatView) (last : S) (end : SeatView) (old new : Option (List ℕ)) → Reads 1_048_577 failed bytes left_old left_new
+    → IsPlayed go scene names (answered_lines failed bytes) (stop_of failed bytes) result (seated s seat) last end old new → Plays go scene names result failed left_old left_new s seat last end old new
+plays_all go scene names true bytes left_old left_new result s seat last end old new reads played = record { text = bytes; given = reads; played = inl played }
+plays_all go scene names false bytes None left_new result s seat last end old new reads played = record { text = bytes; given = tt; played = inl played }
+plays_all go scene names false bytes (Some all) left_new result s seat last end old new reads played = record {
   text = all;
   given = refl;
-  played = inl (subst (λ (stop : Option PlayFault). IsPlayed (answered_lines false all) stop result m n old new) (script-enough (stop_of false) stop_of-append bytes all reads)
-      (subst (λ (ls : List (List ℕ)). IsPlayed ls (stop_of false bytes) result m n old new) (script-enough (answered_lines false) answered_lines-append bytes all reads) played));
+  played = inl (subst (λ (stop : Option PlayFault). IsPlayed go scene names (answered_lines false all) stop result (seated s seat) last end old new) (script-enough (stop_of false) stop_of-append bytes all reads)
+      (subst (λ (ls : List (List ℕ)). IsPlayed go scene names ls (stop_of false bytes) result (seated s seat) last end old new) (script-enough (answered_lines false) answered_lines-append bytes all reads) played));
 }
 
-lacks_text : (left_old left_new : Option (List ℕ)) (m : Session) (old : Option (List ℕ)) → Plays (Err NoMemory) false left_old left_new m m old old
-lacks_text None left_new m old = record { text = []; given = tt; played = inr (refl, refl, refl, Keeps-refl old) }
-lacks_text (Some all) left_new m old = record { text = all; given = refl; played = inr (refl, refl, refl, Keeps-refl old) }
+lacks_text : {S : Type 0} (go : S → ℕ → Call → Reply → S → Type 0) (scene : S → Option Cluster) (names : List (List ℕ)) (left_old left_new : Option (List ℕ)) (s : S) (seat : SeatView) (old : Option (List ℕ)) → Plays go scene names (Err NoMemory) false left_old left_new s seat s seat old old
+lacks_text go scene names None left_new s seat old = record { text = []; given = tt; played = inr (refl, refl, refl, refl, Keeps-refl old) }
+lacks_text go scene names (Some all) left_new s seat old = record { text = all; given = refl; played = inr (refl, refl, refl, refl, Keeps-refl old) }
 
--- a play that finds no memory for its text
-pub plays_none : (result : Result (Unit {0}) PlayFault) (failed : Bool) (left_old left_new : Option (List ℕ)) (m : Session) (old : Option (List ℕ)) → IsErrAnd result (λ e. e ≡ NoMemory) → failed ≡ false
-    → Plays result failed left_old left_new m m old old
-plays_none (Ok x) failed left_old left_new m old is fine = absurd is
-plays_none (Err e) failed left_old left_new m old is fine =
-    subst (λ (f : Bool). Plays (Err e) f left_old left_new m m old old) (sym fine) (subst (λ (f : PlayFault). Plays (Err f) false left_old left_new m m old old) (sym is) (lacks_text left_old left_new m old))
+-- a play that finds no memory for its hand or its text
+pub plays_none : {S : Type 0} (go : S → ℕ → Call → Reply → S → Type 0) (scene : S → Option Cluster) (names : List (List ℕ)) (fault : PlayFault) (failed : Bool) (left_old left_new : Option (List ℕ)) (s : S) (seat : SeatView) (old : Option (List ℕ)) → fault ≡ NoMemory → failed ≡ false
+    → Plays go scene names (Err fault) failed left_old left_new s seat s seat old old
+plays_none go scene names fault failed left_old left_new s seat old is fine =
+    subst (λ (f : Bool). Plays go scene names (Err fault) f left_old left_new s seat s seat old old) (sym fine) (subst (λ (f : PlayFault). Plays go scene names (Err f) false left_old left_new s seat s seat old old) (sym is) (lacks_text go scene names left_old left_new s seat old))
 
--- Inputs
-
--- a picture that is too long
-picture_of-long : (bytes : List ℕ) → MAX_PICTURE_BYTES < length bytes → picture_of bytes ≡ Err TooLong
-picture_of-long bytes long =
-    let past : nat_lt MAX_PICTURE_BYTES (length bytes) ≡ true = grind (arith, nat_tests) in
-    ap (λ (t : Bool). cond t (Err TooLong) (shown_by (json_of bytes))) past
-
--- is refused, whatever follows
-rehearsal-too_long : (p q s t : List ℕ) → MAX_PICTURE_BYTES < length p → MAX_PICTURE_BYTES < length q → rehearsal_by false (picture_of p) s ≡ rehearsal_by false (picture_of q) t
-rehearsal-too_long p q s t long longer =
-    ap (λ (r : Result Cluster PictureFault). rehearsal_by false r s) (picture_of-long p long) ∙ sym (ap (λ (r : Result Cluster PictureFault). rehearsal_by false r t) (picture_of-long q longer))
-
--- what follows a script that is too long doesn't matter
-rehearsal-long_script : (r : Result Cluster PictureFault) (script more : List ℕ) → MAX_SCRIPT_BYTES < length script → rehearsal_by false r script ≡ rehearsal_by false r (script ++ more)
-rehearsal-long_script (Err fault) script more long = refl
-rehearsal-long_script (Ok state) script more long =
-    let game : List (List ℕ) → Option PlayFault → Result Rehearsal PipeFault = λ lines stop. Ok (record { state = state; lines = lines; stop = stop }) in
-    ap (λ (lines : List (List ℕ)). game lines (stop_of false script)) (sym (answered_lines-append script more long))
-    ∙ ap (λ (stop : Option PlayFault). game (answered_lines false (script ++ more)) stop) (sym (stop_of-append script more long))
-
--- an input that was read far enough is what all of it is
-rehearsal-enough : (input all : List ℕ) → ReadsEnough MAX_INPUT input all → rehearsal_of false input ≡ rehearsal_of false all
-rehearsal-enough input all (rest, whole, end) =
-    elim (cases_lt (length input) MAX_INPUT) [
-      | inl short ↦ ap (rehearsal_of false) (sym (whole ∙ ap (λ (r : List ℕ). input ++ r) (end short) ∙ append-nil input))
-      | inr long ↦
-          elim (cut_of-append input rest (omega arith)) [
-            | inl far ↦
-                rehearsal-too_long (cut_of input).picture (cut_of (input ++ rest)).picture (cut_of input).script (cut_of (input ++ rest)).script (omega (arith, far.short)) (omega (arith, far.long))
-                ∙ ap (rehearsal_of false) (sym whole)
-            | inr told ↦
-                elim (cases_lt MAX_PICTURE_BYTES (length (cut_of input).picture)) [
-                  | inl past ↦
-                      rehearsal-too_long (cut_of input).picture (cut_of input).picture (cut_of input).script ((cut_of input).script ++ rest) past past
-                      ∙ ap (λ (c : Cut). rehearsal_by false (picture_of c.picture) c.script) (sym told.same) ∙ ap (rehearsal_of false) (sym whole)
-                  | inr within ↦
-                      rehearsal-long_script (picture_of (cut_of input).picture) (cut_of input).script rest (omega (arith, told.size))
-                      ∙ ap (λ (c : Cut). rehearsal_by false (picture_of c.picture) c.script) (sym told.same) ∙ ap (rehearsal_of false) (sym whole)
-                ]
-          ]
-    ]
-
--- a pipe of what was read is one of the input that the reader gives
-pub pipes_all : (failed : Bool) (bytes : List ℕ) (left_old left_new : Option (List ℕ)) (result : Result (Unit {0}) PipeFault) (old new : Option (List ℕ)) → Reads MAX_INPUT failed bytes left_old left_new
-    → IsPiped (rehearsal_of failed bytes) result old new → Pipes result failed left_old left_new old new
-pipes_all true bytes left_old left_new result old new reads ends = record { input = bytes; given = reads; ends = ends }
-pipes_all false bytes None left_new result old new reads ends = record { input = bytes; given = tt; ends = ends }
-pipes_all false bytes (Some all) left_new result old new reads ends = record {
-  input = all;
-  given = refl;
-  ends = subst (λ (r : Result Rehearsal PipeFault). IsPiped r result old new) (rehearsal-enough bytes all reads) ends;
-}
-
-lacks_state : (picture : Result Cluster PictureFault) (script : List ℕ) (old : Option (List ℕ)) → IsPiped (rehearsal_by false picture script) (Err (Play NoMemory)) old old
-lacks_state (Ok state) script old = inr (refl, Keeps-refl old)
-lacks_state (Err fault) script old = inr (refl, Keeps-refl old)
-
-lacks_input : (left_old left_new : Option (List ℕ)) (old : Option (List ℕ)) → Pipes (Err (Play NoMemory)) false left_old left_new old old
-lacks_input None left_new old = record { input = []; given = tt; ends = lacks_state _ _ old }
-lacks_input (Some all) left_new old = record { input = all; given = refl; ends = lacks_state _ _ old }
-
--- a pipe that finds no memory for its input
-pub pipes_none : (result : Result (Unit {0}) PipeFault) (failed : Bool) (left_old left_new : Option (List ℕ)) (old : Option (List ℕ)) → IsErrAnd result (λ e. e ≡ Play NoMemory) → failed ≡ false
-    → Pipes result failed left_old left_new old old
-pipes_none (Ok x) failed left_old left_new old is fine = absurd is
-pipes_none (Err e) failed left_old left_new old is fine =
-    subst (λ (f : Bool). Pipes (Err e) f left_old left_new old old) (sym fine) (subst (λ (f : PipeFault). Pipes (Err f) false left_old left_new old old) (sym is) (lacks_input left_old left_new old))
+-- handed on
+pub plays_nothing : {S : Type 0} (go : S → ℕ → Call → Reply → S → Type 0) (scene : S → Option Cluster) (names : List (List ℕ)) (result : Result (Unit {0}) PlayFault) (failed : Bool) (left_old left_new : Option (List ℕ)) (s : S) (seat : SeatView) (old : Option (List ℕ)) → IsErrAnd result (λ e. e ≡ NoMemory) → failed ≡ false
+    → Plays go scene names result failed left_old left_new s seat s seat old old
+plays_nothing go scene names (Ok done) failed left_old left_new s seat old is fine = absurd is
+plays_nothing go scene names (Err fault) failed left_old left_new s seat old is fine = plays_none go scene names fault failed left_old left_new s seat old is fine

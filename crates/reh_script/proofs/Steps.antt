@@ -1,96 +1,130 @@
 -- A play after its first lines, one line at a time.
-use Rattle.std.proofs.Common.{◌≡◌, ℕ, suc, ◌+◌, ◌-◌, ◌<◌, List, [], ◌∷◌, ◌++◌, length, take, drop, Option, refl, sym, ap, ◌∙◌, subst, arith, append-nil, length-append}
+use Rattle.std.proofs.Common.{◌≡◌, ℕ, suc, ◌+◌, ◌-◌, ◌<◌, List, [], ◌∷◌, ◌++◌, length, take, drop, Option, None, Ok, Err, true, refl, sym, ap, ◌∙◌, subst, arith, append-nil, length-append}
 use mathlib.Core.List.{append_assoc}
 use Rattle.std.proofs.lemmas.List.{take_rest, take-append-drop}
 use Rattle.std.proofs.KnownBytes.{Appends-trans, Appends-nil}
 use Rattle.std.specs.Io.KnownBytes.{Appends}
-use Rattle.reh_model.specs.Session.{Session}
-use Rattle.reh_script.specs.Transcript.{transcript, line_answer, after_line, after_lines}
-use Rattle.reh_script.specs.Plays.{AnswersAll, StopsWriting, LacksAnswer, StopsForMemory}
+use Rattle.reh_types.specs.declared.calls.Call.{Call}
+use Rattle.reh_types.specs.declared.moves.Reply.{Reply}
+use Rattle.reh_model.specs.Cluster.{Cluster}
+use Rattle.reh_desk.specs.Numbered.{Numbered}
+use Rattle.reh_desk.specs.Seats.{SeatView}
+use Rattle.reh_crew.specs.declared.surveyors.SurveyFault.{SurveyFault}
+use Rattle.reh_crew.specs.declared.surveyors.SurveyFault.TheVariants as survey_fault
+use Rattle.reh_script.specs.declared.faults.PlayFault.TheVariants.{WriteFault}
+use Rattle.reh_script.specs.Answers.{asked}
+use Rattle.reh_script.specs.Lines.{lines_of}
+use Rattle.std.specs.Prelude.{◌==◌}
+use Rattle.std.proofs.lemmas.Bool.Decides.{nat_tests}
+use Rattle.reh_script.specs.Faults.{play_fault_of}
+use Rattle.reh_script.specs.Players.{Player, Takes, TakesAll, Begins}
+use Rattle.reh_script.specs.Plays.{StopsWanting, IsPlayed}
+use Rattle.reh_script.specs.Turns.{player, held, LeadsTo}
 
 -- Of all lines the first were taken and answered, so many, and these are left.
-pub record IsAt (all left : List (List ℕ)) (number : ℕ) (m x : Session) (old mid : Option (List ℕ)) : Type 0 where
+pub record IsAt {S : Type 0} (go : S → ℕ → Call → Reply → S → Type 0) (scene : S → Option Cluster) (names : List (List ℕ)) (all left : List (List ℕ)) (number : ℕ) (x y : Player S) (old mid : Option (List ℕ)) : Type 0 where
   pub done : List (List ℕ)
+  pub text : List ℕ
   pub split : all ≡ done ++ left
   pub count : number ≡ length done
-  pub taken : x ≡ after_lines m done
-  pub written : Appends old mid (transcript m 1 done)
+  pub taken : TakesAll go scene names x 1 done text y
+  pub written : Appends old mid text
 
-after_lines-append : (m : Session) (lines : List (List ℕ)) (line : List ℕ) → after_lines m (lines ++ line ∷ []) ≡ after_line (after_lines m lines) line
-after_lines-append m [] line = refl
-after_lines-append m (l ∷ ls) line = after_lines-append (after_line m l) ls line
+-- lines, and one more
+takes_more : {S : Type 0} (go : S → ℕ → Call → Reply → S → Type 0) (scene : S → Option Cluster) (names : List (List ℕ)) (x : Player S) (n : ℕ) (lines : List (List ℕ)) (text : List ℕ) (y : Player S) (line answer : List ℕ) (z : Player S) → TakesAll go scene names x n lines text y
+    → Takes go scene names y (n + length lines) (asked names line) answer z → TakesAll go scene names x n (lines ++ line ∷ []) (text ++ answer) z
+takes_more go scene names x n [] text y line answer z taken next =
+    let none : n + 0 ≡ n = omega arith in
+    (answer, [], z, ap (λ t. t ++ answer) taken.0 ∙ sym (append-nil answer), subst (λ v. Takes go scene names v n (asked names line) answer z) taken.1 (subst (λ i. Takes go scene names y i (asked names line) answer z) none next), (refl, refl))
+takes_more go scene names x n (l ∷ lines) text y line answer z taken next =
+    let shift : n + suc (length lines) ≡ n + 1 + length lines = omega arith in (
+      taken.0,
+      taken.1 ++ answer,
+      taken.2,
+      ap (λ t. t ++ answer) taken.3 ∙ append_assoc taken.0 taken.1 answer,
+      taken.4,
+      takes_more go scene names taken.2 (n + 1) lines taken.1 y line answer z taken.5 (subst (λ i. Takes go scene names y i (asked names line) answer z) shift next),
+    )
 
-transcript-append : (m : Session) (n : ℕ) (lines : List (List ℕ)) (line : List ℕ) → transcript m n (lines ++ line ∷ []) ≡ transcript m n lines ++ line_answer (after_lines m lines) (n + length lines) line
-transcript-append m n [] line =
-    let none : n ≡ n + 0 = omega arith in
-    append-nil (line_answer m n line) ∙ ap (λ (i : ℕ). line_answer m i line) none
-transcript-append m n (l ∷ ls) line =
-    let next : Session = after_line m l in
-    let shift : n + 1 + length ls ≡ n + suc (length ls) = omega arith in
-    ap (λ (t : List ℕ). line_answer m n l ++ t) (transcript-append next (n + 1) ls line)
-    ∙ sym (append_assoc (line_answer m n l) (transcript next (n + 1) ls) (line_answer (after_lines next ls) (n + 1 + length ls) line))
-    ∙ ap (λ (i : ℕ). (line_answer m n l ++ transcript next (n + 1) ls) ++ line_answer (after_lines next ls) i line) shift
-
--- the answer to the line behind these
-answer_at : (m x : Session) (number : ℕ) (done : List (List ℕ)) (line answer : List ℕ) → number ≡ length done → x ≡ after_lines m done → answer ≡ line_answer x (number + 1) line → answer ≡ line_answer (after_lines m done) (length done + 1) line
-answer_at m x number done line answer count taken is =
-    is ∙ ap (λ (s : Session). line_answer s (number + 1) line) taken ∙ ap (λ (n : ℕ). line_answer (after_lines m done) (n + 1) line) count
-
-pub is_at_start : (all : List (List ℕ)) (m : Session) (old : Option (List ℕ)) → IsAt all all 0 m m old old
-is_at_start all m old = record { done = []; split = refl; count = refl; taken = refl; written = Appends-nil old }
+pub is_at_start : {S : Type 0} (go : S → ℕ → Call → Reply → S → Type 0) (scene : S → Option Cluster) (names : List (List ℕ)) (all : List (List ℕ)) (x : Player S) (old : Option (List ℕ)) → IsAt go scene names all all 0 x x old old
+is_at_start go scene names all x old = record { done = []; text = []; split = refl; count = refl; taken = (refl, refl); written = Appends-nil old }
 
 -- after one more line
-pub is_at_next : (all lines rest : List (List ℕ)) (line answer : List ℕ) (k : ℕ) (m x y : Session) (old mid new : Option (List ℕ)) → IsAt all lines k m x old mid → lines ≡ line ∷ rest
-    → answer ≡ line_answer x (k + 1) line → y ≡ after_line x line → Appends mid new answer → IsAt all rest (k + 1) m y old new
-is_at_next all lines rest line answer k m x y old mid new at first is after sent = record {
-  done = at.done ++ line ∷ [];
-  split = at.split ∙ ap (λ (ls : List (List ℕ)). at.done ++ ls) first ∙ sym (append_assoc at.done (line ∷ []) rest);
-  count = omega (arith, at.count, length-append at.done (line ∷ []));
-  taken = after ∙ ap (λ (s : Session). after_line s line) at.taken ∙ sym (after_lines-append m at.done line);
-  written =
-      let number : length at.done + 1 ≡ 1 + length at.done = omega arith in
-      subst (λ (t : List ℕ). Appends old new t)
-      (ap (λ (t : List ℕ). transcript m 1 at.done ++ t) (answer_at m x k at.done line answer at.count at.taken is ∙ ap (λ (n : ℕ). line_answer (after_lines m at.done) n line) number)
-      ∙ sym (transcript-append m 1 at.done line))
-      (Appends-trans old mid new (transcript m 1 at.done) answer at.written sent);
-}
-
--- where no line is left
-pub all_answered : (all lines : List (List ℕ)) (k : ℕ) (m x : Session) (old new : Option (List ℕ)) → IsAt all lines k m x old new → lines ≡ [] → AnswersAll all m x old new
-all_answered all lines k m x old new at none =
-    let same : at.done ≡ all = sym (append-nil at.done) ∙ ap (λ (ls : List (List ℕ)). at.done ++ ls) (sym none) ∙ sym at.split in
+pub is_at_next : {S : Type 0} (go : S → ℕ → Call → Reply → S → Type 0) (scene : S → Option Cluster) (names : List (List ℕ)) (all lines rest : List (List ℕ)) (line answer : List ℕ) (k : ℕ) (x y z : Player S) (old mid new : Option (List ℕ)) → IsAt go scene names all lines k x y old mid
+    → lines ≡ line ∷ rest → Takes go scene names y (k + 1) (asked names line) answer z → Appends mid new answer → IsAt go scene names all rest (k + 1) x z old new
+is_at_next go scene names all lines rest line answer k x y z old mid new at first next sent =
+    let number : k + 1 ≡ 1 + length at.done = omega (arith, at.count) in
     record {
-      taken = at.taken ∙ ap (after_lines m) same;
-      written = subst (λ (ls : List (List ℕ)). Appends old new (transcript m 1 ls)) same at.written;
+      done = at.done ++ line ∷ [];
+      text = at.text ++ answer;
+      split = at.split ∙ ap (λ (ls : List (List ℕ)). at.done ++ ls) first ∙ sym (append_assoc at.done (line ∷ []) rest);
+      count = omega (arith, at.count, length-append at.done (line ∷ []));
+      taken = takes_more go scene names x 1 at.done at.text y line answer z at.taken (subst (λ i. Takes go scene names y i (asked names line) answer z) number next);
+      written = Appends-trans old mid new at.text answer at.written sent;
     }
 
--- where a write fails
-pub stops_writing : (all lines rest : List (List ℕ)) (line answer : List ℕ) (k : ℕ) (m x y : Session) (old mid new : Option (List ℕ)) → IsAt all lines k m x old mid → lines ≡ line ∷ rest
-    → answer ≡ line_answer x (k + 1) line → y ≡ after_line x line → (part : List ℕ) × (lost : List ℕ) × (part ++ lost ≡ answer) × (0 < length lost) × Appends mid new part → StopsWriting all m y old new
-stops_writing all lines rest line answer k m x y old mid new at first is after (part, lost, whole, some, sent) = record {
-  done = at.done;
-  line = line;
-  rest = rest;
-  part = part;
-  lost = lost;
-  split = at.split ∙ ap (λ (ls : List (List ℕ)). at.done ++ ls) first;
-  answer = whole ∙ answer_at m x k at.done line answer at.count at.taken is;
-  is_lost = some;
-  taken = after ∙ ap (λ (s : Session). after_line s line) at.taken;
-  written = Appends-trans old mid new (transcript m 1 at.done) part at.written sent;
-}
+pub none_left : (text : List ℕ) → (length text == 0) ≡ true → lines_of text ≡ []
+none_left [] none = refl
+none_left (b ∷ bs) none =
+    let zero : length (b ∷ bs) ≡ 0 = grind (arith, nat_tests, none) in
+    absurd (omega (arith, zero))
 
--- where there is no memory
-pub stops_for_memory : (all lines rest : List (List ℕ)) (line : List ℕ) (k : ℕ) (m x y : Session) (old mid : Option (List ℕ)) → IsAt all lines k m x old mid → lines ≡ line ∷ rest
-    → LacksAnswer x line y → StopsForMemory all m y old mid
-stops_for_memory all lines rest line k m x y old mid at first lacks = record {
-  done = at.done;
-  line = line;
-  rest = rest;
-  split = at.split ∙ ap (λ (ls : List (List ℕ)). at.done ++ ls) first;
-  lacks = subst (λ (s : Session). LacksAnswer s line y) at.taken lacks;
-  written = at.written;
-}
+-- where no line is left
+pub all_answered : {S : Type 0} (go : S → ℕ → Call → Reply → S → Type 0) (scene : S → Option Cluster) (names : List (List ℕ)) (all lines : List (List ℕ)) (k : ℕ) (x y : Player S) (old new : Option (List ℕ)) → IsAt go scene names all lines k x y old new → lines ≡ []
+    → LeadsTo go scene names all (Ok tt) x y old new
+all_answered go scene names all lines k x y old new at none = λ last end ends.
+    let same : at.done ≡ all = sym (append-nil at.done) ∙ ap (λ (ls : List (List ℕ)). at.done ++ ls) (sym none) ∙ sym at.split in
+    (refl, record { text = at.text; y = y; taken = subst (λ (ls : List (List ℕ)). TakesAll go scene names x 1 ls at.text y) same at.taken; ends = ends; written = at.written })
+
+number_is : (k : ℕ) (done : List (List ℕ)) → k ≡ length done → k + 1 ≡ length done + 1
+number_is k done count = omega (arith, count)
+
+-- where a write fails
+pub stops_writing : {S : Type 0} (go : S → ℕ → Call → Reply → S → Type 0) (scene : S → Option Cluster) (names : List (List ℕ)) (all lines rest : List (List ℕ)) (line answer : List ℕ) (k : ℕ) (x y z : Player S) (old mid new : Option (List ℕ)) → IsAt go scene names all lines k x y old mid
+    → lines ≡ line ∷ rest → Takes go scene names y (k + 1) (asked names line) answer z → (part : List ℕ) × (lost : List ℕ) × (part ++ lost ≡ answer) × (0 < length lost) × Appends mid new part → LeadsTo go scene names all (Err WriteFault) x z old new
+stops_writing go scene names all lines rest line answer k x y z old mid new at first next (part, lost, whole, some, sent) = λ last end ends.
+    record {
+      done = at.done;
+      line = line;
+      rest = rest;
+      text = at.text;
+      part = part;
+      lost = lost;
+      mid = y;
+      y = z;
+      split = at.split ∙ ap (λ (ls : List (List ℕ)). at.done ++ ls) first;
+      before = at.taken;
+      taken = subst (λ t. Takes go scene names y (length at.done + 1) (asked names line) t z) (sym whole) (subst (λ i. Takes go scene names y i (asked names line) answer z) (number_is k at.done at.count) next);
+      is_lost = some;
+      ends = ends;
+      written = Appends-trans old mid new at.text part at.written sent;
+    }
+
+-- where there is no memory, or no thread
+pub stops_wanting : {S : Type 0} (go : S → ℕ → Call → Reply → S → Type 0) (scene : S → Option Cluster) (names : List (List ℕ)) (all lines rest : List (List ℕ)) (line : List ℕ) (k : ℕ) (fault : SurveyFault) (x y z : Player S) (old mid : Option (List ℕ)) → IsAt go scene names all lines k x y old mid
+    → lines ≡ line ∷ rest → Begins go scene names y (k + 1) (asked names line) z → LeadsTo go scene names all (Err (play_fault_of fault)) x z old mid
+stops_wanting go scene names all lines rest line k fault x y z old mid at first begun = λ last end ends.
+    let stops : StopsWanting go scene names all x last end old mid = record {
+      done = at.done;
+      line = line;
+      rest = rest;
+      text = at.text;
+      mid = y;
+      y = z;
+      split = at.split ∙ ap (λ (ls : List (List ℕ)). at.done ++ ls) first;
+      before = at.taken;
+      begun = subst (λ i. Begins go scene names y i (asked names line) z) (number_is k at.done at.count) begun;
+      ends = ends;
+      written = at.written;
+    } in
+    elim fault as (λ f. IsPlayed go scene names all None (Err (play_fault_of f)) x last end old mid) [ survey_fault.NoMemory ↦ stops | survey_fault.NoThread ↦ stops ]
+
+-- where a write fails, no ticket is at hand
+pub stops_lost : {S : Type 0} (go : S → ℕ → Call → Reply → S → Type 0) (scene : S → Option Cluster) (names : List (List ℕ)) (all lines rest : List (List ℕ)) (line answer : List ℕ) (k : ℕ) (x y : Player S) (s : S) (seat : SeatView) (hand : List Numbered) (old mid new : Option (List ℕ))
+    → IsAt go scene names all lines k x y old mid → lines ≡ line ∷ rest → Takes go scene names y (k + 1) (asked names line) answer (player s seat hand)
+    → (part : List ℕ) × (lost : List ℕ) × (part ++ lost ≡ answer) × (0 < length lost) × Appends mid new part → LeadsTo go scene names all (Err WriteFault) x (player s seat (hand ++ held None)) old new
+stops_lost go scene names all lines rest line answer k x y s seat hand old mid new at first next part =
+    subst (λ h. LeadsTo go scene names all (Err WriteFault) x (player s seat h) old new) (sym (append-nil hand)) (stops_writing go scene names all lines rest line answer k x y (player s seat hand) old mid new at first next part)
 
 -- the first n bytes of what is left are sent too
 pub sent_more : (front rest bytes : List ℕ) (n : ℕ) → front ++ rest ≡ bytes → (front ++ take n rest) ++ take (length rest - n) (drop n rest) ≡ bytes

@@ -9,5 +9,6 @@ pub mod Transcript
 pub mod Readings
 pub mod Players
 pub mod Plays
+pub mod Turns
 pub mod BookPlays
 pub mod Pipes

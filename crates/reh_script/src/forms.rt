@@ -1,5 +1,6 @@
 // The commands: one table.
-ghost use Rattle.std.specs.Prelude.{◌≡◌, Some, option_map};
+ghost use Rattle.std.specs.Prelude.{◌≡◌, Some, drop, option_map};
+ghost use Rattle.std.specs.List.{find};
 ghost use Rattle.std.specs.Str.{bytes_eq};
 ghost use Rattle.reh_types.specs.declared.moves.Event.TheVariants.{Roll, Copy, Swap};
 ghost use Rattle.reh_types.specs.declared.moves.Move.TheVariants.{Do};
@@ -64,6 +65,16 @@ pub(crate) fn form_of(verb: &[u8], a: Arguments) -> Option<Form>
         _ if is(verb, b"seal") => row(TASK, event(Event::Seal { worker, ledger })),
         _ if is(verb, b"copy") => row(MEMBER, event(copy(a))),
         _ if is(verb, b"swap") => row(MEMBER, event(swap(a))),
+        _ => other_form_of(verb, a),
+    }
+}
+
+/// The command of a verb that asks for no event.
+#[tactic(auto, unfolding(crate::specs::Script::forms))]
+fn other_form_of(verb: &[u8], a: Arguments) -> Option<Form>
+    ensures { result ≡ option_map (script.filled a) (find (λ f. bytes_eq f.verb verb.now) (drop 14 script.forms)) }
+{
+    match verb {
         _ if is(verb, b"undo") => row(&[], Command::Make(Move::Undo)),
         _ if is(verb, b"redo") => row(&[], Command::Make(Move::Redo)),
         _ if is(verb, b"clock") => row(&[], Command::Make(Move::Look)),

@@ -1,61 +1,108 @@
 // Answering the lines of a script.
-ghost use Rattle.std.specs.Prelude.{◌≡◌, ◌+◌, ◌≤◌, ◌<◌, ◌++◌, ◌⊎◌, ℕ, List, true, false, None, Some, Ok, length, IfOk, OnOk, OnErr, string_bytes};
+ghost use Rattle.std.specs.Prelude.{◌≡◌, ◌+◌, ◌≤◌, ◌<◌, ◌++◌, ℕ, List, true, false, None, Ok, Err, length, IfErr, OnOk, OnErr, MatchResult, string_bytes};
 ghost use Rattle.std.specs.Io.KnownBytes.{Appends};
-ghost use Rattle.reh_model.specs.Session.{state_of, reply_to, session_after};
+ghost use Rattle.reh_script.specs.Answers.{asked};
 ghost use Rattle.reh_script.specs.Lines.{lines_of, answered_lines};
-ghost use Rattle.reh_script.specs.Texts as texts;
-ghost use Rattle.reh_script.specs.Texts.{text_of};
-ghost use Rattle.reh_script.specs.Transcript.{line_answer, numbered_answer, after_line, asked};
-ghost use Rattle.reh_script.specs.Plays.{stop_of, MightBeDone, LacksAnswer, IsPlayed, Plays, is_write_fault};
+ghost use Rattle.reh_script.specs.Players.{Takes, Begins};
+ghost use Rattle.reh_script.specs.Plays.{stop_of, IsPlayed, Plays, is_write_fault};
+ghost use Rattle.reh_script.specs.Turns.{player, held, LeadsTo};
 
-use crate::commands::{Command, LineFault};
+use crate::answers::push_answer;
 use crate::faults::PlayFault;
+use crate::hand::Hand;
 use crate::inputs::{first_line, front, whole_lines};
+use crate::players::{Tools, Unanswered, answer, give_back};
 use crate::readings::read;
-use crate::reports::push_report;
 use crate::scripts::parse_line;
 use crate::streams::{StreamFault, TextIn, TextOut};
-use crate::texts::Named;
-use reh_session::Session;
-use reh_types::{MAX_SCRIPT_BYTES, Move, Refusal, Reply};
-use std::alloc::{AllocError, Global};
+use reh_cluster::Names;
+use reh_crew::Surveyor;
+use reh_desk::{Counter, Seat, Ticket};
+use reh_types::MAX_SCRIPT_BYTES;
+use std::alloc::Global;
 
-/// Reads a script and answers its lines in order.
+/// Why lines are not all answered, and a ticket that could not be scanned, if there is one.
+#[must_use]
+struct Stopped {
+    fault: PlayFault,
+    ticket: Option<Ticket>,
+}
+
+/// Reads a script and answers its lines in order, by a seat of a counter, with the bookies of these names.
 ///
-/// A script that is too long, and one behind which a read fails, have the lines answered that end in time.
-pub fn play<R: TextIn, W: TextOut>(
+/// A script that is too long, and one behind which a read fails, have the lines answered that end in time. Whatever ends
+/// the play, it gives back what it has neither spent nor given back.
+pub fn play<C: Counter, V: Surveyor, R: TextIn, W: TextOut>(
     alloc: Global,
-    session: &mut Session,
+    counter: &mut C,
+    seat: &mut Seat,
+    names: &Names,
+    surveyor: &V,
     reader: &mut R,
     writer: &mut W,
 ) -> Result<(), PlayFault>
+    requires may { C.may counter.old seat.old }
     requires reads { R.has_failed reader.old ≡ false }
     requires writes { W.has_failed writer.old ≡ false }
-    ensures plays { Plays result (R.has_failed reader.new) (R.remaining reader.old) (R.remaining reader.new) session.old session.new (W.contents writer.old) (W.contents writer.new) }
+    ensures may { C.may counter.new seat.new }
+    ensures plays { Plays C.goes C.scene names.now result (R.has_failed reader.new) (R.remaining reader.old) (R.remaining reader.new) counter.old seat.old counter.new seat.new (W.contents writer.old) (W.contents writer.new) }
     ensures write { W.has_failed writer.new ≡ is_write_fault result }
     ensures calls { R.calls reader.new ≤ R.calls reader.old + (MAX_SCRIPT_BYTES + 1) }
 {
-    let script = read(alloc, reader, MAX_SCRIPT_BYTES + 1)?;
-    answer_script(alloc, session, &script.bytes, script.failed, writer)
+    let hand = Hand::new(alloc)?;
+    let tools = Tools {
+        alloc,
+        names,
+        surveyor,
+    };
+    match read(alloc, reader, MAX_SCRIPT_BYTES + 1) {
+        Ok(script) => answer_script(
+            &tools,
+            counter,
+            seat,
+            hand,
+            &script.bytes,
+            script.failed,
+            writer,
+        ),
+        Err(want) => {
+            hand.end();
+            Err(PlayFault::from(want))
+        }
+    }
 }
 
-/// Answers the lines of a script, behind which a read has failed or none has.
-pub fn answer_script<W: TextOut>(
-    alloc: Global,
-    session: &mut Session,
+/// Answers the lines of a script, behind which a read has failed or none has, and gives the hand back.
+pub(crate) fn answer_script<C: Counter, V: Surveyor, W: TextOut>(
+    tools: &Tools<V>,
+    counter: &mut C,
+    seat: &mut Seat,
+    hand: Hand,
     script: &[u8],
     failed: bool,
     writer: &mut W,
 ) -> Result<(), PlayFault>
-    requires { W.has_failed writer.old ≡ false }
-    ensures played { IsPlayed (answered_lines failed script.now) (stop_of failed script.now) result session.old session.new (W.contents writer.old) (W.contents writer.new) }
+    requires may { C.may counter.old seat.old }
+    requires writes { W.has_failed writer.old ≡ false }
+    ensures may { C.may counter.new seat.new }
+    ensures played { IsPlayed C.goes C.scene tools.now.names.now (answered_lines failed script.now) (stop_of failed script.now) result (player counter.old seat.old hand) counter.new seat.new (W.contents writer.old) (W.contents writer.new) }
     ensures write { W.has_failed writer.new ≡ is_write_fault result }
 {
+    let mut hand = hand;
     let (lines, stop) = answered(script, failed);
-    answer_lines(alloc, session, lines, writer)?;
-    match stop {
-        None => Ok(()),
-        Some(fault) => Err(fault),
+    match answer_lines(tools, counter, seat, &mut hand, lines, writer) {
+        Ok(()) => {
+            give_back(counter, seat, hand, None);
+            match stop {
+                None => Ok(()),
+                Some(fault) => Err(fault),
+            }
+        }
+        Err(stopped) => {
+            let Stopped { fault, ticket } = stopped;
+            give_back(counter, seat, hand, ticket);
+            Err(fault)
+        }
     }
 }
 
@@ -75,102 +122,69 @@ fn answered(script: &[u8], failed: bool) -> (&[u8], Option<PlayFault>)
 }
 
 /// Answers the lines of a text in order.
-fn answer_lines<W: TextOut>(
-    alloc: Global,
-    session: &mut Session,
+fn answer_lines<C: Counter, V: Surveyor, W: TextOut>(
+    tools: &Tools<V>,
+    counter: &mut C,
+    seat: &mut Seat,
+    hand: &mut Hand,
     text: &[u8],
     writer: &mut W,
-) -> Result<(), PlayFault>
-    requires { W.has_failed writer.old ≡ false }
-    ensures played { IsPlayed (lines_of text.now) None result session.old session.new (W.contents writer.old) (W.contents writer.new) }
-    ensures write { W.has_failed writer.new ≡ is_write_fault result }
+) -> Result<(), Stopped>
+    requires may { C.may counter.old seat.old }
+    requires writes { W.has_failed writer.old ≡ false }
+    ensures may { C.may counter.new seat.new }
+    ensures ok { OnOk result (LeadsTo C.goes C.scene tools.now.names.now (lines_of text.now) (Ok tt) (player counter.old seat.old hand.old) (player counter.new seat.new hand.new) (W.contents writer.old) (W.contents writer.new)) }
+    ensures err { IfErr result (λ s. LeadsTo C.goes C.scene tools.now.names.now (lines_of text.now) (Err s.fault) (player counter.old seat.old hand.old) (player counter.new seat.new (hand.new ++ held s.ticket)) (W.contents writer.old) (W.contents writer.new)) }
+    ensures write { MatchResult result (λ _. W.has_failed writer.new ≡ false) (λ s. W.has_failed writer.new ≡ is_write_fault (Err s.fault)) }
 {
     let mut rest = text;
     let mut number = 0;
-    let mut answer = String::new(alloc);
+    let mut answer = String::new(tools.alloc);
     while !rest.is_empty() {
         number += 1;
         let (line, more) = first_line(rest);
-        answer.clear();
-        push_answer(&mut answer, session, number, line)?;
+        match answer_line(tools, counter, seat, hand, number, line, &mut answer) {
+            Ok(()) => {}
+            Err(Unanswered { fault, ticket }) => {
+                return Err(Stopped {
+                    fault: PlayFault::from(fault),
+                    ticket,
+                });
+            }
+        }
         if let Err(StreamFault) = write_all(writer, answer.as_bytes()) {
-            return Err(PlayFault::WriteFault);
+            return Err(Stopped {
+                fault: PlayFault::WriteFault,
+                ticket: None,
+            });
         }
         rest = more;
     }
     Ok(())
 }
 
-/// Adds the answer to one line: nothing, where the line has none.
-fn push_answer(
-    text: &mut String,
-    session: &mut Session,
+/// Makes the text the answer to one line: nothing, where the line has none.
+fn answer_line<C: Counter, V: Surveyor>(
+    tools: &Tools<V>,
+    counter: &mut C,
+    seat: &mut Seat,
+    hand: &mut Hand,
     number: usize,
     line: &[u8],
-) -> Result<(), AllocError>
-    ensures text { OnOk result (string_bytes text.new ≡ string_bytes text.old ++ line_answer session.old number line.now) }
-    ensures after { OnOk result (session.new ≡ after_line session.old line.now) }
-    ensures err { OnErr result (LacksAnswer session.old line.now session.new) }
+    text: &mut String,
+) -> Result<(), Unanswered>
+    requires { C.may counter.old seat.old }
+    ensures may { C.may counter.new seat.new }
+    ensures ok { OnOk result (Takes C.goes C.scene tools.now.names.now (player counter.old seat.old hand.old) number (asked tools.now.names.now line.now) (string_bytes text.new) (player counter.new seat.new hand.new)) }
+    ensures err { IfErr result (λ u. Begins C.goes C.scene tools.now.names.now (player counter.old seat.old hand.old) number (asked tools.now.names.now line.now) (player counter.new seat.new (hand.new ++ held u.ticket))) }
 {
-    let Some(asked) = command(session, line) else {
+    text.clear();
+    let Some(asked) = parse_line(tools.names, line) else {
         return Ok(());
     };
-    match asked {
-        Ok(Command::Make(step)) => push_move(text, session, number, &step),
-        Ok(Command::Report) => push_state(text, session, number),
-        Err(fault) => write!(text, "line {number}: {fault}\n"),
-    }
-}
-
-/// What a line asks for, if it has an answer.
-fn command(session: &Session, line: &[u8]) -> Option<Result<Command, LineFault>>
-    ensures { result ≡ asked session.now line.now }
-{
-    parse_line(session.state().names(), line)
-}
-
-/// Makes a move, and adds the answer to its line.
-fn push_move(
-    text: &mut String,
-    session: &mut Session,
-    number: usize,
-    step: &Move,
-) -> Result<(), AllocError>
-    ensures text { OnOk result (string_bytes text.new
-        ≡ string_bytes text.old ++ numbered_answer session.old number (Some (Ok (Command.Make step.now)))) }
-    ensures after { OnOk result (session.new ≡ session_after session.old step.now (reply_to session.old step.now)) }
-    ensures err { OnErr result ((session.new ≡ session_after session.old step.now (reply_to session.old step.now))
-        ⊎ ((session.new ≡ session.old) × MightBeDone session.old step.now)) }
-{
-    // The check has to meet the type of a reply's refusal by its name.
-    let _refusal: Option<Refusal> = None;
-    let reply = make(session, step)?;
-    let names = session.state().names();
-    let reply = Named {
-        names,
-        reply: &reply,
-    };
-    write!(text, "line {number}: {reply}\n")
-}
-
-/// Makes a move, and replies to it. Only a move that is refused for no other cause can want memory, and then nothing changes.
-fn make(session: &mut Session, step: &Move) -> Result<Reply, AllocError>
-    ensures ok { IfOk result (λ reply. (reply ≡ reply_to session.old step.now)
-        × (session.new ≡ session_after session.old step.now reply)) }
-    ensures err { OnErr result (MightBeDone session.old step.now × (session.new ≡ session.old)) }
-{
-    match session.perform(step) {
-        Reply::Refused(Refusal::NoMemory) => Err(AllocError),
-        reply => Ok(reply),
-    }
-}
-
-/// Adds the report of a session's state, as the answer to its line.
-fn push_state(text: &mut String, session: &Session, number: usize) -> Result<(), AllocError>
-    ensures { OnOk result (string_bytes text.new ≡ string_bytes text.old ++ numbered_answer session.now number (Some (Ok Command.Report))) }
-{
-    write!(text, "line {number}: report\n")?;
-    push_report(text, session.state())
+    let answer = answer(tools, counter, seat, hand, asked)?;
+    push_answer(text, tools.names, counter, number, answer)?;
+    Ok(())
 }
 
 /// Writes all of some bytes, or as many as it can.
