@@ -1,6 +1,8 @@
 // The whole path over memory: what is written for a text, and how its play ends.
-use reh_picture::read_picture;
-use reh_script::{PiecesIn, PiecesOut, PipeFault, PlayFault, TextOut, ToWrite, pipe, play};
+use crate::pictures::{FIVE_BOOKIES, state_of};
+use reh_crew::Plain;
+use reh_desk::Book;
+use reh_script::{PiecesIn, PiecesOut, PipeFault, TextOut, ToWrite, pipe, play_book};
 use reh_session::Session;
 use std::alloc::Global;
 use std::test::Fail;
@@ -18,7 +20,7 @@ fn piped(
 ) -> Result<(Vec<u8>, String), Fail> {
     let mut reader = PiecesIn::new(input, pieces, fails_at);
     let mut writer = PiecesOut::new(alloc, &[], None);
-    let end = match pipe(alloc, &mut reader, &mut writer) {
+    let end = match pipe(alloc, &Plain, &mut reader, &mut writer) {
         Ok(()) => format!(in alloc; "done")?,
         Err(PipeFault::Picture(fault)) => format!(in alloc; "picture: {fault}")?,
         Err(PipeFault::Play(fault)) => format!(in alloc; "{fault:?}")?,
@@ -116,27 +118,71 @@ fn reads_in_any_pieces(rt: HostRuntime) -> Result<(), Fail> {
     Ok(())
 }
 
+/// What a play at a new book writes of a script, in these pieces and with a write of this number that fails, how it ends,
+/// and how many lines and tickets out the book has then.
+fn played(
+    alloc: Global,
+    picture: &str,
+    script: &str,
+    pieces: &[usize],
+    fails_at: Option<u64>,
+) -> Result<String, Fail> {
+    let state = state_of(alloc, picture)?;
+    let names = state.names().clone_in()?;
+    let (mut book, mut seat) = match Book::open(Session::open(alloc, state)?) {
+        Ok(opened) => opened,
+        Err((_, want)) => return Err(Fail::from(want)),
+    };
+    let mut reader = PiecesIn::new(script.as_bytes(), &[], None);
+    let mut writer = PiecesOut::new(alloc, pieces, fails_at);
+    let end = play_book(
+        alloc,
+        &mut book,
+        &mut seat,
+        &names,
+        &Plain,
+        &mut reader,
+        &mut writer,
+    );
+    let mut text = String::from_utf8(writer.written)?;
+    let (lines, out) = (book.tape().len(), book.out());
+    write!(text, "{end:?} {lines} lines, {out} out")?;
+    Ok(text)
+}
+
 #[test]
 fn stops_at_a_failed_write(rt: HostRuntime) -> Result<(), Fail> {
     // Each answer takes two writes, of 5 bytes and of what is left.
     let runs = [
-        (0, "", 1),
-        (1, "line ", 1),
-        (2, "line 1: ok\n", 2),
-        (5, "line 1: ok\nline 2: ok\nline ", 3),
+        (0, "Err(WriteFault) 1 lines, 0 out"),
+        (1, "line Err(WriteFault) 1 lines, 0 out"),
+        (2, "line 1: ok\nErr(WriteFault) 2 lines, 0 out"),
+        (5, "line 1: ok\nline 2: ok\nline Err(WriteFault) 3 lines, 0 out"),
     ];
-    for (fails_at, output, taken) in runs {
-        let Ok(state) = read_picture(rt.alloc(), PICTURE.as_bytes()) else {
-            panic!(rt; "refused");
-        };
-        let mut session = Session::open(rt.alloc(), state)?;
-        let mut reader = PiecesIn::new(b"tick 1\ntick 1\ntick 1\n", &[], None);
-        let mut writer = PiecesOut::new(rt.alloc(), &[5, 99, 5, 99, 5, 99], Some(fails_at));
-        let end = play(rt.alloc(), &mut session, &mut reader, &mut writer);
-        assert_eq!(rt; end, Err(PlayFault::WriteFault));
-        assert_eq!(rt; writer.written.as_slice(), output.as_bytes());
-        assert_eq!(rt; session.done().len(), taken);
+    for (fails_at, expected) in runs {
+        let script = "tick 1\ntick 1\ntick 1\n";
+        let pieces = [5, 99, 5, 99, 5, 99];
+        let shown = played(rt.alloc(), PICTURE, script, &pieces, Some(fails_at))?;
+        assert_eq!(rt; shown.as_str(), expected);
     }
+    Ok(())
+}
+
+// A ticket is given back where a write fails, and the findings that are left where the script ends.
+#[test]
+fn gives_its_hand_back(rt: HostRuntime) -> Result<(), Fail> {
+    let checkout = "checkout b4:3181 7 0 1\n";
+    let loss = "lose b2:3181\naudit\nacquire b4:3181 7\n";
+    let script = format!(in rt.alloc(); "{loss}{checkout}clock\n")?;
+    let shown = played(rt.alloc(), FIVE_BOOKIES, &script, &[], Some(4))?;
+    assert_eq!(rt;
+        shown.as_str(),
+        "line 1: ok\nline 2: ok\nline 3: ok\nline 4: ticket 1\nErr(WriteFault) 6 lines, 0 out"
+    );
+    let nine = checkout.repeat(rt.alloc(), 9)?;
+    let script = format!(in rt.alloc(); "{loss}{nine}discard\nspend\n")?;
+    let shown = played(rt.alloc(), FIVE_BOOKIES, &script, &[], None)?;
+    assert!(rt; shown.ends_with("line 12: refused 39 HandFull\nline 13: discarded\nline 14: ok\nOk(()) 19 lines, 0 out"));
     Ok(())
 }
 
