@@ -42,7 +42,7 @@ fn opened(rt: &impl Abort, alloc: Global, picture: &str) -> Book {
     let Ok(session) = Session::open(alloc, state) else {
         panic!(rt; "no session")
     };
-    let Ok(book) = Book::open(session) else {
+    let Ok((book, _seat)) = Book::open(session) else {
         panic!(rt; "no book")
     };
     book
