@@ -143,7 +143,7 @@ impl Book {
         }
     }
 
-    /// The same, and besides the content that is left for the list of the seat.
+    /// The same, with the finding's second content, for the seat's own list.
     pub(crate) fn spend_twofold(
         &mut self,
         seat: u32,

@@ -117,7 +117,7 @@ impl Finding {
         &self.content
     }
 
-    // The content, for the tape's line, and once more, for the seat's.
+    // The content, once for the tape's line and once for the seat's list.
     pub(crate) fn into_contents(self) -> (Content, Content)
         ensures { (result.0 ≡ self.content) × (result.1 ≡ self.content) }
     {
