@@ -132,7 +132,11 @@ impl Book {
 
     /// Posts what a seat found, as `spend` does for its number; the finding's second content is the seat's line's. A seat that
     /// has no ticket out spends none.
-    pub(crate) fn spend_for(&mut self, seat: &mut Seat, finding: Finding) -> Result<Reply, SpendFault>
+    pub(crate) fn spend_for(
+        &mut self,
+        seat: &mut Seat,
+        finding: Finding,
+    ) -> Result<Reply, SpendFault>
         ensures seat { seat.new ≡ gained seat.old (call.Spend finding.number finding.content) (spent result) }
         ensures called { CalledOut seat.old.out self.old seat.old.number (call.Spend finding.number finding.content) (spent result) self.new }
         ensures written { IfOk result (λ reply. IsTrue (is_written reply)) }
