@@ -1,3 +1,4 @@
 pub mod Lines
 pub mod Issues
 pub mod SeatCalls
+pub mod Wants

@@ -9,7 +9,7 @@ mod tickets;
 
 pub use books::{Book, SpendCause, SpendFault};
 pub use counters::Counter;
-pub use laws::tickets_differ;
+pub use laws::{tickets_differ, where_memory_is_wanted};
 pub use reh_types::{Call, Exchange, Line};
 pub use seats::Seat;
 pub use tickets::{Finding, Stray, Ticket, Unspent, scan};

@@ -10,7 +10,7 @@ use Rattle.reh_types.specs.declared.moves.Move.TheVariants.{Do, Undo, Redo, Look
 use Rattle.reh_types.specs.declared.moves.Reply.{Reply}
 use Rattle.reh_types.specs.declared.moves.Reply.TheVariants.{Done, Clock, Issued, Discarded, Refused}
 use Rattle.reh_types.specs.declared.names.LedgerState.TheVariants.{Closed}
-use Rattle.reh_types.specs.declared.refusals.Refusal.TheVariants.{NotOwner, Stale, SourceGone, NotOut, TapeFull}
+use Rattle.reh_types.specs.declared.refusals.Refusal.TheVariants.{NotOwner, Stale, SourceGone, NotOut, TapeFull, NoMemory}
 use Rattle.reh_types.specs.Sets.{contains, insert, retain, remove, empty, from_list, union, items, is_subset, is_empty, len}
 use Rattle.reh_model.specs.Cluster.{Cluster, ledger_at}
 use Rattle.reh_model.specs.Scan.{scan}
@@ -187,3 +187,28 @@ reserved_line = refl
 pub lines_at_the_end : (played (with_lines 199_998) (checkout ∷ (0, Ask Look) ∷ checkout ∷ spend 1 ∷ (0, Ask Look) ∷ [])).lines ≡ 200_000
 unfolding contains insert retain remove empty from_list union items is_subset is_empty len
 lines_at_the_end = refl
+
+-- a full tape comes before the session's refusals, and before those of an aim
+pub full_tape_first : answers (with_lines 200_000) ((0, Ask Redo) ∷ (0, Ask (Do (Lose 1))) ∷ []) ++ answers (with_lines 199_999) ((0, Checkout (record aim { ledger = 9 })) ∷ []) ≡ Refused TapeFull ∷ Refused TapeFull ∷ Refused TapeFull ∷ []
+unfolding contains insert retain remove empty from_list union items is_subset is_empty len
+full_tape_first = refl
+
+-- a discard has its line too
+pub discard_on_the_last_line : answers (with_lines 199_998) (checkout ∷ (0, Discard 1 aim) ∷ []) ≡ Issued 1 ∷ Discarded ∷ []
+unfolding contains insert retain remove empty from_list union items is_subset is_empty len
+discard_on_the_last_line = refl
+
+-- each part of the aim is the ticket's
+pub other_aims : answers (played book (checkout ∷ [])) ((0, Discard 1 (record aim { worker = 4 })) ∷ (0, Discard 1 (record aim { ledger = 9 })) ∷ (0, Discard 1 (record aim { fragment = 1 })) ∷ []) ≡ Refused NotOut ∷ Refused NotOut ∷ Refused NotOut ∷ []
+unfolding contains insert retain remove empty from_list union items is_subset is_empty len
+other_aims = refl
+
+-- a spend leaves the other tickets out
+pub out_after_a_spend : (played book (checkout ∷ (1, Checkout aim) ∷ spend 1 ∷ [])).out ≡ ticket 1 2 aim ∷ []
+unfolding contains insert retain remove empty from_list union items is_subset is_empty len
+out_after_a_spend = refl
+
+-- want of memory adds no line
+pub no_memory_no_line : (book_after (played book (checkout ∷ [])) 0 (Spend 1 seen) (Refused NoMemory)).lines ≡ 4
+unfolding contains insert retain remove empty from_list union items is_subset is_empty len
+no_memory_no_line = refl

@@ -2,7 +2,7 @@
 use Rattle.std.specs.Prelude.{◌≡◌, refl, ℕ, List, [], ◌∷◌, ◌++◌, map, Option, Some, None}
 use Rattle.reh_types.specs.declared.contents.Content.{Content}
 use Rattle.reh_types.specs.declared.moves.Event.{Event}
-use Rattle.reh_types.specs.declared.moves.Event.TheVariants.{Lose, Acquire, Copy}
+use Rattle.reh_types.specs.declared.moves.Event.TheVariants.{Lose, Audit, Acquire, Copy}
 use Rattle.reh_types.specs.declared.moves.Move.TheVariants.{Do, Post, Undo}
 use Rattle.reh_types.specs.declared.moves.Reply.TheVariants.{Done, Refused}
 use Rattle.reh_types.specs.declared.names.Aim.{Aim}
@@ -203,3 +203,28 @@ held_after_post = refl
 pub held_after_undone_post : entries_of (state_of (played_session (opened_session five_bookies) (loss_and_lock 7 ++ Post seen ∷ Undo ∷ []))) 3 7 ≡ []
 unfolding contains insert retain remove empty from_list union items is_subset is_empty len
 held_after_undone_post = refl
+
+-- a ticket is given also where an entry has no source,
+pub aim_without_source : map (aim_refusal (started bookies_without_a_source)) (aim ∷ []) ≡ None ∷ []
+unfolding contains insert retain remove empty from_list union items is_subset is_empty len
+aim_without_source = refl
+
+-- what was seen comes before the worker's bookie, the member before it, and it before the sources
+pub posts_of_a_lost_worker : map (post_refusal (state_of (played_session (opened_session five_bookies) (loss_and_lock 7 ++ Do (Lose 3) ∷ [])))) (record seen { version = 1 } ∷ record seen { aim = aim_at 3 0 } ∷ with_sources (None ∷ None ∷ None ∷ None ∷ []) ∷ [])
+    ≡ Some (Stale 0) ∷ Some MemberUp ∷ Some TargetDown ∷ []
+unfolding contains insert retain remove empty from_list union items is_subset is_empty len
+posts_of_a_lost_worker = refl
+
+-- then it is no member, which comes before the sources too
+abbrev posts_of_a_member : List Event → List (Option Refusal)
+posts_of_a_member more = map (post_refusal (state_of (played_session (opened_session five_bookies) (map Do (Lose 1 ∷ Audit ∷ Acquire 2 7 ∷ more))))) (record (with_sources (None ∷ None ∷ None ∷ None ∷ [])) { aim = aim_at 2 1 } ∷ [])
+
+pub order_of_members : posts_of_a_member [] ++ posts_of_a_member (Lose 2 ∷ []) ≡ Some TargetIsMember ∷ Some TargetDown ∷ []
+unfolding contains insert retain remove empty from_list union items is_subset is_empty len
+order_of_members = refl
+
+-- a bookie outside the write set that holds the entry and is registered is no source of it
+pub source_outside_the_write_set : map (post_refusal (started (record four_members { held = union four_members.held (from_list (row 0 7 (1 ∷ 5 ∷ []) ++ row 3 7 (0 ∷ []))) }))) (record (with_sources (Some 3 ∷ Some 2 ∷ Some 4 ∷ Some 2 ∷ Some 4 ∷ [])) { version = 8; stop = 7; ensemble = 0 ∷ 1 ∷ 2 ∷ 4 ∷ [] } ∷ record (with_sources (Some 0 ∷ Some 0 ∷ Some 4 ∷ Some 2 ∷ Some 4 ∷ [])) { version = 8; stop = 7; ensemble = 0 ∷ 1 ∷ 2 ∷ 4 ∷ [] } ∷ [])
+    ≡ Some (SourceGone 0) ∷ Some (SourceGone 1) ∷ []
+unfolding contains insert retain remove empty from_list union items is_subset is_empty len
+source_outside_the_write_set = refl
