@@ -1,12 +1,11 @@
 mod Numbers
 mod Examples
-pub mod TranscriptExamples
 pub mod WordLaws
 pub mod ReportLaws
 pub mod LinesLemmas
 pub mod EndedLaws
 pub mod Cuts
+pub mod Turns
 pub mod Steps
 pub mod Answered
 pub mod Enough
-pub mod Ends
