@@ -1,5 +1,5 @@
 -- A play by one seat of a book is the transcript, and leaves the book where the transcript does.
-use Rattle.std.proofs.Common.{◌≡◌, ℕ, ◌+◌, ◌⊎◌, Bool, true, false, cond, List, [], ◌∷◌, ◌++◌, length, drop, Option, None, Some, Result, Ok, Err, inl, inr, refl, sym, ap, ◌∙◌, subst, is_none}
+use Rattle.std.proofs.Common.{◌≡◌, ℕ, ◌+◌, ◌⊎◌, Bool, true, false, cond, List, [], ◌∷◌, ◌++◌, length, Option, None, Some, Result, Ok, Err, inl, inr, refl, sym, ap, ◌∙◌, subst, is_none}
 use Rattle.std.specs.Prelude.{◌≢◌, IsSome}
 use Rattle.std.specs.Io.KnownBytes.{Appends}
 use Rattle.std.proofs.lemmas.Bool.{false≢true}
@@ -9,15 +9,13 @@ use Rattle.reh_types.specs.declared.moves.Reply.{Reply}
 use Rattle.reh_types.specs.declared.moves.Reply.TheVariants.{Done, Clock, Issued, Discarded, Refused}
 use Rattle.reh_types.specs.declared.names.Aim.{Aim}
 use Rattle.reh_types.specs.declared.refusals.Refusal.TheVariants.{NotOut, NoMemory}
-use Rattle.reh_model.specs.Book as model
-use Rattle.reh_model.specs.Book.{Book, answer_to, book_after, is_written, or_refused, not_out, place_of, ticket, Answers}
+use Rattle.reh_model.specs.Book.{Book, new_book, answer_to, book_after, is_written, or_refused, place_of, ticket, Answers}
 use Rattle.reh_model.specs.Checks.{reason_if}
 use Rattle.reh_model.specs.Cluster.{Cluster}
-use Rattle.reh_model.specs.Scan.{scan}
-use Rattle.reh_model.specs.Session.{state_of}
-use Rattle.reh_desk.specs.Kept.{Kept, Called}
+use Rattle.reh_model.specs.Session.{Session, state_of}
+use Rattle.reh_desk.specs.Kept.{Kept, Called, opened}
 use Rattle.reh_desk.specs.Numbered.{Numbered}
-use Rattle.reh_desk.specs.Seats.{SeatView, gained}
+use Rattle.reh_desk.specs.Seats.{SeatView, new_seat, gained}
 use Rattle.reh_script.specs.declared.commands.Command.{Command}
 use Rattle.reh_script.specs.declared.commands.Command.TheVariants as command
 use Rattle.reh_script.specs.declared.commands.LineFault.{LineFault}
@@ -28,9 +26,10 @@ use Rattle.reh_script.specs.BookPlays as book
 use Rattle.reh_script.specs.BookPlays.{LacksAnswer}
 use Rattle.reh_script.specs.Hand.{call_of, discard_of, found, hand_after, hand_issued, HandAfter, HandIssued}
 use Rattle.reh_script.specs.Lines.{answered_lines}
-use Rattle.reh_script.specs.Players.{Player, seated, Calls, Commands, Takes, TakesAll, Wants, Begins, GivesBack}
+use Rattle.reh_script.specs.Players.{Player, seated, Calls, Commands, Takes, TakesAll, Begins, GivesBack}
 use Rattle.reh_script.specs.Plays as any
 use Rattle.reh_script.specs.Plays.{stop_of}
+use Rattle.reh_script.specs.Turns as turn
 use Rattle.reh_script.specs.Transcript.{BookPlayer, starting, answer_by, after_by, answer_of, after_command, transcript, after_lines, given_back, end_of}
 
 -- the state that a book shows
@@ -93,7 +92,7 @@ call_follows names x c k reply y calls =
     let is : reply ≡ answer_to x.counter.book x.seat.number k = answer_is x.counter.book x.seat.number k reply y.counter.book calls.goes.answers calls.answered in
     let left : y.counter.book ≡ book_after x.counter.book x.seat.number k (answer_to x.counter.book x.seat.number k) = calls.goes.answers.1 ∙ ap (book_after x.counter.book x.seat.number k) is in
     let held : y.hand ≡ hand_after (state_of x.counter.book.session) c (answer_to x.counter.book x.seat.number k) x.hand =
-        hand_is (state_of x.counter.book.session) c reply x.hand y.hand calls.hand ∙ ap (λ r. hand_after (state_of x.counter.book.session) c r x.hand) is in
+    hand_is (state_of x.counter.book.session) c reply x.hand y.hand calls.hand ∙ ap (λ r. hand_after (state_of x.counter.book.session) c r x.hand) is in
     record {
       text_is = ap (reply_answer names) is;
       player_is = λ i. record { book = left i; hand = held i };
@@ -203,8 +202,8 @@ wants_or : (p : BookPlayer) (seat : ℕ) (c : Command) (made : Option Call) (k :
 wants_or p seat c made k after is same (inl own, then) =
     let held : p.hand ≡ hand_after (state_of p.book.session) c (Refused NoMemory) p.hand = sym (hand_stays (state_of p.book.session) p.book seat c p.hand k is own) in
     let stays : p ≡ after_by seat p c (Some k) =
-        (λ i. record { book = p.book; hand = held i })
-        ∙ ap (λ reply. record { book = book_after p.book seat k reply; hand = hand_after (state_of p.book.session) c reply p.hand }) own in
+    (λ i. record { book = p.book; hand = held i })
+    ∙ ap (λ reply. record { book = book_after p.book seat k reply; hand = hand_after (state_of p.book.session) c reply p.hand }) own in
     inl (subst (λ q. p ≡ after_by seat p c q) (sym same) stays)
 wants_or p seat c made k after is same (inr want, then) = inr (subst (λ q. book.CallMayWant seat p q) (sym same) want.1)
 
@@ -217,7 +216,7 @@ lacks names x n (Some (Err reason)) y last end (some, inr wants) back = absurd w
 lacks names x n (Some (Ok c)) y last end (some, inr (k, is, called, seat, hand)) back =
     let left : y.counter.book ≡ x.counter.book = called.answers.1 in
     let there : last.book ≡ end_of x.seat.number (player x) =
-        gives_back y.counter y.seat y.hand last end back ∙ (λ i. given_back ((seat i).number) (left i) (hand i)) in
+    gives_back y.counter y.seat y.hand last end back ∙ (λ i. given_back ((seat i).number) (left i) (hand i)) in
     elim (wants_or (player x) x.seat.number c (call_of c x.hand) k y.counter.book is is called.answers) [
       | inl own ↦ (some, inl (there ∙ ap (end_of x.seat.number) own))
       | inr want ↦ (some, inr (there, want))
@@ -248,6 +247,13 @@ played_book names lines stop (Err fault.TooLong) x last end old new (is, all) = 
 played_book names lines stop (Err fault.WriteFault) x last end old new stops = stops_writing names lines x last end old new stops
 played_book names lines stop (Err fault.NoMemory) x last end old new stops = stops_wanting names lines x last end old new stops
 played_book names lines stop (Err fault.NoThread) x last end old new stops = stops_wanting names lines x last end old new stops
+
+-- the same by the first seat of a new book, with an empty hand
+pub played_opened : (names : List (List ℕ)) (lines : List (List ℕ)) (stop : Option PlayFault) (result : Result (Unit {0}) PlayFault) (k : Kept) (seat : SeatView) (hand : List Numbered) (m : Session) (last : Kept) (end : SeatView) (old new : Option (List ℕ)) → k ≡ opened m → seat ≡ new_seat 0 → hand ≡ []
+    → any.IsPlayed Called scene names lines stop result (turn.player k seat hand) last end old new → book.IsPlayed names 0 lines stop result (starting (new_book m)) last.book old new
+played_opened names lines stop result k seat hand m last end old new new_book_is first empty played =
+    subst (λ (x : Player Kept). book.IsPlayed names x.seat.number lines stop result (player x) last.book old new) (λ i. turn.player (new_book_is i) (first i) (empty i))
+    (played_book names lines stop result (turn.player k seat hand) last end old new played)
 
 -- a play of a text at a book
 pub plays_book : (names : List (List ℕ)) (result : Result (Unit {0}) PlayFault) (failed : Bool) (left_old left_new : Option (List ℕ)) (counter : Kept) (seat : SeatView) (last : Kept) (end : SeatView) (old new : Option (List ℕ)) → any.Plays Called scene names result failed left_old left_new counter seat last end old new
