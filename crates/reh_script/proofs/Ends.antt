@@ -5,6 +5,8 @@ use Rattle.std.proofs.KnownBytes.{Keeps-refl}
 use Rattle.reh_model.specs.Cluster.{Cluster}
 use Rattle.reh_model.specs.Session.{Session, opened_session}
 use Rattle.reh_model.specs.Book.{Book, new_book}
+use Rattle.reh_desk.specs.Kept.{Kept, opened}
+use Rattle.reh_desk.specs.Seats.{SeatView, new_seat}
 use Rattle.reh_picture.specs.declared.faults.PictureFault.{PictureFault}
 use Rattle.reh_picture.specs.declared.faults.PictureFault.TheVariants as picture_fault
 use Rattle.reh_picture.specs.Pictures.{picture_of}
@@ -65,6 +67,12 @@ pub ends_refused : (failed : Bool) (input picture script : List ℕ) (fault : Pi
 ends_refused failed input picture script fault (Ok x) old told first behind refuses is = absurd is
 ends_refused failed input picture script fault (Err e) old told first behind refuses is =
     subst (λ (f : PipeFault). IsPiped (rehearsal_of failed input) (Err f) old old) (sym is) (refused_or_lacks failed input picture script fault old told first behind refuses)
+
+-- a play by the first seat of a new book
+pub at_opened : (names : List (List ℕ)) (lines : List (List ℕ)) (stop : Option PlayFault) (result : Result (Unit {0}) PlayFault) (k : Kept) (seat : SeatView) (m : Session) (b : Book) (old new : Option (List ℕ)) → (k ≡ opened m) × (seat ≡ new_seat 0)
+    → IsPlayed names seat.number lines stop result (starting k.book) b old new → IsPlayed names 0 lines stop result (starting (new_book m)) b old new
+at_opened names lines stop result k seat m b old new (fresh, first) played =
+    subst (λ (s : SeatView). IsPlayed names s.number lines stop result (starting (new_book m)) b old new) first (subst (λ (v : Kept). IsPlayed names seat.number lines stop result (starting v.book) b old new) fresh played)
 
 -- where the lines are played
 pub ends_played : (failed : Bool) (input picture script : List ℕ) (state : Cluster) (names : List (List ℕ)) (result : Result (Unit {0}) PlayFault) (m : Session) (b : Book) (old new : Option (List ℕ)) → is_told failed input ≡ true → picture ≡ (cut_of input).picture

@@ -1,5 +1,6 @@
 mod Numbers
 mod Examples
+pub mod TranscriptExamples
 pub mod WordLaws
 pub mod ReportLaws
 pub mod LinesLemmas
@@ -9,3 +10,6 @@ pub mod Turns
 pub mod Steps
 pub mod Answered
 pub mod Enough
+pub mod Transcripts
+pub mod InputEnough
+pub mod Ends
