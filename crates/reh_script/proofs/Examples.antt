@@ -3,13 +3,13 @@ use Rattle.std.specs.Prelude.{◌≡◌, refl, ℕ, List, [], ◌∷◌, ◌++�
 use Rattle.reh_types.specs.declared.moves.Event.TheVariants.{Lose, Acquire, Grace, Tick, Roll, Fence, Seal, Copy}
 use Rattle.reh_types.specs.declared.moves.Move.TheVariants.{Do, Look}
 use Rattle.reh_script.specs.declared.commands.Command.{Command}
-use Rattle.reh_script.specs.declared.commands.Command.TheVariants.{Make, Report}
+use Rattle.reh_script.specs.declared.commands.Command.TheVariants.{Make, Checkout, Spend, Discard, Report, Survey}
 use Rattle.reh_script.specs.declared.commands.LineFault.{LineFault}
 use Rattle.reh_script.specs.declared.commands.LineFault.TheVariants.{TooLong, UnknownCommand, BadWords, UnknownName}
 use Rattle.reh_script.specs.Script.{command_of_line, forms}
 use Rattle.std.specs.Fmt.{digits}
-use Rattle.reh_types.specs.declared.moves.Reply.TheVariants.{Done, Clock, Refused}
-use Rattle.reh_types.specs.declared.refusals.Refusal.TheVariants.{Locked, NoTask, StillUnder, Stale}
+use Rattle.reh_types.specs.declared.moves.Reply.TheVariants.{Done, Clock, Issued, Discarded, Refused}
+use Rattle.reh_types.specs.declared.refusals.Refusal.TheVariants.{Locked, NoTask, StillUnder, Stale, NotOut, HandFull, HandEmpty}
 use Rattle.reh_types.specs.declared.names.LedgerState.{LedgerState}
 use Rattle.reh_types.specs.declared.names.LedgerState.TheVariants.{Open, InRecovery, Closed}
 use Rattle.reh_types.specs.Sets.{contains, insert, empty, from_list, items}
@@ -54,6 +54,12 @@ pub open_ledgers : asked (codes "grace b1:3181 9" ∷ codes "roll 9 1 b2:3181" �
 unfolding forms
 open_ledgers = refl
 
+-- a player's own commands; a checkout names a worker, and the place that it aims at
+pub hands : asked (codes "checkout b2:3181 7 0 1" ∷ codes "spend" ∷ codes "discard" ∷ codes "survey" ∷ codes "checkout b2:3181 7 0" ∷ codes "checkout b2:3181 7 0 1 0" ∷ codes "checkout nobody 7 0 1" ∷ codes "spend 1" ∷ [])
+    ≡ made (Checkout (record { worker = 1; ledger = 7; fragment = 0; index = 1 })) ∷ made Spend ∷ made Discard ∷ made Survey ∷ faulty BadWords ∷ faulty BadWords ∷ faulty UnknownName ∷ faulty BadWords ∷ []
+unfolding forms
+hands = refl
+
 -- one CR at the end is dropped; a second one belongs to the last word
 pub one_cr : asked (codes "clock\r" ∷ codes "clock\r\r" ∷ codes "tick 1\r" ∷ codes "tick 1\r\r" ∷ codes "\r\r" ∷ codes "clock\r " ∷ [])
     ≡ made (Make Look) ∷ faulty UnknownCommand ∷ made (Make (Do (Tick 1))) ∷ faulty BadWords ∷ faulty UnknownCommand ∷ faulty UnknownCommand ∷ []
@@ -75,8 +81,8 @@ length_of_lines = refl
 -- Texts
 
 -- a lock's owner goes by name, or by number where there is no name for it
-pub replies_printed : map (reply_text names) (Done ∷ Clock 12 ∷ Refused (Locked 1) ∷ Refused (Locked 5) ∷ Refused NoTask ∷ Refused (StillUnder 3) ∷ Refused (Stale 1_000_000_000_000) ∷ [])
-    ≡ codes "ok" ∷ codes "clock 12" ∷ codes "refused 7 Locked b2:3181" ∷ codes "refused 7 Locked 5" ∷ codes "refused 6 NoTask" ∷ codes "refused 9 StillUnder 3" ∷ codes "refused 24 Stale 1000000000000" ∷ []
+pub replies_printed : map (reply_text names) (Done ∷ Clock 12 ∷ Refused (Locked 1) ∷ Refused (Locked 5) ∷ Refused NoTask ∷ Refused (StillUnder 3) ∷ Refused (Stale 1_000_000_000_000) ∷ Issued 200_000 ∷ Discarded ∷ Refused NotOut ∷ Refused HandFull ∷ Refused HandEmpty ∷ [])
+    ≡ codes "ok" ∷ codes "clock 12" ∷ codes "refused 7 Locked b2:3181" ∷ codes "refused 7 Locked 5" ∷ codes "refused 6 NoTask" ∷ codes "refused 9 StillUnder 3" ∷ codes "refused 24 Stale 1000000000000" ∷ codes "ticket 200000" ∷ codes "discarded" ∷ codes "refused 37 NotOut" ∷ codes "refused 39 HandFull" ∷ codes "refused 40 HandEmpty" ∷ []
 unfolding digits
 replies_printed = refl
 

@@ -6,7 +6,10 @@ pub mod ReportLaws
 pub mod LinesLemmas
 pub mod EndedLaws
 pub mod Cuts
+pub mod Turns
 pub mod Steps
 pub mod Answered
 pub mod Enough
+pub mod Transcripts
+pub mod InputEnough
 pub mod Ends

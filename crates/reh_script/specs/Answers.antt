@@ -1,5 +1,5 @@
 -- What is printed for a line.
-use Rattle.std.specs.Prelude.{ℕ, List, [], ◌∷◌, ◌++◌, map, Option, None, Some, Result, codes}
+use Rattle.std.specs.Prelude.{ℕ, List, [], ◌++◌, map, Option, None, Some, Result, codes}
 use Rattle.std.specs.Fmt.{decimal}
 use Rattle.reh_types.specs.declared.moves.Reply.{Reply}
 use Rattle.reh_types.specs.declared.moves.Reply.TheVariants.{Refused}

@@ -1,5 +1,5 @@
 -- The hand of a player: the findings that it holds, oldest first, and the calls that its commands make.
-use Rattle.std.specs.Prelude.{◌≡◌, ℕ, Bool, nat_le, if◌then◌else◌, List, [], ◌∷◌, ◌++◌, length, drop, Option, None, Some, IfSome}
+use Rattle.std.specs.Prelude.{◌≡◌, ℕ, nat_le, if◌then◌else◌, List, [], ◌∷◌, ◌++◌, length, drop, Option, None, Some, IfSome}
 use Rattle.reh_types.specs.declared.calls.Call.{Call}
 use Rattle.reh_types.specs.declared.calls.Call.TheVariants as call
 use Rattle.reh_types.specs.declared.contents.Content.{Content}

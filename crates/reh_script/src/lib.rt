@@ -1,6 +1,8 @@
 // Scripts: the commands of their lines, their answers, and the input that holds a picture and a script.
 #![tactic(auto)]
 
+mod answers;
+mod book_plays;
 mod commands;
 mod faults;
 mod forms;
@@ -8,6 +10,7 @@ mod hand;
 mod inputs;
 mod pieces;
 mod pipes;
+mod players;
 mod plays;
 mod readings;
 mod reports;
@@ -17,11 +20,12 @@ mod surveys;
 mod texts;
 mod words;
 
+pub use book_plays::play_book;
 pub use commands::{Command, LineFault};
 pub use faults::{PipeFault, PlayFault};
 pub use pieces::{PiecesIn, PiecesOut};
 pub use pipes::pipe;
-pub use plays::{play, play_book};
+pub use plays::play;
 pub use readings::{Reading, read};
 pub use reports::report_text;
 pub use scripts::parse_line;

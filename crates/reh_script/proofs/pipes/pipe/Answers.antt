@@ -1,6 +1,6 @@
 use Rattle.std.proofs.Common.{Bool, subst, sym}
 use Rattle.reh_script.specs.Pipes.{Pipes}
-use Rattle.reh_script.proofs.Enough.{pipes_all, pipes_none}
+use Rattle.reh_script.proofs.InputEnough.{pipes_all, pipes_none}
 use Rattle.reh_script.proofs.pipes.pipe.Goals as goal
 
 pub returns-in_err-input-clause-pipes : goal.returns-in_err-input-clause-pipes
