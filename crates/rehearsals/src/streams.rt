@@ -157,7 +157,10 @@ fn stops_at_a_failed_write(rt: HostRuntime) -> Result<(), Fail> {
         (0, "Err(WriteFault) 1 lines, 0 out"),
         (1, "line Err(WriteFault) 1 lines, 0 out"),
         (2, "line 1: ok\nErr(WriteFault) 2 lines, 0 out"),
-        (5, "line 1: ok\nline 2: ok\nline Err(WriteFault) 3 lines, 0 out"),
+        (
+            5,
+            "line 1: ok\nline 2: ok\nline Err(WriteFault) 3 lines, 0 out",
+        ),
     ];
     for (fails_at, expected) in runs {
         let script = "tick 1\ntick 1\ntick 1\n";
@@ -182,7 +185,11 @@ fn gives_its_hand_back(rt: HostRuntime) -> Result<(), Fail> {
     let nine = checkout.repeat(rt.alloc(), 9)?;
     let script = format!(in rt.alloc(); "{loss}{nine}discard\nspend\n")?;
     let shown = played(rt.alloc(), FIVE_BOOKIES, &script, &[], None)?;
-    assert!(rt; shown.ends_with("line 12: refused 39 HandFull\nline 13: discarded\nline 14: ok\nOk(()) 19 lines, 0 out"));
+    assert!(rt;
+        shown.ends_with(
+            "line 12: refused 39 HandFull\nline 13: discarded\nline 14: ok\nOk(()) 19 lines, 0 out"
+        )
+    );
     Ok(())
 }
 
