@@ -9,13 +9,13 @@ use Rattle.reh_types.specs.declared.moves.Reply.{Reply}
 use Rattle.reh_types.specs.declared.moves.Reply.TheVariants.{Done, Clock, Issued, Discarded, Refused}
 use Rattle.reh_types.specs.declared.names.Aim.{Aim}
 use Rattle.reh_types.specs.declared.refusals.Refusal.TheVariants.{NotOut, NoMemory}
-use Rattle.reh_model.specs.Book.{Book, new_book, answer_to, book_after, is_written, or_refused, place_of, ticket, Answers}
+use Rattle.reh_model.specs.Book.{Book, answer_to, book_after, is_written, or_refused, place_of, ticket, Answers}
 use Rattle.reh_model.specs.Checks.{reason_if}
 use Rattle.reh_model.specs.Cluster.{Cluster}
-use Rattle.reh_model.specs.Session.{Session, state_of}
-use Rattle.reh_desk.specs.Kept.{Kept, Called, opened}
+use Rattle.reh_model.specs.Session.{state_of}
+use Rattle.reh_desk.specs.Kept.{Kept, Called}
 use Rattle.reh_desk.specs.Numbered.{Numbered}
-use Rattle.reh_desk.specs.Seats.{SeatView, new_seat, gained}
+use Rattle.reh_desk.specs.Seats.{SeatView, gained}
 use Rattle.reh_script.specs.declared.commands.Command.{Command}
 use Rattle.reh_script.specs.declared.commands.Command.TheVariants as command
 use Rattle.reh_script.specs.declared.commands.LineFault.{LineFault}
@@ -29,8 +29,7 @@ use Rattle.reh_script.specs.Lines.{answered_lines}
 use Rattle.reh_script.specs.Players.{Player, seated, Calls, Commands, Takes, TakesAll, Begins, GivesBack}
 use Rattle.reh_script.specs.Plays as any
 use Rattle.reh_script.specs.Plays.{stop_of}
-use Rattle.reh_script.specs.Turns as turn
-use Rattle.reh_script.specs.Transcript.{BookPlayer, starting, answer_by, after_by, answer_of, after_command, transcript, after_lines, given_back, end_of}
+use Rattle.reh_script.specs.Transcript.{BookPlayer, answer_by, after_by, answer_of, after_command, transcript, after_lines, given_back, end_of}
 
 -- the state that a book shows
 abbrev pub scene : Kept → Option Cluster
@@ -247,13 +246,6 @@ played_book names lines stop (Err fault.TooLong) x last end old new (is, all) = 
 played_book names lines stop (Err fault.WriteFault) x last end old new stops = stops_writing names lines x last end old new stops
 played_book names lines stop (Err fault.NoMemory) x last end old new stops = stops_wanting names lines x last end old new stops
 played_book names lines stop (Err fault.NoThread) x last end old new stops = stops_wanting names lines x last end old new stops
-
--- the same by the first seat of a new book, with an empty hand
-pub played_opened : (names : List (List ℕ)) (lines : List (List ℕ)) (stop : Option PlayFault) (result : Result (Unit {0}) PlayFault) (k : Kept) (seat : SeatView) (hand : List Numbered) (m : Session) (last : Kept) (end : SeatView) (old new : Option (List ℕ)) → k ≡ opened m → seat ≡ new_seat 0 → hand ≡ []
-    → any.IsPlayed Called scene names lines stop result (turn.player k seat hand) last end old new → book.IsPlayed names 0 lines stop result (starting (new_book m)) last.book old new
-played_opened names lines stop result k seat hand m last end old new new_book_is first empty played =
-    subst (λ (x : Player Kept). book.IsPlayed names x.seat.number lines stop result (player x) last.book old new) (λ i. turn.player (new_book_is i) (first i) (empty i))
-    (played_book names lines stop result (turn.player k seat hand) last end old new played)
 
 -- a play of a text at a book
 pub plays_book : (names : List (List ℕ)) (result : Result (Unit {0}) PlayFault) (failed : Bool) (left_old left_new : Option (List ℕ)) (counter : Kept) (seat : SeatView) (last : Kept) (end : SeatView) (old new : Option (List ℕ)) → any.Plays Called scene names result failed left_old left_new counter seat last end old new

@@ -41,7 +41,7 @@ impl Hand {
         }
     }
 
-    /// Whether it holds as many findings as it may.
+    /// How many findings it holds.
     pub(crate) fn len(&self) -> usize
         ensures { result ≡ length self.now }
     {
