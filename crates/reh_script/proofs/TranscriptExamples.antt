@@ -10,7 +10,13 @@ use Rattle.reh_model.proofs.TaskExamples.{five_bookies}
 use Rattle.reh_script.specs.Lines.{cut_of, lines_of}
 use Rattle.reh_script.specs.Script.{forms}
 use Rattle.reh_script.specs.Texts.{text_of}
-use Rattle.reh_script.specs.Transcript.{starting, after_lines, end_of, transcript}
+use Rattle.reh_types.specs.declared.calls.TicketOut.{TicketOut}
+use Rattle.reh_types.specs.declared.moves.Reply.TheVariants.{Refused}
+use Rattle.reh_types.specs.declared.refusals.Refusal.TheVariants.{NotOut}
+use Rattle.reh_desk.specs.Numbered.{Numbered}
+use Rattle.reh_script.specs.declared.commands.Command.TheVariants.{Spend, Discard}
+use Rattle.reh_script.specs.Hand.{hand_after}
+use Rattle.reh_script.specs.Transcript.{BookPlayer, starting, after_lines, end_of, transcript}
 
 -- what is printed for lines at a new book on this state
 abbrev printed : Cluster → List (List ℕ) → List ℕ
@@ -52,6 +58,26 @@ pub findings_printed : printed five_bookies (loss_and_lock ++ checkouts 2 ++ cod
     ≡ text_of (codes "line 1: ok" ∷ codes "line 2: ok" ∷ codes "line 3: ok" ∷ codes "line 4: ticket 1" ∷ codes "line 5: ticket 2" ∷ codes "line 6: ok" ∷ codes "line 7: ok" ∷ codes "line 8: refused 24 Stale 1" ∷ codes "line 9: refused 40 HandEmpty" ∷ [])
 unfolding contains insert retain remove empty from_list union items is_subset is_empty len digits forms
 findings_printed = refl
+
+-- the player after lines at a new book on this state, before its hand is given back
+abbrev left : Cluster → List (List ℕ) → BookPlayer
+left s lines = after_lines s.names 0 (starting (new_book (opened_session s))) (lines_of (text_of lines))
+
+-- the oldest finding is spent and given back first: of three tickets the last stays out, and in the hand
+pub oldest_first : map (λ (t : TicketOut). t.number) (left five_bookies (loss_and_lock ++ checkouts 3 ++ codes "spend" ∷ codes "discard" ∷ [])).book.out ≡ 3 ∷ []
+unfolding contains insert retain remove empty from_list union items is_subset is_empty len digits forms
+oldest_first = refl
+
+pub newest_left : map (λ (finding : Numbered). finding.number) (left five_bookies (loss_and_lock ++ checkouts 3 ++ codes "spend" ∷ codes "discard" ∷ [])).hand ≡ 3 ∷ []
+unfolding contains insert retain remove empty from_list union items is_subset is_empty len digits forms
+newest_left = refl
+
+-- a finding whose ticket is not out stays the oldest of the hand, and leaves it where it was to be given back
+pub not_out_stays : (s : Cluster) (finding : Numbered) → hand_after s Spend (Refused NotOut) (finding ∷ []) ≡ finding ∷ []
+not_out_stays s finding = refl
+
+pub not_out_forfeited : (s : Cluster) (finding : Numbered) → hand_after s Discard (Refused NotOut) (finding ∷ []) ≡ []
+not_out_forfeited s finding = refl
 
 -- what is left in the hand is given back at the end: its lines stand on the tape, and no ticket is out
 pub hand_given_back : (played five_bookies (loss_and_lock ++ checkouts 3)).lines ≡ 9
