@@ -57,9 +57,9 @@ pub(crate) fn answer<C: Counter, V: Surveyor>(
 {
     match asked {
         Ok(Command::Make(step)) => make(counter, seat, hand, step),
-        Ok(Command::Checkout(aim)) => take(tools.alloc, counter, seat, hand, aim),
-        Ok(Command::Spend) => put(counter, seat, hand),
-        Ok(Command::Discard) => Ok(drop_one(counter, seat, hand)),
+        Ok(Command::Checkout(aim)) => check_out(tools.alloc, counter, seat, hand, aim),
+        Ok(Command::Spend) => spend(counter, seat, hand),
+        Ok(Command::Discard) => Ok(discard(counter, seat, hand)),
         Ok(Command::Report) => Ok(Answer::Report),
         Ok(Command::Survey) => survey(tools, counter, seat, hand),
         Err(fault) => Ok(Answer::Faulty(fault)),
@@ -85,7 +85,7 @@ fn make<C: Counter>(
 }
 
 /// Takes a ticket for an aim, and scans it.
-fn take<C: Counter>(
+fn check_out<C: Counter>(
     alloc: Global,
     counter: &mut C,
     seat: &mut Seat,
@@ -120,7 +120,11 @@ fn take<C: Counter>(
 }
 
 /// Spends the oldest finding. One whose ticket is not out stays the oldest.
-fn put<C: Counter>(counter: &mut C, seat: &mut Seat, hand: &mut Hand) -> Result<Answer, Unanswered>
+fn spend<C: Counter>(
+    counter: &mut C,
+    seat: &mut Seat,
+    hand: &mut Hand,
+) -> Result<Answer, Unanswered>
     requires { C.may counter.old seat.old }
     ensures may { C.may counter.new seat.new }
     ensures ok { IfOk result (λ answer. IsAnswered C.goes C.scene (player counter.old seat.old hand.old) (Ok command.Spend) answer (player counter.new seat.new hand.new)) }
@@ -143,7 +147,7 @@ fn put<C: Counter>(counter: &mut C, seat: &mut Seat, hand: &mut Hand) -> Result<
 }
 
 /// Gives the oldest finding back. One whose ticket is not out is forfeited.
-fn drop_one<C: Counter>(counter: &mut C, seat: &mut Seat, hand: &mut Hand) -> Answer
+fn discard<C: Counter>(counter: &mut C, seat: &mut Seat, hand: &mut Hand) -> Answer
     requires { C.may counter.old seat.old }
     ensures may { C.may counter.new seat.new }
     ensures done { IsAnswered C.goes C.scene (player counter.old seat.old hand.old) (Ok command.Discard) result (player counter.new seat.new hand.new) }

@@ -2,7 +2,7 @@ use Rattle.std.proofs.Common.{arith, length, ◌<◌}
 use Rattle.std.proofs.lemmas.Bool.Decides.{nat_tests}
 use Rattle.reh_types.specs.declared.limits.TheConstants.{MAX_HAND}
 use Rattle.reh_script.proofs.Turns.{begins_issued}
-use Rattle.reh_script.proofs.players.take.Goals as goal
+use Rattle.reh_script.proofs.players.check_out.Goals as goal
 
 pub returns-in-Err-scan-clause-err : goal.returns-in-Err-scan-clause-err
 returns-in-Err-scan-clause-err g c =
