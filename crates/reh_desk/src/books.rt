@@ -19,7 +19,7 @@ use crate::tickets::{Finding, Stray, Ticket, Unspent};
 use reh_cluster::State;
 use reh_scan::{Job, aimed};
 use reh_session::Session;
-use reh_types::{Aim, Call, Content, Line, MAX_LINES, Move, Refusal, Reply, TicketOut};
+use reh_types::{Aim, BoxedContent, Call, Content, Line, MAX_LINES, Move, Refusal, Reply, TicketOut};
 use std::alloc::AllocError;
 use std::marker::Model;
 use std::snapshot::Snapshot;
@@ -148,7 +148,7 @@ impl Book {
         &mut self,
         seat: u32,
         finding: Finding,
-    ) -> Result<(Reply, Content), SpendFault>
+    ) -> Result<(Reply, BoxedContent), SpendFault>
         ensures called { Called self.old seat (call.Spend finding.number finding.content) (spent_twofold result) self.new }
         ensures written { IfOk result (λ r. IsTrue (is_written r.0)) }
         ensures content { IfOk result (λ r. r.1 ≡ finding.content) }

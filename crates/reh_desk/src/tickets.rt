@@ -3,7 +3,7 @@ ghost use Rattle.std.specs.Prelude.{◌≡◌, IfOk, IfErr};
 ghost use Rattle.reh_desk.specs.Unspent.{number_of, aim_of};
 
 use reh_scan::{Job, look};
-use reh_types::{Aim, Content};
+use reh_types::{Aim, BoxedContent, Content};
 use std::alloc::{AllocError, Global};
 use std::marker::Model;
 
@@ -31,8 +31,8 @@ impl Model for Ticket {
 #[must_use]
 pub struct Finding {
     number: u32,
-    content: Content,
-    copy: Content,
+    content: BoxedContent,
+    copy: BoxedContent,
 }
 
 impl Model for Finding {
@@ -107,18 +107,18 @@ impl Finding {
     pub fn aim(&self) -> Aim
         ensures { result ≡ self.now.content.aim }
     {
-        self.content.aim
+        self.content.as_content().aim
     }
 
     /// What was found.
     pub fn content(&self) -> &Content
         ensures { result.now ≡ self.now.content }
     {
-        &self.content
+        self.content.as_content()
     }
 
     // The content, once for the tape's line and once for the seat's list.
-    pub(crate) fn into_contents(self) -> (Content, Content)
+    pub(crate) fn into_contents(self) -> (BoxedContent, BoxedContent)
         ensures { (result.0 ≡ self.content) × (result.1 ≡ self.content) }
     {
         let Finding {
@@ -189,12 +189,8 @@ pub fn scan(alloc: Global, ticket: Ticket) -> Result<Finding, (Ticket, AllocErro
     ensures ok { IfOk result (λ finding. (finding.number ≡ ticket.number) × (finding.content ≡ ticket.content)) }
     ensures err { IfErr result (λ e. e.0 ≡ ticket) }
 {
-    let content = match look(alloc, &ticket.job) {
-        Ok(content) => content,
-        Err(want) => return Err((ticket, want)),
-    };
-    let copy = match content.clone_in() {
-        Ok(copy) => copy,
+    let (content, copy) = match look_twice(alloc, &ticket.job) {
+        Ok(contents) => contents,
         Err(want) => return Err((ticket, want)),
     };
     let Ticket { number, job: _ } = ticket;
@@ -203,4 +199,13 @@ pub fn scan(alloc: Global, ticket: Ticket) -> Result<Finding, (Ticket, AllocErro
         content,
         copy,
     })
+}
+
+/// What a look at a job finds, twice.
+fn look_twice(alloc: Global, job: &Job) -> Result<(BoxedContent, BoxedContent), AllocError>
+    ensures { IfOk result (λ contents. (contents.0 ≡ job.now) × (contents.1 ≡ job.now)) }
+{
+    let content = BoxedContent::of(alloc, look(alloc, job)?)?;
+    let copy = content.clone_in()?;
+    Ok((content, copy))
 }

@@ -95,6 +95,7 @@ fn row(kinds: &'static [Kind], command: Command) -> Option<Form>
 }
 
 /// Whether a verb is this word.
+#[inline(always)]
 fn is(verb: &[u8], word: &[u8]) -> bool
     ensures { result ≡ bytes_eq word.now verb.now }
 {

@@ -185,7 +185,7 @@ impl Session {
     {
         let outcome = match step {
             Move::Do(event) => self.act(event),
-            Move::Post(content) => self.post(content),
+            Move::Post(content) => self.post(content.as_content()),
             Move::Undo => self.undo(),
             Move::Redo => self.redo(),
             Move::Look => return Reply::Clock(self.state.clock()),

@@ -1,5 +1,5 @@
 // What a seat calls at a book, and the lines of its tape.
-use crate::contents::Content;
+use crate::contents::BoxedContent;
 use crate::moves::{Move, Reply};
 use crate::names::Aim;
 
@@ -11,7 +11,7 @@ pub enum Call {
     /// A ticket is asked for, with which a worker scans the fragment of its aim.
     Checkout(Aim),
     /// What a worker found with the ticket of this number is posted.
-    Spend { number: u32, content: Content },
+    Spend { number: u32, content: BoxedContent },
     /// The ticket of this number is given back.
     Discard { number: u32, aim: Aim },
 }

@@ -2,7 +2,7 @@
 ghost use Rattle.std.specs.Prelude.{◌≡◌, IfOk};
 
 use crate::names::{Aim, BookieIx};
-use std::alloc::AllocError;
+use std::alloc::{AllocError, Global};
 use std::marker::Model;
 
 /// The members of an ensemble, by their indexes; contracts see the list.
@@ -109,5 +109,44 @@ impl Content {
             ensemble: self.ensemble.clone_in()?,
             sources: self.sources.clone_in()?,
         })
+    }
+}
+
+/// A content behind a pointer, by which moves, calls and the lines of a tape are small; contracts see the content.
+#[derive(Drop)]
+pub struct BoxedContent {
+    content: Box<Content>,
+}
+
+impl Model for BoxedContent {
+    ghost use Rattle.reh_types.specs.declared.contents.Content.{Content};
+
+    ghost Value = { Content };
+
+    ghost view = { λ b. b.content.value };
+}
+
+impl BoxedContent {
+    /// This content.
+    pub fn of(alloc: Global, content: Content) -> Result<BoxedContent, AllocError>
+        ensures { IfOk result (λ boxed. boxed ≡ content) }
+    {
+        let content = Box::new(alloc, content)?;
+        Ok(BoxedContent { content })
+    }
+
+    /// The content.
+    pub fn as_content(&self) -> &Content
+        ensures { result.now ≡ self.now }
+    {
+        &self.content
+    }
+
+    /// A copy.
+    pub fn clone_in(&self) -> Result<BoxedContent, AllocError>
+        ensures { IfOk result (λ copy. copy ≡ self.now) }
+    {
+        let alloc = *self.content.ensemble.items.allocator();
+        BoxedContent::of(alloc, self.content.clone_in()?)
     }
 }

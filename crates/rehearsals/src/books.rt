@@ -4,7 +4,7 @@ use reh_desk::{Book, Finding, SpendCause, SpendFault, Unspent, scan};
 use reh_picture::read_picture;
 use reh_script::{Command, parse_line};
 use reh_session::Session;
-use reh_types::{Aim, BookieIx, Content, Event, LedgerId, Members, Move, Refusal, Reply, Sources};
+use reh_types::{Aim, BookieIx, BoxedContent, Content, Event, LedgerId, Members, Move, Refusal, Reply, Sources};
 use std::alloc::{AllocError, Global};
 use std::process::Abort;
 use std::test::Fail;
@@ -343,16 +343,17 @@ fn refused(rt: &impl Abort, book: &mut Book, finding: Finding) -> Finding {
 }
 
 /// What the fourth bookie's worker finds, with these sources.
-fn content(alloc: Global, sources: [Option<BookieIx>; 4]) -> Result<Content, AllocError> {
+fn content(alloc: Global, sources: [Option<BookieIx>; 4]) -> Result<BoxedContent, AllocError> {
     let ensemble = vec![in alloc; BookieIx(0), BookieIx(1), BookieIx(2)]?;
-    Ok(Content {
+    let content = Content {
         aim: AIM,
         version: 0,
         first: 0,
         stop: 6,
         ensemble: Members::of(ensemble),
         sources: Sources::of(Vec::from_array(alloc, sources)?),
-    })
+    };
+    BoxedContent::of(alloc, content)
 }
 
 // An accepted post survives as the copy that it stands for, and is undone as that.
