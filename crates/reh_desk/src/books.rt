@@ -19,7 +19,9 @@ use crate::tickets::{Finding, Stray, Ticket, Unspent};
 use reh_cluster::State;
 use reh_scan::{Job, aimed};
 use reh_session::Session;
-use reh_types::{Aim, BoxedContent, Call, Content, Line, MAX_LINES, Move, Refusal, Reply, TicketOut};
+use reh_types::{
+    Aim, BoxedContent, Call, Content, Line, MAX_LINES, Move, Refusal, Reply, TicketOut,
+};
 use std::alloc::AllocError;
 use std::marker::Model;
 use std::snapshot::Snapshot;

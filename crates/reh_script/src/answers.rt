@@ -1,5 +1,5 @@
 // The answers to the lines of a script.
-ghost use Rattle.std.specs.Prelude.{◌≡◌, ◌++◌, OnOk, string_bytes};
+ghost use Rattle.std.specs.Prelude.{◌≡◌, ◌++◌, OnOk, codes, decimal, string_bytes};
 ghost use Rattle.reh_script.specs.Answers.{numbered, reply_answer, shown, report_answer};
 ghost use Rattle.reh_script.specs.Turns.{answer_text};
 
@@ -7,6 +7,7 @@ use crate::commands::LineFault;
 use crate::reports::push_report;
 use crate::surveys::push_survey;
 use crate::texts::Named;
+use itoa::Buffer;
 use reh_cluster::Names;
 use reh_desk::Counter;
 use reh_types::{Reply, SurveyLine};
@@ -38,7 +39,7 @@ pub(crate) fn push_answer<C: Counter>(
     ensures { OnOk result (string_bytes text.new
         ≡ string_bytes text.old ++ numbered number (answer_text names.now (C.scene counter.now) answer)) }
 {
-    write!(text, "line {number}: ")?;
+    push_number(text, number)?;
     match answer {
         Answer::Said(reply) => push_reply(text, names, &reply),
         Answer::Faulty(fault) => write!(text, "{fault}\n"),
@@ -49,6 +50,16 @@ pub(crate) fn push_answer<C: Counter>(
         }
         Answer::Hidden => write!(text, "not in a drill\n"),
     }
+}
+
+/// Adds the number of a line, with the words around it.
+fn push_number(text: &mut String, number: usize) -> Result<(), AllocError>
+    ensures { OnOk result (string_bytes text.new ≡ string_bytes text.old ++ (codes "line " ++ (decimal number ++ codes ": "))) }
+{
+    let mut digits = Buffer::new();
+    text.push_str("line ")?;
+    text.push_str(digits.format(number))?;
+    text.push_str(": ")
 }
 
 /// Adds a reply.

@@ -71,6 +71,7 @@ pub(crate) fn form_of(verb: &[u8], a: Arguments) -> Option<Form>
 
 /// The command of a verb that asks for no event.
 #[tactic(auto, unfolding(crate::specs::Script::forms))]
+#[inline(always)]
 fn other_form_of(verb: &[u8], a: Arguments) -> Option<Form>
     ensures { result ≡ option_map (script.filled a) (find (λ f. bytes_eq f.verb verb.now) (drop 14 script.forms)) }
 {

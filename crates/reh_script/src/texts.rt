@@ -34,7 +34,7 @@ impl fmt::Display for Named<'_> {
                 Some(name) => write!(f, "refused 7 Locked {name}"),
                 None => write!(f, "refused 7 Locked {}", owner.0),
             },
-            reply => write!(f, "{reply}"),
+            reply => reply.fmt(f),
         }
     }
 }

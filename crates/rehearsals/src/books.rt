@@ -4,7 +4,9 @@ use reh_desk::{Book, Finding, SpendCause, SpendFault, Unspent, scan};
 use reh_picture::read_picture;
 use reh_script::{Command, parse_line};
 use reh_session::Session;
-use reh_types::{Aim, BookieIx, BoxedContent, Content, Event, LedgerId, Members, Move, Refusal, Reply, Sources};
+use reh_types::{
+    Aim, BookieIx, BoxedContent, Content, Event, LedgerId, Members, Move, Refusal, Reply, Sources,
+};
 use std::alloc::{AllocError, Global};
 use std::process::Abort;
 use std::test::Fail;
