@@ -19,7 +19,7 @@ use Rattle.std.proofs.lemmas.Bool.Decides.{nat_tests}
 use Rattle.reh_script.specs.Faults.{play_fault_of}
 use Rattle.reh_script.specs.Players.{Player, Takes, TakesAll, Begins}
 use Rattle.reh_script.specs.Plays.{StopsWanting, IsPlayed}
-use Rattle.reh_script.specs.Turns.{player, held, LeadsTo}
+use Rattle.reh_script.specs.Turns.{player, held, IsWanted, LeadsTo}
 
 -- Of all lines the first were taken and answered, so many, and these are left.
 pub record IsAt {S : Type 0} (go : S → ℕ → Call → Reply → S → Type 0) (scene : S → Option Cluster) (names : List (List ℕ)) (all left : List (List ℕ)) (number : ℕ) (x y : Player S) (old mid : Option (List ℕ)) : Type 0 where
@@ -100,10 +100,15 @@ stops_writing go scene names all lines rest line answer k x y z old mid new at f
       written = Appends-trans old mid new at.text part at.written sent;
     }
 
--- where there is no memory, or no thread
+wants : {S : Type 0} (go : S → ℕ → Call → Reply → S → Type 0) (scene : S → Option Cluster) (names all : List (List ℕ)) (fault : SurveyFault) (x : Player S) (last : S) (end : SeatView) (old mid : Option (List ℕ)) (stops : StopsWanting go scene names all x last end old mid)
+    → IsWanted fault (asked names stops.line) → IsPlayed go scene names all None (Err (play_fault_of fault)) x last end old mid
+wants go scene names all survey_fault.NoMemory x last end old mid stops wanted = stops
+wants go scene names all survey_fault.NoThread x last end old mid stops wanted = (stops, wanted)
+
+-- where there is no memory, or no thread for a survey
 pub stops_wanting : {S : Type 0} (go : S → ℕ → Call → Reply → S → Type 0) (scene : S → Option Cluster) (names : List (List ℕ)) (all lines rest : List (List ℕ)) (line : List ℕ) (k : ℕ) (fault : SurveyFault) (x y z : Player S) (old mid : Option (List ℕ)) → IsAt go scene names all lines k x y old mid
-    → lines ≡ line ∷ rest → Begins go scene names y (k + 1) (asked names line) z → LeadsTo go scene names all (Err (play_fault_of fault)) x z old mid
-stops_wanting go scene names all lines rest line k fault x y z old mid at first begun = λ last end ends.
+    → lines ≡ line ∷ rest → Begins go scene names y (k + 1) (asked names line) z → IsWanted fault (asked names line) → LeadsTo go scene names all (Err (play_fault_of fault)) x z old mid
+stops_wanting go scene names all lines rest line k fault x y z old mid at first begun wanted = λ last end ends.
     let stops : StopsWanting go scene names all x last end old mid = record {
       done = at.done;
       line = line;
@@ -117,7 +122,7 @@ stops_wanting go scene names all lines rest line k fault x y z old mid at first 
       ends = ends;
       written = at.written;
     } in
-    elim fault as (λ f. IsPlayed go scene names all None (Err (play_fault_of f)) x last end old mid) [ survey_fault.NoMemory ↦ stops | survey_fault.NoThread ↦ stops ]
+    wants go scene names all fault x last end old mid stops wanted
 
 -- where a write fails, no ticket is at hand
 pub stops_lost : {S : Type 0} (go : S → ℕ → Call → Reply → S → Type 0) (scene : S → Option Cluster) (names : List (List ℕ)) (all lines rest : List (List ℕ)) (line answer : List ℕ) (k : ℕ) (x y : Player S) (s : S) (seat : SeatView) (hand : List Numbered) (old mid new : Option (List ℕ))

@@ -240,12 +240,13 @@ stops_wanting names lines x last end old new stops =
 -- a play of lines at a book
 pub played_book : (names : List (List ℕ)) (lines : List (List ℕ)) (stop : Option PlayFault) (result : Result (Unit {0}) PlayFault) (x : Player Kept) (last : Kept) (end : SeatView) (old new : Option (List ℕ)) → any.IsPlayed Called scene names lines stop result x last end old new
     → book.IsPlayed names x.seat.number lines stop result (player x) last.book old new
+unfolding stops_wanting
 played_book names lines stop (Ok done) x last end old new (is, all) = (is, answers_all names lines x last end old new all)
 played_book names lines stop (Err fault.ReadFault) x last end old new (is, all) = (is, answers_all names lines x last end old new all)
 played_book names lines stop (Err fault.TooLong) x last end old new (is, all) = (is, answers_all names lines x last end old new all)
 played_book names lines stop (Err fault.WriteFault) x last end old new stops = stops_writing names lines x last end old new stops
 played_book names lines stop (Err fault.NoMemory) x last end old new stops = stops_wanting names lines x last end old new stops
-played_book names lines stop (Err fault.NoThread) x last end old new stops = stops_wanting names lines x last end old new stops
+played_book names lines stop (Err fault.NoThread) x last end old new (stops, is) = (stops_wanting names lines x last end old new stops, is)
 
 -- a play of a text at a book
 pub plays_book : (names : List (List ℕ)) (result : Result (Unit {0}) PlayFault) (failed : Bool) (left_old left_new : Option (List ℕ)) (counter : Kept) (seat : SeatView) (last : Kept) (end : SeatView) (old new : Option (List ℕ)) → any.Plays Called scene names result failed left_old left_new counter seat last end old new

@@ -10,6 +10,7 @@ use Rattle.reh_script.specs.Answers.{asked}
 use Rattle.reh_script.specs.Hand.{call_of}
 use Rattle.reh_script.specs.Lines.{answered_lines}
 use Rattle.reh_script.specs.Plays.{stop_of}
+use Rattle.reh_script.specs.Players.{AsksForSurvey}
 use Rattle.reh_script.specs.Readings.{Gives}
 use Rattle.reh_script.specs.Transcript.{BookPlayer, starting, transcript, line_answer, after_line, after_lines, end_of}
 use Rattle.reh_script.specs.declared.faults.PlayFault.{PlayFault}
@@ -50,7 +51,7 @@ LacksAnswer names seat p line b =
     IsSome (asked names line)
     × ((b ≡ end_of seat (after_line names seat p line)) ⊎ ((b ≡ end_of seat p) × MayWantMemory seat p (asked names line)))
 
--- There was no memory, or no thread, for a line: those before it were taken and answered, and of its own answer nothing was written.
+-- There was no memory for a line, or no thread for a survey: the lines before it were taken and answered, and of its own answer nothing was written.
 pub record StopsWanting (names : List (List ℕ)) (seat : ℕ) (lines : List (List ℕ)) (p : BookPlayer) (b : Book) (old new : Option (List ℕ)) : Type 0 where
   pub done : List (List ℕ)
   pub line : List ℕ
@@ -66,7 +67,7 @@ IsPlayed names seat lines stop (Err ReadFault) p b old new = (stop ≡ Some Read
 IsPlayed names seat lines stop (Err TooLong) p b old new = (stop ≡ Some TooLong) × AnswersAll names seat lines p b old new
 IsPlayed names seat lines stop (Err WriteFault) p b old new = StopsWriting names seat lines p b old new
 IsPlayed names seat lines stop (Err NoMemory) p b old new = StopsWanting names seat lines p b old new
-IsPlayed names seat lines stop (Err NoThread) p b old new = StopsWanting names seat lines p b old new
+IsPlayed names seat lines stop (Err NoThread) p b old new = (stops : StopsWanting names seat lines p b old new) × AsksForSurvey (asked names stops.line)
 
 -- There was no memory for the hand or the text, of which no read had failed: nothing was taken and nothing written.
 abbrev pub LacksText : Bool → Result (Unit {0}) PlayFault → Book → Book → Option (List ℕ) → Option (List ℕ) → Type 0

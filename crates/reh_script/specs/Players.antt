@@ -8,6 +8,7 @@ use Rattle.reh_model.specs.Cluster.{Cluster}
 use Rattle.reh_desk.specs.Numbered.{Numbered}
 use Rattle.reh_desk.specs.Seats.{SeatView, gained}
 use Rattle.reh_script.specs.declared.commands.Command.{Command}
+use Rattle.reh_script.specs.declared.commands.Command.TheVariants.{Survey}
 use Rattle.reh_script.specs.declared.commands.LineFault.{LineFault}
 use Rattle.reh_script.specs.Answers.{asked, numbered, reply_answer, fault_answer, own_answer}
 use Rattle.reh_script.specs.Hand.{call_of, HandAfter, discard_of}
@@ -57,6 +58,10 @@ Wants {S} go x (Some (Ok command)) y =
 -- A line that has an answer was begun and not answered: it was taken, or its call found no memory.
 abbrev pub Begins : {S : Type 0} → (S → ℕ → Call → Reply → S → Type 0) → (S → Option Cluster) → List (List ℕ) → Player S → ℕ → Option (Result Command LineFault) → Player S → Type 0
 Begins {S} go scene names x n asked y = IsSome asked × (((text : List ℕ) × Takes go scene names x n asked text y) ⊎ Wants go x asked y)
+
+-- The line asks for a survey.
+abbrev pub AsksForSurvey : Option (Result Command LineFault) → Type 0
+AsksForSurvey asked = asked ≡ Some (Ok Survey)
 
 -- The hand is given back, the oldest first: this leaves the counter, and the seat.
 abbrev pub GivesBack : {S : Type 0} → (S → ℕ → Call → Reply → S → Type 0) → S → SeatView → List Numbered → S → SeatView → Type 0

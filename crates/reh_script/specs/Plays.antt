@@ -7,7 +7,7 @@ use Rattle.reh_model.specs.Cluster.{Cluster}
 use Rattle.reh_desk.specs.Seats.{SeatView}
 use Rattle.reh_script.specs.Answers.{asked}
 use Rattle.reh_script.specs.Lines.{is_script, answered_lines}
-use Rattle.reh_script.specs.Players.{Player, seated, Takes, TakesAll, Begins, Ends}
+use Rattle.reh_script.specs.Players.{Player, seated, Takes, TakesAll, Begins, Ends, AsksForSurvey}
 use Rattle.reh_script.specs.Readings.{Gives}
 use Rattle.reh_script.specs.declared.faults.PlayFault.{PlayFault}
 use Rattle.reh_script.specs.declared.faults.PlayFault.TheVariants.{ReadFault, TooLong, WriteFault, NoMemory, NoThread}
@@ -41,7 +41,7 @@ pub record StopsWriting {S : Type 0} (go : S → ℕ → Call → Reply → S �
   pub ends : Ends go y last end
   pub written : Appends old new (text ++ part)
 
--- There was no memory, or no thread, for a line: those before it were taken and answered, of its own answer nothing was written, and then the hand was given back.
+-- There was no memory for a line, or no thread for a survey: the lines before it were taken and answered, of its own answer nothing was written, and then the hand was given back.
 pub record StopsWanting {S : Type 0} (go : S → ℕ → Call → Reply → S → Type 0) (scene : S → Option Cluster) (names : List (List ℕ)) (lines : List (List ℕ)) (x : Player S) (last : S) (end : SeatView) (old new : Option (List ℕ)) : Type 0 where
   pub done : List (List ℕ)
   pub line : List ℕ
@@ -62,7 +62,7 @@ IsPlayed {S} go scene names lines stop (Err ReadFault) x last end old new = (sto
 IsPlayed {S} go scene names lines stop (Err TooLong) x last end old new = (stop ≡ Some TooLong) × AnswersAll go scene names lines x last end old new
 IsPlayed {S} go scene names lines stop (Err WriteFault) x last end old new = StopsWriting go scene names lines x last end old new
 IsPlayed {S} go scene names lines stop (Err NoMemory) x last end old new = StopsWanting go scene names lines x last end old new
-IsPlayed {S} go scene names lines stop (Err NoThread) x last end old new = StopsWanting go scene names lines x last end old new
+IsPlayed {S} go scene names lines stop (Err NoThread) x last end old new = (stops : StopsWanting go scene names lines x last end old new) × AsksForSurvey (asked names stops.line)
 
 -- There was no memory for the hand or the text, of which no read had failed: nothing was taken and nothing written.
 abbrev pub LacksText : {S : Type 0} → Bool → Result (Unit {0}) PlayFault → S → SeatView → S → SeatView → Option (List ℕ) → Option (List ℕ) → Type 0

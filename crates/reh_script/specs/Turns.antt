@@ -1,17 +1,19 @@
 -- How a player answers a line, and what it leaves where a line is not answered.
-use Rattle.std.specs.Prelude.{ℕ, List, [], ◌∷◌, ◌++◌, map, Option, None, Some, Result, codes}
+use Rattle.std.specs.Prelude.{⊤, ℕ, List, [], ◌∷◌, ◌++◌, map, Option, None, Some, Result, codes}
 use Rattle.reh_types.specs.declared.calls.Call.{Call}
 use Rattle.reh_types.specs.declared.moves.Reply.{Reply}
 use Rattle.reh_model.specs.Cluster.{Cluster}
 use Rattle.reh_desk.specs.Numbered.{Numbered}
 use Rattle.reh_desk.specs.Seats.{SeatView}
+use Rattle.reh_crew.specs.declared.surveyors.SurveyFault.{SurveyFault}
+use Rattle.reh_crew.specs.declared.surveyors.SurveyFault.TheVariants as survey_fault
 use Rattle.reh_script.specs.declared.answers.Answer.{Answer}
 use Rattle.reh_script.specs.declared.answers.Answer.TheVariants.{Said, Faulty, Report, Survey, Hidden}
 use Rattle.reh_script.specs.declared.commands.Command.{Command}
 use Rattle.reh_script.specs.declared.commands.LineFault.{LineFault}
 use Rattle.reh_script.specs.declared.faults.PlayFault.{PlayFault}
 use Rattle.reh_script.specs.Answers.{numbered, reply_answer, fault_answer, shown, report_answer}
-use Rattle.reh_script.specs.Players.{Player, Takes, Begins, Ends}
+use Rattle.reh_script.specs.Players.{Player, Takes, Begins, Ends, AsksForSurvey}
 use Rattle.reh_script.specs.Plays.{IsPlayed}
 use Rattle.reh_script.specs.Texts.{survey_line_text, text_of}
 
@@ -38,6 +40,11 @@ IsAnswered {S} go scene x asked answer y = (names : List (List ℕ)) (n : ℕ) �
 -- It was begun, and has no answer.
 abbrev pub IsBegun : {S : Type 0} → (S → ℕ → Call → Reply → S → Type 0) → (S → Option Cluster) → Player S → Result Command LineFault → Player S → Type 0
 IsBegun {S} go scene x asked y = (names : List (List ℕ)) (n : ℕ) → Begins go scene names x n (Some asked) y
+
+-- Only a survey wants a thread.
+abbrev pub IsWanted : SurveyFault → Option (Result Command LineFault) → Type 0
+IsWanted survey_fault.NoMemory asked = ⊤
+IsWanted survey_fault.NoThread asked = AsksForSurvey asked
 
 -- A play of lines came from x to y, where its hand is still to be given back.
 abbrev pub LeadsTo : {S : Type 0} → (S → ℕ → Call → Reply → S → Type 0) → (S → Option Cluster) → List (List ℕ) → List (List ℕ) → Result (Unit {0}) PlayFault → Player S → Player S → Option (List ℕ) → Option (List ℕ) → Type 0

@@ -1,7 +1,8 @@
 // A player: it makes the calls of a script at a counter, with a hand of findings.
-ghost use Rattle.std.specs.Prelude.{◌≡◌, ◌++◌, ◌<◌, length, IfOk, IfErr, Ok};
+ghost use Rattle.std.specs.Prelude.{◌≡◌, ◌++◌, ◌<◌, length, Some, IfOk, IfErr, Ok};
 ghost use Rattle.reh_script.specs.Players.{GivesBack};
-ghost use Rattle.reh_script.specs.Turns.{player, held, IsAnswered, IsBegun};
+ghost use Rattle.reh_crew.specs.declared.surveyors.SurveyFault.TheVariants.{NoMemory};
+ghost use Rattle.reh_script.specs.Turns.{player, held, IsAnswered, IsBegun, IsWanted};
 ghost use Rattle.reh_script.specs.declared.commands.Command.TheVariants as command;
 
 use crate::answers::Answer;
@@ -54,6 +55,7 @@ pub(crate) fn answer<C: Counter, V: Surveyor>(
     ensures may { C.may counter.new seat.new }
     ensures ok { IfOk result (λ answer. IsAnswered C.goes C.scene (player counter.old seat.old hand.old) asked answer (player counter.new seat.new hand.new)) }
     ensures err { IfErr result (λ u. IsBegun C.goes C.scene (player counter.old seat.old hand.old) asked (player counter.new seat.new (hand.new ++ held u.ticket))) }
+    ensures wanted { IfErr result (λ u. IsWanted u.fault (Some asked)) }
 {
     match asked {
         Ok(Command::Make(step)) => make(counter, seat, hand, step),
@@ -77,6 +79,7 @@ fn make<C: Counter>(
     ensures may { C.may counter.new seat.new }
     ensures ok { IfOk result (λ answer. IsAnswered C.goes C.scene (player counter.old seat.old hand.now) (Ok (command.Make step)) answer (player counter.new seat.new hand.now)) }
     ensures err { IfErr result (λ u. IsBegun C.goes C.scene (player counter.old seat.old hand.now) (Ok (command.Make step)) (player counter.new seat.new (hand.now ++ held u.ticket))) }
+    ensures wanted { IfErr result (λ u. u.fault ≡ NoMemory) }
 {
     match counter.call(seat, step) {
         Reply::Refused(Refusal::NoMemory) => Err(Unanswered::from(AllocError)),
@@ -96,6 +99,7 @@ fn check_out<C: Counter>(
     ensures may { C.may counter.new seat.new }
     ensures ok { IfOk result (λ answer. IsAnswered C.goes C.scene (player counter.old seat.old hand.old) (Ok (command.Checkout aim)) answer (player counter.new seat.new hand.new)) }
     ensures err { IfErr result (λ u. IsBegun C.goes C.scene (player counter.old seat.old hand.old) (Ok (command.Checkout aim)) (player counter.new seat.new (hand.new ++ held u.ticket))) }
+    ensures wanted { IfErr result (λ u. u.fault ≡ NoMemory) }
 {
     if hand.len() >= MAX_HAND {
         return Ok(Answer::Said(Reply::Refused(Refusal::HandFull)));
@@ -129,6 +133,7 @@ fn spend<C: Counter>(
     ensures may { C.may counter.new seat.new }
     ensures ok { IfOk result (λ answer. IsAnswered C.goes C.scene (player counter.old seat.old hand.old) (Ok command.Spend) answer (player counter.new seat.new hand.new)) }
     ensures err { IfErr result (λ u. IsBegun C.goes C.scene (player counter.old seat.old hand.old) (Ok command.Spend) (player counter.new seat.new (hand.new ++ held u.ticket))) }
+    ensures wanted { IfErr result (λ u. u.fault ≡ NoMemory) }
 {
     let Some(finding) = hand.oldest() else {
         return Ok(Answer::Said(Reply::Refused(Refusal::HandEmpty)));

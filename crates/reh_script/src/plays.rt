@@ -5,7 +5,7 @@ ghost use Rattle.reh_script.specs.Answers.{asked};
 ghost use Rattle.reh_script.specs.Lines.{lines_of, answered_lines};
 ghost use Rattle.reh_script.specs.Players.{Takes, Begins};
 ghost use Rattle.reh_script.specs.Plays.{stop_of, IsPlayed, Plays, is_write_fault};
-ghost use Rattle.reh_script.specs.Turns.{player, held, LeadsTo};
+ghost use Rattle.reh_script.specs.Turns.{player, held, IsWanted, LeadsTo};
 
 use crate::answers::push_answer;
 use crate::faults::PlayFault;
@@ -177,6 +177,7 @@ fn answer_line<C: Counter, V: Surveyor>(
     ensures may { C.may counter.new seat.new }
     ensures ok { OnOk result (Takes C.goes C.scene tools.now.names.now (player counter.old seat.old hand.old) number (asked tools.now.names.now line.now) (string_bytes text.new) (player counter.new seat.new hand.new)) }
     ensures err { IfErr result (λ u. Begins C.goes C.scene tools.now.names.now (player counter.old seat.old hand.old) number (asked tools.now.names.now line.now) (player counter.new seat.new (hand.new ++ held u.ticket))) }
+    ensures wanted { IfErr result (λ u. IsWanted u.fault (asked tools.now.names.now line.now)) }
 {
     text.clear();
     let Some(asked) = parse_line(tools.names, line) else {

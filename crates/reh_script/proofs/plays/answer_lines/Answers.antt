@@ -4,7 +4,7 @@ use Rattle.reh_script.proofs.plays.answer_lines.Goals as goal
 
 pub returns-in-Err-clause-err : goal.returns-in-Err-clause-err
 returns-in-Err-clause-err g c =
-    rw c.from.ensures (stops_wanting g.C.Counter.goes g.C.Counter.scene _ _ _ _ _ c.loop-rest.number c.in-Err.field-0.fault _ _ _ _ _ c.loop-rest.invariant.at c.first_line.ensures.lines c.in-Err.ensures.err)
+    rw c.from.ensures (stops_wanting g.C.Counter.goes g.C.Counter.scene _ _ _ _ _ c.loop-rest.number c.in-Err.field-0.fault _ _ _ _ _ c.loop-rest.invariant.at c.first_line.ensures.lines c.in-Err.ensures.err c.in-Err.ensures.wanted)
 
 pub returns-in-Err-write_all-clause-err : goal.returns-in-Err-write_all-clause-err
 returns-in-Err-write_all-clause-err g c =
