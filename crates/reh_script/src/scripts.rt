@@ -6,7 +6,7 @@ ghost use Rattle.reh_script.specs.Script.{command_of_line, command_by, words_of}
 
 use crate::commands::{Command, LineFault};
 use crate::verbs::Verb;
-use crate::words::{next_word, read_words};
+use crate::words::{Arguments, next_word, read_words};
 use reh_cluster::Names;
 use reh_types::MAX_LINE_BYTES;
 
@@ -41,6 +41,9 @@ fn parse_command(names: &Names, verb: &[u8], words: &[u8]) -> Result<Command, Li
     ensures { result ≡ command_by names.now (script.verb_of verb.now) (words_of words.now) }
 {
     let verb = Verb::of(verb).ok_or(LineFault::UnknownCommand)?;
-    let arguments = read_words(names, verb.roles(), words)?;
+    let arguments = match (verb.roles(), words) {
+        ([], []) => Arguments::none(),
+        (roles, words) => read_words(names, roles, words)?,
+    };
     Ok(verb.make(arguments))
 }

@@ -43,7 +43,8 @@ impl Role {
     {
         match self {
             Role::Bookie | Role::Worker => Kind::Name,
-            Role::Ledger | Role::Fragment | Role::Index | Role::Version | Role::Ticks => Kind::Number,
+            Role::Ledger | Role::Fragment | Role::Index | Role::Version | Role::Ticks =>
+                Kind::Number,
         }
     }
 }

@@ -23,9 +23,18 @@ const REPLIES: [(Reply, &str); 7] = [
     (Reply::Clock(0), "clock 0"),
     (Reply::Issued(1), "ticket 1"),
     (Reply::Discarded, "discarded"),
-    (Reply::Refused(Refusal::Locked(BookieIx(1))), "refused 7 Locked b2:3181"),
-    (Reply::Refused(Refusal::Locked(BookieIx(3))), "refused 7 Locked 3"),
-    (Reply::Refused(Refusal::StillUnder(0)), "refused 9 StillUnder 0"),
+    (
+        Reply::Refused(Refusal::Locked(BookieIx(1))),
+        "refused 7 Locked b2:3181",
+    ),
+    (
+        Reply::Refused(Refusal::Locked(BookieIx(3))),
+        "refused 7 Locked 3",
+    ),
+    (
+        Reply::Refused(Refusal::StillUnder(0)),
+        "refused 9 StillUnder 0",
+    ),
 ];
 
 #[test]

@@ -32,7 +32,7 @@ A script has a command a line. For example:
 /// What these words ask for, the program's own name first; or `clap`'s text of what is wrong with them, or of help.
 pub(crate) fn task_of<'a>(alloc: Global, words: &'a [String]) -> Result<Task<'a>, Error> {
     match command(alloc, WAYS)?.try_get_matches_from(words) {
-        Ok(matches) => Ok(task(&matches)),
+        Ok(matches) => Ok(asked_task(&matches)),
         Err(error) => {
             if error.kind() == ErrorKind::DisplayHelp {
                 show_help(alloc, words)?;
@@ -43,7 +43,7 @@ pub(crate) fn task_of<'a>(alloc: Global, words: &'a [String]) -> Result<Task<'a>
 }
 
 /// What these matches ask for.
-fn task<'a>(matches: &ArgMatches<'a>) -> Task<'a> {
+fn asked_task<'a>(matches: &ArgMatches<'a>) -> Task<'a> {
     let Some((_, run)) = matches.subcommand() else {
         return Task::Pipe;
     };
