@@ -41,7 +41,7 @@ pictured_cluster d = record {
 
 -- words of entries that all bookies together take, each as many for a ledger as it has
 abbrev pub words_in_all : Cluster → ℕ
-words_in_all s = length s.names * sum_by (λ g. g.words) s.ledgers
+words_in_all s = length s.names * sum_by (λ g. g.words) s.parts.ledgers
 
 -- what is wrong before the lists
 unfoldable pub head_fault : Data → Option PictureFault

@@ -44,7 +44,7 @@ module _ (w : ℕ) (gs : List Ledger) (k : ℕ) (g : Ledger) (within : k < lengt
   lock_kept = failed (is_locked_by w) (λ k g. Lock k None) gs k g within is
 
 -- listed ledger by ledger, the locks that go with a worker's session are the difference
-pub expire_listed : (s : Cluster) (w : ℕ) (gs : List Ledger) (k : ℕ) (parts : List Change) → IsWellFormed s → refusal_of s (Expire w) ≡ None → gs ≡ s.ledgers → length gs ≤ k → locks_from w 0 gs ≡ parts ++ locks_from w k gs → IsDelta s (after s (Expire w)) parts
+pub expire_listed : (s : Cluster) (w : ℕ) (gs : List Ledger) (k : ℕ) (parts : List Change) → IsWellFormed s → refusal_of s (Expire w) ≡ None → gs ≡ s.parts.ledgers → length gs ≤ k → locks_from w 0 gs ≡ parts ++ locks_from w k gs → IsDelta s (after s (Expire w)) parts
 expire_listed s w gs k parts was none same past is =
     subst (λ (cs : List Change). IsDelta s (after s (Expire w)) cs)
     (ap (λ (hs : List Ledger). lost_locks w 0 hs) (sym same) ∙ sym (all_listed (is_locked_by w) (λ k g. Lock k None) gs k parts past is))
@@ -62,7 +62,7 @@ module _ (up : Set numbers) (gs : List Ledger) (k : ℕ) (g : Ledger) (within : 
   task_old = failed (is_news up) (λ k g. Task k (Some (published_members up g))) gs k g within is
 
 -- listed ledger by ledger, the tasks that an audit changes are the difference
-pub audit_listed : (s : Cluster) (up : Set numbers) (gs : List Ledger) (k : ℕ) (parts : List Change) → IsWellFormed s → refusal_of s Audit ≡ None → up ≡ s.up → gs ≡ s.ledgers → length gs ≤ k → tasks_from up 0 gs ≡ parts ++ tasks_from up k gs
+pub audit_listed : (s : Cluster) (up : Set numbers) (gs : List Ledger) (k : ℕ) (parts : List Change) → IsWellFormed s → refusal_of s Audit ≡ None → up ≡ s.parts.up → gs ≡ s.parts.ledgers → length gs ≤ k → tasks_from up 0 gs ≡ parts ++ tasks_from up k gs
     → IsDelta s (after s Audit) parts
 audit_listed s up gs k parts was none same_up same past is =
     subst (λ (cs : List Change). IsDelta s (after s Audit) cs)

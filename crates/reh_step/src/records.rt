@@ -389,7 +389,7 @@ fn member_index(fragment: &Fragment, bookie: BookieIx) -> Option<usize>
 /// Where the ledger of that id stands; there has to be one.
 fn place_of(state: &State, ledger: LedgerId) -> usize
     requires { IsSome (cluster.ledger_at state.now ledger) }
-    ensures { position (λ g. g.id == ledger) state.now.ledgers ≡ Some result }
+    ensures { position (λ g. g.id == ledger) state.now.parts.ledgers ≡ Some result }
 {
     state.place(ledger).unwrap()
 }
