@@ -23,11 +23,11 @@ use Rattle.std.specs.Option.{option_map_or}
 use Rattle.reh_model.specs.Metadata as meta
 use Rattle.reh_model.specs.Metadata.{Fragment, IsEnsemble, IsMetadata, last_fragment, writes}
 use Rattle.reh_model.specs.Striping.{is_striped, striped_entries, write_set}
-use Rattle.reh_model.specs.Cluster.{Cluster, Ledger, is_up, ledger_at, change_ledger, words_among, with_held, with_ledgers}
+use Rattle.reh_model.specs.Cluster.{Parts, Cluster, Ledger, is_up, ledger_at, change_ledger, words_among, with_held, with_ledgers}
 use Rattle.reh_model.specs.Recovery.{up_writes, recovered_end, recovered_entries, recovered_copies, recovered_at}
 use Rattle.reh_model.specs.WellFormed.{IsCopy, IsWellFormed}
 use Rattle.reh_model.specs.Step.{refusal_of, after, sealed_ledger}
-use Rattle.reh_model.specs.Places.{Change, Place, at_metadata, at_word, place_of, IsBefore, AreRising, put, exchanged, IsThere, SameAt, IsDelta}
+use Rattle.reh_model.specs.Places.{Change, Place, at_metadata, at_word, place_of, IsBefore, AreRising, put, put_all, exchanged, IsThere, IsDelta}
 use Rattle.reh_step.specs.Records.{word_change, word_changes, registered_index, recovered_by}
 use Rattle.reh_model.proofs.ContentsLaws.{All-copy, has-copies_of}
 use Rattle.reh_model.proofs.FragmentLaws.{IsEnsemble-last}
@@ -38,7 +38,7 @@ use Rattle.reh_model.proofs.ListLaws.{change_at-here}
 use Rattle.reh_model.proofs.RecoveryLaws.{IsHeld-readable, readable_before_end, has-recovered_copies, any-up_writes, IsRecovered-at}
 use Rattle.reh_model.proofs.TurnedLaws.{one_of-false}
 use Rattle.reh_model.proofs.WellFormedLaws.{IsWellFormed-after}
-use Rattle.reh_model.proofs.ExchangeLaws.{delta_of_changes}
+use Rattle.reh_model.proofs.ExchangeLaws.{Differs, delta_of_changes}
 use Rattle.reh_model.proofs.DeltaLaws.{Stands, stands, part_differs}
 use Rattle.reh_scan.proofs.ReadingLaws.{write_set_within}
 use Rattle.reh_step.proofs.CopyLaws.{words-rising, words-there, words-differ, exchanged-words}
@@ -135,9 +135,9 @@ rising-append (p ∷ ps) qs first second before = (
   rising-append ps qs first.1 second (All-tail (λ p. All (IsBefore p) qs) p ps before),
 )
 
-exchanged-append : (s : Cluster) (cs ds : List Change) → exchanged s (cs ++ ds) ≡ exchanged (exchanged s cs) ds
-exchanged-append s [] ds = refl
-exchanged-append s (c ∷ cs) ds = exchanged-append (put s c) cs ds
+put_all-append : (p : Parts) (cs ds : List Change) → put_all p (cs ++ ds) ≡ put_all (put_all p cs) ds
+put_all-append p [] ds = refl
+put_all-append p (c ∷ cs) ds = put_all-append (put p c) cs ds
 
 -- the change is before all words of bookies from n on
 abbrev IsBeforeWords : ℕ → Change → Type 0
@@ -152,19 +152,19 @@ pub record AreSealed (s : Cluster) (k : ℕ) (g : Ledger) (n : ℕ) (cs : List C
   pub rising : AreRising (map place_of cs)
   before : All (IsBeforeWords n) cs
   there : All (IsThere s) cs
-  differ : All (λ c. ¬ SameAt s (put s c) (place_of c)) cs
-  makes : exchanged s cs ≡ with_held (put s (closing s k g)) (set.union s.parts.held (recovered_below s g n))
+  differ : All (Differs s.parts) cs
+  makes : exchanged s cs ≡ with_held (exchanged s (closing s k g ∷ [])) (set.union s.parts.held (recovered_below s g n))
 
 pub sealed_start : (s : Cluster) (l k : ℕ) (g : Ledger) → IsWellFormed s → position (λ g. g.id == l) s.parts.ledgers ≡ Some k → g ≡ get_or s.parts.ledgers k g → AreSealed s k g 0 (closing s k g ∷ [])
 sealed_start s l k g was is read =
     let place : Stands s l k g = stands s l k g was is (ledger_at-position s l k g was.ledgers.different is read) in
-    let differs : Change → Type 0 = λ c. ¬ SameAt s (put s c) (place_of c) in
+    let differs : Change → Type 0 = Differs s.parts in
     record {
       rising = (All-nil (IsBefore (at_metadata k)), tt);
       before = All-cons (IsBeforeWords 0) (closing s k g) [] (λ b l i from. inl (omega arith)) (All-nil (IsBeforeWords 0));
       there = All-cons (IsThere s) (closing s k g) [] place.there (All-nil (IsThere s));
       differ = All-cons differs (closing s k g) [] (part_differs (λ g. g.metadata) (λ x. record x { metadata = (sealed_ledger s g).metadata }) s.parts.ledgers k g place.here (λ same. absurd (omega (arith, ap (λ (m : meta.Metadata). m.version) same)))) (All-nil differs);
-      makes = ap (λ (h : Contents). with_held (put s (closing s k g)) h) (sym (nothing_below s g));
+      makes = ap (λ (h : Contents). with_held (exchanged s (closing s k g ∷ [])) h) (sym (nothing_below s g));
     }
 
 -- one bookie more
@@ -172,7 +172,7 @@ more_sealed : (s : Cluster) (k : ℕ) (g : Ledger) (n : ℕ) (cs : List Change) 
     → AreSealed s k g n cs → AreSealed s k g (n + 1) (cs ++ word_changes n g.id us)
 more_sealed s k g n cs us named turning are =
     let words : List Change = word_changes n g.id us in
-    let differs : Change → Type 0 = λ c. ¬ SameAt s (put s c) (place_of c) in
+    let differs : Change → Type 0 = Differs s.parts in
     record {
       rising = subst AreRising (sym (map-append place_of cs words)) (rising-append (map place_of cs) (map place_of words) are.rising (words-rising n g.id 0 us turning.places.rising)
           (All-map (λ p. All (IsBefore p) (map place_of words)) place_of cs (All-weaker (IsBeforeWords n) (λ c. All (IsBefore (place_of c)) (map place_of words)) (λ c before.
@@ -181,8 +181,8 @@ more_sealed s k g n cs us named turning are =
           (All-map (IsBeforeWords (n + 1)) (word_change n g.id) us (λ j d within b l i from. inr (refl, inl (omega arith))));
       there = All-append (IsThere s) cs words are.there (words-there s n g.id us named turning.places);
       differ = All-append differs cs words are.differ (words-differ s n g.id us turning.places);
-      makes = exchanged-append s cs words ∙ ap (λ (t : Cluster). exchanged t words) are.makes ∙ exchanged-words _ n g.id us
-          ∙ ap (λ (h : Contents). with_held (put s (closing s k g)) h) (turned_next s g n us turning.makes);
+      makes = ap (λ (p : Parts). record s { parts = p }) (put_all-append s.parts cs words) ∙ ap (λ (t : Cluster). exchanged t words) are.makes ∙ exchanged-words _ n g.id us
+          ∙ ap (λ (h : Contents). with_held (exchanged s (closing s k g ∷ [])) h) (turned_next s g n us turning.makes);
     }
 
 pub sealed_more : (s : Cluster) (l k : ℕ) (g : Ledger) (n : ℕ) (cs : List Change) (entries : List ℕ) (us : List Turn) (parts : List Change) → g.id ≡ l → n < length s.names → entries ≡ recovered_by s g n
@@ -198,7 +198,7 @@ pub seal_delta : (s : Cluster) (w l k : ℕ) (g : Ledger) (n : ℕ) (cs : List C
 seal_delta s w l k g n cs was is read none past are =
     let found : ledger_at s l ≡ Some g = ledger_at-position s l k g was.ledgers.different is read in
     let place : Stands s l k g = stands s l k g was is found in
-    let closed : put s (closing s k g) ≡ change_ledger s l (sealed_ledger s) =
+    let closed : exchanged s (closing s k g ∷ []) ≡ change_ledger s l (sealed_ledger s) =
     ap (λ (gs : List Ledger). with_ledgers s gs) (change_at-here (λ x. record x { metadata = (sealed_ledger s g).metadata }) (sealed_ledger s) s.parts.ledgers k g read refl) ∙ place.changed (sealed_ledger s) in
     let copied : recovered_below s g n ≡ recovered_at s l = all_below s l g n was found past in
     delta_of_changes s (after s (Seal w l)) cs (IsWellFormed-after s (Seal w l) was none) are.rising are.there (are.makes ∙ (λ i. with_held (closed i) (set.union s.parts.held (copied i)))) are.differ
