@@ -9,7 +9,7 @@ use Rattle.reh_model.specs.Places.{Change, Place, place_of, put, back, put_all, 
 use Rattle.reh_model.proofs.PlaceLaws.{IsBefore-different, words_among-put, IsPlaced-put, place_of-back, put-back, back-back, put-comm, back-put, SameAt-refl, SameAt-sym, SameAt-trans, SameAt-put}
 
 -- no change of the record is at that place
-abbrev IsBeside : Place → List Change → Type 0
+abbrev pub IsBeside : Place → List Change → Type 0
 IsBeside p cs = All (λ q. p ≢ q) (map place_of cs)
 
 first_beside : (p : Place) (c : Change) (cs : List Change) → IsBeside p (c ∷ cs) → p ≢ place_of c
@@ -19,7 +19,7 @@ rest_beside : (p : Place) (c : Change) (cs : List Change) → IsBeside p (c ∷ 
 rest_beside p c cs h = All-tail (λ q. p ≢ q) (place_of c) (map place_of cs) h
 
 -- the first change of a record whose places rise is beside the others
-beside_rest : (c : Change) (cs : List Change) → AreRising (map place_of (c ∷ cs)) → IsBeside (place_of c) cs
+pub beside_rest : (c : Change) (cs : List Change) → AreRising (map place_of (c ∷ cs)) → IsBeside (place_of c) cs
 beside_rest c cs h k d within = IsBefore-different (place_of c) _ (h.0 k d within)
 
 -- a change beside a record can be made before it or after it
@@ -110,7 +110,7 @@ Fits-left s cs well rising h = record {
 -- Differences
 
 -- an exchange leaves what stands beside its places
-SameAt-put_all : (s : Parts) (cs : List Change) (p : Place) → IsBeside p cs → SameAt s (put_all s cs) p
+pub SameAt-put_all : (s : Parts) (cs : List Change) (p : Place) → IsBeside p cs → SameAt s (put_all s cs) p
 SameAt-put_all s [] p h = SameAt-refl s p
 SameAt-put_all s (c ∷ cs) p h =
     SameAt-trans s (put s c) (put_all (put s c) cs) p (SameAt-put s c p (λ e. first_beside p c cs h (sym e))) (SameAt-put_all (put s c) cs p (rest_beside p c cs h))
