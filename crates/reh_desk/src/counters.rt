@@ -83,18 +83,18 @@ impl Counter for Book {
     }
 
     fn call(&mut self, seat: &mut Seat, step: Move) -> Reply {
-        self.call_for(seat, step)
+        self.call_by(&mut seat.caller, step)
     }
 
     fn checkout(&mut self, seat: &mut Seat, aim: Aim) -> Result<Ticket, Refusal> {
-        self.checkout_for(seat, aim)
+        self.checkout_by(&mut seat.caller, aim)
     }
 
     fn spend(&mut self, seat: &mut Seat, finding: Finding) -> Result<Reply, SpendFault> {
-        self.spend_for(seat, finding)
+        self.spend_by(&mut seat.caller, finding)
     }
 
     fn discard(&mut self, seat: &mut Seat, unspent: Unspent) -> Result<(), Stray> {
-        self.discard_for(seat, unspent)
+        self.discard_by(&mut seat.caller, unspent)
     }
 }

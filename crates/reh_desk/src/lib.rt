@@ -2,6 +2,7 @@
 #![tactic(auto)]
 
 mod books;
+mod callers;
 mod counters;
 mod laws;
 mod seats;
@@ -10,6 +11,6 @@ mod tickets;
 pub use books::{Book, SpendCause, SpendFault};
 pub use counters::Counter;
 pub use laws::{tickets_differ, where_memory_is_wanted};
-pub use reh_types::{Call, Exchange, Line};
+pub use reh_types::{Call, Line, OwnLine};
 pub use seats::Seat;
 pub use tickets::{Finding, Stray, Ticket, Unspent, scan};
