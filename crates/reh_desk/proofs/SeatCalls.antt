@@ -20,8 +20,9 @@ use Rattle.reh_desk.specs.Callers.{none_out, with_line, with_out, caller_after}
 use Rattle.reh_desk.specs.Seats.{SeatView, own_line, out_after, gained}
 
 -- a caller whose ticket is out no more, with the line of the call that ended it
-pub ended : (keeps : Bool) (s t u : SeatView) (call : Call) (reply : Reply) → IsTrue (is_written reply) → out_after call reply s.out ≡ s.out - 1
-    → t ≡ with_out keeps s (s.out - 1) → u ≡ with_line keeps t (own_line call reply) → u ≡ caller_after keeps s call reply
+pub ended : (keeps : Bool) (s t u : SeatView) (call : Call) (reply : Reply) → IsTrue (is_written reply)
+    → out_after call reply s.out ≡ s.out - 1 → t ≡ with_out keeps s (s.out - 1)
+    → u ≡ with_line keeps t (own_line call reply) → u ≡ caller_after keeps s call reply
 ended true s t u call reply written fewer t_is u_is = rw (u_is, t_is, written, fewer) refl
 ended false s t u call reply written fewer t_is u_is = rw (u_is, t_is) refl
 
@@ -31,8 +32,9 @@ found : (t : TicketOut) (out : List TicketOut) (reply other : Reply) (o : Option
 found t out reply other None at is written = absurd (true≢false (sym written ∙ ap is_written is))
 found t out reply other (Some i) at is written = length-remove out i (position-Some (λ u. same_ticket u t) out i t at).0
 
-pub spent_counted : (k n : Kept) (s : SeatView) (number : ℕ) (content : Content) (reply : Reply) → length k.book.out ≡ s.out
-    → (none_out true s ≡ false → Called k s.number (Spend number content) reply n) → (none_out true s ≡ true → (reply ≡ Refused NotOut) × (n ≡ k))
+pub spent_counted : (k n : Kept) (s : SeatView) (number : ℕ) (content : Content) (reply : Reply)
+    → length k.book.out ≡ s.out → (none_out true s ≡ false → Called k s.number (Spend number content) reply n)
+    → (none_out true s ≡ true → (reply ≡ Refused NotOut) × (n ≡ k))
     → length n.book.out ≡ (gained s (Spend number content) reply).out
 spent_counted k n s number content reply count called none =
     (elim (none_out true s) as (λ b. none_out true s ≡ b → length n.book.out ≡ (gained s (Spend number content) reply).out) [

@@ -37,4 +37,7 @@ out_after (Discard number aim) reply out = out - 1
 
 -- the seat after a call and its reply: with one line more, or the same
 abbrev pub gained : SeatView → Call → Reply → SeatView
-gained s call reply = if is_written reply then record { number = s.number; lines = s.lines ++ own_line call reply ∷ []; out = out_after call reply s.out } else s
+gained s call reply =
+    if is_written reply
+    then record { number = s.number; lines = s.lines ++ own_line call reply ∷ []; out = out_after call reply s.out }
+    else s

@@ -1,5 +1,6 @@
 // Books: a session for several seats, with tickets, and a tape of what was called and replied.
-ghost use Rattle.std.specs.Prelude.{◌≡◌, ℕ, ◌+◌, ◌-◌, ◌<◌, ◌≤◌, true, false, nat_lt, [], ◌∷◌, ◌++◌, remove, if◌then◌else◌, length, Some, IfSome, IfOk, IfErr, OnOk, MatchResult, IsTrue, vec_capacity};
+ghost use Rattle.std.specs.Prelude.{◌≡◌, ℕ, ◌+◌, ◌-◌, ◌<◌, ◌≤◌, true, false, nat_lt, [], ◌∷◌, ◌++◌, length, remove};
+ghost use Rattle.std.specs.Prelude.{if◌then◌else◌, Some, IfSome, IfOk, IfErr, OnOk, MatchResult, IsTrue, vec_capacity};
 ghost use Rattle.std.specs.Option.{option_copied};
 ghost use Rattle.std.specs.Result.{IsOkAnd};
 ghost use Rattle.reh_types.specs.declared.calls.Call.TheVariants as call;
@@ -45,9 +46,9 @@ pub struct SpendFault {
 
 /// A session for several seats, which go by their numbers, with the tickets that are out and a tape of all calls.
 ///
-/// Each call but those that are answered `NotOut`, `TapeFull` or `NoMemory` adds a line to the tape. Each ticket that is
-/// out has a line reserved, so a spend or a discard of it never finds the tape full. A book is always where its tape leads
-/// from the session that it opened on.
+/// Each call but those that are answered `NotOut`, `TapeFull` or `NoMemory` adds a line to the tape. Each ticket that
+/// is out has a line reserved, so a spend or a discard of it never finds the tape full. A book is always where its tape
+/// leads from the session that it opened on.
 #[derive(Drop)]
 pub struct Book {
     opening: Snapshot<Session>,
@@ -65,11 +66,13 @@ impl Model for Book {
 
     ghost view = { λ b. kept_of b.opening.value b.session b.lines.items b.last_ticket b.out.items };
 
-    ghost invariant = { λ b. IsKept (kept_of b.opening.value b.session b.lines.items b.last_ticket b.out.items) (vec_capacity b.lines) };
+    ghost invariant = { λ b.
+        IsKept (kept_of b.opening.value b.session b.lines.items b.last_ticket b.out.items) (vec_capacity b.lines) };
 }
 
 impl Book {
-    /// A book on this session, before its first call, and its one seat, of number 0. It takes no memory and cannot fail.
+    /// A book on this session, before its first call, and its one seat, of number 0. It takes no memory and cannot
+    /// fail.
     pub fn open(session: Session) -> Result<(Book, Seat), (Session, AllocError)>
         ensures { IsOkAnd result (λ r. (r.0 ≡ opened session) × (r.1 ≡ new_seat 0)) }
     {
@@ -84,19 +87,19 @@ impl Book {
         Ok((book, Seat::new(alloc, 0)))
     }
 
-    /// Makes a move of the session for a seat, and answers it as the session does. Before that it is refused with `TapeFull`,
-    /// where no line is left that isn't reserved, and then with `NoMemory`, where there is none for the line. Both, and want of
-    /// memory for the move, change nothing; any other reply adds its line.
+    /// Makes a move of the session for a seat, and answers it as the session does. Before that it is refused with
+    /// `TapeFull`, where no line is left that isn't reserved, and then with `NoMemory`, where there is none for the
+    /// line. Both, and want of memory for the move, change nothing; any other reply adds its line.
     pub fn call(&mut self, seat: u32, step: Move) -> Reply
         ensures { Called self.old seat (call.Ask step) result self.new }
     {
         self.call_by(&mut Bare { number: seat }, step)
     }
 
-    /// Issues a ticket to a seat, to scan the fragment of the aim as it stands now (`ticket`). It is refused with `TapeFull`, where
-    /// not two lines are left that aren't reserved, one for this call and one for the ticket; and then with the aim's own refusal,
-    /// which adds its line. `NoMemory` may stand in place of any answer but `TapeFull`. Both change nothing, and no refusal takes
-    /// a number.
+    /// Issues a ticket to a seat, to scan the fragment of the aim as it stands now (`ticket`). It is refused with
+    /// `TapeFull`, where not two lines are left that aren't reserved, one for this call and one for the ticket; and
+    /// then with the aim's own refusal, which adds its line. `NoMemory` may stand in place of any answer but
+    /// `TapeFull`. Both change nothing, and no refusal takes a number.
     pub fn checkout(&mut self, seat: u32, aim: Aim) -> Result<Ticket, Refusal>
         ensures called { Called self.old seat (call.Checkout aim) (checked_out result) self.new }
         ensures ticket { IfOk result (λ ticket. model.scan (state_of self.old.book.session) aim ≡ Some ticket.content) }
@@ -104,9 +107,10 @@ impl Book {
         self.checkout_by(&mut Bare { number: seat }, aim)
     }
 
-    /// Posts what a seat found with a ticket. The ticket is out no more then, whether the session accepts the post or refuses it,
-    /// and the line that was reserved for it is this call's. It fails where the ticket isn't out at this seat, or where there is no
-    /// memory for a post that would be accepted; nothing has changed then, and the finding is handed back.
+    /// Posts what a seat found with a ticket. The ticket is out no more then, whether the session accepts the post or
+    /// refuses it, and the line that was reserved for it is this call's. It fails where the ticket isn't out at this
+    /// seat, or where there is no memory for a post that would be accepted; nothing has changed then, and the finding
+    /// is handed back.
     pub fn spend(&mut self, seat: u32, finding: Finding) -> Result<Reply, SpendFault>
         ensures called { Called self.old seat (call.Spend finding.number finding.content) (spent result) self.new }
         ensures written { IfOk result (λ reply. IsTrue (is_written reply)) }
@@ -115,11 +119,12 @@ impl Book {
         self.spend_by(&mut Bare { number: seat }, finding)
     }
 
-    /// Takes a seat's ticket back, scanned or not, so that it is out no more; the line that was reserved for it is this call's. It
-    /// takes no memory. It fails where the ticket isn't out at this seat; nothing has changed then, and what was discarded is handed
-    /// back as a stray.
+    /// Takes a seat's ticket back, scanned or not, so that it is out no more; the line that was reserved for it is this
+    /// call's. It takes no memory. It fails where the ticket isn't out at this seat; nothing has changed then, and what
+    /// was discarded is handed back as a stray.
     pub fn discard(&mut self, seat: u32, unspent: Unspent) -> Result<(), Stray>
-        ensures called { Called self.old seat (call.Discard (number_of unspent) (aim_of unspent)) (discarded result) self.new }
+        ensures called { Called self.old seat
+            (call.Discard (number_of unspent) (aim_of unspent)) (discarded result) self.new }
         ensures back { IfErr result (λ stray. stray ≡ unspent) }
     {
         self.discard_by(&mut Bare { number: seat }, unspent)
@@ -139,8 +144,8 @@ impl Book {
         self.out.len() as u32
     }
 
-    /// The lines of the tape, oldest first. From the session that the book opened on they lead to where it is (`legal`), and with
-    /// one for each ticket that is out there are at most 200,000 (`few`).
+    /// The lines of the tape, oldest first. From the session that the book opened on they lead to where it is
+    /// (`legal`), and with one for each ticket that is out there are at most 200,000 (`few`).
     pub fn tape(&self) -> &[Line]
         ensures tape { result.now ≡ self.now.tape }
         ensures legal { Legal (new_book self.now.opening) self.now.tape self.now.book }
@@ -181,7 +186,8 @@ impl Book {
     ) -> Result<Ticket, Refusal>
         ensures called { (C.shown caller.old).out ≤ length self.old.book.out
             → Called self.old (C.shown caller.old).number (call.Checkout aim) (checked_out result) self.new }
-        ensures caller { C.shown caller.new ≡ caller_after C.keeps (C.shown caller.old) (call.Checkout aim) (checked_out result) }
+        ensures caller { C.shown caller.new
+            ≡ caller_after C.keeps (C.shown caller.old) (call.Checkout aim) (checked_out result) }
         ensures aim { IfOk result (λ ticket. ticket.content.aim ≡ aim) }
         ensures ticket { IfOk result (λ ticket. model.scan (state_of self.old.book.session) aim ≡ Some ticket.content) }
     {
@@ -218,9 +224,12 @@ impl Book {
         finding: Finding,
     ) -> Result<Reply, SpendFault>
         ensures called { none_out C.keeps (C.shown caller.old) ≡ false
-            → Called self.old (C.shown caller.old).number (call.Spend finding.number finding.content) (spent result) self.new }
-        ensures none { none_out C.keeps (C.shown caller.old) ≡ true → (spent result ≡ Refused NotOut) × (self.new ≡ self.old) }
-        ensures caller { C.shown caller.new ≡ caller_after C.keeps (C.shown caller.old) (call.Spend finding.number finding.content) (spent result) }
+            → Called self.old (C.shown caller.old).number
+            (call.Spend finding.number finding.content) (spent result) self.new }
+        ensures none { none_out C.keeps (C.shown caller.old) ≡ true
+            → (spent result ≡ Refused NotOut) × (self.new ≡ self.old) }
+        ensures caller { C.shown caller.new
+            ≡ caller_after C.keeps (C.shown caller.old) (call.Spend finding.number finding.content) (spent result) }
         ensures written { IfOk result (λ reply. IsTrue (is_written reply)) }
         ensures back { IfErr result (λ fault. fault.finding ≡ finding) }
     {
@@ -253,9 +262,12 @@ impl Book {
         unspent: Unspent,
     ) -> Result<(), Stray>
         ensures called { none_out C.keeps (C.shown caller.old) ≡ false
-            → Called self.old (C.shown caller.old).number (call.Discard (number_of unspent) (aim_of unspent)) (discarded result) self.new }
-        ensures none { none_out C.keeps (C.shown caller.old) ≡ true → (discarded result ≡ Refused NotOut) × (self.new ≡ self.old) }
-        ensures caller { C.shown caller.new ≡ caller_after C.keeps (C.shown caller.old) (call.Discard (number_of unspent) (aim_of unspent)) (discarded result) }
+            → Called self.old (C.shown caller.old).number
+            (call.Discard (number_of unspent) (aim_of unspent)) (discarded result) self.new }
+        ensures none { none_out C.keeps (C.shown caller.old) ≡ true
+            → (discarded result ≡ Refused NotOut) × (self.new ≡ self.old) }
+        ensures caller { C.shown caller.new ≡ caller_after C.keeps (C.shown caller.old)
+            (call.Discard (number_of unspent) (aim_of unspent)) (discarded result) }
         ensures back { IfErr result (λ stray. stray ≡ unspent) }
     {
         let seat = caller.number();
@@ -277,8 +289,8 @@ impl Book {
     }
 }
 
-/// Makes room for so many lines on the tape beside the reserved ones, and in the caller's list, unless the tape may not have as
-/// many, or there is no memory.
+/// Makes room for so many lines on the tape beside the reserved ones, and in the caller's list, unless the tape may not
+/// have as many, or there is no memory.
 fn make_room<C: Caller>(
     lines: &mut Vec<Line>,
     reserved: usize,
@@ -294,7 +306,8 @@ fn make_room<C: Caller>(
     ensures own_room { OnOk result ((n : ℕ) → n ≤ wanted → C.has_room caller.new n) }
     ensures full { MatchResult result
         (λ _. length lines.old.items + reserved + wanted ≤ MAX_LINES)
-        (λ refusal. refusal ≡ (if nat_lt MAX_LINES (length lines.old.items + reserved + wanted) then Refusal.TapeFull else Refusal.NoMemory)) }
+        (λ refusal. refusal ≡ (if nat_lt MAX_LINES (length lines.old.items + reserved + wanted)
+        then Refusal.TapeFull else Refusal.NoMemory)) }
 {
     let more = reserved + wanted as usize;
     if lines.len() + more > MAX_LINES {
@@ -386,8 +399,10 @@ fn is_written(reply: &Reply) -> bool
 /// Posts what was found, and answers it, or that there is no memory for it.
 fn post(session: &mut Session, content: &Content) -> Result<Reply, SpendCause>
     ensures { MatchResult result
-        (λ reply. (reply ≡ reply_to session.old (Post content.now)) × (session.new ≡ session_after session.old (Post content.now) reply))
-        (λ cause. (cause ≡ SpendCause.NoMemory) × (reply_to session.old (Post content.now) ≡ Done) × (session.new ≡ session.old)) }
+        (λ reply. (reply ≡ reply_to session.old (Post content.now))
+        × (session.new ≡ session_after session.old (Post content.now) reply))
+        (λ cause. (cause ≡ SpendCause.NoMemory) × (reply_to session.old (Post content.now) ≡ Done)
+        × (session.new ≡ session.old)) }
 {
     match session.post(content) {
         Ok(()) => Ok(Reply::Done),

@@ -1,5 +1,5 @@
 // Who makes a call: a seat with its list, or a seat's bare number.
-ghost use Rattle.std.specs.Prelude.{◌≡◌, ℕ, ◌+◌, ◌-◌, ◌<◌, ◌≤◌, Bool, true, false, nat_le, length, OnOk, vec_capacity, ⊤};
+ghost use Rattle.std.specs.Prelude.{◌≡◌, ℕ, ◌+◌, ◌-◌, ◌<◌, ◌≤◌, Bool, true, false, nat_le, OnOk, ⊤};
 ghost use Rattle.reh_types.specs.declared.limits.TheConstants.{MAX_LINES};
 ghost use Rattle.reh_desk.specs.Callers.{none_out, with_line, with_out};
 ghost use Rattle.reh_desk.specs.Seats.{SeatView, new_seat};
@@ -57,7 +57,8 @@ pub(crate) trait Caller {
         ensures room { has_room self.new 1 };
 }
 
-/// A seat's number, its own calls and their replies, and how many of its tickets are out, with a line reserved for each.
+/// A seat's number, its own calls and their replies, and how many of its tickets are out, with a line reserved for
+/// each.
 #[derive(Drop)]
 pub(crate) struct Listed {
     number: u32,

@@ -1,4 +1,5 @@
-// Tickets and findings, which have to be spent or given back, the book at which they are, and seats, which make its calls.
+// Tickets and findings, which have to be spent or given back, the book at which they are, and seats, which make its
+// calls.
 #![tactic(auto)]
 
 mod books;

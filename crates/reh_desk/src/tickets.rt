@@ -11,8 +11,8 @@ use std::marker::{Model, PhantomData};
 #[derive(Clone, Copy)]
 struct OneThread(PhantomData<*const u8>);
 
-/// Leave to scan the fragment of an aim, as it stood when a book issued the ticket. It can be neither dropped nor copied,
-/// and stays on its thread: it goes to `scan`, or is given back by `discard`.
+/// Leave to scan the fragment of an aim, as it stood when a book issued the ticket. It can be neither dropped nor
+/// copied, and stays on its thread: it goes to `scan`, or is given back by `discard`.
 ///
 /// Contracts see its number, and what a scan with it finds.
 #[must_use]
@@ -30,10 +30,11 @@ impl Model for Ticket {
     ghost view = { λ t. record { number = t.number; content = t.job } };
 }
 
-/// What a scan found. It can be neither dropped nor copied, and stays on its thread: it goes to `spend`, or is given back
-/// by `discard`.
+/// What a scan found. It can be neither dropped nor copied, and stays on its thread: it goes to `spend`, or is given
+/// back by `discard`.
 ///
-/// It holds its content twice, one for the tape's line and one for the list of its seat, so that a spend needs no memory for them.
+/// It holds its content twice, one for the tape's line and one for the list of its seat, so that a spend needs no
+/// memory for them.
 #[must_use]
 pub struct Finding {
     number: u32,

@@ -8,4 +8,5 @@ pub returns-clause-may : goal.returns-clause-may
 returns-clause-may c =
     let s = c.seat.inside.caller.seat in
     rw c.spend_by.ensures.caller
-    (spent_counted _ _ s _ _ _ (c.requires ∙ sym (ap (λ (s : SeatView). s.out) c.seat.view_is)) c.spend_by.ensures.called c.spend_by.ensures.none)
+    (spent_counted _ _ s _ _ _ (c.requires ∙ sym (ap (λ (s : SeatView). s.out) c.seat.view_is))
+    c.spend_by.ensures.called c.spend_by.ensures.none)
