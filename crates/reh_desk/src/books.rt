@@ -173,7 +173,7 @@ impl Book {
         let reply = self.session.perform(&step);
         if is_written(&reply) {
             let call = Call::Ask(step);
-            write(&mut self.lines, caller, line_of(seat, call, &reply), copy);
+            write(&mut self.lines, caller, tape_line(seat, call, &reply), copy);
         }
         reply
     }
@@ -251,7 +251,7 @@ impl Book {
             content: second,
         };
         end_ticket(&mut self.out, caller, place);
-        write(&mut self.lines, caller, line_of(seat, call, &reply), copy);
+        write(&mut self.lines, caller, tape_line(seat, call, &reply), copy);
         Ok(reply)
     }
 
@@ -337,7 +337,7 @@ fn write<C: Caller>(lines: &mut Vec<Line>, caller: &mut C, line: Line, copy: Cal
 }
 
 /// A line of the tape.
-fn line_of(seat: u32, call: Call, reply: &Reply) -> Line
+fn tape_line(seat: u32, call: Call, reply: &Reply) -> Line
     ensures { result ≡ line seat call reply.now }
 {
     Line {

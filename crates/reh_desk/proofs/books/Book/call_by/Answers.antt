@@ -22,7 +22,7 @@ pub invariant_of-self-then-is_written : goal.invariant_of-self-then-is_written
 invariant_of-self-then-is_written g c =
     let i = c.self.inside in
     let reserved : c.len-reserved.result ≡ length i.out.items = omega (arith, i.out.ok.0, c.len-reserved.ensures) in
-    rw (c.write.ensures.lines, c.line_of.ensures, c.make_room.ensures.items)
+    rw (c.write.ensures.lines, c.tape_line.ensures, c.make_room.ensures.items)
     (asked_kept _ _ _ _ _ _ c.self.invariant _ _ _ _ (rw reserved at c.in_default.ensures.full)
     c.perform-reply.ensures.answers (sym c.is_written.ensures ∙ c.if-is_written.true)
     (omega (arith, reserved, c.in_default.ensures.room, c.write.ensures.capacity)))

@@ -35,9 +35,9 @@ made g c =
     ∙ ap (λ (x : Content). session_after c.self.inside.session (Post x) c.in-Ok.reply) c.content.ensures
 
 called : (g : Over) (c : After-write g)
-    → c.line_of.result ≡ line c.number-seat.result (Spend c.args.finding.number c.args.finding.content) c.in-Ok.reply
+    → c.tape_line.result ≡ line c.number-seat.result (Spend c.args.finding.number c.args.finding.content) c.in-Ok.reply
 called g c =
-    c.line_of.ensures
+    c.tape_line.ensures
     ∙ (λ j. line c.number-seat.result (Spend (c.number-number.ensures j) (c.into_contents-content.ensures.0 j)) c.in-Ok.reply)
 
 pushed : (g : Over) (c : After-write g)
