@@ -157,18 +157,17 @@ module _ (before after : List (ℕ × TableValue)) (ledger : ℕ) (table : Table
       ∙ one_true (nat_eq b bookie) (nat_eq e entry) (has (contents_of before) b ledger e)))
       (λ b l e differ. sym (has-insert (contents_of before) bookie ledger entry b l e
       ∙ ap (λ t. ((nat_eq b bookie && t) && nat_eq e entry) || has (contents_of before) b l e) differ
-      ∙ one_false (nat_eq b bookie) (nat_eq e entry) (has (contents_of before) b l e)))
-    where
-      itself : (n : ℕ) → nat_eq n n ≡ true
-      itself n = grind (arith, nat_tests)
+      ∙ one_false (nat_eq b bookie) (nat_eq e entry) (has (contents_of before) b l e))) where
+        itself : (n : ℕ) → nat_eq n n ≡ true
+        itself n = grind (arith, nat_tests)
 
-      one_true : (a c d : Bool) → (((a && true) && c) || d) ≡ ((a && c) || d)
-      one_true true c d = refl
-      one_true false c d = refl
+        one_true : (a c d : Bool) → (((a && true) && c) || d) ≡ ((a && c) || d)
+        one_true true c d = refl
+        one_true false c d = refl
 
-      one_false : (a c d : Bool) → (((a && false) && c) || d) ≡ d
-      one_false true c d = refl
-      one_false false c d = refl
+        one_false : (a c d : Bool) → (((a && false) && c) || d) ≡ d
+        one_false true c d = refl
+        one_false false c d = refl
 
   -- bits of one word turned
   pub written-turned : (bookie number bits : ℕ)
@@ -220,22 +219,21 @@ module _ (before after : List (ℕ × TableValue)) (ledger : ℕ) (table : Table
       || ((nat_eq b bookie && t) && list_any (nat_eq e) (range_with_len first (last + 1 - first))))
       differ
       ∙ none_more (has (contents_of before) b l e) (nat_eq b bookie)
-      (list_any (nat_eq e) (range_with_len first (last + 1 - first)))))
-    where
-      itself : (n : ℕ) → nat_eq n n ≡ true
-      itself n = grind (arith, nat_tests)
+      (list_any (nat_eq e) (range_with_len first (last + 1 - first))))) where
+        itself : (n : ℕ) → nat_eq n n ≡ true
+        itself n = grind (arith, nat_tests)
 
-      with_true : (a : Bool) → (a && true) ≡ a
-      with_true true = refl
-      with_true false = refl
+        with_true : (a : Bool) → (a && true) ≡ a
+        with_true true = refl
+        with_true false = refl
 
-      either_round : (a b : Bool) → (a || b) ≡ (b || a)
-      either_round true true = refl
-      either_round true false = refl
-      either_round false true = refl
-      either_round false false = refl
+        either_round : (a b : Bool) → (a || b) ≡ (b || a)
+        either_round true true = refl
+        either_round true false = refl
+        either_round false true = refl
+        either_round false false = refl
 
-      none_more : (h a c : Bool) → (h || ((a && false) && c)) ≡ h
-      none_more true a c = refl
-      none_more false true c = refl
-      none_more false false c = refl
+        none_more : (h a c : Bool) → (h || ((a && false) && c)) ≡ h
+        none_more true a c = refl
+        none_more false true c = refl
+        none_more false false c = refl

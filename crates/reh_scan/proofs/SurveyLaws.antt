@@ -96,11 +96,11 @@ counted-all p first last number order end =
     ≡ count_by q (range_with_len first (n + after)) = omega arith in sum)
     ∙ count-append q first n after
     ∙ (λ j. inside j + behind j)
-    ∙ (let sum : count_by p (range_with_len first n) + 0 ≡ count_by p (range_with_len first n) = omega arith in sum)
-  where
-    no_and : (a b : Bool) → ((a && false) && b) ≡ false
-    no_and true b = refl
-    no_and false b = refl
+    ∙ (let sum : count_by p (range_with_len first n) + 0
+    ≡ count_by p (range_with_len first n) = omega arith in sum) where
+      no_and : (a b : Bool) → ((a && false) && b) ≡ false
+      no_and true b = refl
+      no_and false b = refl
 
 -- the bits of a word's entries from the first to the last that lack another bit
 pub lacking-bits : (p : ℕ → Bool) (first last number between readable : ℕ) → readable < 2 ^ 64
