@@ -145,8 +145,8 @@ impl Session {
         }
         let alloc = *self.events.allocator();
         let mut changes = changes_of(alloc, &self.state, &event)?;
-        make_room(&mut self.events, self.cursor)?;
-        make_room(&mut self.records, self.cursor)?;
+        reserve_next(&mut self.events, self.cursor)?;
+        reserve_next(&mut self.records, self.cursor)?;
         self.state.exchange(&mut changes);
         keep(&mut self.events, self.cursor, event);
         keep(&mut self.records, self.cursor, changes);
@@ -222,7 +222,7 @@ impl Session {
 }
 
 /// Makes room for one element behind the first `cursor`.
-fn make_room<T>(items: &mut Vec<T>, cursor: usize) -> Result<(), AllocError>
+fn reserve_next<T>(items: &mut Vec<T>, cursor: usize) -> Result<(), AllocError>
     requires { cursor ≤ length items.old.items }
     ensures items { items.new.items ≡ items.old.items }
     ensures room { OnOk result (cursor < vec_capacity items.new) }

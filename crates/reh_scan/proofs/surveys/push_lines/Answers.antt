@@ -24,7 +24,7 @@ loop-number-preserved c =
     ∙ ap (λ (x : SurveyLine).
     (c.loop-number.lines.items ++ x ∷ [])
     ++ map line (enumerate_from (c.loop-number.number + 1) (drop (c.loop-number.number + 1) fragments)))
-    c.line_of.ensures
+    c.fragment_line.ensures
     ∙ numbered-more line c.loop-number.lines.items fragments c.loop-number.number c.fragment-item.result
     c.loop-number-test.true c.fragment-item.is
     ∙ c.loop-number.invariant
