@@ -98,7 +98,7 @@ impl Held {
         Ok(())
     }
 
-    // The ledger's table with rows of so many words.
+    /// The ledger's table with rows of so many words.
     fn longer_table(&self, ledger: LedgerId, width: usize) -> Result<Table, AllocError>
         requires longer { words_in self.now ledger ≤ width }
         requires small { width ≤ MAX_WIDTH }
@@ -131,7 +131,7 @@ impl Held {
         Ok(())
     }
 
-    // The bookie holds the entry from now on, for which the rows of the ledger are long enough.
+    /// The bookie holds the entry from now on, for which the rows of the ledger are long enough.
     fn put(&mut self, bookie: BookieIx, ledger: LedgerId, entry: u32)
         requires bookie { bookie < self.old.bookies }
         requires entry { entry < 64 * words_in self.old ledger }
@@ -159,8 +159,8 @@ impl Held {
         }
     }
 
-    /// Turns these bits of a word of the bookie's row of the ledger: the entries that they stand for are held where they
-    /// were not, and not where they were.
+    /// Turns these bits of a word of the bookie's row of the ledger: the entries that they stand for are held where
+    /// they were not, and not where they were.
     pub fn toggle(&mut self, bookie: BookieIx, ledger: LedgerId, number: usize, bits: u64)
         requires bookie { bookie < self.old.bookies }
         requires number { number < words_in self.old ledger }
@@ -243,7 +243,7 @@ impl Held {
 mod tests {
     use super::*;
 
-    // Three bookies and two ledgers.
+    /// Three bookies and two ledgers.
     #[test]
     fn holds_what_was_added(rt: HostRuntime) -> Result<(), AllocError> {
         let mut held = Held::new(rt.alloc(), 3);
@@ -274,7 +274,7 @@ mod tests {
         Ok(())
     }
 
-    // A bookie that holds entry 3 of five.
+    /// A bookie that holds entry 3 of five.
     #[test]
     fn turns_there_and_back(rt: HostRuntime) -> Result<(), AllocError> {
         let bookie = BookieIx(3);
@@ -299,7 +299,7 @@ mod tests {
         Ok(())
     }
 
-    // Where there is no memory for it, a call leaves all as it was: it is tried with each allocation failing.
+    /// Where there is no memory for it, a call leaves all as it was: it is tried with each allocation failing.
     #[test]
     fn want_of_memory_changes_nothing(rt: HostRuntime) {
         let bookie = BookieIx(1);

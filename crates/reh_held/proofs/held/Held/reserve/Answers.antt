@@ -16,7 +16,8 @@ returns-then-width-words-clause-ok c =
     let held : HeldValue = c.args.self.now in
     let n : ℕ = c.args.entry / 64 + 1 in
     let enough : n ≤ words_in held c.args.ledger = omega (arith, c.words.ensures) in
-    let same : finite.insert held.words c.args.ledger (max (words_in held c.args.ledger) n) ≡ held.words = insert-same held.words c.args.ledger n (omega arith) enough in
+    let same : finite.insert held.words c.args.ledger (max (words_in held c.args.ledger) n) ≡ held.words =
+    insert-same held.words c.args.ledger n (omega arith) enough in
     λ i. record { contents = held.contents; bookies = held.bookies; words = sym same i }
 
 pub invariant_of-self-2 : goal.invariant_of-self-2
@@ -43,9 +44,12 @@ returns-clause-ok c =
     let tables : List (ℕ × TableValue) = c.self.inside.tables.entries in
     let after : List (ℕ × TableValue) = c.insert.new.self.entries in
     let was = ap (λ (v : HeldValue). v.contents) c.self.view_is in
-    let contents = written-contents tables after c.args.ledger c.in_ok-table.table c.in_ok-insert.ensures.updates.0 held.contents c.in_ok-table.ensures.same (λ b l e differ. ap (λ s. has s b l e) was) in
+    let contents =
+    written-contents tables after c.args.ledger c.in_ok-table.table c.in_ok-insert.ensures.updates.0 held.contents
+    c.in_ok-table.ensures.same (λ b l e differ. ap (λ s. has s b l e) was) in
     let words = written-words tables after c.args.ledger c.in_ok-table.table c.in_ok-insert.ensures.updates.0 in
-    let width : c.in_ok-table.table.width ≡ max (words_in held c.args.ledger) (c.args.entry / 64 + 1) = omega (arith, c.in_ok-table.ensures.width, c.words.ensures) in
+    let width : c.in_ok-table.table.width ≡ max (words_in held c.args.ledger) (c.args.entry / 64 + 1) =
+    omega (arith, c.in_ok-table.ensures.width, c.words.ensures) in
     λ i. record {
       contents = contents i;
       bookies = (c.self.view_is i).bookies;
@@ -54,7 +58,8 @@ returns-clause-ok c =
 
 pub returns-clause-room : goal.returns-clause-room
 returns-clause-room c =
-    let room = words-found c.insert.new.self.entries c.args.ledger c.in_ok-table.table (sym c.in_ok-insert.ensures.updates.1) in
+    let room =
+    words-found c.insert.new.self.entries c.args.ledger c.in_ok-table.table (sym c.in_ok-insert.ensures.updates.1) in
     omega (arith, room, c.in_ok-table.ensures.width)
 
 pub returns-clause-few : goal.returns-clause-few
