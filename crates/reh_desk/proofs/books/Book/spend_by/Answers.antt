@@ -1,6 +1,5 @@
 -- The ticket is out no more, and the line that was reserved for it is the post's.
 use Rattle.std.proofs.Common.{◌≡◌, ◌+◌, ◌++◌, ◌∷◌, [], length, sym, ap, ◌∙◌, subst, refl, arith, Some, remove}
-use Rattle.reh_types.specs.declared.calls.Call.{Call}
 use Rattle.reh_types.specs.declared.calls.Call.TheVariants.{Spend}
 use Rattle.reh_types.specs.declared.calls.Line.{Line}
 use Rattle.reh_types.specs.declared.contents.Content.{Content}
