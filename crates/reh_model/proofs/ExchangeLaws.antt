@@ -2,11 +2,10 @@
 use Rattle.std.proofs.Common.{◌≡◌, ◌≢◌, ℕ, List, [], ◌∷◌, map, length, refl, sym, ap, subst, ◌∙◌}
 use Rattle.std.specs.Prelude.{All}
 use Rattle.std.proofs.lemmas.List.Elements.{All-nil, All-cons, All-head, All-tail}
-use Rattle.reh_types.specs.declared.changes.Change.TheVariants.{Registration, Metadata, Task, Lock, Word, Scalar}
 use Rattle.reh_model.specs.Cluster.{Parts, Cluster, words_among}
 use Rattle.reh_model.specs.WellFormed.{IsWellFormed}
 use Rattle.reh_model.specs.Places.{Change, Place, place_of, put, back, put_all, back_all, exchanged, left, AreRising, IsPlaced, IsThere, Fits, SameAt, IsDelta}
-use Rattle.reh_model.proofs.PlaceLaws.{IsBefore-different, words_among-put, IsPlaced-put, place_of-back, put-back, back-back, put-comm, back-put, SameAt-refl, SameAt-sym, SameAt-trans, SameAt-put}
+use Rattle.reh_model.proofs.PlaceLaws.{IsBefore-different, words_among-put, IsPlaced-put, IsPlaced-back, place_of-back, put-back, back-back, put-comm, back-put, SameAt-refl, SameAt-sym, SameAt-trans, SameAt-put}
 
 -- no change of the record is at that place
 abbrev pub IsBeside : Place → List Change → Type 0
@@ -83,15 +82,6 @@ words_among-put_all s (c ∷ cs) l = words_among-put_all (put s c) cs l ∙ word
 IsPlaced-put_all : (n : ℕ) (s : Parts) (cs : List Change) (d : Change) → IsPlaced n s d → IsPlaced n (put_all s cs) d
 IsPlaced-put_all n s [] d h = h
 IsPlaced-put_all n s (c ∷ cs) d h = IsPlaced-put_all n (put s c) cs d (IsPlaced-put n s c d h)
-
--- whether a change's place is there is no matter of its contents
-IsPlaced-back : (n : ℕ) (t s : Parts) (c : Change) → IsPlaced n t c → IsPlaced n t (back s c)
-IsPlaced-back n t s (Registration b up) h = h
-IsPlaced-back n t s (Metadata i metadata) h = h
-IsPlaced-back n t s (Task i task) h = h
-IsPlaced-back n t s (Lock i lock) h = h
-IsPlaced-back n t s (Word b l k bits) h = h
-IsPlaced-back n t s (Scalar scalar) h = h
 
 placed-back_all : (n : ℕ) (t s : Parts) (cs : List Change) → All (IsPlaced n t) cs → All (IsPlaced n t) (back_all s cs)
 placed-back_all n t s [] h = All-nil (IsPlaced n t)

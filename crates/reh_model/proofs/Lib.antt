@@ -29,5 +29,8 @@ pub mod AcceptedLaws
 pub mod PostLaws
 pub mod ScanLaws
 pub mod WellFormedLaws
+pub mod PromiseLaws
+pub mod WrittenLaws
+pub mod EventLaws
 pub mod SwapLaws
 pub mod BookLaws

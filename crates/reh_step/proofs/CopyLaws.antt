@@ -15,7 +15,7 @@ use Rattle.reh_model.specs.Places.{Change, at_word, place_of, IsBefore, AreRisin
 use Rattle.reh_step.specs.Records.{word_change, word_changes}
 use Rattle.reh_model.proofs.ContentsLaws.{All-copy}
 use Rattle.reh_model.proofs.AcceptedLaws.{accepted_copy}
-use Rattle.reh_model.proofs.WellFormedLaws.{IsWellFormed-after}
+use Rattle.reh_model.proofs.EventLaws.{IsWellFormed-after}
 use Rattle.reh_model.proofs.PlaceLaws.{word_differs}
 use Rattle.reh_model.proofs.ExchangeLaws.{Differs, delta_of_changes}
 
