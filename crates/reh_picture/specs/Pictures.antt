@@ -1,12 +1,13 @@
 -- The cluster that a picture shows, or the picture's first fault.
-use Rattle.std.specs.Prelude.{ℕ, ◌*◌, nat_lt, nat_le, List, [], ◌∷◌, map, length, sum_by, ◌≡◌, if◌then◌else◌, Option, None, Some, Result, Ok, Err}
+use Rattle.std.specs.Prelude.{ℕ, ◌*◌, nat_lt, nat_le, List, [], ◌∷◌, map, length, sum_by, ◌≡◌, if◌then◌else◌, Option}
+use Rattle.std.specs.Prelude.{None, Some, Result, Ok, Err}
 use Rattle.std.specs.Str.{is_utf8}
 use Rattle.serde_json.specs.Data.{Data}
 use Rattle.reh_types.specs.declared.limits.TheConstants.{MAX_GRACE, MAX_PICTURE_BYTES, MAX_WORDS}
 use Rattle.serde_json.specs.Read.{read}
 use Rattle.reh_types.specs.Sets.{Set, numbers}
 use Rattle.reh_model.specs.Contents.{Contents}
-use Rattle.reh_model.specs.Cluster.{Cluster}
+use Rattle.reh_model.specs.Cluster.{Cluster, cluster_of}
 use Rattle.reh_picture.specs.declared.fields.Field.TheVariants as field
 use Rattle.reh_picture.specs.declared.faults.PictureFault.{PictureFault}
 use Rattle.reh_picture.specs.declared.faults.PictureFault.TheVariants.{TooLong, NotJson, WrongKind, Limit}
@@ -30,18 +31,13 @@ contents_of d = held_in (map (holding_in (names_of d)) (list_of d field.Contents
 
 -- the cluster that the fields name, with no task and no lock, at clock 0
 abbrev pub pictured_cluster : Data → Cluster
-pictured_cluster d = record {
-  names = names_of d;
-  grace = number_of d field.Grace;
-  up = registered_in (list_of d field.Bookies);
-  ledgers = map (ledger_in (names_of d) (contents_of d)) (list_of d field.Ledgers);
-  held = contents_of d;
-  clock = 0;
-}
+pictured_cluster d =
+    let ledgers = map (ledger_in (names_of d) (contents_of d)) (list_of d field.Ledgers) in
+    cluster_of (names_of d) (registered_in (list_of d field.Bookies)) (number_of d field.Grace) ledgers (contents_of d)
 
 -- words of entries that all bookies together take, each as many for a ledger as it has
 abbrev pub words_in_all : Cluster → ℕ
-words_in_all s = length s.names * sum_by (λ g. g.words) s.ledgers
+words_in_all s = length s.names * sum_by (λ g. g.words) s.parts.ledgers
 
 -- what is wrong before the lists
 unfoldable pub head_fault : Data → Option PictureFault
@@ -64,7 +60,9 @@ parts_fault d =
 
 -- at the end of all, the limit of words
 abbrev pub fields_fault : Data → Option PictureFault
-fields_fault d = first_reason (parts_fault d ∷ reason_unless (nat_le (words_in_all (pictured_cluster d)) MAX_WORDS) (Limit field.Contents) ∷ [])
+fields_fault d =
+    first_reason
+    (parts_fault d ∷ reason_unless (nat_le (words_in_all (pictured_cluster d)) MAX_WORDS) (Limit field.Contents) ∷ [])
 
 -- the cluster, unless there is a fault
 abbrev pub unless_fault : Option PictureFault → Cluster → Result Cluster PictureFault
@@ -88,7 +86,8 @@ abbrev pub picture_of : List ℕ → Result Cluster PictureFault
 picture_of bytes = if nat_lt MAX_PICTURE_BYTES (length bytes) then Err TooLong else shown_by (json_of bytes)
 
 -- What was read of a picture without a fault of its fields: the parts of the cluster that it shows.
-pub record IsShown (d : Data) (names : List (List ℕ)) (up : Set numbers) (grace : ℕ) (listed : List ListedLedger) (holdings : List Holding) : Type 0 where
+pub record IsShown (d : Data) (names : List (List ℕ)) (up : Set numbers) (grace : ℕ) (listed : List ListedLedger)
+    (holdings : List Holding) : Type 0 where
   pub names_are : names ≡ names_of d
   pub up_is : up ≡ registered_in (list_of d field.Bookies)
   pub grace_is : grace ≡ number_of d field.Grace
