@@ -13,7 +13,7 @@ use Rattle.reh_picture.specs.Pictures.{picture_of}
 use Rattle.reh_script.specs.Faults.{pipe_fault_of}
 use Rattle.reh_script.specs.Lines.{cut_of, is_told, answered_lines}
 use Rattle.reh_script.specs.Plays.{stop_of, is_write_fault}
-use Rattle.reh_script.specs.BookPlays.{IsPlayed}
+use Rattle.reh_script.specs.BookPlays.{IsTranscribed}
 use Rattle.reh_script.specs.Transcript.{starting}
 use Rattle.reh_script.specs.Pipes.{Rehearsal, rehearsal_by, rehearsal_of, piped, IsPiped, loses_output}
 use Rattle.reh_script.specs.declared.faults.PlayFault.{PlayFault}
@@ -70,13 +70,13 @@ ends_refused failed input picture script fault (Err e) old told first behind ref
 
 -- a play by the first seat of a new book
 pub at_opened : (names : List (List ℕ)) (lines : List (List ℕ)) (stop : Option PlayFault) (result : Result (Unit {0}) PlayFault) (k : Kept) (seat : SeatView) (m : Session) (b : Book) (old new : Option (List ℕ)) → (k ≡ opened m) × (seat ≡ new_seat 0)
-    → IsPlayed names seat.number lines stop result (starting k.book) b old new → IsPlayed names 0 lines stop result (starting (new_book m)) b old new
+    → IsTranscribed names seat.number lines stop result (starting k.book) b old new → IsTranscribed names 0 lines stop result (starting (new_book m)) b old new
 at_opened names lines stop result k seat m b old new (fresh, first) played =
-    subst (λ (s : SeatView). IsPlayed names s.number lines stop result (starting (new_book m)) b old new) first (subst (λ (v : Kept). IsPlayed names seat.number lines stop result (starting v.book) b old new) fresh played)
+    subst (λ (s : SeatView). IsTranscribed names s.number lines stop result (starting (new_book m)) b old new) first (subst (λ (v : Kept). IsTranscribed names seat.number lines stop result (starting v.book) b old new) fresh played)
 
 -- where the lines are played
 pub ends_played : (failed : Bool) (input picture script : List ℕ) (state : Cluster) (names : List (List ℕ)) (result : Result (Unit {0}) PlayFault) (m : Session) (b : Book) (old new : Option (List ℕ)) → is_told failed input ≡ true → picture ≡ (cut_of input).picture
-    → script ≡ (cut_of input).script → picture_of picture ≡ Ok state → names ≡ state.names → m ≡ opened_session state → IsPlayed names 0 (answered_lines failed script) (stop_of failed script) result (starting (new_book m)) b old new
+    → script ≡ (cut_of input).script → picture_of picture ≡ Ok state → names ≡ state.names → m ≡ opened_session state → IsTranscribed names 0 (answered_lines failed script) (stop_of failed script) result (starting (new_book m)) b old new
     → IsPiped (rehearsal_of failed input) (piped result) old new
 ends_played failed input picture script state names result m b old new told first behind read named begun played =
     subst (λ (r : Result Rehearsal PipeFault). IsPiped r (piped result) old new) (judged failed input picture script (Ok state) told first behind read)
@@ -85,14 +85,14 @@ ends_played failed input picture script state names result m b old new told firs
       book = b;
       same = refl;
       played =
-          subst (λ (ns : List (List ℕ)). IsPlayed ns 0 (answered_lines failed script) (stop_of failed script) result (starting (new_book (opened_session state))) b old new) named
-          (subst (λ (s : Session). IsPlayed names 0 (answered_lines failed script) (stop_of failed script) result (starting (new_book s)) b old new) begun played);
+          subst (λ (ns : List (List ℕ)). IsTranscribed ns 0 (answered_lines failed script) (stop_of failed script) result (starting (new_book (opened_session state))) b old new) named
+          (subst (λ (s : Session). IsTranscribed names 0 (answered_lines failed script) (stop_of failed script) result (starting (new_book s)) b old new) begun played);
     }))
 
 -- where they are not played to their end
 pub ends_early : (failed : Bool) (input picture script : List ℕ) (state : Cluster) (names : List (List ℕ)) (fault : PlayFault) (result : Result (Unit {0}) PipeFault) (m : Session) (b : Book) (old new : Option (List ℕ)) → is_told failed input ≡ true
     → picture ≡ (cut_of input).picture → script ≡ (cut_of input).script → picture_of picture ≡ Ok state → names ≡ state.names → m ≡ opened_session state → IsErrAnd result (λ e. e ≡ Play fault)
-    → IsPlayed names 0 (answered_lines failed script) (stop_of failed script) (Err fault) (starting (new_book m)) b old new → IsPiped (rehearsal_of failed input) result old new
+    → IsTranscribed names 0 (answered_lines failed script) (stop_of failed script) (Err fault) (starting (new_book m)) b old new → IsPiped (rehearsal_of failed input) result old new
 ends_early failed input picture script state names fault (Ok x) m b old new told first behind read named begun is played = absurd is
 ends_early failed input picture script state names fault (Err e) m b old new told first behind read named begun is played =
     subst (λ (f : PipeFault). IsPiped (rehearsal_of failed input) (Err f) old new) (sym is)

@@ -38,7 +38,7 @@ returns-in_err-answer_at_book-clause-piped g c =
     ends_early c.args.failed c.args.input.now _ _ c.in_ok-state.state c.in_ok-names.names c.in_err-answer_at_book.field-0.0 _ _ c.answer_at_book.new.book.book (g.W.TextOut.contents c.args.writer.now) (g.W.TextOut.contents c.answer_at_book.new.writer) told
     c.split_input.ensures.picture c.split_input.ensures.script c.in_ok-state.ensures (c.in_ok-names.ensures ∙ c.names.ensures.names) refl c.from_residual-in_err-answer_at_book.ensures.1
     (at_opened c.in_ok-names.names (answered_lines c.args.failed c.split_input.result.1.now) (stop_of c.args.failed c.split_input.result.1.now) (Err c.in_err-answer_at_book.field-0.0) c.in_ok-book.book c.in_ok-book.seat (opened_session c.in_ok-state.state) c.answer_at_book.new.book.book (g.W.TextOut.contents c.args.writer.now)
-    (g.W.TextOut.contents c.answer_at_book.new.writer) c.in_ok-book.ensures c.in_err-answer_at_book.ensures.played)
+    (g.W.TextOut.contents c.answer_at_book.new.writer) c.in_ok-book.ensures c.in_err-answer_at_book.ensures.transcribed)
 
 pub returns-in_err-answer_at_book-clause-write : goal.returns-in_err-answer_at_book-clause-write
 returns-in_err-answer_at_book-clause-write g c = handed_on _ c.in_err-answer_at_book.field-0.0 _ c.from_residual-in_err-answer_at_book.ensures.1 c.in_err-answer_at_book.ensures.write
@@ -49,4 +49,4 @@ returns-clause-piped g c =
     ends_played c.args.failed c.args.input.now _ _ c.in_ok-state.state c.in_ok-names.names (Ok tt) _ c.answer_at_book.new.book.book (g.W.TextOut.contents c.args.writer.now) (g.W.TextOut.contents c.answer_at_book.new.writer) told
     c.split_input.ensures.picture c.split_input.ensures.script c.in_ok-state.ensures (c.in_ok-names.ensures ∙ c.names.ensures.names) refl
     (at_opened c.in_ok-names.names (answered_lines c.args.failed c.split_input.result.1.now) (stop_of c.args.failed c.split_input.result.1.now) (Ok tt) c.in_ok-book.book c.in_ok-book.seat (opened_session c.in_ok-state.state) c.answer_at_book.new.book.book (g.W.TextOut.contents c.args.writer.now)
-    (g.W.TextOut.contents c.answer_at_book.new.writer) c.in_ok-book.ensures c.in_ok-answer_at_book.ensures.played)
+    (g.W.TextOut.contents c.answer_at_book.new.writer) c.in_ok-book.ensures c.in_ok-answer_at_book.ensures.transcribed)
