@@ -13,7 +13,7 @@ use crate::faults::PlayFault;
 use crate::hand::Hand;
 use crate::inputs::{first_line, front, whole_lines};
 use crate::players::{Tools, Unanswered, answer, give_back};
-use crate::readings::read;
+use crate::readings::read_text;
 use crate::scripts::parse_line;
 use crate::streams::{StreamFault, TextIn, TextOut};
 use reh_cluster::Names;
@@ -59,7 +59,7 @@ pub fn play<C: Counter, V: Surveyor, R: TextIn, W: TextOut>(
         names,
         surveyor,
     };
-    match read(alloc, reader, MAX_SCRIPT_BYTES + 1) {
+    match read_text(alloc, reader, MAX_SCRIPT_BYTES + 1) {
         Ok(script) => answer_script(
             &tools,
             counter,

@@ -14,7 +14,7 @@ pub returns-in-Ok-clause-plays : goal.returns-in-Ok-clause-plays
 returns-in-Ok-clause-plays g c =
     subst
     (λ (f : Bool). Plays (setting g.C.Counter.goes g.C.Counter.scene c.args.names.now) c.answer_script.result f
-    (g.R.TextIn.remaining c.args.reader.now) (g.R.TextIn.remaining c.read.new.reader)
+    (g.R.TextIn.remaining c.args.reader.now) (g.R.TextIn.remaining c.read_text.new.reader)
     (seated c.args.counter.now c.args.seat.now) (seated c.answer_script.new.counter c.answer_script.new.seat)
     (g.W.TextOut.contents c.args.writer.now) (g.W.TextOut.contents c.answer_script.new.writer))
     (sym c.in-Ok.ensures.failed)
