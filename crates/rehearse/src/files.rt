@@ -36,7 +36,7 @@ impl<'a> LateFile<'a> {
 
     /// Why it could not be opened, if it could not.
     pub(crate) fn into_unopened(self) -> Option<RunFault>
-        ensures { result ≡ self.unopened }
+        ensures { result ≡ self.entry.unopened }
     {
         self.unopened
     }
