@@ -57,9 +57,10 @@ picture_of-long bytes long =
     ap (λ (t : Bool). cond t (Err picture_fault.TooLong) (shown_by (json_of bytes))) past
 
 -- a picture that was read far enough is judged as all of it
-picture-enough : (picture all : List ℕ) → ReadsEnough 8_388_609 picture all → picture_of picture ≡ picture_of all
-picture-enough picture all (rest, whole, end) =
-    elim (cases_lt (length picture) 8_388_609) [
+picture-enough : (enough : ℕ) (picture all : List ℕ) → ReadsEnough enough picture all → MAX_PICTURE_BYTES < enough
+    → picture_of picture ≡ picture_of all
+picture-enough enough picture all (rest, whole, end) more =
+    elim (cases_lt (length picture) enough) [
       | inl short ↦
           ap picture_of (sym (whole ∙ ap (λ (r : List ℕ). picture ++ r) (end short) ∙ append-nil picture))
       | inr long ↦
@@ -69,36 +70,37 @@ picture-enough picture all (rest, whole, end) =
     ]
 
 -- where a read failed behind it
-pub opens_failed : (told failed : Bool) (bytes : List ℕ) (left_old left_new : Option (List ℕ)) → told ≡ failed
-    → failed ≡ true → Reads 8_388_609 failed bytes left_old left_new
+pub opens_failed : (told failed : Bool) (enough : ℕ) (bytes : List ℕ) (left_old left_new : Option (List ℕ))
+    → told ≡ failed → failed ≡ true → Reads enough failed bytes left_old left_new
     → OpensText told left_old left_new (Err (Play ReadFault))
-opens_failed told failed bytes left_old left_new same is reads =
+opens_failed told failed enough bytes left_old left_new same is reads =
     subst (λ (f : Bool). OpensText f left_old left_new (Err (Play ReadFault))) (sym (same ∙ is))
     (record {
       picture = bytes;
-      given = subst (λ (f : Bool). Reads 8_388_609 f bytes left_old left_new) is reads;
+      given = subst (λ (f : Bool). Reads enough f bytes left_old left_new) is reads;
       opens = refl;
     })
 
-judged : (bytes : List ℕ) (left_old left_new : Option (List ℕ)) (result : Result Opened PipeFault)
-    → Reads 8_388_609 false bytes left_old left_new → Opens (picture_of bytes) result
+judged : (enough : ℕ) (bytes : List ℕ) (left_old left_new : Option (List ℕ)) (result : Result Opened PipeFault)
+    → Reads enough false bytes left_old left_new → MAX_PICTURE_BYTES < enough → Opens (picture_of bytes) result
     → OpensText false left_old left_new result
-judged bytes None left_new result reads opens = record { picture = bytes; given = tt; opens = opens }
-judged bytes (Some all) left_new result reads opens = record {
+judged enough bytes None left_new result reads more opens = record { picture = bytes; given = tt; opens = opens }
+judged enough bytes (Some all) left_new result reads more opens = record {
   picture = all;
   given = refl;
-  opens = subst (λ (r : Result Cluster PictureFault). Opens r result) (picture-enough bytes all reads) opens;
+  opens =
+      subst (λ (r : Result Cluster PictureFault). Opens r result) (picture-enough enough bytes all reads more) opens;
 }
 
 -- what is opened of what was read is opened of the picture that the reader gives
-pub opens_judged : (told failed : Bool) (bytes : List ℕ) (left_old left_new : Option (List ℕ))
+pub opens_judged : (told failed : Bool) (enough : ℕ) (bytes : List ℕ) (left_old left_new : Option (List ℕ))
     (result : Result Opened PipeFault) → told ≡ failed → failed ≡ false
-    → Reads 8_388_609 failed bytes left_old left_new → Opens (picture_of bytes) result
+    → Reads enough failed bytes left_old left_new → MAX_PICTURE_BYTES < enough → Opens (picture_of bytes) result
     → OpensText told left_old left_new result
-opens_judged told failed bytes left_old left_new result same is reads opens =
+opens_judged told failed enough bytes left_old left_new result same is reads more opens =
     subst (λ (f : Bool). OpensText f left_old left_new result) (sym (same ∙ is))
-    (judged bytes left_old left_new result
-    (subst (λ (f : Bool). Reads 8_388_609 f bytes left_old left_new) is reads) opens)
+    (judged enough bytes left_old left_new result
+    (subst (λ (f : Bool). Reads enough f bytes left_old left_new) is reads) more opens)
 
 -- where there is no memory for the picture's bytes
 unread : (left_old left_new : Option (List ℕ)) (result : Result Opened PipeFault)

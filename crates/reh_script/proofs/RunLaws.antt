@@ -50,7 +50,7 @@ pub runs_played : (result : Result (Unit {0}) PipeFault) (untouched : Type 0) (u
     → Transcribes o.names o.seat.number end failed left_old left_new o.book.book b old new
     → Runs result untouched unread first_old first_new failed left_old left_new old new
 runs_played result untouched unread first_old first_new failed left_old left_new old new o end b opens same played =
-    record { opened = Ok o; opens = opens; ends = record { end = end; book = b; same = same; played = played } }
+    record { opened = Ok o; opens = opens; ends = record { end = end; book = b; same = same; transcribed = played } }
 
 pub runs_early : (result : Result (Unit {0}) PipeFault) (untouched : Type 0) (unread : Bool)
     (first_old first_new : Option (List ℕ)) (failed : Bool) (left_old left_new old new : Option (List ℕ)) (o : Opened)

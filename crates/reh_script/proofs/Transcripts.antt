@@ -301,18 +301,18 @@ played_book names lines stop (Err fault.NoThread) x z old new (stops, is) =
 
 -- a play of a text at a book
 pub plays_book : (names : List (List ℕ)) (result : Result (Unit {0}) PlayFault) (failed : Bool)
-    (left_old left_new : Option (List ℕ)) (counter : Kept) (seat : SeatView) (z : Player Kept)
+    (left_old left_new : Option (List ℕ)) (counter : Kept) (seat : SeatView) (last : Kept) (end : SeatView)
     (old new : Option (List ℕ))
-    → Plays (at_book names) result failed left_old left_new (seated counter seat) z old new
-    → Transcribes names seat.number result failed left_old left_new counter.book z.counter.book old new
-plays_book names result failed left_old left_new counter seat z old new plays = record {
+    → Plays (at_book names) result failed left_old left_new (seated counter seat) (seated last end) old new
+    → Transcribes names seat.number result failed left_old left_new counter.book last.book old new
+plays_book names result failed left_old left_new counter seat last end old new plays = record {
   text = plays.text;
   given = plays.given;
   played = elim plays.played [
     | inl played ↦
         inl
         (played_book names (answered_lines failed plays.text) (stop_of failed plays.text) result
-        (seated counter seat) z old new played)
+        (seated counter seat) (seated last end) old new played)
     | inr none ↦ inr (none.0, none.1, ap (λ (v : Player Kept). v.counter.book) none.2, none.3)
   ];
 }
