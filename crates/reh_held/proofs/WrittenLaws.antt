@@ -5,7 +5,7 @@ use Rattle.std.specs.List.{list_any, range_with_len}
 use Rattle.std.proofs.lemmas.Bool.{cases_lt}
 use Rattle.reh_types.proofs.BitLaws.{in_range}
 use Rattle.reh_model.proofs.Ranges.{list_any-same}
-use Rattle.std.specs.Option.{option_map, unwrap_or, IfSome}
+use Rattle.std.specs.Option.{is_some, option_map, unwrap_or, IfSome}
 use Rattle.std.specs.declared.option.Option.{Option}
 use Rattle.std.specs.declared.option.Option.TheVariants.{None, Some}
 use Rattle.std.specs.Ordering.{nat_cmp, eq_by_cmp}
@@ -41,12 +41,17 @@ insert-same words ledger n some enough =
       found None within = absurd (omega (arith, some))
       found (Some m) within = let kept : max m n ≡ m = omega arith in ap Some kept
 
--- one ledger more at most
-pub len_insert : (words : FinMap nat_cmp ℕ) (ledger width : ℕ) {after : FinMap nat_cmp ℕ} → after ≡ finite.insert words ledger width → finite.len after ≤ finite.len words + 1
-len_insert words ledger width is = subst (λ n. n ≤ finite.len words + 1) (sym (ap finite.len is ∙ len-insert nat_cmp_total words ledger width)) (either (finite.contains_key words ledger) (finite.len words)) where
-  either : (b : Bool) (n : ℕ) → cond b n (n + 1) ≤ n + 1
-  either true n = omega arith
-  either false n = omega arith
+-- no more than there may be, where the ledger is one of them or there may be one more
+pub len_within : (words : FinMap nat_cmp ℕ) (ledger width most : ℕ) {after : FinMap nat_cmp ℕ}
+    → after ≡ finite.insert words ledger width → finite.len words ≤ most
+    → (unwrap_or (finite.get words ledger) 0 ≡ 0 → finite.len words < most) → finite.len after ≤ most
+len_within words ledger width most is few room =
+    let len = ap finite.len is ∙ len-insert nat_cmp_total words ledger width in
+    subst (λ n. n ≤ most) (sym len) (either (finite.get words ledger) (finite.len words) most few room) where
+      either : (at : Option ℕ) (n most : ℕ) → n ≤ most → (unwrap_or at 0 ≡ 0 → n < most)
+          → cond (is_some at) n (n + 1) ≤ most
+      either None n most few room = let more : n < most = room refl in omega arith
+      either (Some words) n most few room = few
 
 -- the numbers of a range
 any-range : (first last e : ℕ) → list_any (nat_eq e) (range_with_len first (last + 1 - first)) ≡ is_between first last e

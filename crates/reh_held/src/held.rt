@@ -80,10 +80,10 @@ impl Held {
         }
     }
 
-    /// Makes all rows of the ledger long enough for the entry, where there are rows of fewer ledgers than there can be.
-    /// Want of memory leaves them as they were.
+    /// Makes all rows of the ledger long enough for the entry, where it has rows or fewer ledgers have some than there
+    /// can be. Want of memory leaves them as they were.
     pub fn reserve(&mut self, ledger: LedgerId, entry: u32) -> Result<(), AllocError>
-        requires { map.len self.old.words < MAX_LEDGERS }
+        requires { words_in self.old ledger ≡ 0 → map.len self.old.words < MAX_LEDGERS }
         ensures ok { OnOk result (self.new ≡ with_room self.old ledger entry) }
         ensures room { OnOk result (entry < 64 * words_in self.new ledger) }
         ensures few { map.len self.new.words ≤ map.len self.old.words + 1 }
@@ -113,11 +113,11 @@ impl Held {
         }
     }
 
-    /// The bookie holds the entry of the ledger from now on, where there are rows of fewer ledgers than there can be.
-    /// Want of memory leaves the contents as they were.
+    /// The bookie holds the entry of the ledger from now on, where the ledger has rows or fewer ledgers have some than
+    /// there can be. Want of memory leaves the contents as they were.
     pub fn add(&mut self, bookie: BookieIx, ledger: LedgerId, entry: u32) -> Result<(), AllocError>
         requires bookie { bookie < self.old.bookies }
-        requires few { map.len self.old.words < MAX_LEDGERS }
+        requires few { words_in self.old ledger ≡ 0 → map.len self.old.words < MAX_LEDGERS }
         ensures ok { OnOk result
             (self.new.contents ≡ set.insert self.old.contents (bookie, ledger, entry)) }
         ensures rows { OnOk result

@@ -13,6 +13,7 @@ pub mod PlaceLaws
 pub mod ExchangeLaws
 pub mod RecoveryLaws
 pub mod FragmentLaws
+pub mod UniqueLaws
 pub mod DeltaLaws
 pub mod AuditLaws
 pub mod Examples

@@ -92,8 +92,8 @@ module _ {s : Cluster} {es : List Event} {rs : List (List Change)} {k : ℕ} (h 
         done_within m e (accepted_now e accepted) few
 
     -- a look shows the state's clock
-    pub look_answers : (clock : ℕ) → clock ≡ s.clock → Performs m Look (Clock clock) m
-    look_answers clock shown = inl (ap Clock (shown ∙ ap (λ (x : Cluster). x.clock) (sym state_is)), refl)
+    pub look_answers : (clock : ℕ) → clock ≡ s.parts.scalars.clock → Performs m Look (Clock clock) m
+    look_answers clock shown = inl (ap Clock (shown ∙ ap (λ (x : Cluster). x.parts.scalars.clock) (sym state_is)), refl)
 
     -- each surviving swap keeps its promise
     pub kept_safe : AllSafe m

@@ -1,11 +1,12 @@
 // What holds of every session, whatever cluster it opened on.
-ghost use Rattle.std.specs.Prelude.{◌≡◌, ℕ, [], ◌∷◌, None, Some, IsSome};
+ghost use Rattle.std.specs.Prelude.{◌≡◌, ℕ, List, [], ◌∷◌, None, Some, IsSome};
 ghost use Rattle.reh_types.specs.declared.contents.Content.{Content};
 ghost use Rattle.reh_types.specs.declared.moves.Event.{Event};
 ghost use Rattle.reh_types.specs.declared.moves.Move.TheVariants.{Do, Undo};
 ghost use Rattle.reh_types.specs.declared.moves.Reply.TheVariants.{Done};
 ghost use Rattle.reh_types.specs.declared.names.Aim.{Aim};
 ghost use Rattle.reh_model.specs.Cluster.{Cluster, stop_at, stripe_at};
+ghost use Rattle.reh_model.specs.Places.{Change, IsDelta};
 ghost use Rattle.reh_model.specs.Scan.{aim_refusal, scan, post_refusal, copy_of};
 ghost use Rattle.reh_model.specs.Step.{refusal_of, after};
 ghost use Rattle.reh_model.specs.Session.{Session, state_of, reply_to, moved_session};
@@ -18,6 +19,11 @@ pub fn undo_restores()
         → moved_session (moved_session m (Do event)) Undo ≡ record m { undone = event ∷ [] } }
     ensures state { (m : Session) (event : Event)
         → state_of (moved_session (moved_session m (Do event)) Undo) ≡ state_of m }
+{}
+
+/// Two clusters have one difference: any two records that are it are equal.
+pub fn records_are_unique()
+    ensures { (s t : Cluster) (cs ds : List Change) → IsDelta s t cs → IsDelta s t ds → cs ≡ ds }
 {}
 
 /// An accepted event moves no stop of a fragment that has one, and changes nothing of the entries that such a fragment

@@ -19,7 +19,7 @@ use reh_cluster::{Changes, Ledger, State};
 use reh_held::Turn;
 use reh_meta::{Fragment, LedgerMeta};
 use reh_stripe::Striped;
-use reh_types::{Aim, BookieIx, Change, Event, LedgerId, Lock};
+use reh_types::{Aim, BookieIx, Change, Event, LedgerId, Lock, Scalar};
 use std::alloc::{AllocError, Global};
 
 /// The record of an event that is accepted: one change for each place in which the state differs after it.
@@ -95,12 +95,11 @@ fn audit(alloc: Global, state: &State) -> Result<Changes, AllocError>
     requires { refusal_of state.now Audit ≡ None }
     ensures { IfOk result (λ changes. IsDelta state.now (after state.now Audit) changes) }
 {
-    let up = state.up();
     let ledgers = state.ledgers();
     let mut parts = Vec::new(alloc);
     for (place, ledger) in ledgers.iter().enumerate() {
-        if is_news(ledger, up) {
-            let task = Some(published_of(ledger, up));
+        if is_news(state, ledger) {
+            let task = Some(published_of(state, ledger));
             parts.push(Change::Task { place, task })?;
         }
     }
@@ -204,7 +203,7 @@ fn tick(alloc: Global, state: &State, ticks: u64) -> Result<Changes, AllocError>
     ensures { IfOk result (λ changes. IsDelta state.now (after state.now (Tick ticks)) changes) }
 {
     let clock = state.clock() + ticks;
-    Changes::one(alloc, Change::Clock { clock })
+    Changes::one(alloc, Change::Scalar(Scalar::Clock(clock)))
 }
 
 /// The bookie takes that index of the last ensemble, in a new fragment from the next entry on, or in the last fragment
@@ -389,7 +388,7 @@ fn member_index(fragment: &Fragment, bookie: BookieIx) -> Option<usize>
 /// Where the ledger of that id stands; there has to be one.
 fn place_of(state: &State, ledger: LedgerId) -> usize
     requires { IsSome (cluster.ledger_at state.now ledger) }
-    ensures { position (λ g. g.id == ledger) state.now.ledgers ≡ Some result }
+    ensures { position (λ g. g.id == ledger) state.now.parts.ledgers ≡ Some result }
 {
     state.place(ledger).unwrap()
 }

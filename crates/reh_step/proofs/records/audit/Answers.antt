@@ -5,9 +5,9 @@ use Rattle.reh_step.proofs.records.audit.Goals as goal
 
 pub of-requires : goal.of-requires
 of-requires c =
-    (audit_listed c.args.state.now c.up-up.result.now c.ledgers-ledgers.result.now c.loop-place.place c.loop-place.parts.items c.up-up.ensures.well_formed c.requires c.up-up.ensures.up c.ledgers-ledgers.ensures.ledgers (omega arith) c.loop-place.invariant).rising
+    (audit_listed c.args.state.now c.ledgers-ledgers.result.now c.loop-place.place c.loop-place.parts.items c.ledgers-ledgers.ensures.well_formed c.requires c.ledgers-ledgers.ensures.ledgers (omega arith) c.loop-place.invariant).rising
 
 pub returns : goal.returns
 returns c =
     rw c.of.ensures
-    (audit_listed c.args.state.now c.up-up.result.now c.ledgers-ledgers.result.now c.loop-place.place c.loop-place.parts.items c.up-up.ensures.well_formed c.requires c.up-up.ensures.up c.ledgers-ledgers.ensures.ledgers (omega arith) c.loop-place.invariant)
+    (audit_listed c.args.state.now c.ledgers-ledgers.result.now c.loop-place.place c.loop-place.parts.items c.ledgers-ledgers.ensures.well_formed c.requires c.ledgers-ledgers.ensures.ledgers (omega arith) c.loop-place.invariant)

@@ -15,14 +15,14 @@ use Rattle.reh_step.proofs.records.roll.Goals.{Then-next-last_fragment, After-fr
 may : (c : Then-next-last_fragment) → IsRollable c.args.state.now c.index-ledgers-place.result c.args.index c.args.bookie
 may c =
     let g : Ledger = c.index-ledgers-place.result in
-    let read : g ≡ get_or c.args.state.now.ledgers c.place_of-place.result g = rw (← c.ledgers.ensures.ledgers) c.index-ledgers-place.is in
+    let read : g ≡ get_or c.args.state.now.parts.ledgers c.place_of-place.result g = rw (← c.ledgers.ensures.ledgers) c.index-ledgers-place.is in
     rollable_there c.args.state.now c.args.ledger c.args.index c.args.bookie c.place_of-place.result g c.requires.well_formed c.place_of-place.ensures read c.requires.accepted
 
 -- and of its last fragment
 may_last : (c : After-fragments) → IsSwappable c.args.state.now c.index-ledgers-place.result c.args.bookie (length c.index-ledgers-place.result.metadata.fragments - 1) c.args.index
 may_last c =
     let g : Ledger = c.index-ledgers-place.result in
-    let read : g ≡ get_or c.args.state.now.ledgers c.place_of-place.result g = rw (← c.ledgers.ensures.ledgers) c.index-ledgers-place.is in
+    let read : g ≡ get_or c.args.state.now.parts.ledgers c.place_of-place.result g = rw (← c.ledgers.ensures.ledgers) c.index-ledgers-place.is in
     rollable_last c.args.state.now c.args.ledger c.args.index c.args.bookie c.place_of-place.result g c.requires.well_formed c.place_of-place.ensures read c.requires.accepted
 
 pub with_fragment-requires-clause-unended : goal.with_fragment-requires-clause-unended
@@ -54,7 +54,7 @@ pub returns-then-next-last_fragment : goal.returns-then-next-last_fragment
 returns-then-next-last_fragment c =
     let s : Cluster = c.args.state.now in
     let g : Ledger = c.index-ledgers-place.result in
-    let read : g ≡ get_or s.ledgers c.place_of-place.result g = rw (← c.ledgers.ensures.ledgers) c.index-ledgers-place.is in
+    let read : g ≡ get_or s.parts.ledgers c.place_of-place.result g = rw (← c.ledgers.ensures.ledgers) c.index-ledgers-place.is in
     let made : c.in_ok-rolled.rolled ≡ next_version (rolled_metadata s c.args.index c.args.bookie g) =
     rolled_over s g c.next_entry-next.result c.behind-stored.inside.first c.next_entry-next.ensures (ap (λ (x : Fragment). x.first) (c.behind-stored.view_is ∙ c.last_fragment.ensures.last))
     c.args.index c.args.bookie c.metadata-metadata.result.now c.in_ok-rolled.rolled c.metadata-metadata.ensures c.if-next-last_fragment.true c.in_ok-rolled.ensures in
@@ -74,7 +74,7 @@ pub returns : goal.returns
 returns c =
     let s : Cluster = c.args.state.now in
     let g : Ledger = c.index-ledgers-place.result in
-    let read : g ≡ get_or s.ledgers c.place_of-place.result g = rw (← c.ledgers.ensures.ledgers) c.index-ledgers-place.is in
+    let read : g ≡ get_or s.parts.ledgers c.place_of-place.result g = rw (← c.ledgers.ensures.ledgers) c.index-ledgers-place.is in
     let last : length c.fragments.result.now - 1 ≡ length g.metadata.fragments - 1 = ap (λ (fs : List Fragment). length fs - 1) (c.fragments.ensures.fragments ∙ ap (λ (m : Metadata). m.fragments) c.metadata-metadata.ensures) in
     let made : c.in_ok-rolled-2.rolled ≡ next_version (rolled_metadata s c.args.index c.args.bookie g) =
     rolled_in_place s g c.next_entry-next.result c.behind-stored.inside.first c.next_entry-next.ensures (ap (λ (x : Fragment). x.first) (c.behind-stored.view_is ∙ c.last_fragment.ensures.last))

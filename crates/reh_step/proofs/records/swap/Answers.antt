@@ -13,7 +13,7 @@ may : (c : goal.After-with_member-arg-1) → IsSwappable c.args.state.now c.inde
 may c =
     let aim : Aim = c.args.aim.now in
     let g : Ledger = c.index-ledgers-place.result in
-    let read : g ≡ get_or c.args.state.now.ledgers c.place_of-place.result g = rw (← c.ledgers.ensures.ledgers) c.index-ledgers-place.is in
+    let read : g ≡ get_or c.args.state.now.parts.ledgers c.place_of-place.result g = rw (← c.ledgers.ensures.ledgers) c.index-ledgers-place.is in
     swappable_there c.args.state.now aim.worker aim.ledger aim.fragment aim.index c.args.version c.place_of-place.result g c.requires.well_formed c.place_of-place.ensures read c.requires.accepted
 
 pub with_member-requires-clause-fragment : goal.with_member-requires-clause-fragment
@@ -33,7 +33,7 @@ returns c =
     let s : Cluster = c.args.state.now in
     let aim : Aim = c.args.aim.now in
     let g : Ledger = c.index-ledgers-place.result in
-    let read : g ≡ get_or s.ledgers c.place_of-place.result g = rw (← c.ledgers.ensures.ledgers) c.index-ledgers-place.is in
+    let read : g ≡ get_or s.parts.ledgers c.place_of-place.result g = rw (← c.ledgers.ensures.ledgers) c.index-ledgers-place.is in
     let made : c.in_ok-metadata.metadata ≡ next_version (with_member_at g.metadata aim.fragment aim.index aim.worker) = rw c.metadata-stored.ensures at c.in_ok-metadata.ensures in
     made_delta s _ c.one.result _ c.one.ensures
     (swap_delta s aim.worker aim.ledger aim.fragment aim.index c.args.version c.place_of-place.result g c.in_ok-metadata.metadata c.requires.well_formed c.place_of-place.ensures read made c.requires.accepted)

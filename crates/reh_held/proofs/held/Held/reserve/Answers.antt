@@ -1,13 +1,14 @@
 -- One table is written, with what was held.
-use Rattle.std.proofs.Common.{◌≡◌, ◌+◌, ◌/◌, ◌≤◌, ℕ, List, sym, ap, subst, ◌∙◌, arith}
+use Rattle.std.proofs.Common.{◌≡◌, ◌+◌, ◌/◌, ◌<◌, ◌≤◌, ℕ, List, sym, ap, subst, ◌∙◌, arith}
 use Rattle.std.specs.Prelude.{max}
 use Rattle.std.specs.FinMap as finite
+use Rattle.reh_types.specs.declared.limits.TheConstants.{MAX_LEDGERS}
 use Rattle.reh_model.specs.Contents.{has}
 use Rattle.reh_held.specs.Tables.{TableValue, IsTable}
 use Rattle.reh_held.specs.Kept.{words_of}
 use Rattle.reh_held.specs.Values.{HeldValue, words_in}
 use Rattle.reh_held.proofs.HeldLaws.{words-found}
-use Rattle.reh_held.proofs.WrittenLaws.{written-kept, written-contents, written-words, insert-same, len_insert}
+use Rattle.reh_held.proofs.WrittenLaws.{written-kept, written-contents, written-words, insert-same, len_within}
 use Rattle.reh_held.proofs.held.Held.reserve.Goals as goal
 
 pub returns-then-width-words-clause-ok : goal.returns-then-width-words-clause-ok
@@ -21,11 +22,19 @@ returns-then-width-words-clause-ok c =
 pub invariant_of-self-2 : goal.invariant_of-self-2
 invariant_of-self-2 c =
     let tables : List (ℕ × TableValue) = c.self.inside.tables.entries in
-    let still : IsTable c.self.inside.bookies c.in_ok-table.table = subst (λ (v : HeldValue). IsTable v.bookies c.in_ok-table.table) (sym c.self.view_is) c.in_ok-table.ensures.table in
+    let table : TableValue = c.in_ok-table.table in
+    let updated = c.in_ok-insert.ensures.updates.0 in
+    let still : IsTable c.self.inside.bookies table =
+    subst (λ (v : HeldValue). IsTable v.bookies table) (sym c.self.view_is) c.in_ok-table.ensures.table in
+    let words = written-words tables c.insert.new.self.entries c.args.ledger table updated in
+    let room =
+    subst (λ (v : HeldValue). words_in v c.args.ledger ≡ 0 → finite.len v.words < MAX_LEDGERS)
+    (sym c.self.view_is) c.requires in
     record {
-      few =
-          omega (arith, len_insert (words_of tables) c.args.ledger c.in_ok-table.table.width (written-words tables c.insert.new.self.entries c.args.ledger c.in_ok-table.table c.in_ok-insert.ensures.updates.0), ap (λ (v : HeldValue). finite.len v.words) c.self.view_is, c.requires);
-      tables = written-kept tables c.insert.new.self.entries c.args.ledger c.in_ok-table.table c.in_ok-insert.ensures.updates.0 c.self.inside.bookies still c.self.invariant.tables;
+      few = len_within (words_of tables) c.args.ledger table.width MAX_LEDGERS words c.self.invariant.few room;
+      tables =
+          written-kept tables c.insert.new.self.entries c.args.ledger table updated c.self.inside.bookies still
+          c.self.invariant.tables;
     }
 
 pub returns-clause-ok : goal.returns-clause-ok
@@ -51,4 +60,10 @@ returns-clause-room c =
 pub returns-clause-few : goal.returns-clause-few
 returns-clause-few c =
     let tables : List (ℕ × TableValue) = c.self.inside.tables.entries in
-    omega (arith, len_insert (words_of tables) c.args.ledger c.in_ok-table.table.width (written-words tables c.insert.new.self.entries c.args.ledger c.in_ok-table.table c.in_ok-insert.ensures.updates.0), ap (λ (v : HeldValue). finite.len v.words) c.self.view_is)
+    let table : TableValue = c.in_ok-table.table in
+    let words =
+    written-words tables c.insert.new.self.entries c.args.ledger table c.in_ok-insert.ensures.updates.0 in
+    let before : ℕ = finite.len (words_of tables) in
+    let more =
+    len_within (words_of tables) c.args.ledger table.width (before + 1) words (omega arith) (λ _. omega arith) in
+    omega (arith, more, ap (λ (v : HeldValue). finite.len v.words) c.self.view_is)
