@@ -1,21 +1,32 @@
--- Records of one change, and loops over ledgers that list changes.
+-- What answers an event, and loops over ledgers that list changes.
 use Rattle.std.proofs.Common.{◌≡◌, ◌<◌, ◌+◌, ℕ, Bool, true, false, List, ◌∷◌, ◌++◌, ◌≤◌, length, get_or, drop, sym, ap, subst, ◌∙◌}
-use Rattle.std.specs.Prelude.{if◌then◌else◌, IfOk, Result, None, Some}
+use Rattle.std.specs.Prelude.{if◌then◌else◌, None, Some, Ok}
 use Rattle.std.proofs.lemmas.List.{append-nil, drop_all, drop_more}
-use Rattle.std.proofs.lemmas.Result.{IfOk-weaker}
 use Rattle.reh_types.specs.Sets.{Set, numbers}
 use Rattle.reh_types.specs.declared.changes.Change.TheVariants.{Task, Lock}
 use Rattle.reh_model.specs.Cluster.{Cluster, Ledger, is_locked_by}
 use Rattle.reh_model.specs.Audit.{is_news, published_members}
+use Rattle.reh_types.specs.declared.moves.Event.{Event}
 use Rattle.reh_types.specs.declared.moves.Event.TheVariants.{Audit, Expire}
 use Rattle.reh_model.specs.WellFormed.{IsWellFormed}
 use Rattle.reh_model.specs.Step.{refusal_of, after}
 use Rattle.reh_model.specs.Places.{Change, IsDelta}
-use Rattle.reh_model.proofs.DeltaLaws.{changes_where, lost_locks, expire_delta, news_tasks, audit_delta}
+use Rattle.reh_scan.specs.declared.places.Found.{Found}
+use Rattle.reh_scan.specs.Places.{IsFound}
+use Rattle.reh_step.specs.Records.{IsRecordOf, IsDecision}
+use Rattle.reh_model.proofs.DeltaLaws.{changes_where, lost_locks, expire_delta, news_tasks, audit_delta, stands}
 
--- a record of changes that are the difference of two clusters
-pub made_delta : {E : Type 0} (s t : Cluster) (result : Result (List Change) E) (made : List Change) → IfOk result (λ changes. changes ≡ made) → IsDelta s t made → IfOk result (λ changes. IsDelta s t changes)
-made_delta s t result made is_made delta = IfOk-weaker result (λ changes. changes ≡ made) (λ changes. IsDelta s t changes) (λ changes is. subst (λ (cs : List Change). IsDelta s t cs) (sym is) delta) is_made
+-- an accepted event is answered by its record
+pub decided : (s : Cluster) (event : Event) (made changes : List Change) → refusal_of s event ≡ None → changes ≡ made → IsRecordOf s event made → IsDecision s event (Ok changes)
+decided s event made changes none is delta = record {
+  accepted = none;
+  delta = subst (λ (cs : List Change). IsRecordOf s event cs) (sym is) delta;
+  err = tt;
+}
+
+-- the ledger that was found stands at its place
+pub found_read : (s : Cluster) (l : ℕ) (found : Found) → IsFound s l found → found.ledger.now ≡ get_or s.ledgers found.place found.ledger.now
+found_read s l found is = (stands s l found.place found.ledger.now is.well_formed is.place is.ledger).read
 
 -- the changes of the ledgers from place k on begin with the one that stands there
 module _ (test : Ledger → Bool) (change : ℕ → Ledger → Change) (gs : List Ledger) (k : ℕ) (g : Ledger) (within : k < length gs) (is : g ≡ get_or gs k g) where

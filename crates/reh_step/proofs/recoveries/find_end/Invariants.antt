@@ -4,7 +4,7 @@ use Rattle.reh_types.specs.declared.limits.TheConstants.{ENTRY_END}
 use Rattle.reh_model.specs.Metadata.{last_fragment}
 use Rattle.reh_model.specs.Cluster.{is_readable}
 use Rattle.reh_model.specs.Recovery.{up_writes}
-use Rattle.reh_step.proofs.recoveries.check_answers.Given as goal
+use Rattle.reh_step.proofs.recoveries.find_end.Given as goal
 
 abbrev pub invariant-loop-rows : goal.invariant-loop-rows
 invariant-loop-rows l = record {

@@ -4,8 +4,9 @@ use Rattle.reh_types.specs.declared.limits.TheConstants.{ENTRY_END}
 use Rattle.reh_model.specs.Metadata.{Metadata, last_fragment}
 use Rattle.reh_model.specs.Cluster.{Cluster, Ledger, is_readable}
 use Rattle.reh_model.specs.Recovery.{up_writes}
+use Rattle.reh_model.proofs.RecoveryLaws.{recovered_end-is}
 use Rattle.reh_step.proofs.WalkLaws.{readable_below, one_more, last_readable, up_writes-marked, stops_before_end, undecided_at_end, decided_at_end}
-use Rattle.reh_step.proofs.recoveries.check_answers.Goals as goal
+use Rattle.reh_step.proofs.recoveries.find_end.Goals as goal
 
 pub returns-then-count_registered-ack_quorum : goal.returns-then-count_registered-ack_quorum
 returns-then-count_registered-ack_quorum c =
@@ -101,5 +102,7 @@ returns c =
     ∙ sym c.count_registered-2.ensures in
     let acks : g.metadata.ack_quorum ≡ c.ack_quorum-2.result = ap (λ (m : Metadata). m.ack_quorum) (sym c.metadata-metadata.ensures) ∙ sym c.ack_quorum-2.ensures in
     let writes : g.metadata.write_quorum ≡ c.write_quorum.result = ap (λ (m : Metadata). m.write_quorum) (sym c.metadata-metadata.ensures) ∙ sym c.write_quorum.ensures in
-    let reaches : g.metadata.write_quorum - g.metadata.ack_quorum + 1 ≤ length (up_writes s g e) = omega (arith, counted, acks, writes, c.if-count_registered-decisive.false) in
-    decided_at_end s g e c.loop-rows.invariant.from c.loop-rows.invariant.passed c.loop-rows.invariant.enough here reaches
+    let reaches : g.metadata.write_quorum - g.metadata.ack_quorum + 1 ≤ length (up_writes s g e) = omega (arith, counted, acks, writes, c.if-count_registered-decisive.false) in (
+      decided_at_end s g e c.loop-rows.invariant.from c.loop-rows.invariant.passed c.loop-rows.invariant.enough here reaches,
+      recovered_end-is s g e c.loop-rows.invariant.from c.loop-rows.invariant.passed here,
+    )
