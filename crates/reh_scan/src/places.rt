@@ -58,11 +58,7 @@ pub fn find_ledger(state: &State, ledger: LedgerId) -> Result<Found<'_>, Refusal
 }
 
 /// The ledger of that id, if the worker holds its lock.
-pub fn find_owned(
-    state: &State,
-    worker: BookieIx,
-    ledger: LedgerId,
-) -> Result<Found<'_>, Refusal>
+pub fn find_owned(state: &State, worker: BookieIx, ledger: LedgerId) -> Result<Found<'_>, Refusal>
     ensures { MatchResult result
         (λ found. (model.no_bookie state.now worker ≡ None)
         × IsFound state.now ledger found

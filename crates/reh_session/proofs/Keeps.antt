@@ -1,6 +1,7 @@
 -- Each move is answered as the machine says, and keeps what a session keeps.
-use Rattle.std.proofs.Common.{◌≡◌, ◌<◌, ◌≤◌, ◌+◌, ◌-◌, ℕ, zero, suc, List, [], ◌∷◌, ◌++◌, length, take, drop, get_or, set, sym, ap, subst, ◌∙◌, refl, arith, Option, Some, None, IsSome, is_some, inl, inr, length-append}
+use Rattle.std.proofs.Common.{◌≡◌, ◌<◌, ◌≤◌, ◌+◌, ◌-◌, ℕ, zero, suc, List, [], ◌∷◌, ◌++◌, length, take, drop, get_or, set, sym, ap, subst, ◌∙◌, refl, arith, Option, Some, None, IsSome, is_some, inl, inr, nat_le, true, false, length-append}
 use Rattle.std.specs.Prelude.{unwrap_or}
+use Rattle.std.proofs.lemmas.Bool.Decides.{nat_tests}
 use Rattle.std.proofs.lemmas.List.{take_more, drop_more, take_all, drop_all, take_more_set, take-set, drop-set, drop-set-lt, drop-drop, drop-take, take-take, take-append-drop, length-take-le, length-drop, length-set}
 use Rattle.std.proofs.Math.Seq.{take-add}
 use Rattle.reh_types.specs.declared.contents.Content.{Content}
@@ -11,7 +12,7 @@ use Rattle.reh_types.specs.declared.moves.Move.TheVariants.{Do, Post, Undo, Redo
 use Rattle.reh_types.specs.declared.moves.Reply.{Reply}
 use Rattle.reh_types.specs.declared.moves.Reply.TheVariants.{Done, Clock, Refused}
 use Rattle.reh_types.specs.declared.refusals.Refusal.{Refusal}
-use Rattle.reh_types.specs.declared.refusals.Refusal.TheVariants.{NothingToUndo, NothingToRedo}
+use Rattle.reh_types.specs.declared.refusals.Refusal.TheVariants.{Full, NothingToUndo, NothingToRedo}
 use Rattle.reh_model.specs.Cluster.{Cluster}
 use Rattle.reh_model.specs.WellFormed.{IsWellFormed}
 use Rattle.reh_model.specs.Places.{Change, exchanged, left, Fits, IsDelta}
@@ -23,7 +24,7 @@ use Rattle.reh_model.specs.Session.{Session, replay, state_of, reply_to, moved_s
 use Rattle.reh_model.proofs.SessionLaws.{replay-append, reply_unless-some}
 use Rattle.reh_model.proofs.ExchangeLaws.{IsDelta-left}
 use Rattle.reh_model.proofs.SwapLaws.{CanRedoAll, CanRedoAll-performs, CanRedoAll-run, all_safe}
-use Rattle.reh_model.proofs.AcceptedLaws.{done_within, refused_first}
+use Rattle.reh_model.proofs.AcceptedLaws.{done_within, full_refused, refused_first}
 use Rattle.reh_model.proofs.PostLaws.{posted_first}
 use Rattle.reh_step.specs.Records.{IsRecordOf}
 use Rattle.reh_session.specs.Kept.{led_back, led_on, session_of, Trail, Ahead, IsKept}
@@ -102,11 +103,17 @@ module _ {s : Cluster} {es : List Event} {rs : List (List Change)} {k : ℕ} (h 
     pub act_done : (e : Event) → refusal_of s e ≡ None → k < MAX_EVENTS → reply_to m (Do e) ≡ Done
     act_done e accepted room = done_within m e (accepted_now e accepted) (omega (arith, count_now))
 
+    -- and refused, where there is none
+    pub act_full : (e : Event) → refusal_of s e ≡ None → nat_le MAX_EVENTS (length m.done) ≡ true → Performs m (Do e) (Refused Full) m
+    act_full e accepted full = inl (sym (full_refused m e (accepted_now e accepted) full), refl)
+
     -- where there is no record of it, it is refused, or memory is wanted
-    pub act_unmade : (e : Event) (r : Refusal) → k < MAX_EVENTS → r ≡ or_no_memory (refusal_of s e) → Performs m (Do e) (Refused r) m
+    pub act_unmade : (e : Event) (r : Refusal) → nat_le MAX_EVENTS (length m.done) ≡ false → r ≡ or_no_memory (refusal_of s e) → Performs m (Do e) (Refused r) m
     act_unmade e r room tells =
         elim (refusal_of s e) as (λ o. refusal_of s e ≡ o → r ≡ or_no_memory o → Performs m (Do e) (Refused r) m) [
-          | None ↦ λ accepted wants. inr (refl, ap Refused wants, act_done e accepted room, refl)
+          | None ↦ λ accepted wants.
+              let few : k < MAX_EVENTS = grind (arith, nat_tests, room, count_now) in
+              inr (refl, ap Refused wants, act_done e accepted few, refl)
           | Some refusal ↦ λ refused same. act_refused e r (refused ∙ ap Some (sym same))
         ] refl tells
 

@@ -1,5 +1,5 @@
 -- The words that turn are the only differences.
-use Rattle.std.proofs.Common.{◌≡◌, ℕ, List, ◌<◌, ◌*◌, ◌∙◌, ◌++◌, All, ap, sym, subst}
+use Rattle.std.proofs.Common.{ℕ, List, ◌<◌, ◌*◌, ◌∙◌, ◌++◌, All, ap, sym, subst}
 use Rattle.reh_types.specs.Sets.{union}
 use Rattle.reh_types.specs.declared.names.Aim.{Aim}
 use Rattle.reh_held.specs.Turns.{IsTurning}

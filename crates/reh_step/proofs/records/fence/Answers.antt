@@ -1,5 +1,5 @@
 -- The metadata and the due tick that goes are the only differences; there is a next version.
-use Rattle.std.proofs.Common.{◌≡◌, get_or}
+use Rattle.std.proofs.Common.{◌≡◌}
 use Rattle.reh_types.specs.declared.names.LedgerState.TheVariants.{InRecovery}
 use Rattle.reh_types.specs.declared.moves.Event.TheVariants.{Fence}
 use Rattle.reh_model.specs.Metadata.{next_version, with_state}

@@ -6,6 +6,9 @@ use Rattle.reh_model.specs.Session.{Session, reply_to, moved_session}
 use Rattle.reh_session.proofs.Keeps.{accepted_inside, record_inside, count_now, act_keeps, act_moves, act_done}
 use Rattle.reh_session.proofs.sessions.Session.make.Goals as goal
 
+pub exchange-requires : goal.exchange-requires
+exchange-requires c = (record_inside c.self.invariant _ c.self.view_is c.args.event c.args.changes c.requires.record_of).fits
+
 pub invariant_of-self-2 : goal.invariant_of-self-2
 invariant_of-self-2 c =
     act_keeps c.self.invariant c.args.event (accepted_inside c.self.invariant _ c.self.view_is c.args.event c.requires.accepted) (omega (arith, count_now c.self.invariant _ c.self.view_is, c.requires.room)) _ (record_inside c.self.invariant _ c.self.view_is c.args.event c.args.changes c.requires.record_of) c.exchange.new.changes _ _ _
