@@ -25,25 +25,25 @@ pub fn audit(alloc: Global, state: &State) -> Result<Vec<(LedgerId, BookieSet)>,
     if !has_news(state) {
         return Err(Refusal::NothingToPublish);
     }
-    let tasks = published_tasks(alloc, state.ledgers(), state.up())?;
+    let tasks = published_tasks(alloc, state, state.ledgers())?;
     Ok(tasks)
 }
 
 /// The tasks that an audit of these ledgers changes.
 fn published_tasks(
     alloc: Global,
+    state: &State,
     ledgers: &[Ledger],
-    up: &BookieSet,
 ) -> Result<Vec<(LedgerId, BookieSet)>, AllocError>
     requires { All HasBookies ledgers.now }
     ensures { IfOk result (λ tasks. tasks.items
-        ≡ map (λ g. (g.id, model.published_members up.now g))
-        (filter (model.is_news up.now) ledgers.now)) }
+        ≡ map (λ g. (g.id, model.published_members state.now g))
+        (filter (model.is_news state.now) ledgers.now)) }
 {
     let mut tasks = Vec::new(alloc);
     for ledger in ledgers {
-        if is_news(ledger, up) {
-            tasks.push((ledger.id(), published_of(ledger, up)))?;
+        if is_news(state, ledger) {
+            tasks.push((ledger.id(), published_of(state, ledger)))?;
         }
     }
     Ok(tasks)
@@ -51,24 +51,24 @@ fn published_tasks(
 
 /// Whether an audit changes some task.
 pub fn has_news(state: &State) -> bool
-    ensures { result ≡ list_any (model.is_news state.now.up) state.now.ledgers }
+    ensures { result ≡ list_any (model.is_news state.now) state.now.parts.ledgers }
 {
-    any_news(state.ledgers(), state.up())
+    any_news(state, state.ledgers())
 }
 
 /// Whether an audit changes the task of one of these ledgers.
-fn any_news(ledgers: &[Ledger], up: &BookieSet) -> bool
+fn any_news(state: &State, ledgers: &[Ledger]) -> bool
     requires { All HasBookies ledgers.now }
-    ensures { result ≡ list_any (model.is_news up.now) ledgers.now }
+    ensures { result ≡ list_any (model.is_news state.now) ledgers.now }
 {
-    ledgers.iter().any(|ledger| is_news(ledger, up))
+    ledgers.iter().any(|ledger| is_news(state, ledger))
 }
 
 /// Whether an audit changes the ledger's task: not all missing members are in it, of which each has to be one of the
 /// 64 bookies that there can be.
-pub fn is_news(ledger: &Ledger, up: &BookieSet) -> bool
+pub fn is_news(state: &State, ledger: &Ledger) -> bool
     requires { HasBookies ledger.now }
-    ensures { result ≡ model.is_news up.now ledger.now }
+    ensures { result ≡ model.is_news state.now ledger.now }
 {
-    !missing_of(ledger, up).is_subset(&ledger.task_set())
+    !missing_of(state, ledger).is_subset(&ledger.task_set())
 }

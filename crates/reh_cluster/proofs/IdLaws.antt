@@ -6,8 +6,8 @@ use Rattle.std.proofs.lemmas.List.Folds.{find_at}
 use Rattle.std.proofs.lemmas.Option.{slice_get_past}
 use Rattle.std.specs.List.{find, position_or_len}
 use Rattle.reh_types.specs.declared.changes.Change.TheVariants.{Metadata, Task, Lock}
-use Rattle.reh_model.specs.Cluster.{Cluster, Ledger}
-use Rattle.reh_model.specs.Places.{Change, change_at, put, exchanged}
+use Rattle.reh_model.specs.Cluster.{Parts, Ledger}
+use Rattle.reh_model.specs.Places.{Change, change_at, put, put_all}
 use Rattle.reh_model.proofs.LedgerLaws.{KeepsId}
 use Rattle.reh_cluster.proofs.NamesLemmas.{position-map}
 
@@ -40,12 +40,12 @@ ids-change_at change keeps [] k = refl
 ids-change_at change keeps (g ∷ gs) zero = ap (λ n. n ∷ map (λ g. g.id) gs) (keeps g)
 ids-change_at change keeps (g ∷ gs) (suc k) = ap (λ ns. g.id ∷ ns) (ids-change_at change keeps gs k)
 
-ids-put : (s : Cluster) (c : Change) → map (λ g. g.id) (put s c).ledgers ≡ map (λ g. g.id) s.ledgers
-ids-put s (Metadata i metadata) = ids-change_at _ (λ g. refl) s.ledgers i
-ids-put s (Task i task) = ids-change_at _ (λ g. refl) s.ledgers i
-ids-put s (Lock i lock) = ids-change_at _ (λ g. refl) s.ledgers i
-ids-put s c = refl
+ids-put : (p : Parts) (c : Change) → map (λ g. g.id) (put p c).ledgers ≡ map (λ g. g.id) p.ledgers
+ids-put p (Metadata i metadata) = ids-change_at _ (λ g. refl) p.ledgers i
+ids-put p (Task i task) = ids-change_at _ (λ g. refl) p.ledgers i
+ids-put p (Lock i lock) = ids-change_at _ (λ g. refl) p.ledgers i
+ids-put p c = refl
 
-pub ids-exchanged : (s : Cluster) (cs : List Change) → map (λ g. g.id) (exchanged s cs).ledgers ≡ map (λ g. g.id) s.ledgers
-ids-exchanged s [] = refl
-ids-exchanged s (c ∷ cs) = ids-exchanged (put s c) cs ∙ ids-put s c
+pub ids-put_all : (p : Parts) (cs : List Change) → map (λ g. g.id) (put_all p cs).ledgers ≡ map (λ g. g.id) p.ledgers
+ids-put_all p [] = refl
+ids-put_all p (c ∷ cs) = ids-put_all (put p c) cs ∙ ids-put p c

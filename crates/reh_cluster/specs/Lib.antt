@@ -1,3 +1,4 @@
+pub mod Kept
 pub mod Names
 pub mod Parts
 pub mod State

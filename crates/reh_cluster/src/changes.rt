@@ -10,7 +10,7 @@ use std::marker::Model;
 /// Changes of a state's places, in the places' order and at most one of each; contracts see the list of them.
 #[derive(Drop)]
 pub struct Changes {
-    pub(crate) parts: Vec<Change<LedgerMeta>>,
+    pub(crate) list: Vec<Change<LedgerMeta>>,
 }
 
 impl Model for Changes {
@@ -19,35 +19,35 @@ impl Model for Changes {
 
     ghost Value = { List places.Change };
 
-    ghost view = { λ changes. changes.parts.items };
+    ghost view = { λ changes. changes.list.items };
 
-    ghost invariant = { λ changes. places.AreRising (map places.place_of changes.parts.items) };
+    ghost invariant = { λ changes. places.AreRising (map places.place_of changes.list.items) };
 }
 
 impl Changes {
     /// The record of these changes, whose places have to be in order, each once: registrations, metadata, tasks, locks,
-    /// words and the clock, and each kind by its numbers.
-    pub fn of(parts: Vec<Change<LedgerMeta>>) -> Changes
-        requires { AreRising (map place_of parts.items) }
-        ensures { result ≡ parts.items }
+    /// words and scalars, and each kind by its numbers.
+    pub fn of(list: Vec<Change<LedgerMeta>>) -> Changes
+        requires { AreRising (map place_of list.items) }
+        ensures { result ≡ list.items }
     {
-        Changes { parts }
+        Changes { list }
     }
 
     /// The record of one change, with room for no more.
     pub fn one(alloc: Global, change: Change<LedgerMeta>) -> Result<Changes, AllocError>
         ensures { IfOk result (λ changes. changes ≡ change ∷ []) }
     {
-        let mut parts = Vec::with_capacity(alloc, 1)?;
-        parts.push(change)?;
-        Ok(Changes { parts })
+        let mut list = Vec::with_capacity(alloc, 1)?;
+        list.push(change)?;
+        Ok(Changes { list })
     }
 
     /// The changes, in order.
-    pub fn parts(&self) -> &[Change<LedgerMeta>]
-        ensures parts { result.now ≡ self.now }
+    pub fn as_slice(&self) -> &[Change<LedgerMeta>]
+        ensures list { result.now ≡ self.now }
         ensures rising { AreRising (map place_of self.now) }
     {
-        &self.parts
+        &self.list
     }
 }

@@ -6,6 +6,7 @@ mod changes;
 mod exchanges;
 mod ledgers;
 mod names;
+mod parts;
 mod states;
 
 pub use changes::Changes;

@@ -7,17 +7,19 @@ ghost use Rattle.reh_held.specs.Rows.{is_set};
 ghost use Rattle.reh_held.specs.Turns.{IsTurning};
 ghost use Rattle.reh_model.specs.Contents.{copies_of, count_held, greatest_held};
 ghost use Rattle.reh_model.specs.Cluster as model;
-ghost use Rattle.reh_model.specs.Cluster.{words_among};
+ghost use Rattle.reh_model.specs.Cluster.{cluster_of, words_among};
 ghost use Rattle.reh_model.specs.Places.{Fits, exchanged, left};
 ghost use Rattle.reh_model.specs.WellFormed.{IsWellFormed};
+ghost use Rattle.reh_cluster.specs.Parts.{HasRows};
 
 use crate::changes::Changes;
 use crate::exchanges::exchange_all;
 use crate::ledgers::Ledger;
 use crate::names::Names;
+use crate::parts::Parts;
 use indexmap::IndexSet;
 use reh_held::{Held, Turn};
-use reh_types::{BookieIx, BookieSet, LedgerId};
+use reh_types::{BookieIx, BookieSet, LedgerId, Scalars};
 use std::alloc::{AllocError, Global};
 use std::marker::Model;
 
@@ -28,12 +30,9 @@ use std::marker::Model;
 pub struct State {
     names: Names,
     grace: u64,
-    up: BookieSet,
     // The ids of the ledgers, by which one is found.
     ids: IndexSet<u64>,
-    ledgers: Vec<Ledger>,
-    held: Held,
-    clock: u64,
+    parts: Parts,
 }
 
 impl Model for State {
@@ -49,8 +48,6 @@ impl Model for State {
 }
 
 impl State {
-    ghost use Rattle.reh_cluster.specs.Parts.{HasRows, cluster_of};
-
     /// The state at clock 0 with these names, registered bookies, grace in ticks, ledgers in picture order with their ids, and contents.
     pub fn build(
         names: Names,
@@ -65,14 +62,17 @@ impl State {
         requires rows { HasRows (length names) ledgers.items held }
         ensures { result ≡ cluster_of names up grace ledgers.items held.contents }
     {
+        let scalars = Scalars::new();
         State {
             names,
             grace,
-            up,
             ids,
-            ledgers,
-            held,
-            clock: 0,
+            parts: Parts {
+                up,
+                ledgers,
+                held,
+                scalars,
+            },
         }
     }
 
@@ -83,11 +83,8 @@ impl State {
         Ok(State {
             names: self.names.clone_in()?,
             grace: self.grace,
-            up: self.up.copied(),
             ids: self.ids.clone()?,
-            ledgers: self.ledgers.clone()?,
-            held: self.held.clone_in()?,
-            clock: self.clock,
+            parts: self.parts.clone_in()?,
         })
     }
 
@@ -103,28 +100,31 @@ impl State {
     pub fn is_up(&self, bookie: BookieIx) -> bool
         ensures { result ≡ model.is_up self.now bookie }
     {
-        self.up.contains(bookie)
+        let parts = &self.parts;
+        parts.up.contains(bookie)
     }
 
     /// The registered bookies.
     pub fn up(&self) -> &BookieSet
-        ensures up { result.now ≡ self.now.up }
+        ensures up { result.now ≡ self.now.parts.up }
         ensures well_formed { IsWellFormed self.now }
     {
-        &self.up
+        let parts = &self.parts;
+        &parts.up
     }
 
     /// The ledgers, in picture order.
     pub fn ledgers(&self) -> &[Ledger]
-        ensures ledgers { result.now ≡ self.now.ledgers }
+        ensures ledgers { result.now ≡ self.now.parts.ledgers }
         ensures well_formed { IsWellFormed self.now }
     {
-        &self.ledgers
+        let parts = &self.parts;
+        &parts.ledgers
     }
 
     /// The place of the ledger of that id, if there is one.
     pub fn place(&self, ledger: LedgerId) -> Option<usize>
-        ensures { result ≡ position (λ g. g.id == ledger) self.now.ledgers }
+        ensures { result ≡ position (λ g. g.id == ledger) self.now.parts.ledgers }
     {
         self.ids.get_index_of(&ledger.0)
     }
@@ -134,43 +134,49 @@ impl State {
         ensures { option_copied result ≡ model.ledger_at self.now ledger }
     {
         let place = self.place(ledger)?;
-        Some(&self.ledgers[place])
+        let parts = &self.parts;
+        Some(&parts.ledgers[place])
     }
 
     /// Whether the bookie, registered or not, holds the entry of the ledger.
     pub fn holds(&self, bookie: BookieIx, ledger: LedgerId, entry: u32) -> bool
         ensures { result ≡ model.holds self.now bookie ledger entry }
     {
-        self.held.holds(bookie, ledger, entry)
+        let parts = &self.parts;
+        parts.held.holds(bookie, ledger, entry)
     }
 
     /// The words of the bookie's row of the ledger: bit e % 64 of word e / 64 says whether it holds entry e.
     pub fn row(&self, bookie: BookieIx, ledger: LedgerId) -> &[u64]
         ensures { (e : ℕ) → is_set result.now e ≡ model.holds self.now bookie ledger e }
     {
-        self.held.row(bookie, ledger)
+        let parts = &self.parts;
+        parts.held.row(bookie, ledger)
     }
 
     /// How many entries the bookie holds, of all ledgers.
     pub fn count(&self, bookie: BookieIx) -> usize
-        ensures { result ≡ count_held self.now.held bookie }
+        ensures { result ≡ count_held self.now.parts.held bookie }
     {
-        self.held.count(bookie)
+        let parts = &self.parts;
+        parts.held.count(bookie)
     }
 
     /// The greatest entry of the ledger that any bookie holds, if there is one.
     pub fn greatest(&self, ledger: LedgerId) -> Option<u32>
-        ensures { result ≡ greatest_held self.now.held ledger }
+        ensures { result ≡ greatest_held self.now.parts.held ledger }
     {
-        self.held.greatest(ledger)
+        let parts = &self.parts;
+        parts.held.greatest(ledger)
     }
 
     /// The clock, in ticks.
     pub fn clock(&self) -> u64
-        ensures clock { result ≡ self.now.clock }
-        ensures limit { self.now.clock ≤ CLOCK_END }
+        ensures clock { result ≡ self.now.parts.scalars.clock }
+        ensures limit { self.now.parts.scalars.clock ≤ CLOCK_END }
     {
-        self.clock
+        let parts = &self.parts;
+        parts.scalars.clock
     }
 
     /// The grace of an open ledger, in ticks.
@@ -191,11 +197,12 @@ impl State {
         entries: &[u32],
     ) -> Result<Vec<Turn>, AllocError>
         requires bookie { bookie < length self.now.names }
-        requires entries { All (λ e. e < 64 * words_among self.now.ledgers ledger) entries.now }
-        ensures { IfOk result (λ turns. IsTurning (words_among self.now.ledgers ledger) bookie ledger self.now.held
-            (set.union self.now.held (copies_of bookie ledger entries.now)) turns.items) }
+        requires entries { All (λ e. e < 64 * words_among self.now.parts.ledgers ledger) entries.now }
+        ensures { IfOk result (λ turns. IsTurning (words_among self.now.parts.ledgers ledger) bookie ledger self.now.parts.held
+            (set.union self.now.parts.held (copies_of bookie ledger entries.now)) turns.items) }
     {
-        let turns = self.held.delta_of(alloc, bookie, ledger, entries)?;
+        let parts = &self.parts;
+        let turns = parts.held.delta_of(alloc, bookie, ledger, entries)?;
         Ok(turns)
     }
 
@@ -210,12 +217,6 @@ impl State {
         ensures back { exchanged self.new changes.new ≡ self.old }
         ensures again { left self.new changes.new ≡ changes.old }
     {
-        exchange_all(
-            &mut self.up,
-            &mut self.ledgers,
-            &mut self.held,
-            &mut self.clock,
-            &mut changes.parts,
-        );
+        exchange_all(&mut self.parts, &mut changes.list);
     }
 }

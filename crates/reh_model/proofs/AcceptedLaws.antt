@@ -98,8 +98,8 @@ bad_tick-none n none = some (n == 0) (nat_lt MAX_TICKS n) refl (reason_if-none _
   some false b is none = grind (arith, nat_tests)
 
 -- the clock does not pass its end
-clock_end-none : (s : Cluster) (n : ℕ) → clock_end s n ≡ None → s.clock + n ≤ CLOCK_END
-clock_end-none s n none = let within : nat_lt CLOCK_END (s.clock + n) ≡ false = reason_if-none _ _ none in grind (arith, nat_tests)
+clock_end-none : (s : Cluster) (n : ℕ) → clock_end s n ≡ None → s.parts.scalars.clock + n ≤ CLOCK_END
+clock_end-none s n none = let within : nat_lt CLOCK_END (s.parts.scalars.clock + n) ≡ false = reason_if-none _ _ none in grind (arith, nat_tests)
 
 -- the ensemble has the index
 no_index-none : (g : Ledger) (i : ℕ) → no_index g i ≡ None → i < g.metadata.size
@@ -154,7 +154,7 @@ accepted_acquire s w l g found none =
     )
 
 -- ticks move the clock, and not past its end
-pub accepted_tick : (s : Cluster) (n : ℕ) → refusal_of s (Tick n) ≡ None → (0 < n) × (s.clock + n ≤ CLOCK_END)
+pub accepted_tick : (s : Cluster) (n : ℕ) → refusal_of s (Tick n) ≡ None → (0 < n) × (s.parts.scalars.clock + n ≤ CLOCK_END)
 accepted_tick s n none = (
   bad_tick-none n (check-none [] (bad_tick n) (clock_end s n ∷ []) none),
   clock_end-none s n (check-none (bad_tick n ∷ []) (clock_end s n) [] none),
@@ -237,7 +237,7 @@ pub record IsFenceable (s : Cluster) (g : Ledger) (w : ℕ) : Type 0 where
   pub state : is_open g.metadata.state ≡ true
   pub due : ℕ
   pub set : due_of g ≡ Some due
-  pub over : due ≤ s.clock
+  pub over : due ≤ s.parts.scalars.clock
   pub version : g.metadata.version < MAX_VERSION
 
 -- the ledger is open
@@ -258,9 +258,9 @@ accepted_fence s w l g found few none =
       version = version_end-none g few (check-none (before ++ no_grace g ∷ grace_runs s g ∷ []) (version_end g) [] passes);
     }
   where
-    come : (o : Option ℕ) → reason_if (is_none o) NoGrace ≡ None → option_and_then (λ due. reason_if (nat_lt s.clock due) (GraceRuns due)) o ≡ None → (due : ℕ) × (o ≡ Some due) × (due ≤ s.clock)
+    come : (o : Option ℕ) → reason_if (is_none o) NoGrace ≡ None → option_and_then (λ due. reason_if (nat_lt s.parts.scalars.clock due) (GraceRuns due)) o ≡ None → (due : ℕ) × (o ≡ Some due) × (due ≤ s.parts.scalars.clock)
     come None none runs = cc
-    come (Some due) none runs = let passed : nat_lt s.clock due ≡ false = reason_if-none _ _ runs in (due, refl, grind (arith, nat_tests, passed))
+    come (Some due) none runs = let passed : nat_lt s.parts.scalars.clock due ≡ false = reason_if-none _ _ runs in (due, refl, grind (arith, nat_tests, passed))
 
 -- what an accepted seal shows: the worker locks a ledger in recovery, each entry that it passes has an ack quorum of registered members, at its end so many of them lack the entry that the others are none, and there is a next version
 pub record IsSealable (s : Cluster) (g : Ledger) (w : ℕ) : Type 0 where
@@ -296,7 +296,7 @@ accepted_seal s w l g found few none =
 -- what an accepted copy shows: the bookie is in the picture, and each entry that it takes is held by some bookie
 pub record IsCopyable (s : Cluster) (w l f i : ℕ) : Type 0 where
   pub named : w < length s.names
-  pub held : All (λ e. IsHeld s.held l e) (stripe_at s l f i)
+  pub held : All (λ e. IsHeld s.parts.held l e) (stripe_at s l f i)
 
 pub accepted_copy : (s : Cluster) (w l f i v : ℕ) → refusal_of s (Copy w l f i v) ≡ None → IsCopyable s w l f i
 accepted_copy s w l f i v none =
@@ -307,11 +307,11 @@ accepted_copy s w l f i v none =
     let fragment = source.fragment in
     let entries = stripe_of g.metadata f i in
     let readable : All (λ e. not (is_readable s g fragment e) ≡ false) entries = find-none (λ e. not (is_readable s g fragment e)) (λ e. NoSource e) entries (check-none [] _ [] source.passes) in
-    let held : All (λ e. IsHeld s.held g.id e) entries =
-    All-weaker (λ e. not (is_readable s g fragment e) ≡ false) (λ e. IsHeld s.held g.id e) (λ e is. IsHeld-readable s g fragment e (not_not (is_readable s g fragment e) is)) entries readable in
+    let held : All (λ e. IsHeld s.parts.held g.id e) entries =
+    All-weaker (λ e. not (is_readable s g fragment e) ≡ false) (λ e. IsHeld s.parts.held g.id e) (λ e is. IsHeld-readable s g fragment e (not_not (is_readable s g fragment e) is)) entries readable in
     record {
       named = no_bookie-none s w (check-none [] (no_bookie s w) (at_ledger s l checks ∷ []) none);
-      held = subst (λ (es : List ℕ). All (λ e. IsHeld s.held l e) es) (sym (stripe_at-found s l f i g found.is)) (subst (λ (k : ℕ). All (λ e. IsHeld s.held k e) entries) (id_found l s.ledgers g found.is) held);
+      held = subst (λ (es : List ℕ). All (λ e. IsHeld s.parts.held l e) es) (sym (stripe_at-found s l f i g found.is)) (subst (λ (k : ℕ). All (λ e. IsHeld s.parts.held k e) entries) (id_found l s.parts.ledgers g found.is) held);
     }
 
 -- Swaps
@@ -360,7 +360,7 @@ accepted_swap_holds s w l f i v none =
     All-weaker (λ e. not (holds s w g.id e) ≡ false) (λ e. holds s w g.id e ≡ true) (λ e is. not_not (holds s w g.id e) is) entries (find-none (λ e. not (holds s w g.id e)) (λ e. MissingEntry e) entries lacks) in (
       subst (λ (o : Option ℕ). IsSome o) (sym (stop_at-found s l f g found.is)) ends,
       subst (λ (es : List ℕ). All (λ e. holds s w l e ≡ true) es) (sym (stripe_at-found s l f i g found.is))
-          (subst (λ (k : ℕ). All (λ e. holds s w k e ≡ true) entries) (id_found l s.ledgers g found.is) each),
+          (subst (λ (k : ℕ). All (λ e. holds s w k e ≡ true) entries) (id_found l s.parts.ledgers g found.is) each),
     )
 
 -- A session's moves

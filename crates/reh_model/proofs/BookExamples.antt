@@ -12,10 +12,11 @@ use Rattle.reh_types.specs.declared.moves.Reply.TheVariants.{Done, Clock, Issued
 use Rattle.reh_types.specs.declared.names.LedgerState.TheVariants.{Closed}
 use Rattle.reh_types.specs.declared.refusals.Refusal.TheVariants.{NotOwner, Stale, SourceGone, NotOut, TapeFull, NoMemory}
 use Rattle.reh_types.specs.Sets.{contains, insert, retain, remove, empty, from_list, union, items, is_subset, is_empty, len}
-use Rattle.reh_model.specs.Cluster.{Cluster, ledger_at}
+use Rattle.reh_model.specs.Cluster.{Cluster, ledger_at, with_held, with_ledgers}
 use Rattle.reh_model.specs.Scan.{scan}
 use Rattle.reh_model.specs.Session.{opened_session, state_of}
 use Rattle.reh_model.specs.Book.{Book, new_book, ticket, answer_to, book_after}
+use Rattle.reh_model.proofs.Examples.{clear_cluster}
 use Rattle.reh_model.proofs.TaskExamples.{five_bookies, row}
 use Rattle.reh_model.proofs.CopyExamples.{loss_and_lock, entries_of}
 use Rattle.reh_model.proofs.ScanExamples.{aim_at, aim, seen}
@@ -82,14 +83,10 @@ none_out = refl
 
 -- six registered bookies, and a closed ledger whose three members hold all entries
 abbrev six_bookies : Cluster
-six_bookies = record {
-  names = codes "b1:3181" ∷ codes "b2:3181" ∷ codes "b3:3181" ∷ codes "b4:3181" ∷ codes "b5:3181" ∷ codes "b6:3181" ∷ [];
-  grace = 3;
-  up = from_list (0 ∷ 1 ∷ 2 ∷ 3 ∷ 4 ∷ 5 ∷ []);
-  ledgers = record { id = 7; metadata = record { size = 3; write_quorum = 3; ack_quorum = 2; state = Closed 6; version = 0; fragments = record { first = 0; ensemble = 0 ∷ 1 ∷ 2 ∷ [] } ∷ [] }; words = 1; task = None; lock = None } ∷ [];
-  held = from_list (row 0 7 (0 ∷ 1 ∷ 2 ∷ 3 ∷ 4 ∷ 5 ∷ []) ++ row 1 7 (0 ∷ 1 ∷ 2 ∷ 3 ∷ 4 ∷ 5 ∷ []) ++ row 2 7 (0 ∷ 1 ∷ 2 ∷ 3 ∷ 4 ∷ 5 ∷ []));
-  clock = 0;
-}
+six_bookies =
+    let started = clear_cluster (codes "b1:3181" ∷ codes "b2:3181" ∷ codes "b3:3181" ∷ codes "b4:3181" ∷ codes "b5:3181" ∷ codes "b6:3181" ∷ []) in
+    with_held (with_ledgers started (record { id = 7; metadata = record { size = 3; write_quorum = 3; ack_quorum = 2; state = Closed 6; version = 0; fragments = record { first = 0; ensemble = 0 ∷ 1 ∷ 2 ∷ [] } ∷ [] }; words = 1; task = None; lock = None } ∷ []))
+    (from_list (row 0 7 (0 ∷ 1 ∷ 2 ∷ 3 ∷ 4 ∷ 5 ∷ []) ++ row 1 7 (0 ∷ 1 ∷ 2 ∷ 3 ∷ 4 ∷ 5 ∷ []) ++ row 2 7 (0 ∷ 1 ∷ 2 ∷ 3 ∷ 4 ∷ 5 ∷ [])))
 
 -- a worker's bookie takes the second place, and the fifth bookie's worker locks the ledger
 abbrev replace : ℕ → List Move

@@ -119,9 +119,9 @@ place_written s b g f i =
 source_missing_written : (s : Cluster) (g : Ledger) (f i : ℕ) → IsWritten (no_source s g f i)
 source_missing_written s g f i = at_fragment_written g f _ (λ fragment. (found_written _ (λ e. NoSource e) (λ e. refl), tt))
 
-grace_runs_written : (s : Cluster) (due : Option ℕ) → IsWritten (option_and_then (λ tick. reason_if (nat_lt s.clock tick) (GraceRuns tick)) due)
+grace_runs_written : (s : Cluster) (due : Option ℕ) → IsWritten (option_and_then (λ tick. reason_if (nat_lt s.parts.scalars.clock tick) (GraceRuns tick)) due)
 grace_runs_written s None = refl
-grace_runs_written s (Some due) = written_if (nat_lt s.clock due) (GraceRuns due) refl
+grace_runs_written s (Some due) = written_if (nat_lt s.parts.scalars.clock due) (GraceRuns due) refl
 
 -- A refusal of an event is answered by a line,
 event_refusal-written : (s : Cluster) (event : Event) → IsWritten (refusal_of s event)
@@ -130,7 +130,7 @@ event_refusal-written s (Join b) = first_written (no_bookie s b ∷ already_up s
 event_refusal-written s Audit = written_if _ NothingToPublish refl
 event_refusal-written s (Acquire w l) = named_written s w l _ (λ g. (written_if _ NoTask refl, (found_written g.lock (λ lock. Locked lock.owner) (λ lock. refl), tt)))
 event_refusal-written s (Release w l) = named_written s w l _ (λ g. (owner_written w g, tt))
-event_refusal-written s (Finish w l) = named_written s w l _ (λ g. (owner_written w g, (found_written (first_under s.up g) (λ f. StillUnder f) (λ f. refl), tt)))
+event_refusal-written s (Finish w l) = named_written s w l _ (λ g. (owner_written w g, (found_written (first_under s g) (λ f. StillUnder f) (λ f. refl), tt)))
 event_refusal-written s (Expire w) = first_written (no_bookie s w ∷ no_locks s w ∷ []) (written_if _ NoBookie refl, (written_if _ NoLocks refl, tt))
 event_refusal-written s (Grace w l) =
     named_written s w l (grace_checks s w) (λ g. (

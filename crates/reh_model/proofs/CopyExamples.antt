@@ -12,7 +12,7 @@ use Rattle.reh_types.specs.declared.names.LedgerState.TheVariants.{Closed}
 use Rattle.reh_types.specs.declared.refusals.Refusal.TheVariants.{MissingEntry, StillUnder, Stale, NoSource, VersionEnd}
 use Rattle.reh_types.specs.Sets.{contains, insert, retain, remove, empty, from_list, union, items, is_subset, is_empty, len}
 use Rattle.reh_model.specs.Metadata.{Metadata}
-use Rattle.reh_model.specs.Cluster.{Cluster, ledger_at}
+use Rattle.reh_model.specs.Cluster.{Cluster, ledger_at, with_held, with_ledgers}
 use Rattle.reh_model.specs.Session.{opened_session, state_of}
 use Rattle.reh_model.proofs.Examples.{replies, played_session}
 use Rattle.reh_model.proofs.TaskExamples.{five_bookies, closed_ledger, open_ledger}
@@ -41,7 +41,7 @@ state_after s moves = state_of (played_session (opened_session s) (loss_and_lock
 
 -- the entries of a ledger that a bookie holds
 abbrev pub entries_of : Cluster → ℕ → ℕ → List ℕ
-entries_of s bookie ledger = map (λ t. t.2) (filter (λ t. t.0 == bookie && t.1 == ledger) (items s.held))
+entries_of s bookie ledger = map (λ t. t.2) (filter (λ t. t.0 == bookie && t.1 == ledger) (items s.parts.held))
 
 -- the metadata, the task and the lock of the closed ledger
 abbrev metadata_of : Cluster → Option Metadata
@@ -55,19 +55,19 @@ lock_of s = option_and_then (λ g. g.lock) (ledger_at s 7)
 
 -- the fourth bookie holds one of the entries already
 abbrev bookies_with_a_copy : Cluster
-bookies_with_a_copy = record five_bookies { held = insert five_bookies.held (3, 7, 3) }
+bookies_with_a_copy = with_held five_bookies (insert five_bookies.parts.held (3, 7, 3))
 
 -- the third bookie lacks an entry that only the second one has besides
 abbrev pub bookies_without_a_source : Cluster
-bookies_without_a_source = record five_bookies { held = remove five_bookies.held (2, 7, 1) }
+bookies_without_a_source = with_held five_bookies (remove five_bookies.parts.held (2, 7, 1))
 
 -- a closed ledger without entries stands beside the others
 abbrev pub bookies_with_an_empty_ledger : Cluster
-bookies_with_an_empty_ledger = record five_bookies { ledgers = record closed_ledger { id = 5; metadata = record closed_ledger.metadata { state = Closed 0 }; words = 0 } ∷ five_bookies.ledgers }
+bookies_with_an_empty_ledger = with_ledgers five_bookies (record closed_ledger { id = 5; metadata = record closed_ledger.metadata { state = Closed 0 }; words = 0 } ∷ five_bookies.parts.ledgers)
 
 -- the closed ledger is at the last version
 abbrev cluster_at_last_version : Cluster
-cluster_at_last_version = record five_bookies { ledgers = record closed_ledger { metadata = record closed_ledger.metadata { version = 10 ^ 12 } } ∷ open_ledger ∷ [] }
+cluster_at_last_version = with_ledgers five_bookies (record closed_ledger { metadata = record closed_ledger.metadata { version = 10 ^ 12 } } ∷ open_ledger ∷ [])
 
 -- a copy is made and undone
 pub copy_and_undo : replies (opened_session bookies_with_a_copy) (loss_and_lock 7 ++ copy ∷ Undo ∷ []) ≡ Done ∷ Done ∷ Done ∷ Done ∷ Done ∷ []

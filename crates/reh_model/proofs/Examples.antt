@@ -1,5 +1,6 @@
 -- Worked runs on two bookies and no ledger: the definitions, computed.
-use Rattle.std.specs.Prelude.{◌≡◌, refl, List, [], ◌∷◌, codes}
+use Rattle.std.specs.Prelude.{◌≡◌, refl, ℕ, List, [], ◌∷◌, length, codes}
+use Rattle.std.specs.List.{range_with_len}
 use Rattle.reh_types.specs.declared.moves.Event.TheVariants.{Lose, Tick}
 use Rattle.reh_types.specs.declared.moves.Move.{Move}
 use Rattle.reh_types.specs.declared.moves.Move.TheVariants.{Do, Undo, Redo, Look}
@@ -7,12 +8,16 @@ use Rattle.reh_types.specs.declared.moves.Reply.{Reply}
 use Rattle.reh_types.specs.declared.moves.Reply.TheVariants.{Done, Clock, Refused}
 use Rattle.reh_types.specs.declared.refusals.Refusal.TheVariants.{NothingToUndo, BadTick, ClockEnd}
 use Rattle.reh_types.specs.Sets.{contains, insert, retain, remove, empty, from_list, union, items, is_subset, is_empty, len}
-use Rattle.reh_model.specs.Cluster.{Cluster}
+use Rattle.reh_model.specs.Cluster.{Cluster, cluster_of, with_clock}
 use Rattle.reh_model.specs.Session.{Session, opened_session, reply_to, session_after}
+
+-- registered bookies of these names, with no ledgers and a grace of 3 ticks
+abbrev pub clear_cluster : List (List ℕ) → Cluster
+clear_cluster names = cluster_of names (from_list (range_with_len 0 (length names))) 3 [] empty
 
 -- two registered bookies, and no ledger
 abbrev pub two_bookies : Cluster
-two_bookies = record { names = codes "b1:3181" ∷ codes "b2:3181" ∷ []; grace = 3; up = from_list (0 ∷ 1 ∷ []); ledgers = []; held = empty; clock = 0 }
+two_bookies = clear_cluster (codes "b1:3181" ∷ codes "b2:3181" ∷ [])
 
 -- the replies to moves in order
 abbrev pub replies : Session → List Move → List Reply
@@ -31,7 +36,7 @@ unfolding contains insert retain remove empty from_list union items is_subset is
 undo_and_redo = refl
 
 -- the clock ends at 1,000,000,000 ticks, and a tick is of 1 to 1,000,000
-pub clock_at_its_end : replies (opened_session (record two_bookies { clock = 1_000_000_000 })) (Do (Tick 1) ∷ Do (Tick 0) ∷ Do (Tick 1_000_001) ∷ Look ∷ [])
+pub clock_at_its_end : replies (opened_session (with_clock two_bookies 1_000_000_000)) (Do (Tick 1) ∷ Do (Tick 0) ∷ Do (Tick 1_000_001) ∷ Look ∷ [])
     ≡ Refused ClockEnd ∷ Refused BadTick ∷ Refused BadTick ∷ Clock 1_000_000_000 ∷ []
 unfolding contains insert retain remove empty from_list union items is_subset is_empty len
 clock_at_its_end = refl

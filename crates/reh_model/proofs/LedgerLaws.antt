@@ -9,7 +9,7 @@ use Rattle.std.proofs.lemmas.List.Folds.{find_at}
 use Rattle.std.proofs.lemmas.List.Quantifiers.{position-Some}
 use Rattle.std.proofs.lemmas.Option.{slice_get_within}
 use Rattle.reh_model.specs.Metadata.{stop_of, stripe_of}
-use Rattle.reh_model.specs.Cluster.{Cluster, Ledger, ledger_among, ledger_at, words_among, stop_at, stripe_at, change_ledger}
+use Rattle.reh_model.specs.Cluster.{Cluster, Ledger, ledger_among, ledger_at, words_among, stop_at, stripe_at, change_ledger, with_ledgers}
 
 -- Changes that keep every id
 
@@ -126,19 +126,19 @@ map-changed_ledger-set l change (g ∷ gs) distinct (suc k) d within is =
     λ i. cond (other i) (change g) g ∷ map-changed_ledger-set l change gs distinct.1 k d (omega arith) is i
 
 -- to change the ledger of an id is to change what stands at its place
-pub change_ledger-set : (s : Cluster) (l : ℕ) (change : Ledger → Ledger) (k : ℕ) (old new : Ledger) → IsDistinct nat_eq (map (λ g. g.id) s.ledgers) → position (λ g. g.id == l) s.ledgers ≡ Some k
-    → old ≡ get_or s.ledgers k old → new ≡ change old → record s { ledgers = set s.ledgers k new } ≡ change_ledger s l change
+pub change_ledger-set : (s : Cluster) (l : ℕ) (change : Ledger → Ledger) (k : ℕ) (old new : Ledger) → IsDistinct nat_eq (map (λ g. g.id) s.parts.ledgers) → position (λ g. g.id == l) s.parts.ledgers ≡ Some k
+    → old ≡ get_or s.parts.ledgers k old → new ≡ change old → with_ledgers s (set s.parts.ledgers k new) ≡ change_ledger s l change
 change_ledger-set s l change k old new distinct is stood made =
-    let at : (k < length s.ledgers) × (((get_or s.ledgers k old).id == l) ≡ true) × ((j : ℕ) → j < k → ((get_or s.ledgers j old).id == l) ≡ false) = position-Some (λ g. g.id == l) s.ledgers k old is in
-    let id : (get_or s.ledgers k old).id ≡ l = grind (arith, nat_tests, at.1) in
-    ap (λ (gs : List Ledger). record s { ledgers = gs }) (ap (λ (g : Ledger). set s.ledgers k g) (made ∙ ap change stood) ∙ sym (map-changed_ledger-set l change s.ledgers distinct k old at.0 id))
+    let at : (k < length s.parts.ledgers) × (((get_or s.parts.ledgers k old).id == l) ≡ true) × ((j : ℕ) → j < k → ((get_or s.parts.ledgers j old).id == l) ≡ false) = position-Some (λ g. g.id == l) s.parts.ledgers k old is in
+    let id : (get_or s.parts.ledgers k old).id ≡ l = grind (arith, nat_tests, at.1) in
+    ap (λ (gs : List Ledger). with_ledgers s gs) (ap (λ (g : Ledger). set s.parts.ledgers k g) (made ∙ ap change stood) ∙ sym (map-changed_ledger-set l change s.parts.ledgers distinct k old at.0 id))
 
 -- what stands at the place of an id is the ledger that is found
-pub ledger_at-position : (s : Cluster) (l k : ℕ) (g : Ledger) → IsDistinct nat_eq (map (λ g. g.id) s.ledgers) → position (λ g. g.id == l) s.ledgers ≡ Some k → g ≡ get_or s.ledgers k g → ledger_at s l ≡ Some g
+pub ledger_at-position : (s : Cluster) (l k : ℕ) (g : Ledger) → IsDistinct nat_eq (map (λ g. g.id) s.parts.ledgers) → position (λ g. g.id == l) s.parts.ledgers ≡ Some k → g ≡ get_or s.parts.ledgers k g → ledger_at s l ≡ Some g
 ledger_at-position s l k g distinct is stood =
-    let at : (k < length s.ledgers) × (((get_or s.ledgers k g).id == l) ≡ true) × ((j : ℕ) → j < k → ((get_or s.ledgers j g).id == l) ≡ false) = position-Some (λ g. g.id == l) s.ledgers k g is in
-    let id : (get_or s.ledgers k g).id ≡ l = grind (arith, nat_tests, at.1) in
-    ap (λ (j : ℕ). find (λ g. g.id == j) s.ledgers) (sym id) ∙ found_itself s.ledgers distinct k g at.0 ∙ ap Some (sym stood)
+    let at : (k < length s.parts.ledgers) × (((get_or s.parts.ledgers k g).id == l) ≡ true) × ((j : ℕ) → j < k → ((get_or s.parts.ledgers j g).id == l) ≡ false) = position-Some (λ g. g.id == l) s.parts.ledgers k g is in
+    let id : (get_or s.parts.ledgers k g).id ≡ l = grind (arith, nat_tests, at.1) in
+    ap (λ (j : ℕ). find (λ g. g.id == j) s.parts.ledgers) (sym id) ∙ found_itself s.parts.ledgers distinct k g at.0 ∙ ap Some (sym stood)
 
 -- The place of an id
 

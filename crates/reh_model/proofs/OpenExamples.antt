@@ -14,7 +14,7 @@ use Rattle.reh_types.specs.Sets.{contains, insert, retain, remove, empty, from_l
 use Rattle.reh_model.specs.Striping.{range}
 use Rattle.reh_model.specs.Contents.{count_held}
 use Rattle.reh_model.specs.Metadata.{Fragment, Metadata}
-use Rattle.reh_model.specs.Cluster.{Cluster, Ledger, ledger_at, stop_at}
+use Rattle.reh_model.specs.Cluster.{Cluster, Ledger, ledger_at, stop_at, with_clock, with_held, with_ledgers}
 use Rattle.reh_model.specs.Session.{opened_session, state_of}
 use Rattle.reh_model.proofs.Examples.{replies, played_session}
 use Rattle.reh_model.proofs.TaskExamples.{five_bookies, closed_ledger, open_ledger}
@@ -54,7 +54,7 @@ fence_and_seal = Grace 3 9 ∷ Tick 3 ∷ Fence 3 9 ∷ Seal 3 9 ∷ []
 
 -- the five bookies with another open ledger beside the closed one
 abbrev with_ledger : Ledger → Cluster
-with_ledger g = record five_bookies { ledgers = closed_ledger ∷ g ∷ [] }
+with_ledger g = with_ledgers five_bookies (closed_ledger ∷ g ∷ [])
 
 -- the open ledger with other metadata
 abbrev with_metadata : Metadata → Cluster
@@ -66,13 +66,11 @@ fragment_from first = record { first = first; ensemble = 0 ∷ 1 ∷ 2 ∷ [] }
 
 -- nobody holds an entry of the open ledger
 abbrev without_entries : Cluster
-without_entries = record five_bookies { held = retain five_bookies.held (λ t. t.1 == 7) }
+without_entries = with_held five_bookies (retain five_bookies.parts.held (λ t. t.1 == 7))
 
 -- 2 of 3 members are written to, the last fragment begins at entry 2, and nobody holds an entry from 3 on
 abbrev two_written : Cluster
-two_written = record (with_metadata (record open_ledger.metadata { write_quorum = 2; fragments = fragment_from 0 ∷ fragment_from 2 ∷ [] })) {
-  held = retain five_bookies.held (λ t. t.1 == 7 || nat_lt t.2 3);
-}
+two_written = with_held (with_metadata (record open_ledger.metadata { write_quorum = 2; fragments = fragment_from 0 ∷ fragment_from 2 ∷ [] })) (retain five_bookies.parts.held (λ t. t.1 == 7 || nat_lt t.2 3))
 
 -- the metadata of an empty second fragment
 abbrev empty_fragment : Metadata
@@ -80,14 +78,14 @@ empty_fragment = record open_ledger.metadata { fragments = fragment_from 0 ∷ f
 
 -- the first bookie holds the last entry that there can be
 abbrev at_last_entry : Ledger → Cluster
-at_last_entry g = record five_bookies { ledgers = closed_ledger ∷ record g { words = 1024 } ∷ []; held = insert five_bookies.held (0, 9, 65535) }
+at_last_entry g = with_held (with_ledgers five_bookies (closed_ledger ∷ record g { words = 1024 } ∷ [])) (insert five_bookies.parts.held (0, 9, 65535))
 
 -- the open ledger has as many fragments as there can be, the last one from entry 255 on, which the first bookie holds
 abbrev full_ledger : Ledger
 full_ledger = record open_ledger { metadata = record open_ledger.metadata { fragments = map fragment_from (range 0 256) }; words = 4 }
 
 abbrev with_last_fragment_held : Ledger → Cluster
-with_last_fragment_held g = record (with_ledger g) { held = insert five_bookies.held (0, 9, 255) }
+with_last_fragment_held g = with_held (with_ledger g) (insert five_bookies.parts.held (0, 9, 255))
 
 -- a ledger at the last version
 abbrev at_last_version : Ledger → Ledger
@@ -95,10 +93,7 @@ at_last_version g = record g { metadata = record g.metadata { version = 10 ^ 12 
 
 -- a ledger in recovery, whose last fragment begins at the last entry, which the first bookie holds
 abbrev recovery_at_last_entry : Cluster
-recovery_at_last_entry = record five_bookies {
-  ledgers = record { id = 3; metadata = record { size = 3; write_quorum = 3; ack_quorum = 2; state = InRecovery; version = 0; fragments = fragment_from 0 ∷ fragment_from 65535 ∷ [] }; words = 1024; task = None; lock = None } ∷ five_bookies.ledgers;
-  held = insert five_bookies.held (0, 3, 65535);
-}
+recovery_at_last_entry = with_held (with_ledgers five_bookies (record { id = 3; metadata = record { size = 3; write_quorum = 3; ack_quorum = 2; state = InRecovery; version = 0; fragments = fragment_from 0 ∷ fragment_from 65535 ∷ [] }; words = 1024; task = None; lock = None } ∷ five_bookies.parts.ledgers)) (insert five_bookies.parts.held (0, 3, 65535))
 
 -- Fences and recoveries
 
@@ -115,7 +110,7 @@ unfolding contains insert retain remove empty from_list union items is_subset is
 metadata_sealed = refl
 
 -- which the other one holds then, too
-pub held_sealed : count_held (state_after five_bookies (map Do (loss_and_lock ++ fence_and_seal))).held 2
+pub held_sealed : count_held (state_after five_bookies (map Do (loss_and_lock ++ fence_and_seal))).parts.held 2
     ≡ 9
 unfolding contains insert retain remove empty from_list union items is_subset is_empty len
 held_sealed = refl
@@ -127,7 +122,7 @@ unfolding contains insert retain remove empty from_list union items is_subset is
 metadata_unsealed = refl
 
 -- and takes the copy back
-pub held_unsealed : count_held (state_after five_bookies (map Do (loss_and_lock ++ fence_and_seal) ++ Undo ∷ [])).held 2
+pub held_unsealed : count_held (state_after five_bookies (map Do (loss_and_lock ++ fence_and_seal) ++ Undo ∷ [])).parts.held 2
     ≡ 8
 unfolding contains insert retain remove empty from_list union items is_subset is_empty len
 held_unsealed = refl
@@ -205,7 +200,7 @@ unfolding contains insert retain remove empty from_list union items is_subset is
 metadata_once = refl
 
 -- a grace can end past the clock, and then no fence is due
-pub grace_past_the_clock : answers (record five_bookies { clock = 10 ^ 9 }) (loss_and_lock ++ Grace 3 9 ∷ Fence 3 9 ∷ Tick 1 ∷ [])
+pub grace_past_the_clock : answers (with_clock five_bookies (10 ^ 9)) (loss_and_lock ++ Grace 3 9 ∷ Fence 3 9 ∷ Tick 1 ∷ [])
     ≡ Done ∷ Done ∷ Done ∷ Done ∷ Refused (GraceRuns 1000000003) ∷ Refused ClockEnd ∷ []
 unfolding contains insert retain remove empty from_list union items is_subset is_empty len
 grace_past_the_clock = refl
@@ -273,7 +268,7 @@ unfolding contains insert retain remove empty from_list union items is_subset is
 fragments_rolled_in_place = refl
 
 -- an entry counts that a bookie outside of the ensemble holds, also while that is not registered
-pub entries_of_others_count : stop_at (state_after (record five_bookies { held = insert five_bookies.held (4, 9, 7) }) (Do (Lose 1) ∷ Do (Lose 4) ∷ Do (Roll 9 1 3) ∷ [])) 9 0
+pub entries_of_others_count : stop_at (state_after (with_held five_bookies (insert five_bookies.parts.held (4, 9, 7))) (Do (Lose 1) ∷ Do (Lose 4) ∷ Do (Roll 9 1 3) ∷ [])) 9 0
     ≡ Some 8
 unfolding contains insert retain remove empty from_list union items is_subset is_empty len
 entries_of_others_count = refl
@@ -327,7 +322,7 @@ unfolding contains insert retain remove empty from_list union items is_subset is
 order_of_recovery = refl
 
 -- a ledger without entries is undecided before it is at the last version
-pub undecided_before_version : answers (record recovery_at_last_version { held = without_entries.held }) (losses_and_lock ++ Seal 3 9 ∷ [])
+pub undecided_before_version : answers (with_held recovery_at_last_version without_entries.parts.held) (losses_and_lock ++ Seal 3 9 ∷ [])
     ≡ Done ∷ Done ∷ Done ∷ Done ∷ Refused (Undecided 0) ∷ []
 unfolding contains insert retain remove empty from_list union items is_subset is_empty len
 undecided_before_version = refl
@@ -345,7 +340,7 @@ unfolding contains insert retain remove empty from_list union items is_subset is
 fragments_before_version = refl
 
 -- and the version, also in place
-pub version_of_roll : answers (with_ledger (at_last_version open_ledger)) (Lose 1 ∷ Roll 9 1 4 ∷ []) ++ answers (record (with_ledger (at_last_version open_ledger)) { held = without_entries.held }) (Lose 1 ∷ Roll 9 1 4 ∷ [])
+pub version_of_roll : answers (with_ledger (at_last_version open_ledger)) (Lose 1 ∷ Roll 9 1 4 ∷ []) ++ answers (with_held (with_ledger (at_last_version open_ledger)) without_entries.parts.held) (Lose 1 ∷ Roll 9 1 4 ∷ [])
     ≡ Done ∷ Refused VersionEnd ∷ Done ∷ Refused VersionEnd ∷ []
 unfolding contains insert retain remove empty from_list union items is_subset is_empty len
 version_of_roll = refl

@@ -10,9 +10,9 @@ use Rattle.reh_types.specs.declared.names.LedgerState.TheVariants.{Open, Closed}
 use Rattle.reh_types.specs.declared.refusals.Refusal.TheVariants.{NoBookie, NoLedger, NotOwner, NothingToRedo, NoFragment, NoIndex, MemberUp, TargetDown, TargetIsMember, NoEndpoint, Stale, NoSource, MissingEntry, VersionEnd}
 use Rattle.reh_types.specs.Sets.{contains, insert, retain, remove, empty, from_list, union, items, is_subset, is_empty, len}
 use Rattle.reh_model.specs.Metadata.{Metadata}
-use Rattle.reh_model.specs.Cluster.{Cluster, Ledger}
+use Rattle.reh_model.specs.Cluster.{Cluster, Ledger, with_ledgers, with_held, with_up}
 use Rattle.reh_model.specs.Session.{Session, opened_session, state_of}
-use Rattle.reh_model.proofs.Examples.{replies, played_session}
+use Rattle.reh_model.proofs.Examples.{clear_cluster, replies, played_session}
 use Rattle.reh_model.proofs.TaskExamples.{row}
 use Rattle.reh_model.proofs.CopyExamples.{entries_of}
 
@@ -51,19 +51,15 @@ ledger_without_task id metadata = record { id = id; metadata = metadata; words =
 
 -- six registered bookies, and the two ledgers; each member holds what its indexes carry, but entry 5 of the open ledger is on the second bookie alone
 abbrev six_bookies : Cluster
-six_bookies = record {
-  names = codes "b1:3181" ∷ codes "b2:3181" ∷ codes "b3:3181" ∷ codes "b4:3181" ∷ codes "b5:3181" ∷ codes "b6:3181" ∷ [];
-  grace = 3;
-  up = from_list (0 ∷ 1 ∷ 2 ∷ 3 ∷ 4 ∷ 5 ∷ []);
-  ledgers = ledger_without_task 7 closed_metadata ∷ ledger_without_task 9 open_metadata ∷ [];
-  held = from_list (row 0 7 (0 ∷ 2 ∷ 3 ∷ 7 ∷ 8 ∷ []) ++ row 1 7 (0 ∷ 1 ∷ 3 ∷ 4 ∷ 5 ∷ 8 ∷ 9 ∷ []) ++ row 2 7 (1 ∷ 2 ∷ 4 ∷ 6 ∷ []) ++ row 3 7 (5 ∷ 6 ∷ 7 ∷ 9 ∷ [])
-      ++ row 0 9 (0 ∷ 1 ∷ 4 ∷ 6 ∷ []) ++ row 1 9 (2 ∷ 3 ∷ 5 ∷ []) ++ row 2 9 (0 ∷ 3 ∷ 4 ∷ 6 ∷ []) ++ row 3 9 (1 ∷ 2 ∷ []));
-  clock = 0;
-}
+six_bookies =
+    let started = clear_cluster (codes "b1:3181" ∷ codes "b2:3181" ∷ codes "b3:3181" ∷ codes "b4:3181" ∷ codes "b5:3181" ∷ codes "b6:3181" ∷ []) in
+    with_held (with_ledgers started (ledger_without_task 7 closed_metadata ∷ ledger_without_task 9 open_metadata ∷ []))
+    (from_list (row 0 7 (0 ∷ 2 ∷ 3 ∷ 7 ∷ 8 ∷ []) ++ row 1 7 (0 ∷ 1 ∷ 3 ∷ 4 ∷ 5 ∷ 8 ∷ 9 ∷ []) ++ row 2 7 (1 ∷ 2 ∷ 4 ∷ 6 ∷ []) ++ row 3 7 (5 ∷ 6 ∷ 7 ∷ 9 ∷ [])
+      ++ row 0 9 (0 ∷ 1 ∷ 4 ∷ 6 ∷ []) ++ row 1 9 (2 ∷ 3 ∷ 5 ∷ []) ++ row 2 9 (0 ∷ 3 ∷ 4 ∷ 6 ∷ []) ++ row 3 9 (1 ∷ 2 ∷ [])))
 
 -- the closed ledger is at the last version
 abbrev cluster_at_last_version : Cluster
-cluster_at_last_version = record six_bookies { ledgers = ledger_without_task 7 (record closed_metadata { version = 10 ^ 12 }) ∷ [] }
+cluster_at_last_version = with_ledgers six_bookies (ledger_without_task 7 (record closed_metadata { version = 10 ^ 12 }) ∷ [])
 
 -- some bookies are lost, and a worker locks a ledger's task
 abbrev losses_and_lock : List ℕ → ℕ → ℕ → List Event
@@ -93,7 +89,7 @@ abbrev all_entries : Cluster → ℕ → List (List ℕ)
 all_entries s ledger = map (λ bookie. entries_of s bookie ledger) (0 ∷ 1 ∷ 2 ∷ 3 ∷ 4 ∷ 5 ∷ [])
 
 abbrev all_metadata : Cluster → List Metadata
-all_metadata s = map (λ g. g.metadata) s.ledgers
+all_metadata s = map (λ g. g.metadata) s.parts.ledgers
 
 -- what a worker's bookie that held nothing of the ledger holds of it after a copy
 abbrev entries_after_copy : ℕ → ℕ → ℕ → ℕ → ℕ → List ℕ
@@ -186,18 +182,14 @@ metadata_after_swaps = refl
 
 -- a swap leaves who is registered, the contents, the tasks, the locks and the clock
 pub state_after_swap : state_after (1 ∷ []) 4 7 (both 4 7 1 2 4)
-    ≡ record six_bookies {
-      up = from_list (0 ∷ 2 ∷ 3 ∷ 4 ∷ 5 ∷ []);
-      ledgers = record {
+    ≡ with_held (with_ledgers (with_up six_bookies (from_list (0 ∷ 2 ∷ 3 ∷ 4 ∷ 5 ∷ []))) (record {
         id = 7;
         metadata = swapped_metadata;
         words = 1;
         task = Some (from_list (1 ∷ []));
         lock = Some (record { owner = 4; due = None });
       }
-          ∷ record { id = 9; metadata = open_metadata; words = 1; task = Some (from_list (1 ∷ [])); lock = None } ∷ [];
-      held = union six_bookies.held (from_list (row 4 7 (4 ∷ 5 ∷ [])));
-    }
+          ∷ record { id = 9; metadata = open_metadata; words = 1; task = Some (from_list (1 ∷ [])); lock = None } ∷ [])) (union six_bookies.parts.held (from_list (row 4 7 (4 ∷ 5 ∷ []))))
 unfolding contains insert retain remove empty from_list union items is_subset is_empty len
 state_after_swap = refl
 

@@ -1,4 +1,4 @@
--- What two changes of a cluster make of each other.
+-- What two changes of a cluster's parts make of each other.
 use Rattle.std.proofs.Common.{◌≡◌, ◌≢◌, ◌<◌, ◌+◌, ◌*◌, ◌/◌, ◌%◌, ℕ, zero, suc, Bool, true, false, cond, ◌&&◌, ◌||◌, List, [], ◌∷◌, length, Option, Some, refl, sym, ap, subst, ◌∙◌, arith, inl, inr, nat_eq}
 use Rattle.std.specs.Prelude.{not, ◌==◌, ◌^◌}
 use Rattle.std.specs.Option.{option_map_or}
@@ -7,13 +7,16 @@ use Rattle.std.proofs.lemmas.Bool.{and_parts}
 use Rattle.std.proofs.lemmas.Bool.Decides.{nat_tests}
 use Rattle.std.specs.Cmp.{nat_cmp_total, eq_by_cmp_equiv, unsigned_tied}
 use Rattle.reh_types.specs.declared.locks.Lock as locks
-use Rattle.reh_types.specs.declared.changes.Change.TheVariants.{Registration, Metadata, Task, Lock, Word, Clock}
+use Rattle.reh_types.specs.declared.changes.Change.TheVariants.{Registration, Metadata, Task, Lock, Word, Scalar}
+use Rattle.reh_types.specs.declared.scalars.Scalars.{Scalars}
+use Rattle.reh_types.specs.Scalars.{scalar_at}
+use Rattle.reh_types.proofs.ScalarLaws.{number_of-scalar_at, with_scalar-back, with_scalar-comm, scalar_at-here, scalar_at-apart}
 use Rattle.reh_types.specs.Sets as set
 use Rattle.reh_types.specs.Sets.{Set, numbers, contains-insert, contains-remove, same_set}
 use Rattle.reh_model.specs.Metadata as meta
 use Rattle.reh_model.specs.Contents.{Contents, has, is_in_word, one_of, turned}
-use Rattle.reh_model.specs.Cluster.{Cluster, Ledger, holds, ledger_among, words_among}
-use Rattle.reh_model.specs.Places.{Change, Place, at_registration, at_metadata, at_task, at_lock, at_word, at_clock, place_of, order_of, IsLess, IsBefore, change_at, with_member, put, back, IsThere, SameAt}
+use Rattle.reh_model.specs.Cluster.{Parts, Ledger, ledger_among, words_among}
+use Rattle.reh_model.specs.Places.{Change, Place, at_registration, at_metadata, at_task, at_lock, at_word, at_scalar, place_of, order_of, IsLess, IsBefore, change_at, with_member, put, back, IsPlaced, SameAt}
 use Rattle.reh_model.proofs.LedgerLaws.{KeepsId, KeepsWords}
 use Rattle.reh_model.proofs.TurnedLaws.{one_of-false, has-turned, turned-twice, turned-comm, some_bit}
 use Rattle.reh_model.proofs.ListLaws.{change_at-length, change_at-comm, change_at-apart, read_at-apart, read_at-part, slice_get-apart, slice_get-part, change_at-read, change_at-twice, read_at-put}
@@ -27,17 +30,8 @@ not_less (m ∷ ms) h = elim h [ inl less ↦ absurd (omega (arith, less)) | inr
 pub IsBefore-different : (p q : Place) → IsBefore p q → p ≢ q
 IsBefore-different p q before same = not_less (order_of p) (subst (λ r. IsLess (order_of p) (order_of r)) (sym same) before)
 
--- a change keeps the names
-pub put-names : (s : Cluster) (c : Change) → (put s c).names ≡ s.names
-put-names s (Registration b up) = refl
-put-names s (Metadata i metadata) = refl
-put-names s (Task i task) = refl
-put-names s (Lock i lock) = refl
-put-names s (Word b l k bits) = refl
-put-names s (Clock clock) = refl
-
--- and as many ledgers
-pub put-count : (s : Cluster) (c : Change) → length (put s c).ledgers ≡ length s.ledgers
+-- a change keeps as many ledgers
+pub put-count : (s : Parts) (c : Change) → length (put s c).ledgers ≡ length s.ledgers
 put-count s (Metadata i metadata) = change_at-length s.ledgers i _
 put-count s (Task i task) = change_at-length s.ledgers i _
 put-count s (Lock i lock) = change_at-length s.ledgers i _
@@ -57,30 +51,30 @@ words_among-change_at change id words (g ∷ gs) (suc i) l =
       | false ↦ words_among-change_at change id words gs i l
     ]
 
--- with as many words each
-pub words_among-put : (s : Cluster) (c : Change) (l : ℕ) → words_among (put s c).ledgers l ≡ words_among s.ledgers l
+-- with as many words each,
+pub words_among-put : (s : Parts) (c : Change) (l : ℕ) → words_among (put s c).ledgers l ≡ words_among s.ledgers l
 words_among-put s (Metadata i metadata) l = words_among-change_at _ (λ g. refl) (λ g. refl) s.ledgers i l
 words_among-put s (Task i task) l = words_among-change_at _ (λ g. refl) (λ g. refl) s.ledgers i l
 words_among-put s (Lock i lock) l = words_among-change_at _ (λ g. refl) (λ g. refl) s.ledgers i l
 words_among-put s c l = refl
 
 -- so the places stay that there are
-pub IsThere-put : (s : Cluster) (c d : Change) → IsThere s d → IsThere (put s c) d
-IsThere-put s c (Registration b up) h = subst (λ names. b < length names) (sym (put-names s c)) h
-IsThere-put s c (Metadata i metadata) h = subst (λ n. i < n) (sym (put-count s c)) h
-IsThere-put s c (Task i task) h = subst (λ n. i < n) (sym (put-count s c)) h
-IsThere-put s c (Lock i lock) h = subst (λ n. i < n) (sym (put-count s c)) h
-IsThere-put s c (Word b l k bits) h = (subst (λ names. b < length names) (sym (put-names s c)) h.0, subst (λ n. k < n) (sym (words_among-put s c l)) h.1)
-IsThere-put s c (Clock clock) h = h
+pub IsPlaced-put : (n : ℕ) (s : Parts) (c d : Change) → IsPlaced n s d → IsPlaced n (put s c) d
+IsPlaced-put n s c (Registration b up) h = h
+IsPlaced-put n s c (Metadata i metadata) h = subst (λ n. i < n) (sym (put-count s c)) h
+IsPlaced-put n s c (Task i task) h = subst (λ n. i < n) (sym (put-count s c)) h
+IsPlaced-put n s c (Lock i lock) h = subst (λ n. i < n) (sym (put-count s c)) h
+IsPlaced-put n s c (Word b l k bits) h = (h.0, subst (λ n. k < n) (sym (words_among-put s c l)) h.1, h.2)
+IsPlaced-put n s c (Scalar scalar) h = h
 
 -- a change leaves its own place
-pub place_of-back : (s : Cluster) (c : Change) → place_of (back s c) ≡ place_of c
+pub place_of-back : (s : Parts) (c : Change) → place_of (back s c) ≡ place_of c
 place_of-back s (Registration b up) = refl
 place_of-back s (Metadata i metadata) = refl
 place_of-back s (Task i task) = refl
 place_of-back s (Lock i lock) = refl
 place_of-back s (Word b l k bits) = refl
-place_of-back s (Clock clock) = refl
+place_of-back s (Scalar scalar) = ap at_scalar (number_of-scalar_at s.scalars scalar)
 
 -- Registrations
 
@@ -136,7 +130,7 @@ contains-with_member-apart s b d up apart =
 -- Two changes
 
 -- what a change leaves takes it back
-pub put-back : (s : Cluster) (c : Change) → put (put s c) (back s c) ≡ s
+pub put-back : (s : Parts) (c : Change) → put (put s c) (back s c) ≡ s
 put-back s (Registration b up) = ap (λ (u : Set numbers). record s { up = u }) (with_member-back s.up b up)
 put-back s (Metadata i metadata) =
     ap (λ (gs : List Ledger). record s { ledgers = gs })
@@ -151,20 +145,20 @@ put-back s (Lock i lock) =
     (change_at-twice (λ (g : Ledger). g.lock) (λ (k : Option locks.Lock) (g : Ledger). record g { lock = k }) (λ k o g. refl) _ lock s.ledgers i
     ∙ change_at-read (λ (g : Ledger). g.lock) (λ (k : Option locks.Lock) (g : Ledger). record g { lock = k }) (λ g. refl) s.ledgers i lock)
 put-back s (Word b l k bits) = ap (λ (held : Contents). record s { held = held }) (turned-twice s.held b l k bits)
-put-back s (Clock clock) = refl
+put-back s (Scalar scalar) = ap (λ (v : Scalars). record s { scalars = v }) (with_scalar-back s.scalars scalar)
 
 -- and then leaves the change again
-pub back-back : (s : Cluster) (c : Change) → back (put s c) (back s c) ≡ c
+pub back-back : (s : Parts) (c : Change) → back (put s c) (back s c) ≡ c
 back-back s (Registration b up) = ap (Registration b) (contains-with_member-here s.up b up)
 back-back s (Metadata i metadata) =
     ap (Metadata i) (read_at-put (λ (g : Ledger). g.metadata) (λ (m : meta.Metadata) (g : Ledger). record g { metadata = m }) (λ m g. refl) metadata s.ledgers i)
 back-back s (Task i task) = ap (Task i) (read_at-put (λ (g : Ledger). g.task) (λ (t : Option (Set numbers)) (g : Ledger). record g { task = t }) (λ t g. refl) task s.ledgers i)
 back-back s (Lock i lock) = ap (Lock i) (read_at-put (λ (g : Ledger). g.lock) (λ (k : Option locks.Lock) (g : Ledger). record g { lock = k }) (λ k g. refl) lock s.ledgers i)
 back-back s (Word b l k bits) = refl
-back-back s (Clock clock) = refl
+back-back s (Scalar scalar) = ap Scalar (scalar_at-here s.scalars scalar (scalar_at s.scalars scalar) (sym (number_of-scalar_at s.scalars scalar)))
 
 -- changes of different places commute
-pub put-comm : (s : Cluster) (c d : Change) → place_of c ≢ place_of d → put (put s c) d ≡ put (put s d) c
+pub put-comm : (s : Parts) (c d : Change) → place_of c ≢ place_of d → put (put s c) d ≡ put (put s d) c
 put-comm s (Registration b up) (Registration d down) h = ap (λ (u : Set numbers). record s { up = u }) (with_member-comm s.up b d up down (λ e. h (ap at_registration e)))
 put-comm s (Metadata i m) (Metadata j n) h = ap (λ (gs : List Ledger). record s { ledgers = gs }) (change_at-apart _ _ s.ledgers i j (λ e. h (ap at_metadata e)))
 put-comm s (Metadata i m) (Task j t) h = ap (λ (gs : List Ledger). record s { ledgers = gs }) (change_at-comm _ _ (λ g. refl) s.ledgers i j)
@@ -176,11 +170,11 @@ put-comm s (Lock i k) (Metadata j m) h = ap (λ (gs : List Ledger). record s { l
 put-comm s (Lock i k) (Task j t) h = ap (λ (gs : List Ledger). record s { ledgers = gs }) (change_at-comm _ _ (λ g. refl) s.ledgers i j)
 put-comm s (Lock i k) (Lock j o) h = ap (λ (gs : List Ledger). record s { ledgers = gs }) (change_at-apart _ _ s.ledgers i j (λ e. h (ap at_lock e)))
 put-comm s (Word b l k x) (Word c m n y) h = ap (λ (held : Contents). record s { held = held }) (turned-comm s.held b l k x c m n y)
-put-comm s (Clock clock) (Clock other) h = absurd (h refl)
+put-comm s (Scalar x) (Scalar y) h = ap (λ (v : Scalars). record s { scalars = v }) (with_scalar-comm s.scalars x y (λ e. h (ap at_scalar e)))
 put-comm s c d h = refl
 
 -- a change leaves what another one leaves
-pub back-put : (s : Cluster) (c d : Change) → place_of c ≢ place_of d → back (put s c) d ≡ back s d
+pub back-put : (s : Parts) (c d : Change) → place_of c ≢ place_of d → back (put s c) d ≡ back s d
 back-put s (Registration b up) (Registration d down) h = ap (Registration d) (contains-with_member-apart s.up b d up (λ e. h (ap at_registration e)))
 back-put s (Metadata i m) (Metadata j n) h = ap (Metadata j) (read_at-apart (λ (g : Ledger). g.metadata) _ s.ledgers i j n (λ e. h (ap at_metadata e)))
 back-put s (Task i t) (Task j u) h = ap (Task j) (read_at-apart (λ (g : Ledger). g.task) _ s.ledgers i j u (λ e. h (ap at_task e)))
@@ -191,34 +185,34 @@ back-put s (Metadata i m) (Task j u) h = ap (Task j) (read_at-part (λ (g : Ledg
 back-put s (Lock i k) (Task j u) h = ap (Task j) (read_at-part (λ (g : Ledger). g.task) _ (λ g. refl) s.ledgers i j u)
 back-put s (Metadata i m) (Lock j o) h = ap (Lock j) (read_at-part (λ (g : Ledger). g.lock) _ (λ g. refl) s.ledgers i j o)
 back-put s (Task i t) (Lock j o) h = ap (Lock j) (read_at-part (λ (g : Ledger). g.lock) _ (λ g. refl) s.ledgers i j o)
-back-put s (Clock clock) (Clock other) h = absurd (h refl)
+back-put s (Scalar x) (Scalar y) h = ap Scalar (scalar_at-apart s.scalars x y (λ e. h (ap at_scalar e)))
 back-put s c d h = refl
 
 -- Differences
 
-pub SameAt-refl : (s : Cluster) (p : Place) → SameAt s s p
+pub SameAt-refl : (s : Parts) (p : Place) → SameAt s s p
 SameAt-refl s (at_registration b) = refl
 SameAt-refl s (at_metadata i) = refl
 SameAt-refl s (at_task i) = refl
 SameAt-refl s (at_lock i) = refl
 SameAt-refl s (at_word b l k) = λ e within. refl
-SameAt-refl s at_clock = refl
+SameAt-refl s (at_scalar n) = λ scalar is. refl
 
-pub SameAt-sym : (s t : Cluster) (p : Place) → SameAt s t p → SameAt t s p
+pub SameAt-sym : (s t : Parts) (p : Place) → SameAt s t p → SameAt t s p
 SameAt-sym s t (at_registration b) h = sym h
 SameAt-sym s t (at_metadata i) h = sym h
 SameAt-sym s t (at_task i) h = sym h
 SameAt-sym s t (at_lock i) h = sym h
 SameAt-sym s t (at_word b l k) h = λ e within. sym (h e within)
-SameAt-sym s t at_clock h = sym h
+SameAt-sym s t (at_scalar n) h = λ scalar is. sym (h scalar is)
 
-pub SameAt-trans : (s t u : Cluster) (p : Place) → SameAt s t p → SameAt t u p → SameAt s u p
+pub SameAt-trans : (s t u : Parts) (p : Place) → SameAt s t p → SameAt t u p → SameAt s u p
 SameAt-trans s t u (at_registration b) h k = h ∙ k
 SameAt-trans s t u (at_metadata i) h k = h ∙ k
 SameAt-trans s t u (at_task i) h k = h ∙ k
 SameAt-trans s t u (at_lock i) h k = h ∙ k
 SameAt-trans s t u (at_word b l n) h k = λ e within. h e within ∙ k e within
-SameAt-trans s t u at_clock h k = h ∙ k
+SameAt-trans s t u (at_scalar n) h k = λ scalar is. h scalar is ∙ k scalar is
 
 -- a word that turns turns no entry of another one
 turned-apart : (s : Contents) (b l k bits c m n e : ℕ) → at_word b l k ≢ at_word c m n → e / 64 ≡ n → has s c m e ≡ has (turned s b l k bits) c m e
@@ -239,7 +233,7 @@ turned-apart s b l k bits c m n e apart within =
     ∙ sym (has-turned s b l k bits c m e)
 
 -- a change leaves what stands at other places
-pub SameAt-put : (s : Cluster) (c : Change) (p : Place) → place_of c ≢ p → SameAt s (put s c) p
+pub SameAt-put : (s : Parts) (c : Change) (p : Place) → place_of c ≢ p → SameAt s (put s c) p
 SameAt-put s (Registration b up) (at_registration d) h = sym (contains-with_member-apart s.up b d up (λ e. h (ap at_registration e)))
 SameAt-put s (Metadata i m) (at_metadata j) h = sym (slice_get-apart (λ (g : Ledger). g.metadata) _ s.ledgers i j (λ e. h (ap at_metadata e)))
 SameAt-put s (Task i t) (at_task j) h = sym (slice_get-apart (λ (g : Ledger). g.task) _ s.ledgers i j (λ e. h (ap at_task e)))
@@ -251,7 +245,7 @@ SameAt-put s (Lock i k) (at_task j) h = sym (slice_get-part (λ (g : Ledger). g.
 SameAt-put s (Metadata i m) (at_lock j) h = sym (slice_get-part (λ (g : Ledger). g.lock) _ (λ g. refl) s.ledgers i j)
 SameAt-put s (Task i t) (at_lock j) h = sym (slice_get-part (λ (g : Ledger). g.lock) _ (λ g. refl) s.ledgers i j)
 SameAt-put s (Word b l k bits) (at_word c m n) h = λ e within. turned-apart s.held b l k bits c m n e h within
-SameAt-put s (Clock clock) at_clock h = absurd (h refl)
+SameAt-put s (Scalar x) (at_scalar n) h = λ y is. sym (scalar_at-apart s.scalars x y (λ e. h (ap at_scalar (e ∙ is))))
 SameAt-put s c p h = SameAt-refl s p
 
 not_itself : (b : Bool) → b ≢ one_of b true
@@ -259,7 +253,7 @@ not_itself true e = cc
 not_itself false e = cc
 
 -- where some bits of a word turn, the word differs
-pub word_differs : (s : Cluster) (b l k bits : ℕ) → bits ≢ 0 → bits < 2 ^ 64 → ¬ SameAt s (put s (Word b l k bits)) (at_word b l k)
+pub word_differs : (s : Parts) (b l k bits : ℕ) → bits ≢ 0 → bits < 2 ^ 64 → ¬ SameAt s (put s (Word b l k bits)) (at_word b l k)
 word_differs s b l k bits some below same =
     let bit = some_bit bits 64 some below in
     let e : ℕ = 64 * k + bit.at in
@@ -270,4 +264,4 @@ word_differs s b l k bits some below same =
     let second : nat_eq l l ≡ true = grind (arith, nat_tests) in
     let third : (e / 64 == k) ≡ true = grind (arith, nat_tests, word) in
     let fourth : (bit_at bits (e % 64) == 1) ≡ true = ap (λ n. n == 1) turns in
-    not_itself (holds s b l e) (same e word ∙ has-turned s.held b l k bits b l e ∙ (λ i. one_of (holds s b l e) ((first i && second i) && (third i && fourth i))))
+    not_itself (has s.held b l e) (same e word ∙ has-turned s.held b l k bits b l e ∙ (λ i. one_of (has s.held b l e) ((first i && second i) && (third i && fourth i))))

@@ -22,10 +22,10 @@ use Rattle.reh_model.proofs.ContentsLaws.{triples_tied, greatest_held-reached}
 -- What is held
 
 -- an entry that can be read is held
-any_held : (s : Cluster) (l e : ℕ) (bs : List ℕ) → list_any (λ b. is_up s b && holds s b l e) bs ≡ true → IsHeld s.held l e
+any_held : (s : Cluster) (l e : ℕ) (bs : List ℕ) → list_any (λ b. is_up s b && holds s b l e) bs ≡ true → IsHeld s.parts.held l e
 any_held s l e [] any = cc
 any_held s l e (b ∷ bs) any =
-    elim (holds s b l e) as (λ h. holds s b l e ≡ h → ((is_up s b && h) || list_any (λ b. is_up s b && holds s b l e) bs) ≡ true → IsHeld s.held l e) [
+    elim (holds s b l e) as (λ h. holds s b l e ≡ h → ((is_up s b && h) || list_any (λ b. is_up s b && holds s b l e) bs) ≡ true → IsHeld s.parts.held l e) [
       | true ↦ λ is _. (b, is)
       | false ↦ λ _ later. any_held s l e bs (sym (ap (λ h. h || list_any (λ b. is_up s b && holds s b l e) bs) (and_false (is_up s b))) ∙ later)
     ] refl any
@@ -34,23 +34,23 @@ any_held s l e (b ∷ bs) any =
     and_false true = refl
     and_false false = refl
 
-pub IsHeld-readable : (s : Cluster) (g : Ledger) (fragment : Fragment) (e : ℕ) → is_readable s g fragment e ≡ true → IsHeld s.held g.id e
+pub IsHeld-readable : (s : Cluster) (g : Ledger) (fragment : Fragment) (e : ℕ) → is_readable s g fragment e ≡ true → IsHeld s.parts.held g.id e
 IsHeld-readable s g fragment e is = any_held s g.id e (writes g.metadata fragment e) is
 
 -- The next entry
 
 -- it is no less than the last fragment's first,
 pub first_before_next : (s : Cluster) (g : Ledger) → (last_fragment g.metadata).first ≤ next_entry s g
-first_before_next s g = within (last_fragment g.metadata).first (greatest_held s.held g.id) where
+first_before_next s g = within (last_fragment g.metadata).first (greatest_held s.parts.held g.id) where
   within : (first : ℕ) (greatest : Option ℕ) → first ≤ option_map_or (λ greatest. max first (greatest + 1)) greatest first
   within first None = omega arith
   within first (Some greatest) = omega arith
 
 -- and above every entry of the ledger that any bookie holds
-pub held_before_next : (s : Cluster) (g : Ledger) (e : ℕ) → IsHeld s.held g.id e → e < next_entry s g
+pub held_before_next : (s : Cluster) (g : Ledger) (e : ℕ) → IsHeld s.parts.held g.id e → e < next_entry s g
 held_before_next s g e held =
     let first : ℕ = (last_fragment g.metadata).first in
-    let reached = greatest_held-reached s.held g.id e held in
+    let reached = greatest_held-reached s.parts.held g.id e held in
     let below : e < max first (reached.value + 1) = omega (arith, reached.reached) in
     subst (λ (greatest : Option ℕ). e < option_map_or (λ greatest. max first (greatest + 1)) greatest first) (sym reached.is) below
 
@@ -199,7 +199,7 @@ any-up_writes s g e b = any-filter_same (nat_eq b) (is_up s) (is_up s b) (λ k t
 -- what a copy of a recovery shows: the bookie is registered, and some bookie holds the entry
 pub record IsRecovered (s : Cluster) (b l e : ℕ) : Type 0 where
   pub up : is_up s b ≡ true
-  pub held : IsHeld s.held l e
+  pub held : IsHeld s.parts.held l e
 
 both : (a b : Bool) → (a && b) ≡ true → (a ≡ true) × (b ≡ true)
 both true b is = (refl, is)
@@ -216,7 +216,7 @@ IsRecovered-copy s g b l e is =
     let readable : is_readable s g (last_fragment g.metadata) e ≡ true = readable_before_end s g e (omega (arith, entry, passed.from)) (omega (arith, entry, passed.below)) in
     record {
       up = (both (is_up s b) _ (sym (any-up_writes s g e b) ∙ parts.1)).0;
-      held = subst (λ (k : ℕ). IsHeld s.held k e) ledger (IsHeld-readable s g (last_fragment g.metadata) e readable);
+      held = subst (λ (k : ℕ). IsHeld s.parts.held k e) ledger (IsHeld-readable s g (last_fragment g.metadata) e readable);
     }
 
 pub IsRecovered-at : (s : Cluster) (l b k e : ℕ) → has (recovered_at s l) b k e ≡ true → IsRecovered s b k e

@@ -10,7 +10,7 @@ use Rattle.reh_types.specs.declared.names.LedgerState.TheVariants.{Closed}
 use Rattle.reh_types.specs.declared.refusals.Refusal.{Refusal}
 use Rattle.reh_types.specs.declared.refusals.Refusal.TheVariants.{NoBookie, NoLedger, NotOwner, NoFragment, NoIndex, MemberUp, TargetDown, TargetIsMember, NoEndpoint, Stale, NoSource, SourceGone}
 use Rattle.reh_types.specs.Sets.{contains, insert, retain, remove, empty, from_list, union, items, is_subset, is_empty, len}
-use Rattle.reh_model.specs.Cluster.{Cluster}
+use Rattle.reh_model.specs.Cluster.{Cluster, with_held, with_ledgers}
 use Rattle.reh_model.specs.Scan.{scan, aim_refusal, post_refusal}
 use Rattle.reh_model.specs.Session.{opened_session, state_of}
 use Rattle.reh_model.proofs.Examples.{replies, played_session}
@@ -68,10 +68,7 @@ no_stop_to_scan = refl
 
 -- a closed ledger on four bookies, each entry of which three of them were to hold; the first bookie lacks entry 4, and the third one entry 5
 abbrev four_members : Cluster
-four_members = record five_bookies {
-  ledgers = record { id = 7; metadata = record { size = 4; write_quorum = 3; ack_quorum = 2; state = Closed 7; version = 8; fragments = record { first = 0; ensemble = 0 ∷ 1 ∷ 2 ∷ 4 ∷ [] } ∷ [] }; words = 1; task = None; lock = None } ∷ [];
-  held = from_list (row 0 7 (0 ∷ 2 ∷ 3 ∷ 6 ∷ []) ++ row 1 7 (0 ∷ 1 ∷ 3 ∷ 4 ∷ 5 ∷ []) ++ row 2 7 (0 ∷ 1 ∷ 2 ∷ 4 ∷ 6 ∷ []) ++ row 4 7 (1 ∷ 2 ∷ 3 ∷ 5 ∷ 6 ∷ []));
-}
+four_members = with_held (with_ledgers five_bookies (record { id = 7; metadata = record { size = 4; write_quorum = 3; ack_quorum = 2; state = Closed 7; version = 8; fragments = record { first = 0; ensemble = 0 ∷ 1 ∷ 2 ∷ 4 ∷ [] } ∷ [] }; words = 1; task = None; lock = None } ∷ [])) (from_list (row 0 7 (0 ∷ 2 ∷ 3 ∷ 6 ∷ []) ++ row 1 7 (0 ∷ 1 ∷ 3 ∷ 4 ∷ 5 ∷ []) ++ row 2 7 (0 ∷ 1 ∷ 2 ∷ 4 ∷ 6 ∷ []) ++ row 4 7 (1 ∷ 2 ∷ 3 ∷ 5 ∷ 6 ∷ [])))
 
 -- each of the two has a later member as its source
 pub sources_of_three : scan (started four_members) aim
@@ -81,10 +78,7 @@ sources_of_three = refl
 
 -- a closed ledger of two fragments on two bookies each; the first bookie lacks an entry of the second one, which a member of the first one holds
 abbrev two_fragments : Cluster
-two_fragments = record five_bookies {
-  ledgers = record { id = 7; metadata = record { size = 2; write_quorum = 2; ack_quorum = 1; state = Closed 4; version = 1; fragments = record { first = 0; ensemble = 0 ∷ 2 ∷ [] } ∷ record { first = 2; ensemble = 1 ∷ 0 ∷ [] } ∷ [] }; words = 1; task = None; lock = None } ∷ [];
-  held = from_list (row 0 7 (0 ∷ 1 ∷ 3 ∷ []) ++ row 1 7 (2 ∷ 3 ∷ []) ++ row 2 7 (0 ∷ 1 ∷ 2 ∷ []));
-}
+two_fragments = with_held (with_ledgers five_bookies (record { id = 7; metadata = record { size = 2; write_quorum = 2; ack_quorum = 1; state = Closed 4; version = 1; fragments = record { first = 0; ensemble = 0 ∷ 2 ∷ [] } ∷ record { first = 2; ensemble = 1 ∷ 0 ∷ [] } ∷ [] }; words = 1; task = None; lock = None } ∷ [])) (from_list (row 0 7 (0 ∷ 1 ∷ 3 ∷ []) ++ row 1 7 (2 ∷ 3 ∷ []) ++ row 2 7 (0 ∷ 1 ∷ 2 ∷ [])))
 
 -- members of other fragments are no sources
 pub sources_of_the_fragment : scan (started two_fragments) (record aim { fragment = 1; index = 0 })
@@ -224,7 +218,7 @@ unfolding contains insert retain remove empty from_list union items is_subset is
 order_of_members = refl
 
 -- a bookie outside the write set that holds the entry and is registered is no source of it
-pub source_outside_the_write_set : map (post_refusal (started (record four_members { held = union four_members.held (from_list (row 0 7 (1 ∷ 5 ∷ []) ++ row 3 7 (0 ∷ []))) }))) (record (with_sources (Some 3 ∷ Some 2 ∷ Some 4 ∷ Some 2 ∷ Some 4 ∷ [])) { version = 8; stop = 7; ensemble = 0 ∷ 1 ∷ 2 ∷ 4 ∷ [] } ∷ record (with_sources (Some 0 ∷ Some 0 ∷ Some 4 ∷ Some 2 ∷ Some 4 ∷ [])) { version = 8; stop = 7; ensemble = 0 ∷ 1 ∷ 2 ∷ 4 ∷ [] } ∷ [])
+pub source_outside_the_write_set : map (post_refusal (started (with_held four_members (union four_members.parts.held (from_list (row 0 7 (1 ∷ 5 ∷ []) ++ row 3 7 (0 ∷ []))))))) (record (with_sources (Some 3 ∷ Some 2 ∷ Some 4 ∷ Some 2 ∷ Some 4 ∷ [])) { version = 8; stop = 7; ensemble = 0 ∷ 1 ∷ 2 ∷ 4 ∷ [] } ∷ record (with_sources (Some 0 ∷ Some 0 ∷ Some 4 ∷ Some 2 ∷ Some 4 ∷ [])) { version = 8; stop = 7; ensemble = 0 ∷ 1 ∷ 2 ∷ 4 ∷ [] } ∷ [])
     ≡ Some (SourceGone 0) ∷ Some (SourceGone 1) ∷ []
 unfolding contains insert retain remove empty from_list union items is_subset is_empty len
 source_outside_the_write_set = refl

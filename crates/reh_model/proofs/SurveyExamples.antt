@@ -5,7 +5,7 @@ use Rattle.reh_types.specs.declared.moves.Move.TheVariants.{Do}
 use Rattle.reh_types.specs.declared.names.LedgerState.TheVariants.{InRecovery, Closed}
 use Rattle.reh_types.specs.declared.surveys.SurveyLine.{SurveyLine}
 use Rattle.reh_types.specs.Sets.{contains, insert, retain, remove, empty, from_list, union, items, is_subset, is_empty, len}
-use Rattle.reh_model.specs.Cluster.{Cluster, Ledger}
+use Rattle.reh_model.specs.Cluster.{Cluster, Ledger, with_held, with_ledgers}
 use Rattle.reh_model.specs.Session.{opened_session, state_of}
 use Rattle.reh_model.specs.Survey.{survey, line_at}
 use Rattle.reh_model.proofs.Examples.{played_session}
@@ -35,10 +35,7 @@ wide_ledger = record closed_ledger {
 
 -- it stands there in recovery and closed, and the fourth bookie holds entry 4 of the former, which was not written to it
 abbrev wide_cluster : Cluster
-wide_cluster = record five_bookies {
-  ledgers = wide_ledger ∷ record wide_ledger { id = 4; metadata = record wide_ledger.metadata { state = Closed 8 } } ∷ [];
-  held = from_list (row 0 3 (0 ∷ []) ++ row 1 3 (0 ∷ 1 ∷ []) ++ row 3 3 (2 ∷ 3 ∷ 4 ∷ []) ++ row 4 4 (5 ∷ 7 ∷ []) ++ row 2 4 (2 ∷ 5 ∷ 6 ∷ []));
-}
+wide_cluster = with_held (with_ledgers five_bookies (wide_ledger ∷ record wide_ledger { id = 4; metadata = record wide_ledger.metadata { state = Closed 8 } } ∷ [])) (from_list (row 0 3 (0 ∷ []) ++ row 1 3 (0 ∷ 1 ∷ []) ++ row 3 3 (2 ∷ 3 ∷ 4 ∷ []) ++ row 4 4 (5 ∷ 7 ∷ []) ++ row 2 4 (2 ∷ 5 ∷ 6 ∷ [])))
 
 -- nothing is lost at first
 pub survey_of_all : survey five_bookies ≡ line 7 0 0 (Some 0) ∷ line 9 0 0 None ∷ []

@@ -20,7 +20,7 @@ use Rattle.reh_types.specs.Sets.{Set, numbers, is_empty, contains-union}
 use Rattle.reh_model.specs.Striping.{striped_entries}
 use Rattle.reh_model.specs.Contents.{Contents, has}
 use Rattle.reh_model.specs.Metadata.{Metadata, Fragment, end_of_state, stop_of, stripe_of, is_open, with_member, with_member_at, with_fragment_at, with_state, next_version}
-use Rattle.reh_model.specs.Cluster.{Cluster, Ledger, holds, is_locked_by, ledger_at, change_ledger, stop_at, stripe_at}
+use Rattle.reh_model.specs.Cluster.{Cluster, Ledger, holds, is_locked_by, ledger_at, change_ledger, stop_at, stripe_at, with_ledgers}
 use Rattle.reh_model.specs.Audit.{missing_members, published_members, audited_ledger}
 use Rattle.reh_model.specs.Recovery.{next_entry, is_rolling_over, recovered_end, recovered_at}
 use Rattle.reh_model.specs.Scan.{copy_of}
@@ -83,7 +83,7 @@ HoldsStripe-kept s t (Swap w l f i v) keeps was = (
 )
 
 -- nothing of a cluster's fragments and contents is changed
-KeepsPromises-apart : (s t : Cluster) → t.ledgers ≡ s.ledgers → t.held ≡ s.held → KeepsPromises s t
+KeepsPromises-apart : (s t : Cluster) → t.parts.ledgers ≡ s.parts.ledgers → t.parts.held ≡ s.parts.held → KeepsPromises s t
 KeepsPromises-apart s t ledgers held = record {
   stop = λ l f _. ap (λ (gs : List Ledger). option_and_then (λ g. stop_of g.metadata f) (find (λ g. g.id == l) gs)) ledgers;
   stripe = λ l f i _. ap (λ (gs : List Ledger). option_map_or (λ g. stripe_of g.metadata f i) (find (λ g. g.id == l) gs) []) ledgers;
@@ -95,10 +95,10 @@ record KeepsStripes (g h : Ledger) : Type 0 where
   stop : (f : ℕ) → IsSome (stop_of g.metadata f) → stop_of h.metadata f ≡ stop_of g.metadata f
   stripe : (f i : ℕ) → IsSome (stop_of g.metadata f) → stripe_of h.metadata f i ≡ stripe_of g.metadata f i
 
-KeepsPromises-ledgers : (s : Cluster) (change : Ledger → Ledger) → KeepsId change → ((l : ℕ) (g : Ledger) → ledger_at s l ≡ Some g → KeepsStripes g (change g)) → KeepsPromises s (record s { ledgers = map change s.ledgers })
+KeepsPromises-ledgers : (s : Cluster) (change : Ledger → Ledger) → KeepsId change → ((l : ℕ) (g : Ledger) → ledger_at s l ≡ Some g → KeepsStripes g (change g)) → KeepsPromises s (with_ledgers s (map change s.parts.ledgers))
 KeepsPromises-ledgers s change id keeps = record {
-  stop = λ l f some. ap (λ (o : Option Ledger). option_and_then (λ g. stop_of g.metadata f) o) (find-map l change id s.ledgers) ∙ stop l f (ledger_at s l) refl some;
-  stripe = λ l f i some. ap (λ (o : Option Ledger). option_map_or (λ g. stripe_of g.metadata f i) o []) (find-map l change id s.ledgers) ∙ stripe l f i (ledger_at s l) refl some;
+  stop = λ l f some. ap (λ (o : Option Ledger). option_and_then (λ g. stop_of g.metadata f) o) (find-map l change id s.parts.ledgers) ∙ stop l f (ledger_at s l) refl some;
+  stripe = λ l f i some. ap (λ (o : Option Ledger). option_map_or (λ g. stripe_of g.metadata f i) o []) (find-map l change id s.parts.ledgers) ∙ stripe l f i (ledger_at s l) refl some;
   held = λ b l e is. is;
 } where
   stop : (l f : ℕ) (o : Option Ledger) → ledger_at s l ≡ o → IsSome (option_and_then (λ (g : Ledger). stop_of g.metadata f) o)
@@ -115,7 +115,7 @@ KeepsPromises-ledgers s change id keeps = record {
 KeepsPromises-change_ledger : (s : Cluster) (l : ℕ) (change : Ledger → Ledger) → KeepsId change → ((g : Ledger) → ledger_at s l ≡ Some g → KeepsStripes g (change g)) → KeepsPromises s (change_ledger s l change)
 KeepsPromises-change_ledger s l change id keeps = KeepsPromises-ledgers s (changed_ledger l change) (KeepsId-changed_ledger l change id) (λ k g found.
     elim (g.id == l) as (λ b. (g.id == l) ≡ b → KeepsStripes g (cond b (change g) g)) [
-      | true ↦ λ own. let same : k ≡ l = (let id = id_found k s.ledgers g found in grind (arith, nat_tests, own, id)) in keeps g (ap (ledger_at s) (sym same) ∙ found)
+      | true ↦ λ own. let same : k ≡ l = (let id = id_found k s.parts.ledgers g found in grind (arith, nat_tests, own, id)) in keeps g (ap (ledger_at s) (sym same) ∙ found)
       | false ↦ λ _. record { stop = λ f _. refl; stripe = λ f i _. refl }
     ] refl)
 
@@ -126,8 +126,8 @@ KeepsStripes-apart g h same = record {
   stripe = λ f i _. ap (λ (m : Metadata). stripe_of m f i) same;
 }
 
-metadata-audited_ledger : (up : Set numbers) (g : Ledger) → (audited_ledger up g).metadata ≡ g.metadata
-metadata-audited_ledger up g = elim (is_empty (missing_members up g)) as (λ b. (if b then g else record g { task = Some (published_members up g) }).metadata ≡ g.metadata) [ true ↦ refl | false ↦ refl ]
+metadata-audited_ledger : (s : Cluster) (g : Ledger) → (audited_ledger s g).metadata ≡ g.metadata
+metadata-audited_ledger s g = elim (is_empty (missing_members s g)) as (λ b. (if b then g else record g { task = Some (published_members s g) }).metadata ≡ g.metadata) [ true ↦ refl | false ↦ refl ]
 
 metadata-expired_ledger : (w : ℕ) (g : Ledger) → (expired_ledger w g).metadata ≡ g.metadata
 metadata-expired_ledger w g = elim (is_locked_by w g) as (λ b. (if b then unlocked_ledger g else g).metadata ≡ g.metadata) [ true ↦ refl | false ↦ refl ]
@@ -254,12 +254,12 @@ or_before false b is = absurd (true≢false (sym is))
 KeepsPromises-after : (s : Cluster) (event : Event) → refusal_of s event ≡ None → KeepsPromises s (after s event)
 KeepsPromises-after s (Lose b) accepted = KeepsPromises-apart s (after s (Lose b)) refl refl
 KeepsPromises-after s (Join b) accepted = KeepsPromises-apart s (after s (Join b)) refl refl
-KeepsPromises-after s Audit accepted = KeepsPromises-ledgers s (audited_ledger s.up) (KeepsId-audited_ledger s.up) (λ l g _. KeepsStripes-apart g (audited_ledger s.up g) (metadata-audited_ledger s.up g))
+KeepsPromises-after s Audit accepted = KeepsPromises-ledgers s (audited_ledger s) (KeepsId-audited_ledger s) (λ l g _. KeepsStripes-apart g (audited_ledger s g) (metadata-audited_ledger s g))
 KeepsPromises-after s (Acquire w l) accepted = KeepsPromises-change_ledger s l (locked_ledger w) (λ g. refl) (λ g _. KeepsStripes-apart g (locked_ledger w g) refl)
 KeepsPromises-after s (Release w l) accepted = KeepsPromises-change_ledger s l unlocked_ledger (λ g. refl) (λ g _. KeepsStripes-apart g (unlocked_ledger g) refl)
 KeepsPromises-after s (Finish w l) accepted = KeepsPromises-change_ledger s l finished_ledger (λ g. refl) (λ g _. KeepsStripes-apart g (finished_ledger g) refl)
 KeepsPromises-after s (Expire w) accepted = KeepsPromises-ledgers s (expired_ledger w) (KeepsId-expired_ledger w) (λ l g _. KeepsStripes-apart g (expired_ledger w g) (metadata-expired_ledger w g))
-KeepsPromises-after s (Grace w l) accepted = KeepsPromises-change_ledger s l (graced_ledger (s.clock + s.grace)) (λ g. refl) (λ g _. KeepsStripes-apart g (graced_ledger (s.clock + s.grace) g) refl)
+KeepsPromises-after s (Grace w l) accepted = KeepsPromises-change_ledger s l (graced_ledger (s.parts.scalars.clock + s.grace)) (λ g. refl) (λ g _. KeepsStripes-apart g (graced_ledger (s.parts.scalars.clock + s.grace) g) refl)
 KeepsPromises-after s (Tick n) accepted = KeepsPromises-apart s (after s (Tick n)) refl refl
 KeepsPromises-after s (Roll l i b) accepted = KeepsPromises-change_ledger s l (rolled_ledger s i b) (λ g. refl) (λ g found. KeepsStripes-rolled_ledger s g i b (accepted_roll_open s l i b g found accepted))
 KeepsPromises-after s (Fence w l) accepted = KeepsPromises-change_ledger s l fenced_ledger (λ g. refl) (λ g found.
@@ -267,11 +267,11 @@ KeepsPromises-after s (Fence w l) accepted = KeepsPromises-change_ledger s l fen
 KeepsPromises-after s (Seal w l) accepted =
     let keeps : KeepsPromises s (change_ledger s l (sealed_ledger s)) = KeepsPromises-change_ledger s l (sealed_ledger s) (λ g. refl) (λ g found.
     KeepsStripes-with_state g (sealed_ledger s g) (Closed (recovered_end s g)) (no_end-recovering g.metadata.state (accepted_seal_recovering s w l g found accepted)) refl) in
-    record { stop = keeps.stop; stripe = keeps.stripe; held = λ b k e is. contains-union s.held (recovered_at s l) (b, k, e) ∙ or_before (has s.held b k e) _ is }
+    record { stop = keeps.stop; stripe = keeps.stripe; held = λ b k e is. contains-union s.parts.held (recovered_at s l) (b, k, e) ∙ or_before (has s.parts.held b k e) _ is }
 KeepsPromises-after s (Copy w l f i v) accepted = record {
   stop = λ k g _. refl;
   stripe = λ k g j _. refl;
-  held = λ b k e is. has-union-copies_of s.held w l (stripe_at s l f i) b k e ∙ or_before (has s.held b k e) _ is;
+  held = λ b k e is. has-union-copies_of s.parts.held w l (stripe_at s l f i) b k e ∙ or_before (has s.parts.held b k e) _ is;
 }
 KeepsPromises-after s (Swap w l f i v) accepted = KeepsPromises-change_ledger s l (swapped_ledger f i w) (λ g. refl) (λ g _. KeepsStripes-with_member g (swapped_ledger f i w g) f i w refl)
 

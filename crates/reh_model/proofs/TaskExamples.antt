@@ -10,9 +10,9 @@ use Rattle.reh_types.specs.declared.names.LedgerState.TheVariants.{Open, Closed}
 use Rattle.reh_types.specs.declared.refusals.Refusal.TheVariants.{NoBookie, NoLedger, NothingToPublish, NoTask, Locked, NotOwner, StillUnder, NoLocks}
 use Rattle.reh_types.specs.Sets.{contains, insert, retain, remove, empty, from_list, union, items, is_subset, is_empty, len}
 use Rattle.reh_model.specs.Metadata.{Fragment}
-use Rattle.reh_model.specs.Cluster.{Cluster, Ledger}
+use Rattle.reh_model.specs.Cluster.{Cluster, Ledger, with_held, with_ledgers}
 use Rattle.reh_model.specs.Session.{opened_session, state_of}
-use Rattle.reh_model.proofs.Examples.{replies, played_session}
+use Rattle.reh_model.proofs.Examples.{clear_cluster, replies, played_session}
 
 -- a ledger with one fragment from entry 0, on the first three bookies
 abbrev first_three : List Fragment
@@ -30,15 +30,11 @@ row bookie ledger entries = map (λ e. (bookie, ledger, e)) entries
 
 -- five registered bookies, and the two ledgers
 abbrev pub five_bookies : Cluster
-five_bookies = record {
-  names = codes "b1:3181" ∷ codes "b2:3181" ∷ codes "b3:3181" ∷ codes "b4:3181" ∷ codes "b5:3181" ∷ [];
-  grace = 3;
-  up = from_list (0 ∷ 1 ∷ 2 ∷ 3 ∷ 4 ∷ []);
-  ledgers = closed_ledger ∷ open_ledger ∷ [];
-  held = from_list (row 0 7 (0 ∷ 2 ∷ 3 ∷ 5 ∷ []) ++ row 1 7 (0 ∷ 1 ∷ 3 ∷ 4 ∷ []) ++ row 2 7 (1 ∷ 2 ∷ 4 ∷ 5 ∷ [])
-      ++ row 0 9 (0 ∷ 1 ∷ 2 ∷ 3 ∷ 4 ∷ []) ++ row 1 9 (0 ∷ 1 ∷ 2 ∷ 3 ∷ []) ++ row 2 9 (0 ∷ 1 ∷ 2 ∷ 3 ∷ []));
-  clock = 0;
-}
+five_bookies =
+    let started = clear_cluster (codes "b1:3181" ∷ codes "b2:3181" ∷ codes "b3:3181" ∷ codes "b4:3181" ∷ codes "b5:3181" ∷ []) in
+    with_held (with_ledgers started (closed_ledger ∷ open_ledger ∷ []))
+    (from_list (row 0 7 (0 ∷ 2 ∷ 3 ∷ 5 ∷ []) ++ row 1 7 (0 ∷ 1 ∷ 3 ∷ 4 ∷ []) ++ row 2 7 (1 ∷ 2 ∷ 4 ∷ 5 ∷ [])
+      ++ row 0 9 (0 ∷ 1 ∷ 2 ∷ 3 ∷ 4 ∷ []) ++ row 1 9 (0 ∷ 1 ∷ 2 ∷ 3 ∷ []) ++ row 2 9 (0 ∷ 1 ∷ 2 ∷ 3 ∷ [])))
 
 -- the replies to events
 abbrev pub answers : List Event → List Reply
@@ -50,11 +46,11 @@ state_after events = state_of (played_session (opened_session five_bookies) (map
 
 -- the tasks of the ledgers, in picture order
 abbrev tasks_after : List Event → List (Option (List ℕ))
-tasks_after events = map (λ g. option_map items g.task) (state_after events).ledgers
+tasks_after events = map (λ g. option_map items g.task) (state_after events).parts.ledgers
 
 -- the owners of their locks
 abbrev owners_after : List Event → List (Option ℕ)
-owners_after events = map (λ g. option_map (λ lock. lock.owner) g.lock) (state_after events).ledgers
+owners_after events = map (λ g. option_map (λ lock. lock.owner) g.lock) (state_after events).parts.ledgers
 
 abbrev locks_and_expiries : List Event
 locks_and_expiries = Lose 1 ∷ Audit ∷ Audit ∷ Acquire 3 7 ∷ Acquire 4 7 ∷ Expire 3 ∷ Acquire 4 7 ∷ Expire 3 ∷ []

@@ -19,7 +19,7 @@ use Rattle.reh_types.specs.Sets.{Set, numbers, contains, insert, remove, union, 
 use Rattle.reh_types.proofs.SetLaws.{All-items}
 use Rattle.reh_model.specs.Contents.{Contents, IsHeld, has, copies_of, greatest_held}
 use Rattle.reh_model.specs.Metadata.{Metadata, Fragment, IsMetadata, is_open, is_in_recovery, end_of_state, last_fragment, with_member, with_member_at, with_fragment_at, with_state, next_version}
-use Rattle.reh_model.specs.Cluster.{Cluster, Ledger, ledger_at, change_ledger, is_locked_by, due_of, stripe_at}
+use Rattle.reh_model.specs.Cluster.{Cluster, Ledger, ledger_at, change_ledger, is_locked_by, due_of, stripe_at, with_clock, with_held, with_ledgers, with_up}
 use Rattle.reh_model.specs.Audit.{missing_members, published_members, audited_ledger}
 use Rattle.reh_model.specs.Recovery.{next_entry, is_rolling_over, recovered_end, recovered_at}
 use Rattle.reh_model.specs.Step.{refusal_of, after, locked_ledger, unlocked_ledger, finished_ledger, expired_ledger, timed_lock, with_due, graced_ledger, rolled_ledger, fenced_ledger, sealed_ledger, swapped_ledger}
@@ -36,11 +36,11 @@ use Rattle.reh_model.proofs.AcceptedLaws.{IsRollable, IsSwappable, accepted_join
 
 -- a ledger of the cluster
 abbrev pub IsLedgerOf : Cluster → Ledger → Type 0
-IsLedgerOf s g = IsLedger (length s.names) (s.clock + s.grace) g
+IsLedgerOf s g = IsLedger (length s.names) (s.parts.scalars.clock + s.grace) g
 
 -- A ledger that is found is one of the cluster.
 pub IsLedger-found : (s : Cluster) (l : ℕ) (g : Ledger) → IsWellFormed s → ledger_at s l ≡ Some g → IsLedgerOf s g
-IsLedger-found s l g was found = found_in s.ledgers was.ledgers.each found where
+IsLedger-found s l g was found = found_in s.parts.ledgers was.ledgers.each found where
   found_in : (gs : List Ledger) → All (IsLedgerOf s) gs → find (λ g. g.id == l) gs ≡ Some g → IsLedgerOf s g
   found_in [] each found = cc
   found_in (h ∷ gs) each found =
@@ -50,10 +50,10 @@ IsLedger-found s l g was found = found_in s.ledgers was.ledgers.each found where
       ] found
 
 -- Nobody holds an entry past the last one that there can be,
-pub held_below : (s : Cluster) (l e : ℕ) → IsWellFormed s → IsHeld s.held l e → e < ENTRY_END
+pub held_below : (s : Cluster) (l e : ℕ) → IsWellFormed s → IsHeld s.parts.held l e → e < ENTRY_END
 held_below s l e was held = within (ledger_at s l) refl copy.1 copy.2 where
-  copy : IsCopy (length s.names) s.ledgers (held.0, l, e)
-  copy = All-copy (IsCopy (length s.names) s.ledgers) s.held was.contents.copies (held.0, l, e) held.1
+  copy : IsCopy (length s.names) s.parts.ledgers (held.0, l, e)
+  copy = All-copy (IsCopy (length s.names) s.parts.ledgers) s.parts.held was.contents.copies (held.0, l, e) held.1
 
   within : (o : Option Ledger) → ledger_at s l ≡ o → IsSome o → e < ENTRIES_IN_WORD * option_map_or (λ g. g.words) o 0 → e < ENTRY_END
   within None found some below = cc
@@ -61,13 +61,13 @@ held_below s l e was held = within (ledger_at s l) refl copy.1 copy.2 where
 
 -- so the next entry is at most one past it,
 pub next_entry-within : (s : Cluster) (l : ℕ) (g : Ledger) → IsWellFormed s → ledger_at s l ≡ Some g → next_entry s g ≤ ENTRY_END
-next_entry-within s l g was found = within (greatest_held s.held g.id) refl where
+next_entry-within s l g was found = within (greatest_held s.parts.held g.id) refl where
   first : (last_fragment g.metadata).first < ENTRY_END
   first = first-last g.metadata (IsLedger-found s l g was found).metadata
 
-  within : (greatest : Option ℕ) → greatest_held s.held g.id ≡ greatest → option_map_or (λ greatest. max (last_fragment g.metadata).first (greatest + 1)) greatest (last_fragment g.metadata).first ≤ ENTRY_END
+  within : (greatest : Option ℕ) → greatest_held s.parts.held g.id ≡ greatest → option_map_or (λ greatest. max (last_fragment g.metadata).first (greatest + 1)) greatest (last_fragment g.metadata).first ≤ ENTRY_END
   within None is = omega (arith, first)
-  within (Some greatest) is = omega (arith, first, held_below s g.id greatest was (greatest_held-held s.held g.id greatest is))
+  within (Some greatest) is = omega (arith, first, held_below s g.id greatest was (greatest_held-held s.parts.held g.id greatest is))
 
 -- and a recovery ends there at the latest.
 pub recovered_end-within : (s : Cluster) (l : ℕ) (g : Ledger) → IsWellFormed s → ledger_at s l ≡ Some g → recovered_end s g ≤ ENTRY_END
@@ -78,7 +78,7 @@ recovered_end-within s l g was found =
 -- Changes
 
 -- other bookies are registered
-pub IsWellFormed-up : (s : Cluster) (up : Set numbers) → IsWellFormed s → ((b : ℕ) → contains up b ≡ true → b < length s.names) → IsWellFormed (record s { up = up })
+pub IsWellFormed-up : (s : Cluster) (up : Set numbers) → IsWellFormed s → ((b : ℕ) → contains up b ≡ true → b < length s.names) → IsWellFormed (with_up s up)
 IsWellFormed-up s up was named = record { names = was.names; grace = was.grace; clock = was.clock; up = named; ledgers = was.ledgers; contents = was.contents }
 
 -- later due ticks can stand
@@ -94,7 +94,7 @@ IsLedger-later bookies latest later g goes_on was = record {
 }
 
 -- the clock goes on
-pub IsWellFormed-clock : (s : Cluster) (clock : ℕ) → IsWellFormed s → s.clock ≤ clock → clock ≤ CLOCK_END → IsWellFormed (record s { clock = clock })
+pub IsWellFormed-clock : (s : Cluster) (clock : ℕ) → IsWellFormed s → s.parts.scalars.clock ≤ clock → clock ≤ CLOCK_END → IsWellFormed (with_clock s clock)
 IsWellFormed-clock s clock was later in_time = record {
   names = was.names;
   grace = was.grace;
@@ -103,28 +103,28 @@ IsWellFormed-clock s clock was later in_time = record {
   ledgers = record {
     few = was.ledgers.few;
     different = was.ledgers.different;
-    each = λ k g k_in. IsLedger-later (length s.names) (s.clock + s.grace) (clock + s.grace) _ (omega arith) (was.ledgers.each k g k_in);
+    each = λ k g k_in. IsLedger-later (length s.names) (s.parts.scalars.clock + s.grace) (clock + s.grace) _ (omega arith) (was.ledgers.each k g k_in);
   };
   contents = was.contents;
 }
 
 -- ledgers are changed, and keep their ids and their words
-IsWellFormed-ledgers : (s : Cluster) (change : Ledger → Ledger) → IsWellFormed s → KeepsId change → KeepsWords change → ((g : Ledger) → ledger_at s g.id ≡ Some g → IsLedgerOf s g → IsLedgerOf s (change g)) → IsWellFormed (record s { ledgers = map change s.ledgers })
+IsWellFormed-ledgers : (s : Cluster) (change : Ledger → Ledger) → IsWellFormed s → KeepsId change → KeepsWords change → ((g : Ledger) → ledger_at s g.id ≡ Some g → IsLedgerOf s g → IsLedgerOf s (change g)) → IsWellFormed (with_ledgers s (map change s.parts.ledgers))
 IsWellFormed-ledgers s change was keeps as_many each = record {
   names = was.names;
   grace = was.grace;
   clock = was.clock;
   up = was.up;
   ledgers = record {
-    few = omega (arith, length-map s.ledgers change, was.ledgers.few);
-    different = subst (λ (ids : List ℕ). IsDistinct nat_eq ids) (sym (ids-map change keeps s.ledgers)) was.ledgers.different;
-    each = All-map (IsLedgerOf s) change s.ledgers (λ k d within.
-        each (get_or s.ledgers k d) (found_itself s.ledgers was.ledgers.different k d within) (was.ledgers.each k d within));
+    few = omega (arith, length-map s.parts.ledgers change, was.ledgers.few);
+    different = subst (λ (ids : List ℕ). IsDistinct nat_eq ids) (sym (ids-map change keeps s.parts.ledgers)) was.ledgers.different;
+    each = All-map (IsLedgerOf s) change s.parts.ledgers (λ k d within.
+        each (get_or s.parts.ledgers k d) (found_itself s.parts.ledgers was.ledgers.different k d within) (was.ledgers.each k d within));
   };
   contents = record {
-    copies = All-weaker (IsCopy (length s.names) s.ledgers) (IsCopy (length s.names) (map change s.ledgers)) (λ copy is.
-        (is.0, is_found-map copy.1 change keeps s.ledgers ∙ is.1, subst (λ (n : ℕ). copy.2 < ENTRIES_IN_WORD * n) (sym (words_among-map copy.1 change keeps as_many s.ledgers)) is.2)) (items s.held) was.contents.copies;
-    words = subst (λ (n : ℕ). length s.names * n ≤ MAX_WORDS) (sym (sum_by-words change as_many s.ledgers)) was.contents.words;
+    copies = All-weaker (IsCopy (length s.names) s.parts.ledgers) (IsCopy (length s.names) (map change s.parts.ledgers)) (λ copy is.
+        (is.0, is_found-map copy.1 change keeps s.parts.ledgers ∙ is.1, subst (λ (n : ℕ). copy.2 < ENTRIES_IN_WORD * n) (sym (words_among-map copy.1 change keeps as_many s.parts.ledgers)) is.2)) (items s.parts.held) was.contents.copies;
+    words = subst (λ (n : ℕ). length s.names * n ≤ MAX_WORDS) (sym (sum_by-words change as_many s.parts.ledgers)) was.contents.words;
   };
 }
 
@@ -153,9 +153,9 @@ All-among P (x ∷ es) e each among = either (nat_eq e x) (list_any (nat_eq e) e
     (All-among P es e (All-tail P x es each)) among
 
 -- bookies that have names take copies of entries that are held
-IsWellFormed-united : (s : Cluster) (more : Contents) → IsWellFormed s → ((b l e : ℕ) → has more b l e ≡ true → (b < length s.names) × IsHeld s.held l e) → IsWellFormed (record s { held = union s.held more })
+IsWellFormed-united : (s : Cluster) (more : Contents) → IsWellFormed s → ((b l e : ℕ) → has more b l e ≡ true → (b < length s.names) × IsHeld s.parts.held l e) → IsWellFormed (with_held s (union s.parts.held more))
 IsWellFormed-united s more was each =
-    let can_be : ℕ × ℕ × ℕ → Type 0 = IsCopy (length s.names) s.ledgers in
+    let can_be : ℕ × ℕ × ℕ → Type 0 = IsCopy (length s.names) s.parts.ledgers in
     record {
       names = was.names;
       grace = was.grace;
@@ -163,26 +163,26 @@ IsWellFormed-united s more was each =
       up = was.up;
       ledgers = was.ledgers;
       contents = record {
-        copies = All-items can_be (union s.held more) (λ q one.
-            either (contains s.held q) (contains more q) (can_be q)
-            (All-copy can_be s.held was.contents.copies q)
+        copies = All-items can_be (union s.parts.held more) (λ q one.
+            either (contains s.parts.held q) (contains more q) (can_be q)
+            (All-copy can_be s.parts.held was.contents.copies q)
             (λ new.
             let may = each q.0 q.1 q.2 new in
-            let known : can_be (may.1.0, q.1, q.2) = All-copy can_be s.held was.contents.copies (may.1.0, q.1, q.2) may.1.1 in
+            let known : can_be (may.1.0, q.1, q.2) = All-copy can_be s.parts.held was.contents.copies (may.1.0, q.1, q.2) may.1.1 in
             (may.0, known.1, known.2))
-            (sym (contains-union s.held more q) ∙ one));
+            (sym (contains-union s.parts.held more q) ∙ one));
         words = was.contents.words;
       };
     }
 
 -- one bookie takes copies of some entries
-pub IsWellFormed-copied_all : (s : Cluster) (w l : ℕ) (es : List ℕ) → IsWellFormed s → w < length s.names → All (λ e. IsHeld s.held l e) es → IsWellFormed (record s { held = union s.held (copies_of w l es) })
+pub IsWellFormed-copied_all : (s : Cluster) (w l : ℕ) (es : List ℕ) → IsWellFormed s → w < length s.names → All (λ e. IsHeld s.parts.held l e) es → IsWellFormed (with_held s (union s.parts.held (copies_of w l es)))
 IsWellFormed-copied_all s w l es was named held = IsWellFormed-united s (copies_of w l es) was (λ b k e is.
     let parts = both (nat_eq b w && nat_eq k l) (list_any (nat_eq e) es) (sym (has-copies_of w l es b k e) ∙ is) in
     let place = both (nat_eq b w) (nat_eq k l) parts.0 in
     let bookie : b ≡ w = grind (arith, nat_tests, place.0) in
     let ledger : k ≡ l = grind (arith, nat_tests, place.1) in
-    (omega (arith, bookie, named), subst (λ (j : ℕ). IsHeld s.held j e) (sym ledger) (All-among (λ x. IsHeld s.held l x) es e held parts.1)))
+    (omega (arith, bookie, named), subst (λ (j : ℕ). IsHeld s.parts.held j e) (sym ledger) (All-among (λ x. IsHeld s.parts.held l x) es e held parts.1)))
 
 -- a ledger of the cluster without its lock
 IsLedger-unlocked_ledger : (s : Cluster) (g : Ledger) → IsLedgerOf s g → IsLedgerOf s (unlocked_ledger g)
@@ -264,7 +264,7 @@ IsLedger-remade s g m metadata members unfenced was = record {
 }
 
 -- with that due tick, or none, at its lock
-IsLedger-with_due : (s : Cluster) (due : Option ℕ) (g : Ledger) → ForSome due (λ tick. (tick ≤ s.clock + s.grace) × IsTrue (is_open g.metadata.state)) → IsLedgerOf s g → IsLedgerOf s (with_due due g)
+IsLedger-with_due : (s : Cluster) (due : Option ℕ) (g : Ledger) → ForSome due (λ tick. (tick ≤ s.parts.scalars.clock + s.grace) × IsTrue (is_open g.metadata.state)) → IsLedgerOf s g → IsLedgerOf s (with_due due g)
 IsLedger-with_due s due g may was = record {
   id = was.id;
   metadata = was.metadata;
@@ -278,7 +278,7 @@ IsLedger-with_due s due g may was = record {
   owned None known lock is = cc
   owned (Some old) known lock is = let owner : old.owner ≡ lock.owner = cc in (omega (arith, owner, (known old refl).0), (known old refl).1)
 
-  dated : (o : Option Lock) → ForSome (option_and_then (λ lock. lock.due) (option_map (timed_lock due) o)) (λ tick. (tick ≤ s.clock + s.grace) × IsTrue (is_open g.metadata.state))
+  dated : (o : Option Lock) → ForSome (option_and_then (λ lock. lock.due) (option_map (timed_lock due) o)) (λ tick. (tick ≤ s.parts.scalars.clock + s.grace) × IsTrue (is_open g.metadata.state))
   dated None tick is = cc
   dated (Some old) tick is = may tick is
 
@@ -353,22 +353,22 @@ IsLedger-sealed_ledger s g recovering version within was =
     not_both (Closed end) recovering unfenced = cc
 
 -- with the missing members in its task
-pub KeepsId-audited_ledger : (up : Set numbers) → KeepsId (audited_ledger up)
-KeepsId-audited_ledger up g = elim (is_empty (missing_members up g)) as (λ b. (if b then g else record g { task = Some (published_members up g) }).id ≡ g.id) [ true ↦ refl | false ↦ refl ]
+pub KeepsId-audited_ledger : (s : Cluster) → KeepsId (audited_ledger s)
+KeepsId-audited_ledger s g = elim (is_empty (missing_members s g)) as (λ b. (if b then g else record g { task = Some (published_members s g) }).id ≡ g.id) [ true ↦ refl | false ↦ refl ]
 
-KeepsWords-audited_ledger : (up : Set numbers) → KeepsWords (audited_ledger up)
-KeepsWords-audited_ledger up g = elim (is_empty (missing_members up g)) as (λ b. (if b then g else record g { task = Some (published_members up g) }).words ≡ g.words) [ true ↦ refl | false ↦ refl ]
+KeepsWords-audited_ledger : (s : Cluster) → KeepsWords (audited_ledger s)
+KeepsWords-audited_ledger s g = elim (is_empty (missing_members s g)) as (λ b. (if b then g else record g { task = Some (published_members s g) }).words ≡ g.words) [ true ↦ refl | false ↦ refl ]
 
-IsLedger-audited_ledger : (s : Cluster) (g : Ledger) → IsLedgerOf s g → IsLedgerOf s (audited_ledger s.up g)
+IsLedger-audited_ledger : (s : Cluster) (g : Ledger) → IsLedgerOf s g → IsLedgerOf s (audited_ledger s g)
 IsLedger-audited_ledger s g was =
-    elim (is_empty (missing_members s.up g)) as (λ b. is_empty (missing_members s.up g) ≡ b → IsLedgerOf s (if b then g else record g { task = Some (published_members s.up g) })) [
+    elim (is_empty (missing_members s g)) as (λ b. is_empty (missing_members s g) ≡ b → IsLedgerOf s (if b then g else record g { task = Some (published_members s g) })) [
       | true ↦ λ _. was
       | false ↦ λ some. record {
         id = was.id;
         metadata = was.metadata;
         members = was.members;
         words = was.words;
-        task = λ task is. let same : published_members s.up g ≡ task = cc in subst (λ (t : Set numbers). (0 < len t) × All (λ b. b < length s.names) (items t)) same (published_some s g some, published_named s g was);
+        task = λ task is. let same : published_members s g ≡ task = cc in subst (λ (t : Set numbers). (0 < len t) × All (λ b. b < length s.names) (items t)) same (published_some s g some, published_named s g was);
         lock = λ lock is. ((was.lock lock is).0, refl);
         due = was.due;
       }
@@ -392,25 +392,25 @@ named-remove up k n named b is = named b (and_second (not (eq_by_cmp nat_cmp k b
 
 -- Each accepted event keeps a cluster well-formed.
 pub IsWellFormed-after : (s : Cluster) (event : Event) → IsWellFormed s → refusal_of s event ≡ None → IsWellFormed (after s event)
-IsWellFormed-after s (Lose b) was none = IsWellFormed-up s (remove s.up b) was (named-remove s.up b (length s.names) was.up)
-IsWellFormed-after s (Join b) was none = IsWellFormed-up s (insert s.up b) was (named-insert s.up b (length s.names) (accepted_join s b none).0 was.up)
-IsWellFormed-after s Audit was none = IsWellFormed-ledgers s (audited_ledger s.up) was (KeepsId-audited_ledger s.up) (KeepsWords-audited_ledger s.up) (λ g _ is. IsLedger-audited_ledger s g is)
+IsWellFormed-after s (Lose b) was none = IsWellFormed-up s (remove s.parts.up b) was (named-remove s.parts.up b (length s.names) was.up)
+IsWellFormed-after s (Join b) was none = IsWellFormed-up s (insert s.parts.up b) was (named-insert s.parts.up b (length s.names) (accepted_join s b none).0 was.up)
+IsWellFormed-after s Audit was none = IsWellFormed-ledgers s (audited_ledger s) was (KeepsId-audited_ledger s) (KeepsWords-audited_ledger s) (λ g _ is. IsLedger-audited_ledger s g is)
 IsWellFormed-after s (Acquire w l) was none = IsWellFormed-change_ledger s l (locked_ledger w) was (λ g. refl) (λ g. refl) (λ g found is.
     let may = accepted_acquire s w l g found none in
     IsLedger-locked_ledger s w g may.0 may.1 is)
 IsWellFormed-after s (Release w l) was none = IsWellFormed-change_ledger s l unlocked_ledger was (λ g. refl) (λ g. refl) (λ g _ is. IsLedger-unlocked_ledger s g is)
 IsWellFormed-after s (Finish w l) was none = IsWellFormed-change_ledger s l finished_ledger was (λ g. refl) (λ g. refl) (λ g _ is. IsLedger-finished_ledger s g is)
 IsWellFormed-after s (Expire w) was none = IsWellFormed-ledgers s (expired_ledger w) was (KeepsId-expired_ledger w) (KeepsWords-expired_ledger w) (λ g _ is. IsLedger-expired_ledger s w g is)
-IsWellFormed-after s (Grace w l) was none = IsWellFormed-change_ledger s l (graced_ledger (s.clock + s.grace)) was (λ g. refl) (λ g. refl) (λ g found is.
+IsWellFormed-after s (Grace w l) was none = IsWellFormed-change_ledger s l (graced_ledger (s.parts.scalars.clock + s.grace)) was (λ g. refl) (λ g. refl) (λ g found is.
     let unfenced : IsTrue (is_open g.metadata.state) = (accepted_grace s w l g found none).state in
-    IsLedger-with_due s (Some (s.clock + s.grace)) g (λ tick same. let due : s.clock + s.grace ≡ tick = cc in (omega (arith, due), unfenced)) is)
-IsWellFormed-after s (Tick n) was none = IsWellFormed-clock s (s.clock + n) was (omega arith) (accepted_tick s n none).1
+    IsLedger-with_due s (Some (s.parts.scalars.clock + s.grace)) g (λ tick same. let due : s.parts.scalars.clock + s.grace ≡ tick = cc in (omega (arith, due), unfenced)) is)
+IsWellFormed-after s (Tick n) was none = IsWellFormed-clock s (s.parts.scalars.clock + n) was (omega arith) (accepted_tick s n none).1
 IsWellFormed-after s (Roll l i b) was none = IsWellFormed-change_ledger s l (rolled_ledger s i b) was (λ g. refl) (λ g. refl) (λ g found is.
     IsLedger-rolled_ledger s g i b (accepted_roll s l i b g found (next_entry-within s l g was found) is.metadata.version none) is)
 IsWellFormed-after s (Fence w l) was none = IsWellFormed-change_ledger s l fenced_ledger was (λ g. refl) (λ g. refl) (λ g found is.
     IsLedger-fenced_ledger s g (accepted_fence s w l g found is.metadata.version none).version is)
 IsWellFormed-after s (Seal w l) was none =
-    let t : Cluster = record s { held = union s.held (recovered_at s l) } in
+    let t : Cluster = with_held s (union s.parts.held (recovered_at s l)) in
     let copied : IsWellFormed t = IsWellFormed-united s (recovered_at s l) was (λ b k e is. let shows = IsRecovered-at s l b k e is in (was.up b shows.up, shows.held)) in
     IsWellFormed-change_ledger t l (sealed_ledger s) copied (λ g. refl) (λ g. refl) (λ g found is.
     let may = accepted_seal s w l g found is.metadata.version none in

@@ -4,6 +4,8 @@ use Rattle.std.specs.List.{find, list_any}
 use Rattle.std.specs.Option.{option_and_then, option_map_or}
 use Rattle.std.specs.Str.{bytes_eq}
 use Rattle.reh_types.specs.declared.locks.Lock.{Lock}
+use Rattle.reh_types.specs.declared.scalars.Scalars.{Scalars}
+use Rattle.reh_types.specs.Scalars.{first_scalars}
 use Rattle.reh_types.specs.Sets as set
 use Rattle.reh_types.specs.Sets.{Set, numbers}
 use Rattle.reh_model.specs.Contents.{Contents, has}
@@ -17,20 +19,45 @@ pub record Ledger : Type 0 where
   pub task : Option (Set numbers)
   pub lock : Option Lock
 
--- bookies go by their place in the list of names, ledgers by their ids, in the picture's order
-pub record Cluster : Type 0 where
-  pub names : List (List ℕ)
-  pub grace : ℕ
+-- what events change; ledgers go by their ids, in the picture's order
+pub record Parts : Type 0 where
   -- the registered bookies
   pub up : Set numbers
   pub ledgers : List Ledger
   -- what the bookies hold, registered or not
   pub held : Contents
-  pub clock : ℕ
+  pub scalars : Scalars
+
+-- and what no event changes; bookies go by their place in the list of names
+pub record Cluster : Type 0 where
+  pub names : List (List ℕ)
+  pub grace : ℕ
+  pub parts : Parts
+
+-- a cluster as its rehearsal begins
+abbrev pub cluster_of : List (List ℕ) → Set numbers → ℕ → List Ledger → Contents → Cluster
+cluster_of names up grace ledgers held = record {
+  names = names;
+  grace = grace;
+  parts = record { up = up; ledgers = ledgers; held = held; scalars = first_scalars };
+}
+
+-- the cluster with one part changed
+abbrev pub with_up : Cluster → Set numbers → Cluster
+with_up s up = record s { parts = record s.parts { up = up } }
+
+abbrev pub with_ledgers : Cluster → List Ledger → Cluster
+with_ledgers s ledgers = record s { parts = record s.parts { ledgers = ledgers } }
+
+abbrev pub with_held : Cluster → Contents → Cluster
+with_held s held = record s { parts = record s.parts { held = held } }
+
+abbrev pub with_clock : Cluster → ℕ → Cluster
+with_clock s clock = record s { parts = record s.parts { scalars = record s.parts.scalars { clock = clock } } }
 
 -- whether the bookie is registered
 abbrev pub is_up : Cluster → ℕ → Bool
-is_up s bookie = set.contains s.up bookie
+is_up s bookie = set.contains s.parts.up bookie
 
 -- the bookie of that name
 abbrev pub bookie_named : List (List ℕ) → List ℕ → Option ℕ
@@ -41,7 +68,7 @@ abbrev pub ledger_among : List Ledger → ℕ → Option Ledger
 ledger_among ledgers l = find (λ g. g.id == l) ledgers
 
 abbrev pub ledger_at : Cluster → ℕ → Option Ledger
-ledger_at s l = ledger_among s.ledgers l
+ledger_at s l = ledger_among s.parts.ledgers l
 
 -- how many words the ledger of that id has, none where there is no such ledger
 abbrev pub words_among : List Ledger → ℕ → ℕ
@@ -49,7 +76,7 @@ words_among ledgers l = option_map_or (λ g. g.words) (ledger_among ledgers l) 0
 
 -- the cluster with that ledger changed, and nothing else
 abbrev pub change_ledger : Cluster → ℕ → (Ledger → Ledger) → Cluster
-change_ledger s l change = record s { ledgers = map (λ g. if g.id == l then change g else g) s.ledgers }
+change_ledger s l change = with_ledgers s (map (λ g. if g.id == l then change g else g) s.parts.ledgers)
 
 -- the bookies that a ledger's task names, none without a task
 abbrev pub task_set : Ledger → Set numbers
@@ -65,7 +92,7 @@ due_of g = option_and_then (λ lock. lock.due) g.lock
 
 -- whether the bookie, registered or not, holds the entry of the ledger
 abbrev pub holds : Cluster → ℕ → ℕ → ℕ → Bool
-holds s bookie ledger entry = has s.held bookie ledger entry
+holds s bookie ledger entry = has s.parts.held bookie ledger entry
 
 -- whether the ledger's entry can be copied from the bookie: it is registered, and holds the entry
 abbrev pub is_source : Cluster → ℕ → ℕ → ℕ → Bool

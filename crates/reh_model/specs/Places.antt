@@ -1,13 +1,15 @@
--- The places of a cluster; records of changes, and what exchanging a record makes of the cluster and of the record.
-use Rattle.std.specs.Prelude.{◌≡◌, ◌≢◌, ℕ, zero, suc, ◌<◌, ◌/◌, Bool, true, false, List, [], ◌∷◌, All, map, length, slice_get, ◌⊎◌}
+-- The places of a cluster's parts; records of changes, and what exchanging a record makes of the parts and of the record.
+use Rattle.std.specs.Prelude.{◌≡◌, ◌≢◌, ℕ, zero, suc, ◌<◌, ◌/◌, ◌^◌, Bool, true, false, List, [], ◌∷◌, All, map, length, slice_get, ◌⊎◌}
 use Rattle.std.specs.Option.{option_map}
 use Rattle.reh_types.specs.declared.changes.Change as change
-use Rattle.reh_types.specs.declared.changes.Change.TheVariants.{Registration, Metadata, Task, Lock, Word, Clock}
+use Rattle.reh_types.specs.declared.changes.Change.TheVariants.{Registration, Metadata, Task, Lock, Word, Scalar}
+use Rattle.reh_types.specs.declared.scalars.Scalar as scalars
+use Rattle.reh_types.specs.Scalars.{number_of, scalar_at, with_scalar}
 use Rattle.reh_types.specs.Sets as set
 use Rattle.reh_types.specs.Sets.{Set, numbers}
 use Rattle.reh_model.specs.Metadata as meta
-use Rattle.reh_model.specs.Contents.{turned}
-use Rattle.reh_model.specs.Cluster.{Cluster, is_up, holds, words_among}
+use Rattle.reh_model.specs.Contents.{has, turned}
+use Rattle.reh_model.specs.Cluster.{Parts, Cluster, words_among}
 use Rattle.reh_model.specs.WellFormed.{IsWellFormed}
 
 abbrev pub Change : Type 0
@@ -15,14 +17,14 @@ Change = change.Change meta.Metadata
 
 -- Places
 
--- a bookie's registration; the metadata, the task and the lock of the ledger that stands at a place of the picture; the 64 entries from 64 k on that a bookie holds of the ledger of an id; or the clock
+-- a bookie's registration; the metadata, the task and the lock of the ledger that stands at a place of the picture; the 64 entries from 64 k on that a bookie holds of the ledger of an id; or the scalar of a number
 pub data Place : Type 0 where
   at_registration : ℕ → Place
   at_metadata : ℕ → Place
   at_task : ℕ → Place
   at_lock : ℕ → Place
   at_word : ℕ → ℕ → ℕ → Place
-  at_clock : Place
+  at_scalar : ℕ → Place
 
 abbrev pub place_of : Change → Place
 place_of (Registration b up) = at_registration b
@@ -30,16 +32,16 @@ place_of (Metadata i metadata) = at_metadata i
 place_of (Task i task) = at_task i
 place_of (Lock i lock) = at_lock i
 place_of (Word b l k bits) = at_word b l k
-place_of (Clock clock) = at_clock
+place_of (Scalar scalar) = at_scalar (number_of scalar)
 
--- Places stand in one order: registrations, metadata, tasks, locks, words and the clock, and each kind by its numbers.
+-- Places stand in one order: registrations, metadata, tasks, locks, words and scalars, and each kind by its numbers.
 abbrev pub order_of : Place → List ℕ
 order_of (at_registration b) = 0 ∷ b ∷ []
 order_of (at_metadata i) = 1 ∷ i ∷ []
 order_of (at_task i) = 2 ∷ i ∷ []
 order_of (at_lock i) = 3 ∷ i ∷ []
 order_of (at_word b l k) = 4 ∷ b ∷ l ∷ k ∷ []
-order_of at_clock = 5 ∷ []
+order_of (at_scalar n) = 5 ∷ n ∷ []
 
 -- the first numbers that differ rise
 abbrev pub IsLess : List ℕ → List ℕ → Type 0
@@ -73,44 +75,56 @@ abbrev pub with_member : Set numbers → ℕ → Bool → Set numbers
 with_member s b true = set.insert s b
 with_member s b false = set.remove s b
 
--- the cluster with that place changed; a ledger's place that is not there changes nothing
-abbrev pub put : Cluster → Change → Cluster
-put s (Registration b up) = record s { up = with_member s.up b up }
-put s (Metadata i metadata) = record s { ledgers = change_at s.ledgers i (λ g. record g { metadata = metadata }) }
-put s (Task i task) = record s { ledgers = change_at s.ledgers i (λ g. record g { task = task }) }
-put s (Lock i lock) = record s { ledgers = change_at s.ledgers i (λ g. record g { lock = lock }) }
-put s (Word b l k bits) = record s { held = turned s.held b l k bits }
-put s (Clock clock) = record s { clock = clock }
+-- the parts with that place changed; a ledger's place that is not there changes nothing
+abbrev pub put : Parts → Change → Parts
+put p (Registration b up) = record p { up = with_member p.up b up }
+put p (Metadata i metadata) = record p { ledgers = change_at p.ledgers i (λ g. record g { metadata = metadata }) }
+put p (Task i task) = record p { ledgers = change_at p.ledgers i (λ g. record g { task = task }) }
+put p (Lock i lock) = record p { ledgers = change_at p.ledgers i (λ g. record g { lock = lock }) }
+put p (Word b l k bits) = record p { held = turned p.held b l k bits }
+put p (Scalar scalar) = record p { scalars = with_scalar p.scalars scalar }
 
 -- what such a change leaves in its place: the contents from before, or the same bits
-abbrev pub back : Cluster → Change → Change
-back s (Registration b up) = Registration b (is_up s b)
-back s (Metadata i metadata) = Metadata i (read_at (λ g. g.metadata) s.ledgers i metadata)
-back s (Task i task) = Task i (read_at (λ g. g.task) s.ledgers i task)
-back s (Lock i lock) = Lock i (read_at (λ g. g.lock) s.ledgers i lock)
-back s (Word b l k bits) = Word b l k bits
-back s (Clock clock) = Clock s.clock
+abbrev pub back : Parts → Change → Change
+back p (Registration b up) = Registration b (set.contains p.up b)
+back p (Metadata i metadata) = Metadata i (read_at (λ g. g.metadata) p.ledgers i metadata)
+back p (Task i task) = Task i (read_at (λ g. g.task) p.ledgers i task)
+back p (Lock i lock) = Lock i (read_at (λ g. g.lock) p.ledgers i lock)
+back p (Word b l k bits) = Word b l k bits
+back p (Scalar scalar) = Scalar (scalar_at p.scalars scalar)
+
+-- the change's place is one of the parts, where there are so many bookies, and a word's bits are 64
+abbrev pub IsPlaced : ℕ → Parts → Change → Type 0
+IsPlaced bookies p (Registration b up) = b < bookies
+IsPlaced bookies p (Metadata i metadata) = i < length p.ledgers
+IsPlaced bookies p (Task i task) = i < length p.ledgers
+IsPlaced bookies p (Lock i lock) = i < length p.ledgers
+IsPlaced bookies p (Word b l k bits) = (b < bookies) × (k < words_among p.ledgers l) × (bits < 2 ^ 64)
+IsPlaced bookies p (Scalar scalar) = Unit {0}
 
 -- Records
 
--- the cluster after an exchange, change by change
+-- the parts after all changes, one by one
+abbrev pub put_all : Parts → List Change → Parts
+put_all p [] = p
+put_all p (c ∷ cs) = put_all (put p c) cs
+
+-- what they leave
+abbrev pub back_all : Parts → List Change → List Change
+back_all p [] = []
+back_all p (c ∷ cs) = back p c ∷ back_all (put p c) cs
+
+-- the cluster after an exchange
 abbrev pub exchanged : Cluster → List Change → Cluster
-exchanged s [] = s
-exchanged s (c ∷ cs) = exchanged (put s c) cs
+exchanged s cs = record s { parts = put_all s.parts cs }
 
 -- the record that it leaves
 abbrev pub left : Cluster → List Change → List Change
-left s [] = []
-left s (c ∷ cs) = back s c ∷ left (put s c) cs
+left s cs = back_all s.parts cs
 
 -- the change's place is one of the cluster's
 abbrev pub IsThere : Cluster → Change → Type 0
-IsThere s (Registration b up) = b < length s.names
-IsThere s (Metadata i metadata) = i < length s.ledgers
-IsThere s (Task i task) = i < length s.ledgers
-IsThere s (Lock i lock) = i < length s.ledgers
-IsThere s (Word b l k bits) = (b < length s.names) × (k < words_among s.ledgers l)
-IsThere s (Clock clock) = Unit {0}
+IsThere s c = IsPlaced (length s.names) s.parts c
 
 -- the record fits the cluster: its places are there, and what it makes of the cluster is well-formed
 pub record Fits (s : Cluster) (cs : List Change) : Type 0 where
@@ -119,14 +133,14 @@ pub record Fits (s : Cluster) (cs : List Change) : Type 0 where
 
 -- Differences
 
--- whether two clusters are the same at a place
-abbrev pub SameAt : Cluster → Cluster → Place → Type 0
-SameAt s t (at_registration b) = is_up s b ≡ is_up t b
-SameAt s t (at_metadata i) = option_map (λ g. g.metadata) (slice_get s.ledgers i) ≡ option_map (λ g. g.metadata) (slice_get t.ledgers i)
-SameAt s t (at_task i) = option_map (λ g. g.task) (slice_get s.ledgers i) ≡ option_map (λ g. g.task) (slice_get t.ledgers i)
-SameAt s t (at_lock i) = option_map (λ g. g.lock) (slice_get s.ledgers i) ≡ option_map (λ g. g.lock) (slice_get t.ledgers i)
-SameAt s t (at_word b l k) = (e : ℕ) → e / 64 ≡ k → holds s b l e ≡ holds t b l e
-SameAt s t at_clock = s.clock ≡ t.clock
+-- whether the parts are the same at a place
+abbrev pub SameAt : Parts → Parts → Place → Type 0
+SameAt p q (at_registration b) = set.contains p.up b ≡ set.contains q.up b
+SameAt p q (at_metadata i) = option_map (λ g. g.metadata) (slice_get p.ledgers i) ≡ option_map (λ g. g.metadata) (slice_get q.ledgers i)
+SameAt p q (at_task i) = option_map (λ g. g.task) (slice_get p.ledgers i) ≡ option_map (λ g. g.task) (slice_get q.ledgers i)
+SameAt p q (at_lock i) = option_map (λ g. g.lock) (slice_get p.ledgers i) ≡ option_map (λ g. g.lock) (slice_get q.ledgers i)
+SameAt p q (at_word b l k) = (e : ℕ) → e / 64 ≡ k → has p.held b l e ≡ has q.held b l e
+SameAt p q (at_scalar n) = (scalar : scalars.Scalar) → number_of scalar ≡ n → scalar_at p.scalars scalar ≡ scalar_at q.scalars scalar
 
 -- the record changes s to t, and has exactly one change for each place in which they differ
 pub record IsDelta (s t : Cluster) (cs : List Change) : Type 0 where
@@ -134,6 +148,6 @@ pub record IsDelta (s t : Cluster) (cs : List Change) : Type 0 where
   pub fits : Fits s cs
   pub makes : exchanged s cs ≡ t
   -- at each place of the record they differ
-  pub differ : All (λ p. ¬ SameAt s t p) (map place_of cs)
+  pub differ : All (λ p. ¬ SameAt s.parts t.parts p) (map place_of cs)
   -- at every other place they are the same
-  pub elsewhere : (p : Place) → All (λ q. p ≢ q) (map place_of cs) → SameAt s t p
+  pub elsewhere : (p : Place) → All (λ q. p ≢ q) (map place_of cs) → SameAt s.parts t.parts p

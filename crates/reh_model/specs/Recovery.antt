@@ -12,7 +12,7 @@ use Rattle.reh_model.specs.Cluster.{Cluster, Ledger, is_up, is_readable, ledger_
 abbrev pub next_entry : Cluster → Ledger → ℕ
 next_entry s g =
     let first = (last_fragment g.metadata).first in
-    option_map_or (λ greatest. max first (greatest + 1)) (greatest_held s.held g.id) first
+    option_map_or (λ greatest. max first (greatest + 1)) (greatest_held s.parts.held g.id) first
 
 -- whether a changed ensemble needs a new fragment: some entry of the last one is held
 abbrev pub is_rolling_over : Cluster → Ledger → Bool

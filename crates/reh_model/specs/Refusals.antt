@@ -56,13 +56,13 @@ abbrev pub bad_tick : ℕ → Option Refusal
 bad_tick n = reason_if (n == 0 || nat_lt MAX_TICKS n) BadTick
 
 abbrev pub clock_end : Cluster → ℕ → Option Refusal
-clock_end s n = reason_if (nat_lt CLOCK_END (s.clock + n)) ClockEnd
+clock_end s n = reason_if (nat_lt CLOCK_END (s.parts.scalars.clock + n)) ClockEnd
 
 -- The auditor, tasks and locks
 
 -- no task's set would change
 abbrev pub nothing_to_publish : Cluster → Option Refusal
-nothing_to_publish s = reason_if (not (list_any (is_news s.up) s.ledgers)) NothingToPublish
+nothing_to_publish s = reason_if (not (list_any (is_news s) s.parts.ledgers)) NothingToPublish
 
 abbrev pub no_task : Ledger → Option Refusal
 no_task g = reason_if (is_none g.task) NoTask
@@ -76,10 +76,10 @@ not_owner w g = reason_if (not (is_locked_by w g)) NotOwner
 
 -- the least fragment with a member that is not registered
 abbrev pub still_under : Cluster → Ledger → Option Refusal
-still_under s g = option_map (λ f. StillUnder f) (first_under s.up g)
+still_under s g = option_map (λ f. StillUnder f) (first_under s g)
 
 abbrev pub no_locks : Cluster → ℕ → Option Refusal
-no_locks s w = reason_if (not (list_any (is_locked_by w) s.ledgers)) NoLocks
+no_locks s w = reason_if (not (list_any (is_locked_by w) s.parts.ledgers)) NoLocks
 
 -- Open ledgers: grace, fence and recovery
 
@@ -90,7 +90,7 @@ abbrev pub not_recovering : Ledger → Option Refusal
 not_recovering g = reason_if (not (is_in_recovery g.metadata.state)) NotRecovering
 
 abbrev pub not_needed : Cluster → Ledger → Option Refusal
-not_needed s g = reason_if (not (is_needed s.up g)) NotNeeded
+not_needed s g = reason_if (not (is_needed s g)) NotNeeded
 
 abbrev pub grace_set : Ledger → Option Refusal
 grace_set g = option_map (λ due. GraceSet due) (due_of g)
@@ -100,7 +100,7 @@ no_grace g = reason_if (is_none (due_of g)) NoGrace
 
 -- the clock is below the due tick
 abbrev pub grace_runs : Cluster → Ledger → Option Refusal
-grace_runs s g = option_and_then (λ due. reason_if (nat_lt s.clock due) (GraceRuns due)) (due_of g)
+grace_runs s g = option_and_then (λ due. reason_if (nat_lt s.parts.scalars.clock due) (GraceRuns due)) (due_of g)
 
 -- the least entry that a recovery passes with fewer registered members of its write set than the ack quorum
 abbrev pub too_few : Cluster → Ledger → Option Refusal

@@ -58,7 +58,7 @@ reply_to m (Do event) = reply_unless (first_reason (refusal_of (state_of m) even
 reply_to m (Post content) = reply_unless (first_reason (post_refusal (state_of m) content ∷ no_room m ∷ []))
 reply_to m Undo = reply_unless (reason_if (length m.done == 0) NothingToUndo)
 reply_to m Redo = reply_unless (reason_if (length m.undone == 0) NothingToRedo)
-reply_to m Look = Clock (state_of m).clock
+reply_to m Look = Clock (state_of m).parts.scalars.clock
 
 -- a new event survives, and none is undone any more
 abbrev pub with_event : Session → Event → Session

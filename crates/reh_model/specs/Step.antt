@@ -9,7 +9,7 @@ use Rattle.reh_types.specs.declared.refusals.Refusal.{Refusal}
 use Rattle.reh_types.specs.Sets as set
 use Rattle.reh_model.specs.Contents.{copies_of}
 use Rattle.reh_model.specs.Metadata.{Metadata, last_fragment, with_member_at, with_fragment_at, with_state, next_version}
-use Rattle.reh_model.specs.Cluster.{Cluster, Ledger, change_ledger, is_locked_by, stripe_at}
+use Rattle.reh_model.specs.Cluster.{Cluster, Ledger, change_ledger, is_locked_by, stripe_at, with_clock, with_held, with_ledgers, with_up}
 use Rattle.reh_model.specs.Audit.{audited_ledger}
 use Rattle.reh_model.specs.Recovery.{next_entry, is_rolling_over, recovered_end, recovered_at}
 use Rattle.reh_model.specs.Checks.{first_reason}
@@ -114,17 +114,17 @@ swapped_ledger f i w g = record g { metadata = next_version (with_member_at g.me
 
 -- the cluster that an accepted event leaves
 abbrev pub after : Cluster → Event → Cluster
-after s (Lose b) = record s { up = set.remove s.up b }
-after s (Join b) = record s { up = set.insert s.up b }
-after s Audit = record s { ledgers = map (audited_ledger s.up) s.ledgers }
+after s (Lose b) = with_up s (set.remove s.parts.up b)
+after s (Join b) = with_up s (set.insert s.parts.up b)
+after s Audit = with_ledgers s (map (audited_ledger s) s.parts.ledgers)
 after s (Acquire w l) = change_ledger s l (locked_ledger w)
 after s (Release w l) = change_ledger s l unlocked_ledger
 after s (Finish w l) = change_ledger s l finished_ledger
-after s (Expire w) = record s { ledgers = map (expired_ledger w) s.ledgers }
-after s (Grace w l) = change_ledger s l (graced_ledger (s.clock + s.grace))
-after s (Tick n) = record s { clock = s.clock + n }
+after s (Expire w) = with_ledgers s (map (expired_ledger w) s.parts.ledgers)
+after s (Grace w l) = change_ledger s l (graced_ledger (s.parts.scalars.clock + s.grace))
+after s (Tick n) = with_clock s (s.parts.scalars.clock + n)
 after s (Roll l i b) = change_ledger s l (rolled_ledger s i b)
 after s (Fence w l) = change_ledger s l fenced_ledger
-after s (Seal w l) = record (change_ledger s l (sealed_ledger s)) { held = set.union s.held (recovered_at s l) }
-after s (Copy w l f i v) = record s { held = set.union s.held (copies_of w l (stripe_at s l f i)) }
+after s (Seal w l) = with_held (change_ledger s l (sealed_ledger s)) (set.union s.parts.held (recovered_at s l))
+after s (Copy w l f i v) = with_held s (set.union s.parts.held (copies_of w l (stripe_at s l f i)))
 after s (Swap w l f i v) = change_ledger s l (swapped_ledger f i w)

@@ -28,4 +28,4 @@ lines_of s g = map (λ p. line_of s g p.0 p.1) (enumerate_from 0 g.metadata.frag
 
 -- the lines of all fragments, in picture order
 abbrev pub survey : Cluster → List SurveyLine
-survey s = flat_map (lines_of s) s.ledgers
+survey s = flat_map (lines_of s) s.parts.ledgers

@@ -42,8 +42,8 @@ pub record AreContents (bookies : ℕ) (ledgers : List Ledger) (held : Contents)
 pub record IsWellFormed (s : Cluster) : Type 0 where
   pub names : AreNames s.names
   pub grace : s.grace ≤ MAX_GRACE
-  pub clock : s.clock ≤ CLOCK_END
+  pub clock : s.parts.scalars.clock ≤ CLOCK_END
   -- each registered bookie has a name
   pub up : (b : ℕ) → is_up s b ≡ true → b < length s.names
-  pub ledgers : AreLedgers (length s.names) (s.clock + s.grace) s.ledgers
-  pub contents : AreContents (length s.names) s.ledgers s.held
+  pub ledgers : AreLedgers (length s.names) (s.parts.scalars.clock + s.grace) s.parts.ledgers
+  pub contents : AreContents (length s.names) s.parts.ledgers s.parts.held

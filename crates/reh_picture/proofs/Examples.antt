@@ -4,7 +4,7 @@ use Rattle.std.specs.Str.{is_utf8, chars}
 use Rattle.serde_json.proofs.OnLiterals.{serde_json_on_literals}
 use Rattle.reh_types.specs.Sets as set
 use Rattle.reh_types.specs.declared.names.LedgerState.TheVariants.{Open, Closed}
-use Rattle.reh_model.specs.Cluster.{Cluster, Ledger}
+use Rattle.reh_model.specs.Cluster.{Cluster, Ledger, cluster_of}
 use Rattle.reh_model.specs.Contents.{Contents, copies_of}
 use Rattle.reh_model.specs.Metadata.{Fragment}
 use Rattle.reh_picture.specs.declared.fields.Field.TheVariants as field
@@ -60,14 +60,9 @@ contents =
     (set.union (copies_of 1 9 (0 ∷ 1 ∷ 2 ∷ 3 ∷ [])) (copies_of 2 9 (0 ∷ 1 ∷ 2 ∷ 3 ∷ []))))))
 
 abbrev cluster : Cluster
-cluster = record {
-  names = codes "b1:3181" ∷ codes "b2:3181" ∷ codes "b3:3181" ∷ codes "b4:3181" ∷ codes "b5:3181" ∷ [];
-  grace = 3;
-  up = set.from_list (0 ∷ 1 ∷ 2 ∷ 3 ∷ 4 ∷ []);
-  ledgers = closed_ledger ∷ open_ledger ∷ [];
-  held = contents;
-  clock = 0;
-}
+cluster =
+    cluster_of (codes "b1:3181" ∷ codes "b2:3181" ∷ codes "b3:3181" ∷ codes "b4:3181" ∷ codes "b5:3181" ∷ [])
+    (set.from_list (0 ∷ 1 ∷ 2 ∷ 3 ∷ 4 ∷ [])) 3 (closed_ledger ∷ open_ledger ∷ []) contents
 
 -- it is read
 reads : picture_of (bookies ++ (closed_start ++ (closed_quorums ++ (closed_first ++ (closed_ensemble ++ (second_ledger ++ (first_contents ++ (other_contents)))))))) ≡ Ok cluster

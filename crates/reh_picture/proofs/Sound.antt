@@ -20,7 +20,7 @@ use Rattle.reh_types.specs.declared.names.LedgerState.TheVariants.{Open, InRecov
 use Rattle.reh_types.specs.Sets as set
 use Rattle.reh_types.specs.Sets.{Set, numbers, triples, triple_cmp, triple_total, contains-from_list, contains-items}
 use Rattle.reh_model.specs.Metadata.{Metadata, Fragment, IsMetadata, end_of_state}
-use Rattle.reh_model.specs.Cluster.{Cluster, Ledger, ledger_among, ledger_at, words_among}
+use Rattle.reh_model.specs.Cluster.{Cluster, Ledger, cluster_of, ledger_among, ledger_at, words_among}
 use Rattle.reh_model.specs.WellFormed.{IsCopy, IsWellFormed}
 use Rattle.reh_model.proofs.WellFormedLaws.{IsLedgerOf}
 use Rattle.reh_model.proofs.ContentsLaws.{IsReached, greatest_held-reached}
@@ -39,7 +39,6 @@ use Rattle.reh_picture.specs.Bookies.{bookie_fault, each_bookie_fault, bookies_f
 use Rattle.reh_picture.specs.Ledgers.{member_name, member_fault, members_fault, fragment_fault, fragment_in, fragments_fault, is_closed, end_after, end_in, state_in, pictured_metadata, broken_rule, metadata_fault, ledger_fault, ids_in, each_ledger_fault, ledgers_fault, ListedLedger, listed_in, ledger_of, ledger_in}
 use Rattle.reh_picture.specs.Contents.{ends_of, next_after, range_fault, ranges_fault, Holding, holding_in, pairs_in, content_fault, each_content_fault, contents_fault, copies_within, copies_in, held_in, words_to, IsGreatest, HasEnds}
 use Rattle.reh_model.specs.Contents as model
-use Rattle.reh_cluster.specs.Parts.{cluster_of}
 use Rattle.reh_picture.proofs.Greatest.{greatest_held-low}
 use Rattle.reh_picture.specs.Pictures.{names_of, ids_of, contents_of, pictured_cluster, words_in_all, head_fault, parts_fault, fields_fault, IsShown}
 
@@ -222,7 +221,7 @@ words_to-low None low = lit≤ tt
 words_to-low (Some entry) low = omega (arith, low entry refl)
 
 -- a ledger in any cluster with these names, where each entry that is held is one that there can be
-ledger_good : (s : Cluster) → All (λ t. t.2 < ENTRY_END) (set.items s.held) → (before : List Data) (d : Data) → ledger_fault s.names (ids_in before) d ≡ None → IsLedgerOf s (ledger_in s.names s.held d)
+ledger_good : (s : Cluster) → All (λ t. t.2 < ENTRY_END) (set.items s.parts.held) → (before : List Data) (d : Data) → ledger_fault s.names (ids_in before) d ≡ None → IsLedgerOf s (ledger_in s.names s.parts.held d)
 ledger_good s low before d none =
     let id = both-none _ _ (both-none _ _ none).1 in
     let twice = both-none _ _ id.1 in
@@ -231,15 +230,15 @@ ledger_good s low before d none =
       id = (number_within d field.Id 0 MAX_LEDGER_ID id.0).1;
       metadata = metadata.metadata;
       members = λ k fragment within. (metadata.fragments k fragment within).members;
-      words = words_to-low (model.greatest_held s.held (number_of d field.Id)) (greatest_held-low s.held (number_of d field.Id) ENTRY_END low);
+      words = words_to-low (model.greatest_held s.parts.held (number_of d field.Id)) (greatest_held-low s.parts.held (number_of d field.Id) ENTRY_END low);
       task = λ task is. cc;
       lock = λ lock is. cc;
       due = λ due is. cc;
     }
 
-ledgers_good : (s : Cluster) → All (λ t. t.2 < ENTRY_END) (set.items s.held) → (ledgers : List Data) → each_ledger_fault s.names ledgers ≡ None → All (IsLedgerOf s) (map (ledger_in s.names s.held) ledgers)
+ledgers_good : (s : Cluster) → All (λ t. t.2 < ENTRY_END) (set.items s.parts.held) → (ledgers : List Data) → each_ledger_fault s.names ledgers ≡ None → All (IsLedgerOf s) (map (ledger_in s.names s.parts.held) ledgers)
 unfolding each_ledger_fault
-ledgers_good s low ledgers none = all_made (λ before d. ledger_fault s.names (ids_in before) d) (ledger_in s.names s.held) (IsLedgerOf s) (ledger_good s low) [] ledgers none
+ledgers_good s low ledgers none = all_made (λ before d. ledger_fault s.names (ids_in before) d) (ledger_in s.names s.parts.held) (IsLedgerOf s) (ledger_good s low) [] ledgers none
 
 ledger_differs : (names : List (List ℕ)) (before : List Data) (d : Data) → ledger_fault names (ids_in before) d ≡ None → list_any (nat_eq (number_of d field.Id)) (ids_in before) ≡ false
 ledger_differs names before d none = not-true _ (reason_unless-none _ _ (both-none _ _ (both-none _ _ (both-none _ _ none).1).1).0)
@@ -295,47 +294,47 @@ any_of_two : {A : Type 0} (p : A → Bool) (xs ys : List A) (P : Type 0) → (li
 any_of_two p xs ys P first second is = or-either (list_any p xs) (list_any p ys) P first second (sym (list_any-append p xs ys) ∙ is)
 
 -- an entry of a range
-copy_in_range : (s : Cluster) (bookie ledger : ℕ) (ends : ℕ × ℕ) (q : ℕ × ℕ × ℕ) → bookie < length s.names → IsSome (ledger_at s ledger) → ends.1 ≤ MAX_ENTRY_ID → list_any (is_triple q) (copies_within bookie ledger ends) ≡ true → IsPictured (length s.names) s.ledgers q
+copy_in_range : (s : Cluster) (bookie ledger : ℕ) (ends : ℕ × ℕ) (q : ℕ × ℕ × ℕ) → bookie < length s.names → IsSome (ledger_at s ledger) → ends.1 ≤ MAX_ENTRY_ID → list_any (is_triple q) (copies_within bookie ledger ends) ≡ true → IsPictured (length s.names) s.parts.ledgers q
 copy_in_range s bookie ledger ends q known there small any =
     let w : Passes (λ e. is_triple q (bookie, ledger, e)) ends.0 ((ends.1 + 1) - ends.0) =
     any_passes (λ e. is_triple q (bookie, ledger, e)) ends.0 ((ends.1 + 1) - ends.0) (sym (list_any-map (is_triple q) (λ e. (bookie, ledger, e)) (range_with_len ends.0 ((ends.1 + 1) - ends.0))) ∙ any) in
     let same : (bookie, ledger, w.at) ≡ q = sym (triples.exact q (bookie, ledger, w.at) ((Equal-is (triple_cmp q (bookie, ledger, w.at))).0 w.passes)) in
     let low : w.at < ENTRY_END = omega (arith, w.from, w.below) in
-    subst (λ (t : ℕ × ℕ × ℕ). IsPictured (length s.names) s.ledgers t) same (known, there, low)
+    subst (λ (t : ℕ × ℕ × ℕ). IsPictured (length s.names) s.parts.ledgers t) same (known, there, low)
 
 -- an entry of ranges without a fault
 copy_in_ranges : (s : Cluster) (bookie ledger : ℕ) (q : ℕ × ℕ × ℕ) → bookie < length s.names → IsSome (ledger_at s ledger) → (before ranges : List Data) → fault_along (λ before d. range_fault (next_after before) d) before ranges ≡ None
-    → list_any (is_triple q) (flat_map (copies_within bookie ledger) (map ends_of ranges)) ≡ true → IsPictured (length s.names) s.ledgers q
+    → list_any (is_triple q) (flat_map (copies_within bookie ledger) (map ends_of ranges)) ≡ true → IsPictured (length s.names) s.parts.ledgers q
 copy_in_ranges s bookie ledger q known there before [] none any = cc
 copy_in_ranges s bookie ledger q known there before (d ∷ ds) none any =
     let checks = both-none _ _ none in
     let within : ((nat_le (next_after before) (ends_of d).0 && nat_le (ends_of d).0 (ends_of d).1) ≡ true) × (nat_le (ends_of d).1 MAX_ENTRY_ID ≡ true) = and-true _ _ (reason_unless-none _ _ (both-none _ _ (both-none _ _ checks.0).1).0) in
-    any_of_two (is_triple q) (copies_within bookie ledger (ends_of d)) (flat_map (copies_within bookie ledger) (map ends_of ds)) (IsPictured (length s.names) s.ledgers q)
+    any_of_two (is_triple q) (copies_within bookie ledger (ends_of d)) (flat_map (copies_within bookie ledger) (map ends_of ds)) (IsPictured (length s.names) s.parts.ledgers q)
     (copy_in_range s bookie ledger (ends_of d) q known there (grind (arith, nat_tests, within.1)))
     (copy_in_ranges s bookie ledger q known there (before ++ d ∷ []) ds checks.1)
     any
 
 ranges_copies : (s : Cluster) (bookie ledger : ℕ) (q : ℕ × ℕ × ℕ) → bookie < length s.names → IsSome (ledger_at s ledger) → (ranges : List Data) → ranges_fault ranges ≡ None
-    → list_any (is_triple q) (flat_map (copies_within bookie ledger) (map ends_of ranges)) ≡ true → IsPictured (length s.names) s.ledgers q
+    → list_any (is_triple q) (flat_map (copies_within bookie ledger) (map ends_of ranges)) ≡ true → IsPictured (length s.names) s.parts.ledgers q
 unfolding ranges_fault
 ranges_copies s bookie ledger q known there ranges none any = copy_in_ranges s bookie ledger q known there [] ranges none any
 
 -- an entry of contents without a fault
 module _ (s : Cluster) (ids : List ℕ) (found : (l : ℕ) → list_any (nat_eq l) ids ≡ true → IsSome (ledger_at s l)) (q : ℕ × ℕ × ℕ) where
-  copy_in_contents : (before contents : List Data) → fault_along (λ before d. content_fault s.names ids (pairs_in s.names before) d) before contents ≡ None → list_any (is_triple q) (flat_map copies_in (map (holding_in s.names) contents)) ≡ true → IsPictured (length s.names) s.ledgers q
+  copy_in_contents : (before contents : List Data) → fault_along (λ before d. content_fault s.names ids (pairs_in s.names before) d) before contents ≡ None → list_any (is_triple q) (flat_map copies_in (map (holding_in s.names) contents)) ≡ true → IsPictured (length s.names) s.parts.ledgers q
   copy_in_contents before [] none any = cc
   copy_in_contents before (d ∷ ds) none any =
       let checks = both-none _ _ none in
       let content = both-none _ _ checks.0 in
       let bookie = both-none _ _ (both-none _ _ (both-none _ _ content.0).1).1 in
       let ledger = both-none _ _ (both-none _ _ bookie.1).1 in
-      any_of_two (is_triple q) (copies_in (holding_in s.names d)) (flat_map copies_in (map (holding_in s.names) ds)) (IsPictured (length s.names) s.ledgers q)
+      any_of_two (is_triple q) (copies_in (holding_in s.names d)) (flat_map copies_in (map (holding_in s.names) ds)) (IsPictured (length s.names) s.parts.ledgers q)
       (ranges_copies s (bookie_in s.names (text_of d field.Bookie)) (number_of d field.Ledger) q (bookie_known s.names (text_of d field.Bookie) bookie.0) (found (number_of d field.Ledger) (reason_unless-none _ _ ledger.0))
       (list_of d field.Entries) (both-none _ _ (both-none _ _ content.1).1).0)
       (copy_in_contents (before ++ d ∷ []) ds checks.1)
       any
 
-  contents_copies : (contents : List Data) → each_content_fault s.names ids contents ≡ None → list_any (is_triple q) (flat_map copies_in (map (holding_in s.names) contents)) ≡ true → IsPictured (length s.names) s.ledgers q
+  contents_copies : (contents : List Data) → each_content_fault s.names ids contents ≡ None → list_any (is_triple q) (flat_map copies_in (map (holding_in s.names) contents)) ≡ true → IsPictured (length s.names) s.parts.ledgers q
   unfolding each_content_fault
   contents_copies contents none any = copy_in_contents [] contents none any
 
@@ -413,14 +412,14 @@ IsFaultless-none d none =
     }
 
 -- what is held of a picture in which nothing is wrong
-pictured_copy : (d : Data) → IsFaultless d → (q : ℕ × ℕ × ℕ) → set.contains (contents_of d) q ≡ true → IsPictured (length (names_of d)) (pictured_cluster d).ledgers q
+pictured_copy : (d : Data) → IsFaultless d → (q : ℕ × ℕ × ℕ) → set.contains (contents_of d) q ≡ true → IsPictured (length (names_of d)) (pictured_cluster d).parts.ledgers q
 pictured_copy d good q one =
     let s = pictured_cluster d in
-    contents_copies s (ids_of d) (λ l there. ledger_found (names_of d) s.held l (list_of d field.Ledgers) there) q (list_of d field.Contents) good.each_content
+    contents_copies s (ids_of d) (λ l there. ledger_found (names_of d) s.parts.held l (list_of d field.Ledgers) there) q (list_of d field.Contents) good.each_content
     (sym (contains-from_list triples (flat_map copies_in (map (holding_in (names_of d)) (list_of d field.Contents))) q) ∙ one)
 
 -- and lies within the words of its ledger
-copy_good : (d : Data) → IsFaultless d → (q : ℕ × ℕ × ℕ) → set.contains (contents_of d) q ≡ true → IsCopy (length (names_of d)) (pictured_cluster d).ledgers q
+copy_good : (d : Data) → IsFaultless d → (q : ℕ × ℕ × ℕ) → set.contains (contents_of d) q ≡ true → IsCopy (length (names_of d)) (pictured_cluster d).parts.ledgers q
 copy_good d good q one =
     let held = contents_of d in
     let known = pictured_copy d good q one in (
@@ -443,7 +442,7 @@ end_among bookie ledger ends rises =
     (get_or-among is_triple (λ x. ap is_eq (tied_itself triple_total x)) copies place last (omega (arith, length-map-range_with_len copy ends.0 count)))
 
 -- and so it lies within the words of its ledger
-ends_good : (d : Data) → IsFaultless d → All (HasEnds (length (names_of d)) (pictured_cluster d).ledgers) (map (holding_in (names_of d)) (list_of d field.Contents))
+ends_good : (d : Data) → IsFaultless d → All (HasEnds (length (names_of d)) (pictured_cluster d).parts.ledgers) (map (holding_in (names_of d)) (list_of d field.Contents))
 ends_good d good = λ k other within j none inside.
     let holdings = map (holding_in (names_of d)) (list_of d field.Contents) in
     let holding = get_or holdings k other in
@@ -455,25 +454,25 @@ ends_good d good = λ k other within j none inside.
     copy_good d good q (contains-from_list triples (flat_map copies_in holdings) q ∙ among)
 
 -- of the holdings that were read too
-pub ends-shown : (d : Data) (bookies : ℕ) (ledgers : List Ledger) (holdings : List Holding) → IsFaultless d → bookies ≡ length (names_of d) → ledgers ≡ (pictured_cluster d).ledgers
+pub ends-shown : (d : Data) (bookies : ℕ) (ledgers : List Ledger) (holdings : List Holding) → IsFaultless d → bookies ≡ length (names_of d) → ledgers ≡ (pictured_cluster d).parts.ledgers
     → holdings ≡ map (holding_in (names_of d)) (list_of d field.Contents) → All (HasEnds bookies ledgers) holdings
 ends-shown d bookies ledgers holdings good count made are =
     subst (λ (hs : List Holding). All (HasEnds bookies ledgers) hs) (sym are)
     (subst (λ (gs : List Ledger). All (HasEnds bookies gs) (map (holding_in (names_of d)) (list_of d field.Contents))) (sym made)
-    (subst (λ (n : ℕ). All (HasEnds n (pictured_cluster d).ledgers) (map (holding_in (names_of d)) (list_of d field.Contents))) (sym count) (ends_good d good)))
+    (subst (λ (n : ℕ). All (HasEnds n (pictured_cluster d).parts.ledgers) (map (holding_in (names_of d)) (list_of d field.Contents))) (sym count) (ends_good d good)))
 
 -- the ledgers of such a picture
-pictured_ledgers : (d : Data) → IsFaultless d → All (IsLedgerOf (pictured_cluster d)) (pictured_cluster d).ledgers
+pictured_ledgers : (d : Data) → IsFaultless d → All (IsLedgerOf (pictured_cluster d)) (pictured_cluster d).parts.ledgers
 pictured_ledgers d good =
     let s = pictured_cluster d in
-    ledgers_good s (all_items (λ q. q.2 < ENTRY_END) s.held (λ q one. (pictured_copy d good q one).2)) (list_of d field.Ledgers) good.each_ledger
+    ledgers_good s (all_items (λ q. q.2 < ENTRY_END) s.parts.held (λ q one. (pictured_copy d good q one).2)) (list_of d field.Ledgers) good.each_ledger
 
 -- their words are few
-pub pictured_words : (d : Data) → IsFaultless d → All (λ g. ENTRIES_IN_WORD * g.words ≤ ENTRY_END) (pictured_cluster d).ledgers
+pub pictured_words : (d : Data) → IsFaultless d → All (λ g. ENTRIES_IN_WORD * g.words ≤ ENTRY_END) (pictured_cluster d).parts.ledgers
 pictured_words d good = λ k g within. (pictured_ledgers d good k g within).words
 
 -- their ids differ
-pub pictured_ids : (d : Data) → IsFaultless d → IsDistinct nat_eq (map (λ g. g.id) (pictured_cluster d).ledgers)
+pub pictured_ids : (d : Data) → IsFaultless d → IsDistinct nat_eq (map (λ g. g.id) (pictured_cluster d).parts.ledgers)
 pictured_ids d good =
     subst (λ (ids : List ℕ). IsDistinct nat_eq ids) (sym (ids_made (names_of d) (contents_of d) (list_of d field.Ledgers))) (ids_differ (names_of d) (list_of d field.Ledgers) good.each_ledger)
 
@@ -492,12 +491,12 @@ IsWellFormed-pictured_cluster d good words =
       clock = lit≤ tt;
       up = registered_named (list_of d field.Bookies);
       ledgers = record {
-        few = omega (arith, length-map (list_of d field.Ledgers) (ledger_in (names_of d) s.held), good.ledgers);
+        few = omega (arith, length-map (list_of d field.Ledgers) (ledger_in (names_of d) s.parts.held), good.ledgers);
         different = pictured_ids d good;
         each = pictured_ledgers d good;
       };
       contents = record {
-        copies = all_items (IsCopy (length s.names) s.ledgers) s.held (copy_good d good);
+        copies = all_items (IsCopy (length s.names) s.parts.ledgers) s.parts.held (copy_good d good);
         words = words;
       };
     }
@@ -516,25 +515,19 @@ ledgers_made names ends held is (d ∷ ds) = λ i. record {
 
 -- the ledgers that were read are those of the cluster
 pub ledgers-shown : (d : Data) (names : List (List ℕ)) (up : Set numbers) (grace : ℕ) (listed : List ListedLedger) (holdings lent : List Holding) (ends : ℕ → Option ℕ) (ledgers : List Ledger) → IsShown d names up grace listed holdings → lent ≡ holdings
-    → IsGreatest ends (held_in lent) → ledgers ≡ map (ledger_of ends) listed → ledgers ≡ (pictured_cluster d).ledgers
+    → IsGreatest ends (held_in lent) → ledgers ≡ map (ledger_of ends) listed → ledgers ≡ (pictured_cluster d).parts.ledgers
 ledgers-shown d names up grace listed holdings lent ends ledgers shown same is made =
     made ∙ ap (map (ledger_of ends)) shown.listed_are
     ∙ ledgers_made (names_of d) ends (contents_of d) (subst (λ (hs : List Holding). IsGreatest ends (held_in hs)) (same ∙ shown.holdings_are) is) (list_of d field.Ledgers)
 
 -- and so are the other parts
 pub cluster_of-shown : (d : Data) (names : List (List ℕ)) (up : Set numbers) (grace : ℕ) (listed : List ListedLedger) (holdings : List Holding) (ledgers : List Ledger) (held : model.Contents) → IsShown d names up grace listed holdings
-    → ledgers ≡ (pictured_cluster d).ledgers → held ≡ held_in holdings → cluster_of names up grace ledgers held ≡ pictured_cluster d
-cluster_of-shown d names up grace listed holdings ledgers held shown made is = λ i. record {
-  names = shown.names_are i;
-  grace = shown.grace_is i;
-  up = shown.up_is i;
-  ledgers = made i;
-  held = (is ∙ ap held_in shown.holdings_are) i;
-  clock = 0;
-}
+    → ledgers ≡ (pictured_cluster d).parts.ledgers → held ≡ held_in holdings → cluster_of names up grace ledgers held ≡ pictured_cluster d
+cluster_of-shown d names up grace listed holdings ledgers held shown made is =
+    λ i. cluster_of (shown.names_are i) (shown.up_is i) (shown.grace_is i) (made i) ((is ∙ ap held_in shown.holdings_are) i)
 
 -- and take as many words
-pub words_in_all-shown : (d : Data) (names : List (List ℕ)) (ledgers : List Ledger) (bookies words : ℕ) → names ≡ names_of d → ledgers ≡ (pictured_cluster d).ledgers → bookies ≡ length names
+pub words_in_all-shown : (d : Data) (names : List (List ℕ)) (ledgers : List Ledger) (bookies words : ℕ) → names ≡ names_of d → ledgers ≡ (pictured_cluster d).parts.ledgers → bookies ≡ length names
     → words ≡ bookies * sum_by (λ g. g.words) ledgers → words ≡ words_in_all (pictured_cluster d)
 words_in_all-shown d names ledgers bookies words named made count is = is ∙ (λ i. (count ∙ ap length named) i * sum_by (λ g. g.words) (made i))
 

@@ -6,7 +6,7 @@ use Rattle.reh_types.specs.declared.limits.TheConstants.{MAX_GRACE, MAX_PICTURE_
 use Rattle.serde_json.specs.Read.{read}
 use Rattle.reh_types.specs.Sets.{Set, numbers}
 use Rattle.reh_model.specs.Contents.{Contents}
-use Rattle.reh_model.specs.Cluster.{Cluster}
+use Rattle.reh_model.specs.Cluster.{Cluster, cluster_of}
 use Rattle.reh_picture.specs.declared.fields.Field.TheVariants as field
 use Rattle.reh_picture.specs.declared.faults.PictureFault.{PictureFault}
 use Rattle.reh_picture.specs.declared.faults.PictureFault.TheVariants.{TooLong, NotJson, WrongKind, Limit}
@@ -30,18 +30,13 @@ contents_of d = held_in (map (holding_in (names_of d)) (list_of d field.Contents
 
 -- the cluster that the fields name, with no task and no lock, at clock 0
 abbrev pub pictured_cluster : Data → Cluster
-pictured_cluster d = record {
-  names = names_of d;
-  grace = number_of d field.Grace;
-  up = registered_in (list_of d field.Bookies);
-  ledgers = map (ledger_in (names_of d) (contents_of d)) (list_of d field.Ledgers);
-  held = contents_of d;
-  clock = 0;
-}
+pictured_cluster d =
+    let ledgers = map (ledger_in (names_of d) (contents_of d)) (list_of d field.Ledgers) in
+    cluster_of (names_of d) (registered_in (list_of d field.Bookies)) (number_of d field.Grace) ledgers (contents_of d)
 
 -- words of entries that all bookies together take, each as many for a ledger as it has
 abbrev pub words_in_all : Cluster → ℕ
-words_in_all s = length s.names * sum_by (λ g. g.words) s.ledgers
+words_in_all s = length s.names * sum_by (λ g. g.words) s.parts.ledgers
 
 -- what is wrong before the lists
 unfoldable pub head_fault : Data → Option PictureFault

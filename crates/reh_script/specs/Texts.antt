@@ -45,14 +45,14 @@ reply_text names reply = types.reply_text reply
 
 -- the clock and the grace
 abbrev pub clock_line : Cluster → List ℕ
-clock_line s = spaced (codes "clock" ∷ decimal s.clock ∷ codes "grace" ∷ decimal s.grace ∷ [])
+clock_line s = spaced (codes "clock" ∷ decimal s.parts.scalars.clock ∷ codes "grace" ∷ decimal s.grace ∷ [])
 
 abbrev pub registration : Bool → List ℕ
 registration up = if up then codes "up" else codes "down"
 
 -- a bookie's name, whether it is registered, and how many entries it holds
 abbrev pub bookie_line : Cluster → ℕ → List ℕ → List ℕ
-bookie_line s bookie name = spaced (codes "bookie" ∷ name ∷ registration (is_up s bookie) ∷ decimal (count_held s.held bookie) ∷ [])
+bookie_line s bookie name = spaced (codes "bookie" ∷ name ∷ registration (is_up s bookie) ∷ decimal (count_held s.parts.held bookie) ∷ [])
 
 -- the state of a ledger
 abbrev pub state_word : LedgerState → List ℕ
@@ -106,7 +106,7 @@ ledger_lines names g = ledger_line g.id g.metadata ∷ (fragment_lines names g.m
 
 -- the clock, the bookies and the ledgers, in picture order
 abbrev pub report : Cluster → List (List ℕ)
-report s = clock_line s ∷ (map (λ place. bookie_line s place.0 place.1) (enumerate_from 0 s.names) ++ flat_map (ledger_lines s.names) s.ledgers)
+report s = clock_line s ∷ (map (λ place. bookie_line s place.0 place.1) (enumerate_from 0 s.names) ++ flat_map (ledger_lines s.names) s.parts.ledgers)
 
 -- The survey
 

@@ -118,8 +118,8 @@ module _ {s : Cluster} {es : List Event} {rs : List (List Change)} {k : ℕ} (h 
         ] refl tells
 
     -- a look shows the state's clock
-    pub look_answers : (clock : ℕ) → clock ≡ s.clock → Performs m Look (Clock clock) m
-    look_answers clock shown = inl (ap Clock (shown ∙ ap (λ (x : Cluster). x.clock) (sym state_is)), refl)
+    pub look_answers : (clock : ℕ) → clock ≡ s.parts.scalars.clock → Performs m Look (Clock clock) m
+    look_answers clock shown = inl (ap Clock (shown ∙ ap (λ (x : Cluster). x.parts.scalars.clock) (sym state_is)), refl)
 
     -- each surviving swap keeps its promise
     pub kept_safe : AllSafe m

@@ -2,7 +2,6 @@
 use Rattle.std.proofs.Common.{◌≡◌, ◌<◌, ◌+◌, ℕ, Bool, true, false, List, ◌∷◌, ◌++◌, ◌≤◌, length, get_or, drop, sym, ap, subst, ◌∙◌}
 use Rattle.std.specs.Prelude.{if◌then◌else◌, None, Some, Ok}
 use Rattle.std.proofs.lemmas.List.{append-nil, drop_all, drop_more}
-use Rattle.reh_types.specs.Sets.{Set, numbers}
 use Rattle.reh_types.specs.declared.changes.Change.TheVariants.{Task, Lock}
 use Rattle.reh_model.specs.Cluster.{Cluster, Ledger, is_locked_by}
 use Rattle.reh_model.specs.Audit.{is_news, published_members}
@@ -25,7 +24,7 @@ decided s event made changes none is delta = record {
 }
 
 -- the ledger that was found stands at its place
-pub found_read : (s : Cluster) (l : ℕ) (found : Found) → IsFound s l found → found.ledger.now ≡ get_or s.ledgers found.place found.ledger.now
+pub found_read : (s : Cluster) (l : ℕ) (found : Found) → IsFound s l found → found.ledger.now ≡ get_or s.parts.ledgers found.place found.ledger.now
 found_read s l found is = (stands s l found.place found.ledger.now is.well_formed is.place is.ledger).read
 
 -- the changes of the ledgers from place k on begin with the one that stands there
@@ -55,27 +54,27 @@ module _ (w : ℕ) (gs : List Ledger) (k : ℕ) (g : Ledger) (within : k < lengt
   lock_kept = failed (is_locked_by w) (λ k g. Lock k None) gs k g within is
 
 -- listed ledger by ledger, the locks that go with a worker's session are the difference
-pub expire_listed : (s : Cluster) (w : ℕ) (gs : List Ledger) (k : ℕ) (parts : List Change) → IsWellFormed s → refusal_of s (Expire w) ≡ None → gs ≡ s.ledgers → length gs ≤ k → locks_from w 0 gs ≡ parts ++ locks_from w k gs → IsDelta s (after s (Expire w)) parts
+pub expire_listed : (s : Cluster) (w : ℕ) (gs : List Ledger) (k : ℕ) (parts : List Change) → IsWellFormed s → refusal_of s (Expire w) ≡ None → gs ≡ s.parts.ledgers → length gs ≤ k → locks_from w 0 gs ≡ parts ++ locks_from w k gs → IsDelta s (after s (Expire w)) parts
 expire_listed s w gs k parts was none same past is =
     subst (λ (cs : List Change). IsDelta s (after s (Expire w)) cs)
     (ap (λ (hs : List Ledger). lost_locks w 0 hs) (sym same) ∙ sym (all_listed (is_locked_by w) (λ k g. Lock k None) gs k parts past is))
     (expire_delta s w was none)
 
 -- an audit's tasks from place k on
-abbrev pub tasks_from : Set numbers → ℕ → List Ledger → List Change
-tasks_from up k gs = news_tasks up k (drop k gs)
+abbrev pub tasks_from : Cluster → ℕ → List Ledger → List Change
+tasks_from s k gs = news_tasks s k (drop k gs)
 
-module _ (up : Set numbers) (gs : List Ledger) (k : ℕ) (g : Ledger) (within : k < length gs) (is : g ≡ get_or gs k g) where
-  pub task_new : is_news up g ≡ true → tasks_from up k gs ≡ Task k (Some (published_members up g)) ∷ tasks_from up (k + 1) gs
-  task_new = passed (is_news up) (λ k g. Task k (Some (published_members up g))) gs k g within is
+module _ (s : Cluster) (gs : List Ledger) (k : ℕ) (g : Ledger) (within : k < length gs) (is : g ≡ get_or gs k g) where
+  pub task_new : is_news s g ≡ true → tasks_from s k gs ≡ Task k (Some (published_members s g)) ∷ tasks_from s (k + 1) gs
+  task_new = passed (is_news s) (λ k g. Task k (Some (published_members s g))) gs k g within is
 
-  pub task_old : is_news up g ≡ false → tasks_from up k gs ≡ tasks_from up (k + 1) gs
-  task_old = failed (is_news up) (λ k g. Task k (Some (published_members up g))) gs k g within is
+  pub task_old : is_news s g ≡ false → tasks_from s k gs ≡ tasks_from s (k + 1) gs
+  task_old = failed (is_news s) (λ k g. Task k (Some (published_members s g))) gs k g within is
 
 -- listed ledger by ledger, the tasks that an audit changes are the difference
-pub audit_listed : (s : Cluster) (up : Set numbers) (gs : List Ledger) (k : ℕ) (parts : List Change) → IsWellFormed s → refusal_of s Audit ≡ None → up ≡ s.up → gs ≡ s.ledgers → length gs ≤ k → tasks_from up 0 gs ≡ parts ++ tasks_from up k gs
+pub audit_listed : (s : Cluster) (gs : List Ledger) (k : ℕ) (parts : List Change) → IsWellFormed s → refusal_of s Audit ≡ None → gs ≡ s.parts.ledgers → length gs ≤ k → tasks_from s 0 gs ≡ parts ++ tasks_from s k gs
     → IsDelta s (after s Audit) parts
-audit_listed s up gs k parts was none same_up same past is =
+audit_listed s gs k parts was none same past is =
     subst (λ (cs : List Change). IsDelta s (after s Audit) cs)
-    ((λ i. news_tasks (sym same_up i) 0 (sym same i)) ∙ sym (all_listed (is_news up) (λ k g. Task k (Some (published_members up g))) gs k parts past is))
+    (ap (λ (hs : List Ledger). news_tasks s 0 hs) (sym same) ∙ sym (all_listed (is_news s) (λ k g. Task k (Some (published_members s g))) gs k parts past is))
     (audit_delta s was none)

@@ -23,11 +23,11 @@ use Rattle.std.specs.Option.{option_map_or}
 use Rattle.reh_model.specs.Metadata as meta
 use Rattle.reh_model.specs.Metadata.{Fragment, IsEnsemble, IsMetadata, last_fragment, writes}
 use Rattle.reh_model.specs.Striping.{is_striped, striped_entries, write_set}
-use Rattle.reh_model.specs.Cluster.{Cluster, Ledger, is_up, ledger_at, change_ledger, words_among}
+use Rattle.reh_model.specs.Cluster.{Parts, Cluster, Ledger, is_up, ledger_at, change_ledger, words_among, with_held, with_ledgers}
 use Rattle.reh_model.specs.Recovery.{up_writes, recovered_end, recovered_entries, recovered_copies, recovered_at}
 use Rattle.reh_model.specs.WellFormed.{IsCopy, IsWellFormed}
 use Rattle.reh_model.specs.Step.{refusal_of, after, sealed_ledger}
-use Rattle.reh_model.specs.Places.{Change, Place, at_metadata, at_word, place_of, IsBefore, AreRising, put, exchanged, IsThere, SameAt, IsDelta}
+use Rattle.reh_model.specs.Places.{Change, Place, at_metadata, at_word, place_of, IsBefore, AreRising, put, put_all, exchanged, IsThere, IsDelta}
 use Rattle.reh_step.specs.Records.{word_change, word_changes, registered_index, recovered_by}
 use Rattle.reh_model.proofs.ContentsLaws.{All-copy, has-copies_of}
 use Rattle.reh_model.proofs.FragmentLaws.{IsEnsemble-last}
@@ -38,7 +38,7 @@ use Rattle.reh_model.proofs.ListLaws.{change_at-here}
 use Rattle.reh_model.proofs.RecoveryLaws.{IsHeld-readable, readable_before_end, has-recovered_copies, any-up_writes, IsRecovered-at}
 use Rattle.reh_model.proofs.TurnedLaws.{one_of-false}
 use Rattle.reh_model.proofs.WellFormedLaws.{IsWellFormed-after}
-use Rattle.reh_model.proofs.ExchangeLaws.{delta_of_changes}
+use Rattle.reh_model.proofs.ExchangeLaws.{Differs, delta_of_changes}
 use Rattle.reh_model.proofs.DeltaLaws.{Stands, stands, part_differs}
 use Rattle.reh_scan.proofs.ReadingLaws.{write_set_within}
 use Rattle.reh_step.proofs.CopyLaws.{words-rising, words-there, words-differ, exchanged-words}
@@ -71,28 +71,28 @@ has-recovered_by s g n b l e =
     passed = list_any (nat_eq e) (recovered_entries s g)
 
 -- one bookie more: its words turn to what it gets, whatever the bookies before it got
-turned_next : (s : Cluster) (g : Ledger) (n : ℕ) (us : List Turn) → turned_all s.held n g.id us ≡ set.union s.held (copies_of n g.id (recovered_by s g n))
-    → turned_all (set.union s.held (recovered_below s g n)) n g.id us ≡ set.union s.held (recovered_below s g (n + 1))
+turned_next : (s : Cluster) (g : Ledger) (n : ℕ) (us : List Turn) → turned_all s.parts.held n g.id us ≡ set.union s.parts.held (copies_of n g.id (recovered_by s g n))
+    → turned_all (set.union s.parts.held (recovered_below s g n)) n g.id us ≡ set.union s.parts.held (recovered_below s g (n + 1))
 turned_next s g n us makes =
-    same_set (turned_all (set.union s.held (recovered_below s g n)) n g.id us) (set.union s.held (recovered_below s g (n + 1))) (λ t.
-    has-turned_all (set.union s.held (recovered_below s g n)) n g.id us t.0 t.1 t.2
-    ∙ ap (λ h. one_of h ((nat_eq t.0 n && nat_eq t.1 g.id) && is_turned us t.2)) (contains-union s.held (recovered_below s g n) t ∙ ap (λ h. set.contains s.held t || h) (has-below s g n t.0 t.1 t.2))
+    same_set (turned_all (set.union s.parts.held (recovered_below s g n)) n g.id us) (set.union s.parts.held (recovered_below s g (n + 1))) (λ t.
+    has-turned_all (set.union s.parts.held (recovered_below s g n)) n g.id us t.0 t.1 t.2
+    ∙ ap (λ h. one_of h ((nat_eq t.0 n && nat_eq t.1 g.id) && is_turned us t.2)) (contains-union s.parts.held (recovered_below s g n) t ∙ ap (λ h. set.contains s.parts.held t || h) (has-below s g n t.0 t.1 t.2))
     ∙ at_copy t.0 t.1 t.2
-    ∙ sym (contains-union s.held (recovered_below s g (n + 1)) t ∙ ap (λ h. set.contains s.held t || h) (has-below s g (n + 1) t.0 t.1 t.2)))
+    ∙ sym (contains-union s.parts.held (recovered_below s g (n + 1)) t ∙ ap (λ h. set.contains s.parts.held t || h) (has-below s g (n + 1) t.0 t.1 t.2)))
   where
     here : (h x r : Bool) → one_of h x ≡ (h || (true && r)) → one_of (h || (false && r)) x ≡ (h || (true && r))
     here true x r is = is
     here false x r is = is
 
     -- what the turns make of what was held
-    alone : (b l e : ℕ) → one_of (has s.held b l e) ((nat_eq b n && nat_eq l g.id) && is_turned us e) ≡ (has s.held b l e || (nat_eq b n && has (recovered_copies s g) b l e))
+    alone : (b l e : ℕ) → one_of (has s.parts.held b l e) ((nat_eq b n && nat_eq l g.id) && is_turned us e) ≡ (has s.parts.held b l e || (nat_eq b n && has (recovered_copies s g) b l e))
     alone b l e =
-        sym (has-turned_all s.held n g.id us b l e) ∙ ap (λ (h : Contents). has h b l e) makes
-        ∙ contains-union s.held (copies_of n g.id (recovered_by s g n)) (b, l, e) ∙ ap (λ h. has s.held b l e || h) (has-recovered_by s g n b l e)
+        sym (has-turned_all s.parts.held n g.id us b l e) ∙ ap (λ (h : Contents). has h b l e) makes
+        ∙ contains-union s.parts.held (copies_of n g.id (recovered_by s g n)) (b, l, e) ∙ ap (λ h. has s.parts.held b l e || h) (has-recovered_by s g n b l e)
 
-    at_copy : (b l e : ℕ) → one_of (has s.held b l e || (nat_lt b n && has (recovered_copies s g) b l e)) ((nat_eq b n && nat_eq l g.id) && is_turned us e) ≡ (has s.held b l e || (nat_lt b (n + 1) && has (recovered_copies s g) b l e))
+    at_copy : (b l e : ℕ) → one_of (has s.parts.held b l e || (nat_lt b n && has (recovered_copies s g) b l e)) ((nat_eq b n && nat_eq l g.id) && is_turned us e) ≡ (has s.parts.held b l e || (nat_lt b (n + 1) && has (recovered_copies s g) b l e))
     at_copy b l e =
-        let h : Bool = has s.held b l e in
+        let h : Bool = has s.parts.held b l e in
         let r : Bool = has (recovered_copies s g) b l e in
         elim (nat_eq b n) as (λ tied. nat_eq b n ≡ tied → one_of h ((tied && nat_eq l g.id) && is_turned us e) ≡ (h || (tied && r)) → one_of (h || (nat_lt b n && r)) ((tied && nat_eq l g.id) && is_turned us e) ≡ (h || (nat_lt b (n + 1) && r))) [
           | true ↦ λ tied is.
@@ -105,10 +105,10 @@ turned_next s g n us makes =
         ] refl (alone b l e)
 
 -- before the first bookie
-nothing_below : (s : Cluster) (g : Ledger) → set.union s.held (recovered_below s g 0) ≡ s.held
-nothing_below s g = same_set (set.union s.held (recovered_below s g 0)) s.held (λ t.
-    contains-union s.held (recovered_below s g 0) t ∙ ap (λ h. set.contains s.held t || h) (has-below s g 0 t.0 t.1 t.2)
-    ∙ ap (λ below. set.contains s.held t || (below && has (recovered_copies s g) t.0 t.1 t.2)) (none_below t.0) ∙ or-false (set.contains s.held t))
+nothing_below : (s : Cluster) (g : Ledger) → set.union s.parts.held (recovered_below s g 0) ≡ s.parts.held
+nothing_below s g = same_set (set.union s.parts.held (recovered_below s g 0)) s.parts.held (λ t.
+    contains-union s.parts.held (recovered_below s g 0) t ∙ ap (λ h. set.contains s.parts.held t || h) (has-below s g 0 t.0 t.1 t.2)
+    ∙ ap (λ below. set.contains s.parts.held t || (below && has (recovered_copies s g) t.0 t.1 t.2)) (none_below t.0) ∙ or-false (set.contains s.parts.held t))
   where
     none_below : (b : ℕ) → nat_lt b 0 ≡ false
     none_below b = grind (arith, nat_tests)
@@ -135,9 +135,9 @@ rising-append (p ∷ ps) qs first second before = (
   rising-append ps qs first.1 second (All-tail (λ p. All (IsBefore p) qs) p ps before),
 )
 
-exchanged-append : (s : Cluster) (cs ds : List Change) → exchanged s (cs ++ ds) ≡ exchanged (exchanged s cs) ds
-exchanged-append s [] ds = refl
-exchanged-append s (c ∷ cs) ds = exchanged-append (put s c) cs ds
+put_all-append : (p : Parts) (cs ds : List Change) → put_all p (cs ++ ds) ≡ put_all (put_all p cs) ds
+put_all-append p [] ds = refl
+put_all-append p (c ∷ cs) ds = put_all-append (put p c) cs ds
 
 -- the change is before all words of bookies from n on
 abbrev IsBeforeWords : ℕ → Change → Type 0
@@ -152,27 +152,27 @@ pub record AreSealed (s : Cluster) (k : ℕ) (g : Ledger) (n : ℕ) (cs : List C
   pub rising : AreRising (map place_of cs)
   before : All (IsBeforeWords n) cs
   there : All (IsThere s) cs
-  differ : All (λ c. ¬ SameAt s (put s c) (place_of c)) cs
-  makes : exchanged s cs ≡ record (put s (closing s k g)) { held = set.union s.held (recovered_below s g n) }
+  differ : All (Differs s.parts) cs
+  makes : exchanged s cs ≡ with_held (exchanged s (closing s k g ∷ [])) (set.union s.parts.held (recovered_below s g n))
 
-pub sealed_start : (s : Cluster) (l k : ℕ) (g : Ledger) → IsWellFormed s → position (λ g. g.id == l) s.ledgers ≡ Some k → g ≡ get_or s.ledgers k g → AreSealed s k g 0 (closing s k g ∷ [])
+pub sealed_start : (s : Cluster) (l k : ℕ) (g : Ledger) → IsWellFormed s → position (λ g. g.id == l) s.parts.ledgers ≡ Some k → g ≡ get_or s.parts.ledgers k g → AreSealed s k g 0 (closing s k g ∷ [])
 sealed_start s l k g was is read =
     let place : Stands s l k g = stands s l k g was is (ledger_at-position s l k g was.ledgers.different is read) in
-    let differs : Change → Type 0 = λ c. ¬ SameAt s (put s c) (place_of c) in
+    let differs : Change → Type 0 = Differs s.parts in
     record {
       rising = (All-nil (IsBefore (at_metadata k)), tt);
       before = All-cons (IsBeforeWords 0) (closing s k g) [] (λ b l i from. inl (omega arith)) (All-nil (IsBeforeWords 0));
       there = All-cons (IsThere s) (closing s k g) [] place.there (All-nil (IsThere s));
-      differ = All-cons differs (closing s k g) [] (part_differs (λ g. g.metadata) (λ x. record x { metadata = (sealed_ledger s g).metadata }) s.ledgers k g place.here (λ same. absurd (omega (arith, ap (λ (m : meta.Metadata). m.version) same)))) (All-nil differs);
-      makes = ap (λ (h : Contents). record (put s (closing s k g)) { held = h }) (sym (nothing_below s g));
+      differ = All-cons differs (closing s k g) [] (part_differs (λ g. g.metadata) (λ x. record x { metadata = (sealed_ledger s g).metadata }) s.parts.ledgers k g place.here (λ same. absurd (omega (arith, ap (λ (m : meta.Metadata). m.version) same)))) (All-nil differs);
+      makes = ap (λ (h : Contents). with_held (exchanged s (closing s k g ∷ [])) h) (sym (nothing_below s g));
     }
 
 -- one bookie more
-more_sealed : (s : Cluster) (k : ℕ) (g : Ledger) (n : ℕ) (cs : List Change) (us : List Turn) → n < length s.names → IsTurning (words_among s.ledgers g.id) n g.id s.held (set.union s.held (copies_of n g.id (recovered_by s g n))) us
+more_sealed : (s : Cluster) (k : ℕ) (g : Ledger) (n : ℕ) (cs : List Change) (us : List Turn) → n < length s.names → IsTurning (words_among s.parts.ledgers g.id) n g.id s.parts.held (set.union s.parts.held (copies_of n g.id (recovered_by s g n))) us
     → AreSealed s k g n cs → AreSealed s k g (n + 1) (cs ++ word_changes n g.id us)
 more_sealed s k g n cs us named turning are =
     let words : List Change = word_changes n g.id us in
-    let differs : Change → Type 0 = λ c. ¬ SameAt s (put s c) (place_of c) in
+    let differs : Change → Type 0 = Differs s.parts in
     record {
       rising = subst AreRising (sym (map-append place_of cs words)) (rising-append (map place_of cs) (map place_of words) are.rising (words-rising n g.id 0 us turning.places.rising)
           (All-map (λ p. All (IsBefore p) (map place_of words)) place_of cs (All-weaker (IsBeforeWords n) (λ c. All (IsBefore (place_of c)) (map place_of words)) (λ c before.
@@ -181,41 +181,41 @@ more_sealed s k g n cs us named turning are =
           (All-map (IsBeforeWords (n + 1)) (word_change n g.id) us (λ j d within b l i from. inr (refl, inl (omega arith))));
       there = All-append (IsThere s) cs words are.there (words-there s n g.id us named turning.places);
       differ = All-append differs cs words are.differ (words-differ s n g.id us turning.places);
-      makes = exchanged-append s cs words ∙ ap (λ (t : Cluster). exchanged t words) are.makes ∙ exchanged-words _ n g.id us
-          ∙ ap (λ (h : Contents). record (put s (closing s k g)) { held = h }) (turned_next s g n us turning.makes);
+      makes = ap (λ (p : Parts). record s { parts = p }) (put_all-append s.parts cs words) ∙ ap (λ (t : Cluster). exchanged t words) are.makes ∙ exchanged-words _ n g.id us
+          ∙ ap (λ (h : Contents). with_held (exchanged s (closing s k g ∷ [])) h) (turned_next s g n us turning.makes);
     }
 
 pub sealed_more : (s : Cluster) (l k : ℕ) (g : Ledger) (n : ℕ) (cs : List Change) (entries : List ℕ) (us : List Turn) (parts : List Change) → g.id ≡ l → n < length s.names → entries ≡ recovered_by s g n
-    → IsTurning (words_among s.ledgers l) n l s.held (set.union s.held (copies_of n l entries)) us → AreSealed s k g n cs → parts ≡ cs ++ word_changes n l us → AreSealed s k g (n + 1) parts
+    → IsTurning (words_among s.parts.ledgers l) n l s.parts.held (set.union s.parts.held (copies_of n l entries)) us → AreSealed s k g n cs → parts ≡ cs ++ word_changes n l us → AreSealed s k g (n + 1) parts
 sealed_more s l k g n cs entries us parts id named listed turning are is =
-    let turning_id : IsTurning (words_among s.ledgers g.id) n g.id s.held (set.union s.held (copies_of n g.id (recovered_by s g n))) us =
-    subst (λ (l : ℕ). IsTurning (words_among s.ledgers l) n l s.held (set.union s.held (copies_of n l (recovered_by s g n))) us) (sym id) (subst (λ (es : List ℕ). IsTurning (words_among s.ledgers l) n l s.held (set.union s.held (copies_of n l es)) us) listed turning) in
+    let turning_id : IsTurning (words_among s.parts.ledgers g.id) n g.id s.parts.held (set.union s.parts.held (copies_of n g.id (recovered_by s g n))) us =
+    subst (λ (l : ℕ). IsTurning (words_among s.parts.ledgers l) n l s.parts.held (set.union s.parts.held (copies_of n l (recovered_by s g n))) us) (sym id) (subst (λ (es : List ℕ). IsTurning (words_among s.parts.ledgers l) n l s.parts.held (set.union s.parts.held (copies_of n l es)) us) listed turning) in
     subst (λ (ps : List Change). AreSealed s k g (n + 1) ps) (ap (λ l. cs ++ word_changes n l us) id ∙ sym is) (more_sealed s k g n cs us named turning_id are)
 
 -- behind the last bookie the record is the difference
-pub seal_delta : (s : Cluster) (w l k : ℕ) (g : Ledger) (n : ℕ) (cs : List Change) → IsWellFormed s → position (λ g. g.id == l) s.ledgers ≡ Some k → g ≡ get_or s.ledgers k g → refusal_of s (Seal w l) ≡ None → length s.names ≤ n → AreSealed s k g n cs
+pub seal_delta : (s : Cluster) (w l k : ℕ) (g : Ledger) (n : ℕ) (cs : List Change) → IsWellFormed s → position (λ g. g.id == l) s.parts.ledgers ≡ Some k → g ≡ get_or s.parts.ledgers k g → refusal_of s (Seal w l) ≡ None → length s.names ≤ n → AreSealed s k g n cs
     → IsDelta s (after s (Seal w l)) cs
 seal_delta s w l k g n cs was is read none past are =
     let found : ledger_at s l ≡ Some g = ledger_at-position s l k g was.ledgers.different is read in
     let place : Stands s l k g = stands s l k g was is found in
-    let closed : put s (closing s k g) ≡ change_ledger s l (sealed_ledger s) =
-    ap (λ (gs : List Ledger). record s { ledgers = gs }) (change_at-here (λ x. record x { metadata = (sealed_ledger s g).metadata }) (sealed_ledger s) s.ledgers k g read refl) ∙ place.changed (sealed_ledger s) in
+    let closed : exchanged s (closing s k g ∷ []) ≡ change_ledger s l (sealed_ledger s) =
+    ap (λ (gs : List Ledger). with_ledgers s gs) (change_at-here (λ x. record x { metadata = (sealed_ledger s g).metadata }) (sealed_ledger s) s.parts.ledgers k g read refl) ∙ place.changed (sealed_ledger s) in
     let copied : recovered_below s g n ≡ recovered_at s l = all_below s l g n was found past in
-    delta_of_changes s (after s (Seal w l)) cs (IsWellFormed-after s (Seal w l) was none) are.rising are.there (are.makes ∙ (λ i. record (closed i) { held = set.union s.held (copied i) })) are.differ
+    delta_of_changes s (after s (Seal w l)) cs (IsWellFormed-after s (Seal w l) was none) are.rising are.there (are.makes ∙ (λ i. with_held (closed i) (set.union s.parts.held (copied i)))) are.differ
 
 -- What one bookie gets
 
 -- no more than lies within the ledger's words
-pub recovered_within : (s : Cluster) (l : ℕ) (g : Ledger) (b : ℕ) (entries : List ℕ) → IsWellFormed s → g.id ≡ l → entries ≡ recovered_by s g b → All (λ e. e < 64 * words_among s.ledgers l) entries
+pub recovered_within : (s : Cluster) (l : ℕ) (g : Ledger) (b : ℕ) (entries : List ℕ) → IsWellFormed s → g.id ≡ l → entries ≡ recovered_by s g b → All (λ e. e < 64 * words_among s.parts.ledgers l) entries
 recovered_within s l g b entries was id listed =
-    subst (λ (es : List ℕ). All (λ e. e < 64 * words_among s.ledgers l) es) (sym listed)
-    (All-filter (λ e. list_any (nat_eq b) (up_writes s g e)) (λ e. e < 64 * words_among s.ledgers l) (recovered_entries s g) (λ k d inside.
+    subst (λ (es : List ℕ). All (λ e. e < 64 * words_among s.parts.ledgers l) es) (sym listed)
+    (All-filter (λ e. list_any (nat_eq b) (up_writes s g e)) (λ e. e < 64 * words_among s.parts.ledgers l) (recovered_entries s g) (λ k d inside.
     let first : ℕ = (last_fragment g.metadata).first in
     let few : k < recovered_end s g - first = omega (arith, inside, length-range_with_len first (recovered_end s g - first)) in
     let at : get_or (recovered_entries s g) k d ≡ first + k = get_or-range_with_len first (recovered_end s g - first) k d few in
     let held = IsHeld-readable s g (last_fragment g.metadata) (first + k) (readable_before_end s g (first + k) (omega arith) (omega (arith, few))) in
-    let within : first + k < 64 * words_among s.ledgers g.id = (All-copy (IsCopy (length s.names) s.ledgers) s.held was.contents.copies (held.0, g.id, first + k) held.1).2 in
-    subst (λ e. e < 64 * words_among s.ledgers l) (sym at) (subst (λ (l : ℕ). first + k < 64 * words_among s.ledgers l) id within)))
+    let within : first + k < 64 * words_among s.parts.ledgers g.id = (All-copy (IsCopy (length s.names) s.parts.ledgers) s.parts.held was.contents.copies (held.0, g.id, first + k) held.1).2 in
+    subst (λ e. e < 64 * words_among s.parts.ledgers l) (sym at) (subst (λ (l : ℕ). first + k < 64 * words_among s.parts.ledgers l) id within)))
 
 nothing_kept : (p : ℕ → Bool) → ((e : ℕ) → p e ≡ false) → (es : List ℕ) → filter p es ≡ []
 nothing_kept p none [] = refl

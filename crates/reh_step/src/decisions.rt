@@ -317,7 +317,7 @@ fn check_open(ledger: &Ledger) -> Result<(), Refusal>
 fn check_needed(state: &State, ledger: &Ledger) -> Result<(), Refusal>
     ensures { Decides result (model.not_needed state.now ledger.now) }
 {
-    if is_under(last_fragment(ledger), state.up()) {
+    if is_under(state, last_fragment(ledger)) {
         Ok(())
     } else {
         Err(Refusal::NotNeeded)

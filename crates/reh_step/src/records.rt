@@ -20,7 +20,7 @@ use reh_held::Turn;
 use reh_meta::{Fragment, LedgerMeta};
 use reh_scan::Found;
 use reh_stripe::Striped;
-use reh_types::{Aim, BookieIx, Change, LedgerId, Lock, Refusal};
+use reh_types::{Aim, BookieIx, Change, LedgerId, Lock, Refusal, Scalar};
 use std::alloc::{AllocError, Global};
 
 /// The bookie's registration goes.
@@ -48,12 +48,11 @@ pub(crate) fn audit(alloc: Global, state: &State) -> Result<Changes, Refusal>
     ensures { IsDecision state.now Audit result }
 {
     check_audit(state)?;
-    let up = state.up();
     let ledgers = state.ledgers();
     let mut parts = Vec::new(alloc);
     for (place, ledger) in ledgers.iter().enumerate() {
-        if is_news(ledger, up) {
-            let task = Some(published_of(ledger, up));
+        if is_news(state, ledger) {
+            let task = Some(published_of(state, ledger));
             push(&mut parts, Change::Task { place, task })?;
         }
     }
@@ -167,7 +166,7 @@ pub(crate) fn tick(alloc: Global, state: &State, ticks: u64) -> Result<Changes, 
     check_tick(state, ticks)?;
     let _well_formed = state.names();
     let clock = state.clock() + ticks;
-    let changes = Changes::one(alloc, Change::Clock { clock })?;
+    let changes = Changes::one(alloc, Change::Scalar(Scalar::Clock(clock)))?;
     Ok(changes)
 }
 

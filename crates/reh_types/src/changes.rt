@@ -2,6 +2,7 @@
 use crate::bookies::BookieSet;
 use crate::locks::Lock;
 use crate::names::{BookieIx, LedgerId};
+use crate::scalars::Scalar;
 
 /// A place of a cluster with the contents that it is to have, where `M` is a ledger's metadata. Of a word of 64 entries
 /// it has the bits that are to turn.
@@ -36,8 +37,6 @@ pub enum Change<M> {
         number: usize,
         bits: u64,
     },
-    /// The clock, in ticks.
-    Clock {
-        clock: u64,
-    },
+    /// A part that is a single value.
+    Scalar(Scalar),
 }

@@ -1,7 +1,7 @@
 // Sessions by their own calls, and a long run, on two bookies.
 use crate::pictures::{TWO_BOOKIES, state_of};
 use reh_session::Session;
-use reh_types::{BookieIx, Change, Event, Move, Refusal, Reply};
+use reh_types::{BookieIx, Change, Event, Move, Refusal, Reply, Scalar};
 use std::alloc::{AllocError, Global};
 use std::test::Fail;
 
@@ -42,8 +42,8 @@ fn undoes_and_redoes(rt: HostRuntime) -> Result<(), Fail> {
 // The clock that the first record would give the state.
 fn recorded_clock(session: &Session) -> Option<u64> {
     let record = session.records().first()?;
-    match record.parts().first()? {
-        Change::Clock { clock } => Some(*clock),
+    match record.as_slice().first()? {
+        Change::Scalar(Scalar::Clock(clock)) => Some(*clock),
         _ => None,
     }
 }

@@ -5,4 +5,4 @@ use Rattle.reh_model.specs.Audit.{published_members, is_news}
 use Rattle.reh_audit.proofs.audits.published_tasks.Given as goal
 
 abbrev pub invariant-loop-ledger : goal.invariant-loop-ledger
-invariant-loop-ledger l = l.tasks.items ≡ map (λ g. (g.id, published_members l.up g)) (filter (is_news l.up) (take l.ledger-index l.ledgers))
+invariant-loop-ledger l = l.tasks.items ≡ map (λ g. (g.id, published_members l.state g)) (filter (is_news l.state) (take l.ledger-index l.ledgers))

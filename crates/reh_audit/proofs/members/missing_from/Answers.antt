@@ -2,9 +2,10 @@
 use Rattle.std.proofs.Common.{◌≡◌, ◌∙◌, ap, sym, not, List, ℕ, get_or}
 use Rattle.std.specs.List.{filter, flat_map}
 use Rattle.std.proofs.lemmas.List.{take_all}
-use Rattle.reh_types.specs.Sets.{numbers, contains, union, from_list}
+use Rattle.reh_types.specs.Sets.{numbers, union, from_list}
 use Rattle.reh_types.proofs.SetLaws.{from_list-nil}
 use Rattle.reh_model.specs.Metadata.{Fragment}
+use Rattle.reh_model.specs.Cluster.{is_up}
 use Rattle.reh_audit.proofs.MissingLaws.{missing_more-ensemble}
 use Rattle.reh_audit.proofs.members.missing_from.Goals as goal
 
@@ -16,8 +17,8 @@ loop-fragment-preserved c =
     let members : c.deref.result.now ≡ (get_or c.args.fragments.now c.loop-fragment.fragment-index c.fragment-item.result).ensemble =
     c.deref.ensures.value ∙ ap (λ (f : Fragment). f.ensemble) (c.fragment.view_is ∙ c.fragment-item.is) in
     c.union-missing.ensures
-    ∙ (λ i. union (c.loop-fragment.invariant i) ((c.missing_among.ensures ∙ ap (λ (bs : List ℕ). from_list {o = numbers} (filter (λ b. not (contains c.args.up.now b)) bs)) members) i))
-    ∙ sym (missing_more-ensemble c.args.up.now c.args.fragments.now c.loop-fragment.fragment-index c.fragment-item.result c.loop-fragment-test.true)
+    ∙ (λ i. union (c.loop-fragment.invariant i) ((c.missing_among.ensures ∙ ap (λ (bs : List ℕ). from_list {o = numbers} (filter (λ b. not (is_up c.args.state.now b)) bs)) members) i))
+    ∙ sym (missing_more-ensemble c.args.state.now c.args.fragments.now c.loop-fragment.fragment-index c.fragment-item.result c.loop-fragment-test.true)
 
 pub returns : goal.returns
-returns c = c.loop-fragment.invariant ∙ ap (λ (fs : List Fragment). from_list {o = numbers} (filter (λ b. not (contains c.args.up.now b)) (flat_map (λ fragment. fragment.ensemble) fs))) (take_all c.loop-fragment.fragment-index c.args.fragments.now c.loop-fragment-test.false)
+returns c = c.loop-fragment.invariant ∙ ap (λ (fs : List Fragment). from_list {o = numbers} (filter (λ b. not (is_up c.args.state.now b)) (flat_map (λ fragment. fragment.ensemble) fs))) (take_all c.loop-fragment.fragment-index c.args.fragments.now c.loop-fragment-test.false)

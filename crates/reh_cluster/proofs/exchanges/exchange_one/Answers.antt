@@ -1,31 +1,83 @@
 -- A part of a ledger is swapped with what the change holds.
-use Rattle.std.proofs.Common.{ap}
+use Rattle.std.proofs.Common.{◌≡◌, List, ap, set, sym, refl}
 use Rattle.reh_types.specs.declared.changes.Change.TheVariants.{Metadata, Task, Lock}
+use Rattle.reh_model.specs.Cluster.{Ledger}
+use Rattle.reh_model.specs.Places.{change_at}
 use Rattle.reh_model.proofs.ListLaws.{read_at-there}
-use Rattle.reh_cluster.specs.Parts.{cluster_with}
-use Rattle.reh_cluster.proofs.ExchangeLaws.{changed_there}
+use Rattle.reh_cluster.specs.Parts.{PartsValue}
+use Rattle.reh_cluster.specs.Kept.{parts_in}
+use Rattle.reh_cluster.proofs.ExchangeLaws.{changed_there, rows_put}
 use Rattle.reh_cluster.proofs.exchanges.exchange_one.Goals as goal
 
-pub returns-in-Metadata-clause-state : goal.returns-in-Metadata-clause-state
-returns-in-Metadata-clause-state c = λ names grace.
-    rw (c.swap_metadata.ensures.ledger, c.in-Metadata.is) (changed_there (cluster_with names grace c.args.up.now c.args.ledgers.now.items c.args.held.now.contents c.args.clock.now) c.in-Metadata.place (λ g. record g { metadata = c.in-Metadata.metadata }) c.index_mut.result.now c.index_mut.ensures.value)
+pub invariant_of-parts-in-Metadata : goal.invariant_of-parts-in-Metadata
+invariant_of-parts-in-Metadata c = record {
+  few = c.parts.invariant.few;
+  rows = rows_put (parts_in c.parts.inside).parts (Metadata c.in-Metadata.place c.in-Metadata.metadata) _ _ _
+      (changed_there (λ g. record g { metadata = c.in-Metadata.metadata }) c.parts.inside.ledgers.items c.in-Metadata.place c.index_mut.result.now c.swap_metadata.new.self c.index_mut.ensures.value c.swap_metadata.ensures.ledger)
+      c.parts.invariant.rows;
+}
+
+pub returns-in-Metadata-clause-parts : goal.returns-in-Metadata-clause-parts
+returns-in-Metadata-clause-parts c =
+    let p : PartsValue = parts_in c.parts.inside in
+    rw (← c.parts.view_is, c.in-Metadata.is)
+    (ap (λ (gs : List Ledger). record p { parts = record p.parts { ledgers = gs } })
+    (changed_there (λ g. record g { metadata = c.in-Metadata.metadata }) c.parts.inside.ledgers.items c.in-Metadata.place c.index_mut.result.now c.swap_metadata.new.self c.index_mut.ensures.value c.swap_metadata.ensures.ledger))
 
 pub returns-in-Metadata-clause-left : goal.returns-in-Metadata-clause-left
-returns-in-Metadata-clause-left c = λ names grace.
-    rw (c.swap_metadata.ensures.other, c.in-Metadata.is) (ap (Metadata c.in-Metadata.place) (read_at-there (λ g. g.metadata) c.args.ledgers.now.items c.in-Metadata.place c.index_mut.result.now c.in-Metadata.metadata (rw c.in-Metadata.is at c.requires) c.index_mut.ensures.value))
+returns-in-Metadata-clause-left c =
+    rw (c.swap_metadata.ensures.other, ← c.parts.view_is, c.in-Metadata.is)
+    (ap (Metadata c.in-Metadata.place)
+    (read_at-there (λ g. g.metadata) c.parts.inside.ledgers.items c.in-Metadata.place c.index_mut.result.now c.in-Metadata.metadata
+    (rw (c.in-Metadata.is, ← c.parts.view_is) at c.requires) c.index_mut.ensures.value))
 
-pub returns-in-Task-clause-state : goal.returns-in-Task-clause-state
-returns-in-Task-clause-state c = λ names grace.
-    rw (c.swap_task.ensures.ledger, c.in-Task.is) (changed_there (cluster_with names grace c.args.up.now c.args.ledgers.now.items c.args.held.now.contents c.args.clock.now) c.in-Task.place (λ g. record g { task = c.in-Task.task }) c.index_mut-in-Task.result.now c.index_mut-in-Task.ensures.value)
+pub invariant_of-parts-in-Task : goal.invariant_of-parts-in-Task
+invariant_of-parts-in-Task c = record {
+  few = c.parts.invariant.few;
+  rows = rows_put (parts_in c.parts.inside).parts (Task c.in-Task.place c.in-Task.task) _ _ _
+      (changed_there (λ g. record g { task = c.in-Task.task }) c.parts.inside.ledgers.items c.in-Task.place c.index_mut-in-Task.result.now c.swap_task.new.self c.index_mut-in-Task.ensures.value c.swap_task.ensures.ledger)
+      c.parts.invariant.rows;
+}
+
+pub returns-in-Task-clause-parts : goal.returns-in-Task-clause-parts
+returns-in-Task-clause-parts c =
+    let p : PartsValue = parts_in c.parts.inside in
+    rw (← c.parts.view_is, c.in-Task.is)
+    (ap (λ (gs : List Ledger). record p { parts = record p.parts { ledgers = gs } })
+    (changed_there (λ g. record g { task = c.in-Task.task }) c.parts.inside.ledgers.items c.in-Task.place c.index_mut-in-Task.result.now c.swap_task.new.self c.index_mut-in-Task.ensures.value c.swap_task.ensures.ledger))
 
 pub returns-in-Task-clause-left : goal.returns-in-Task-clause-left
-returns-in-Task-clause-left c = λ names grace.
-    rw (c.swap_task.ensures.other, c.in-Task.is) (ap (Task c.in-Task.place) (read_at-there (λ g. g.task) c.args.ledgers.now.items c.in-Task.place c.index_mut-in-Task.result.now c.in-Task.task (rw c.in-Task.is at c.requires) c.index_mut-in-Task.ensures.value))
+returns-in-Task-clause-left c =
+    rw (c.swap_task.ensures.other, ← c.parts.view_is, c.in-Task.is)
+    (ap (Task c.in-Task.place)
+    (read_at-there (λ g. g.task) c.parts.inside.ledgers.items c.in-Task.place c.index_mut-in-Task.result.now c.in-Task.task
+    (rw (c.in-Task.is, ← c.parts.view_is) at c.requires) c.index_mut-in-Task.ensures.value))
 
-pub returns-in-Lock-clause-state : goal.returns-in-Lock-clause-state
-returns-in-Lock-clause-state c = λ names grace.
-    rw (c.swap_lock.ensures.ledger, c.in-Lock.is) (changed_there (cluster_with names grace c.args.up.now c.args.ledgers.now.items c.args.held.now.contents c.args.clock.now) c.in-Lock.place (λ g. record g { lock = c.in-Lock.lock }) c.index_mut-in-Lock.result.now c.index_mut-in-Lock.ensures.value)
+pub invariant_of-parts-in-Lock : goal.invariant_of-parts-in-Lock
+invariant_of-parts-in-Lock c = record {
+  few = c.parts.invariant.few;
+  rows = rows_put (parts_in c.parts.inside).parts (Lock c.in-Lock.place c.in-Lock.lock) _ _ _
+      (changed_there (λ g. record g { lock = c.in-Lock.lock }) c.parts.inside.ledgers.items c.in-Lock.place c.index_mut-in-Lock.result.now c.swap_lock.new.self c.index_mut-in-Lock.ensures.value c.swap_lock.ensures.ledger)
+      c.parts.invariant.rows;
+}
+
+pub returns-in-Lock-clause-parts : goal.returns-in-Lock-clause-parts
+returns-in-Lock-clause-parts c =
+    let p : PartsValue = parts_in c.parts.inside in
+    rw (← c.parts.view_is, c.in-Lock.is)
+    (ap (λ (gs : List Ledger). record p { parts = record p.parts { ledgers = gs } })
+    (changed_there (λ g. record g { lock = c.in-Lock.lock }) c.parts.inside.ledgers.items c.in-Lock.place c.index_mut-in-Lock.result.now c.swap_lock.new.self c.index_mut-in-Lock.ensures.value c.swap_lock.ensures.ledger))
 
 pub returns-in-Lock-clause-left : goal.returns-in-Lock-clause-left
-returns-in-Lock-clause-left c = λ names grace.
-    rw (c.swap_lock.ensures.other, c.in-Lock.is) (ap (Lock c.in-Lock.place) (read_at-there (λ g. g.lock) c.args.ledgers.now.items c.in-Lock.place c.index_mut-in-Lock.result.now c.in-Lock.lock (rw c.in-Lock.is at c.requires) c.index_mut-in-Lock.ensures.value))
+returns-in-Lock-clause-left c =
+    rw (c.swap_lock.ensures.other, ← c.parts.view_is, c.in-Lock.is)
+    (ap (Lock c.in-Lock.place)
+    (read_at-there (λ g. g.lock) c.parts.inside.ledgers.items c.in-Lock.place c.index_mut-in-Lock.result.now c.in-Lock.lock
+    (rw (c.in-Lock.is, ← c.parts.view_is) at c.requires) c.index_mut-in-Lock.ensures.value))
+
+-- a turn keeps the rows
+pub invariant_of-parts-in-Word : goal.invariant_of-parts-in-Word
+invariant_of-parts-in-Word c = rw c.toggle.ensures (record {
+  few = c.parts.invariant.few;
+  rows = record { bookies = refl; words = c.parts.invariant.rows.words };
+})

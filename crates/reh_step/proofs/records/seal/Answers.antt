@@ -40,7 +40,7 @@ delta_of-requires-clause-entries c =
     let s : Cluster = c.args.state.now in
     let g : Ledger = c.in_ok-found.found.ledger.now in
     let found = c.in_ok-found.ensures in
-    recovered_within s c.args.ledger g c.loop-bookie.bookie c.deref.result.now found.1.0.well_formed (id_found c.args.ledger s.ledgers g found.1.0.ledger) (c.deref.ensures.value ∙ c.in_ok-entries.ensures)
+    recovered_within s c.args.ledger g c.loop-bookie.bookie c.deref.result.now found.1.0.well_formed (id_found c.args.ledger s.parts.ledgers g found.1.0.ledger) (c.deref.ensures.value ∙ c.in_ok-entries.ensures)
 
 pub loop-bookie-preserved : goal.loop-bookie-preserved
 loop-bookie-preserved c =
@@ -48,8 +48,8 @@ loop-bookie-preserved c =
     let l : ℕ = c.args.ledger in
     let g : Ledger = c.in_ok-found.found.ledger.now in
     let named : c.loop-bookie.bookie < length s.names = omega (arith, c.loop-bookie-test.true, c.len-bookie-end.ensures.count, ap (λ (names : List (List ℕ)). length names) c.names.ensures.names) in
-    let turning : IsTurning (words_among s.ledgers l) c.loop-bookie.bookie l s.held (union s.held (copies_of c.loop-bookie.bookie l c.deref.result.now)) c.deref-in-loop-bookie.result.now = rw c.deref-in-loop-bookie.ensures.value c.in_ok-turns.ensures in
-    sealed_more s l c.in_ok-found.found.place g c.loop-bookie.bookie c.loop-bookie.parts.items c.deref.result.now c.deref-in-loop-bookie.result.now c.push_words.new.parts.items (id_found l s.ledgers g c.in_ok-found.ensures.1.0.ledger) named
+    let turning : IsTurning (words_among s.parts.ledgers l) c.loop-bookie.bookie l s.parts.held (union s.parts.held (copies_of c.loop-bookie.bookie l c.deref.result.now)) c.deref-in-loop-bookie.result.now = rw c.deref-in-loop-bookie.ensures.value c.in_ok-turns.ensures in
+    sealed_more s l c.in_ok-found.found.place g c.loop-bookie.bookie c.loop-bookie.parts.items c.deref.result.now c.deref-in-loop-bookie.result.now c.push_words.new.parts.items (id_found l s.parts.ledgers g c.in_ok-found.ensures.1.0.ledger) named
     (c.deref.ensures.value ∙ c.in_ok-entries.ensures) turning c.loop-bookie.invariant c.in_ok-push_words.ensures
 
 pub returns : goal.returns

@@ -15,7 +15,7 @@ may c =
     let aim : Aim = c.args.aim.now in
     let found = c.in_ok-found.ensures in
     let g : Ledger = c.in_ok-found.found.ledger.now in
-    let read : g ≡ get_or c.args.state.now.ledgers c.in_ok-found.found.place g = found_read c.args.state.now aim.ledger c.in_ok-found.found found.1 in
+    let read : g ≡ get_or c.args.state.now.parts.ledgers c.in_ok-found.found.place g = found_read c.args.state.now aim.ledger c.in_ok-found.found found.1 in
     swappable_there c.args.state.now aim.worker aim.ledger aim.fragment aim.index c.args.version c.in_ok-found.found.place g found.1.well_formed found.1.place read found.0
 
 pub with_member-requires-clause-fragment : goal.with_member-requires-clause-fragment
@@ -36,7 +36,7 @@ returns c =
     let aim : Aim = c.args.aim.now in
     let found = c.in_ok-found.ensures in
     let g : Ledger = c.in_ok-found.found.ledger.now in
-    let read : g ≡ get_or s.ledgers c.in_ok-found.found.place g = found_read s aim.ledger c.in_ok-found.found found.1 in
+    let read : g ≡ get_or s.parts.ledgers c.in_ok-found.found.place g = found_read s aim.ledger c.in_ok-found.found found.1 in
     let made : c.in_ok-metadata.metadata ≡ next_version (with_member_at g.metadata aim.fragment aim.index aim.worker) = rw c.metadata-stored.ensures at c.in_ok-metadata.ensures in
     decided s (Swap aim.worker aim.ledger aim.fragment aim.index c.args.version) _ c.in_ok-changes.changes found.0 c.in_ok-changes.ensures
     (swap_delta s aim.worker aim.ledger aim.fragment aim.index c.args.version c.in_ok-found.found.place g c.in_ok-metadata.metadata found.1.well_formed found.1.place read made found.0)

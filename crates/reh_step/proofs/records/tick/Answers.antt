@@ -1,6 +1,7 @@
 -- The clock is the only difference.
 use Rattle.std.proofs.Common.{[], ◌∷◌, ◌+◌, sym, subst}
-use Rattle.reh_types.specs.declared.changes.Change.TheVariants.{Clock}
+use Rattle.reh_types.specs.declared.changes.Change.TheVariants.{Scalar}
+use Rattle.reh_types.specs.declared.scalars.Scalar.TheVariants.{Clock}
 use Rattle.reh_types.specs.declared.moves.Event.TheVariants.{Tick}
 use Rattle.reh_model.specs.Cluster.{Cluster}
 use Rattle.reh_model.proofs.DeltaLaws.{tick_delta}
@@ -12,5 +13,5 @@ pub returns : goal.returns
 returns c =
     let s : Cluster = c.args.state.now in
     decided s (Tick c.args.ticks) _ c.in_ok-changes.changes c.in_ok-check_tick.ensures c.in_ok-changes.ensures
-    (subst (λ n. IsRecordOf s (Tick c.args.ticks) (Clock (n + c.args.ticks) ∷ [])) (sym c.clock.ensures.clock)
+    (subst (λ n. IsRecordOf s (Tick c.args.ticks) (Scalar (Clock (n + c.args.ticks)) ∷ [])) (sym c.clock.ensures.clock)
     (tick_delta s c.args.ticks c.names-well_formed.ensures.well_formed c.in_ok-check_tick.ensures))

@@ -1,0 +1,45 @@
+// The parts of a state that events change.
+ghost use Rattle.std.specs.Prelude.{◌≡◌, IfOk};
+
+use crate::ledgers::Ledger;
+use reh_held::Held;
+use reh_types::{BookieSet, Scalars};
+use std::alloc::AllocError;
+use std::marker::Model;
+
+/// Which bookies are registered, the ledgers in picture order, the contents, and the parts that are single values.
+///
+/// Contracts see them as `Parts` of the definitions, beside the number of bookies that have rows.
+#[derive(Drop)]
+pub(crate) struct Parts {
+    pub(crate) up: BookieSet,
+    pub(crate) ledgers: Vec<Ledger>,
+    pub(crate) held: Held,
+    pub(crate) scalars: Scalars,
+}
+
+impl Model for Parts {
+    ghost use Rattle.reh_cluster.specs.Parts.{PartsValue};
+
+    ghost Value = { PartsValue };
+
+    ghost use Rattle.reh_cluster.specs.Kept.{parts_in, IsParts};
+
+    ghost view = { parts_in };
+
+    ghost invariant = { IsParts };
+}
+
+impl Parts {
+    /// A copy.
+    pub(crate) fn clone_in(&self) -> Result<Parts, AllocError>
+        ensures { IfOk result (λ copy. copy ≡ self.now) }
+    {
+        Ok(Parts {
+            up: self.up.copied(),
+            ledgers: self.ledgers.clone()?,
+            held: self.held.clone_in()?,
+            scalars: self.scalars,
+        })
+    }
+}
