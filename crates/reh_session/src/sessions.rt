@@ -146,7 +146,7 @@ impl Session {
     fn is_full(&self) -> bool
         ensures { result ≡ nat_le MAX_EVENTS (length self.now.done) }
     {
-        self.cursor >= MAX_EVENTS
+        self.done().len() >= MAX_EVENTS
     }
 
     /// Makes an event that is accepted by its record. There has to be room for it.

@@ -73,13 +73,8 @@ pub(crate) fn acquire(
         owner: worker,
         due: None,
     });
-    let changes = Changes::one(
-        alloc,
-        Change::Lock {
-            place: found.place,
-            lock,
-        },
-    )?;
+    let place = found.place;
+    let changes = Changes::one(alloc, Change::Lock { place, lock })?;
     Ok(changes)
 }
 
@@ -93,13 +88,8 @@ pub(crate) fn release(
     ensures { IsDecision state.now (Release worker ledger) result }
 {
     let found = check_release(state, worker, ledger)?;
-    let changes = Changes::one(
-        alloc,
-        Change::Lock {
-            place: found.place,
-            lock: None,
-        },
-    )?;
+    let place = found.place;
+    let changes = Changes::one(alloc, Change::Lock { place, lock: None })?;
     Ok(changes)
 }
 
@@ -149,13 +139,8 @@ pub(crate) fn grace(
         owner: worker,
         due: Some(state.clock() + state.grace()),
     });
-    let changes = Changes::one(
-        alloc,
-        Change::Lock {
-            place: found.place,
-            lock,
-        },
-    )?;
+    let place = found.place;
+    let changes = Changes::one(alloc, Change::Lock { place, lock })?;
     Ok(changes)
 }
 
