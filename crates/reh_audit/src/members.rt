@@ -94,7 +94,9 @@ pub fn under_of(state: &State, ledger: &Ledger) -> Option<u64>
 fn first_under(state: &State, fragments: &[Fragment]) -> Option<usize>
     ensures { result ≡ position (model.is_under state.now) fragments.now }
 {
-    fragments.iter().position(|fragment| is_under(state, fragment))
+    fragments
+        .iter()
+        .position(|fragment| is_under(state, fragment))
 }
 
 /// Whether some member of the fragment isn't registered.

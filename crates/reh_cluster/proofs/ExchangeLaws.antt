@@ -1,5 +1,5 @@
 -- What becomes of the parts and of a record as its changes are exchanged one by one.
-use Rattle.std.proofs.Common.{◌≡◌, ◌<◌, ◌≤◌, ◌+◌, ℕ, List, [], ◌∷◌, ◌++◌, length, map, take, drop, get_or, set, sym, ap, ◌∙◌, subst, arith}
+use Rattle.std.proofs.Common.{◌≡◌, ◌<◌, ◌+◌, ℕ, List, [], ◌∷◌, ◌++◌, length, map, take, drop, get_or, set, sym, ap, ◌∙◌, subst, arith}
 use Rattle.std.specs.Prelude.{All}
 use Rattle.std.proofs.lemmas.List.{drop_more, take_more_set, drop-set-lt, drop-drop, append_assoc}
 use Rattle.std.proofs.lemmas.List.Elements.{All-drop, All-head, All-same}
@@ -13,11 +13,13 @@ use Rattle.reh_held.specs.Values.{HeldValue}
 use Rattle.reh_cluster.specs.Parts.{PartsValue, HasRows}
 
 -- a ledger that is changed where it stands
-pub changed_there : (change : Ledger → Ledger) (gs : List Ledger) (i : ℕ) (g new : Ledger) → g ≡ get_or gs i g → new ≡ change g → set gs i new ≡ change_at gs i change
+pub changed_there : (change : Ledger → Ledger) (gs : List Ledger) (i : ℕ) (g new : Ledger) → g ≡ get_or gs i g
+    → new ≡ change g → set gs i new ≡ change_at gs i change
 changed_there change gs i g new is made = ap (λ (h : Ledger). set gs i h) made ∙ set-read change gs i g is
 
 -- rows go with the ledgers after a change, too
-pub rows_put : (p : Parts) (c : Change) (n : ℕ) (held : HeldValue) (gs : List Ledger) → gs ≡ (put p c).ledgers → HasRows n p.ledgers held → HasRows n gs held
+pub rows_put : (p : Parts) (c : Change) (n : ℕ) (held : HeldValue) (gs : List Ledger) → gs ≡ (put p c).ledgers
+    → HasRows n p.ledgers held → HasRows n gs held
 rows_put p c n held gs made rows = record {
   bookies = rows.bookies;
   words = λ l. rows.words l ∙ sym (ap (λ (hs : List Ledger). words_among hs l) made ∙ words_among-put p c l);
@@ -45,15 +47,19 @@ module _ {p q : PartsValue} {cs ds : List Change} {i : ℕ} (now : IsUnderWay p 
   pub next_placed : (c : Change) → IsPlaced q.bookies q.parts (get_or ds i c)
   next_placed c =
       All-head (IsPlaced q.bookies q.parts) (get_or ds i c) (drop (i + 1) cs)
-      (All-same (IsPlaced q.bookies q.parts) _ _ (sym (next_change c)) (All-drop (IsPlaced q.bookies q.parts) i cs now.placed))
+      (All-same (IsPlaced q.bookies q.parts) _ _ (sym (next_change c))
+      (All-drop (IsPlaced q.bookies q.parts) i cs now.placed))
 
   -- and the loop goes on
-  pub goes_on : (c d : Change) (u : PartsValue) → c ≡ get_or ds i c → u ≡ record q { parts = put q.parts c } → d ≡ back q.parts c → IsUnderWay p cs u (set ds i d) (i + 1)
+  pub goes_on : (c d : Change) (u : PartsValue) → c ≡ get_or ds i c → u ≡ record q { parts = put q.parts c }
+      → d ≡ back q.parts c → IsUnderWay p cs u (set ds i d) (i + 1)
   goes_on c d u at_i made leaves =
-      let next : drop i cs ≡ c ∷ drop (i + 1) cs = next_change c ∙ ap (λ (x : Change). x ∷ drop (i + 1) cs) (sym at_i) in
+      let next : drop i cs ≡ c ∷ drop (i + 1) cs =
+      next_change c ∙ ap (λ (x : Change). x ∷ drop (i + 1) cs) (sym at_i) in
       let parts : u.parts ≡ put q.parts c = ap (λ (v : PartsValue). v.parts) made in
       record {
-        parts = now.parts ∙ ap (λ (xs : List Change). put_all q.parts xs) next ∙ ap (λ (v : Parts). put_all v (drop (i + 1) cs)) (sym parts);
+        parts = now.parts ∙ ap (λ (xs : List Change). put_all q.parts xs) next
+            ∙ ap (λ (v : Parts). put_all v (drop (i + 1) cs)) (sym parts);
         left =
             now.left ∙ ap (λ (xs : List Change). take i ds ++ back_all q.parts xs) next
             ∙ ap (λ (x : Change). take i ds ++ x ∷ back_all (put q.parts c) (drop (i + 1) cs)) (sym leaves)
@@ -70,12 +76,16 @@ module _ {p q : PartsValue} {cs ds : List Change} {i : ℕ} (now : IsUnderWay p 
 
 -- a record that fits does so however it and the cluster are seen
 pub seen_fits : (s t : Cluster) (cs ds : List Change) → s ≡ t → cs ≡ ds → Fits t ds → Fits s cs
-seen_fits s t cs ds at is fits = subst (λ (x : Cluster). Fits x cs) (sym at) (subst (λ (xs : List Change). Fits t xs) (sym is) fits)
+seen_fits s t cs ds at is fits =
+    subst (λ (x : Cluster). Fits x cs) (sym at) (subst (λ (xs : List Change). Fits t xs) (sym is) fits)
 
-pub rising_kept : (s : Cluster) (cs ds : List Change) → ds ≡ left s cs → AreRising (map place_of cs) → AreRising (map place_of ds)
-rising_kept s cs ds leaves rising = subst AreRising (sym (ap (λ (xs : List Change). map place_of xs) leaves ∙ places-back_all s.parts cs)) rising
+pub rising_kept : (s : Cluster) (cs ds : List Change) → ds ≡ left s cs → AreRising (map place_of cs)
+    → AreRising (map place_of ds)
+rising_kept s cs ds leaves rising =
+    subst AreRising (sym (ap (λ (xs : List Change). map place_of xs) leaves ∙ places-back_all s.parts cs)) rising
 
-module _ (s t : Cluster) (cs ds : List Change) (made : t ≡ exchanged s cs) (leaves : ds ≡ left s cs) (rising : AreRising (map place_of cs)) where
+module _ (s t : Cluster) (cs ds : List Change) (made : t ≡ exchanged s cs) (leaves : ds ≡ left s cs)
+    (rising : AreRising (map place_of cs)) where
   pub fits_again : IsWellFormed s → Fits s cs → Fits t ds
   fits_again well fits = seen_fits t (exchanged s cs) ds (left s cs) made leaves (Fits-left s cs well rising fits)
 

@@ -198,7 +198,8 @@ impl State {
     ) -> Result<Vec<Turn>, AllocError>
         requires bookie { bookie < length self.now.names }
         requires entries { All (λ e. e < 64 * words_among self.now.parts.ledgers ledger) entries.now }
-        ensures { IfOk result (λ turns. IsTurning (words_among self.now.parts.ledgers ledger) bookie ledger self.now.parts.held
+        ensures { IfOk result (λ turns.
+            IsTurning (words_among self.now.parts.ledgers ledger) bookie ledger self.now.parts.held
             (set.union self.now.parts.held (copies_of bookie ledger entries.now)) turns.items) }
     {
         let parts = &self.parts;

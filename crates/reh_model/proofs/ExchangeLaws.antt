@@ -2,14 +2,13 @@
 use Rattle.std.proofs.Common.{◌≡◌, ◌≢◌, ℕ, List, [], ◌∷◌, map, length, refl, sym, ap, subst, ◌∙◌}
 use Rattle.std.specs.Prelude.{All}
 use Rattle.std.proofs.lemmas.List.Elements.{All-nil, All-cons, All-head, All-tail}
-use Rattle.reh_types.specs.declared.changes.Change.TheVariants.{Registration, Metadata, Task, Lock, Word, Scalar}
 use Rattle.reh_model.specs.Cluster.{Parts, Cluster, words_among}
 use Rattle.reh_model.specs.WellFormed.{IsWellFormed}
 use Rattle.reh_model.specs.Places.{Change, Place, place_of, put, back, put_all, back_all, exchanged, left, AreRising, IsPlaced, IsThere, Fits, SameAt, IsDelta}
-use Rattle.reh_model.proofs.PlaceLaws.{IsBefore-different, words_among-put, IsPlaced-put, place_of-back, put-back, back-back, put-comm, back-put, SameAt-refl, SameAt-sym, SameAt-trans, SameAt-put}
+use Rattle.reh_model.proofs.PlaceLaws.{IsBefore-different, words_among-put, IsPlaced-put, IsPlaced-back, place_of-back, put-back, back-back, put-comm, back-put, SameAt-refl, SameAt-sym, SameAt-trans, SameAt-put}
 
 -- no change of the record is at that place
-abbrev IsBeside : Place → List Change → Type 0
+abbrev pub IsBeside : Place → List Change → Type 0
 IsBeside p cs = All (λ q. p ≢ q) (map place_of cs)
 
 first_beside : (p : Place) (c : Change) (cs : List Change) → IsBeside p (c ∷ cs) → p ≢ place_of c
@@ -19,7 +18,7 @@ rest_beside : (p : Place) (c : Change) (cs : List Change) → IsBeside p (c ∷ 
 rest_beside p c cs h = All-tail (λ q. p ≢ q) (place_of c) (map place_of cs) h
 
 -- the first change of a record whose places rise is beside the others
-beside_rest : (c : Change) (cs : List Change) → AreRising (map place_of (c ∷ cs)) → IsBeside (place_of c) cs
+pub beside_rest : (c : Change) (cs : List Change) → AreRising (map place_of (c ∷ cs)) → IsBeside (place_of c) cs
 beside_rest c cs h k d within = IsBefore-different (place_of c) _ (h.0 k d within)
 
 -- a change beside a record can be made before it or after it
@@ -84,15 +83,6 @@ IsPlaced-put_all : (n : ℕ) (s : Parts) (cs : List Change) (d : Change) → IsP
 IsPlaced-put_all n s [] d h = h
 IsPlaced-put_all n s (c ∷ cs) d h = IsPlaced-put_all n (put s c) cs d (IsPlaced-put n s c d h)
 
--- whether a change's place is there is no matter of its contents
-IsPlaced-back : (n : ℕ) (t s : Parts) (c : Change) → IsPlaced n t c → IsPlaced n t (back s c)
-IsPlaced-back n t s (Registration b up) h = h
-IsPlaced-back n t s (Metadata i metadata) h = h
-IsPlaced-back n t s (Task i task) h = h
-IsPlaced-back n t s (Lock i lock) h = h
-IsPlaced-back n t s (Word b l k bits) h = h
-IsPlaced-back n t s (Scalar scalar) h = h
-
 placed-back_all : (n : ℕ) (t s : Parts) (cs : List Change) → All (IsPlaced n t) cs → All (IsPlaced n t) (back_all s cs)
 placed-back_all n t s [] h = All-nil (IsPlaced n t)
 placed-back_all n t s (c ∷ cs) h =
@@ -110,7 +100,7 @@ Fits-left s cs well rising h = record {
 -- Differences
 
 -- an exchange leaves what stands beside its places
-SameAt-put_all : (s : Parts) (cs : List Change) (p : Place) → IsBeside p cs → SameAt s (put_all s cs) p
+pub SameAt-put_all : (s : Parts) (cs : List Change) (p : Place) → IsBeside p cs → SameAt s (put_all s cs) p
 SameAt-put_all s [] p h = SameAt-refl s p
 SameAt-put_all s (c ∷ cs) p h =
     SameAt-trans s (put s c) (put_all (put s c) cs) p (SameAt-put s c p (λ e. first_beside p c cs h (sym e))) (SameAt-put_all (put s c) cs p (rest_beside p c cs h))

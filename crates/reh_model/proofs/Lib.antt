@@ -13,6 +13,7 @@ pub mod PlaceLaws
 pub mod ExchangeLaws
 pub mod RecoveryLaws
 pub mod FragmentLaws
+pub mod UniqueLaws
 pub mod DeltaLaws
 pub mod AuditLaws
 pub mod Examples
@@ -28,5 +29,8 @@ pub mod AcceptedLaws
 pub mod PostLaws
 pub mod ScanLaws
 pub mod WellFormedLaws
+pub mod PromiseLaws
+pub mod WrittenLaws
+pub mod EventLaws
 pub mod SwapLaws
 pub mod BookLaws

@@ -55,7 +55,7 @@ six_bookies =
     let started = clear_cluster (codes "b1:3181" ∷ codes "b2:3181" ∷ codes "b3:3181" ∷ codes "b4:3181" ∷ codes "b5:3181" ∷ codes "b6:3181" ∷ []) in
     with_held (with_ledgers started (ledger_without_task 7 closed_metadata ∷ ledger_without_task 9 open_metadata ∷ []))
     (from_list (row 0 7 (0 ∷ 2 ∷ 3 ∷ 7 ∷ 8 ∷ []) ++ row 1 7 (0 ∷ 1 ∷ 3 ∷ 4 ∷ 5 ∷ 8 ∷ 9 ∷ []) ++ row 2 7 (1 ∷ 2 ∷ 4 ∷ 6 ∷ []) ++ row 3 7 (5 ∷ 6 ∷ 7 ∷ 9 ∷ [])
-      ++ row 0 9 (0 ∷ 1 ∷ 4 ∷ 6 ∷ []) ++ row 1 9 (2 ∷ 3 ∷ 5 ∷ []) ++ row 2 9 (0 ∷ 3 ∷ 4 ∷ 6 ∷ []) ++ row 3 9 (1 ∷ 2 ∷ [])))
+    ++ row 0 9 (0 ∷ 1 ∷ 4 ∷ 6 ∷ []) ++ row 1 9 (2 ∷ 3 ∷ 5 ∷ []) ++ row 2 9 (0 ∷ 3 ∷ 4 ∷ 6 ∷ []) ++ row 3 9 (1 ∷ 2 ∷ [])))
 
 -- the closed ledger is at the last version
 abbrev cluster_at_last_version : Cluster
@@ -183,13 +183,13 @@ metadata_after_swaps = refl
 -- a swap leaves who is registered, the contents, the tasks, the locks and the clock
 pub state_after_swap : state_after (1 ∷ []) 4 7 (both 4 7 1 2 4)
     ≡ with_held (with_ledgers (with_up six_bookies (from_list (0 ∷ 2 ∷ 3 ∷ 4 ∷ 5 ∷ []))) (record {
-        id = 7;
-        metadata = swapped_metadata;
-        words = 1;
-        task = Some (from_list (1 ∷ []));
-        lock = Some (record { owner = 4; due = None });
-      }
-          ∷ record { id = 9; metadata = open_metadata; words = 1; task = Some (from_list (1 ∷ [])); lock = None } ∷ [])) (union six_bookies.parts.held (from_list (row 4 7 (4 ∷ 5 ∷ []))))
+      id = 7;
+      metadata = swapped_metadata;
+      words = 1;
+      task = Some (from_list (1 ∷ []));
+      lock = Some (record { owner = 4; due = None });
+    }
+    ∷ record { id = 9; metadata = open_metadata; words = 1; task = Some (from_list (1 ∷ [])); lock = None } ∷ [])) (union six_bookies.parts.held (from_list (row 4 7 (4 ∷ 5 ∷ []))))
 unfolding contains insert retain remove empty from_list union items is_subset is_empty len
 state_after_swap = refl
 

@@ -1,7 +1,7 @@
 -- What two changes of a cluster's parts make of each other.
 use Rattle.std.proofs.Common.{◌≡◌, ◌≢◌, ◌<◌, ◌+◌, ◌*◌, ◌/◌, ◌%◌, ℕ, zero, suc, Bool, true, false, cond, ◌&&◌, ◌||◌, List, [], ◌∷◌, length, Option, Some, refl, sym, ap, subst, ◌∙◌, arith, inl, inr, nat_eq}
-use Rattle.std.specs.Prelude.{not, ◌==◌, ◌^◌}
-use Rattle.std.specs.Option.{option_map_or}
+use Rattle.std.specs.Prelude.{not, ◌==◌, ◌^◌, slice_get, slice_index}
+use Rattle.std.specs.Option.{option_map, option_map_or}
 use Rattle.std.specs.Int.{bit_at}
 use Rattle.std.proofs.lemmas.Bool.{and_parts}
 use Rattle.std.proofs.lemmas.Bool.Decides.{nat_tests}
@@ -9,7 +9,7 @@ use Rattle.std.specs.Cmp.{nat_cmp_total, eq_by_cmp_equiv, unsigned_tied}
 use Rattle.reh_types.specs.declared.locks.Lock as locks
 use Rattle.reh_types.specs.declared.changes.Change.TheVariants.{Registration, Metadata, Task, Lock, Word, Scalar}
 use Rattle.reh_types.specs.declared.scalars.Scalars.{Scalars}
-use Rattle.reh_types.specs.Scalars.{scalar_at}
+use Rattle.reh_types.specs.Scalars.{number_of, scalar_at}
 use Rattle.reh_types.proofs.ScalarLaws.{number_of-scalar_at, with_scalar-back, with_scalar-comm, scalar_at-here, scalar_at-apart}
 use Rattle.reh_types.specs.Sets as set
 use Rattle.reh_types.specs.Sets.{Set, numbers, contains-insert, contains-remove, same_set}
@@ -18,7 +18,7 @@ use Rattle.reh_model.specs.Contents.{Contents, has, is_in_word, one_of, turned}
 use Rattle.reh_model.specs.Cluster.{Parts, Ledger, ledger_among, words_among}
 use Rattle.reh_model.specs.Places.{Change, Place, at_registration, at_metadata, at_task, at_lock, at_word, at_scalar, place_of, order_of, IsLess, IsBefore, change_at, with_member, put, back, IsPlaced, SameAt}
 use Rattle.reh_model.proofs.LedgerLaws.{KeepsId, KeepsWords}
-use Rattle.reh_model.proofs.TurnedLaws.{one_of-false, has-turned, turned-twice, turned-comm, some_bit}
+use Rattle.reh_model.proofs.TurnedLaws.{one_of-false, has-turned, turned-twice, turned-comm, some_bit, same_turn}
 use Rattle.reh_model.proofs.ListLaws.{change_at-length, change_at-comm, change_at-apart, read_at-apart, read_at-part, slice_get-apart, slice_get-part, change_at-read, change_at-twice, read_at-put}
 
 -- no list of numbers is less than itself
@@ -29,6 +29,20 @@ not_less (m ∷ ms) h = elim h [ inl less ↦ absurd (omega (arith, less)) | inr
 -- a place that is before another one is not the other one
 pub IsBefore-different : (p q : Place) → IsBefore p q → p ≢ q
 IsBefore-different p q before same = not_less (order_of p) (subst (λ r. IsLess (order_of p) (order_of r)) (sym same) before)
+
+-- places in one order are one
+pub order_of-same : (p q : Place) → order_of p ≡ order_of q → p ≡ q
+order_of-same (at_registration b) (at_registration c) h = let same : b ≡ c = cc in ap at_registration same
+order_of-same (at_metadata i) (at_metadata j) h = let same : i ≡ j = cc in ap at_metadata same
+order_of-same (at_task i) (at_task j) h = let same : i ≡ j = cc in ap at_task same
+order_of-same (at_lock i) (at_lock j) h = let same : i ≡ j = cc in ap at_lock same
+order_of-same (at_word b l k) (at_word c m n) h =
+    let first : b ≡ c = cc in
+    let second : l ≡ m = cc in
+    let third : k ≡ n = cc in
+    λ i. at_word (first i) (second i) (third i)
+order_of-same (at_scalar m) (at_scalar n) h = let same : m ≡ n = cc in ap at_scalar same
+order_of-same p q h = absurd (omega (arith, ap (λ (ns : List ℕ). slice_index ns 0) h))
 
 -- a change keeps as many ledgers
 pub put-count : (s : Parts) (c : Change) → length (put s c).ledgers ≡ length s.ledgers
@@ -66,6 +80,15 @@ IsPlaced-put n s c (Task i task) h = subst (λ n. i < n) (sym (put-count s c)) h
 IsPlaced-put n s c (Lock i lock) h = subst (λ n. i < n) (sym (put-count s c)) h
 IsPlaced-put n s c (Word b l k bits) h = (h.0, subst (λ n. k < n) (sym (words_among-put s c l)) h.1, h.2)
 IsPlaced-put n s c (Scalar scalar) h = h
+
+-- whether a change's place is there is no matter of its contents
+pub IsPlaced-back : (n : ℕ) (t s : Parts) (c : Change) → IsPlaced n t c → IsPlaced n t (back s c)
+IsPlaced-back n t s (Registration b up) h = h
+IsPlaced-back n t s (Metadata i metadata) h = h
+IsPlaced-back n t s (Task i task) h = h
+IsPlaced-back n t s (Lock i lock) h = h
+IsPlaced-back n t s (Word b l k bits) h = h
+IsPlaced-back n t s (Scalar scalar) h = h
 
 -- a change leaves its own place
 pub place_of-back : (s : Parts) (c : Change) → place_of (back s c) ≡ place_of c
@@ -265,3 +288,63 @@ word_differs s b l k bits some below same =
     let third : (e / 64 == k) ≡ true = grind (arith, nat_tests, word) in
     let fourth : (bit_at bits (e % 64) == 1) ≡ true = ap (λ n. n == 1) turns in
     not_itself (has s.held b l e) (same e word ∙ has-turned s.held b l k bits b l e ∙ (λ i. one_of (has s.held b l e) ((first i && second i) && (third i && fourth i))))
+
+-- Changes of one place
+
+-- a part of a ledger that stands there
+same_part : {C : Type 0} (part : Ledger → C) (with_part : C → Ledger → Ledger)
+    → ((c : C) (g : Ledger) → part (with_part c g) ≡ c) → (gs : List Ledger) (i : ℕ) (c d : C) → i < length gs
+    → option_map part (slice_get (change_at gs i (with_part c)) i) ≡ option_map part
+    (slice_get (change_at gs i (with_part d)) i) → c ≡ d
+same_part part with_part reads [] i c d within same = absurd (omega (arith, within))
+same_part {C = C} part with_part reads (g ∷ gs) zero c d within same =
+    let parts : ◌≡◌ {A = Option C} (Some (part (with_part c g))) (Some (part (with_part d g))) = same in
+    let told : part (with_part c g) ≡ part (with_part d g) = cc in
+    sym (reads c g) ∙ told ∙ reads d g
+same_part part with_part reads (g ∷ gs) (suc i) c d within same =
+    same_part part with_part reads gs i c d (omega (arith, within)) same
+
+-- two changes of one place after which the place is the same are the same change
+pub same_change : (n : ℕ) (p : Parts) (c d : Change) → place_of c ≡ place_of d → IsPlaced n p c → IsPlaced n p d
+    → SameAt (put p c) (put p d) (place_of c) → c ≡ d
+same_change n p (Registration b x) (Registration d y) at here there same =
+    let bookie : b ≡ d = cc in
+    let told : x ≡ y =
+    sym (contains-with_member-here p.up b x) ∙ same ∙ ap (λ k. set.contains (with_member p.up d y) k) bookie
+    ∙ contains-with_member-here p.up d y in
+    λ i. Registration (bookie i) (told i)
+same_change n p (Metadata i x) (Metadata j y) at here there same =
+    let place : i ≡ j = cc in
+    let told : x ≡ y = same_part (λ g. g.metadata) (λ m g. record g { metadata = m }) (λ m g. refl) p.ledgers i x y here
+    (same ∙ ap
+    (λ k. option_map (λ (g : Ledger). g.metadata)
+    (slice_get (change_at p.ledgers k (λ g. record g { metadata = y })) i)) (sym place)) in
+    λ k. Metadata (place k) (told k)
+same_change n p (Task i x) (Task j y) at here there same =
+    let place : i ≡ j = cc in
+    let told : x ≡ y = same_part (λ g. g.task) (λ t g. record g { task = t }) (λ t g. refl) p.ledgers i x y here
+    (same ∙ ap
+    (λ k. option_map (λ (g : Ledger). g.task) (slice_get (change_at p.ledgers k (λ g. record g { task = y })) i))
+    (sym place)) in
+    λ k. Task (place k) (told k)
+same_change n p (Lock i x) (Lock j y) at here there same =
+    let place : i ≡ j = cc in
+    let told : x ≡ y = same_part (λ g. g.lock) (λ o g. record g { lock = o }) (λ o g. refl) p.ledgers i x y here
+    (same ∙ ap
+    (λ k. option_map (λ (g : Ledger). g.lock) (slice_get (change_at p.ledgers k (λ g. record g { lock = y })) i))
+    (sym place)) in
+    λ k. Lock (place k) (told k)
+same_change n p (Word b l k x) (Word c m o y) at here there same =
+    let first : b ≡ c = cc in
+    let second : l ≡ m = cc in
+    let third : k ≡ o = cc in
+    let told : x ≡ y = same_turn p.held b l k x y here.2 there.2 (λ e within.
+    same e within ∙ (λ i. has (turned p.held (sym first i) (sym second i) (sym third i) y) b l e)) in
+    λ i. Word (first i) (second i) (third i) (told i)
+same_change n p (Scalar x) (Scalar y) at here there same =
+    let number : number_of x ≡ number_of y = cc in
+    let told : x ≡ y =
+    sym (scalar_at-here p.scalars x x refl) ∙ same x refl ∙ scalar_at-here p.scalars y x (sym number) in
+    ap Scalar told
+same_change n p c d at here there same =
+    absurd (omega (arith, ap (λ (place : Place). slice_index (order_of place) 0) at))

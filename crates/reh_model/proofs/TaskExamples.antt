@@ -34,7 +34,7 @@ five_bookies =
     let started = clear_cluster (codes "b1:3181" ∷ codes "b2:3181" ∷ codes "b3:3181" ∷ codes "b4:3181" ∷ codes "b5:3181" ∷ []) in
     with_held (with_ledgers started (closed_ledger ∷ open_ledger ∷ []))
     (from_list (row 0 7 (0 ∷ 2 ∷ 3 ∷ 5 ∷ []) ++ row 1 7 (0 ∷ 1 ∷ 3 ∷ 4 ∷ []) ++ row 2 7 (1 ∷ 2 ∷ 4 ∷ 5 ∷ [])
-      ++ row 0 9 (0 ∷ 1 ∷ 2 ∷ 3 ∷ 4 ∷ []) ++ row 1 9 (0 ∷ 1 ∷ 2 ∷ 3 ∷ []) ++ row 2 9 (0 ∷ 1 ∷ 2 ∷ 3 ∷ [])))
+    ++ row 0 9 (0 ∷ 1 ∷ 2 ∷ 3 ∷ 4 ∷ []) ++ row 1 9 (0 ∷ 1 ∷ 2 ∷ 3 ∷ []) ++ row 2 9 (0 ∷ 1 ∷ 2 ∷ 3 ∷ [])))
 
 -- the replies to events
 abbrev pub answers : List Event → List Reply

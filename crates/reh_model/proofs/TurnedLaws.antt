@@ -106,3 +106,41 @@ some_bit bits (suc width) some below = elim (bits % 2 == 1) as (λ b. (bits % 2 
       let rest = some_bit (bits / 2) width half (omega (arith, more)) in
       record { at = suc rest.at; below = omega (arith, rest.below); is = bit_at-suc bits rest.at ∙ rest.is }
 ] refl
+
+one_of-cancel : (a b c : Bool) → one_of a b ≡ one_of a c → b ≡ c
+one_of-cancel false b c h = h
+one_of-cancel true true true h = refl
+one_of-cancel true true false h = sym h
+one_of-cancel true false true h = sym h
+one_of-cancel true false false h = refl
+
+-- numbers of so many bits are equal if their bits are
+same_bits : (width x y : ℕ) → x < 2 ^ width → y < 2 ^ width
+    → ((i : ℕ) → i < width → (bit_at x i == 1) ≡ (bit_at y i == 1)) → x ≡ y
+same_bits zero x y few less bits = omega (arith, few, less)
+same_bits (suc width) x y few less bits =
+    let first : (x % 2 == 1) ≡ (y % 2 == 1) =
+    ap (λ n. n == 1) (sym (bit_at_lowest x)) ∙ bits 0 (omega arith) ∙ ap (λ n. n == 1) (bit_at_lowest y) in
+    let last : x % 2 ≡ y % 2 = grind (arith, nat_tests, first) in
+    let few_left : x < 2 ^ width * 2 = subst (λ n. x < n) (pow-suc 2 width) few in
+    let less_left : y < 2 ^ width * 2 = subst (λ n. y < n) (pow-suc 2 width) less in
+    let half : x / 2 ≡ y / 2 =
+    same_bits width (x / 2) (y / 2) (omega (arith, few_left)) (omega (arith, less_left)) (λ i within.
+    ap (λ n. n == 1) (sym (bit_at-suc x i)) ∙ bits (suc i) (omega arith) ∙ ap (λ n. n == 1) (bit_at-suc y i)) in
+    omega (arith, last, half)
+
+-- what turns at a place of a word is one number
+pub same_turn : (s : Contents) (b l k x y : ℕ) → x < 2 ^ 64 → y < 2 ^ 64
+    → ((e : ℕ) → e / 64 ≡ k → has (turned s b l k x) b l e ≡ has (turned s b l k y) b l e) → x ≡ y
+same_turn s b l k x y few less same = same_bits 64 x y few less (λ i within.
+    let e : ℕ = 64 * k + i in
+    let word : e / 64 ≡ k = omega arith in
+    let place : e % 64 ≡ i = omega arith in
+    let first : nat_eq b b ≡ true = grind (arith, nat_tests) in
+    let second : nat_eq l l ≡ true = grind (arith, nat_tests) in
+    let third : (e / 64 == k) ≡ true = grind (arith, nat_tests, word) in
+    let turns : (bits : ℕ) → ((nat_eq b b && nat_eq l l) && is_in_word k bits e) ≡ (bit_at bits i == 1) =
+    λ bits j. (first j && second j) && (third j && (bit_at bits (place j) == 1)) in
+    sym (turns x)
+    ∙ one_of-cancel (has s b l e) _ _ (sym (has-turned s b l k x b l e) ∙ same e word ∙ has-turned s b l k y b l e)
+    ∙ turns y)

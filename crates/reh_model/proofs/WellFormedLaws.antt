@@ -1,4 +1,4 @@
--- An accepted event keeps a cluster well-formed, and a ledger that is found in one keeps its rules.
+-- What changes of a cluster keep it well-formed, and that a ledger that is found in one keeps its rules.
 use Rattle.std.proofs.Common.{◌≡◌, ℕ, Bool, true, false, cond, not, ◌&&◌, ◌||◌, ◌+◌, ◌-◌, ◌*◌, ◌<◌, ◌≤◌, List, [], ◌∷◌, map, length, get_or, set, Option, None, Some, IsSome, refl, sym, ap, ◌∙◌, subst, arith, nat_eq}
 use Rattle.std.specs.Prelude.{◌==◌, if◌then◌else◌, slice_get, max, unwrap_or, IsTrue, All}
 use Rattle.std.specs.List.{IsDistinct, find, list_any}
@@ -11,26 +11,25 @@ use Rattle.std.proofs.lemmas.List.Elements.{All-append, All-cons, All-head, All-
 use Rattle.std.proofs.lemmas.Option.{slice_get-get_or, get_or_from_slice_get, unwrap_or-slice_get}
 use Rattle.reh_types.specs.declared.limits.TheConstants.{CLOCK_END, ENTRIES_IN_WORD, ENTRY_END, MAX_VERSION, MAX_WORDS}
 use Rattle.reh_types.specs.declared.locks.Lock.{Lock}
-use Rattle.reh_types.specs.declared.moves.Event.{Event}
-use Rattle.reh_types.specs.declared.moves.Event.TheVariants.{Lose, Join, Audit, Acquire, Release, Finish, Expire, Grace, Tick, Roll, Fence, Seal, Copy, Swap}
+use Rattle.reh_types.specs.declared.moves.Event.TheVariants.{Swap}
 use Rattle.reh_types.specs.declared.names.LedgerState.{LedgerState}
 use Rattle.reh_types.specs.declared.names.LedgerState.TheVariants.{Open, InRecovery, Closed}
 use Rattle.reh_types.specs.Sets.{Set, numbers, contains, insert, remove, union, is_empty, len, items, contains-insert, contains-remove, contains-union}
 use Rattle.reh_types.proofs.SetLaws.{All-items}
 use Rattle.reh_model.specs.Contents.{Contents, IsHeld, has, copies_of, greatest_held}
 use Rattle.reh_model.specs.Metadata.{Metadata, Fragment, IsMetadata, is_open, is_in_recovery, end_of_state, last_fragment, with_member, with_member_at, with_fragment_at, with_state, next_version}
-use Rattle.reh_model.specs.Cluster.{Cluster, Ledger, ledger_at, change_ledger, is_locked_by, due_of, stripe_at, with_clock, with_held, with_ledgers, with_up}
+use Rattle.reh_model.specs.Cluster.{Cluster, Ledger, ledger_at, change_ledger, is_locked_by, due_of, with_clock, with_held, with_ledgers, with_up}
 use Rattle.reh_model.specs.Audit.{missing_members, published_members, audited_ledger}
-use Rattle.reh_model.specs.Recovery.{next_entry, is_rolling_over, recovered_end, recovered_at}
-use Rattle.reh_model.specs.Step.{refusal_of, after, locked_ledger, unlocked_ledger, finished_ledger, expired_ledger, timed_lock, with_due, graced_ledger, rolled_ledger, fenced_ledger, sealed_ledger, swapped_ledger}
+use Rattle.reh_model.specs.Recovery.{next_entry, is_rolling_over, recovered_end}
+use Rattle.reh_model.specs.Step.{refusal_of, locked_ledger, unlocked_ledger, finished_ledger, expired_ledger, timed_lock, with_due, rolled_ledger, fenced_ledger, sealed_ledger, swapped_ledger}
 use Rattle.reh_model.specs.WellFormed.{IsLedger, IsCopy, IsWellFormed}
 use Rattle.reh_model.proofs.LedgerLaws.{KeepsId, KeepsWords, changed_ledger, KeepsId-changed_ledger, KeepsWords-changed_ledger, ids-map, sum_by-words, words_among-map, is_found-map, found_itself}
 use Rattle.reh_model.proofs.ContentsLaws.{All-copy, has-copies_of, greatest_held-held}
-use Rattle.reh_model.proofs.RecoveryLaws.{first_before_next, next_entry-unreadable, first_before_end, recovered_end-least, IsRecovered-at}
+use Rattle.reh_model.proofs.RecoveryLaws.{first_before_next, next_entry-unreadable, first_before_end, recovered_end-least}
 use Rattle.reh_model.proofs.FragmentLaws.{no_end-open, first-last, IsMetadata-added, IsMetadata-state}
 use Rattle.reh_model.proofs.MemberLaws.{IsMetadata-set, with_member_at-found}
 use Rattle.reh_model.proofs.AuditLaws.{published_named, published_some}
-use Rattle.reh_model.proofs.AcceptedLaws.{IsRollable, IsSwappable, accepted_join, accepted_acquire, accepted_grace, accepted_tick, accepted_roll, accepted_fence, accepted_seal, accepted_copy, accepted_swap}
+use Rattle.reh_model.proofs.AcceptedLaws.{IsRollable, IsSwappable, accepted_swap}
 
 -- What is there
 
@@ -109,7 +108,7 @@ IsWellFormed-clock s clock was later in_time = record {
 }
 
 -- ledgers are changed, and keep their ids and their words
-IsWellFormed-ledgers : (s : Cluster) (change : Ledger → Ledger) → IsWellFormed s → KeepsId change → KeepsWords change → ((g : Ledger) → ledger_at s g.id ≡ Some g → IsLedgerOf s g → IsLedgerOf s (change g)) → IsWellFormed (with_ledgers s (map change s.parts.ledgers))
+pub IsWellFormed-ledgers : (s : Cluster) (change : Ledger → Ledger) → IsWellFormed s → KeepsId change → KeepsWords change → ((g : Ledger) → ledger_at s g.id ≡ Some g → IsLedgerOf s g → IsLedgerOf s (change g)) → IsWellFormed (with_ledgers s (map change s.parts.ledgers))
 IsWellFormed-ledgers s change was keeps as_many each = record {
   names = was.names;
   grace = was.grace;
@@ -129,7 +128,7 @@ IsWellFormed-ledgers s change was keeps as_many each = record {
 }
 
 -- one ledger is changed
-IsWellFormed-change_ledger : (s : Cluster) (l : ℕ) (change : Ledger → Ledger) → IsWellFormed s → KeepsId change → KeepsWords change → ((g : Ledger) → ledger_at s l ≡ Some g → IsLedgerOf s g → IsLedgerOf s (change g)) → IsWellFormed (change_ledger s l change)
+pub IsWellFormed-change_ledger : (s : Cluster) (l : ℕ) (change : Ledger → Ledger) → IsWellFormed s → KeepsId change → KeepsWords change → ((g : Ledger) → ledger_at s l ≡ Some g → IsLedgerOf s g → IsLedgerOf s (change g)) → IsWellFormed (change_ledger s l change)
 IsWellFormed-change_ledger s l change was keeps as_many each = IsWellFormed-ledgers s (changed_ledger l change) was (KeepsId-changed_ledger l change keeps) (KeepsWords-changed_ledger l change as_many) (λ g found is.
     elim (g.id == l) as (λ b. (g.id == l) ≡ b → IsLedgerOf s (if b then change g else g)) [
       | true ↦ λ hit. let same : g.id ≡ l = grind (arith, nat_tests) in each g (ap (λ (k : ℕ). ledger_at s k) (sym same) ∙ found) is
@@ -153,7 +152,7 @@ All-among P (x ∷ es) e each among = either (nat_eq e x) (list_any (nat_eq e) e
     (All-among P es e (All-tail P x es each)) among
 
 -- bookies that have names take copies of entries that are held
-IsWellFormed-united : (s : Cluster) (more : Contents) → IsWellFormed s → ((b l e : ℕ) → has more b l e ≡ true → (b < length s.names) × IsHeld s.parts.held l e) → IsWellFormed (with_held s (union s.parts.held more))
+pub IsWellFormed-united : (s : Cluster) (more : Contents) → IsWellFormed s → ((b l e : ℕ) → has more b l e ≡ true → (b < length s.names) × IsHeld s.parts.held l e) → IsWellFormed (with_held s (union s.parts.held more))
 IsWellFormed-united s more was each =
     let can_be : ℕ × ℕ × ℕ → Type 0 = IsCopy (length s.names) s.parts.ledgers in
     record {
@@ -185,7 +184,7 @@ IsWellFormed-copied_all s w l es was named held = IsWellFormed-united s (copies_
     (omega (arith, bookie, named), subst (λ (j : ℕ). IsHeld s.parts.held j e) (sym ledger) (All-among (λ x. IsHeld s.parts.held l x) es e held parts.1)))
 
 -- a ledger of the cluster without its lock
-IsLedger-unlocked_ledger : (s : Cluster) (g : Ledger) → IsLedgerOf s g → IsLedgerOf s (unlocked_ledger g)
+pub IsLedger-unlocked_ledger : (s : Cluster) (g : Ledger) → IsLedgerOf s g → IsLedgerOf s (unlocked_ledger g)
 IsLedger-unlocked_ledger s g was = record {
   id = was.id;
   metadata = was.metadata;
@@ -200,14 +199,14 @@ IsLedger-unlocked_ledger s g was = record {
 pub KeepsId-expired_ledger : (w : ℕ) → KeepsId (expired_ledger w)
 KeepsId-expired_ledger w g = elim (is_locked_by w g) as (λ b. (if b then unlocked_ledger g else g).id ≡ g.id) [ true ↦ refl | false ↦ refl ]
 
-KeepsWords-expired_ledger : (w : ℕ) → KeepsWords (expired_ledger w)
+pub KeepsWords-expired_ledger : (w : ℕ) → KeepsWords (expired_ledger w)
 KeepsWords-expired_ledger w g = elim (is_locked_by w g) as (λ b. (if b then unlocked_ledger g else g).words ≡ g.words) [ true ↦ refl | false ↦ refl ]
 
-IsLedger-expired_ledger : (s : Cluster) (w : ℕ) (g : Ledger) → IsLedgerOf s g → IsLedgerOf s (expired_ledger w g)
+pub IsLedger-expired_ledger : (s : Cluster) (w : ℕ) (g : Ledger) → IsLedgerOf s g → IsLedgerOf s (expired_ledger w g)
 IsLedger-expired_ledger s w g was = elim (is_locked_by w g) as (λ b. IsLedgerOf s (if b then unlocked_ledger g else g)) [ true ↦ IsLedger-unlocked_ledger s g was | false ↦ was ]
 
 -- without its task
-IsLedger-finished_ledger : (s : Cluster) (g : Ledger) → IsLedgerOf s g → IsLedgerOf s (finished_ledger g)
+pub IsLedger-finished_ledger : (s : Cluster) (g : Ledger) → IsLedgerOf s g → IsLedgerOf s (finished_ledger g)
 IsLedger-finished_ledger s g was = record {
   id = was.id;
   metadata = was.metadata;
@@ -219,7 +218,7 @@ IsLedger-finished_ledger s g was = record {
 }
 
 -- with a worker's lock on its task
-IsLedger-locked_ledger : (s : Cluster) (w : ℕ) (g : Ledger) → w < length s.names → IsSome g.task → IsLedgerOf s g → IsLedgerOf s (locked_ledger w g)
+pub IsLedger-locked_ledger : (s : Cluster) (w : ℕ) (g : Ledger) → w < length s.names → IsSome g.task → IsLedgerOf s g → IsLedgerOf s (locked_ledger w g)
 IsLedger-locked_ledger s w g named some was = record {
   id = was.id;
   metadata = was.metadata;
@@ -231,7 +230,7 @@ IsLedger-locked_ledger s w g named some was = record {
 }
 
 -- with another member in a fragment
-IsLedger-swapped_ledger : (s : Cluster) (g : Ledger) (w f i : ℕ) → IsSwappable s g w f i → IsLedgerOf s g → IsLedgerOf s (swapped_ledger f i w g)
+pub IsLedger-swapped_ledger : (s : Cluster) (g : Ledger) (w f i : ℕ) → IsSwappable s g w f i → IsLedgerOf s g → IsLedgerOf s (swapped_ledger f i w g)
 IsLedger-swapped_ledger s g w f i may was =
     let m = g.metadata in
     let nobody : Fragment = record { first = 0; ensemble = [] } in
@@ -264,7 +263,7 @@ IsLedger-remade s g m metadata members unfenced was = record {
 }
 
 -- with that due tick, or none, at its lock
-IsLedger-with_due : (s : Cluster) (due : Option ℕ) (g : Ledger) → ForSome due (λ tick. (tick ≤ s.parts.scalars.clock + s.grace) × IsTrue (is_open g.metadata.state)) → IsLedgerOf s g → IsLedgerOf s (with_due due g)
+pub IsLedger-with_due : (s : Cluster) (due : Option ℕ) (g : Ledger) → ForSome due (λ tick. (tick ≤ s.parts.scalars.clock + s.grace) × IsTrue (is_open g.metadata.state)) → IsLedgerOf s g → IsLedgerOf s (with_due due g)
 IsLedger-with_due s due g may was = record {
   id = was.id;
   metadata = was.metadata;
@@ -321,7 +320,7 @@ IsLedger-rolled_over s g i b over may was =
     (All-append named m.fragments (added ∷ []) was.members (All-cons named added [] (All-set (λ member. member < length s.names) last.ensemble i b may.named members) (All-nil named)))
     was
 
-IsLedger-rolled_ledger : (s : Cluster) (g : Ledger) (i b : ℕ) → IsRollable s g i b → IsLedgerOf s g → IsLedgerOf s (rolled_ledger s i b g)
+pub IsLedger-rolled_ledger : (s : Cluster) (g : Ledger) (i b : ℕ) → IsRollable s g i b → IsLedgerOf s g → IsLedgerOf s (rolled_ledger s i b g)
 IsLedger-rolled_ledger s g i b may was =
     let m = g.metadata in
     elim (is_rolling_over s g) as (λ over. is_rolling_over s g ≡ over
@@ -333,13 +332,13 @@ IsLedger-rolled_ledger s g i b may was =
     ] refl
 
 -- in recovery
-IsLedger-fenced_ledger : (s : Cluster) (g : Ledger) → g.metadata.version < MAX_VERSION → IsLedgerOf s g → IsLedgerOf s (fenced_ledger g)
+pub IsLedger-fenced_ledger : (s : Cluster) (g : Ledger) → g.metadata.version < MAX_VERSION → IsLedgerOf s g → IsLedgerOf s (fenced_ledger g)
 IsLedger-fenced_ledger s g version was =
     let no_end : ForSome (end_of_state InRecovery) (λ end. ((last_fragment g.metadata).first ≤ end) × (end ≤ ENTRY_END)) = λ end is. absurd (cc) in
     IsLedger-remade_without_due s g (next_version (with_state g.metadata InRecovery)) (IsMetadata-state g.metadata InRecovery no_end version was.metadata) was.members was
 
 -- closed
-IsLedger-sealed_ledger : (s : Cluster) (g : Ledger) → is_in_recovery g.metadata.state ≡ true → g.metadata.version < MAX_VERSION → recovered_end s g ≤ ENTRY_END → IsLedgerOf s g → IsLedgerOf s (sealed_ledger s g)
+pub IsLedger-sealed_ledger : (s : Cluster) (g : Ledger) → is_in_recovery g.metadata.state ≡ true → g.metadata.version < MAX_VERSION → recovered_end s g ≤ ENTRY_END → IsLedgerOf s g → IsLedgerOf s (sealed_ledger s g)
 IsLedger-sealed_ledger s g recovering version within was =
     let m = g.metadata in
     let state : LedgerState = Closed (recovered_end s g) in
@@ -356,10 +355,10 @@ IsLedger-sealed_ledger s g recovering version within was =
 pub KeepsId-audited_ledger : (s : Cluster) → KeepsId (audited_ledger s)
 KeepsId-audited_ledger s g = elim (is_empty (missing_members s g)) as (λ b. (if b then g else record g { task = Some (published_members s g) }).id ≡ g.id) [ true ↦ refl | false ↦ refl ]
 
-KeepsWords-audited_ledger : (s : Cluster) → KeepsWords (audited_ledger s)
+pub KeepsWords-audited_ledger : (s : Cluster) → KeepsWords (audited_ledger s)
 KeepsWords-audited_ledger s g = elim (is_empty (missing_members s g)) as (λ b. (if b then g else record g { task = Some (published_members s g) }).words ≡ g.words) [ true ↦ refl | false ↦ refl ]
 
-IsLedger-audited_ledger : (s : Cluster) (g : Ledger) → IsLedgerOf s g → IsLedgerOf s (audited_ledger s g)
+pub IsLedger-audited_ledger : (s : Cluster) (g : Ledger) → IsLedgerOf s g → IsLedgerOf s (audited_ledger s g)
 IsLedger-audited_ledger s g was =
     elim (is_empty (missing_members s g)) as (λ b. is_empty (missing_members s g) ≡ b → IsLedgerOf s (if b then g else record g { task = Some (published_members s g) })) [
       | true ↦ λ _. was
@@ -389,37 +388,6 @@ named-insert up k n within named b is =
 
 pub named-remove : (up : Set numbers) (k n : ℕ) → ((b : ℕ) → contains up b ≡ true → b < n) → (b : ℕ) → contains (remove up k) b ≡ true → b < n
 named-remove up k n named b is = named b (and_second (not (eq_by_cmp nat_cmp k b)) (contains up b) (sym (contains-remove up k b) ∙ is))
-
--- Each accepted event keeps a cluster well-formed.
-pub IsWellFormed-after : (s : Cluster) (event : Event) → IsWellFormed s → refusal_of s event ≡ None → IsWellFormed (after s event)
-IsWellFormed-after s (Lose b) was none = IsWellFormed-up s (remove s.parts.up b) was (named-remove s.parts.up b (length s.names) was.up)
-IsWellFormed-after s (Join b) was none = IsWellFormed-up s (insert s.parts.up b) was (named-insert s.parts.up b (length s.names) (accepted_join s b none).0 was.up)
-IsWellFormed-after s Audit was none = IsWellFormed-ledgers s (audited_ledger s) was (KeepsId-audited_ledger s) (KeepsWords-audited_ledger s) (λ g _ is. IsLedger-audited_ledger s g is)
-IsWellFormed-after s (Acquire w l) was none = IsWellFormed-change_ledger s l (locked_ledger w) was (λ g. refl) (λ g. refl) (λ g found is.
-    let may = accepted_acquire s w l g found none in
-    IsLedger-locked_ledger s w g may.0 may.1 is)
-IsWellFormed-after s (Release w l) was none = IsWellFormed-change_ledger s l unlocked_ledger was (λ g. refl) (λ g. refl) (λ g _ is. IsLedger-unlocked_ledger s g is)
-IsWellFormed-after s (Finish w l) was none = IsWellFormed-change_ledger s l finished_ledger was (λ g. refl) (λ g. refl) (λ g _ is. IsLedger-finished_ledger s g is)
-IsWellFormed-after s (Expire w) was none = IsWellFormed-ledgers s (expired_ledger w) was (KeepsId-expired_ledger w) (KeepsWords-expired_ledger w) (λ g _ is. IsLedger-expired_ledger s w g is)
-IsWellFormed-after s (Grace w l) was none = IsWellFormed-change_ledger s l (graced_ledger (s.parts.scalars.clock + s.grace)) was (λ g. refl) (λ g. refl) (λ g found is.
-    let unfenced : IsTrue (is_open g.metadata.state) = (accepted_grace s w l g found none).state in
-    IsLedger-with_due s (Some (s.parts.scalars.clock + s.grace)) g (λ tick same. let due : s.parts.scalars.clock + s.grace ≡ tick = cc in (omega (arith, due), unfenced)) is)
-IsWellFormed-after s (Tick n) was none = IsWellFormed-clock s (s.parts.scalars.clock + n) was (omega arith) (accepted_tick s n none).1
-IsWellFormed-after s (Roll l i b) was none = IsWellFormed-change_ledger s l (rolled_ledger s i b) was (λ g. refl) (λ g. refl) (λ g found is.
-    IsLedger-rolled_ledger s g i b (accepted_roll s l i b g found (next_entry-within s l g was found) is.metadata.version none) is)
-IsWellFormed-after s (Fence w l) was none = IsWellFormed-change_ledger s l fenced_ledger was (λ g. refl) (λ g. refl) (λ g found is.
-    IsLedger-fenced_ledger s g (accepted_fence s w l g found is.metadata.version none).version is)
-IsWellFormed-after s (Seal w l) was none =
-    let t : Cluster = with_held s (union s.parts.held (recovered_at s l)) in
-    let copied : IsWellFormed t = IsWellFormed-united s (recovered_at s l) was (λ b k e is. let shows = IsRecovered-at s l b k e is in (was.up b shows.up, shows.held)) in
-    IsWellFormed-change_ledger t l (sealed_ledger s) copied (λ g. refl) (λ g. refl) (λ g found is.
-    let may = accepted_seal s w l g found is.metadata.version none in
-    IsLedger-sealed_ledger s g may.state may.version (recovered_end-within s l g was found) is)
-IsWellFormed-after s (Copy w l f i v) was none =
-    let may = accepted_copy s w l f i v none in
-    IsWellFormed-copied_all s w l (stripe_at s l f i) was may.named may.held
-IsWellFormed-after s (Swap w l f i v) was none = IsWellFormed-change_ledger s l (swapped_ledger f i w) was (λ g. refl) (λ g. refl) (λ g found is.
-    IsLedger-swapped_ledger s g w f i (accepted_swap s w l f i v g found is.metadata.version none) is)
 
 -- An accepted swap of a ledger that is found.
 pub swappable-found : (s : Cluster) (w l f i v : ℕ) (g : Ledger) → IsWellFormed s → ledger_at s l ≡ Some g → refusal_of s (Swap w l f i v) ≡ None → IsSwappable s g w f i

@@ -1,5 +1,5 @@
--- The places of a cluster's parts; records of changes, and what exchanging a record makes of the parts and of the record.
-use Rattle.std.specs.Prelude.{◌≡◌, ◌≢◌, ℕ, zero, suc, ◌<◌, ◌/◌, ◌^◌, Bool, true, false, List, [], ◌∷◌, All, map, length, slice_get, ◌⊎◌}
+-- The places of a cluster's parts; records of changes, and what exchanging a record makes of the parts and of it.
+use Rattle.std.specs.Prelude.{◌≡◌, ◌≢◌, ℕ, zero, suc, ◌<◌, ◌/◌, ◌^◌, Bool, true, false, List, [], ◌∷◌, All, map, length, slice_get, Option, ◌⊎◌}
 use Rattle.std.specs.Option.{option_map}
 use Rattle.reh_types.specs.declared.changes.Change as change
 use Rattle.reh_types.specs.declared.changes.Change.TheVariants.{Registration, Metadata, Task, Lock, Word, Scalar}
@@ -9,7 +9,7 @@ use Rattle.reh_types.specs.Sets as set
 use Rattle.reh_types.specs.Sets.{Set, numbers}
 use Rattle.reh_model.specs.Metadata as meta
 use Rattle.reh_model.specs.Contents.{has, turned}
-use Rattle.reh_model.specs.Cluster.{Parts, Cluster, words_among}
+use Rattle.reh_model.specs.Cluster.{Parts, Cluster, Ledger, words_among}
 use Rattle.reh_model.specs.WellFormed.{IsWellFormed}
 
 abbrev pub Change : Type 0
@@ -17,7 +17,8 @@ Change = change.Change meta.Metadata
 
 -- Places
 
--- a bookie's registration; the metadata, the task and the lock of the ledger that stands at a place of the picture; the 64 entries from 64 k on that a bookie holds of the ledger of an id; or the scalar of a number
+-- a bookie's registration; the metadata, the task and the lock of the ledger that stands at a place of the picture;
+-- the 64 entries from 64 k on that a bookie holds of the ledger of an id; or the scalar of a number
 pub data Place : Type 0 where
   at_registration : ℕ → Place
   at_metadata : ℕ → Place
@@ -133,14 +134,19 @@ pub record Fits (s : Cluster) (cs : List Change) : Type 0 where
 
 -- Differences
 
+-- a part of the ledger at that place, if there is one
+abbrev pub part_at : {C : Type 0} → (Ledger → C) → Parts → ℕ → Option C
+part_at get p i = option_map get (slice_get p.ledgers i)
+
 -- whether the parts are the same at a place
 abbrev pub SameAt : Parts → Parts → Place → Type 0
 SameAt p q (at_registration b) = set.contains p.up b ≡ set.contains q.up b
-SameAt p q (at_metadata i) = option_map (λ g. g.metadata) (slice_get p.ledgers i) ≡ option_map (λ g. g.metadata) (slice_get q.ledgers i)
-SameAt p q (at_task i) = option_map (λ g. g.task) (slice_get p.ledgers i) ≡ option_map (λ g. g.task) (slice_get q.ledgers i)
-SameAt p q (at_lock i) = option_map (λ g. g.lock) (slice_get p.ledgers i) ≡ option_map (λ g. g.lock) (slice_get q.ledgers i)
+SameAt p q (at_metadata i) = part_at (λ g. g.metadata) p i ≡ part_at (λ g. g.metadata) q i
+SameAt p q (at_task i) = part_at (λ g. g.task) p i ≡ part_at (λ g. g.task) q i
+SameAt p q (at_lock i) = part_at (λ g. g.lock) p i ≡ part_at (λ g. g.lock) q i
 SameAt p q (at_word b l k) = (e : ℕ) → e / 64 ≡ k → has p.held b l e ≡ has q.held b l e
-SameAt p q (at_scalar n) = (scalar : scalars.Scalar) → number_of scalar ≡ n → scalar_at p.scalars scalar ≡ scalar_at q.scalars scalar
+SameAt p q (at_scalar n) =
+    (scalar : scalars.Scalar) → number_of scalar ≡ n → scalar_at p.scalars scalar ≡ scalar_at q.scalars scalar
 
 -- the record changes s to t, and has exactly one change for each place in which they differ
 pub record IsDelta (s t : Cluster) (cs : List Change) : Type 0 where

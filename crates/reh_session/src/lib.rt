@@ -4,5 +4,5 @@
 mod laws;
 mod sessions;
 
-pub use laws::{posts_are_copies, stripes_stay, undo_restores};
+pub use laws::{posts_are_copies, records_are_unique, stripes_stay, undo_restores};
 pub use sessions::Session;

@@ -1,7 +1,9 @@
-// What answers an event: one function for each kind of event, which asks its decision and makes its record of what that found.
+// What answers an event: one function for each kind of event, which asks its decision and makes its record of what that
+// found.
 ghost use Rattle.std.specs.Prelude.{◌≡◌, ◌==◌, [], ◌∷◌, ◌++◌, position, None, IfOk};
 ghost use Rattle.reh_types.specs.declared.changes.Change.TheVariants.{Metadata};
-ghost use Rattle.reh_types.specs.declared.moves.Event.TheVariants.{Lose, Join, Audit, Acquire, Release, Finish, Expire, Grace, Tick, Roll, Fence, Seal, Copy, Swap};
+ghost use Rattle.reh_types.specs.declared.moves.Event.TheVariants.{Lose, Join, Audit, Acquire, Release, Finish, Expire};
+ghost use Rattle.reh_types.specs.declared.moves.Event.TheVariants.{Grace, Tick, Roll, Fence, Seal, Copy, Swap};
 ghost use Rattle.reh_model.specs.Cluster.{stripe_at};
 ghost use Rattle.reh_model.specs.Recovery.{recovered_end};
 ghost use Rattle.reh_model.specs.Records.{due_gone};
@@ -49,14 +51,14 @@ pub(crate) fn audit(alloc: Global, state: &State) -> Result<Changes, Refusal>
 {
     check_audit(state)?;
     let ledgers = state.ledgers();
-    let mut parts = Vec::new(alloc);
+    let mut list = Vec::new(alloc);
     for (place, ledger) in ledgers.iter().enumerate() {
         if is_news(state, ledger) {
             let task = Some(published_of(state, ledger));
-            push(&mut parts, Change::Task { place, task })?;
+            push(&mut list, Change::Task { place, task })?;
         }
     }
-    Ok(Changes::of(parts))
+    Ok(Changes::of(list))
 }
 
 /// The worker locks the ledger's task.
@@ -104,10 +106,10 @@ pub(crate) fn finish(
 {
     let found = check_finish(state, worker, ledger)?;
     let place = found.place;
-    let mut parts = Vec::with_capacity(alloc, 2)?;
-    push(&mut parts, Change::Task { place, task: None })?;
-    push(&mut parts, Change::Lock { place, lock: None })?;
-    Ok(Changes::of(parts))
+    let mut list = Vec::with_capacity(alloc, 2)?;
+    push(&mut list, Change::Task { place, task: None })?;
+    push(&mut list, Change::Lock { place, lock: None })?;
+    Ok(Changes::of(list))
 }
 
 /// Each lock of the worker goes.
@@ -116,13 +118,13 @@ pub(crate) fn expire(alloc: Global, state: &State, worker: BookieIx) -> Result<C
 {
     check_expire(state, worker)?;
     let ledgers = state.ledgers();
-    let mut parts = Vec::new(alloc);
+    let mut list = Vec::new(alloc);
     for (place, ledger) in ledgers.iter().enumerate() {
         if ledger.is_locked_by(worker) {
-            push(&mut parts, Change::Lock { place, lock: None })?;
+            push(&mut list, Change::Lock { place, lock: None })?;
         }
     }
-    Ok(Changes::of(parts))
+    Ok(Changes::of(list))
 }
 
 /// The due tick of the ledger's lock is set: a grace from now.
@@ -207,16 +209,16 @@ pub(crate) fn seal(
 {
     let (found, end) = check_seal(state, worker, ledger)?;
     let metadata = found.ledger.metadata().sealed(end)?;
-    let mut parts = Vec::new(alloc);
+    let mut list = Vec::new(alloc);
     let place = found.place;
-    push(&mut parts, Change::Metadata { place, metadata })?;
+    push(&mut list, Change::Metadata { place, metadata })?;
     for bookie in 0..state.names().len() {
         let bookie = BookieIx(bookie as u8);
         let entries = recovered_by(alloc, state, found.ledger, end, bookie)?;
         let turns = state.delta_of(alloc, bookie, ledger, &entries)?;
-        push_words(&mut parts, bookie, ledger, &turns)?;
+        push_words(&mut list, bookie, ledger, &turns)?;
     }
-    Ok(Changes::of(parts))
+    Ok(Changes::of(list))
 }
 
 /// The entries that the fragment stripes onto the index are held by the worker's bookie.
@@ -272,9 +274,9 @@ pub fn copy_record(
     let _well_formed = state.names();
     let entries = listed(alloc, entries)?;
     let turns = state.delta_of(alloc, aim.worker, aim.ledger, &entries)?;
-    let mut parts = Vec::with_capacity(alloc, turns.len())?;
-    push_words(&mut parts, aim.worker, aim.ledger, &turns)?;
-    Ok(Changes::of(parts))
+    let mut list = Vec::with_capacity(alloc, turns.len())?;
+    push_words(&mut list, aim.worker, aim.ledger, &turns)?;
+    Ok(Changes::of(list))
 }
 
 // Open ledgers
@@ -286,8 +288,8 @@ fn without_due(alloc: Global, found: Found<'_>, metadata: LedgerMeta) -> Result<
         ≡ Metadata found.entry.place metadata ∷ due_gone found.entry.place found.entry.ledger.now) }
 {
     let place = found.place;
-    let mut parts = Vec::with_capacity(alloc, 2)?;
-    parts.push(Change::Metadata { place, metadata })?;
+    let mut list = Vec::with_capacity(alloc, 2)?;
+    list.push(Change::Metadata { place, metadata })?;
     if let Some(
         Lock {
             owner,
@@ -296,12 +298,13 @@ fn without_due(alloc: Global, found: Found<'_>, metadata: LedgerMeta) -> Result<
     ) = found.ledger.lock()
     {
         let lock = Some(Lock { owner, due: None });
-        parts.push(Change::Lock { place, lock })?;
+        list.push(Change::Lock { place, lock })?;
     }
-    Ok(Changes::of(parts))
+    Ok(Changes::of(list))
 }
 
-/// The entries that a recovery of the ledger up to this end writes back to the bookie, as a list; none for one that isn't
+/// The entries that a recovery of the ledger up to this end writes back to the bookie, as a list; none for one that
+/// isn't
 /// registered, or is no member of the last ensemble.
 fn recovered_by(
     alloc: Global,
@@ -357,25 +360,25 @@ fn listed(alloc: Global, entries: Striped) -> Result<Vec<u32>, AllocError>
 }
 
 /// Adds a change.
-fn push(parts: &mut Vec<Change<LedgerMeta>>, change: Change<LedgerMeta>) -> Result<(), AllocError>
-    ensures { IfOk result (λ _. parts.new.items ≡ parts.old.items ++ change ∷ []) }
+fn push(list: &mut Vec<Change<LedgerMeta>>, change: Change<LedgerMeta>) -> Result<(), AllocError>
+    ensures { IfOk result (λ _. list.new.items ≡ list.old.items ++ change ∷ []) }
 {
-    parts.push(change)?;
+    list.push(change)?;
     Ok(())
 }
 
 /// Adds the words that turn, as changes of what the bookie holds of the ledger.
 fn push_words(
-    parts: &mut Vec<Change<LedgerMeta>>,
+    list: &mut Vec<Change<LedgerMeta>>,
     bookie: BookieIx,
     ledger: LedgerId,
     turns: &[Turn],
 ) -> Result<(), AllocError>
     ensures { IfOk result
-        (λ _. parts.new.items ≡ parts.old.items ++ word_changes bookie ledger turns.now) }
+        (λ _. list.new.items ≡ list.old.items ++ word_changes bookie ledger turns.now) }
 {
     for turn in turns {
-        parts.push(Change::Word {
+        list.push(Change::Word {
             bookie,
             ledger,
             number: turn.number,

@@ -25,7 +25,8 @@ pub(crate) fn last_fragment(ledger: &Ledger) -> &Fragment
     &fragments[fragments.len() - 1]
 }
 
-/// The writer's next entry: one more than the greatest that any bookie holds, and no less than the last fragment's first.
+/// The writer's next entry: one more than the greatest that any bookie holds, and no less than the last fragment's
+/// first.
 pub(crate) fn next_entry(state: &State, ledger: &Ledger) -> u32
     ensures { result ≡ recovery.next_entry state.now ledger.now }
 {
@@ -37,11 +38,13 @@ pub(crate) fn next_entry(state: &State, ledger: &Ledger) -> u32
     }
 }
 
-/// Where a recovery ends the ledger, the first entry of the last fragment that can't be read, if enough registered members
+/// Where a recovery ends the ledger, the first entry of the last fragment that can't be read, if enough registered
+/// members
 /// answer it: for each entry that it passes, an ack quorum of its write set, and for the one where it ends, which all
 /// that answer lack, so many that the others are no ack quorum.
 ///
-/// BookKeeper's recovery (`LedgerRecoveryOp`) reads on from the last fragment's first entry, writes each entry back, and
+/// BookKeeper's recovery (`LedgerRecoveryOp`) reads on from the last fragment's first entry, writes each entry back,
+/// and
 /// ends at the first one that no ack quorum can have stored.
 pub(crate) fn find_end(state: &State, ledger: &Ledger) -> Result<u32, Refusal>
     ensures { Finds result (first_reason

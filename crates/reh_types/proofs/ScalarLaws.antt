@@ -17,9 +17,11 @@ pub scalar_at-here : (s : Scalars) (c d : Scalar) → number_of c ≡ number_of 
 scalar_at-here s (Clock clock) (Clock other) same = refl
 
 -- and leaves what stands at the others
-pub scalar_at-apart : (s : Scalars) (c d : Scalar) → number_of c ≢ number_of d → scalar_at (with_scalar s c) d ≡ scalar_at s d
+pub scalar_at-apart : (s : Scalars) (c d : Scalar) → number_of c ≢ number_of d → scalar_at (with_scalar s c) d
+    ≡ scalar_at s d
 scalar_at-apart s (Clock clock) (Clock other) apart = absurd (apart refl)
 
 -- changes of different ones commute
-pub with_scalar-comm : (s : Scalars) (c d : Scalar) → number_of c ≢ number_of d → with_scalar (with_scalar s c) d ≡ with_scalar (with_scalar s d) c
+pub with_scalar-comm : (s : Scalars) (c d : Scalar) → number_of c ≢ number_of d → with_scalar (with_scalar s c) d
+    ≡ with_scalar (with_scalar s d) c
 with_scalar-comm s (Clock clock) (Clock other) apart = absurd (apart refl)

@@ -7,5 +7,6 @@ pub exchange_one-requires : goal.exchange_one-requires
 exchange_one-requires c = next_placed c.loop-change.invariant (omega arith) c.change-item.result
 
 pub loop-change-preserved : goal.loop-change-preserved
-loop-change-preserved c = goes_on c.loop-change.invariant (omega arith) c.change-item.result c.exchange_one.new.change _ c.change-item.is
+loop-change-preserved c =
+    goes_on c.loop-change.invariant (omega arith) c.change-item.result c.exchange_one.new.change _ c.change-item.is
     (rw (← c.change-item.is) at c.exchange_one.ensures.parts) (rw (← c.change-item.is) at c.exchange_one.ensures.left)

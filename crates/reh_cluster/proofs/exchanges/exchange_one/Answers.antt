@@ -1,8 +1,7 @@
 -- A part of a ledger is swapped with what the change holds.
-use Rattle.std.proofs.Common.{◌≡◌, List, ap, set, sym, refl}
+use Rattle.std.proofs.Common.{List, ap, refl}
 use Rattle.reh_types.specs.declared.changes.Change.TheVariants.{Metadata, Task, Lock}
 use Rattle.reh_model.specs.Cluster.{Ledger}
-use Rattle.reh_model.specs.Places.{change_at}
 use Rattle.reh_model.proofs.ListLaws.{read_at-there}
 use Rattle.reh_cluster.specs.Parts.{PartsValue}
 use Rattle.reh_cluster.specs.Kept.{parts_in}
@@ -13,7 +12,8 @@ pub invariant_of-parts-in-Metadata : goal.invariant_of-parts-in-Metadata
 invariant_of-parts-in-Metadata c = record {
   few = c.parts.invariant.few;
   rows = rows_put (parts_in c.parts.inside).parts (Metadata c.in-Metadata.place c.in-Metadata.metadata) _ _ _
-      (changed_there (λ g. record g { metadata = c.in-Metadata.metadata }) c.parts.inside.ledgers.items c.in-Metadata.place c.index_mut.result.now c.swap_metadata.new.self c.index_mut.ensures.value c.swap_metadata.ensures.ledger)
+      (changed_there (λ g. record g { metadata = c.in-Metadata.metadata }) c.parts.inside.ledgers.items
+      c.in-Metadata.place _ _ c.index_mut.ensures.value c.swap_metadata.ensures.ledger)
       c.parts.invariant.rows;
 }
 
@@ -22,20 +22,23 @@ returns-in-Metadata-clause-parts c =
     let p : PartsValue = parts_in c.parts.inside in
     rw (← c.parts.view_is, c.in-Metadata.is)
     (ap (λ (gs : List Ledger). record p { parts = record p.parts { ledgers = gs } })
-    (changed_there (λ g. record g { metadata = c.in-Metadata.metadata }) c.parts.inside.ledgers.items c.in-Metadata.place c.index_mut.result.now c.swap_metadata.new.self c.index_mut.ensures.value c.swap_metadata.ensures.ledger))
+    (changed_there (λ g. record g { metadata = c.in-Metadata.metadata }) c.parts.inside.ledgers.items
+    c.in-Metadata.place _ _ c.index_mut.ensures.value c.swap_metadata.ensures.ledger))
 
 pub returns-in-Metadata-clause-left : goal.returns-in-Metadata-clause-left
 returns-in-Metadata-clause-left c =
+    let within = rw (c.in-Metadata.is, ← c.parts.view_is) at c.requires in
     rw (c.swap_metadata.ensures.other, ← c.parts.view_is, c.in-Metadata.is)
     (ap (Metadata c.in-Metadata.place)
-    (read_at-there (λ g. g.metadata) c.parts.inside.ledgers.items c.in-Metadata.place c.index_mut.result.now c.in-Metadata.metadata
-    (rw (c.in-Metadata.is, ← c.parts.view_is) at c.requires) c.index_mut.ensures.value))
+    (read_at-there (λ g. g.metadata) c.parts.inside.ledgers.items c.in-Metadata.place c.index_mut.result.now
+    c.in-Metadata.metadata within c.index_mut.ensures.value))
 
 pub invariant_of-parts-in-Task : goal.invariant_of-parts-in-Task
 invariant_of-parts-in-Task c = record {
   few = c.parts.invariant.few;
   rows = rows_put (parts_in c.parts.inside).parts (Task c.in-Task.place c.in-Task.task) _ _ _
-      (changed_there (λ g. record g { task = c.in-Task.task }) c.parts.inside.ledgers.items c.in-Task.place c.index_mut-in-Task.result.now c.swap_task.new.self c.index_mut-in-Task.ensures.value c.swap_task.ensures.ledger)
+      (changed_there (λ g. record g { task = c.in-Task.task }) c.parts.inside.ledgers.items c.in-Task.place _ _
+      c.index_mut-in-Task.ensures.value c.swap_task.ensures.ledger)
       c.parts.invariant.rows;
 }
 
@@ -44,20 +47,23 @@ returns-in-Task-clause-parts c =
     let p : PartsValue = parts_in c.parts.inside in
     rw (← c.parts.view_is, c.in-Task.is)
     (ap (λ (gs : List Ledger). record p { parts = record p.parts { ledgers = gs } })
-    (changed_there (λ g. record g { task = c.in-Task.task }) c.parts.inside.ledgers.items c.in-Task.place c.index_mut-in-Task.result.now c.swap_task.new.self c.index_mut-in-Task.ensures.value c.swap_task.ensures.ledger))
+    (changed_there (λ g. record g { task = c.in-Task.task }) c.parts.inside.ledgers.items c.in-Task.place _ _
+    c.index_mut-in-Task.ensures.value c.swap_task.ensures.ledger))
 
 pub returns-in-Task-clause-left : goal.returns-in-Task-clause-left
 returns-in-Task-clause-left c =
+    let within = rw (c.in-Task.is, ← c.parts.view_is) at c.requires in
     rw (c.swap_task.ensures.other, ← c.parts.view_is, c.in-Task.is)
     (ap (Task c.in-Task.place)
-    (read_at-there (λ g. g.task) c.parts.inside.ledgers.items c.in-Task.place c.index_mut-in-Task.result.now c.in-Task.task
-    (rw (c.in-Task.is, ← c.parts.view_is) at c.requires) c.index_mut-in-Task.ensures.value))
+    (read_at-there (λ g. g.task) c.parts.inside.ledgers.items c.in-Task.place c.index_mut-in-Task.result.now
+    c.in-Task.task within c.index_mut-in-Task.ensures.value))
 
 pub invariant_of-parts-in-Lock : goal.invariant_of-parts-in-Lock
 invariant_of-parts-in-Lock c = record {
   few = c.parts.invariant.few;
   rows = rows_put (parts_in c.parts.inside).parts (Lock c.in-Lock.place c.in-Lock.lock) _ _ _
-      (changed_there (λ g. record g { lock = c.in-Lock.lock }) c.parts.inside.ledgers.items c.in-Lock.place c.index_mut-in-Lock.result.now c.swap_lock.new.self c.index_mut-in-Lock.ensures.value c.swap_lock.ensures.ledger)
+      (changed_there (λ g. record g { lock = c.in-Lock.lock }) c.parts.inside.ledgers.items c.in-Lock.place _ _
+      c.index_mut-in-Lock.ensures.value c.swap_lock.ensures.ledger)
       c.parts.invariant.rows;
 }
 
@@ -66,14 +72,16 @@ returns-in-Lock-clause-parts c =
     let p : PartsValue = parts_in c.parts.inside in
     rw (← c.parts.view_is, c.in-Lock.is)
     (ap (λ (gs : List Ledger). record p { parts = record p.parts { ledgers = gs } })
-    (changed_there (λ g. record g { lock = c.in-Lock.lock }) c.parts.inside.ledgers.items c.in-Lock.place c.index_mut-in-Lock.result.now c.swap_lock.new.self c.index_mut-in-Lock.ensures.value c.swap_lock.ensures.ledger))
+    (changed_there (λ g. record g { lock = c.in-Lock.lock }) c.parts.inside.ledgers.items c.in-Lock.place _ _
+    c.index_mut-in-Lock.ensures.value c.swap_lock.ensures.ledger))
 
 pub returns-in-Lock-clause-left : goal.returns-in-Lock-clause-left
 returns-in-Lock-clause-left c =
+    let within = rw (c.in-Lock.is, ← c.parts.view_is) at c.requires in
     rw (c.swap_lock.ensures.other, ← c.parts.view_is, c.in-Lock.is)
     (ap (Lock c.in-Lock.place)
-    (read_at-there (λ g. g.lock) c.parts.inside.ledgers.items c.in-Lock.place c.index_mut-in-Lock.result.now c.in-Lock.lock
-    (rw (c.in-Lock.is, ← c.parts.view_is) at c.requires) c.index_mut-in-Lock.ensures.value))
+    (read_at-there (λ g. g.lock) c.parts.inside.ledgers.items c.in-Lock.place c.index_mut-in-Lock.result.now
+    c.in-Lock.lock within c.index_mut-in-Lock.ensures.value))
 
 -- a turn keeps the rows
 pub invariant_of-parts-in-Word : goal.invariant_of-parts-in-Word

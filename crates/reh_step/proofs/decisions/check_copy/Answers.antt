@@ -23,7 +23,8 @@ returns-in_err-place c =
     let aim : Aim = c.args.aim.now in
     search (
       rules,
-      refused_before s aim.worker aim.ledger (place_checks s aim.worker aim.fragment aim.index c.args.version) (later_checks s aim.fragment aim.index) _ c.in_err-place.ensures,
+      refused_before s aim.worker aim.ledger (place_checks s aim.worker aim.fragment aim.index c.args.version)
+          (later_checks s aim.fragment aim.index) _ c.in_err-place.ensures,
     )
 
 pub returns-in-Some : goal.returns-in-Some
@@ -33,9 +34,12 @@ returns-in-Some c =
     let g : Ledger = c.in_ok-place.place.found.ledger.now in
     let lost : ℕ → Bool = λ e. not (is_readable s g c.in_ok-place.place.fragment.now e) in
     let first : find lost (stripe_of g.metadata aim.fragment aim.index) ≡ Some c.in-Some.entry =
-    ap (λ (es : List ℕ). find lost es) (sym (c.duplicate-entries.ensures ∙ c.in_ok-place.ensures.1.entries)) ∙ sym c.first_unreadable.ensures ∙ c.in-Some.is in
-    let refused : first_reason (no_source s g aim.fragment aim.index ∷ []) ≡ Some (NoSource c.in-Some.entry) = search (rules, first) in
-    passed_before s aim.worker aim.ledger g (place_checks s aim.worker aim.fragment aim.index c.args.version) (later_checks s aim.fragment aim.index)
+    ap (λ (es : List ℕ). find lost es) (sym (c.duplicate-entries.ensures ∙ c.in_ok-place.ensures.1.entries))
+    ∙ sym c.first_unreadable.ensures ∙ c.in-Some.is in
+    let refused : first_reason (no_source s g aim.fragment aim.index ∷ []) ≡ Some (NoSource c.in-Some.entry) =
+    search (rules, first) in
+    passed_before s aim.worker aim.ledger g (place_checks s aim.worker aim.fragment aim.index c.args.version)
+    (later_checks s aim.fragment aim.index)
     c.in_ok-place.ensures.0 c.in_ok-place.ensures.1.found.ledger c.in_ok-place.ensures.2
     ∙ refused
 
@@ -47,9 +51,11 @@ returns c =
     let g : Ledger = c.in_ok-place.place.found.ledger.now in
     let lost : ℕ → Bool = λ e. not (is_readable s g c.in_ok-place.place.fragment.now e) in
     let none : find lost (stripe_of g.metadata aim.fragment aim.index) ≡ None =
-    ap (λ (es : List ℕ). find lost es) (sym (c.duplicate-entries.ensures ∙ place.1.entries)) ∙ sym c.first_unreadable.ensures ∙ search rules in
+    ap (λ (es : List ℕ). find lost es) (sym (c.duplicate-entries.ensures ∙ place.1.entries))
+    ∙ sym c.first_unreadable.ensures ∙ search rules in
     let readable : first_reason (no_source s g aim.fragment aim.index ∷ []) ≡ None = search (rules, none) in (
-      passed_before s aim.worker aim.ledger g (place_checks s aim.worker aim.fragment aim.index c.args.version) (later_checks s aim.fragment aim.index)
+      passed_before s aim.worker aim.ledger g (place_checks s aim.worker aim.fragment aim.index c.args.version)
+          (later_checks s aim.fragment aim.index)
           place.0 place.1.found.ledger place.2 ∙ readable,
       place.1.entries ∙ sym (stripe_at-found s aim.ledger aim.fragment aim.index g place.1.found.ledger),
     )

@@ -16,4 +16,8 @@ pub returns-in_err-found : goal.returns-in_err-found
 returns-in_err-found c =
     let s : Cluster = c.args.state.now in
     let w = c.args.worker in
-    search (rules, refused_before s w c.args.ledger (λ g. not_owner w g ∷ []) (λ g. not_recovering g ∷ too_few s g ∷ undecided s g ∷ version_end g ∷ []) _ c.in_err-found.ensures)
+    search (
+      rules,
+      refused_before s w c.args.ledger (λ g. not_owner w g ∷ [])
+          (λ g. not_recovering g ∷ too_few s g ∷ undecided s g ∷ version_end g ∷ []) _ c.in_err-found.ensures,
+    )

@@ -27,7 +27,8 @@ returns-in_err-place c =
     let aim : Aim = c.args.aim.now in
     search (
       rules,
-      refused_before s aim.worker aim.ledger (place_checks s aim.worker aim.fragment aim.index c.args.version) (later_checks s aim.worker aim.fragment aim.index)
+      refused_before s aim.worker aim.ledger (place_checks s aim.worker aim.fragment aim.index c.args.version)
+          (later_checks s aim.worker aim.fragment aim.index)
           _ c.in_err-place.ensures,
     )
 
@@ -38,29 +39,42 @@ returns-in-Some c =
     let g : Ledger = c.in_ok-place.place.found.ledger.now in
     let lacked : ℕ → Bool = λ e. not (holds s aim.worker g.id e) in
     let first : find lacked (stripe_of g.metadata aim.fragment aim.index) ≡ Some c.in-Some.entry =
-    ap (λ (es : List ℕ). find lacked es) (sym c.in_ok-place.ensures.1.entries) ∙ sym c.first_lacked.ensures ∙ c.in-Some.is in
-    passed_before s aim.worker aim.ledger g (place_checks s aim.worker aim.fragment aim.index c.args.version) (later_checks s aim.worker aim.fragment aim.index)
+    ap (λ (es : List ℕ). find lacked es) (sym c.in_ok-place.ensures.1.entries) ∙ sym c.first_lacked.ensures
+    ∙ c.in-Some.is in
+    passed_before s aim.worker aim.ledger g (place_checks s aim.worker aim.fragment aim.index c.args.version)
+    (later_checks s aim.worker aim.fragment aim.index)
     c.in_ok-place.ensures.0 c.in_ok-place.ensures.1.found.ledger c.in_ok-place.ensures.2
     ∙ ap (λ (o : Option ℕ). first_reason (option_map (λ e. MissingEntry e) o ∷ version_end g ∷ [])) first
 
 -- where no entry is lacked, the version's reason is left
-behind : (s : Cluster) (aim : Aim) (v : ℕ) (place : Place) → no_bookie s aim.worker ≡ None → IsPlace s aim place → first_reason (place_checks s aim.worker aim.fragment aim.index v place.found.ledger.now) ≡ None
-    → find (λ e. not (holds s aim.worker place.found.ledger.now.id e)) place.entries ≡ None → refusal_of s (Swap aim.worker aim.ledger aim.fragment aim.index v) ≡ version_end place.found.ledger.now
+behind : (s : Cluster) (aim : Aim) (v : ℕ) (place : Place) → no_bookie s aim.worker ≡ None → IsPlace s aim place
+    → first_reason (place_checks s aim.worker aim.fragment aim.index v place.found.ledger.now) ≡ None
+    → find (λ e. not (holds s aim.worker place.found.ledger.now.id e)) place.entries ≡ None
+    → refusal_of s (Swap aim.worker aim.ledger aim.fragment aim.index v) ≡ version_end place.found.ledger.now
 behind s aim v place named is passed none =
     let g : Ledger = place.found.ledger.now in
     let lacked : ℕ → Bool = λ e. not (holds s aim.worker g.id e) in
-    passed_before s aim.worker aim.ledger g (place_checks s aim.worker aim.fragment aim.index v) (later_checks s aim.worker aim.fragment aim.index) named is.found.ledger passed
-    ∙ ap (λ (o : Option ℕ). first_reason (option_map (λ e. MissingEntry e) o ∷ version_end g ∷ [])) (ap (λ (es : List ℕ). find lacked es) (sym is.entries) ∙ none)
+    passed_before s aim.worker aim.ledger g (place_checks s aim.worker aim.fragment aim.index v)
+    (later_checks s aim.worker aim.fragment aim.index) named is.found.ledger passed
+    ∙ ap (λ (o : Option ℕ). first_reason (option_map (λ e. MissingEntry e) o ∷ version_end g ∷ []))
+    (ap (λ (es : List ℕ). find lacked es) (sym is.entries) ∙ none)
     ∙ first_reason-only (version_end g)
 
 pub returns-in_err-check_next_version : goal.returns-in_err-check_next_version
 returns-in_err-check_next_version c =
     let place = c.in_ok-place.ensures in
     let none = sym c.first_lacked.ensures ∙ c.in_default.is in
-    search (rules, behind c.args.state.now c.args.aim.now c.args.version c.in_ok-place.place place.0 place.1 place.2 none ∙ c.in_err-check_next_version.ensures)
+    search (
+      rules,
+      behind c.args.state.now c.args.aim.now c.args.version c.in_ok-place.place place.0 place.1 place.2 none
+          ∙ c.in_err-check_next_version.ensures,
+    )
 
 pub returns : goal.returns
 returns c =
     let place = c.in_ok-place.ensures in
-    let none = sym c.first_lacked.ensures ∙ c.in_default.is in
-    (behind c.args.state.now c.args.aim.now c.args.version c.in_ok-place.place place.0 place.1 place.2 none ∙ c.in_ok-check_next_version.ensures, place.1.found)
+    let none = sym c.first_lacked.ensures ∙ c.in_default.is in (
+      behind c.args.state.now c.args.aim.now c.args.version c.in_ok-place.place place.0 place.1 place.2 none
+          ∙ c.in_ok-check_next_version.ensures,
+      place.1.found,
+    )

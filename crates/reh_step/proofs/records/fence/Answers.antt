@@ -13,13 +13,19 @@ fenced-requires c =
     let s : Cluster = c.args.state.now in
     let found = c.in_ok-found.ensures in
     let g : Ledger = c.in_ok-found.found.ledger.now in
-    record { version = rw c.metadata.ensures ((fenceable_there s c.args.worker c.args.ledger c.in_ok-found.found.place g found.1.well_formed found.1.place (found_read s c.args.ledger c.in_ok-found.found found.1) found.0).version) }
+    record {
+      version =
+          rw c.metadata.ensures
+          ((fenceable_there s c.args.worker c.args.ledger c.in_ok-found.found.place g found.1.well_formed found.1.place (found_read s c.args.ledger c.in_ok-found.found found.1) found.0).version);
+    }
 
 pub returns : goal.returns
 returns c =
     let s : Cluster = c.args.state.now in
     let found = c.in_ok-found.ensures in
     let g : Ledger = c.in_ok-found.found.ledger.now in
-    let made : c.in_ok-fenced.fenced ≡ next_version (with_state g.metadata InRecovery) = rw c.metadata.ensures at c.in_ok-fenced.ensures in
+    let made : c.in_ok-fenced.fenced ≡ next_version (with_state g.metadata InRecovery) =
+    rw c.metadata.ensures at c.in_ok-fenced.ensures in
     decided s (Fence c.args.worker c.args.ledger) _ c.in_ok-changes.changes found.0 c.in_ok-changes.ensures
-    (fence_delta s c.args.worker c.args.ledger c.in_ok-found.found.place g c.in_ok-fenced.fenced found.1.well_formed found.1.place (found_read s c.args.ledger c.in_ok-found.found found.1) made found.0)
+    (fence_delta s c.args.worker c.args.ledger c.in_ok-found.found.place g c.in_ok-fenced.fenced found.1.well_formed
+    found.1.place (found_read s c.args.ledger c.in_ok-found.found found.1) made found.0)

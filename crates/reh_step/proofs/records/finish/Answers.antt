@@ -12,5 +12,7 @@ returns c =
     let found = c.in_ok-found.ensures in
     let k = c.in_ok-found.found.place in
     decided c.args.state.now (Finish c.args.worker c.args.ledger) _ c.of.result found.0
-    (c.of.ensures ∙ c.in_ok-push-2.ensures ∙ ap (λ (cs : List Change). cs ++ Lock k None ∷ []) (c.in_ok-push.ensures ∙ ap (λ (cs : List Change). cs ++ Task k None ∷ []) c.in_ok-parts.ensures.items))
+    (c.of.ensures ∙ c.in_ok-push-2.ensures
+    ∙ ap (λ (cs : List Change). cs ++ Lock k None ∷ [])
+    (c.in_ok-push.ensures ∙ ap (λ (cs : List Change). cs ++ Task k None ∷ []) c.in_ok-list.ensures.items))
     (finish_delta c.args.state.now c.args.worker c.args.ledger k found.1.well_formed found.1.place found.0)

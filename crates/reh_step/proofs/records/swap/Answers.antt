@@ -1,4 +1,5 @@
--- The metadata is the only difference; the fragment and the index are there, the bookie is no member yet, and there is a next version.
+-- The metadata is the only difference; the fragment and the index are there, the bookie is no member yet, and there is
+-- a next version.
 use Rattle.std.proofs.Common.{◌≡◌, get_or}
 use Rattle.reh_types.specs.declared.names.Aim.{Aim}
 use Rattle.reh_types.specs.declared.moves.Event.TheVariants.{Swap}
@@ -10,13 +11,16 @@ use Rattle.reh_step.proofs.RecordLaws.{decided, found_read}
 use Rattle.reh_step.proofs.records.swap.Goals as goal
 
 -- what the swap shows of the ledger that stands at the place
-may : (c : goal.After-with_member-arg-1) → IsSwappable c.args.state.now c.in_ok-found.found.ledger.now c.args.aim.now.worker c.args.aim.now.fragment c.args.aim.now.index
+may : (c : goal.After-with_member-arg-1)
+    → IsSwappable c.args.state.now c.in_ok-found.found.ledger.now c.args.aim.now.worker c.args.aim.now.fragment c.args.aim.now.index
 may c =
     let aim : Aim = c.args.aim.now in
     let found = c.in_ok-found.ensures in
     let g : Ledger = c.in_ok-found.found.ledger.now in
-    let read : g ≡ get_or c.args.state.now.parts.ledgers c.in_ok-found.found.place g = found_read c.args.state.now aim.ledger c.in_ok-found.found found.1 in
-    swappable_there c.args.state.now aim.worker aim.ledger aim.fragment aim.index c.args.version c.in_ok-found.found.place g found.1.well_formed found.1.place read found.0
+    let read : g ≡ get_or c.args.state.now.parts.ledgers c.in_ok-found.found.place g =
+    found_read c.args.state.now aim.ledger c.in_ok-found.found found.1 in
+    swappable_there c.args.state.now aim.worker aim.ledger aim.fragment aim.index c.args.version
+    c.in_ok-found.found.place g found.1.well_formed found.1.place read found.0
 
 pub with_member-requires-clause-fragment : goal.with_member-requires-clause-fragment
 with_member-requires-clause-fragment c = rw c.metadata-stored.ensures ((may c).fragment)
@@ -36,7 +40,11 @@ returns c =
     let aim : Aim = c.args.aim.now in
     let found = c.in_ok-found.ensures in
     let g : Ledger = c.in_ok-found.found.ledger.now in
-    let read : g ≡ get_or s.parts.ledgers c.in_ok-found.found.place g = found_read s aim.ledger c.in_ok-found.found found.1 in
-    let made : c.in_ok-metadata.metadata ≡ next_version (with_member_at g.metadata aim.fragment aim.index aim.worker) = rw c.metadata-stored.ensures at c.in_ok-metadata.ensures in
-    decided s (Swap aim.worker aim.ledger aim.fragment aim.index c.args.version) _ c.in_ok-changes.changes found.0 c.in_ok-changes.ensures
-    (swap_delta s aim.worker aim.ledger aim.fragment aim.index c.args.version c.in_ok-found.found.place g c.in_ok-metadata.metadata found.1.well_formed found.1.place read made found.0)
+    let read : g ≡ get_or s.parts.ledgers c.in_ok-found.found.place g =
+    found_read s aim.ledger c.in_ok-found.found found.1 in
+    let made : c.in_ok-metadata.metadata ≡ next_version (with_member_at g.metadata aim.fragment aim.index aim.worker) =
+    rw c.metadata-stored.ensures at c.in_ok-metadata.ensures in
+    decided s (Swap aim.worker aim.ledger aim.fragment aim.index c.args.version) _ c.in_ok-changes.changes found.0
+    c.in_ok-changes.ensures
+    (swap_delta s aim.worker aim.ledger aim.fragment aim.index c.args.version c.in_ok-found.found.place g
+    c.in_ok-metadata.metadata found.1.well_formed found.1.place read made found.0)
