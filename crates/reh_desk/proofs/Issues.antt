@@ -17,7 +17,7 @@ use Rattle.reh_model.specs.Checks.{first_reason}
 use Rattle.reh_model.specs.Scan.{aim_refusal}
 use Rattle.reh_model.specs.Session.{Session, state_of, reply_unless, reply_to}
 use Rattle.reh_model.specs.Striping.{range}
-use Rattle.reh_model.specs.Book.{Book, ticket, same_ticket, place_of, without, new_book, tape_full, not_out, or_refused, answer_to, is_written, changed, book_after, Legal, issued_by, issued_on, issue_of}
+use Rattle.reh_model.specs.Book.{Book, ticket, same_ticket, ticket_place, without, new_book, tape_full, not_out, or_refused, answer_to, is_written, changed, book_after, Legal, issued_by, issued_on, issue_of}
 use Rattle.reh_desk.specs.Kept.{line}
 
 -- One line
@@ -58,7 +58,7 @@ move_none m Look = refl
 
 without_fewer : (t : TicketOut) (out : List TicketOut) → Fewer out (without t out)
 without_fewer t out =
-    (elim (place_of t out) as (λ place. place_of t out ≡ place → Fewer out (without t out)) [
+    (elim (ticket_place t out) as (λ place. ticket_place t out ≡ place → Fewer out (without t out)) [
       | None ↦ λ is. inl (rw is refl)
       | (Some i) ↦ λ is. inr (i, (position-Some (λ u. same_ticket u t) out i t is).0, rw is refl)
     ]) refl

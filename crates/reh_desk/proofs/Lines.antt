@@ -18,7 +18,7 @@ use Rattle.reh_types.specs.declared.refusals.Refusal.TheVariants.{TapeFull, NoMe
 use Rattle.reh_model.specs.Cluster.{Cluster}
 use Rattle.reh_model.specs.Scan.{aim_refusal}
 use Rattle.reh_model.specs.Session.{Session, replay, state_of, reply_unless, reply_to, session_after, Performs}
-use Rattle.reh_model.specs.Book.{Book, ticket, place_of, new_book, answer_to, is_written, book_after, Legal}
+use Rattle.reh_model.specs.Book.{Book, ticket, ticket_place, new_book, answer_to, is_written, book_after, Legal}
 use Rattle.reh_model.proofs.BookLaws.{post_written, reply_written, aim_written, Legal-push}
 use Rattle.reh_desk.specs.Kept.{Kept, kept_of, line, Called, IsKept}
 
@@ -93,6 +93,18 @@ module _ (o s : Session) (lines : List Line) (last : ℕ) (out : List TicketOut)
         | false ↦ λ room is. rw is (record { answers = (inr (refl, rw room (not_full _ (reply_written s move))), refl); tape = refl; opening = refl })
       ]) refl is
 
+  -- nor for want of memory for what its line holds
+  pub not_copied : (move : Move) → length lines + length out + 1 ≤ MAX_LINES → Called before seat (Ask move) (Refused NoMemory) before
+  not_copied move fits =
+      let room : nat_lt MAX_LINES (length lines + length out + 1) ≡ false = grind (arith, nat_tests) in not_asked move NoMemory (rw room refl)
+
+  -- of the book that contracts see, where the tape has the same lines
+  pub unchanged : (k : Kept) (same : List Line) (call : Call) (reply : Reply) → before ≡ k → same ≡ lines → Called before seat call reply before
+      → Called k seat call reply (kept_of o s same last out)
+  unchanged k same call reply seen is called =
+      subst (λ (x : Kept). Called x seat call reply (kept_of o s same last out)) seen
+      (subst (λ (ls : List Line). Called before seat call reply (kept_of o s ls last out)) (sym is) called)
+
   -- a checkout that is refused for its aim adds its line
   pub refused : (u : Cluster) (aim : Aim) (refusal : Refusal) → length lines + length out + 2 ≤ MAX_LINES → replay s.opening s.done ≡ Some u → aim_refusal u aim ≡ Some refusal
       → IsLine before seat (Checkout aim) (Refused refusal) (kept_of o s (lines ++ line seat (Checkout aim) (Refused refusal) ∷ []) last out)
@@ -123,7 +135,7 @@ module _ (o s : Session) (lines : List Line) (last : ℕ) (out : List TicketOut)
       }
 
   -- a ticket that is spent, and is out no more
-  pub spent : (t : Session) (number place : ℕ) (content : Content) (reply : Reply) → place_of (ticket seat number content.aim) out ≡ Some place
+  pub spent : (t : Session) (number place : ℕ) (content : Content) (reply : Reply) → ticket_place (ticket seat number content.aim) out ≡ Some place
       → reply ≡ reply_to s (Post content) → t ≡ session_after s (Post content) reply
       → IsLine before seat (Spend number content) reply (kept_of o t (lines ++ line seat (Spend number content) reply ∷ []) last (remove out place))
   spent t number place content reply at is made =
@@ -137,7 +149,7 @@ module _ (o s : Session) (lines : List Line) (last : ℕ) (out : List TicketOut)
       }
 
   -- a ticket that is given back
-  pub discarded : (number place : ℕ) (aim : Aim) → place_of (ticket seat number aim) out ≡ Some place
+  pub discarded : (number place : ℕ) (aim : Aim) → ticket_place (ticket seat number aim) out ≡ Some place
       → IsLine before seat (Discard number aim) Discarded (kept_of o s (lines ++ line seat (Discard number aim) Discarded ∷ []) last (remove out place))
   discarded number place aim at = record {
     answer = rw at refl;
@@ -169,14 +181,14 @@ module _ (o s : Session) (lines : List Line) (last : ℕ) (out : List TicketOut)
         let longer = length-append out (ticket seat (last + 1) aim ∷ []) in
         kept_line kept (issued u aim fits replays is) more refl (omega (arith, long, kept.numbered)) (omega (arith, long, longer)) (omega (arith, long, longer))
 
-    pub spent_kept : (more : ℕ) (t : Session) (number place : ℕ) (content : Content) (reply : Reply) → place_of (ticket seat number content.aim) out ≡ Some place
+    pub spent_kept : (more : ℕ) (t : Session) (number place : ℕ) (content : Content) (reply : Reply) → ticket_place (ticket seat number content.aim) out ≡ Some place
         → reply ≡ reply_to s (Post content) → t ≡ session_after s (Post content) reply → length (remove out place) + 1 ≡ length out → room ≤ more
         → IsKept (kept_of o t (lines ++ line seat (Spend number content) reply ∷ []) last (remove out place)) more
     spent_kept more t number place content reply at is made less fits_in =
         let long = length_push lines (line seat (Spend number content) reply) in
         kept_line kept (spent t number place content reply at is made) more refl (omega (arith, long, kept.numbered)) (omega (arith, long, less, kept.few)) (omega (arith, long, less, kept.reserved))
 
-    pub discarded_kept : (more : ℕ) (number place : ℕ) (aim : Aim) → place_of (ticket seat number aim) out ≡ Some place → length (remove out place) + 1 ≡ length out → room ≤ more
+    pub discarded_kept : (more : ℕ) (number place : ℕ) (aim : Aim) → ticket_place (ticket seat number aim) out ≡ Some place → length (remove out place) + 1 ≡ length out → room ≤ more
         → IsKept (kept_of o s (lines ++ line seat (Discard number aim) Discarded ∷ []) last (remove out place)) more
     discarded_kept more number place aim at less fits_in =
         let long = length_push lines (line seat (Discard number aim) Discarded) in

@@ -32,13 +32,15 @@ line seat call reply = record { seat = seat; call = call; reply = reply }
 abbrev pub tape_after : List Line → ℕ → Call → Reply → List Line
 tape_after tape seat call reply = if is_written reply then tape ++ line seat call reply ∷ [] else tape
 
--- From k a call of a seat has this reply, and leaves n: as the book answers, and the tape gains the line, if there is one.
+-- From k a call of a seat has this reply, and leaves n: as the book answers, and the tape gains the line, if there is
+-- one.
 pub record Called (k : Kept) (seat : ℕ) (call : Call) (reply : Reply) (n : Kept) : Type 0 where
   pub answers : Answers k.book seat call reply n.book
   pub tape : n.tape ≡ tape_after k.tape seat call reply
   pub opening : n.opening ≡ k.opening
 
--- The book is where its tape leads from its opening session, no tape is too long, and there is room for the line of each ticket out.
+-- The book is where its tape leads from its opening session, no tape is too long, and there is room for the line of
+-- each ticket out.
 pub record IsKept (k : Kept) (room : ℕ) : Type 0 where
   pub legal : Legal (new_book k.opening) k.tape k.book
   pub lines : k.book.lines ≡ length k.tape

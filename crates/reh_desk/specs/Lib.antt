@@ -3,4 +3,4 @@ pub mod Unspent
 pub mod Replies
 pub mod Kept
 pub mod Seats
-pub mod Counted
+pub mod Callers

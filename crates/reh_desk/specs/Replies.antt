@@ -1,6 +1,5 @@
 -- The replies that the results of calls stand for.
 use Rattle.std.specs.Prelude.{Result, Ok, Err}
-use Rattle.reh_types.specs.declared.contents.Content.{Content}
 use Rattle.reh_types.specs.declared.moves.Reply.{Reply}
 use Rattle.reh_types.specs.declared.moves.Reply.TheVariants.{Issued, Discarded, Refused}
 use Rattle.reh_types.specs.declared.refusals.Refusal.{Refusal}
@@ -22,11 +21,6 @@ refused_by cause.NoMemory = Refused NoMemory
 abbrev pub spent : Result Reply SpendFault → Reply
 spent (Ok reply) = reply
 spent (Err fault) = refused_by fault.cause
-
--- the same, of a spend that gives a content besides
-abbrev pub spent_twofold : Result (Reply × Content) SpendFault → Reply
-spent_twofold (Ok r) = r.0
-spent_twofold (Err fault) = refused_by fault.cause
 
 abbrev pub discarded : Result (Unit {0}) Stray → Reply
 discarded (Ok done) = Discarded

@@ -52,22 +52,26 @@ pub trait Counter {
         ensures aim { IfOk result (λ ticket. ticket.content.aim ≡ aim) }
         ensures ticket { IfOk result (λ ticket. IfSome (scene self.old) (λ s. scan s aim ≡ Some ticket.content)) };
 
-    /// Posts what was found with a ticket. Where its ticket isn't out at this seat, or there is no memory for an accepted
-    /// post, the finding is handed back.
+    /// Posts what was found with a ticket. Where its ticket isn't out at this seat, or there is no memory for an
+    /// accepted post, the finding is handed back.
     fn spend(&mut self, seat: &mut Seat, finding: Finding) -> Result<Reply, SpendFault>
         requires { may self.old seat.old }
         ensures may { may self.new seat.new }
-        ensures goes { goes self.old seat.old.number (call.Spend finding.number finding.content) (spent result) self.new }
+        ensures goes { goes self.old seat.old.number
+            (call.Spend finding.number finding.content) (spent result) self.new }
         ensures seat { seat.new ≡ gained seat.old (call.Spend finding.number finding.content) (spent result) }
         ensures written { IfOk result (λ reply. IsTrue (is_written reply)) }
         ensures back { IfErr result (λ fault. fault.finding ≡ finding) };
 
-    /// Gives a ticket, or what was found with it, back. It takes no memory. Where it isn't out at this seat, it comes back as a stray.
+    /// Gives a ticket, or what was found with it, back. It takes no memory. Where it isn't out at this seat, it comes
+    /// back as a stray.
     fn discard(&mut self, seat: &mut Seat, unspent: Unspent) -> Result<(), Stray>
         requires { may self.old seat.old }
         ensures may { may self.new seat.new }
-        ensures goes { goes self.old seat.old.number (call.Discard (number_of unspent) (aim_of unspent)) (discarded result) self.new }
-        ensures seat { seat.new ≡ gained seat.old (call.Discard (number_of unspent) (aim_of unspent)) (discarded result) }
+        ensures goes { goes self.old seat.old.number
+            (call.Discard (number_of unspent) (aim_of unspent)) (discarded result) self.new }
+        ensures seat { seat.new ≡ gained seat.old
+            (call.Discard (number_of unspent) (aim_of unspent)) (discarded result) }
         ensures back { IfErr result (λ stray. stray ≡ unspent) };
 }
 
@@ -83,18 +87,18 @@ impl Counter for Book {
     }
 
     fn call(&mut self, seat: &mut Seat, step: Move) -> Reply {
-        self.call_for(seat, step)
+        self.call_by(&mut seat.caller, step)
     }
 
     fn checkout(&mut self, seat: &mut Seat, aim: Aim) -> Result<Ticket, Refusal> {
-        self.checkout_for(seat, aim)
+        self.checkout_by(&mut seat.caller, aim)
     }
 
     fn spend(&mut self, seat: &mut Seat, finding: Finding) -> Result<Reply, SpendFault> {
-        self.spend_for(seat, finding)
+        self.spend_by(&mut seat.caller, finding)
     }
 
     fn discard(&mut self, seat: &mut Seat, unspent: Unspent) -> Result<(), Stray> {
-        self.discard_for(seat, unspent)
+        self.discard_by(&mut seat.caller, unspent)
     }
 }

@@ -14,8 +14,9 @@ ghost use Rattle.reh_model.specs.Striping.{range};
 ghost use Rattle.reh_model.specs.Session.{Session};
 ghost use Rattle.reh_model.specs.Book.{Book, new_book, answer_to, Answers, Legal, issued_on, issue_of};
 
-/// No ticket is issued twice: along each tape from a new book the tickets are numbered from 1 on, up to the book's last one, each once.
-/// Those that are out were each issued on the tape to their seat, for their aim, and no two of them have the same number.
+/// No ticket is issued twice: along each tape from a new book the tickets are numbered from 1 on, up to the book's last
+/// one, each once. Those that are out were each issued on the tape to their seat, for their aim, and no two of them
+/// have the same number.
 pub fn tickets_differ()
     ensures numbers { (m : Session) (tape : List Line) (b : Book) → Legal (new_book m) tape b
         → issued_on tape ≡ range 1 (b.last_ticket + 1) }
@@ -25,17 +26,23 @@ pub fn tickets_differ()
         → AllPairs (λ earlier later. earlier.number < later.number) b.out }
 {}
 
-/// Want of memory stands in place of a spend's answer only where the post would be done, never in place of a discard's answer, and never in
-/// place of a full tape. Where a call is refused for it, for a full tape or for a ticket that is not out, the book stays as it was.
+/// Want of memory stands in place of a spend's answer only where the post would be done, never in place of a discard's
+/// answer, and never in place of a full tape. Where a call is refused for it, for a full tape or for a ticket that is
+/// not out, the book stays as it was.
 pub fn where_memory_is_wanted()
-    ensures spends { (b c : Book) (seat number : ℕ) (content : Content) → Answers b seat (Spend number content) (Refused NoMemory) c
+    ensures spends { (b c : Book) (seat number : ℕ) (content : Content)
+        → Answers b seat (Spend number content) (Refused NoMemory) c
         → answer_to b seat (Spend number content) ≡ Done }
-    ensures discards { (b c : Book) (seat number : ℕ) (aim : Aim) → Answers b seat (Discard number aim) (Refused NoMemory) c → ⊥ }
-    ensures full_for_a_move { (b c : Book) (seat : ℕ) (move : Move) (reply : Reply) → answer_to b seat (Ask move) ≡ Refused TapeFull
+    ensures discards { (b c : Book) (seat number : ℕ) (aim : Aim)
+        → Answers b seat (Discard number aim) (Refused NoMemory) c → ⊥ }
+    ensures full_for_a_move { (b c : Book) (seat : ℕ) (move : Move) (reply : Reply)
+        → answer_to b seat (Ask move) ≡ Refused TapeFull
         → Answers b seat (Ask move) reply c → reply ≡ Refused TapeFull }
-    ensures full_for_a_checkout { (b c : Book) (seat : ℕ) (aim : Aim) (reply : Reply) → answer_to b seat (Checkout aim) ≡ Refused TapeFull
+    ensures full_for_a_checkout { (b c : Book) (seat : ℕ) (aim : Aim) (reply : Reply)
+        → answer_to b seat (Checkout aim) ≡ Refused TapeFull
         → Answers b seat (Checkout aim) reply c → reply ≡ Refused TapeFull }
     ensures unchanged { (b c : Book) (seat : ℕ) (call : Call)
-        → Answers b seat call (Refused NoMemory) c ⊎ (Answers b seat call (Refused NotOut) c ⊎ Answers b seat call (Refused TapeFull) c)
+        → Answers b seat call (Refused NoMemory) c
+        ⊎ (Answers b seat call (Refused NotOut) c ⊎ Answers b seat call (Refused TapeFull) c)
         → c ≡ b }
 {}

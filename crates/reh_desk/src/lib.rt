@@ -1,7 +1,9 @@
-// Tickets and findings, which have to be spent or given back, the book at which they are, and seats, which make its calls.
+// Tickets and findings, which have to be spent or given back, the book at which they are, and seats, which make its
+// calls.
 #![tactic(auto)]
 
 mod books;
+mod callers;
 mod counters;
 mod laws;
 mod seats;
@@ -10,6 +12,6 @@ mod tickets;
 pub use books::{Book, SpendCause, SpendFault};
 pub use counters::Counter;
 pub use laws::{tickets_differ, where_memory_is_wanted};
-pub use reh_types::{Call, Exchange, Line};
+pub use reh_types::{Call, Line, OwnLine};
 pub use seats::Seat;
 pub use tickets::{Finding, Stray, Ticket, Unspent, scan};

@@ -5,16 +5,21 @@ ghost use Rattle.reh_desk.specs.Unspent.{number_of, aim_of};
 use reh_scan::{Job, look};
 use reh_types::{Aim, BoxedContent, Content};
 use std::alloc::{AllocError, Global};
-use std::marker::Model;
+use std::marker::{Model, PhantomData};
 
-/// Leave to scan the fragment of an aim, as it stood when a book issued the ticket. It can be neither dropped nor copied:
-/// it goes to `scan`, or is given back by `discard`.
+/// Takes no bytes, and keeps what has it on its thread: a pointer is neither `Send` nor `Sync`.
+#[derive(Clone, Copy)]
+struct OneThread(PhantomData<*const u8>);
+
+/// Leave to scan the fragment of an aim, as it stood when a book issued the ticket. It can be neither dropped nor
+/// copied, and stays on its thread: it goes to `scan`, or is given back by `discard`.
 ///
 /// Contracts see its number, and what a scan with it finds.
 #[must_use]
 pub struct Ticket {
     number: u32,
     job: Job,
+    here: OneThread,
 }
 
 impl Model for Ticket {
@@ -25,14 +30,17 @@ impl Model for Ticket {
     ghost view = { λ t. record { number = t.number; content = t.job } };
 }
 
-/// What a scan found. It can be neither dropped nor copied: it goes to `spend`, or is given back by `discard`.
+/// What a scan found. It can be neither dropped nor copied, and stays on its thread: it goes to `spend`, or is given
+/// back by `discard`.
 ///
-/// It holds its content twice, one for the tape's line and one for the list of its seat, so that a spend needs no memory for them.
+/// It holds its content twice, one for the tape's line and one for the list of its seat, so that a spend needs no
+/// memory for them.
 #[must_use]
 pub struct Finding {
     number: u32,
     content: BoxedContent,
     copy: BoxedContent,
+    here: OneThread,
 }
 
 impl Model for Finding {
@@ -72,7 +80,8 @@ impl Ticket {
     pub(crate) fn new(number: u32, job: Job) -> Ticket
         ensures { result ≡ record { number = number; content = job } }
     {
-        Ticket { number, job }
+        let here = OneThread(PhantomData);
+        Ticket { number, job, here }
     }
 
     /// The ticket's number.
@@ -91,7 +100,11 @@ impl Ticket {
 
     // The end of a ticket that is out no more.
     fn end(self) {
-        let Ticket { number: _, job: _ } = self;
+        let Ticket {
+            number: _,
+            job: _,
+            here: _,
+        } = self;
     }
 }
 
@@ -125,6 +138,7 @@ impl Finding {
             number: _,
             content,
             copy,
+            here: _,
         } = self;
         (content, copy)
     }
@@ -193,11 +207,16 @@ pub fn scan(alloc: Global, ticket: Ticket) -> Result<Finding, (Ticket, AllocErro
         Ok(contents) => contents,
         Err(want) => return Err((ticket, want)),
     };
-    let Ticket { number, job: _ } = ticket;
+    let Ticket {
+        number,
+        job: _,
+        here,
+    } = ticket;
     Ok(Finding {
         number,
         content,
         copy,
+        here,
     })
 }
 

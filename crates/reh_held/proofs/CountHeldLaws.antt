@@ -1,5 +1,7 @@
 -- How many entries a bookie holds is the sum over the tables of how many its rows have.
-use Rattle.std.proofs.Common.{◌≡◌, ℕ, zero, suc, ◌+◌, ◌-◌, ◌*◌, ◌<◌, ◌≤◌, Bool, true, false, cond, ◌&&◌, ◌||◌, List, [], ◌∷◌, ◌++◌, length, map, get_or, refl, sym, ap, subst, ◌∙◌, arith, nat_eq, nat_le, inl, inr}
+use Rattle.std.proofs.Common.{◌≡◌, ℕ, zero, suc, ◌+◌, ◌-◌, ◌*◌, ◌<◌, ◌≤◌, Bool, true, false, cond, ◌&&◌, ◌||◌, List, []}
+use Rattle.std.proofs.Common.{◌∷◌, ◌++◌, length, map, get_or, refl, sym, ap, subst, ◌∙◌, arith, nat_eq, nat_le, inl}
+use Rattle.std.proofs.Common.{inr}
 use Rattle.std.specs.Prelude.{◌==◌, count_by, sum_by, All}
 use Rattle.std.specs.List.{list_any, filter, range_with_len, AllByRecursion}
 use Rattle.std.specs.List.Sorted.{IsStrictlySortedBy}
@@ -48,10 +50,12 @@ either_is : (a b : Bool) → (a || b) ≡ false → (a ≡ false) × (b ≡ fals
 either_is true b is = cc
 either_is false b is = (refl, is)
 
-distinct-append : (ts us : List (ℕ × ℕ × ℕ)) → AreDistinct ts → AreDistinct us → ((t : ℕ × ℕ × ℕ) → list_any (eq_by_cmp triple_cmp t) ts ≡ true → IsNew t us) → AreDistinct (ts ++ us)
+distinct-append : (ts us : List (ℕ × ℕ × ℕ)) → AreDistinct ts → AreDistinct us
+    → ((t : ℕ × ℕ × ℕ) → list_any (eq_by_cmp triple_cmp t) ts ≡ true → IsNew t us) → AreDistinct (ts ++ us)
 distinct-append [] us ds es apart = es
 distinct-append (t ∷ ts) us ds es apart = (
-  list_any-append (eq_by_cmp triple_cmp t) ts us ∙ neither _ _ ds.0 (apart t (ap (λ b. b || list_any (eq_by_cmp triple_cmp t) ts) (itself t))),
+  list_any-append (eq_by_cmp triple_cmp t) ts us
+      ∙ neither _ _ ds.0 (apart t (ap (λ b. b || list_any (eq_by_cmp triple_cmp t) ts) (itself t))),
   distinct-append ts us ds.1 es (λ u among. apart u (later (eq_by_cmp triple_cmp u t) _ among)),
 ) where
   itself : (t : ℕ × ℕ × ℕ) → eq_by_cmp triple_cmp t t ≡ true
@@ -66,7 +70,8 @@ distinct-append (t ∷ ts) us ds es apart = (
   later false b is = is
 
 -- the count of a set of such copies is their count
-count-distinct : (b : ℕ) (ts : List (ℕ × ℕ × ℕ)) → AreDistinct ts → count_held (set.from_list {o = triples} ts) b ≡ count_by (λ (t : ℕ × ℕ × ℕ). t.0 == b) ts
+count-distinct : (b : ℕ) (ts : List (ℕ × ℕ × ℕ)) → AreDistinct ts
+    → count_held (set.from_list {o = triples} ts) b ≡ count_by (λ (t : ℕ × ℕ × ℕ). t.0 == b) ts
 unfolding from_list items empty
 count-distinct b [] ds = refl
 count-distinct b (t ∷ ts) ds =
@@ -84,15 +89,19 @@ nothing_of : (a b : Bool) → b ≡ false → (a && b) ≡ false
 nothing_of true b none = none
 nothing_of false b none = refl
 
-distinct-row : (bookie ledger : ℕ) (p : ℕ → Bool) (a n : ℕ) → AreDistinct (map (λ e. (bookie, ledger, e)) (filter p (range_with_len a n)))
+distinct-row : (bookie ledger : ℕ) (p : ℕ → Bool) (a n : ℕ)
+    → AreDistinct (map (λ e. (bookie, ledger, e)) (filter p (range_with_len a n)))
 distinct-row bookie ledger p a zero = tt
 distinct-row bookie ledger p a (suc n) =
     let rest : List ℕ = filter p (range_with_len (a + 1) n) in
     let none : list_any (nat_eq a) rest ≡ false =
-    list_any-same (nat_eq a) (eq_by_cmp nat_cmp a) (λ x. sym (unsigned_tied a x)) rest ∙ any_filtered p a (a + 1) n ∙ nothing_of (p a) _ (past a (a + 1) n (omega arith)) in
+    list_any-same (nat_eq a) (eq_by_cmp nat_cmp a) (λ x. sym (unsigned_tied a x)) rest ∙ any_filtered p a (a + 1) n
+    ∙ nothing_of (p a) _ (past a (a + 1) n (omega arith)) in
     let new : IsNew (bookie, ledger, a) (map (λ e. (bookie, ledger, e)) rest) =
     list_any-map (eq_by_cmp triple_cmp (bookie, ledger, a)) (λ e. (bookie, ledger, e)) rest
-    ∙ list_any-same (λ e. eq_by_cmp triple_cmp (bookie, ledger, a) (bookie, ledger, e)) (λ e. (nat_eq bookie bookie && nat_eq ledger ledger) && nat_eq a e) (λ e. triples_tied (bookie, ledger, a) (bookie, ledger, e)) rest
+    ∙ list_any-same (λ e. eq_by_cmp triple_cmp (bookie, ledger, a) (bookie, ledger, e))
+    (λ e. (nat_eq bookie bookie && nat_eq ledger ledger) && nat_eq a e)
+    (λ e. triples_tied (bookie, ledger, a) (bookie, ledger, e)) rest
     ∙ any-and (nat_eq bookie bookie && nat_eq ledger ledger) (nat_eq a) rest
     ∙ nothing_of (nat_eq bookie bookie && nat_eq ledger ledger) _ none in
     elim (p a) as (λ b. AreDistinct (map (λ e. (bookie, ledger, e)) (cond b (a ∷ rest) rest))) [
@@ -114,10 +123,12 @@ distinct-from ledger first [] = tt
 distinct-from ledger first (row ∷ rows) =
     distinct-append (map (λ e. (first, ledger, e)) (entries_in row)) (copies_from ledger (first + 1) rows)
     (distinct-row first ledger (is_set row) 0 (64 * length row)) (distinct-from ledger (first + 1) rows) (λ t among.
-    let own = all_three (nat_eq t.0 first) (nat_eq t.1 ledger) (is_set row t.2) (sym (any-row t first ledger row) ∙ among) in
+    let own =
+    all_three (nat_eq t.0 first) (nat_eq t.1 ledger) (is_set row t.2) (sym (any-row t first ledger row) ∙ among) in
     let same : t.0 ≡ first = grind (arith, nat_tests, own.0) in
     let before : nat_le (first + 1) t.0 ≡ false = grind (arith, nat_tests) in
-    any-copies_from t ledger (first + 1) rows ∙ nothing_of (nat_eq t.1 ledger) _ (ap (λ b. b && is_set (get_or rows (t.0 - (first + 1)) []) t.2) before))
+    any-copies_from t ledger (first + 1) rows
+    ∙ nothing_of (nat_eq t.1 ledger) _ (ap (λ b. b && is_set (get_or rows (t.0 - (first + 1)) []) t.2) before))
 
 abbrev AreNewKeys : List ℕ → Type 0
 AreNewKeys [] = Unit {0}
@@ -126,27 +137,39 @@ AreNewKeys (l ∷ ls) = (list_any (nat_eq l) ls ≡ false) × AreNewKeys ls
 distinct-in : (rows : ℕ → List (List ℕ)) (ls : List ℕ) → AreNewKeys ls → AreDistinct (copies_in rows ls)
 distinct-in rows [] new = tt
 distinct-in rows (l ∷ ls) new =
-    distinct-append (copies_from l 0 (rows l)) (copies_in rows ls) (distinct-from l 0 (rows l)) (distinct-in rows ls new.1) (λ t among.
+    distinct-append (copies_from l 0 (rows l)) (copies_in rows ls) (distinct-from l 0 (rows l))
+    (distinct-in rows ls new.1) (λ t among.
     let own = first_true (nat_eq t.1 l) _ (sym (any-copies_from t l 0 (rows l)) ∙ among) in
     let same : l ≡ t.1 = grind (arith, nat_tests, own) in
-    any-copies_in t rows ls ∙ ap (λ b. b && is_set (get_or (rows t.1) t.0 []) t.2) (ap (λ k. list_any (nat_eq k) ls) (sym same) ∙ new.0))
+    any-copies_in t rows ls
+    ∙ ap (λ b. b && is_set (get_or (rows t.1) t.0 []) t.2) (ap (λ k. list_any (nat_eq k) ls) (sym same) ∙ new.0))
 
 -- Their count
 
-count-row : (b bookie ledger : ℕ) (es : List ℕ) → count_by (λ (t : ℕ × ℕ × ℕ). t.0 == b) (map (λ e. (bookie, ledger, e)) es) ≡ cond (nat_eq bookie b) (length es) 0
-count-row b bookie ledger [] = elim (nat_eq bookie b) as (λ t. ◌≡◌ {A = ℕ} 0 (cond t 0 0)) [ true ↦ refl | false ↦ refl ]
+count-row : (b bookie ledger : ℕ) (es : List ℕ)
+    → count_by (λ (t : ℕ × ℕ × ℕ). t.0 == b) (map (λ e. (bookie, ledger, e)) es) ≡ cond (nat_eq bookie b) (length es) 0
+count-row b bookie ledger [] = elim (nat_eq bookie b) as (λ t. ◌≡◌ {A = ℕ} 0 (cond t 0 0)) [
+  | true ↦ refl
+  | false ↦ refl
+]
 count-row b bookie ledger (e ∷ es) =
     sum_by-cons (λ (t : ℕ × ℕ × ℕ). cond (t.0 == b) 1 0) (bookie, ledger, e) (map (λ e. (bookie, ledger, e)) es)
     ∙ ap (λ n. cond (nat_eq bookie b) 1 0 + n) (count-row b bookie ledger es)
-    ∙ elim (nat_eq bookie b) as (λ t. cond t 1 0 + cond t (length es) 0 ≡ cond t (length (e ∷ es)) 0) [ true ↦ omega arith | false ↦ omega arith ]
+    ∙ elim (nat_eq bookie b) as (λ t. cond t 1 0 + cond t (length es) 0 ≡ cond t (length (e ∷ es)) 0) [
+      | true ↦ omega arith
+      | false ↦ omega arith
+    ]
 
 entries_of_none : length (entries_in []) ≡ 0
 entries_of_none = refl
 
-count-from : (b ledger first : ℕ) (rows : List (List ℕ)) → count_by (λ (t : ℕ × ℕ × ℕ). t.0 == b) (copies_from ledger first rows) ≡ cond (nat_le first b) (length (entries_in (get_or rows (b - first) []))) 0
+count-from : (b ledger first : ℕ) (rows : List (List ℕ))
+    → count_by (λ (t : ℕ × ℕ × ℕ). t.0 == b) (copies_from ledger first rows)
+    ≡ cond (nat_le first b) (length (entries_in (get_or rows (b - first) []))) 0
 count-from b ledger first [] = elim (nat_le first b) as (λ t. ◌≡◌ {A = ℕ} 0 (cond t 0 0)) [ true ↦ refl | false ↦ refl ]
 count-from b ledger first (row ∷ rows) =
-    sum_by-append (λ (t : ℕ × ℕ × ℕ). cond (t.0 == b) 1 0) (map (λ e. (first, ledger, e)) (entries_in row)) (copies_from ledger (first + 1) rows)
+    sum_by-append (λ (t : ℕ × ℕ × ℕ). cond (t.0 == b) 1 0) (map (λ e. (first, ledger, e)) (entries_in row))
+    (copies_from ledger (first + 1) rows)
     ∙ (λ i. count-row b first ledger (entries_in row) i + count-from b ledger (first + 1) rows i)
     ∙ elim (cases_order b first) [
       | inl is ↦
@@ -155,15 +178,20 @@ count-from b ledger first (row ∷ rows) =
           let from : nat_le first b ≡ true = grind (arith, nat_tests) in
           let place : b - first ≡ 0 = omega arith in
           let none : length (entries_in row) + 0 ≡ length (entries_in row) = omega arith in
-          (λ i. cond (same i) (length (entries_in row)) 0 + cond (before i) (length (entries_in (get_or rows (b - (first + 1)) []))) 0)
+          (λ i.
+          cond (same i) (length (entries_in row)) 0
+          + cond (before i) (length (entries_in (get_or rows (b - (first + 1)) []))) 0)
           ∙ none
-          ∙ sym (ap (λ t. cond t (length (entries_in (get_or (row ∷ rows) (b - first) []))) 0) from ∙ ap (λ n. length (entries_in (get_or (row ∷ rows) n []))) place)
+          ∙ sym (ap (λ t. cond t (length (entries_in (get_or (row ∷ rows) (b - first) []))) 0) from
+          ∙ ap (λ n. length (entries_in (get_or (row ∷ rows) n []))) place)
       | inr apart ↦ elim apart [
         | inl lt ↦
             let same : nat_eq first b ≡ false = grind (arith, nat_tests) in
             let before : nat_le (first + 1) b ≡ false = grind (arith, nat_tests) in
             let from : nat_le first b ≡ false = grind (arith, nat_tests) in
-            (λ i. cond (same i) (length (entries_in row)) 0 + cond (before i) (length (entries_in (get_or rows (b - (first + 1)) []))) 0)
+            (λ i.
+            cond (same i) (length (entries_in row)) 0
+            + cond (before i) (length (entries_in (get_or rows (b - (first + 1)) []))) 0)
             ∙ sym (ap (λ t. cond t (length (entries_in (get_or (row ∷ rows) (b - first) []))) 0) from)
         | inr gt ↦
             let same : nat_eq first b ≡ false = grind (arith, nat_tests) in
@@ -174,17 +202,24 @@ count-from b ledger first (row ∷ rows) =
             let none : 0 + rest ≡ rest = omega arith in
             (λ i. cond (same i) (length (entries_in row)) 0 + cond (next i) rest 0)
             ∙ none
-            ∙ sym (ap (λ t. cond t (length (entries_in (get_or (row ∷ rows) (b - first) []))) 0) from ∙ ap (λ n. length (entries_in (get_or (row ∷ rows) n []))) place)
+            ∙ sym (ap (λ t. cond t (length (entries_in (get_or (row ∷ rows) (b - first) []))) 0) from
+            ∙ ap (λ n. length (entries_in (get_or (row ∷ rows) n []))) place)
       ]
     ]
 
-count-in : (b : ℕ) (rows : ℕ → List (List ℕ)) (ls : List ℕ) → count_by (λ (t : ℕ × ℕ × ℕ). t.0 == b) (copies_in rows ls) ≡ sum_by (λ l. length (entries_in (get_or (rows l) b []))) ls
+count-in : (b : ℕ) (rows : ℕ → List (List ℕ)) (ls : List ℕ)
+    → count_by (λ (t : ℕ × ℕ × ℕ). t.0 == b) (copies_in rows ls)
+    ≡ sum_by (λ l. length (entries_in (get_or (rows l) b []))) ls
 count-in b rows [] = refl
 count-in b rows (l ∷ ls) =
     let from : nat_le 0 b ≡ true = grind (arith, nat_tests) in
     let place : b - 0 ≡ b = omega arith in
     sum_by-append (λ (t : ℕ × ℕ × ℕ). cond (t.0 == b) 1 0) (copies_from l 0 (rows l)) (copies_in rows ls)
-    ∙ (λ i. (count-from b l 0 (rows l) ∙ ap (λ t. cond t (length (entries_in (get_or (rows l) (b - 0) []))) 0) from ∙ ap (λ n. length (entries_in (get_or (rows l) n []))) place) i + count-in b rows ls i)
+    ∙ (λ i.
+    (count-from b l 0 (rows l) ∙ ap (λ t. cond t (length (entries_in (get_or (rows l) (b - 0) []))) 0) from
+    ∙ ap (λ n. length (entries_in (get_or (rows l) n []))) place)
+    i
+    + count-in b rows ls i)
     ∙ sym (sum_by-cons (λ l. length (entries_in (get_or (rows l) b []))) l ls)
 
 -- By the tables
@@ -194,7 +229,8 @@ abbrev AreFound : List (ℕ × TableValue) → List (ℕ × TableValue) → Type
 AreFound tables [] = Unit {0}
 AreFound tables (t ∷ ts) = (table_at tables t.0 ≡ Some t.1) × AreFound tables ts
 
-found-more : (t : ℕ × TableValue) (tables part : List (ℕ × TableValue)) → AllByRecursion (λ l. nat_cmp t.0 l ≡ Less) (keys_of part) → AreFound tables part → AreFound (t ∷ tables) part
+found-more : (t : ℕ × TableValue) (tables part : List (ℕ × TableValue))
+    → AllByRecursion (λ l. nat_cmp t.0 l ≡ Less) (keys_of part) → AreFound tables part → AreFound (t ∷ tables) part
 found-more t tables [] less found = tt
 found-more t tables (p ∷ part) less found =
     let apart : eq_by_cmp nat_cmp p.0 t.0 ≡ false = unsigned_tied p.0 t.0 ∙ differ p.0 t.0 less.0 in
@@ -206,8 +242,10 @@ found-all : (tables : List (ℕ × TableValue)) → IsStrictlySortedBy nat_cmp (
 unfolding IsStrictlySortedBy
 found-all [] sorted = tt
 found-all (t ∷ tables) sorted =
-    let itself : eq_by_cmp nat_cmp t.0 t.0 ≡ true = unsigned_tied t.0 t.0 ∙ grind (arith, nat_tests) in
-    (ap (λ b. cond b (Some t.1) (table_at tables t.0)) itself, found-more t tables tables sorted.0 (found-all tables sorted.1))
+    let itself : eq_by_cmp nat_cmp t.0 t.0 ≡ true = unsigned_tied t.0 t.0 ∙ grind (arith, nat_tests) in (
+      ap (λ b. cond b (Some t.1) (table_at tables t.0)) itself,
+      found-more t tables tables sorted.0 (found-all tables sorted.1),
+    )
 
 new-keys : (ls : List ℕ) → IsStrictlySortedBy nat_cmp ls → AreNewKeys ls
 unfolding IsStrictlySortedBy
@@ -221,40 +259,52 @@ new-keys (l ∷ ls) sorted = (none l ls sorted.0, new-keys ls sorted.1) where
   none l (k ∷ ls) less = neither (nat_eq l k) _ (differ l k less.0) (none l ls less.1)
 
 -- there are as many words as tables
-pub len-words_of : (tables : List (ℕ × TableValue)) → IsStrictlySortedBy nat_cmp (keys_of tables) → finite.len (words_of tables) ≡ length tables
+pub len-words_of : (tables : List (ℕ × TableValue)) → IsStrictlySortedBy nat_cmp (keys_of tables)
+    → finite.len (words_of tables) ≡ length tables
 len-words_of tables sorted = different tables (new-keys (keys_of tables) sorted) where
-  different : (tables : List (ℕ × TableValue)) → AreNewKeys (keys_of tables) → finite.len (words_of tables) ≡ length tables
+  different : (tables : List (ℕ × TableValue)) → AreNewKeys (keys_of tables)
+      → finite.len (words_of tables) ≡ length tables
   different [] new = len-empty nat_cmp ℕ
   different (t ∷ tables) new =
-      let none : finite.contains_key (words_of tables) t.0 ≡ false = ap is_some (get-words tables t.0 ∙ ap (option_map (λ t. t.width)) (no_table tables t.0 new.0)) in
+      let none : finite.contains_key (words_of tables) t.0 ≡ false =
+      ap is_some (get-words tables t.0 ∙ ap (option_map (λ t. t.width)) (no_table tables t.0 new.0)) in
       let one_more : finite.len (words_of (t ∷ tables)) ≡ finite.len (words_of tables) + 1 =
-      len-insert nat_cmp_total (words_of tables) t.0 t.1.width ∙ ap (λ b. cond b (finite.len (words_of tables)) (finite.len (words_of tables) + 1)) none in
+      len-insert nat_cmp_total (words_of tables) t.0 t.1.width
+      ∙ ap (λ b. cond b (finite.len (words_of tables)) (finite.len (words_of tables) + 1)) none in
       omega (arith, one_more, different tables new.1)
 
 -- how many entries the bookie's row has
 abbrev pub row_count : ℕ → TableValue → ℕ
 row_count b t = length (entries_in (row_at t b))
 
-sum-found : (b : ℕ) (tables part : List (ℕ × TableValue)) → AreFound tables part → sum_by (λ l. length (entries_in (get_or (rows_in (table_at tables l)) b []))) (keys_of part) ≡ sum_by (row_count b) (values_of part)
+sum-found : (b : ℕ) (tables part : List (ℕ × TableValue)) → AreFound tables part
+    → sum_by (λ l. length (entries_in (get_or (rows_in (table_at tables l)) b []))) (keys_of part)
+    ≡ sum_by (row_count b) (values_of part)
 sum-found b tables [] found = refl
 sum-found b tables (t ∷ part) found =
     sum_by-cons (λ l. length (entries_in (get_or (rows_in (table_at tables l)) b []))) t.0 (keys_of part)
     ∙ (λ i. length (entries_in (get_or (rows_in (found.0 i)) b [])) + sum-found b tables part found.1 i)
     ∙ sym (sum_by-cons (row_count b) t.1 (values_of part))
 
-pub count-tables : (b : ℕ) (tables : List (ℕ × TableValue)) → IsStrictlySortedBy nat_cmp (keys_of tables) → count_held (contents_of tables) b ≡ sum_by (row_count b) (values_of tables)
+pub count-tables : (b : ℕ) (tables : List (ℕ × TableValue)) → IsStrictlySortedBy nat_cmp (keys_of tables)
+    → count_held (contents_of tables) b ≡ sum_by (row_count b) (values_of tables)
 count-tables b tables sorted =
     let rows : ℕ → List (List ℕ) = λ l. rows_in (table_at tables l) in
-    count-distinct b (copies_in rows (keys_of tables)) (distinct-in rows (keys_of tables) (new-keys (keys_of tables) sorted))
+    count-distinct b (copies_in rows (keys_of tables))
+    (distinct-in rows (keys_of tables) (new-keys (keys_of tables) sorted))
     ∙ count-in b rows (keys_of tables)
     ∙ sum-found b tables tables (found-all tables sorted)
 
 -- what each table is
-all-found : (P : TableValue → Type 0) (tables part : List (ℕ × TableValue)) → ((l : ℕ) → IfSome (table_at tables l) P) → AreFound tables part → All P (values_of part)
+all-found : (P : TableValue → Type 0) (tables part : List (ℕ × TableValue)) → ((l : ℕ) → IfSome (table_at tables l) P)
+    → AreFound tables part → All P (values_of part)
 all-found P tables [] kept found = All-nil P
-all-found P tables (t ∷ part) kept found = All-cons P t.1 (values_of part) (subst (λ (o : Option TableValue). IfSome o P) found.0 (kept t.0)) (all-found P tables part kept found.1)
+all-found P tables (t ∷ part) kept found =
+    All-cons P t.1 (values_of part) (subst (λ (o : Option TableValue). IfSome o P) found.0 (kept t.0))
+    (all-found P tables part kept found.1)
 
-pub all-tables : (P : TableValue → Type 0) (tables : List (ℕ × TableValue)) → IsStrictlySortedBy nat_cmp (keys_of tables) → ((l : ℕ) → IfSome (table_at tables l) P) → All P (values_of tables)
+pub all-tables : (P : TableValue → Type 0) (tables : List (ℕ × TableValue))
+    → IsStrictlySortedBy nat_cmp (keys_of tables) → ((l : ℕ) → IfSome (table_at tables l) P) → All P (values_of tables)
 all-tables P tables sorted kept = all-found P tables tables kept (found-all tables sorted)
 
 -- The loop
@@ -269,27 +319,42 @@ row_small : (b bookies : ℕ) (t : TableValue) → IsTable bookies t → row_cou
 row_small b bookies t is =
     let row : List ℕ = row_at t b in
     let counted : row_count b t ≤ 64 * length row =
-    omega (arith, length-filter (is_set row) (range_with_len 0 (64 * length row)), count_by-le-length (is_set row) (range_with_len 0 (64 * length row)), length-range_with_len 0 (64 * length row)) in
+    omega (
+      arith,
+      length-filter (is_set row) (range_with_len 0 (64 * length row)),
+      count_by-le-length (is_set row) (range_with_len 0 (64 * length row)),
+      length-range_with_len 0 (64 * length row),
+    ) in
     elim (cases_lt b bookies) [
       | inl within ↦ omega (arith, counted, is.widths b within, is.small)
-      | inr out ↦ let none : length row ≡ 0 = ap (length {A = ℕ}) (get_or_past t.rows b [] (omega (arith, is.size))) in omega (arith, counted, none)
+      | inr out ↦
+          let none : length row ≡ 0 = ap (length {A = ℕ}) (get_or_past t.rows b [] (omega (arith, is.size))) in
+          omega (arith, counted, none)
     ]
 
 -- a fact of each is one of each, weakened
 All-weaker : (P Q : TableValue → Type 0) (ts : List TableValue) → ((t : TableValue) → P t → Q t) → All P ts → All Q ts
 All-weaker P Q [] gives all = All-nil Q
-All-weaker P Q (t ∷ ts) gives all = All-cons Q t ts (gives t (All-head P t ts all)) (All-weaker P Q ts gives (All-tail P t ts all))
+All-weaker P Q (t ∷ ts) gives all =
+    All-cons Q t ts (gives t (All-head P t ts all)) (All-weaker P Q ts gives (All-tail P t ts all))
 
-pub counting-none : (bookies bookie total : ℕ) (tables : List TableValue) → length tables ≤ 2147483648 → All (IsTable bookies) tables → total ≡ sum_by (row_count bookie) tables
+pub counting-none : (bookies bookie total : ℕ) (tables : List TableValue) → length tables ≤ 2147483648
+    → All (IsTable bookies) tables → total ≡ sum_by (row_count bookie) tables
     → IsCounting bookies bookie total tables 0
 counting-none bookies bookie total tables few each is =
-    let small = sum_by-le (row_count bookie) 4294967296 tables (All-weaker (IsTable bookies) (λ t. row_count bookie t ≤ 4294967296) tables (λ t is. row_small bookie bookies t is) each) in
+    let small =
+    sum_by-le (row_count bookie) 4294967296 tables
+    (All-weaker (IsTable bookies) (λ t. row_count bookie t ≤ 4294967296) tables (λ t is. row_small bookie bookies t is)
+    each) in
     record { each = each; sum = omega (arith, is); small = omega (arith, is, small) }
 
-pub counting-table : {bookies bookie total : ℕ} {left : List TableValue} {count : ℕ} (t : TableValue) (rest : List TableValue) → left ≡ t ∷ rest → IsCounting bookies bookie total left count → IsTable bookies t
-counting-table {bookies} t rest is counting = All-head (IsTable bookies) t rest (subst (All (IsTable bookies)) is counting.each)
+pub counting-table : {bookies bookie total : ℕ} {left : List TableValue} {count : ℕ} (t : TableValue)
+    (rest : List TableValue) → left ≡ t ∷ rest → IsCounting bookies bookie total left count → IsTable bookies t
+counting-table {bookies} t rest is counting =
+    All-head (IsTable bookies) t rest (subst (All (IsTable bookies)) is counting.each)
 
-pub counting-more : {bookies bookie total : ℕ} {left : List TableValue} {count : ℕ} (t : TableValue) (rest : List TableValue) (n : ℕ) → left ≡ t ∷ rest → n ≡ row_count bookie t
+pub counting-more : {bookies bookie total : ℕ} {left : List TableValue} {count : ℕ} (t : TableValue)
+    (rest : List TableValue) (n : ℕ) → left ≡ t ∷ rest → n ≡ row_count bookie t
     → IsCounting bookies bookie total left count → IsCounting bookies bookie total rest (count + n)
 counting-more {bookies} {bookie} {total} {left} {count} t rest n is counted counting = record {
   each = All-tail (IsTable bookies) t rest (subst (All (IsTable bookies)) is counting.each);
@@ -297,10 +362,20 @@ counting-more {bookies} {bookie} {total} {left} {count} t rest n is counted coun
   small = counting.small;
 }
 
-pub counting-fits : {bookies bookie total : ℕ} {left : List TableValue} {count : ℕ} (t : TableValue) (rest : List TableValue) (n : ℕ) → left ≡ t ∷ rest → n ≡ row_count bookie t
+pub counting-fits : {bookies bookie total : ℕ} {left : List TableValue} {count : ℕ} (t : TableValue)
+    (rest : List TableValue) (n : ℕ) → left ≡ t ∷ rest → n ≡ row_count bookie t
     → IsCounting bookies bookie total left count → count + n ≤ 9223372036854775808
 counting-fits {bookies} {bookie} {total} {left} {count} t rest n is counted counting =
-    omega (arith, ap (sum_by (row_count bookie)) is, sum_by-cons (row_count bookie) t rest, counting.sum, counting.small, counted)
+    omega (
+      arith,
+      ap (sum_by (row_count bookie)) is,
+      sum_by-cons (row_count bookie) t rest,
+      counting.sum,
+      counting.small,
+      counted,
+    )
 
-pub counting-all : {bookies bookie total : ℕ} {left : List TableValue} {count : ℕ} → left ≡ [] → IsCounting bookies bookie total left count → count ≡ total
-counting-all {bookies} {bookie} {total} {left} {count} none counting = omega (arith, ap (sum_by (row_count bookie)) none, counting.sum)
+pub counting-all : {bookies bookie total : ℕ} {left : List TableValue} {count : ℕ} → left ≡ []
+    → IsCounting bookies bookie total left count → count ≡ total
+counting-all {bookies} {bookie} {total} {left} {count} none counting =
+    omega (arith, ap (sum_by (row_count bookie)) none, counting.sum)

@@ -1,5 +1,6 @@
 -- The highest bit of the last word that is not 0 is that of the row's greatest entry.
-use Rattle.std.proofs.Common.{◌≡◌, ◌||◌, [], ◌∷◌, take, ℕ, suc, ◌+◌, ◌-◌, ◌*◌, ◌/◌, ◌%◌, ◌<◌, ◌≤◌, ◌^◌, Bool, false, List, length, get_or, sym, ap, ◌∙◌, arith, inl, inr}
+use Rattle.std.proofs.Common.{◌≡◌, ◌||◌, [], ◌∷◌, take, ℕ, suc, ◌+◌, ◌-◌, ◌*◌, ◌/◌, ◌%◌, ◌<◌, ◌≤◌, ◌^◌, Bool, false}
+use Rattle.std.proofs.Common.{List, length, get_or, sym, ap, ◌∙◌, arith, inl, inr}
 use Rattle.std.specs.Prelude.{◌==◌}
 use Rattle.std.specs.Int.{bit_at}
 use Rattle.std.specs.List.{list_any}
@@ -41,7 +42,8 @@ greatest_is words end w k some within read from below bound above =
               let more : k + 1 ≡ suc k = omega arith in
               let small : w < 2 ^ (k + 1) = rw (more, pow-suc 2 k) (omega arith) in
               let off : is_set words e ≡ false =
-              ap (λ n. bit_at (get_or words n 0) (e % 64) == 1) word ∙ ap (λ (v : ℕ). bit_at v (e % 64) == 1) (sym read) ∙ ap (λ (b : ℕ). b == 1) (bit_at_above w (k + 1) (e % 64) small bit) in
+              ap (λ n. bit_at (get_or words n 0) (e % 64) == 1) word ∙ ap (λ (v : ℕ). bit_at v (e % 64) == 1) (sym read)
+              ∙ ap (λ (b : ℕ). b == 1) (bit_at_above w (k + 1) (e % 64) small bit) in
               absurd (false≢true (sym off ∙ passes))
           | inr beyond ↦ absurd (false≢true (sym (above e beyond) ∙ passes))
         ]
@@ -51,7 +53,8 @@ greatest_is words end w k some within read from below bound above =
 
 -- Over several rows
 
-pub IsGreatest-same : (p q : ℕ → Bool) (greatest : Option ℕ) → ((e : ℕ) → p e ≡ q e) → IsGreatest p greatest → IsGreatest q greatest
+pub IsGreatest-same : (p q : ℕ → Bool) (greatest : Option ℕ) → ((e : ℕ) → p e ≡ q e) → IsGreatest p greatest
+    → IsGreatest q greatest
 IsGreatest-same p q None same is = λ e. sym (same e) ∙ is e
 IsGreatest-same p q (Some m) same is = (sym (same m) ∙ is.0, λ e passes. is.1 e (same e ∙ passes))
 
@@ -63,7 +66,10 @@ any_more rows i row within is e = sym (ap (list_any (λ r. is_set r e)) (take_mo
     ∙ ap (λ b. list_any (λ r. is_set r e) (take i rows) || b) (or-false (is_set (get_or rows i []) e))
     ∙ ap (λ (r : List ℕ). list_any (λ r. is_set r e) (take i rows) || is_set r e) (sym is))
 
-pub greatest-more : (rows : List (List ℕ)) (i : ℕ) (row : List ℕ) (greatest : Option ℕ) → i < length rows → row ≡ get_or rows i []
+pub greatest-more : (rows : List (List ℕ)) (i : ℕ) (row : List ℕ) (greatest : Option ℕ) → i < length rows
+    → row ≡ get_or rows i []
     → IsGreatest (λ e. list_any (λ r. is_set r e) (take i rows) || is_set row e) greatest
     → IsGreatest (λ e. list_any (λ r. is_set r e) (take (i + 1) rows)) greatest
-greatest-more rows i row greatest within is = IsGreatest-same (λ e. list_any (λ r. is_set r e) (take i rows) || is_set row e) (λ e. list_any (λ r. is_set r e) (take (i + 1) rows)) greatest (any_more rows i row within is)
+greatest-more rows i row greatest within is =
+    IsGreatest-same (λ e. list_any (λ r. is_set r e) (take i rows) || is_set row e)
+    (λ e. list_any (λ r. is_set r e) (take (i + 1) rows)) greatest (any_more rows i row within is)

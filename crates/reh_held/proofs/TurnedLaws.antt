@@ -1,5 +1,6 @@
 -- Contents with all turns of a bookie's row.
-use Rattle.std.proofs.Common.{◌≡◌, ◌≢◌, ℕ, ◌*◌, ◌^◌, ◌<◌, Bool, true, false, ◌&&◌, ◌||◌, List, [], ◌∷◌, refl, sym, ap, ◌∙◌, arith, nat_eq}
+use Rattle.std.proofs.Common.{◌≡◌, ◌≢◌, ℕ, ◌*◌, ◌^◌, ◌<◌, Bool, true, false, ◌&&◌, ◌||◌, List, [], ◌∷◌, refl, sym, ap}
+use Rattle.std.proofs.Common.{◌∙◌, arith, nat_eq}
 use Rattle.std.specs.Prelude.{All}
 use Rattle.std.proofs.lemmas.List.Elements.{All-nil, All-head}
 use Rattle.std.specs.List.{list_any}
@@ -14,7 +15,8 @@ use Rattle.reh_held.specs.Rows.{is_set}
 use Rattle.reh_held.specs.RowTurns.{is_turned, ArePlaces}
 use Rattle.reh_held.specs.Turns.{turned_all, IsTurning}
 
-one_of-more : (held place first others : Bool) → one_of (one_of held (place && first)) (place && others) ≡ one_of held (place && one_of first others)
+one_of-more : (held place first others : Bool)
+    → one_of (one_of held (place && first)) (place && others) ≡ one_of held (place && one_of first others)
 one_of-more true true true true = refl
 one_of-more true true true false = refl
 one_of-more true true false others = refl
@@ -31,7 +33,8 @@ one_of-none false true = refl
 one_of-none false false = refl
 
 pub has-turned_all : (s : Contents) (bookie ledger : ℕ) (turns : List Turn) (b l e : ℕ)
-    → has (turned_all s bookie ledger turns) b l e ≡ one_of (has s b l e) ((nat_eq b bookie && nat_eq l ledger) && is_turned turns e)
+    → has (turned_all s bookie ledger turns) b l e
+    ≡ one_of (has s b l e) ((nat_eq b bookie && nat_eq l ledger) && is_turned turns e)
 has-turned_all s bookie ledger [] b l e = one_of-none (has s b l e) (nat_eq b bookie && nat_eq l ledger)
 has-turned_all s bookie ledger (u ∷ us) b l e =
     let place : Bool = nat_eq b bookie && nat_eq l ledger in
@@ -54,13 +57,15 @@ turning-from_row s words bookie ledger row entries turns is places makes = recor
       let place : Bool = nat_eq t.0 bookie && nat_eq t.1 ledger in
       let held : Bool = has s t.0 t.1 t.2 in
       has-turned_all s bookie ledger turns t.0 t.1 t.2
-      ∙ elim place as (λ b. place ≡ b → one_of held (b && is_turned turns t.2) ≡ (held || (b && list_any (nat_eq t.2) entries))) [
+      ∙ elim place as (λ b. place ≡ b
+      → one_of held (b && is_turned turns t.2) ≡ (held || (b && list_any (nat_eq t.2) entries))) [
         | true ↦ λ here.
             let same = both_true (nat_eq t.0 bookie) (nat_eq t.1 ledger) here in
             let first : t.0 ≡ bookie = grind (arith, nat_tests, same.0) in
             let second : t.1 ≡ ledger = grind (arith, nat_tests, same.1) in
             let row_has : held ≡ is_set row t.2 = (λ i. has s (first i) (second i) t.2) ∙ is t.2 in
-            ap (λ h. one_of h (is_turned turns t.2)) row_has ∙ makes t.2 ∙ ap (λ h. h || list_any (nat_eq t.2) entries) (sym row_has)
+            ap (λ h. one_of h (is_turned turns t.2)) row_has ∙ makes t.2
+            ∙ ap (λ h. h || list_any (nat_eq t.2) entries) (sym row_has)
         | false ↦ λ differ. sym (one_of-none held false) ∙ (λ i. either held i)
       ] refl
       ∙ sym (has-union-copies_of s bookie ledger entries t.0 t.1 t.2));
@@ -70,10 +75,17 @@ turning-from_row s words bookie ledger row entries turns is places makes = recor
   either false = refl
 
 -- no entries turn nothing
-pub turning-none : (s : Contents) (words bookie ledger : ℕ) (entries : List ℕ) → words ≡ 0 → All (λ e. e < 64 * words) entries
+pub turning-none : (s : Contents) (words bookie ledger : ℕ) (entries : List ℕ) → words ≡ 0
+    → All (λ e. e < 64 * words) entries
     → IsTurning words bookie ledger s (set.union s (copies_of bookie ledger entries)) []
 turning-none s words bookie ledger [] none within = record {
-  places = record { there = All-nil (λ u. u.number < words); rising = tt; some = All-nil (λ u. (u.bits ≢ 0) × (u.bits < 2 ^ 64)) };
+  places =
+      record {
+        there = All-nil (λ u. u.number < words);
+        rising = tt;
+        some = All-nil (λ u. (u.bits ≢ 0) × (u.bits < 2 ^ 64));
+      };
   makes = sym (union-copies_of-none s bookie ledger);
 }
-turning-none s words bookie ledger (e ∷ entries) none within = absurd (omega (arith, none, All-head (λ e. e < 64 * words) e entries within))
+turning-none s words bookie ledger (e ∷ entries) none within =
+    absurd (omega (arith, none, All-head (λ e. e < 64 * words) e entries within))

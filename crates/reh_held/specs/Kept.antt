@@ -28,7 +28,8 @@ row_of tables bookie ledger = slice_index_or (rows_in (table_at tables ledger)) 
 -- what the rows of a ledger hold, those of the bookies from this one on
 abbrev pub copies_from : ℕ → ℕ → List (List ℕ) → List (ℕ × ℕ × ℕ)
 copies_from ledger bookie [] = []
-copies_from ledger bookie (row ∷ rows) = map (λ e. (bookie, ledger, e)) (entries_in row) ++ copies_from ledger (bookie + 1) rows
+copies_from ledger bookie (row ∷ rows) =
+    map (λ e. (bookie, ledger, e)) (entries_in row) ++ copies_from ledger (bookie + 1) rows
 
 -- what the rows of some ledgers hold
 abbrev pub copies_in : (ℕ → List (List ℕ)) → List ℕ → List (ℕ × ℕ × ℕ)

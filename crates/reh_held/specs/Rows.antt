@@ -1,5 +1,6 @@
 -- A row of words: the entries that its bits stand for, 64 to a word.
-use Rattle.std.specs.Prelude.{◌≡◌, ℕ, ◌*◌, ◌/◌, ◌%◌, ◌≤◌, Bool, true, false, ◌&&◌, ◌==◌, nat_le, List, length, slice_index, Option, MatchOption}
+use Rattle.std.specs.Prelude.{◌≡◌, ℕ, ◌*◌, ◌/◌, ◌%◌, ◌≤◌, Bool, true, false, ◌&&◌, ◌==◌, nat_le, List, length}
+use Rattle.std.specs.Prelude.{slice_index, Option, MatchOption}
 use Rattle.std.specs.List.{filter, range_with_len}
 use Rattle.std.specs.Int.{bit_at}
 
@@ -18,4 +19,5 @@ entries_in words = filter (is_set words) (range_with_len 0 (64 * length words))
 -- this entry passes the test and no greater one does, or none does
 abbrev pub IsGreatest : (ℕ → Bool) → Option ℕ → Type 0
 IsGreatest test greatest =
-    MatchOption greatest ((e : ℕ) → test e ≡ false) (λ entry. (test entry ≡ true) × ((e : ℕ) → test e ≡ true → e ≤ entry))
+    MatchOption greatest ((e : ℕ) → test e ≡ false)
+    (λ entry. (test entry ≡ true) × ((e : ℕ) → test e ≡ true → e ≤ entry))

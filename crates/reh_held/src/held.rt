@@ -80,10 +80,10 @@ impl Held {
         }
     }
 
-    /// Makes all rows of the ledger long enough for the entry, where there are rows of fewer ledgers than there can be.
-    /// Want of memory leaves them as they were.
+    /// Makes all rows of the ledger long enough for the entry, where it has rows or fewer ledgers have some than there
+    /// can be. Want of memory leaves them as they were.
     pub fn reserve(&mut self, ledger: LedgerId, entry: u32) -> Result<(), AllocError>
-        requires { map.len self.old.words < MAX_LEDGERS }
+        requires { words_in self.old ledger ≡ 0 → map.len self.old.words < MAX_LEDGERS }
         ensures ok { OnOk result (self.new ≡ with_room self.old ledger entry) }
         ensures room { OnOk result (entry < 64 * words_in self.new ledger) }
         ensures few { map.len self.new.words ≤ map.len self.old.words + 1 }
@@ -98,7 +98,7 @@ impl Held {
         Ok(())
     }
 
-    // The ledger's table with rows of so many words.
+    /// The ledger's table with rows of so many words.
     fn longer_table(&self, ledger: LedgerId, width: usize) -> Result<Table, AllocError>
         requires longer { words_in self.now ledger ≤ width }
         requires small { width ≤ MAX_WIDTH }
@@ -113,11 +113,11 @@ impl Held {
         }
     }
 
-    /// The bookie holds the entry of the ledger from now on, where there are rows of fewer ledgers than there can be.
-    /// Want of memory leaves the contents as they were.
+    /// The bookie holds the entry of the ledger from now on, where the ledger has rows or fewer ledgers have some than
+    /// there can be. Want of memory leaves the contents as they were.
     pub fn add(&mut self, bookie: BookieIx, ledger: LedgerId, entry: u32) -> Result<(), AllocError>
         requires bookie { bookie < self.old.bookies }
-        requires few { map.len self.old.words < MAX_LEDGERS }
+        requires few { words_in self.old ledger ≡ 0 → map.len self.old.words < MAX_LEDGERS }
         ensures ok { OnOk result
             (self.new.contents ≡ set.insert self.old.contents (bookie, ledger, entry)) }
         ensures rows { OnOk result
@@ -131,7 +131,7 @@ impl Held {
         Ok(())
     }
 
-    // The bookie holds the entry from now on, for which the rows of the ledger are long enough.
+    /// The bookie holds the entry from now on, for which the rows of the ledger are long enough.
     fn put(&mut self, bookie: BookieIx, ledger: LedgerId, entry: u32)
         requires bookie { bookie < self.old.bookies }
         requires entry { entry < 64 * words_in self.old ledger }
@@ -159,8 +159,8 @@ impl Held {
         }
     }
 
-    /// Turns these bits of a word of the bookie's row of the ledger: the entries that they stand for are held where they
-    /// were not, and not where they were.
+    /// Turns these bits of a word of the bookie's row of the ledger: the entries that they stand for are held where
+    /// they were not, and not where they were.
     pub fn toggle(&mut self, bookie: BookieIx, ledger: LedgerId, number: usize, bits: u64)
         requires bookie { bookie < self.old.bookies }
         requires number { number < words_in self.old ledger }
@@ -243,7 +243,7 @@ impl Held {
 mod tests {
     use super::*;
 
-    // Three bookies and two ledgers.
+    /// Three bookies and two ledgers.
     #[test]
     fn holds_what_was_added(rt: HostRuntime) -> Result<(), AllocError> {
         let mut held = Held::new(rt.alloc(), 3);
@@ -274,7 +274,7 @@ mod tests {
         Ok(())
     }
 
-    // A bookie that holds entry 3 of five.
+    /// A bookie that holds entry 3 of five.
     #[test]
     fn turns_there_and_back(rt: HostRuntime) -> Result<(), AllocError> {
         let bookie = BookieIx(3);
@@ -299,7 +299,7 @@ mod tests {
         Ok(())
     }
 
-    // Where there is no memory for it, a call leaves all as it was: it is tried with each allocation failing.
+    /// Where there is no memory for it, a call leaves all as it was: it is tried with each allocation failing.
     #[test]
     fn want_of_memory_changes_nothing(rt: HostRuntime) {
         let bookie = BookieIx(1);

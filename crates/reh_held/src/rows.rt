@@ -154,7 +154,8 @@ impl Row {
     }
 }
 
-/// Whether the entry's bit is set in the words of a row: bit e % 64 of word e / 64 is that of entry e. Past them none is.
+/// Whether the entry's bit is set in the words of a row: bit e % 64 of word e / 64 is that of entry e. Past them none
+/// is.
 pub fn is_set(words: &[u64], entry: u32) -> bool
     ensures { result ≡ rows.is_set words.now entry }
 {

@@ -65,7 +65,7 @@ impl Fragment {
     }
 }
 
-// Whether there is a fragment, the first begins at entry 0, and each begins before the next.
+/// Whether there is a fragment, the first begins at entry 0, and each begins before the next.
 pub(crate) fn rise_from_zero(fragments: &[Fragment]) -> bool
     ensures { result ≡ meta.rise_from_zero fragments.now }
 {
@@ -75,7 +75,7 @@ pub(crate) fn rise_from_zero(fragments: &[Fragment]) -> bool
         && are_rising(fragments)
 }
 
-// Whether each fragment begins before the next.
+/// Whether each fragment begins before the next.
 fn are_rising(fragments: &[Fragment]) -> bool
     ensures { result ≡ meta.are_rising fragments.now }
 {
@@ -86,7 +86,7 @@ fn are_rising(fragments: &[Fragment]) -> bool
         .all(|(fragment, next)| fragment.first < next.first)
 }
 
-// Whether each fragment has an ensemble of this size.
+/// Whether each fragment has an ensemble of this size.
 pub(crate) fn have_ensembles(fragments: &[Fragment], size: u64) -> bool
     ensures { result
         ≡ list_all (λ fragment. meta.is_ensemble size fragment.ensemble) fragments.now }
@@ -96,14 +96,14 @@ pub(crate) fn have_ensembles(fragments: &[Fragment], size: u64) -> bool
         .all(|fragment| is_ensemble(&fragment.ensemble, size))
 }
 
-// Whether these are so many different bookies.
+/// Whether these are so many different bookies.
 fn is_ensemble(members: &[BookieIx], size: u64) -> bool
     ensures { result ≡ meta.is_ensemble size members.now }
 {
     members.len() as u64 == size && are_different(members)
 }
 
-// Whether no bookie is named twice.
+/// Whether no bookie is named twice.
 fn are_different(members: &[BookieIx]) -> bool
     ensures { result ≡ meta.are_different members.now }
 {

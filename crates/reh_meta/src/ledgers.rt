@@ -25,7 +25,7 @@ pub struct Sizes {
     pub ack_quorum: u64,
 }
 
-// Whether `1 <= ack quorum <= write quorum <= ensemble size <= MAX_ENSEMBLE_SIZE`.
+/// Whether `1 <= ack quorum <= write quorum <= ensemble size <= MAX_ENSEMBLE_SIZE`.
 fn are_quorums(sizes: Sizes) -> bool
     ensures { result ≡ meta.are_quorums sizes.ensemble sizes.write_quorum sizes.ack_quorum }
 {
@@ -35,7 +35,7 @@ fn are_quorums(sizes: Sizes) -> bool
         && sizes.ensemble <= MAX_ENSEMBLE_SIZE
 }
 
-// Where a ledger's entries end, if it is closed.
+/// Where a ledger's entries end, if it is closed.
 fn end_of_closed(state: LedgerState) -> Option<u32>
     ensures { result ≡ end_of_state state }
 {
@@ -45,7 +45,7 @@ fn end_of_closed(state: LedgerState) -> Option<u32>
     }
 }
 
-// Whether the ledger, if it is closed, ends at or after the last fragment's first entry.
+/// Whether the ledger, if it is closed, ends at or after the last fragment's first entry.
 fn ends_within(state: LedgerState, fragments: &[Fragment]) -> bool
     ensures { result ≡ meta.ends_within state fragments.now }
 {
@@ -283,7 +283,7 @@ impl LedgerMeta {
         self.with_state(LedgerState::Closed { end })
     }
 
-    // The metadata at the next version, in another state, whose end it can have.
+    /// The metadata at the next version, in another state, whose end it can have.
     fn with_state(&self, state: LedgerState) -> Result<LedgerMeta, AllocError>
         requires end { ForSome (end_of_state state)
             (λ end. ((last_fragment self.now).first ≤ end) × (end ≤ ENTRY_END)) }
@@ -293,7 +293,7 @@ impl LedgerMeta {
         Ok(self.changed(state, self.fragments.clone()?))
     }
 
-    // The metadata at the next version, with this state and these fragments, which keep its rules.
+    /// The metadata at the next version, with this state and these fragments, which keep its rules.
     fn changed(&self, state: LedgerState, fragments: Vec<Fragment>) -> LedgerMeta
         requires { IsMetadata (changed_metadata self.now state fragments.items) }
         ensures { result ≡ changed_metadata self.now state fragments.items }

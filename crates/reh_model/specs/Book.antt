@@ -30,12 +30,12 @@ abbrev pub same_ticket : TicketOut → TicketOut → Bool
 same_ticket t u = (t.seat == u.seat) && (t.number == u.number) && same_aim t.aim u.aim
 
 -- where a ticket stands among those that are out, if it is out
-abbrev pub place_of : TicketOut → List TicketOut → Option ℕ
-place_of t out = position (λ u. same_ticket u t) out
+abbrev pub ticket_place : TicketOut → List TicketOut → Option ℕ
+ticket_place t out = position (λ u. same_ticket u t) out
 
 -- the tickets that are out without this one
 abbrev pub without : TicketOut → List TicketOut → List TicketOut
-without t out = option_map_or (remove out) (place_of t out) out
+without t out = option_map_or (remove out) (ticket_place t out) out
 
 -- Books
 
@@ -58,7 +58,7 @@ tape_full b wanted = reason_if (nat_lt MAX_LINES (b.lines + length b.out + wante
 
 -- the ticket is not out
 abbrev pub not_out : Book → TicketOut → Option Refusal
-not_out b t = reason_if (is_none (place_of t b.out)) NotOut
+not_out b t = reason_if (is_none (ticket_place t b.out)) NotOut
 
 -- the reply, unless there is a refusal
 abbrev pub or_refused : Option Refusal → Reply → Reply

@@ -1,10 +1,12 @@
 -- One range more, and the set of items that are added one after another or at once.
-use Rattle.std.proofs.Common.{◌≡◌, ◌+◌, ◌<◌, Bool, true, false, ◌||◌, List, [], ◌∷◌, ◌++◌, length, fold, Option, None, Some, refl, sym, ap, ◌∙◌, arith}
+use Rattle.std.proofs.Common.{◌≡◌, ◌+◌, ◌<◌, Bool, true, false, ◌||◌, List, [], ◌∷◌, ◌++◌, length, fold, Option, None}
+use Rattle.std.proofs.Common.{Some, refl, sym, ap, ◌∙◌, arith}
 use Rattle.std.proofs.Math.Bool.{or-false}
 use Rattle.std.specs.List.{last_or, list_any}
 use Rattle.std.specs.Option.{option_map_or}
 use Rattle.std.specs.Ordering.{eq_by_cmp}
-use Rattle.reh_types.specs.Sets.{Order, Set, contains, insert, union, empty, from_list, contains-insert, contains-union, contains-empty, contains-from_list, same_set}
+use Rattle.reh_types.specs.Sets.{Order, Set, contains, insert, union, empty, from_list, contains-insert, contains-union}
+use Rattle.reh_types.specs.Sets.{contains-empty, contains-from_list, same_set}
 use Rattle.serde_json.specs.Data.{Data}
 use Rattle.reh_picture.specs.Contents.{two_numbers, ends_of, next_after}
 
@@ -36,7 +38,8 @@ or_swapped false false = refl
 
 -- adding the items of a list one after another makes the set of all
 module _ {K : Type 0} (o : Order K) where
-  contains-fold : (s : Set o) (ks : List K) (q : K) → contains (fold insert s ks) q ≡ (list_any (eq_by_cmp o.cmp q) ks || contains s q)
+  contains-fold : (s : Set o) (ks : List K) (q : K)
+      → contains (fold insert s ks) q ≡ (list_any (eq_by_cmp o.cmp q) ks || contains s q)
   contains-fold s [] q = refl
   contains-fold s (k ∷ ks) q =
       contains-fold (insert s k) ks q ∙ ap (λ b. list_any (eq_by_cmp o.cmp q) ks || b) (contains-insert s k q)
@@ -46,7 +49,11 @@ module _ {K : Type 0} (o : Order K) where
   pub union-from_list : (s : Set o) (ks : List K) → union s (from_list ks) ≡ fold insert s ks
   union-from_list s ks =
       same_set _ _ (λ q.
-      contains-union s (from_list ks) q ∙ ap (λ b. contains s q || b) (contains-from_list o ks q) ∙ or_swapped (contains s q) (list_any (eq_by_cmp o.cmp q) ks) ∙ sym (contains-fold s ks q))
+      contains-union s (from_list ks) q ∙ ap (λ b. contains s q || b) (contains-from_list o ks q)
+      ∙ or_swapped (contains s q) (list_any (eq_by_cmp o.cmp q) ks) ∙ sym (contains-fold s ks q))
 
   pub from_list-fold : (ks : List K) → fold insert (empty {o = o}) ks ≡ from_list ks
-  from_list-fold ks = same_set _ _ (λ q. contains-fold empty ks q ∙ ap (λ b. list_any (eq_by_cmp o.cmp q) ks || b) (contains-empty o q) ∙ or-false _ ∙ sym (contains-from_list o ks q))
+  from_list-fold ks =
+      same_set _ _
+      (λ q. contains-fold empty ks q ∙ ap (λ b. list_any (eq_by_cmp o.cmp q) ks || b) (contains-empty o q) ∙ or-false _
+      ∙ sym (contains-from_list o ks q))

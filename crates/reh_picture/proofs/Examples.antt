@@ -11,7 +11,8 @@ use Rattle.reh_model.specs.Metadata.{Fragment}
 use Rattle.reh_picture.specs.declared.fields.Field.TheVariants as field
 use Rattle.reh_picture.specs.declared.faults.LedgerFlaw.TheVariants as flaw
 use Rattle.reh_picture.specs.declared.faults.Repeated.TheVariants as repeated
-use Rattle.reh_picture.specs.declared.faults.PictureFault.TheVariants.{NotJson, WrongKind, Twice, UnknownBookie, Limit, BadLedger}
+use Rattle.reh_picture.specs.declared.faults.PictureFault.TheVariants.{NotJson, WrongKind, Twice, UnknownBookie, Limit}
+use Rattle.reh_picture.specs.declared.faults.PictureFault.TheVariants.{BadLedger}
 use Rattle.reh_picture.specs.Bookies.{bookies_fault, each_bookie_fault}
 use Rattle.reh_picture.specs.Ledgers.{members_fault, fragments_fault, metadata_fault, each_ledger_fault, ledgers_fault}
 use Rattle.reh_picture.specs.Contents.{ranges_fault, each_content_fault, contents_fault}
@@ -20,7 +21,10 @@ use Rattle.reh_picture.specs.Pictures.{head_fault, picture_of}
 -- Five bookies; a closed ledger and an open one, both at the first three.
 
 abbrev bookies : List ℕ
-bookies = codes "{\"format\":1,\"grace\":3,\"bookies\":[{\"name\":\"b1:3181\",\"up\":true},{\"name\":\"b2:3181\",\"up\":true},{\"name\":\"b3:3181\",\"up\":true},{\"name\":\"b4:3181\",\"up\":true},{\"name\":\"b5:3181\",\"up\":true}],"
+bookies =
+    codes "{\"format\":1,\"grace\":3,\"bookies\":[{\"name\":\"b1:3181\",\"up\":true},"
+    ++ codes "{\"name\":\"b2:3181\",\"up\":true},{\"name\":\"b3:3181\",\"up\":true},"
+    ++ codes "{\"name\":\"b4:3181\",\"up\":true},{\"name\":\"b5:3181\",\"up\":true}],"
 
 abbrev closed_start : List ℕ
 closed_start = codes "\"ledgers\":[{\"id\":7,\"state\":\"CLOSED\",\"lastEntryId\":5,\"ensembleSize\":3,"
@@ -35,22 +39,53 @@ abbrev closed_ensemble : List ℕ
 closed_ensemble = codes "\"ensemble\":[\"b1:3181\",\"b2:3181\",\"b3:3181\"]}]},"
 
 abbrev second_ledger : List ℕ
-second_ledger = codes "{\"id\":9,\"state\":\"OPEN\",\"ensembleSize\":3,\"writeQuorumSize\":3,\"ackQuorumSize\":2,\"version\":0,\"fragments\":[{\"firstEntry\":0,\"ensemble\":[\"b1:3181\",\"b2:3181\",\"b3:3181\"]}]}],"
+second_ledger =
+    codes "{\"id\":9,\"state\":\"OPEN\",\"ensembleSize\":3,\"writeQuorumSize\":3,\"ackQuorumSize\":2,"
+    ++ codes "\"version\":0,\"fragments\":[{\"firstEntry\":0,\"ensemble\":[\"b1:3181\",\"b2:3181\","
+    ++ codes "\"b3:3181\"]}]}],"
 
 abbrev first_contents : List ℕ
 first_contents = codes "\"contents\":[{\"bookie\":\"b1:3181\",\"ledger\":7,\"entries\":[[0,0],[2,3],[5,5]]},"
 
 abbrev other_contents : List ℕ
-other_contents = codes "{\"bookie\":\"b2:3181\",\"ledger\":7,\"entries\":[[0,1],[3,4]]},{\"bookie\":\"b3:3181\",\"ledger\":7,\"entries\":[[1,2],[4,5]]},{\"bookie\":\"b1:3181\",\"ledger\":9,\"entries\":[[0,4]]},{\"bookie\":\"b2:3181\",\"ledger\":9,\"entries\":[[0,3]]},{\"bookie\":\"b3:3181\",\"ledger\":9,\"entries\":[[0,3]]}]}"
+other_contents =
+    codes "{\"bookie\":\"b2:3181\",\"ledger\":7,\"entries\":[[0,1],[3,4]]},"
+    ++ codes "{\"bookie\":\"b3:3181\",\"ledger\":7,\"entries\":[[1,2],[4,5]]},"
+    ++ codes "{\"bookie\":\"b1:3181\",\"ledger\":9,\"entries\":[[0,4]]},"
+    ++ codes "{\"bookie\":\"b2:3181\",\"ledger\":9,\"entries\":[[0,3]]},"
+    ++ codes "{\"bookie\":\"b3:3181\",\"ledger\":9,\"entries\":[[0,3]]}]}"
 
 abbrev ensemble : Fragment
 ensemble = record { first = 0; ensemble = 0 ∷ 1 ∷ 2 ∷ [] }
 
 abbrev closed_ledger : Ledger
-closed_ledger = record { id = 7; metadata = record { size = 3; write_quorum = 2; ack_quorum = 2; state = Closed 6; version = 0; fragments = ensemble ∷ [] }; words = 1; task = None; lock = None }
+closed_ledger =
+    record {
+      id = 7;
+      metadata =
+          record {
+            size = 3;
+            write_quorum = 2;
+            ack_quorum = 2;
+            state = Closed 6;
+            version = 0;
+            fragments = ensemble ∷ [];
+          };
+      words = 1;
+      task = None;
+      lock = None;
+    }
 
 abbrev open_ledger : Ledger
-open_ledger = record { id = 9; metadata = record { size = 3; write_quorum = 3; ack_quorum = 2; state = Open; version = 0; fragments = ensemble ∷ [] }; words = 1; task = None; lock = None }
+open_ledger =
+    record {
+      id = 9;
+      metadata =
+          record { size = 3; write_quorum = 3; ack_quorum = 2; state = Open; version = 0; fragments = ensemble ∷ [] };
+      words = 1;
+      task = None;
+      lock = None;
+    }
 
 abbrev contents : Contents
 contents =
@@ -66,71 +101,199 @@ cluster =
     with_held (with_ledgers started (closed_ledger ∷ open_ledger ∷ [])) contents
 
 -- it is read
-reads : picture_of (bookies ++ (closed_start ++ (closed_quorums ++ (closed_first ++ (closed_ensemble ++ (second_ledger ++ (first_contents ++ (other_contents)))))))) ≡ Ok cluster
-unfolding serde_json_on_literals is_utf8 chars head_fault bookies_fault ledgers_fault contents_fault each_bookie_fault members_fault fragments_fault metadata_fault each_ledger_fault ranges_fault each_content_fault set.from_list set.insert set.empty set.items set.union
+reads : picture_of
+    (bookies
+    ++ (closed_start
+    ++ (closed_quorums
+    ++ (closed_first ++ (closed_ensemble ++ (second_ledger ++ (first_contents ++ (other_contents))))))))
+    ≡ Ok cluster
+unfolding serde_json_on_literals is_utf8 chars head_fault bookies_fault ledgers_fault contents_fault each_bookie_fault
+    members_fault fragments_fault metadata_fault each_ledger_fault ranges_fault each_content_fault set.from_list
+    set.insert set.empty set.items set.union
 reads = refl
 
 -- no bytes
 empty : picture_of ([]) ≡ Err NotJson
-unfolding serde_json_on_literals is_utf8 chars head_fault bookies_fault ledgers_fault contents_fault each_bookie_fault members_fault fragments_fault metadata_fault each_ledger_fault ranges_fault each_content_fault set.from_list set.insert set.empty set.items
+unfolding serde_json_on_literals is_utf8 chars head_fault bookies_fault ledgers_fault contents_fault each_bookie_fault
+    members_fault fragments_fault metadata_fault each_ledger_fault ranges_fault each_content_fault set.from_list
+    set.insert set.empty set.items
 empty = refl
 
 -- the last byte is cut off
-cut : picture_of (bookies ++ (closed_start ++ (closed_quorums ++ (closed_first ++ (closed_ensemble ++ (second_ledger ++ (first_contents ++ (codes "{\"bookie\":\"b2:3181\",\"ledger\":7,\"entries\":[[0,1],[3,4]]},{\"bookie\":\"b3:3181\",\"ledger\":7,\"entries\":[[1,2],[4,5]]},{\"bookie\":\"b1:3181\",\"ledger\":9,\"entries\":[[0,4]]},{\"bookie\":\"b2:3181\",\"ledger\":9,\"entries\":[[0,3]]},{\"bookie\":\"b3:3181\",\"ledger\":9,\"entries\":[[0,3]]}]")))))))) ≡ Err NotJson
-unfolding serde_json_on_literals is_utf8 chars head_fault bookies_fault ledgers_fault contents_fault each_bookie_fault members_fault fragments_fault metadata_fault each_ledger_fault ranges_fault each_content_fault set.from_list set.insert set.empty set.items
+cut : picture_of
+    (bookies
+    ++ (closed_start
+    ++ (closed_quorums
+    ++ (closed_first
+    ++ (closed_ensemble
+    ++ (second_ledger
+    ++ (first_contents
+    ++ (codes "{\"bookie\":\"b2:3181\",\"ledger\":7,\"entries\":[[0,1],[3,4]]},"
+    ++ codes "{\"bookie\":\"b3:3181\",\"ledger\":7,\"entries\":[[1,2],[4,5]]},"
+    ++ codes "{\"bookie\":\"b1:3181\",\"ledger\":9,\"entries\":[[0,4]]},"
+    ++ codes "{\"bookie\":\"b2:3181\",\"ledger\":9,\"entries\":[[0,3]]},"
+    ++ codes "{\"bookie\":\"b3:3181\",\"ledger\":9,\"entries\":[[0,3]]}]"))))))))
+    ≡ Err NotJson
+unfolding serde_json_on_literals is_utf8 chars head_fault bookies_fault ledgers_fault contents_fault each_bookie_fault
+    members_fault fragments_fault metadata_fault each_ledger_fault ranges_fault each_content_fault set.from_list
+    set.insert set.empty set.items
 cut = refl
 
 -- a write quorum above the ensemble size
-quorum : picture_of (bookies ++ (closed_start ++ (codes "\"writeQuorumSize\":4,\"ackQuorumSize\":2,\"version\":0," ++ (closed_first ++ (closed_ensemble ++ (second_ledger ++ (first_contents ++ (other_contents)))))))) ≡ Err (BadLedger 7 flaw.Quorum)
-unfolding serde_json_on_literals is_utf8 chars head_fault bookies_fault ledgers_fault contents_fault each_bookie_fault members_fault fragments_fault metadata_fault each_ledger_fault ranges_fault each_content_fault set.from_list set.insert set.empty set.items
+quorum : picture_of
+    (bookies
+    ++ (closed_start
+    ++ (codes "\"writeQuorumSize\":4,\"ackQuorumSize\":2,\"version\":0,"
+    ++ (closed_first ++ (closed_ensemble ++ (second_ledger ++ (first_contents ++ (other_contents))))))))
+    ≡ Err (BadLedger 7 flaw.Quorum)
+unfolding serde_json_on_literals is_utf8 chars head_fault bookies_fault ledgers_fault contents_fault each_bookie_fault
+    members_fault fragments_fault metadata_fault each_ledger_fault ranges_fault each_content_fault set.from_list
+    set.insert set.empty set.items
 quorum = refl
 
 -- a bookie stands in an ensemble twice
-ensemble_twice : picture_of (bookies ++ (closed_start ++ (closed_quorums ++ (closed_first ++ (codes "\"ensemble\":[\"b1:3181\",\"b2:3181\",\"b1:3181\"]}]}," ++ (second_ledger ++ (first_contents ++ (other_contents)))))))) ≡ Err (BadLedger 7 flaw.Ensemble)
-unfolding serde_json_on_literals is_utf8 chars head_fault bookies_fault ledgers_fault contents_fault each_bookie_fault members_fault fragments_fault metadata_fault each_ledger_fault ranges_fault each_content_fault set.from_list set.insert set.empty set.items
+ensemble_twice : picture_of
+    (bookies
+    ++ (closed_start
+    ++ (closed_quorums
+    ++ (closed_first
+    ++ (codes "\"ensemble\":[\"b1:3181\",\"b2:3181\",\"b1:3181\"]}]},"
+    ++ (second_ledger ++ (first_contents ++ (other_contents))))))))
+    ≡ Err (BadLedger 7 flaw.Ensemble)
+unfolding serde_json_on_literals is_utf8 chars head_fault bookies_fault ledgers_fault contents_fault each_bookie_fault
+    members_fault fragments_fault metadata_fault each_ledger_fault ranges_fault each_content_fault set.from_list
+    set.insert set.empty set.items
 ensemble_twice = refl
 
 -- an ensemble names no bookie
-unknown : picture_of (bookies ++ (closed_start ++ (closed_quorums ++ (closed_first ++ (codes "\"ensemble\":[\"b1:3181\",\"b2:3181\",\"b9:3181\"]}]}," ++ (second_ledger ++ (first_contents ++ (other_contents)))))))) ≡ Err (UnknownBookie (codes "b9:3181"))
-unfolding serde_json_on_literals is_utf8 chars head_fault bookies_fault ledgers_fault contents_fault each_bookie_fault members_fault fragments_fault metadata_fault each_ledger_fault ranges_fault each_content_fault set.from_list set.insert set.empty set.items
+unknown : picture_of
+    (bookies
+    ++ (closed_start
+    ++ (closed_quorums
+    ++ (closed_first
+    ++ (codes "\"ensemble\":[\"b1:3181\",\"b2:3181\",\"b9:3181\"]}]},"
+    ++ (second_ledger ++ (first_contents ++ (other_contents))))))))
+    ≡ Err (UnknownBookie (codes "b9:3181"))
+unfolding serde_json_on_literals is_utf8 chars head_fault bookies_fault ledgers_fault contents_fault each_bookie_fault
+    members_fault fragments_fault metadata_fault each_ledger_fault ranges_fault each_content_fault set.from_list
+    set.insert set.empty set.items
 unknown = refl
 
 -- the first fragment does not begin at entry 0
-first_entry : picture_of (bookies ++ (closed_start ++ (closed_quorums ++ (codes "\"fragments\":[{\"firstEntry\":1," ++ (closed_ensemble ++ (second_ledger ++ (first_contents ++ (other_contents)))))))) ≡ Err (BadLedger 7 flaw.Fragment)
-unfolding serde_json_on_literals is_utf8 chars head_fault bookies_fault ledgers_fault contents_fault each_bookie_fault members_fault fragments_fault metadata_fault each_ledger_fault ranges_fault each_content_fault set.from_list set.insert set.empty set.items
+first_entry : picture_of
+    (bookies
+    ++ (closed_start
+    ++ (closed_quorums
+    ++ (codes "\"fragments\":[{\"firstEntry\":1,"
+    ++ (closed_ensemble ++ (second_ledger ++ (first_contents ++ (other_contents))))))))
+    ≡ Err (BadLedger 7 flaw.Fragment)
+unfolding serde_json_on_literals is_utf8 chars head_fault bookies_fault ledgers_fault contents_fault each_bookie_fault
+    members_fault fragments_fault metadata_fault each_ledger_fault ranges_fault each_content_fault set.from_list
+    set.insert set.empty set.items
 first_entry = refl
 
 -- an entry that there cannot be
-entry_end : picture_of (bookies ++ (closed_start ++ (closed_quorums ++ (closed_first ++ (closed_ensemble ++ (second_ledger ++ (codes "\"contents\":[{\"bookie\":\"b1:3181\",\"ledger\":7,\"entries\":[[0,65536]]}," ++ (other_contents)))))))) ≡ Err (Limit field.Entries)
-unfolding serde_json_on_literals is_utf8 chars head_fault bookies_fault ledgers_fault contents_fault each_bookie_fault members_fault fragments_fault metadata_fault each_ledger_fault ranges_fault each_content_fault set.from_list set.insert set.empty set.items
+entry_end : picture_of
+    (bookies
+    ++ (closed_start
+    ++ (closed_quorums
+    ++ (closed_first
+    ++ (closed_ensemble
+    ++ (second_ledger
+    ++ (codes "\"contents\":[{\"bookie\":\"b1:3181\",\"ledger\":7,\"entries\":[[0,65536]]}," ++ (other_contents))))))))
+    ≡ Err (Limit field.Entries)
+unfolding serde_json_on_literals is_utf8 chars head_fault bookies_fault ledgers_fault contents_fault each_bookie_fault
+    members_fault fragments_fault metadata_fault each_ledger_fault ranges_fault each_content_fault set.from_list
+    set.insert set.empty set.items
 entry_end = refl
 
 -- a last entry id below the last fragment
-last : picture_of (bookies ++ (codes "\"ledgers\":[{\"id\":7,\"state\":\"CLOSED\",\"lastEntryId\":-1,\"ensembleSize\":3," ++ (closed_quorums ++ (codes "\"fragments\":[{\"firstEntry\":0,\"ensemble\":[\"b4:3181\",\"b2:3181\",\"b3:3181\"]},{\"firstEntry\":1," ++ (closed_ensemble ++ (second_ledger ++ (first_contents ++ (other_contents)))))))) ≡ Err (BadLedger 7 flaw.Last)
-unfolding serde_json_on_literals is_utf8 chars head_fault bookies_fault ledgers_fault contents_fault each_bookie_fault members_fault fragments_fault metadata_fault each_ledger_fault ranges_fault each_content_fault set.from_list set.insert set.empty set.items
+last : picture_of
+    (bookies
+    ++ (codes "\"ledgers\":[{\"id\":7,\"state\":\"CLOSED\",\"lastEntryId\":-1,\"ensembleSize\":3,"
+    ++ (closed_quorums
+    ++ (codes "\"fragments\":[{\"firstEntry\":0,\"ensemble\":[\"b4:3181\",\"b2:3181\",\"b3:3181\"]},"
+    ++ codes "{\"firstEntry\":1," ++ (closed_ensemble ++ (second_ledger ++ (first_contents ++ (other_contents))))))))
+    ≡ Err (BadLedger 7 flaw.Last)
+unfolding serde_json_on_literals is_utf8 chars head_fault bookies_fault ledgers_fault contents_fault each_bookie_fault
+    members_fault fragments_fault metadata_fault each_ledger_fault ranges_fault each_content_fault set.from_list
+    set.insert set.empty set.items
 last = refl
 
 -- entries of no ledger
-unknown_ledger : picture_of (bookies ++ (closed_start ++ (closed_quorums ++ (closed_first ++ (closed_ensemble ++ (second_ledger ++ (codes "\"contents\":[{\"bookie\":\"b1:3181\",\"ledger\":8,\"entries\":[[0,0],[2,3],[5,5]]}," ++ (other_contents)))))))) ≡ Err (BadLedger 8 flaw.Unknown)
-unfolding serde_json_on_literals is_utf8 chars head_fault bookies_fault ledgers_fault contents_fault each_bookie_fault members_fault fragments_fault metadata_fault each_ledger_fault ranges_fault each_content_fault set.from_list set.insert set.empty set.items
+unknown_ledger : picture_of
+    (bookies
+    ++ (closed_start
+    ++ (closed_quorums
+    ++ (closed_first
+    ++ (closed_ensemble
+    ++ (second_ledger
+    ++ (codes "\"contents\":[{\"bookie\":\"b1:3181\",\"ledger\":8,\"entries\":[[0,0],[2,3],[5,5]]},"
+    ++ (other_contents))))))))
+    ≡ Err (BadLedger 8 flaw.Unknown)
+unfolding serde_json_on_literals is_utf8 chars head_fault bookies_fault ledgers_fault contents_fault each_bookie_fault
+    members_fault fragments_fault metadata_fault each_ledger_fault ranges_fault each_content_fault set.from_list
+    set.insert set.empty set.items
 unknown_ledger = refl
 
 -- the same bookie and ledger once more
-pair : picture_of (bookies ++ (closed_start ++ (closed_quorums ++ (closed_first ++ (closed_ensemble ++ (second_ledger ++ (first_contents ++ (codes "{\"bookie\":\"b1:3181\",\"ledger\":7,\"entries\":[[0,1],[3,4]]},{\"bookie\":\"b3:3181\",\"ledger\":7,\"entries\":[[1,2],[4,5]]},{\"bookie\":\"b1:3181\",\"ledger\":9,\"entries\":[[0,4]]},{\"bookie\":\"b2:3181\",\"ledger\":9,\"entries\":[[0,3]]},{\"bookie\":\"b3:3181\",\"ledger\":9,\"entries\":[[0,3]]}]}")))))))) ≡ Err (Twice (repeated.Content (codes "b1:3181") 7))
-unfolding serde_json_on_literals is_utf8 chars head_fault bookies_fault ledgers_fault contents_fault each_bookie_fault members_fault fragments_fault metadata_fault each_ledger_fault ranges_fault each_content_fault set.from_list set.insert set.empty set.items
+pair : picture_of
+    (bookies
+    ++ (closed_start
+    ++ (closed_quorums
+    ++ (closed_first
+    ++ (closed_ensemble
+    ++ (second_ledger
+    ++ (first_contents
+    ++ (codes "{\"bookie\":\"b1:3181\",\"ledger\":7,\"entries\":[[0,1],[3,4]]},"
+    ++ codes "{\"bookie\":\"b3:3181\",\"ledger\":7,\"entries\":[[1,2],[4,5]]},"
+    ++ codes "{\"bookie\":\"b1:3181\",\"ledger\":9,\"entries\":[[0,4]]},"
+    ++ codes "{\"bookie\":\"b2:3181\",\"ledger\":9,\"entries\":[[0,3]]},"
+    ++ codes "{\"bookie\":\"b3:3181\",\"ledger\":9,\"entries\":[[0,3]]}]}"))))))))
+    ≡ Err (Twice (repeated.Content (codes "b1:3181") 7))
+unfolding serde_json_on_literals is_utf8 chars head_fault bookies_fault ledgers_fault contents_fault each_bookie_fault
+    members_fault fragments_fault metadata_fault each_ledger_fault ranges_fault each_content_fault set.from_list
+    set.insert set.empty set.items
 pair = refl
 
 -- a range that does not rise past the one before
-rank : picture_of (bookies ++ (closed_start ++ (closed_quorums ++ (closed_first ++ (closed_ensemble ++ (second_ledger ++ (codes "\"contents\":[{\"bookie\":\"b1:3181\",\"ledger\":7,\"entries\":[[0,0],[0,3],[5,5]]}," ++ (other_contents)))))))) ≡ Err (Limit field.Entries)
-unfolding serde_json_on_literals is_utf8 chars head_fault bookies_fault ledgers_fault contents_fault each_bookie_fault members_fault fragments_fault metadata_fault each_ledger_fault ranges_fault each_content_fault set.from_list set.insert set.empty set.items
+rank : picture_of
+    (bookies
+    ++ (closed_start
+    ++ (closed_quorums
+    ++ (closed_first
+    ++ (closed_ensemble
+    ++ (second_ledger
+    ++ (codes "\"contents\":[{\"bookie\":\"b1:3181\",\"ledger\":7,\"entries\":[[0,0],[0,3],[5,5]]},"
+    ++ (other_contents))))))))
+    ≡ Err (Limit field.Entries)
+unfolding serde_json_on_literals is_utf8 chars head_fault bookies_fault ledgers_fault contents_fault each_bookie_fault
+    members_fault fragments_fault metadata_fault each_ledger_fault ranges_fault each_content_fault set.from_list
+    set.insert set.empty set.items
 rank = refl
 
 -- a grace below 0
-grace : picture_of (codes "{\"format\":1,\"grace\":-1,\"bookies\":[{\"name\":\"b1:3181\",\"up\":true},{\"name\":\"b2:3181\",\"up\":true},{\"name\":\"b3:3181\",\"up\":true},{\"name\":\"b4:3181\",\"up\":true},{\"name\":\"b5:3181\",\"up\":true}]," ++ (closed_start ++ (closed_quorums ++ (closed_first ++ (closed_ensemble ++ (second_ledger ++ (first_contents ++ (other_contents)))))))) ≡ Err (WrongKind field.Grace)
-unfolding serde_json_on_literals is_utf8 chars head_fault bookies_fault ledgers_fault contents_fault each_bookie_fault members_fault fragments_fault metadata_fault each_ledger_fault ranges_fault each_content_fault set.from_list set.insert set.empty set.items
+grace : picture_of
+    (codes "{\"format\":1,\"grace\":-1,\"bookies\":[{\"name\":\"b1:3181\",\"up\":true},"
+    ++ codes "{\"name\":\"b2:3181\",\"up\":true},{\"name\":\"b3:3181\",\"up\":true},"
+    ++ codes "{\"name\":\"b4:3181\",\"up\":true},{\"name\":\"b5:3181\",\"up\":true}],"
+    ++ (closed_start
+    ++ (closed_quorums
+    ++ (closed_first ++ (closed_ensemble ++ (second_ledger ++ (first_contents ++ (other_contents))))))))
+    ≡ Err (WrongKind field.Grace)
+unfolding serde_json_on_literals is_utf8 chars head_fault bookies_fault ledgers_fault contents_fault each_bookie_fault
+    members_fault fragments_fault metadata_fault each_ledger_fault ranges_fault each_content_fault set.from_list
+    set.insert set.empty set.items
 grace = refl
 
 -- no bookie
-no_bookies : picture_of (codes "{\"format\":1,\"grace\":3,\"bookies\":[]," ++ (closed_start ++ (closed_quorums ++ (closed_first ++ (closed_ensemble ++ (second_ledger ++ (first_contents ++ (other_contents)))))))) ≡ Err (Limit field.Bookies)
-unfolding serde_json_on_literals is_utf8 chars head_fault bookies_fault ledgers_fault contents_fault each_bookie_fault members_fault fragments_fault metadata_fault each_ledger_fault ranges_fault each_content_fault set.from_list set.insert set.empty set.items
+no_bookies : picture_of
+    (codes "{\"format\":1,\"grace\":3,\"bookies\":[],"
+    ++ (closed_start
+    ++ (closed_quorums
+    ++ (closed_first ++ (closed_ensemble ++ (second_ledger ++ (first_contents ++ (other_contents))))))))
+    ≡ Err (Limit field.Bookies)
+unfolding serde_json_on_literals is_utf8 chars head_fault bookies_fault ledgers_fault contents_fault each_bookie_fault
+    members_fault fragments_fault metadata_fault each_ledger_fault ranges_fault each_content_fault set.from_list
+    set.insert set.empty set.items
 no_bookies = refl

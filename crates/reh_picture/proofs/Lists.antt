@@ -1,5 +1,7 @@
 -- Lists that are walked along, and the places at which a test passes.
-use Rattle.std.proofs.Common.{◌≡◌, ℕ, suc, ◌+◌, ◌<◌, Bool, true, false, ◌||◌, cond, List, [], ◌∷◌, ◌++◌, map, length, take, drop, get_or, Option, None, Some, refl, sym, ap, ◌∙◌, arith, add-one, append-nil, if◌then◌else◌}
+use Rattle.std.proofs.Common.{◌≡◌, ℕ, suc, ◌+◌, ◌<◌, Bool, true, false, ◌||◌, cond, List, [], ◌∷◌, ◌++◌, map, length}
+use Rattle.std.proofs.Common.{take, drop, get_or, Option, None, Some, refl, sym, ap, ◌∙◌, arith, add-one, append-nil}
+use Rattle.std.proofs.Common.{if◌then◌else◌}
 use Rattle.std.specs.List.{filter, list_any, enumerate_from}
 use Rattle.std.specs.Ordering.{nat_cmp, eq_by_cmp}
 use Rattle.std.proofs.lemmas.List.{map-append, take_more}
@@ -15,41 +17,60 @@ use Rattle.reh_types.specs.Sets as set
 use Rattle.reh_types.specs.Sets.{numbers, contains-from_list, contains-insert, same_set}
 
 -- what is left of a list, and what was passed, from a place on
-module _ {A B : Type 0} (f : A → B) (xs : List A) (i : ℕ) (x : A) (within : i < length xs) (is : x ≡ get_or xs i x) where
+module _ {A B : Type 0} (f : A → B) (xs : List A) (i : ℕ) (x : A) (within : i < length xs)
+    (is : x ≡ get_or xs i x) where
   pub rest_from : map f (drop i xs) ≡ f x ∷ map f (drop (i + 1) xs)
   rest_from = rw (add-one i) (ap (map f) (drop-cons xs i x within) ∙ ap (λ y. f y ∷ map f (drop (suc i) xs)) (sym is))
 
   pub passed_to : map f (take (i + 1) xs) ≡ map f (take i xs) ++ f x ∷ []
-  passed_to = ap (map f) (take_more xs i x within) ∙ map-append f (take i xs) _ ∙ ap (λ y. map f (take i xs) ++ f y ∷ []) (sym is)
+  passed_to =
+      ap (map f) (take_more xs i x within) ∙ map-append f (take i xs) _
+      ∙ ap (λ y. map f (take i xs) ++ f y ∷ []) (sym is)
 
 -- The first fault along a list is that of the elements from place i on, each judged with those before it.
 abbrev pub IsLeft : (List Data → Data → Option PictureFault) → List Value → ℕ → Type 0
 IsLeft judge xs i = fault_along judge (map view (take i xs)) (map view (drop i xs)) ≡ fault_along judge [] (map view xs)
 
-module _ (judge : List Data → Data → Option PictureFault) (xs : List Value) (i : ℕ) (x : Value) (within : i < length xs) (is : x ≡ get_or xs i x) (left : IsLeft judge xs i) where
-  from_here : option_or (judge (map view (take i xs)) (view x)) (fault_along judge (map view (take (i + 1) xs)) (map view (drop (i + 1) xs))) ≡ fault_along judge [] (map view xs)
+module _ (judge : List Data → Data → Option PictureFault) (xs : List Value) (i : ℕ) (x : Value) (within : i < length xs)
+    (is : x ≡ get_or xs i x) (left : IsLeft judge xs i) where
+  from_here : option_or (judge (map view (take i xs)) (view x))
+      (fault_along judge (map view (take (i + 1) xs)) (map view (drop (i + 1) xs)))
+      ≡ fault_along judge [] (map view xs)
   from_here =
-      ap (λ before. option_or (judge (map view (take i xs)) (view x)) (fault_along judge before (map view (drop (i + 1) xs)))) (passed_to view xs i x within is)
+      ap (λ before.
+      option_or (judge (map view (take i xs)) (view x)) (fault_along judge before (map view (drop (i + 1) xs))))
+      (passed_to view xs i x within is)
       ∙ sym (ap (fault_along judge (map view (take i xs))) (rest_from view xs i x within is)) ∙ left
 
   -- an element's fault is the first of all
-  pub fault_here : (fault : PictureFault) → judge (map view (take i xs)) (view x) ≡ Some fault → fault_along judge [] (map view xs) ≡ Some fault
-  fault_here fault here = sym from_here ∙ ap (λ check. option_or check (fault_along judge (map view (take (i + 1) xs)) (map view (drop (i + 1) xs)))) here
+  pub fault_here : (fault : PictureFault) → judge (map view (take i xs)) (view x) ≡ Some fault
+      → fault_along judge [] (map view xs) ≡ Some fault
+  fault_here fault here =
+      sym from_here
+      ∙ ap (λ check. option_or check (fault_along judge (map view (take (i + 1) xs)) (map view (drop (i + 1) xs)))) here
 
   -- where it has none, the first is further on
   pub IsLeft-next : judge (map view (take i xs)) (view x) ≡ None → IsLeft judge xs (i + 1)
-  IsLeft-next good = sym (ap (λ check. option_or check (fault_along judge (map view (take (i + 1) xs)) (map view (drop (i + 1) xs)))) good) ∙ from_here
+  IsLeft-next good =
+      sym (ap (λ check. option_or check (fault_along judge (map view (take (i + 1) xs)) (map view (drop (i + 1) xs))))
+      good)
+      ∙ from_here
 
 -- Of each of the first elements one thing was made, and none has a fault.
-pub record HasMade {X : Type 0} (judge : List Data → Data → Option PictureFault) (made : Data → X) (xs : List Value) (i : ℕ) (things : List X) : Type 0 where
+pub record HasMade {X : Type 0} (judge : List Data → Data → Option PictureFault) (made : Data → X) (xs : List Value)
+    (i : ℕ) (things : List X) : Type 0 where
   pub things_are : things ≡ map made (map view (take i xs))
   pub left : IsLeft judge xs i
 
 -- the things, after one more
-pub HasMade-next : {X : Type 0} (judge : List Data → Data → Option PictureFault) (made : Data → X) (xs : List Value) (i : ℕ) (x : Value) → i < length xs → x ≡ get_or xs i x
-    → (things later : List X) → HasMade judge made xs i things → judge (map view (take i xs)) (view x) ≡ None → later ≡ things ++ made (view x) ∷ [] → HasMade judge made xs (i + 1) later
+pub HasMade-next : {X : Type 0} (judge : List Data → Data → Option PictureFault) (made : Data → X) (xs : List Value)
+    (i : ℕ) (x : Value) → i < length xs → x ≡ get_or xs i x
+    → (things later : List X) → HasMade judge made xs i things → judge (map view (take i xs)) (view x) ≡ None
+    → later ≡ things ++ made (view x) ∷ [] → HasMade judge made xs (i + 1) later
 HasMade-next judge made xs i x within is things later so_far good more = record {
-  things_are = more ∙ ap (λ ts. ts ++ made (view x) ∷ []) so_far.things_are ∙ sym (ap (map made) (passed_to view xs i x within is) ∙ map-append made (map view (take i xs)) _);
+  things_are =
+      more ∙ ap (λ ts. ts ++ made (view x) ∷ []) so_far.things_are
+      ∙ sym (ap (map made) (passed_to view xs i x within is) ∙ map-append made (map view (take i xs)) _);
   left = IsLeft-next judge xs i x within is so_far.left good;
 }
 
@@ -60,7 +81,8 @@ or_turned true false = refl
 or_turned false true = refl
 or_turned false false = refl
 
-pub from_list-push : (ks : List ℕ) (k : ℕ) → set.from_list {o = numbers} (ks ++ k ∷ []) ≡ set.insert (set.from_list ks) k
+pub from_list-push : (ks : List ℕ) (k : ℕ)
+    → set.from_list {o = numbers} (ks ++ k ∷ []) ≡ set.insert (set.from_list ks) k
 from_list-push ks k =
     same_set _ _ (λ q.
     contains-from_list numbers (ks ++ k ∷ []) q
@@ -79,21 +101,35 @@ module _ {D : Type 0} (test : D → Bool) where
 
   places-push : (n : ℕ) (ds : List D) (d : D) → places n (ds ++ d ∷ []) ≡ places n ds ++ here (n + length ds) d
   places-push n [] d =
-      elim (test d) as (λ up. map {A = ℕ × D} {B = ℕ} (λ p. p.0) (cond up ((n, d) ∷ []) []) ≡ (if up then (n + 0) ∷ [] else [])) [ true ↦ ap (λ k. k ∷ []) (omega arith) | false ↦ refl ]
+      elim (test d) as (λ up. map {A = ℕ × D} {B = ℕ} (λ p. p.0) (cond up ((n, d) ∷ []) [])
+      ≡ (if up then (n + 0) ∷ [] else [])) [
+        | true ↦ ap (λ k. k ∷ []) (omega arith)
+        | false ↦ refl
+      ]
   places-push n (x ∷ ds) d =
       let later : places (n + 1) (ds ++ d ∷ []) ≡ places (n + 1) ds ++ here (n + suc (length ds)) d =
       places-push (n + 1) ds d ∙ ap (λ k. places (n + 1) ds ++ here k d) (omega arith) in
-      elim (test x) as (λ up. map {A = ℕ × D} {B = ℕ} (λ p. p.0) (cond up ((n, x) ∷ filter (λ p. test p.1) (enumerate_from (n + 1) (ds ++ d ∷ []))) (filter (λ p. test p.1) (enumerate_from (n + 1) (ds ++ d ∷ []))))
-      ≡ map {A = ℕ × D} {B = ℕ} (λ p. p.0) (cond up ((n, x) ∷ filter (λ p. test p.1) (enumerate_from (n + 1) ds)) (filter (λ p. test p.1) (enumerate_from (n + 1) ds))) ++ here (n + suc (length ds)) d) [
+      elim (test x) as (λ up.
+      map {A = ℕ × D} {B = ℕ} (λ p. p.0)
+      (cond up ((n, x) ∷ filter (λ p. test p.1) (enumerate_from (n + 1) (ds ++ d ∷ [])))
+      (filter (λ p. test p.1) (enumerate_from (n + 1) (ds ++ d ∷ []))))
+      ≡ map {A = ℕ × D} {B = ℕ} (λ p. p.0)
+      (cond up ((n, x) ∷ filter (λ p. test p.1) (enumerate_from (n + 1) ds))
+      (filter (λ p. test p.1) (enumerate_from (n + 1) ds)))
+      ++ here (n + suc (length ds)) d) [
         | true ↦ ap (λ ks. n ∷ ks) later
         | false ↦ later
       ]
 
   -- the set of these places, for one more element
-  pub from_list-places : (ds : List D) (d : D) → set.from_list {o = numbers} (places 0 (ds ++ d ∷ [])) ≡ (if test d then set.insert (set.from_list (places 0 ds)) (length ds) else set.from_list (places 0 ds))
+  pub from_list-places : (ds : List D) (d : D)
+      → set.from_list {o = numbers} (places 0 (ds ++ d ∷ []))
+      ≡ (if test d then set.insert (set.from_list (places 0 ds)) (length ds) else set.from_list (places 0 ds))
   from_list-places ds d =
       ap (λ ks. set.from_list ks) (places-push 0 ds d)
-      ∙ elim (test d) as (λ up. set.from_list {o = numbers} (places 0 ds ++ (if up then (0 + length ds) ∷ [] else [])) ≡ (if up then set.insert (set.from_list (places 0 ds)) (length ds) else set.from_list (places 0 ds))) [
-        | true ↦ from_list-push (places 0 ds) (0 + length ds) ∙ ap (set.insert (set.from_list (places 0 ds))) (omega arith)
+      ∙ elim (test d) as (λ up. set.from_list {o = numbers} (places 0 ds ++ (if up then (0 + length ds) ∷ [] else []))
+      ≡ (if up then set.insert (set.from_list (places 0 ds)) (length ds) else set.from_list (places 0 ds))) [
+        | true ↦
+            from_list-push (places 0 ds) (0 + length ds) ∙ ap (set.insert (set.from_list (places 0 ds))) (omega arith)
         | false ↦ ap (λ ks. set.from_list ks) (append-nil (places 0 ds))
       ]

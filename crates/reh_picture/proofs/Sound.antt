@@ -1,7 +1,11 @@
 -- What a picture without a fault names is a well-formed cluster.
-use Rattle.std.proofs.Common.{◌≡◌, ℕ, zero, suc, ◌+◌, ◌-◌, ◌*◌, ◌<◌, ◌≤◌, Bool, true, false, not, ◌&&◌, ◌||◌, cond, List, [], ◌∷◌, ◌++◌, map, length, get_or, Option, None, Some, IsSome, is_some, refl, sym, ap, ◌∙◌, subst, arith, nat_lt, nat_eq, unwrap_or, append-nil, append_assoc, if◌then◌else◌, lit≤}
+use Rattle.std.proofs.Common.{◌≡◌, ℕ, zero, suc, ◌+◌, ◌-◌, ◌*◌, ◌<◌, ◌≤◌, Bool, true, false, not, ◌&&◌, ◌||◌, cond}
+use Rattle.std.proofs.Common.{List, [], ◌∷◌, ◌++◌, map, length, get_or, Option, None, Some, IsSome, is_some, refl, sym}
+use Rattle.std.proofs.Common.{ap, ◌∙◌, subst, arith, nat_lt, nat_eq, unwrap_or, append-nil, append_assoc, if◌then◌else◌}
+use Rattle.std.proofs.Common.{lit≤}
 use Rattle.std.specs.Prelude.{◌==◌, codes, nat_le, ℤ, pos, negsuc, All, sum_by}
-use Rattle.std.specs.List.{list_any, find, flat_map, filter, enumerate_from, range_with_len, IsDistinct, position_or_len}
+use Rattle.std.specs.List.{list_any, find, flat_map, filter, enumerate_from, range_with_len, IsDistinct}
+use Rattle.std.specs.List.{position_or_len}
 use Rattle.std.specs.Option.{option_or, option_map, option_map_or, option_and_then, ForSome}
 use Rattle.std.specs.Ordering.{nat_cmp, eq_by_cmp, is_eq}
 use Rattle.std.specs.Cmp.{IsEquivalence, tied_itself, Equal-is, unsigned_tied}
@@ -15,7 +19,9 @@ use Rattle.std.proofs.lemmas.List.FromFn.{get_or-map-range_with_len, length-map-
 use Rattle.std.proofs.lemmas.Map.Keys.{IsDistinct-push}
 use Rattle.std.proofs.lemmas.Slice.Eq.{bytes_eq-Decides}
 use Rattle.serde_json.specs.Data.{Data}
-use Rattle.reh_types.specs.declared.limits.TheConstants.{ENTRIES_IN_WORD, ENTRY_END, MAX_BOOKIES, MAX_ENTRY_ID, MAX_FRAGMENTS, MAX_GRACE, MAX_LEDGERS, MAX_LEDGER_ID, MAX_VERSION, MAX_WORDS}
+use Rattle.reh_types.specs.declared.limits.TheConstants.{ENTRIES_IN_WORD, ENTRY_END, MAX_BOOKIES, MAX_ENTRY_ID}
+use Rattle.reh_types.specs.declared.limits.TheConstants.{MAX_FRAGMENTS, MAX_GRACE, MAX_LEDGERS, MAX_LEDGER_ID}
+use Rattle.reh_types.specs.declared.limits.TheConstants.{MAX_VERSION, MAX_WORDS}
 use Rattle.reh_types.specs.declared.names.LedgerState.TheVariants.{Open, InRecovery, Closed}
 use Rattle.reh_types.specs.Sets as set
 use Rattle.reh_types.specs.Sets.{Set, numbers, triples, triple_cmp, triple_total, contains-from_list, contains-items}
@@ -35,12 +41,19 @@ use Rattle.reh_picture.specs.declared.faults.PictureFault.TheVariants.{Limit}
 use Rattle.reh_model.specs.Checks.{reason_unless}
 use Rattle.reh_picture.specs.Faults.{fault_along}
 use Rattle.reh_picture.specs.Members.{integer_in, number_of, text_of, flag_of, list_of, number_fault, list_fault}
-use Rattle.reh_picture.specs.Bookies.{bookie_fault, each_bookie_fault, bookies_fault, names_in, registered_in, bookie_in, known_fault}
-use Rattle.reh_picture.specs.Ledgers.{member_name, member_fault, members_fault, fragment_fault, fragment_in, fragments_fault, is_closed, end_after, end_in, state_in, pictured_metadata, broken_rule, metadata_fault, ledger_fault, ids_in, each_ledger_fault, ledgers_fault, ListedLedger, listed_in, ledger_of, ledger_in}
-use Rattle.reh_picture.specs.Contents.{ends_of, next_after, range_fault, ranges_fault, Holding, holding_in, pairs_in, content_fault, each_content_fault, contents_fault, copies_within, copies_in, held_in, words_to, IsGreatest, HasEnds}
+use Rattle.reh_picture.specs.Bookies.{bookie_fault, each_bookie_fault, bookies_fault, names_in, registered_in}
+use Rattle.reh_picture.specs.Bookies.{bookie_in, known_fault}
+use Rattle.reh_picture.specs.Ledgers.{member_name, member_fault, members_fault, fragment_fault, fragment_in}
+use Rattle.reh_picture.specs.Ledgers.{fragments_fault, is_closed, end_after, end_in, state_in, pictured_metadata}
+use Rattle.reh_picture.specs.Ledgers.{broken_rule, metadata_fault, ledger_fault, ids_in, each_ledger_fault}
+use Rattle.reh_picture.specs.Ledgers.{ledgers_fault, ListedLedger, listed_in, ledger_of, ledger_in}
+use Rattle.reh_picture.specs.Contents.{ends_of, next_after, range_fault, ranges_fault, Holding, holding_in, pairs_in}
+use Rattle.reh_picture.specs.Contents.{content_fault, each_content_fault, contents_fault, copies_within, copies_in}
+use Rattle.reh_picture.specs.Contents.{held_in, words_to, IsGreatest, HasEnds}
 use Rattle.reh_model.specs.Contents as model
 use Rattle.reh_picture.proofs.Greatest.{greatest_held-low}
-use Rattle.reh_picture.specs.Pictures.{names_of, ids_of, contents_of, pictured_cluster, words_in_all, head_fault, parts_fault, fields_fault, IsShown}
+use Rattle.reh_picture.specs.Pictures.{names_of, ids_of, contents_of, pictured_cluster, words_in_all, head_fault}
+use Rattle.reh_picture.specs.Pictures.{parts_fault, fields_fault, IsShown}
 
 -- Tests
 
@@ -57,36 +70,51 @@ and-true true b is = (refl, is)
 and-true false b is = cc
 
 -- a number within its bounds
-number_within : (d : Data) (field : Field) (least most : ℕ) → number_fault d field least most ≡ None → (least ≤ number_of d field) × (number_of d field ≤ most)
+number_within : (d : Data) (field : Field) (least most : ℕ) → number_fault d field least most ≡ None
+    → (least ≤ number_of d field) × (number_of d field ≤ most)
 number_within d field least most none =
     let checks = both-none _ _ none in
-    let both : (nat_le least (number_of d field) ≡ true) × (nat_le (number_of d field) most ≡ true) = and-true _ _ (reason_unless-none _ _ (both-none _ _ checks.1).0) in
+    let both : (nat_le least (number_of d field) ≡ true) × (nat_le (number_of d field) most ≡ true) =
+    and-true _ _ (reason_unless-none _ _ (both-none _ _ checks.1).0) in
     (grind (arith, nat_tests, both.0), grind (arith, nat_tests, both.1))
 
 -- a list with a number of elements within its bounds
-list_within : (d : Data) (field : Field) (least most : ℕ) → list_fault d field least most ≡ None → (least ≤ length (list_of d field)) × (length (list_of d field) ≤ most)
+list_within : (d : Data) (field : Field) (least most : ℕ) → list_fault d field least most ≡ None
+    → (least ≤ length (list_of d field)) × (length (list_of d field) ≤ most)
 list_within d field least most none =
     let checks = both-none _ _ none in
-    let both : (nat_le least (length (list_of d field)) ≡ true) × (nat_le (length (list_of d field)) most ≡ true) = and-true _ _ (reason_unless-none _ _ (both-none _ _ checks.1).0) in
+    let both : (nat_le least (length (list_of d field)) ≡ true) × (nat_le (length (list_of d field)) most ≡ true) =
+    and-true _ _ (reason_unless-none _ _ (both-none _ _ checks.1).0) in
     (grind (arith, nat_tests, both.0), grind (arith, nat_tests, both.1))
 
 -- Along lists
 
 -- what is made of each element is as it should be
-all_made : {X : Type 0} (judge : List Data → Data → Option PictureFault) (make : Data → X) (P : X → Type 0) → ((before : List Data) (d : Data) → judge before d ≡ None → P (make d))
-    → (before ds : List Data) → fault_along judge before ds ≡ None → (k : ℕ) (x : X) → k < length (map make ds) → P (get_or (map make ds) k x)
+all_made : {X : Type 0} (judge : List Data → Data → Option PictureFault) (make : Data → X) (P : X → Type 0)
+    → ((before : List Data) (d : Data) → judge before d ≡ None → P (make d))
+    → (before ds : List Data) → fault_along judge before ds ≡ None → (k : ℕ) (x : X) → k < length (map make ds)
+    → P (get_or (map make ds) k x)
 all_made judge make P each before [] none k x within = absurd (omega arith)
 all_made judge make P each before (d ∷ ds) none zero x within = each before d (both-none _ _ none).0
-all_made judge make P each before (d ∷ ds) none (suc k) x within = all_made judge make P each (before ++ d ∷ []) ds (both-none _ _ none).1 k x (omega arith)
+all_made judge make P each before (d ∷ ds) none (suc k) x within =
+    all_made judge make P each (before ++ d ∷ []) ds (both-none _ _ none).1 k x (omega arith)
 
 -- keys that are each checked against those before them differ
-module _ {K : Type 0} (eq : K → K → Bool) (laws : IsEquivalence eq) (key : Data → K) (judge : List Data → Data → Option PictureFault) (each : (before : List Data) (d : Data) → judge before d ≡ None → list_any (eq (key d)) (map key before) ≡ false) where
-  differ_after : (before ds : List Data) → IsDistinct eq (map key before) → fault_along judge before ds ≡ None → IsDistinct eq (map key (before ++ ds))
-  differ_after before [] differ none = subst (λ (xs : List Data). IsDistinct eq (map key xs)) (sym (append-nil before)) differ
+module _ {K : Type 0} (eq : K → K → Bool) (laws : IsEquivalence eq) (key : Data → K)
+    (judge : List Data → Data → Option PictureFault)
+    (each : (before : List Data) (d : Data) → judge before d ≡ None
+    → list_any (eq (key d)) (map key before) ≡ false) where
+  differ_after : (before ds : List Data) → IsDistinct eq (map key before) → fault_along judge before ds ≡ None
+      → IsDistinct eq (map key (before ++ ds))
+  differ_after before [] differ none =
+      subst (λ (xs : List Data). IsDistinct eq (map key xs)) (sym (append-nil before)) differ
   differ_after before (d ∷ ds) differ none =
       let checks = both-none _ _ none in
-      let more : IsDistinct eq (map key (before ++ d ∷ [])) = subst (λ (ks : List K). IsDistinct eq ks) (sym (map-append key before (d ∷ []))) (IsDistinct-push laws (map key before) (key d) differ (each before d checks.0)) in
-      subst (λ (xs : List Data). IsDistinct eq (map key xs)) (append_assoc before (d ∷ []) ds) (differ_after (before ++ d ∷ []) ds more checks.1)
+      let more : IsDistinct eq (map key (before ++ d ∷ [])) =
+      subst (λ (ks : List K). IsDistinct eq ks) (sym (map-append key before (d ∷ [])))
+      (IsDistinct-push laws (map key before) (key d) differ (each before d checks.0)) in
+      subst (λ (xs : List Data). IsDistinct eq (map key xs)) (append_assoc before (d ∷ []) ds)
+      (differ_after (before ++ d ∷ []) ds more checks.1)
 
   differ : (ds : List Data) → fault_along judge [] ds ≡ None → IsDistinct eq (map key ds)
   unfolding IsDistinct
@@ -95,46 +123,79 @@ module _ {K : Type 0} (eq : K → K → Bool) (laws : IsEquivalence eq) (key : D
 bytes_eq_equiv : IsEquivalence bytes_eq
 bytes_eq_equiv = record {
   refl = λ x. (bytes_eq-Decides x x).1 refl;
-  symm = λ x y. same_answer _ _ (λ t. (bytes_eq-Decides y x).1 (sym ((bytes_eq-Decides x y).0 t))) (λ t. (bytes_eq-Decides x y).1 (sym ((bytes_eq-Decides y x).0 t)));
+  symm =
+      λ x y.
+      same_answer _ _ (λ t. (bytes_eq-Decides y x).1 (sym ((bytes_eq-Decides x y).0 t)))
+      (λ t. (bytes_eq-Decides x y).1 (sym ((bytes_eq-Decides y x).0 t)));
   congr = λ x y z t. ap (λ (w : List ℕ). bytes_eq w z) ((bytes_eq-Decides x y).0 t);
 }
 
 -- Bookies
 
-bookie_differs : (before : List Data) (d : Data) → bookie_fault (names_in before) d ≡ None → list_any (bytes_eq (text_of d field.Name)) (names_in before) ≡ false
+bookie_differs : (before : List Data) (d : Data) → bookie_fault (names_in before) d ≡ None
+    → list_any (bytes_eq (text_of d field.Name)) (names_in before) ≡ false
 bookie_differs before d none = not-true _ (reason_unless-none _ _ (both-none _ _ (both-none _ _ none).1).0)
 
 names_differ : (bookies : List Data) → each_bookie_fault bookies ≡ None → IsDistinct bytes_eq (names_in bookies)
 unfolding each_bookie_fault
-names_differ bookies none = differ bytes_eq bytes_eq_equiv (λ d. text_of d field.Name) (λ before d. bookie_fault (names_in before) d) bookie_differs bookies none
+names_differ bookies none =
+    differ bytes_eq bytes_eq_equiv (λ d. text_of d field.Name) (λ before d. bookie_fault (names_in before) d)
+    bookie_differs bookies none
 
 -- a place at which a test passes is within the list
-place_within : (test : Data → Bool) (b n : ℕ) (ds : List Data) → list_any (eq_by_cmp nat_cmp b) (map {A = ℕ × Data} {B = ℕ} (λ p. p.0) (filter (λ p. test p.1) (enumerate_from n ds))) ≡ true → b < n + length ds
+place_within : (test : Data → Bool) (b n : ℕ) (ds : List Data)
+    → list_any (eq_by_cmp nat_cmp b)
+    (map {A = ℕ × Data} {B = ℕ} (λ p. p.0) (filter (λ p. test p.1) (enumerate_from n ds)))
+    ≡ true → b < n + length ds
 place_within test b n [] any = cc
 place_within test b n (d ∷ ds) any =
-    elim (test d) as (λ t. list_any (eq_by_cmp nat_cmp b) (map {A = ℕ × Data} {B = ℕ} (λ p. p.0) (cond t ((n, d) ∷ filter (λ p. test p.1) (enumerate_from (n + 1) ds)) (filter (λ p. test p.1) (enumerate_from (n + 1) ds)))) ≡ true → b < n + suc (length ds)) [
-      | true ↦ λ any. elim (eq_by_cmp nat_cmp b n) as (λ t. eq_by_cmp nat_cmp b n ≡ t → (t || list_any (eq_by_cmp nat_cmp b) (map {A = ℕ × Data} {B = ℕ} (λ p. p.0) (filter (λ p. test p.1) (enumerate_from (n + 1) ds)))) ≡ true → b < n + suc (length ds)) [
-        | true ↦ λ tied any. let same : b ≡ n = grind (arith, nat_tests, unsigned_tied b n, tied) in omega arith
-        | false ↦ λ tied any. omega (arith, place_within test b (n + 1) ds any)
-      ] refl any
+    elim (test d) as (λ t.
+    list_any (eq_by_cmp nat_cmp b)
+    (map {A = ℕ × Data} {B = ℕ} (λ p. p.0)
+    (cond t ((n, d) ∷ filter (λ p. test p.1) (enumerate_from (n + 1) ds))
+    (filter (λ p. test p.1) (enumerate_from (n + 1) ds))))
+    ≡ true → b < n + suc (length ds)) [
+      | true ↦
+          λ any.
+          elim (eq_by_cmp nat_cmp b n) as (λ t. eq_by_cmp nat_cmp b n ≡ t
+          → (t
+          || list_any (eq_by_cmp nat_cmp b)
+          (map {A = ℕ × Data} {B = ℕ} (λ p. p.0) (filter (λ p. test p.1) (enumerate_from (n + 1) ds))))
+          ≡ true → b < n + suc (length ds)) [
+            | true ↦ λ tied any. let same : b ≡ n = grind (arith, nat_tests, unsigned_tied b n, tied) in omega arith
+            | false ↦ λ tied any. omega (arith, place_within test b (n + 1) ds any)
+          ] refl any
       | false ↦ λ any. omega (arith, place_within test b (n + 1) ds any)
     ] any
 
-registered_named : (bookies : List Data) (b : ℕ) → set.contains (registered_in bookies) b ≡ true → b < length (names_in bookies)
+registered_named : (bookies : List Data) (b : ℕ) → set.contains (registered_in bookies) b ≡ true
+    → b < length (names_in bookies)
 registered_named bookies b is =
-    omega (arith, place_within (λ d. flag_of d field.Up) b 0 bookies (sym (contains-from_list numbers (map (λ p. p.0) (filter (λ p. flag_of p.1 field.Up) (enumerate_from 0 bookies))) b) ∙ is), length-map bookies (λ d. text_of d field.Name))
+    omega (
+      arith,
+      place_within (λ d. flag_of d field.Up) b 0 bookies
+          (sym (contains-from_list numbers
+          (map (λ p. p.0) (filter (λ p. flag_of p.1 field.Up) (enumerate_from 0 bookies)))
+          b)
+          ∙ is),
+      length-map bookies (λ d. text_of d field.Name),
+    )
 
 -- a place, where there is one
 abbrev place_if : ℕ → Bool → Option ℕ
 place_if n t = cond t (Some n) None
 
 -- a bookie that is known
-found_within : (n most : ℕ) (t : Bool) → nat_lt n most ≡ t → is_some (place_if n t) ≡ true → unwrap_or (place_if n t) 0 < most
+found_within : (n most : ℕ) (t : Bool) → nat_lt n most ≡ t → is_some (place_if n t) ≡ true
+    → unwrap_or (place_if n t) 0 < most
 found_within n most true t some = grind (arith, nat_tests, t)
 found_within n most false t some = cc
 
-bookie_known : (names : List (List ℕ)) (name : List ℕ) → known_fault names name ≡ None → bookie_in names name < length names
-bookie_known names name none = found_within (position_or_len (bytes_eq name) names) (length names) (nat_lt (position_or_len (bytes_eq name) names) (length names)) refl (reason_unless-none _ _ none)
+bookie_known : (names : List (List ℕ)) (name : List ℕ) → known_fault names name ≡ None
+    → bookie_in names name < length names
+bookie_known names name none =
+    found_within (position_or_len (bytes_eq name) names) (length names)
+    (nat_lt (position_or_len (bytes_eq name) names) (length names)) refl (reason_unless-none _ _ none)
 
 -- Ledgers
 
@@ -152,7 +213,12 @@ KeepsRules-none m none =
     }
 
 end_after-small : (last : ℤ) → unwrap_or (end_after last) 0 ≤ ENTRY_END
-end_after-small (pos n) = elim (nat_le n MAX_ENTRY_ID) as (λ t. nat_le n MAX_ENTRY_ID ≡ t → unwrap_or (cond t (Some (n + 1)) None) 0 ≤ ENTRY_END) [ true ↦ λ t. grind (arith, nat_tests, t) | false ↦ λ t. lit≤ tt ] refl
+end_after-small (pos n) =
+    elim (nat_le n MAX_ENTRY_ID) as (λ t. nat_le n MAX_ENTRY_ID ≡ t
+    → unwrap_or (cond t (Some (n + 1)) None) 0 ≤ ENTRY_END) [
+      | true ↦ λ t. grind (arith, nat_tests, t)
+      | false ↦ λ t. lit≤ tt
+    ] refl
 end_after-small (negsuc zero) = lit≤ tt
 end_after-small (negsuc (suc n)) = lit≤ tt
 
@@ -162,25 +228,40 @@ end_small (Some last) = end_after-small last
 
 state_small : (d : Data) → ForSome (end_of_state (state_in d)) (λ end. end ≤ ENTRY_END)
 state_small d end is =
-    elim (is_closed d) as (λ t. end_of_state (if t then Closed (unwrap_or (end_in d) 0) else (if bytes_eq (text_of d field.State) (codes "OPEN") then Open else InRecovery)) ≡ Some end → end ≤ ENTRY_END) [
-      | true ↦ λ is. let same : unwrap_or (end_in d) 0 ≡ end = cc in omega (arith, end_small (result_ok (integer_in d field.LastEntryId)))
-      | false ↦ elim (bytes_eq (text_of d field.State) (codes "OPEN")) as (λ u. end_of_state (if u then Open else InRecovery) ≡ Some end → end ≤ ENTRY_END) [ true ↦ λ is. cc | false ↦ λ is. cc ]
+    elim (is_closed d) as (λ t.
+    end_of_state
+    (if t then Closed (unwrap_or (end_in d) 0)
+    else (if bytes_eq (text_of d field.State) (codes "OPEN") then Open else InRecovery))
+    ≡ Some end → end ≤ ENTRY_END) [
+      | true ↦ λ is. let same : unwrap_or (end_in d) 0 ≡ end = cc in
+          omega (arith, end_small (result_ok (integer_in d field.LastEntryId)))
+      | false ↦
+          elim (bytes_eq (text_of d field.State) (codes "OPEN")) as (λ u. end_of_state (if u then Open else InRecovery)
+          ≡ Some end → end ≤ ENTRY_END) [
+            | true ↦ λ is. cc
+            | false ↦ λ is. cc
+          ]
     ] is
 
 -- the members of an ensemble are known
-member_known : (names : List (List ℕ)) (before : List Data) (d : Data) → member_fault names d ≡ None → bookie_in names (member_name d) < length names
+member_known : (names : List (List ℕ)) (before : List Data) (d : Data) → member_fault names d ≡ None
+    → bookie_in names (member_name d) < length names
 member_known names before d none = bookie_known names (member_name d) (both-none _ _ (both-none _ _ none).1).0
 
-members_known : (names : List (List ℕ)) (members : List Data) → members_fault names members ≡ None → All (λ b. b < length names) (map (λ member. bookie_in names (member_name member)) members)
+members_known : (names : List (List ℕ)) (members : List Data) → members_fault names members ≡ None
+    → All (λ b. b < length names) (map (λ member. bookie_in names (member_name member)) members)
 unfolding members_fault
-members_known names members none = all_made (λ _ d. member_fault names d) (λ member. bookie_in names (member_name member)) (λ b. b < length names) (member_known names) [] members none
+members_known names members none =
+    all_made (λ _ d. member_fault names d) (λ member. bookie_in names (member_name member)) (λ b. b < length names)
+    (member_known names) [] members none
 
 -- a fragment begins within the limit, and names bookies that are known
 pub record IsFragment (bookies : ℕ) (fragment : Fragment) : Type 0 where
   pub first : fragment.first < ENTRY_END
   pub members : All (λ b. b < bookies) fragment.ensemble
 
-fragment_good : (names : List (List ℕ)) (before : List Data) (d : Data) → fragment_fault names d ≡ None → IsFragment (length names) (fragment_in names d)
+fragment_good : (names : List (List ℕ)) (before : List Data) (d : Data) → fragment_fault names d ≡ None
+    → IsFragment (length names) (fragment_in names d)
 fragment_good names before d none =
     let first = both-none _ _ (both-none _ _ none).1 in
     let list = both-none _ _ first.1 in
@@ -189,16 +270,20 @@ fragment_good names before d none =
       members = members_known names (list_of d field.Ensemble) (both-none _ _ list.1).0;
     }
 
-fragments_good : (names : List (List ℕ)) (fragments : List Data) → fragments_fault names fragments ≡ None → All (IsFragment (length names)) (map (fragment_in names) fragments)
+fragments_good : (names : List (List ℕ)) (fragments : List Data) → fragments_fault names fragments ≡ None
+    → All (IsFragment (length names)) (map (fragment_in names) fragments)
 unfolding fragments_fault
-fragments_good names fragments none = all_made (λ _ d. fragment_fault names d) (fragment_in names) (IsFragment (length names)) (fragment_good names) [] fragments none
+fragments_good names fragments none =
+    all_made (λ _ d. fragment_fault names d) (fragment_in names) (IsFragment (length names)) (fragment_good names) []
+    fragments none
 
 -- a ledger's metadata
 pub record IsMetadataOf (names : List (List ℕ)) (d : Data) : Type 0 where
   pub metadata : IsMetadata (pictured_metadata names d)
   pub fragments : All (IsFragment (length names)) (pictured_metadata names d).fragments
 
-metadata_good : (names : List (List ℕ)) (ledger : ℕ) (d : Data) → metadata_fault names ledger d ≡ None → IsMetadataOf names d
+metadata_good : (names : List (List ℕ)) (ledger : ℕ) (d : Data) → metadata_fault names ledger d ≡ None
+    → IsMetadataOf names d
 unfolding metadata_fault
 metadata_good names ledger d none =
     let sizes = both-none _ _ (both-none _ _ none).1 in
@@ -208,20 +293,28 @@ metadata_good names ledger d none =
     let rules = both-none _ _ fragments.1 in
     let each = fragments_good names (list_of d field.Fragments) fragments.0 in
     record {
-      metadata = IsMetadata-from_rules (pictured_metadata names d) (KeepsRules-none _ (option_map-none (broken_rule ledger) _ rules.0))
+      metadata =
+          IsMetadata-from_rules (pictured_metadata names d)
+          (KeepsRules-none _ (option_map-none (broken_rule ledger) _ rules.0))
           (number_within d field.Version 0 MAX_VERSION version.0).1 (state_small d)
-          (omega (arith, (list_within d field.Fragments 0 MAX_FRAGMENTS list.0).1, length-map (list_of d field.Fragments) (fragment_in names)))
+          (omega (
+            arith,
+            (list_within d field.Fragments 0 MAX_FRAGMENTS list.0).1,
+            length-map (list_of d field.Fragments) (fragment_in names),
+          ))
           (λ k fragment within. (each k fragment within).first);
       fragments = each;
     }
 
 -- words that reach a greatest entry which there can be
-words_to-low : (greatest : Option ℕ) → ForSome greatest (λ entry. entry < ENTRY_END) → ENTRIES_IN_WORD * words_to greatest ≤ ENTRY_END
+words_to-low : (greatest : Option ℕ) → ForSome greatest (λ entry. entry < ENTRY_END)
+    → ENTRIES_IN_WORD * words_to greatest ≤ ENTRY_END
 words_to-low None low = lit≤ tt
 words_to-low (Some entry) low = omega (arith, low entry refl)
 
 -- a ledger in any cluster with these names, where each entry that is held is one that there can be
-ledger_good : (s : Cluster) → All (λ t. t.2 < ENTRY_END) (set.items s.parts.held) → (before : List Data) (d : Data) → ledger_fault s.names (ids_in before) d ≡ None → IsLedgerOf s (ledger_in s.names s.parts.held d)
+ledger_good : (s : Cluster) → All (λ t. t.2 < ENTRY_END) (set.items s.parts.held) → (before : List Data) (d : Data)
+    → ledger_fault s.names (ids_in before) d ≡ None → IsLedgerOf s (ledger_in s.names s.parts.held d)
 ledger_good s low before d none =
     let id = both-none _ _ (both-none _ _ none).1 in
     let twice = both-none _ _ id.1 in
@@ -230,51 +323,72 @@ ledger_good s low before d none =
       id = (number_within d field.Id 0 MAX_LEDGER_ID id.0).1;
       metadata = metadata.metadata;
       members = λ k fragment within. (metadata.fragments k fragment within).members;
-      words = words_to-low (model.greatest_held s.parts.held (number_of d field.Id)) (greatest_held-low s.parts.held (number_of d field.Id) ENTRY_END low);
+      words =
+          words_to-low (model.greatest_held s.parts.held (number_of d field.Id))
+          (greatest_held-low s.parts.held (number_of d field.Id) ENTRY_END low);
       task = λ task is. cc;
       lock = λ lock is. cc;
       due = λ due is. cc;
     }
 
-ledgers_good : (s : Cluster) → All (λ t. t.2 < ENTRY_END) (set.items s.parts.held) → (ledgers : List Data) → each_ledger_fault s.names ledgers ≡ None → All (IsLedgerOf s) (map (ledger_in s.names s.parts.held) ledgers)
+ledgers_good : (s : Cluster) → All (λ t. t.2 < ENTRY_END) (set.items s.parts.held) → (ledgers : List Data)
+    → each_ledger_fault s.names ledgers ≡ None → All (IsLedgerOf s) (map (ledger_in s.names s.parts.held) ledgers)
 unfolding each_ledger_fault
-ledgers_good s low ledgers none = all_made (λ before d. ledger_fault s.names (ids_in before) d) (ledger_in s.names s.parts.held) (IsLedgerOf s) (ledger_good s low) [] ledgers none
+ledgers_good s low ledgers none =
+    all_made (λ before d. ledger_fault s.names (ids_in before) d) (ledger_in s.names s.parts.held) (IsLedgerOf s)
+    (ledger_good s low) [] ledgers none
 
-ledger_differs : (names : List (List ℕ)) (before : List Data) (d : Data) → ledger_fault names (ids_in before) d ≡ None → list_any (nat_eq (number_of d field.Id)) (ids_in before) ≡ false
-ledger_differs names before d none = not-true _ (reason_unless-none _ _ (both-none _ _ (both-none _ _ (both-none _ _ none).1).1).0)
+ledger_differs : (names : List (List ℕ)) (before : List Data) (d : Data) → ledger_fault names (ids_in before) d ≡ None
+    → list_any (nat_eq (number_of d field.Id)) (ids_in before) ≡ false
+ledger_differs names before d none =
+    not-true _ (reason_unless-none _ _ (both-none _ _ (both-none _ _ (both-none _ _ none).1).1).0)
 
-ids_differ : (names : List (List ℕ)) (ledgers : List Data) → each_ledger_fault names ledgers ≡ None → IsDistinct nat_eq (ids_in ledgers)
+ids_differ : (names : List (List ℕ)) (ledgers : List Data) → each_ledger_fault names ledgers ≡ None
+    → IsDistinct nat_eq (ids_in ledgers)
 unfolding each_ledger_fault
-ids_differ names ledgers none = differ nat_eq nat_eq_equiv (λ d. number_of d field.Id) (λ before d. ledger_fault names (ids_in before) d) (ledger_differs names) ledgers none
+ids_differ names ledgers none =
+    differ nat_eq nat_eq_equiv (λ d. number_of d field.Id) (λ before d. ledger_fault names (ids_in before) d)
+    (ledger_differs names) ledgers none
 
 -- the ids of the ledgers that are made
-pub ids_made : (names : List (List ℕ)) (held : model.Contents) (ledgers : List Data) → map {A = Ledger} {B = ℕ} (λ g. g.id) (map (ledger_in names held) ledgers) ≡ ids_in ledgers
+pub ids_made : (names : List (List ℕ)) (held : model.Contents) (ledgers : List Data)
+    → map {A = Ledger} {B = ℕ} (λ g. g.id) (map (ledger_in names held) ledgers) ≡ ids_in ledgers
 ids_made names held [] = refl
 ids_made names held (d ∷ ds) = ap (λ (ids : List ℕ). number_of d field.Id ∷ ids) (ids_made names held ds)
 
 -- a ledger of an id that is there is found
-ledger_found : (names : List (List ℕ)) (held : model.Contents) (l : ℕ) (ledgers : List Data) → list_any (nat_eq l) (ids_in ledgers) ≡ true → is_some (find (λ g. g.id == l) (map (ledger_in names held) ledgers)) ≡ true
+ledger_found : (names : List (List ℕ)) (held : model.Contents) (l : ℕ) (ledgers : List Data)
+    → list_any (nat_eq l) (ids_in ledgers) ≡ true
+    → is_some (find (λ g. g.id == l) (map (ledger_in names held) ledgers)) ≡ true
 ledger_found names held l [] any = cc
 ledger_found names held l (d ∷ ds) any =
-    elim (nat_eq (number_of d field.Id) l) as (λ t. nat_eq (number_of d field.Id) l ≡ t → is_some (cond t (Some (ledger_in names held d)) (find (λ g. g.id == l) (map (ledger_in names held) ds))) ≡ true) [
+    elim (nat_eq (number_of d field.Id) l) as (λ t. nat_eq (number_of d field.Id) l ≡ t
+    → is_some (cond t (Some (ledger_in names held d)) (find (λ g. g.id == l) (map (ledger_in names held) ds))) ≡ true) [
       | true ↦ λ t. refl
-      | false ↦ λ t. let off : nat_eq l (number_of d field.Id) ≡ false = grind (arith, nat_tests, t) in ledger_found names held l ds (ap (λ b. b || list_any (nat_eq l) (ids_in ds)) (sym off) ∙ any)
+      | false ↦ λ t. let off : nat_eq l (number_of d field.Id) ≡ false = grind (arith, nat_tests, t) in
+          ledger_found names held l ds (ap (λ b. b || list_any (nat_eq l) (ids_in ds)) (sym off) ∙ any)
     ] refl
 
 -- a ledger that is found has the words that reach its greatest entry
-words_found : (names : List (List ℕ)) (held : model.Contents) (l : ℕ) (ledgers : List Data) → IsSome (ledger_among (map (ledger_in names held) ledgers) l) → words_among (map (ledger_in names held) ledgers) l ≡ words_to (model.greatest_held held l)
+words_found : (names : List (List ℕ)) (held : model.Contents) (l : ℕ) (ledgers : List Data)
+    → IsSome (ledger_among (map (ledger_in names held) ledgers) l)
+    → words_among (map (ledger_in names held) ledgers) l ≡ words_to (model.greatest_held held l)
 words_found names held l [] some = cc
 words_found names held l (d ∷ ds) some =
     let others = map (ledger_in names held) ds in
-    elim (number_of d field.Id == l) as (λ t. (number_of d field.Id == l) ≡ t → IsSome (cond t (Some (ledger_in names held d)) (ledger_among others l))
-    → option_map_or (λ g. g.words) (cond t (Some (ledger_in names held d)) (ledger_among others l)) 0 ≡ words_to (model.greatest_held held l)) [
-      | true ↦ λ here _. let same : number_of d field.Id ≡ l = grind (arith, nat_tests, here) in ap (λ (k : ℕ). words_to (model.greatest_held held k)) same
+    elim (number_of d field.Id == l) as (λ t. (number_of d field.Id == l) ≡ t
+    → IsSome (cond t (Some (ledger_in names held d)) (ledger_among others l))
+    → option_map_or (λ g. g.words) (cond t (Some (ledger_in names held d)) (ledger_among others l)) 0
+    ≡ words_to (model.greatest_held held l)) [
+      | true ↦ λ here _. let same : number_of d field.Id ≡ l = grind (arith, nat_tests, here) in
+          ap (λ (k : ℕ). words_to (model.greatest_held held k)) same
       | false ↦ λ _ some. words_found names held l ds some
     ] refl some
 
 -- an entry that isn't past the greatest lies within the words that reach that
 within_words : (greatest : Option ℕ) (e : ℕ) → IsReached greatest e → e < ENTRIES_IN_WORD * words_to greatest
-within_words greatest e is = subst (λ (o : Option ℕ). e < ENTRIES_IN_WORD * words_to o) (sym is.is) (omega (arith, is.reached))
+within_words greatest e is =
+    subst (λ (o : Option ℕ). e < ENTRIES_IN_WORD * words_to o) (sym is.is) (omega (arith, is.reached))
 
 -- Contents
 
@@ -290,93 +404,138 @@ or-either true b P first second is = first refl
 or-either false b P first second is = second is
 
 -- among two lists, one after the other
-any_of_two : {A : Type 0} (p : A → Bool) (xs ys : List A) (P : Type 0) → (list_any p xs ≡ true → P) → (list_any p ys ≡ true → P) → list_any p (xs ++ ys) ≡ true → P
-any_of_two p xs ys P first second is = or-either (list_any p xs) (list_any p ys) P first second (sym (list_any-append p xs ys) ∙ is)
+any_of_two : {A : Type 0} (p : A → Bool) (xs ys : List A) (P : Type 0) → (list_any p xs ≡ true → P)
+    → (list_any p ys ≡ true → P) → list_any p (xs ++ ys) ≡ true → P
+any_of_two p xs ys P first second is =
+    or-either (list_any p xs) (list_any p ys) P first second (sym (list_any-append p xs ys) ∙ is)
 
 -- an entry of a range
-copy_in_range : (s : Cluster) (bookie ledger : ℕ) (ends : ℕ × ℕ) (q : ℕ × ℕ × ℕ) → bookie < length s.names → IsSome (ledger_at s ledger) → ends.1 ≤ MAX_ENTRY_ID → list_any (is_triple q) (copies_within bookie ledger ends) ≡ true → IsPictured (length s.names) s.parts.ledgers q
+copy_in_range : (s : Cluster) (bookie ledger : ℕ) (ends : ℕ × ℕ) (q : ℕ × ℕ × ℕ) → bookie < length s.names
+    → IsSome (ledger_at s ledger) → ends.1 ≤ MAX_ENTRY_ID
+    → list_any (is_triple q) (copies_within bookie ledger ends) ≡ true → IsPictured (length s.names) s.parts.ledgers q
 copy_in_range s bookie ledger ends q known there small any =
     let w : Passes (λ e. is_triple q (bookie, ledger, e)) ends.0 ((ends.1 + 1) - ends.0) =
-    any_passes (λ e. is_triple q (bookie, ledger, e)) ends.0 ((ends.1 + 1) - ends.0) (sym (list_any-map (is_triple q) (λ e. (bookie, ledger, e)) (range_with_len ends.0 ((ends.1 + 1) - ends.0))) ∙ any) in
-    let same : (bookie, ledger, w.at) ≡ q = sym (triples.exact q (bookie, ledger, w.at) ((Equal-is (triple_cmp q (bookie, ledger, w.at))).0 w.passes)) in
+    any_passes (λ e. is_triple q (bookie, ledger, e)) ends.0 ((ends.1 + 1) - ends.0)
+    (sym (list_any-map (is_triple q) (λ e. (bookie, ledger, e)) (range_with_len ends.0 ((ends.1 + 1) - ends.0)))
+    ∙ any) in
+    let same : (bookie, ledger, w.at) ≡ q =
+    sym (triples.exact q (bookie, ledger, w.at) ((Equal-is (triple_cmp q (bookie, ledger, w.at))).0 w.passes)) in
     let low : w.at < ENTRY_END = omega (arith, w.from, w.below) in
     subst (λ (t : ℕ × ℕ × ℕ). IsPictured (length s.names) s.parts.ledgers t) same (known, there, low)
 
 -- an entry of ranges without a fault
-copy_in_ranges : (s : Cluster) (bookie ledger : ℕ) (q : ℕ × ℕ × ℕ) → bookie < length s.names → IsSome (ledger_at s ledger) → (before ranges : List Data) → fault_along (λ before d. range_fault (next_after before) d) before ranges ≡ None
-    → list_any (is_triple q) (flat_map (copies_within bookie ledger) (map ends_of ranges)) ≡ true → IsPictured (length s.names) s.parts.ledgers q
+copy_in_ranges : (s : Cluster) (bookie ledger : ℕ) (q : ℕ × ℕ × ℕ) → bookie < length s.names
+    → IsSome (ledger_at s ledger) → (before ranges : List Data)
+    → fault_along (λ before d. range_fault (next_after before) d) before ranges ≡ None
+    → list_any (is_triple q) (flat_map (copies_within bookie ledger) (map ends_of ranges)) ≡ true
+    → IsPictured (length s.names) s.parts.ledgers q
 copy_in_ranges s bookie ledger q known there before [] none any = cc
 copy_in_ranges s bookie ledger q known there before (d ∷ ds) none any =
     let checks = both-none _ _ none in
-    let within : ((nat_le (next_after before) (ends_of d).0 && nat_le (ends_of d).0 (ends_of d).1) ≡ true) × (nat_le (ends_of d).1 MAX_ENTRY_ID ≡ true) = and-true _ _ (reason_unless-none _ _ (both-none _ _ (both-none _ _ checks.0).1).0) in
-    any_of_two (is_triple q) (copies_within bookie ledger (ends_of d)) (flat_map (copies_within bookie ledger) (map ends_of ds)) (IsPictured (length s.names) s.parts.ledgers q)
+    let within : ((nat_le (next_after before) (ends_of d).0 && nat_le (ends_of d).0 (ends_of d).1) ≡ true)
+    × (nat_le (ends_of d).1 MAX_ENTRY_ID ≡ true) =
+    and-true _ _ (reason_unless-none _ _ (both-none _ _ (both-none _ _ checks.0).1).0) in
+    any_of_two (is_triple q) (copies_within bookie ledger (ends_of d))
+    (flat_map (copies_within bookie ledger) (map ends_of ds)) (IsPictured (length s.names) s.parts.ledgers q)
     (copy_in_range s bookie ledger (ends_of d) q known there (grind (arith, nat_tests, within.1)))
     (copy_in_ranges s bookie ledger q known there (before ++ d ∷ []) ds checks.1)
     any
 
-ranges_copies : (s : Cluster) (bookie ledger : ℕ) (q : ℕ × ℕ × ℕ) → bookie < length s.names → IsSome (ledger_at s ledger) → (ranges : List Data) → ranges_fault ranges ≡ None
-    → list_any (is_triple q) (flat_map (copies_within bookie ledger) (map ends_of ranges)) ≡ true → IsPictured (length s.names) s.parts.ledgers q
+ranges_copies : (s : Cluster) (bookie ledger : ℕ) (q : ℕ × ℕ × ℕ) → bookie < length s.names
+    → IsSome (ledger_at s ledger) → (ranges : List Data) → ranges_fault ranges ≡ None
+    → list_any (is_triple q) (flat_map (copies_within bookie ledger) (map ends_of ranges)) ≡ true
+    → IsPictured (length s.names) s.parts.ledgers q
 unfolding ranges_fault
-ranges_copies s bookie ledger q known there ranges none any = copy_in_ranges s bookie ledger q known there [] ranges none any
+ranges_copies s bookie ledger q known there ranges none any =
+    copy_in_ranges s bookie ledger q known there [] ranges none any
 
 -- an entry of contents without a fault
-module _ (s : Cluster) (ids : List ℕ) (found : (l : ℕ) → list_any (nat_eq l) ids ≡ true → IsSome (ledger_at s l)) (q : ℕ × ℕ × ℕ) where
-  copy_in_contents : (before contents : List Data) → fault_along (λ before d. content_fault s.names ids (pairs_in s.names before) d) before contents ≡ None → list_any (is_triple q) (flat_map copies_in (map (holding_in s.names) contents)) ≡ true → IsPictured (length s.names) s.parts.ledgers q
+module _ (s : Cluster) (ids : List ℕ) (found : (l : ℕ) → list_any (nat_eq l) ids ≡ true → IsSome (ledger_at s l))
+    (q : ℕ × ℕ × ℕ) where
+  copy_in_contents : (before contents : List Data)
+      → fault_along (λ before d. content_fault s.names ids (pairs_in s.names before) d) before contents ≡ None
+      → list_any (is_triple q) (flat_map copies_in (map (holding_in s.names) contents)) ≡ true
+      → IsPictured (length s.names) s.parts.ledgers q
   copy_in_contents before [] none any = cc
   copy_in_contents before (d ∷ ds) none any =
       let checks = both-none _ _ none in
       let content = both-none _ _ checks.0 in
       let bookie = both-none _ _ (both-none _ _ (both-none _ _ content.0).1).1 in
       let ledger = both-none _ _ (both-none _ _ bookie.1).1 in
-      any_of_two (is_triple q) (copies_in (holding_in s.names d)) (flat_map copies_in (map (holding_in s.names) ds)) (IsPictured (length s.names) s.parts.ledgers q)
-      (ranges_copies s (bookie_in s.names (text_of d field.Bookie)) (number_of d field.Ledger) q (bookie_known s.names (text_of d field.Bookie) bookie.0) (found (number_of d field.Ledger) (reason_unless-none _ _ ledger.0))
+      any_of_two (is_triple q) (copies_in (holding_in s.names d)) (flat_map copies_in (map (holding_in s.names) ds))
+      (IsPictured (length s.names) s.parts.ledgers q)
+      (ranges_copies s (bookie_in s.names (text_of d field.Bookie)) (number_of d field.Ledger) q
+      (bookie_known s.names (text_of d field.Bookie) bookie.0)
+      (found (number_of d field.Ledger) (reason_unless-none _ _ ledger.0))
       (list_of d field.Entries) (both-none _ _ (both-none _ _ content.1).1).0)
       (copy_in_contents (before ++ d ∷ []) ds checks.1)
       any
 
-  contents_copies : (contents : List Data) → each_content_fault s.names ids contents ≡ None → list_any (is_triple q) (flat_map copies_in (map (holding_in s.names) contents)) ≡ true → IsPictured (length s.names) s.parts.ledgers q
+  contents_copies : (contents : List Data) → each_content_fault s.names ids contents ≡ None
+      → list_any (is_triple q) (flat_map copies_in (map (holding_in s.names) contents)) ≡ true
+      → IsPictured (length s.names) s.parts.ledgers q
   unfolding each_content_fault
   contents_copies contents none any = copy_in_contents [] contents none any
 
 -- ranges without a fault have a first entry and a last
 range_rises : (before : List Data) (d : Data) → range_fault (next_after before) d ≡ None → (ends_of d).0 ≤ (ends_of d).1
 range_rises before d none =
-    let within : ((nat_le (next_after before) (ends_of d).0 && nat_le (ends_of d).0 (ends_of d).1) ≡ true) × (nat_le (ends_of d).1 MAX_ENTRY_ID ≡ true) = and-true _ _ (reason_unless-none _ _ (both-none _ _ (both-none _ _ none).1).0) in
+    let within : ((nat_le (next_after before) (ends_of d).0 && nat_le (ends_of d).0 (ends_of d).1) ≡ true)
+    × (nat_le (ends_of d).1 MAX_ENTRY_ID ≡ true) =
+    and-true _ _ (reason_unless-none _ _ (both-none _ _ (both-none _ _ none).1).0) in
     let rises : nat_le (ends_of d).0 (ends_of d).1 ≡ true = (and-true _ _ within.0).1 in grind (arith, nat_tests, rises)
 
 ranges_rise : (ranges : List Data) → ranges_fault ranges ≡ None → All (λ range. range.0 ≤ range.1) (map ends_of ranges)
 unfolding ranges_fault
-ranges_rise ranges none = all_made (λ before d. range_fault (next_after before) d) ends_of (λ range. range.0 ≤ range.1) range_rises [] ranges none
+ranges_rise ranges none =
+    all_made (λ before d. range_fault (next_after before) d) ends_of (λ range. range.0 ≤ range.1) range_rises [] ranges
+    none
 
-content_rises : (names : List (List ℕ)) (ids : List ℕ) (before : List Data) (d : Data) → content_fault names ids (pairs_in names before) d ≡ None → All (λ range. range.0 ≤ range.1) (holding_in names d).ranges
-content_rises names ids before d none = let content = both-none _ _ none in ranges_rise (list_of d field.Entries) (both-none _ _ (both-none _ _ content.1).1).0
+content_rises : (names : List (List ℕ)) (ids : List ℕ) (before : List Data) (d : Data)
+    → content_fault names ids (pairs_in names before) d ≡ None
+    → All (λ range. range.0 ≤ range.1) (holding_in names d).ranges
+content_rises names ids before d none =
+    let content = both-none _ _ none in
+    ranges_rise (list_of d field.Entries) (both-none _ _ (both-none _ _ content.1).1).0
 
-pub contents_rise : (names : List (List ℕ)) (ids : List ℕ) (contents : List Data) → each_content_fault names ids contents ≡ None → All (λ holding. All (λ range. range.0 ≤ range.1) holding.ranges) (map (holding_in names) contents)
+pub contents_rise : (names : List (List ℕ)) (ids : List ℕ) (contents : List Data)
+    → each_content_fault names ids contents ≡ None
+    → All (λ holding. All (λ range. range.0 ≤ range.1) holding.ranges) (map (holding_in names) contents)
 unfolding each_content_fault
-contents_rise names ids contents none = all_made (λ before d. content_fault names ids (pairs_in names before) d) (holding_in names) (λ holding. All (λ range. range.0 ≤ range.1) holding.ranges) (content_rises names ids) [] contents none
+contents_rise names ids contents none =
+    all_made (λ before d. content_fault names ids (pairs_in names before) d) (holding_in names)
+    (λ holding. All (λ range. range.0 ≤ range.1) holding.ranges) (content_rises names ids) [] contents none
 
 or-second : (a b : Bool) → b ≡ true → (a || b) ≡ true
 or-second true b is = refl
 or-second false b is = is
 
 -- what stands in a list is among its elements
-get_or-among : {A : Type 0} (eq : A → A → Bool) → ((x : A) → eq x x ≡ true) → (xs : List A) (k : ℕ) (d : A) → k < length xs → list_any (eq (get_or xs k d)) xs ≡ true
+get_or-among : {A : Type 0} (eq : A → A → Bool) → ((x : A) → eq x x ≡ true) → (xs : List A) (k : ℕ) (d : A)
+    → k < length xs → list_any (eq (get_or xs k d)) xs ≡ true
 get_or-among eq itself [] k d within = absurd (omega arith)
 get_or-among eq itself (x ∷ xs) zero d within = ap (λ b. b || list_any (eq x) xs) (itself x)
-get_or-among eq itself (x ∷ xs) (suc k) d within = or-second (eq (get_or xs k d) x) (list_any (eq (get_or xs k d)) xs) (get_or-among eq itself xs k d (omega arith))
+get_or-among eq itself (x ∷ xs) (suc k) d within =
+    or-second (eq (get_or xs k d) x) (list_any (eq (get_or xs k d)) xs) (get_or-among eq itself xs k d (omega arith))
 
 -- what is among those of one element is among those of all
-among-flat_map : {A B : Type 0} (f : A → List B) (test : B → Bool) (xs : List A) (k : ℕ) (d : A) → k < length xs → list_any test (f (get_or xs k d)) ≡ true → list_any test (flat_map f xs) ≡ true
+among-flat_map : {A B : Type 0} (f : A → List B) (test : B → Bool) (xs : List A) (k : ℕ) (d : A) → k < length xs
+    → list_any test (f (get_or xs k d)) ≡ true → list_any test (flat_map f xs) ≡ true
 among-flat_map f test [] k d within any = absurd (omega arith)
-among-flat_map f test (x ∷ xs) zero d within any = list_any-append test (f x) (flat_map f xs) ∙ ap (λ b. b || list_any test (flat_map f xs)) any
+among-flat_map f test (x ∷ xs) zero d within any =
+    list_any-append test (f x) (flat_map f xs) ∙ ap (λ b. b || list_any test (flat_map f xs)) any
 among-flat_map f test (x ∷ xs) (suc k) d within any =
-    list_any-append test (f x) (flat_map f xs) ∙ or-second (list_any test (f x)) (list_any test (flat_map f xs)) (among-flat_map f test xs k d (omega arith) any)
+    list_any-append test (f x) (flat_map f xs)
+    ∙ or-second (list_any test (f x)) (list_any test (flat_map f xs)) (among-flat_map f test xs k d (omega arith) any)
 
 -- the items of a set have what holds of each copy that is in it
-all_items : (P : ℕ × ℕ × ℕ → Type 0) (held : model.Contents) → ((q : ℕ × ℕ × ℕ) → set.contains held q ≡ true → P q) → All P (set.items held)
+all_items : (P : ℕ × ℕ × ℕ → Type 0) (held : model.Contents) → ((q : ℕ × ℕ × ℕ) → set.contains held q ≡ true → P q)
+    → All P (set.items held)
 all_items P held each = λ k d within.
     let q = get_or (set.items held) k d in
-    each q (contains-items held q ∙ get_or-among is_triple (λ x. ap is_eq (tied_itself triple_total x)) (set.items held) k d within)
+    each q
+    (contains-items held q
+    ∙ get_or-among is_triple (λ x. ap is_eq (tied_itself triple_total x)) (set.items held) k d within)
 
 -- The cluster
 
@@ -412,75 +571,97 @@ IsFaultless-none d none =
     }
 
 -- what is held of a picture in which nothing is wrong
-pictured_copy : (d : Data) → IsFaultless d → (q : ℕ × ℕ × ℕ) → set.contains (contents_of d) q ≡ true → IsPictured (length (names_of d)) (pictured_cluster d).parts.ledgers q
+pictured_copy : (d : Data) → IsFaultless d → (q : ℕ × ℕ × ℕ) → set.contains (contents_of d) q ≡ true
+    → IsPictured (length (names_of d)) (pictured_cluster d).parts.ledgers q
 pictured_copy d good q one =
     let s = pictured_cluster d in
-    contents_copies s (ids_of d) (λ l there. ledger_found (names_of d) s.parts.held l (list_of d field.Ledgers) there) q (list_of d field.Contents) good.each_content
-    (sym (contains-from_list triples (flat_map copies_in (map (holding_in (names_of d)) (list_of d field.Contents))) q) ∙ one)
+    contents_copies s (ids_of d) (λ l there. ledger_found (names_of d) s.parts.held l (list_of d field.Ledgers) there) q
+    (list_of d field.Contents) good.each_content
+    (sym (contains-from_list triples (flat_map copies_in (map (holding_in (names_of d)) (list_of d field.Contents))) q)
+    ∙ one)
 
 -- and lies within the words of its ledger
-copy_good : (d : Data) → IsFaultless d → (q : ℕ × ℕ × ℕ) → set.contains (contents_of d) q ≡ true → IsCopy (length (names_of d)) (pictured_cluster d).parts.ledgers q
+copy_good : (d : Data) → IsFaultless d → (q : ℕ × ℕ × ℕ) → set.contains (contents_of d) q ≡ true
+    → IsCopy (length (names_of d)) (pictured_cluster d).parts.ledgers q
 copy_good d good q one =
     let held = contents_of d in
     let known = pictured_copy d good q one in (
       known.0,
       known.1,
-      subst (λ (n : ℕ). q.2 < ENTRIES_IN_WORD * n) (sym (words_found (names_of d) held q.1 (list_of d field.Ledgers) known.1))
+      subst (λ (n : ℕ). q.2 < ENTRIES_IN_WORD * n)
+          (sym (words_found (names_of d) held q.1 (list_of d field.Ledgers) known.1))
           (within_words (model.greatest_held held q.1) q.2 (greatest_held-reached held q.1 q.2 (q.0, one))),
     )
 
 -- the last entry of a range is among those of the range
-end_among : (bookie ledger : ℕ) (ends : ℕ × ℕ) → ends.0 ≤ ends.1 → list_any (is_triple (bookie, ledger, ends.1)) (copies_within bookie ledger ends) ≡ true
+end_among : (bookie ledger : ℕ) (ends : ℕ × ℕ) → ends.0 ≤ ends.1
+    → list_any (is_triple (bookie, ledger, ends.1)) (copies_within bookie ledger ends) ≡ true
 end_among bookie ledger ends rises =
     let last : ℕ × ℕ × ℕ = (bookie, ledger, ends.1) in
     let place = ends.1 - ends.0 in
     let count = (ends.1 + 1) - ends.0 in
     let copies = copies_within bookie ledger ends in
     let copy : ℕ → ℕ × ℕ × ℕ = λ e. (bookie, ledger, e) in
-    let is : get_or copies place last ≡ last = get_or-map-range_with_len copy ends.0 count place ends.1 last (omega arith) (omega arith) in
+    let is : get_or copies place last ≡ last =
+    get_or-map-range_with_len copy ends.0 count place ends.1 last (omega arith) (omega arith) in
     subst (λ (t : ℕ × ℕ × ℕ). list_any (is_triple t) copies ≡ true) is
-    (get_or-among is_triple (λ x. ap is_eq (tied_itself triple_total x)) copies place last (omega (arith, length-map-range_with_len copy ends.0 count)))
+    (get_or-among is_triple (λ x. ap is_eq (tied_itself triple_total x)) copies place last
+    (omega (arith, length-map-range_with_len copy ends.0 count)))
 
 -- and so it lies within the words of its ledger
-ends_good : (d : Data) → IsFaultless d → All (HasEnds (length (names_of d)) (pictured_cluster d).parts.ledgers) (map (holding_in (names_of d)) (list_of d field.Contents))
+ends_good : (d : Data) → IsFaultless d
+    → All (HasEnds (length (names_of d)) (pictured_cluster d).parts.ledgers)
+    (map (holding_in (names_of d)) (list_of d field.Contents))
 ends_good d good = λ k other within j none inside.
     let holdings = map (holding_in (names_of d)) (list_of d field.Contents) in
     let holding = get_or holdings k other in
     let ends = get_or holding.ranges j none in
     let q : ℕ × ℕ × ℕ = (holding.bookie, holding.ledger, ends.1) in
-    let rises : ends.0 ≤ ends.1 = contents_rise (names_of d) (ids_of d) (list_of d field.Contents) good.each_content k other within j none inside in
+    let rises : ends.0 ≤ ends.1 =
+    contents_rise (names_of d) (ids_of d) (list_of d field.Contents) good.each_content k other within j none inside in
     let among = among-flat_map copies_in (is_triple q) holdings k other within
-    (among-flat_map (copies_within holding.bookie holding.ledger) (is_triple q) holding.ranges j none inside (end_among holding.bookie holding.ledger ends rises)) in
+    (among-flat_map (copies_within holding.bookie holding.ledger) (is_triple q) holding.ranges j none inside
+    (end_among holding.bookie holding.ledger ends rises)) in
     copy_good d good q (contains-from_list triples (flat_map copies_in holdings) q ∙ among)
 
 -- of the holdings that were read too
-pub ends-shown : (d : Data) (bookies : ℕ) (ledgers : List Ledger) (holdings : List Holding) → IsFaultless d → bookies ≡ length (names_of d) → ledgers ≡ (pictured_cluster d).parts.ledgers
+pub ends-shown : (d : Data) (bookies : ℕ) (ledgers : List Ledger) (holdings : List Holding) → IsFaultless d
+    → bookies ≡ length (names_of d) → ledgers ≡ (pictured_cluster d).parts.ledgers
     → holdings ≡ map (holding_in (names_of d)) (list_of d field.Contents) → All (HasEnds bookies ledgers) holdings
 ends-shown d bookies ledgers holdings good count made are =
     subst (λ (hs : List Holding). All (HasEnds bookies ledgers) hs) (sym are)
-    (subst (λ (gs : List Ledger). All (HasEnds bookies gs) (map (holding_in (names_of d)) (list_of d field.Contents))) (sym made)
-    (subst (λ (n : ℕ). All (HasEnds n (pictured_cluster d).parts.ledgers) (map (holding_in (names_of d)) (list_of d field.Contents))) (sym count) (ends_good d good)))
+    (subst (λ (gs : List Ledger). All (HasEnds bookies gs) (map (holding_in (names_of d)) (list_of d field.Contents)))
+    (sym made)
+    (subst (λ (n : ℕ).
+    All (HasEnds n (pictured_cluster d).parts.ledgers) (map (holding_in (names_of d)) (list_of d field.Contents)))
+    (sym count) (ends_good d good)))
 
 -- the ledgers of such a picture
 pictured_ledgers : (d : Data) → IsFaultless d → All (IsLedgerOf (pictured_cluster d)) (pictured_cluster d).parts.ledgers
 pictured_ledgers d good =
     let s = pictured_cluster d in
-    ledgers_good s (all_items (λ q. q.2 < ENTRY_END) s.parts.held (λ q one. (pictured_copy d good q one).2)) (list_of d field.Ledgers) good.each_ledger
+    ledgers_good s (all_items (λ q. q.2 < ENTRY_END) s.parts.held (λ q one. (pictured_copy d good q one).2))
+    (list_of d field.Ledgers) good.each_ledger
 
 -- their words are few
-pub pictured_words : (d : Data) → IsFaultless d → All (λ g. ENTRIES_IN_WORD * g.words ≤ ENTRY_END) (pictured_cluster d).parts.ledgers
+pub pictured_words : (d : Data) → IsFaultless d
+    → All (λ g. ENTRIES_IN_WORD * g.words ≤ ENTRY_END) (pictured_cluster d).parts.ledgers
 pictured_words d good = λ k g within. (pictured_ledgers d good k g within).words
 
 -- their ids differ
 pub pictured_ids : (d : Data) → IsFaultless d → IsDistinct nat_eq (map (λ g. g.id) (pictured_cluster d).parts.ledgers)
 pictured_ids d good =
-    subst (λ (ids : List ℕ). IsDistinct nat_eq ids) (sym (ids_made (names_of d) (contents_of d) (list_of d field.Ledgers))) (ids_differ (names_of d) (list_of d field.Ledgers) good.each_ledger)
+    subst (λ (ids : List ℕ). IsDistinct nat_eq ids)
+    (sym (ids_made (names_of d) (contents_of d) (list_of d field.Ledgers)))
+    (ids_differ (names_of d) (list_of d field.Ledgers) good.each_ledger)
 
 -- such parts within the limit of words are a well-formed cluster
-pub IsWellFormed-pictured_cluster : (d : Data) → IsFaultless d → words_in_all (pictured_cluster d) ≤ MAX_WORDS → IsWellFormed (pictured_cluster d)
+pub IsWellFormed-pictured_cluster : (d : Data) → IsFaultless d → words_in_all (pictured_cluster d) ≤ MAX_WORDS
+    → IsWellFormed (pictured_cluster d)
 IsWellFormed-pictured_cluster d good words =
     let s = pictured_cluster d in
-    let count : length (names_of d) ≡ length (list_of d field.Bookies) = length-map (list_of d field.Bookies) (λ d. text_of d field.Name) in
+    let count : length (names_of d) ≡ length (list_of d field.Bookies) =
+    length-map (list_of d field.Bookies) (λ d. text_of d field.Name) in
     record {
       names = record {
         some = omega (arith, count, good.some_bookie);
@@ -502,7 +683,8 @@ IsWellFormed-pictured_cluster d good words =
     }
 
 -- the listed ledgers with the greatest entries of the contents are the ledgers where those are held
-ledgers_made : (names : List (List ℕ)) (ends : ℕ → Option ℕ) (held : model.Contents) → IsGreatest ends held → (ds : List Data) → map (ledger_of ends) (map (listed_in names) ds) ≡ map (ledger_in names held) ds
+ledgers_made : (names : List (List ℕ)) (ends : ℕ → Option ℕ) (held : model.Contents) → IsGreatest ends held
+    → (ds : List Data) → map (ledger_of ends) (map (listed_in names) ds) ≡ map (ledger_in names held) ds
 ledgers_made names ends held is [] = refl
 ledgers_made names ends held is (d ∷ ds) = λ i. record {
   id = number_of d field.Id;
@@ -514,32 +696,50 @@ ledgers_made names ends held is (d ∷ ds) = λ i. record {
     ∷ ledgers_made names ends held is ds i
 
 -- the ledgers that were read are those of the cluster
-pub ledgers-shown : (d : Data) (names : List (List ℕ)) (up : Set numbers) (grace : ℕ) (listed : List ListedLedger) (holdings lent : List Holding) (ends : ℕ → Option ℕ) (ledgers : List Ledger) → IsShown d names up grace listed holdings → lent ≡ holdings
-    → IsGreatest ends (held_in lent) → ledgers ≡ map (ledger_of ends) listed → ledgers ≡ (pictured_cluster d).parts.ledgers
+pub ledgers-shown : (d : Data) (names : List (List ℕ)) (up : Set numbers) (grace : ℕ) (listed : List ListedLedger)
+    (holdings lent : List Holding) (ends : ℕ → Option ℕ) (ledgers : List Ledger)
+    → IsShown d names up grace listed holdings → lent ≡ holdings
+    → IsGreatest ends (held_in lent) → ledgers ≡ map (ledger_of ends) listed
+    → ledgers ≡ (pictured_cluster d).parts.ledgers
 ledgers-shown d names up grace listed holdings lent ends ledgers shown same is made =
     made ∙ ap (map (ledger_of ends)) shown.listed_are
-    ∙ ledgers_made (names_of d) ends (contents_of d) (subst (λ (hs : List Holding). IsGreatest ends (held_in hs)) (same ∙ shown.holdings_are) is) (list_of d field.Ledgers)
+    ∙ ledgers_made (names_of d) ends (contents_of d)
+    (subst (λ (hs : List Holding). IsGreatest ends (held_in hs)) (same ∙ shown.holdings_are) is)
+    (list_of d field.Ledgers)
 
 -- and so are the other parts
-pub cluster_of-shown : (d : Data) (names : List (List ℕ)) (up : Set numbers) (grace : ℕ) (listed : List ListedLedger) (holdings : List Holding) (ledgers : List Ledger) (held : model.Contents) → IsShown d names up grace listed holdings
-    → ledgers ≡ (pictured_cluster d).parts.ledgers → held ≡ held_in holdings → cluster_of names up grace ledgers held ≡ pictured_cluster d
+pub cluster_of-shown : (d : Data) (names : List (List ℕ)) (up : Set numbers) (grace : ℕ) (listed : List ListedLedger)
+    (holdings : List Holding) (ledgers : List Ledger) (held : model.Contents) → IsShown d names up grace listed holdings
+    → ledgers ≡ (pictured_cluster d).parts.ledgers → held ≡ held_in holdings
+    → cluster_of names up grace ledgers held ≡ pictured_cluster d
 cluster_of-shown d names up grace listed holdings ledgers held shown made is =
-    λ i. cluster_of (shown.names_are i) (shown.up_is i) (shown.grace_is i) (made i) ((is ∙ ap held_in shown.holdings_are) i)
+    λ i.
+    cluster_of (shown.names_are i) (shown.up_is i) (shown.grace_is i) (made i) ((is ∙ ap held_in shown.holdings_are) i)
 
 -- and take as many words
-pub words_in_all-shown : (d : Data) (names : List (List ℕ)) (ledgers : List Ledger) (bookies words : ℕ) → names ≡ names_of d → ledgers ≡ (pictured_cluster d).parts.ledgers → bookies ≡ length names
+pub words_in_all-shown : (d : Data) (names : List (List ℕ)) (ledgers : List Ledger) (bookies words : ℕ)
+    → names ≡ names_of d → ledgers ≡ (pictured_cluster d).parts.ledgers → bookies ≡ length names
     → words ≡ bookies * sum_by (λ g. g.words) ledgers → words ≡ words_in_all (pictured_cluster d)
-words_in_all-shown d names ledgers bookies words named made count is = is ∙ (λ i. (count ∙ ap length named) i * sum_by (λ g. g.words) (made i))
+words_in_all-shown d names ledgers bookies words named made count is =
+    is ∙ (λ i. (count ∙ ap length named) i * sum_by (λ g. g.words) (made i))
 
 -- the limit of words is judged last
-pub fields_fault-within : (d : Data) → parts_fault d ≡ None → words_in_all (pictured_cluster d) ≤ MAX_WORDS → fields_fault d ≡ None
+pub fields_fault-within : (d : Data) → parts_fault d ≡ None → words_in_all (pictured_cluster d) ≤ MAX_WORDS
+    → fields_fault d ≡ None
 fields_fault-within d good within =
     let test : nat_le (words_in_all (pictured_cluster d)) MAX_WORDS ≡ true = grind (arith, nat_tests) in
-    ap (λ (o : Option PictureFault). option_or o (option_or (reason_unless (nat_le (words_in_all (pictured_cluster d)) MAX_WORDS) (Limit field.Contents)) None)) good
+    ap (λ (o : Option PictureFault).
+    option_or o
+    (option_or (reason_unless (nat_le (words_in_all (pictured_cluster d)) MAX_WORDS) (Limit field.Contents)) None))
+    good
     ∙ ap (λ (t : Bool). option_or (reason_unless t (Limit field.Contents)) None) test
 
-pub fields_fault-past : (d : Data) → parts_fault d ≡ None → MAX_WORDS < words_in_all (pictured_cluster d) → fields_fault d ≡ Some (Limit field.Contents)
+pub fields_fault-past : (d : Data) → parts_fault d ≡ None → MAX_WORDS < words_in_all (pictured_cluster d)
+    → fields_fault d ≡ Some (Limit field.Contents)
 fields_fault-past d good past =
     let test : nat_le (words_in_all (pictured_cluster d)) MAX_WORDS ≡ false = grind (arith, nat_tests) in
-    ap (λ (o : Option PictureFault). option_or o (option_or (reason_unless (nat_le (words_in_all (pictured_cluster d)) MAX_WORDS) (Limit field.Contents)) None)) good
+    ap (λ (o : Option PictureFault).
+    option_or o
+    (option_or (reason_unless (nat_le (words_in_all (pictured_cluster d)) MAX_WORDS) (Limit field.Contents)) None))
+    good
     ∙ ap (λ (t : Bool). option_or (reason_unless t (Limit field.Contents)) None) test

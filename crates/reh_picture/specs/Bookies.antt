@@ -36,7 +36,8 @@ abbrev pub bookie_fault : List (List ℕ) → Data → Option PictureFault
 bookie_fault names d =
     first_reason (
     name_fault d
-    ∷ reason_unless (not (list_any (bytes_eq (text_of d field.Name)) names)) (Twice (repeated.Bookie (text_of d field.Name)))
+    ∷ reason_unless (not (list_any (bytes_eq (text_of d field.Name)) names))
+    (Twice (repeated.Bookie (text_of d field.Name)))
     ∷ result_err (flag_in d field.Up)
     ∷ [])
 
@@ -49,7 +50,8 @@ each_bookie_fault bookies = fault_along (λ before d. bookie_fault (names_in bef
 
 -- what is wrong with a picture's bookies
 unfoldable pub bookies_fault : Data → Option PictureFault
-bookies_fault d = first_reason (list_fault d field.Bookies 1 MAX_BOOKIES ∷ each_bookie_fault (list_of d field.Bookies) ∷ [])
+bookies_fault d =
+    first_reason (list_fault d field.Bookies 1 MAX_BOOKIES ∷ each_bookie_fault (list_of d field.Bookies) ∷ [])
 
 -- the places of the bookies that are registered
 abbrev pub registered_in : List Data → Set numbers

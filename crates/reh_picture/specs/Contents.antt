@@ -1,5 +1,6 @@
 -- What the bookies of a picture hold.
-use Rattle.std.specs.Prelude.{◌≡◌, ℕ, ◌+◌, ◌*◌, ◌/◌, ◌<◌, All, Bool, not, ◌&&◌, nat_eq, nat_le, List, [], ◌∷◌, map, Option, None, Result}
+use Rattle.std.specs.Prelude.{◌≡◌, ℕ, ◌+◌, ◌*◌, ◌/◌, ◌<◌, All, Bool, not, ◌&&◌, nat_eq, nat_le, List, [], ◌∷◌, map}
+use Rattle.std.specs.Prelude.{Option, None, Result}
 use Rattle.std.specs.List.{list_any, flat_map, last_or}
 use Rattle.std.specs.Option.{ok_or, option_and_then, option_map, option_map_or}
 use Rattle.std.specs.Result.{result_err, result_unwrap_or}
@@ -26,7 +27,9 @@ use Rattle.reh_picture.specs.Bookies.{bookie_in, known_fault}
 
 -- two numbers from 0 on, and nothing else
 abbrev pub two_numbers : List Data → Option (ℕ × ℕ)
-two_numbers (a ∷ b ∷ []) = option_and_then (λ first. option_map (λ last. (first, last)) (option_and_then as_u64 (as_number b))) (option_and_then as_u64 (as_number a))
+two_numbers (a ∷ b ∷ []) =
+    option_and_then (λ first. option_map (λ last. (first, last)) (option_and_then as_u64 (as_number b)))
+    (option_and_then as_u64 (as_number a))
 two_numbers ds = None
 
 -- the first and the last entry of a range
@@ -45,7 +48,9 @@ abbrev pub range_fault : ℕ → Data → Option PictureFault
 range_fault least d =
     first_reason (
     result_err (ends_in d)
-    ∷ reason_unless (nat_le least (ends_of d).0 && nat_le (ends_of d).0 (ends_of d).1 && nat_le (ends_of d).1 MAX_ENTRY_ID) (Limit field.Entries)
+    ∷ reason_unless
+    (nat_le least (ends_of d).0 && nat_le (ends_of d).0 (ends_of d).1 && nat_le (ends_of d).1 MAX_ENTRY_ID)
+    (Limit field.Entries)
     ∷ [])
 
 -- the first fault of ranges
@@ -61,7 +66,12 @@ pub record Holding : Type 0 where
   pub ranges : List (ℕ × ℕ)
 
 abbrev pub holding_in : List (List ℕ) → Data → Holding
-holding_in names d = record { bookie = bookie_in names (text_of d field.Bookie); ledger = number_of d field.Ledger; ranges = map ends_of (list_of d field.Entries) }
+holding_in names d =
+    record {
+      bookie = bookie_in names (text_of d field.Bookie);
+      ledger = number_of d field.Ledger;
+      ranges = map ends_of (list_of d field.Entries);
+    }
 
 abbrev pub pair_of : List (List ℕ) → Data → ℕ × ℕ
 pair_of names d = ((holding_in names d).bookie, (holding_in names d).ledger)
@@ -72,7 +82,8 @@ pairs_in names contents = map (pair_of names) contents
 abbrev pub is_pair : ℕ × ℕ → ℕ × ℕ → Bool
 is_pair p q = nat_eq p.0 q.0 && nat_eq p.1 q.1
 
--- The first fault of a bookie and a ledger that follow these pairs, in a picture whose bookies have these names and whose ledgers have these ids.
+-- The first fault of a bookie and a ledger that follow these pairs, in a picture whose bookies have these names and
+-- whose ledgers have these ids.
 abbrev pub pair_fault : List (List ℕ) → List ℕ → List (ℕ × ℕ) → Data → Option PictureFault
 pair_fault names ids pairs d =
     first_reason (
@@ -80,8 +91,10 @@ pair_fault names ids pairs d =
     ∷ result_err (text_in d field.Bookie)
     ∷ known_fault names (text_of d field.Bookie)
     ∷ result_err (number_in d field.Ledger)
-    ∷ reason_unless (list_any (nat_eq (number_of d field.Ledger)) ids) (BadLedger (number_of d field.Ledger) flaw.Unknown)
-    ∷ reason_unless (not (list_any (is_pair (pair_of names d)) pairs)) (Twice (repeated.Content (text_of d field.Bookie) (number_of d field.Ledger)))
+    ∷ reason_unless (list_any (nat_eq (number_of d field.Ledger)) ids)
+    (BadLedger (number_of d field.Ledger) flaw.Unknown)
+    ∷ reason_unless (not (list_any (is_pair (pair_of names d)) pairs))
+    (Twice (repeated.Content (text_of d field.Bookie) (number_of d field.Ledger)))
     ∷ [])
 
 -- the first fault of what a bookie holds of a ledger
@@ -95,11 +108,13 @@ content_fault names ids pairs d =
 
 -- the first fault of contents
 unfoldable pub each_content_fault : List (List ℕ) → List ℕ → List Data → Option PictureFault
-each_content_fault names ids contents = fault_along (λ before d. content_fault names ids (pairs_in names before) d) [] contents
+each_content_fault names ids contents =
+    fault_along (λ before d. content_fault names ids (pairs_in names before) d) [] contents
 
 -- what is wrong with a picture's contents
 unfoldable pub contents_fault : List (List ℕ) → List ℕ → Data → Option PictureFault
-contents_fault names ids d = first_reason (result_err (list_in d field.Contents) ∷ each_content_fault names ids (list_of d field.Contents) ∷ [])
+contents_fault names ids d =
+    first_reason (result_err (list_in d field.Contents) ∷ each_content_fault names ids (list_of d field.Contents) ∷ [])
 
 -- (bookie, ledger, entry) for each entry of a range
 abbrev pub copies_within : ℕ → ℕ → ℕ × ℕ → List (ℕ × ℕ × ℕ)
@@ -120,10 +135,14 @@ words_to greatest = option_map_or (λ greatest. greatest / ENTRIES_IN_WORD + 1) 
 abbrev pub IsGreatest : (ℕ → Option ℕ) → model.Contents → Type 0
 IsGreatest ends contents = (ledger : ℕ) → ends ledger ≡ model.greatest_held contents ledger
 
--- the last entry of each range lies within the words of the ledger, which is one of these, and the bookie is one of so many
+-- the last entry of each range lies within the words of the ledger, which is one of these, and the bookie is one of so
+-- many
 abbrev pub HasEnds : ℕ → List Ledger → Holding → Type 0
-HasEnds bookies ledgers holding = All (λ range. IsCopy bookies ledgers (holding.bookie, holding.ledger, range.1)) holding.ranges
+HasEnds bookies ledgers holding =
+    All (λ range. IsCopy bookies ledgers (holding.bookie, holding.ledger, range.1)) holding.ranges
 
 -- the last entry of each range lies within the bookie's row of the ledger
 abbrev pub FitsIn : HeldValue → Holding → Type 0
-FitsIn held holding = All (λ range. (holding.bookie < held.bookies) × (range.1 < ENTRIES_IN_WORD * words_in held holding.ledger)) holding.ranges
+FitsIn held holding =
+    All (λ range. (holding.bookie < held.bookies) × (range.1 < ENTRIES_IN_WORD * words_in held holding.ledger))
+    holding.ranges

@@ -1,5 +1,6 @@
 -- What is printed for faults, and which of several is the first.
-use Rattle.std.specs.Prelude.{◌≡◌, ◌≢◌, ℕ, List, [], ◌∷◌, ◌++◌, map, codes, if◌then◌else◌, Option, None, Some, Result, MatchResult}
+use Rattle.std.specs.Prelude.{◌≡◌, ◌≢◌, ℕ, List, [], ◌∷◌, ◌++◌, map, codes, if◌then◌else◌, Option, None, Some, Result}
+use Rattle.std.specs.Prelude.{MatchResult}
 use Rattle.std.specs.Char.{is_ascii_graphic}
 use Rattle.std.specs.Fmt.{decimal}
 use Rattle.std.specs.Option.{option_or}
@@ -9,7 +10,8 @@ use Rattle.reh_picture.specs.declared.faults.LedgerFlaw.TheVariants as flaw
 use Rattle.reh_picture.specs.declared.faults.Repeated.{Repeated}
 use Rattle.reh_picture.specs.declared.faults.Repeated.TheVariants as repeated
 use Rattle.reh_picture.specs.declared.faults.PictureFault.{PictureFault}
-use Rattle.reh_picture.specs.declared.faults.PictureFault.TheVariants.{TooLong, NotJson, Missing, WrongKind, BadName, Twice, UnknownBookie, Limit, BadLedger, NoMemory}
+use Rattle.reh_picture.specs.declared.faults.PictureFault.TheVariants.{TooLong, NotJson, Missing, WrongKind, BadName}
+use Rattle.reh_picture.specs.declared.faults.PictureFault.TheVariants.{Twice, UnknownBookie, Limit, BadLedger, NoMemory}
 use Rattle.reh_picture.specs.Fields.{field_name}
 
 -- a byte of a name, or `?` where it is outside 0x21 to 0x7E

@@ -1,11 +1,13 @@
 -- The ledgers of a picture.
-use Rattle.std.specs.Prelude.{ℕ, zero, suc, ◌+◌, ℤ, pos, negsuc, Bool, not, ◌||◌, nat_eq, nat_le, List, [], ◌∷◌, map, codes, if◌then◌else◌, Option, None, Some, unwrap_or, Result}
+use Rattle.std.specs.Prelude.{ℕ, zero, suc, ◌+◌, ℤ, pos, negsuc, Bool, not, ◌||◌, nat_eq, nat_le, List, [], ◌∷◌, map}
+use Rattle.std.specs.Prelude.{codes, if◌then◌else◌, Option, None, Some, unwrap_or, Result}
 use Rattle.std.specs.List.{list_any}
 use Rattle.std.specs.Option.{is_some, ok_or, option_map, option_and_then}
 use Rattle.std.specs.Result.{result_err, result_ok, result_unwrap_or}
 use Rattle.std.specs.Str.{bytes_eq}
 use Rattle.serde_json.specs.Data.{Data}
-use Rattle.reh_types.specs.declared.limits.TheConstants.{MAX_ENTRY_ID, MAX_FRAGMENTS, MAX_LEDGERS, MAX_LEDGER_ID, MAX_VERSION}
+use Rattle.reh_types.specs.declared.limits.TheConstants.{MAX_ENTRY_ID, MAX_FRAGMENTS, MAX_LEDGERS, MAX_LEDGER_ID}
+use Rattle.reh_types.specs.declared.limits.TheConstants.{MAX_VERSION}
 use Rattle.serde_json.specs.Find.{as_str}
 use Rattle.reh_types.specs.declared.names.LedgerState.{LedgerState}
 use Rattle.reh_types.specs.declared.names.LedgerState.TheVariants.{Open, InRecovery, Closed}
@@ -22,7 +24,8 @@ use Rattle.reh_picture.specs.declared.faults.PictureFault.{PictureFault}
 use Rattle.reh_picture.specs.declared.faults.PictureFault.TheVariants.{WrongKind, Twice, Limit, BadLedger, NoMemory}
 use Rattle.reh_model.specs.Checks.{first_reason, reason_unless}
 use Rattle.reh_picture.specs.Faults.{fault_along}
-use Rattle.reh_picture.specs.Members.{is_object, number_in, text_in, list_in, integer_in, number_of, text_of, list_of, number_fault, list_fault}
+use Rattle.reh_picture.specs.Members.{is_object, number_in, text_in, list_in, integer_in, number_of, text_of, list_of}
+use Rattle.reh_picture.specs.Members.{number_fault, list_fault}
 use Rattle.reh_picture.specs.Bookies.{bookie_in, known_fault}
 use Rattle.reh_picture.specs.Contents.{words_to}
 
@@ -53,7 +56,11 @@ fragment_fault names d =
     ∷ [])
 
 abbrev pub fragment_in : List (List ℕ) → Data → Fragment
-fragment_in names d = record { first = number_of d field.FirstEntry; ensemble = map (λ member. bookie_in names (member_name member)) (list_of d field.Ensemble) }
+fragment_in names d =
+    record {
+      first = number_of d field.FirstEntry;
+      ensemble = map (λ member. bookie_in names (member_name member)) (list_of d field.Ensemble);
+    }
 
 -- States
 
@@ -76,11 +83,15 @@ end_in d = option_and_then end_after (result_ok (integer_in d field.LastEntryId)
 -- what is wrong with the last entry id, which only a closed ledger has
 abbrev pub last_fault : Data → Option PictureFault
 last_fault d =
-    if is_closed d then first_reason (result_err (integer_in d field.LastEntryId) ∷ reason_unless (is_some (end_in d)) (Limit field.LastEntryId) ∷ []) else None
+    if is_closed d
+    then first_reason
+    (result_err (integer_in d field.LastEntryId) ∷ reason_unless (is_some (end_in d)) (Limit field.LastEntryId) ∷ [])
+    else None
 
 abbrev pub state_in : Data → LedgerState
 state_in d =
-    if is_closed d then Closed (unwrap_or (end_in d) 0) else (if bytes_eq (text_of d field.State) (codes "OPEN") then Open else InRecovery)
+    if is_closed d then Closed (unwrap_or (end_in d) 0)
+    else (if bytes_eq (text_of d field.State) (codes "OPEN") then Open else InRecovery)
 
 -- what is wrong with a ledger's state
 abbrev pub state_fault : Data → Option PictureFault
@@ -145,7 +156,8 @@ ledger_fault names ids d =
     first_reason (
     reason_unless (is_object d) (WrongKind field.Ledger)
     ∷ number_fault d field.Id 0 MAX_LEDGER_ID
-    ∷ reason_unless (not (list_any (nat_eq (number_of d field.Id)) ids)) (Twice (repeated.Ledger (number_of d field.Id)))
+    ∷ reason_unless (not (list_any (nat_eq (number_of d field.Id)) ids))
+    (Twice (repeated.Ledger (number_of d field.Id)))
     ∷ metadata_fault names (number_of d field.Id) d
     ∷ [])
 
@@ -158,7 +170,8 @@ each_ledger_fault names ledgers = fault_along (λ before d. ledger_fault names (
 
 -- what is wrong with a picture's ledgers
 unfoldable pub ledgers_fault : List (List ℕ) → Data → Option PictureFault
-ledgers_fault names d = first_reason (list_fault d field.Ledgers 0 MAX_LEDGERS ∷ each_ledger_fault names (list_of d field.Ledgers) ∷ [])
+ledgers_fault names d =
+    first_reason (list_fault d field.Ledgers 0 MAX_LEDGERS ∷ each_ledger_fault names (list_of d field.Ledgers) ∷ [])
 
 -- a ledger by the fields of its own, which don't say how many words it has
 pub record ListedLedger : Type 0 where
@@ -170,7 +183,8 @@ listed_in names d = record { id = number_of d field.Id; metadata = pictured_meta
 
 -- the ledger with the words that reach its greatest entry, with no task and no lock
 abbrev pub ledger_of : (ℕ → Option ℕ) → ListedLedger → Ledger
-ledger_of greatest g = record { id = g.id; metadata = g.metadata; words = words_to (greatest g.id); task = None; lock = None }
+ledger_of greatest g =
+    record { id = g.id; metadata = g.metadata; words = words_to (greatest g.id); task = None; lock = None }
 
 -- the ledger, where the bookies hold these contents
 abbrev pub ledger_in : List (List ℕ) → Contents → Data → Ledger

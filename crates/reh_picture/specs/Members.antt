@@ -1,5 +1,6 @@
 -- The members of a picture's objects, each as the kind of value that it must be.
-use Rattle.std.specs.Prelude.{ℕ, ℤ, Bool, false, nat_le, ◌&&◌, length, List, [], ◌∷◌, option_map, Option, Result, Ok, Err}
+use Rattle.std.specs.Prelude.{ℕ, ℤ, Bool, false, nat_le, ◌&&◌, length, List, [], ◌∷◌, option_map, Option, Result, Ok}
+use Rattle.std.specs.Prelude.{Err}
 use Rattle.std.specs.Option.{ok_or, option_and_then, is_some}
 use Rattle.std.specs.Result.{result_unwrap_or, result_err}
 use Rattle.serde_json.specs.Data.{Data, Items, no_items, item}
@@ -60,9 +61,14 @@ list_of d field = result_unwrap_or (list_in d field) []
 -- what is wrong with a member that must be a number within these bounds
 abbrev pub number_fault : Data → Field → ℕ → ℕ → Option PictureFault
 number_fault d field least most =
-    first_reason (result_err (number_in d field) ∷ reason_unless (nat_le least (number_of d field) && nat_le (number_of d field) most) (Limit field) ∷ [])
+    first_reason
+    (result_err (number_in d field)
+    ∷ reason_unless (nat_le least (number_of d field) && nat_le (number_of d field) most) (Limit field) ∷ [])
 
 -- what is wrong with a member that must be a list with a number of elements within these bounds
 abbrev pub list_fault : Data → Field → ℕ → ℕ → Option PictureFault
 list_fault d field least most =
-    first_reason (result_err (list_in d field) ∷ reason_unless (nat_le least (length (list_of d field)) && nat_le (length (list_of d field)) most) (Limit field) ∷ [])
+    first_reason
+    (result_err (list_in d field)
+    ∷ reason_unless (nat_le least (length (list_of d field)) && nat_le (length (list_of d field)) most) (Limit field)
+    ∷ [])

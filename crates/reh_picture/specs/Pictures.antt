@@ -1,5 +1,6 @@
 -- The cluster that a picture shows, or the picture's first fault.
-use Rattle.std.specs.Prelude.{ℕ, ◌*◌, nat_lt, nat_le, List, [], ◌∷◌, map, length, sum_by, ◌≡◌, if◌then◌else◌, Option, None, Some, Result, Ok, Err}
+use Rattle.std.specs.Prelude.{ℕ, ◌*◌, nat_lt, nat_le, List, [], ◌∷◌, map, length, sum_by, ◌≡◌, if◌then◌else◌, Option}
+use Rattle.std.specs.Prelude.{None, Some, Result, Ok, Err}
 use Rattle.std.specs.Str.{is_utf8}
 use Rattle.serde_json.specs.Data.{Data}
 use Rattle.reh_types.specs.declared.limits.TheConstants.{MAX_GRACE, MAX_PICTURE_BYTES, MAX_WORDS}
@@ -59,7 +60,9 @@ parts_fault d =
 
 -- at the end of all, the limit of words
 abbrev pub fields_fault : Data → Option PictureFault
-fields_fault d = first_reason (parts_fault d ∷ reason_unless (nat_le (words_in_all (pictured_cluster d)) MAX_WORDS) (Limit field.Contents) ∷ [])
+fields_fault d =
+    first_reason
+    (parts_fault d ∷ reason_unless (nat_le (words_in_all (pictured_cluster d)) MAX_WORDS) (Limit field.Contents) ∷ [])
 
 -- the cluster, unless there is a fault
 abbrev pub unless_fault : Option PictureFault → Cluster → Result Cluster PictureFault
@@ -83,7 +86,8 @@ abbrev pub picture_of : List ℕ → Result Cluster PictureFault
 picture_of bytes = if nat_lt MAX_PICTURE_BYTES (length bytes) then Err TooLong else shown_by (json_of bytes)
 
 -- What was read of a picture without a fault of its fields: the parts of the cluster that it shows.
-pub record IsShown (d : Data) (names : List (List ℕ)) (up : Set numbers) (grace : ℕ) (listed : List ListedLedger) (holdings : List Holding) : Type 0 where
+pub record IsShown (d : Data) (names : List (List ℕ)) (up : Set numbers) (grace : ℕ) (listed : List ListedLedger)
+    (holdings : List Holding) : Type 0 where
   pub names_are : names ≡ names_of d
   pub up_is : up ≡ registered_in (list_of d field.Bookies)
   pub grace_is : grace ≡ number_of d field.Grace

@@ -8,7 +8,8 @@ ghost use Rattle.reh_types.specs.declared.limits.TheConstants.{MAX_BOOKIES};
 ghost use Rattle.reh_types.specs.Sets as set;
 ghost use Rattle.reh_picture.specs.Faults.{FailsWith};
 ghost use Rattle.reh_picture.specs.Members.{text_of, flag_of, list_of};
-ghost use Rattle.reh_picture.specs.Bookies.{is_name as is_bookie_name, name_fault, bookie_fault, each_bookie_fault, bookies_fault, names_in, registered_in};
+ghost use Rattle.reh_picture.specs.Bookies.{is_name as is_bookie_name, name_fault, bookie_fault, each_bookie_fault};
+ghost use Rattle.reh_picture.specs.Bookies.{bookies_fault, names_in, registered_in};
 
 use crate::faults::{FaultName, PictureFault, Repeated};
 use crate::fields::Field;
@@ -94,6 +95,7 @@ fn is_name(name: &[u8]) -> bool
     !name.is_empty() && name.len() <= MAX_NAME_BYTES && is_graphic(name)
 }
 
+/// Whether each byte is a graphic character of ASCII.
 fn is_graphic(text: &[u8]) -> bool
     ensures { result ≡ list_all is_ascii_graphic text.now }
 {

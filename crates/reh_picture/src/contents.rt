@@ -1,5 +1,6 @@
 // What the bookies of a picture hold.
-ghost use Rattle.std.specs.Prelude.{◌≡◌, ◌≤◌, ◌<◌, ◌+◌, ◌*◌, length, [], ◌∷◌, ◌++◌, ℕ, Some, map, fold, max, cond, nat_eq, IfOk, OnOk, All};
+ghost use Rattle.std.specs.Prelude.{◌≡◌, ◌≤◌, ◌<◌, ◌+◌, ◌*◌, length, [], ◌∷◌, ◌++◌, ℕ, Some, map, fold, max, cond};
+ghost use Rattle.std.specs.Prelude.{nat_eq, IfOk, OnOk, All};
 ghost use Rattle.std.specs.List.{IsDistinct};
 ghost use Rattle.std.specs.Option.{option_map_or};
 ghost use Rattle.std.specs.BTreeMap.{get};
@@ -11,7 +12,10 @@ ghost use Rattle.reh_types.specs.Sets as set;
 ghost use Rattle.reh_picture.specs.Faults.{FailsWith};
 ghost use Rattle.reh_picture.specs.Members.{number_of, list_of, text_of};
 ghost use Rattle.reh_picture.specs.Bookies.{bookie_in};
-ghost use Rattle.reh_picture.specs.Contents.{two_numbers as two_numbers_in, ends_in, ends_of, range_fault, ranges_fault, next_after, content_fault, each_content_fault, contents_fault, pair_fault, pair_of, holding_in, copies_in, held_in, IsGreatest, HasEnds, FitsIn};
+ghost use Rattle.reh_picture.specs.Contents.{two_numbers as two_numbers_in, ends_in, ends_of, range_fault};
+ghost use Rattle.reh_picture.specs.Contents.{ranges_fault, next_after, content_fault, each_content_fault};
+ghost use Rattle.reh_picture.specs.Contents.{contents_fault, pair_fault, pair_of, holding_in, copies_in, held_in};
+ghost use Rattle.reh_picture.specs.Contents.{IsGreatest, HasEnds, FitsIn};
 ghost use Rattle.reh_model.specs.Contents.{Contents};
 ghost use Rattle.reh_cluster.specs.Parts.{HasRows};
 
@@ -83,7 +87,7 @@ fn read_ranges(alloc: Global, values: &[Value]) -> Result<Vec<(u32, u32)>, Pictu
 pub struct Holding {
     bookie: BookieIx,
     ledger: LedgerId,
-    // The first and the last entry of each range.
+    /// The first and the last entry of each range.
     ranges: Vec<(u32, u32)>,
 }
 

@@ -10,7 +10,11 @@ ghost use Rattle.reh_model.specs.Metadata.{end_of_state};
 ghost use Rattle.reh_picture.specs.Faults.{FailsWith};
 ghost use Rattle.reh_picture.specs.Members.{number_of, list_of};
 ghost use Rattle.reh_picture.specs.Bookies.{known_fault, bookie_in};
-ghost use Rattle.reh_picture.specs.Ledgers.{member_fault, members_fault, member_name, fragment_fault, fragment_in, state_fault, state_in, last_fault, end_in, is_closed, sizes_fault, fragments_fault, metadata_fault, pictured_metadata, ledger_fault, each_ledger_fault, ledgers_fault, listed_in, ledger_of, ids_in, broken_rule};
+ghost use Rattle.reh_picture.specs.Ledgers.{member_fault, members_fault, member_name, fragment_fault, fragment_in};
+ghost use Rattle.reh_picture.specs.Ledgers.{state_fault, state_in, last_fault, end_in, is_closed, sizes_fault};
+ghost use Rattle.reh_picture.specs.Ledgers.{fragments_fault, metadata_fault, pictured_metadata, ledger_fault};
+ghost use Rattle.reh_picture.specs.Ledgers.{each_ledger_fault, ledgers_fault, listed_in, ledger_of, ids_in};
+ghost use Rattle.reh_picture.specs.Ledgers.{broken_rule};
 ghost use Rattle.reh_picture.specs.Contents.{words_to as words_to_greatest};
 
 use crate::faults::{FaultName, LedgerFlaw, PictureFault, Repeated};

@@ -2,7 +2,8 @@
 ghost use Rattle.std.specs.Prelude.{◌≡◌, ◌≤◌, Ok, Err, map, length, IfOk, IfErr};
 ghost use Rattle.std.specs.Result.{result_err};
 ghost use Rattle.serde_json.specs.View.{view};
-ghost use Rattle.reh_picture.specs.Members.{member_in, number_in, integer_in, flag_in, text_in, list_in, number_of, list_of, number_fault, list_fault};
+ghost use Rattle.reh_picture.specs.Members.{member_in, number_in, integer_in, flag_in, text_in, list_in, number_of};
+ghost use Rattle.reh_picture.specs.Members.{list_of, number_fault, list_fault};
 
 use crate::faults::PictureFault;
 use crate::fields::Field;

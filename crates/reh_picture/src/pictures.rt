@@ -1,11 +1,14 @@
 // A picture as a whole.
-ghost use Rattle.std.specs.Prelude.{◌≡◌, ◌≢◌, ◌*◌, ◌≤◌, All, length, sum_by, Ok, Err, Some, None, MatchResult, IfOk, IfErr};
+ghost use Rattle.std.specs.Prelude.{◌≡◌, ◌≢◌, ◌*◌, ◌≤◌, All, length, sum_by, Ok, Err, Some, None, MatchResult, IfOk};
+ghost use Rattle.std.specs.Prelude.{IfErr};
 ghost use Rattle.std.specs.Result.{result_err};
 ghost use Rattle.serde_json.specs.View.{view};
-ghost use Rattle.reh_types.specs.declared.limits.TheConstants.{ENTRIES_IN_WORD, ENTRY_END, MAX_BOOKIES, MAX_GRACE, MAX_LEDGERS};
+ghost use Rattle.reh_types.specs.declared.limits.TheConstants.{ENTRIES_IN_WORD, ENTRY_END, MAX_BOOKIES, MAX_GRACE};
+ghost use Rattle.reh_types.specs.declared.limits.TheConstants.{MAX_LEDGERS};
 ghost use Rattle.reh_picture.specs.Members.{number_of};
 ghost use Rattle.reh_picture.specs.Faults.{FailsWith};
-ghost use Rattle.reh_picture.specs.Pictures.{picture_of, head_fault, parts_fault, fields_fault, pictured_cluster, IsShown, ids_of, json_of};
+ghost use Rattle.reh_picture.specs.Pictures.{picture_of, head_fault, parts_fault, fields_fault, pictured_cluster};
+ghost use Rattle.reh_picture.specs.Pictures.{IsShown, ids_of, json_of};
 
 use crate::bookies::read_bookies;
 use crate::contents::{Holding, greatest_ends, hold, read_contents};

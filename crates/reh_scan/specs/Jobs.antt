@@ -1,5 +1,6 @@
 -- What a scan reads, and what is found in it.
-use Rattle.std.specs.Prelude.{◌≡◌, ℕ, ◌*◌, ◌/◌, ◌-◌, ◌<◌, ◌≤◌, Bool, List, [], map, length, slice_index, slice_index_or, Option}
+use Rattle.std.specs.Prelude.{◌≡◌, ℕ, ◌*◌, ◌/◌, ◌-◌, ◌<◌, ◌≤◌, Bool, List, [], map, length, slice_index, slice_index_or}
+use Rattle.std.specs.Prelude.{Option}
 use Rattle.std.specs.List.{find}
 use Rattle.std.specs.Option.{option_map}
 use Rattle.reh_types.specs.declared.contents.Content.{Content}
@@ -23,7 +24,9 @@ pub record AreCopies (s : Cluster) (ledger first stop : ℕ) (ensemble : List �
 
 -- the first member in the order of the entry's write set that has it
 abbrev pub source_in : Reading → ℕ → Option ℕ
-source_in r entry = option_map (λ i. slice_index r.ensemble i) (find (has_copy r.first r.rows.items entry) (write_set entry r.size r.write_quorum))
+source_in r entry =
+    option_map (λ i. slice_index r.ensemble i)
+    (find (has_copy r.first r.rows.items entry) (write_set entry r.size r.write_quorum))
 
 -- the quorum is one of the ensemble, and each member has a row
 pub record IsReading (r : Reading) : Type 0 where
@@ -50,7 +53,9 @@ content_in a = record {
   first = a.reading.first;
   stop = a.reading.stop;
   ensemble = a.reading.ensemble;
-  sources = map (source_in a.reading) (striped_entries a.reading.first a.reading.stop a.aim.index a.reading.size a.reading.write_quorum);
+  sources =
+      map (source_in a.reading)
+      (striped_entries a.reading.first a.reading.stop a.aim.index a.reading.size a.reading.write_quorum);
 }
 
 -- the reading, and an index of its ensemble

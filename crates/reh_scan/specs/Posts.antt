@@ -1,5 +1,6 @@
 -- When the sources that a content names can still be used.
-use Rattle.std.specs.Prelude.{◌≡◌, ℕ, ◌<◌, Bool, true, not, ◌&&◌, ◌==◌, List, length, Option, None, Some, slice_get, slice_index}
+use Rattle.std.specs.Prelude.{◌≡◌, ℕ, ◌<◌, Bool, true, not, ◌&&◌, ◌==◌, List, length, Option, None, Some, slice_get}
+use Rattle.std.specs.Prelude.{slice_index}
 use Rattle.std.specs.Borrow.{Bor}
 use Rattle.std.specs.List.{list_any}
 use Rattle.reh_types.specs.declared.contents.Content.{Content}
@@ -17,13 +18,17 @@ pub record IsSeen (m : Metadata) (content : Content) (fragment : Fragment) : Typ
   pub there : slice_get m.fragments content.aim.fragment ≡ Some fragment
   pub whole : length fragment.ensemble ≡ m.size
   pub index : content.aim.index < m.size
-  pub entries : stripe_of m content.aim.fragment content.aim.index ≡ striped_entries content.first content.stop content.aim.index m.size m.write_quorum
+  pub entries : stripe_of m content.aim.fragment content.aim.index
+      ≡ striped_entries content.first content.stop content.aim.index m.size m.write_quorum
 
 -- whether the bookie stands at the index, and the row there has the entry
 abbrev pub is_copy_at : List (Bor (List ℕ)) → Fragment → ℕ → ℕ → ℕ → Bool
-is_copy_at rows fragment entry bookie index = (slice_index fragment.ensemble index == bookie) && is_set_at rows entry index
+is_copy_at rows fragment entry bookie index =
+    (slice_index fragment.ensemble index == bookie) && is_set_at rows entry index
 
 -- why an entry can't be copied from the source that is named for it, by the rows of the fragment's members
 abbrev pub lost_copy : List (Bor (List ℕ)) → Metadata → Fragment → ℕ × Option ℕ → Option Refusal
 lost_copy rows m fragment (entry, None) = Some (NoSource entry)
-lost_copy rows m fragment (entry, Some bookie) = reason_if (not (list_any (is_copy_at rows fragment entry bookie) (write_set entry m.size m.write_quorum))) (SourceGone entry)
+lost_copy rows m fragment (entry, Some bookie) =
+    reason_if (not (list_any (is_copy_at rows fragment entry bookie) (write_set entry m.size m.write_quorum)))
+    (SourceGone entry)

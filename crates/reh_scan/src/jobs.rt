@@ -14,8 +14,8 @@ use reh_types::{Aim, BookieIx, Content, Members, Sources};
 use std::alloc::{AllocError, Global};
 use std::marker::Model;
 
-/// What a worker needs to scan the fragment of an aim: the metadata as it was read, and what the registered members of the
-/// ensemble held of the fragment. The search for sources is left to `look`, which needs no state.
+/// What a worker needs to scan the fragment of an aim: the metadata as it was read, and what the registered members of
+/// the ensemble held of the fragment. The search for sources is left to `look`, which needs no state.
 ///
 /// Contracts see the content that a look at the job finds.
 #[derive(Drop)]
@@ -37,21 +37,21 @@ impl Model for Job {
     ghost invariant = { IsJob };
 }
 
-// What was read of a fragment.
+/// What was read of a fragment.
 #[derive(Drop)]
 struct Reading {
     first: u32,
     stop: u32,
-    // the ensemble size
+    /// The ensemble size.
     size: u32,
     write_quorum: u32,
     ensemble: Members,
-    // The words that each member holds of the fragment, from that of the first entry on, by the members' indexes; none of
-    // one that isn't registered.
+    /// The words that each member holds of the fragment, from that of the first entry on, by the members' indexes; none
+    /// of one that isn't registered.
     rows: Vec<Words>,
 }
 
-// Words of a row; contracts see the list.
+/// Words of a row; contracts see the list.
 #[derive(Drop)]
 struct Words {
     items: Vec<u64>,
@@ -97,7 +97,7 @@ impl Job {
     }
 }
 
-// Reads a fragment that ends at the stop.
+/// Reads a fragment that ends at the stop.
 fn read(
     alloc: Global,
     state: &State,
@@ -119,7 +119,7 @@ fn read(
     })
 }
 
-// The words that each member of the fragment holds of it.
+/// The words that each member of the fragment holds of it.
 fn copy_rows(
     alloc: Global,
     state: &State,
@@ -138,7 +138,7 @@ fn copy_rows(
     Ok(rows)
 }
 
-// The words of a row in which the entries from the first up to, not including, the stop lie.
+/// The words of a row in which the entries from the first up to, not including, the stop lie.
 fn copy_words(alloc: Global, row: &[u64], first: u32, stop: u32) -> Result<Words, AllocError>
     ensures { IfOk result (λ words. (entry : ℕ) → first ≤ entry → entry < stop
         → is_set words (entry - 64 * (first / 64)) ≡ is_set row.now entry) }
@@ -149,8 +149,8 @@ fn copy_words(alloc: Global, row: &[u64], first: u32, stop: u32) -> Result<Words
     Ok(Words { items })
 }
 
-/// Looks for the source of each entry that the fragment stripes onto the index: the first member in the order of its write
-/// set that was registered, and held it.
+/// Looks for the source of each entry that the fragment stripes onto the index: the first member in the order of its
+/// write set that was registered, and held it.
 ///
 /// BookKeeper's replication worker reads an entry from the members of its write set in this order.
 pub fn look(alloc: Global, job: &Job) -> Result<Content, AllocError>
@@ -167,7 +167,7 @@ pub fn look(alloc: Global, job: &Job) -> Result<Content, AllocError>
     })
 }
 
-// The source of each entry that the fragment stripes onto the index.
+/// The source of each entry that the fragment stripes onto the index.
 fn find_sources(
     alloc: Global,
     reading: &Reading,
@@ -191,7 +191,7 @@ fn find_sources(
     Ok(sources)
 }
 
-// The first member in the order of the entry's write set whose words have the entry.
+/// The first member in the order of the entry's write set whose words have the entry.
 fn find_source(reading: &Reading, entry: u32) -> Option<BookieIx>
     requires reading { IsReading reading.now }
     requires entry { reading.now.first ≤ entry }

@@ -13,8 +13,8 @@ use reh_meta::Fragment;
 use reh_stripe::Striped;
 use reh_types::{Aim, BookieIx, LedgerId, Refusal};
 
-/// Whether a worker is given a ticket to scan the fragment of this aim, or else the first refusal that applies: it has to
-/// hold the ledger's lock, and its bookie to be able to take the place. It takes no memory.
+/// Whether a worker is given a ticket to scan the fragment of this aim, or else the first refusal that applies: it has
+/// to hold the ledger's lock, and its bookie to be able to take the place. It takes no memory.
 pub fn aimed(state: &State, aim: &Aim) -> Result<(), Refusal>
     ensures { Decides result (aim_refusal state.now aim.now) }
 {
@@ -73,9 +73,11 @@ pub fn check_owner(ledger: &Ledger, worker: BookieIx) -> Result<(), Refusal>
     }
 }
 
-/// The aim's fragment of the ledger, and the entries that it stripes onto the index, if the worker's bookie can take that place.
+/// The aim's fragment of the ledger, and the entries that it stripes onto the index, if the worker's bookie can take
+/// that place.
 ///
-/// BookKeeper's replication worker puts its own bookie into the place of a lost member, in a fragment whose entries are fixed.
+/// BookKeeper's replication worker puts its own bookie into the place of a lost member, in a fragment whose entries are
+/// fixed.
 pub fn check_place<'a>(
     state: &State,
     ledger: &'a Ledger,

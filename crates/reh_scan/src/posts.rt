@@ -1,5 +1,6 @@
 // Whether what a worker found can be posted.
-ghost use Rattle.std.specs.Prelude.{◌≡◌, ◌^◌, ◌<◌, ◌&&◌, ◌==◌, false, length, map, Some, slice_get, slice_index, MatchOption};
+ghost use Rattle.std.specs.Prelude.{◌≡◌, ◌^◌, ◌<◌, ◌&&◌, ◌==◌, false, length, map, Some, slice_get, slice_index};
+ghost use Rattle.std.specs.Prelude.{MatchOption};
 ghost use Rattle.std.specs.List.{list_any, zip};
 ghost use Rattle.reh_model.specs.Checks.{first_reason};
 ghost use Rattle.reh_model.specs.Refusals.{Decides};
@@ -18,8 +19,8 @@ use reh_stripe::{Striped, write_set};
 use reh_types::{BookieIx, Content, Refusal};
 
 /// Whether what a worker found can be posted, or else the first refusal that applies: it has to hold the ledger's lock,
-/// the fragment has to be as it was seen, at the version that was seen, and the source that is named for each entry has to
-/// be one still. It takes no memory.
+/// the fragment has to be as it was seen, at the version that was seen, and the source that is named for each entry has
+/// to be one still. It takes no memory.
 pub fn check(state: &State, content: &Content) -> Result<(), Refusal>
     ensures { Decides result (post_refusal state.now content.now) }
 {
@@ -33,7 +34,7 @@ pub fn check(state: &State, content: &Content) -> Result<(), Refusal>
     Ok(())
 }
 
-// The content's fragment, if the metadata is as the content saw it.
+/// The content's fragment, if the metadata is as the content saw it.
 fn find_seen<'a>(metadata: &'a LedgerMeta, content: &Content) -> Option<&'a Fragment>
     ensures { MatchOption result (is_as_seen metadata.now content.now ≡ false)
         (λ fragment. IsSeen metadata.now content.now fragment.now) }
@@ -46,7 +47,7 @@ fn find_seen<'a>(metadata: &'a LedgerMeta, content: &Content) -> Option<&'a Frag
     }
 }
 
-// Whether the fragment is as the content saw it, with a source, or none, for each striped entry.
+/// Whether the fragment is as the content saw it, with a source, or none, for each striped entry.
 fn is_fragment_as_seen(metadata: &LedgerMeta, content: &Content, fragment: &Fragment) -> bool
     requires { slice_get metadata.now.fragments content.now.aim.fragment ≡ Some fragment.now }
     ensures { result ≡ scan.is_fragment_as_seen metadata.now content.now fragment.now }
@@ -58,7 +59,7 @@ fn is_fragment_as_seen(metadata: &LedgerMeta, content: &Content, fragment: &Frag
         && content.sources.as_slice().len() == entries_of(metadata, content).count()
 }
 
-// The entries that the content's fragment stripes onto the index, as it was seen.
+/// The entries that the content's fragment stripes onto the index, as it was seen.
 fn entries_of(metadata: &LedgerMeta, content: &Content) -> Striped
     requires { content.now.aim.index < metadata.now.size }
     ensures entries { result ≡ striped_entries content.now.first content.now.stop content.now.aim.index
@@ -75,7 +76,7 @@ fn entries_of(metadata: &LedgerMeta, content: &Content) -> Striped
     )
 }
 
-// Whether each entry can still be copied from the source that is named for it.
+/// Whether each entry can still be copied from the source that is named for it.
 fn check_sources(
     state: &State,
     ledger: &Ledger,
@@ -96,7 +97,7 @@ fn check_sources(
     Ok(())
 }
 
-// Whether the entry can be copied from the source that is named for it, by the rows of the fragment's members.
+/// Whether the entry can be copied from the source that is named for it, by the rows of the fragment's members.
 fn check_source(
     rows: &Rows<'_>,
     metadata: &LedgerMeta,
@@ -114,7 +115,7 @@ fn check_source(
     }
 }
 
-// Whether the bookie is at an index of the entry's write set at which the row has the entry.
+/// Whether the bookie is at an index of the entry's write set at which the row has the entry.
 fn is_source(
     rows: &Rows<'_>,
     metadata: &LedgerMeta,

@@ -1,5 +1,6 @@
 // What can't be read any more.
-ghost use Rattle.std.specs.Prelude.{◌≡◌, ℕ, ◌+◌, ◌-◌, ◌*◌, ◌%◌, ◌^◌, ◌<◌, ◌≤◌, ◌++◌, length, not, Some, count_by, slice_index, IfOk};
+ghost use Rattle.std.specs.Prelude.{◌≡◌, ℕ, ◌+◌, ◌-◌, ◌*◌, ◌%◌, ◌^◌, ◌<◌, ◌≤◌, ◌++◌, length, not, Some, count_by};
+ghost use Rattle.std.specs.Prelude.{slice_index, IfOk};
 ghost use Rattle.std.specs.List.{list_any};
 ghost use Rattle.std.specs.Option.{IsSome};
 ghost use Rattle.reh_types.specs.declared.limits.TheConstants.{MAX_ENSEMBLE_SIZE};
@@ -36,7 +37,7 @@ fn push_lines(lines: &mut Vec<SurveyLine>, state: &State, ledger: &Ledger) -> Re
         (λ _. lines.new.items ≡ lines.old.items ++ model.lines_of state.now ledger.now) }
 {
     for (number, fragment) in ledger.metadata().fragments().iter().enumerate() {
-        lines.push(line_of(state, ledger, number, fragment))?;
+        lines.push(fragment_line(state, ledger, number, fragment))?;
     }
     Ok(())
 }
@@ -48,11 +49,11 @@ pub fn survey_line(state: &State, ledger: LedgerId, fragment: u64) -> SurveyLine
 {
     let found = state.ledger(ledger).unwrap();
     let number = fragment as usize;
-    line_of(state, found, number, &found.metadata().fragments()[number])
+    fragment_line(state, found, number, &found.metadata().fragments()[number])
 }
 
 /// The line of a ledger's fragment.
-fn line_of(state: &State, ledger: &Ledger, number: usize, fragment: &Fragment) -> SurveyLine
+fn fragment_line(state: &State, ledger: &Ledger, number: usize, fragment: &Fragment) -> SurveyLine
     requires { length fragment.now.ensemble ≡ ledger.now.metadata.size }
     ensures { result ≡ model.line_of state.now ledger.now number fragment.now }
 {

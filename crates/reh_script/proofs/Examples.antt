@@ -6,7 +6,7 @@ use Rattle.reh_script.specs.declared.commands.Command.{Command}
 use Rattle.reh_script.specs.declared.commands.Command.TheVariants.{Make, Checkout, Spend, Discard, Report, Survey}
 use Rattle.reh_script.specs.declared.commands.LineFault.{LineFault}
 use Rattle.reh_script.specs.declared.commands.LineFault.TheVariants.{TooLong, UnknownCommand, BadWords, UnknownName}
-use Rattle.reh_script.specs.Script.{command_of_line, forms}
+use Rattle.reh_script.specs.Script.{command_of_line, verbs}
 use Rattle.std.specs.Fmt.{digits}
 use Rattle.reh_types.specs.declared.moves.Reply.TheVariants.{Done, Clock, Issued, Discarded, Refused}
 use Rattle.reh_types.specs.declared.refusals.Refusal.TheVariants.{Locked, NoTask, StillUnder, Stale, NotOut, HandFull, HandEmpty}
@@ -35,48 +35,48 @@ faulty fault = Some (Err fault)
 -- spaces and tabs part words, also at both ends
 pub words_parted : asked (codes "lose b2:3181" ∷ codes " \tlose \t b2:3181\t " ∷ codes "acquire b1:3181 7" ∷ codes "copy b2:3181 7 0 1 2" ∷ codes "report" ∷ [])
     ≡ made (Make (Do (Lose 1))) ∷ made (Make (Do (Lose 1))) ∷ made (Make (Do (Acquire 0 7))) ∷ made (Make (Do (Copy 1 7 0 1 2))) ∷ made Report ∷ []
-unfolding forms
+unfolding verbs
 words_parted = refl
 
 -- a line without a word, and one whose first word begins with `#`, have no reply
 pub no_reply : asked ([] ∷ codes " \t" ∷ codes "# lose nobody" ∷ codes "  #x" ∷ codes "\r" ∷ []) ≡ None ∷ None ∷ None ∷ None ∷ None ∷ []
-unfolding forms
+unfolding verbs
 no_reply = refl
 
 -- the form of all words is judged before any name, and the verb before both
 pub order_of_faults : asked (codes "copy nobody x 0 0 0" ∷ codes "copy nobody 7 0 0" ∷ codes "copy nobody 7 0 0 0" ∷ codes "lost nobody x" ∷ codes "lose" ∷ codes "undo 1" ∷ codes "lose 1" ∷ codes "Lose b1:3181" ∷ [])
     ≡ faulty BadWords ∷ faulty BadWords ∷ faulty UnknownName ∷ faulty UnknownCommand ∷ faulty BadWords ∷ faulty BadWords ∷ faulty UnknownName ∷ faulty UnknownCommand ∷ []
-unfolding forms
+unfolding verbs
 order_of_faults = refl
 
 -- an open ledger's commands; a roll names the bookie behind the numbers, and its form is judged first, too
 pub open_ledgers : asked (codes "grace b1:3181 9" ∷ codes "roll 9 1 b2:3181" ∷ codes "fence b2:3181 9" ∷ codes "seal b2:3181 9" ∷ codes "roll b2:3181 9 1" ∷ codes "roll 9 x nobody" ∷ codes "roll 9 1 nobody" ∷ codes "roll 9 1" ∷ [])
     ≡ made (Make (Do (Grace 0 9))) ∷ made (Make (Do (Roll 9 1 1))) ∷ made (Make (Do (Fence 1 9))) ∷ made (Make (Do (Seal 1 9))) ∷ faulty BadWords ∷ faulty BadWords ∷ faulty UnknownName ∷ faulty BadWords ∷ []
-unfolding forms
+unfolding verbs
 open_ledgers = refl
 
 -- a player's own commands; a checkout names a worker, and the place that it aims at
 pub hands : asked (codes "checkout b2:3181 7 0 1" ∷ codes "spend" ∷ codes "discard" ∷ codes "survey" ∷ codes "checkout b2:3181 7 0" ∷ codes "checkout b2:3181 7 0 1 0" ∷ codes "checkout nobody 7 0 1" ∷ codes "spend 1" ∷ [])
     ≡ made (Checkout (record { worker = 1; ledger = 7; fragment = 0; index = 1 })) ∷ made Spend ∷ made Discard ∷ made Survey ∷ faulty BadWords ∷ faulty BadWords ∷ faulty UnknownName ∷ faulty BadWords ∷ []
-unfolding forms
+unfolding verbs
 hands = refl
 
 -- one CR at the end is dropped; a second one belongs to the last word
 pub one_cr : asked (codes "clock\r" ∷ codes "clock\r\r" ∷ codes "tick 1\r" ∷ codes "tick 1\r\r" ∷ codes "\r\r" ∷ codes "clock\r " ∷ [])
     ≡ made (Make Look) ∷ faulty UnknownCommand ∷ made (Make (Do (Tick 1))) ∷ faulty BadWords ∷ faulty UnknownCommand ∷ faulty UnknownCommand ∷ []
-unfolding forms
+unfolding verbs
 one_cr = refl
 
 -- a number has 1 to 13 digits, and the first ones may be zeros
 pub digits_of_numbers : asked (codes "tick 00012" ∷ codes "tick 0000000000001" ∷ codes "tick 00000000000001" ∷ codes "tick 9999999999999" ∷ codes "tick 10000000000000" ∷ codes "tick -1" ∷ codes "tick +1" ∷ codes "tick 1x" ∷ [])
     ≡ made (Make (Do (Tick 12))) ∷ made (Make (Do (Tick 1))) ∷ faulty BadWords ∷ made (Make (Do (Tick 9_999_999_999_999))) ∷ faulty BadWords ∷ faulty BadWords ∷ faulty BadWords ∷ faulty BadWords ∷ []
-unfolding forms
+unfolding verbs
 digits_of_numbers = refl
 
 -- a line has 1,024 bytes at most, its CR not counted, whatever is in it
 pub length_of_lines : asked ((codes "clock" ++ replicate 1_019 32) ∷ (codes "clock" ++ replicate 1_019 32 ++ codes "\r") ∷ (codes "clock" ++ replicate 1_020 32) ∷ (codes "clock" ++ replicate 1_019 32 ++ codes "\r\r") ∷ replicate 1_024 35 ∷ replicate 1_025 35 ∷ replicate 1_025 32 ∷ [])
     ≡ made (Make Look) ∷ made (Make Look) ∷ faulty TooLong ∷ faulty TooLong ∷ None ∷ faulty TooLong ∷ faulty TooLong ∷ []
-unfolding forms
+unfolding verbs
 length_of_lines = refl
 
 -- Texts

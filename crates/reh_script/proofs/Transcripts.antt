@@ -9,7 +9,7 @@ use Rattle.reh_types.specs.declared.moves.Reply.{Reply}
 use Rattle.reh_types.specs.declared.moves.Reply.TheVariants.{Done, Clock, Issued, Discarded, Refused}
 use Rattle.reh_types.specs.declared.names.Aim.{Aim}
 use Rattle.reh_types.specs.declared.refusals.Refusal.TheVariants.{NotOut, NoMemory}
-use Rattle.reh_model.specs.Book.{Book, answer_to, book_after, is_written, or_refused, place_of, ticket, Answers}
+use Rattle.reh_model.specs.Book.{Book, answer_to, book_after, is_written, or_refused, ticket_place, ticket, Answers}
 use Rattle.reh_model.specs.Checks.{reason_if}
 use Rattle.reh_model.specs.Cluster.{Cluster}
 use Rattle.reh_model.specs.Session.{state_of}
@@ -177,7 +177,7 @@ is_other reply = true
 -- a book never answers a discard so
 discard_has_memory : (b : Book) (seat number : ℕ) (aim : Aim) → Refused NoMemory ≡ answer_to b seat (call.Discard number aim) → ⊥
 discard_has_memory b seat number aim is =
-    let out : Bool = is_none (place_of (ticket seat number aim) b.out) in
+    let out : Bool = is_none (ticket_place (ticket seat number aim) b.out) in
     elim out as (λ t. Refused NoMemory ≡ or_refused (reason_if t NotOut) Discarded → ⊥) [
       | true ↦ λ same. false≢true (ap is_other same)
       | false ↦ λ same. false≢true (ap is_other same)

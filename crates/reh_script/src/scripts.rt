@@ -5,7 +5,7 @@ ghost use Rattle.reh_script.specs.Script as script;
 ghost use Rattle.reh_script.specs.Script.{command_of_line, command_by, words_of};
 
 use crate::commands::{Command, LineFault};
-use crate::forms::form_of;
+use crate::verbs::Verb;
 use crate::words::{Arguments, next_word, read_words};
 use reh_cluster::Names;
 use reh_types::MAX_LINE_BYTES;
@@ -36,19 +36,14 @@ fn without_cr(line: &[u8]) -> &[u8]
     }
 }
 
-/// What a verb and the words behind it ask for: the commands, each with the kinds of its words.
+/// What a verb and the words behind it ask for.
 fn parse_command(names: &Names, verb: &[u8], words: &[u8]) -> Result<Command, LineFault>
-    ensures { result ≡ command_by names.now (script.form_of verb.now) (words_of words.now) }
+    ensures { result ≡ command_by names.now (script.verb_of verb.now) (words_of words.now) }
 {
-    let Some(form) = form_of(verb, Arguments::none()) else {
-        return Err(LineFault::UnknownCommand);
+    let verb = Verb::of(verb).ok_or(LineFault::UnknownCommand)?;
+    let arguments = match (verb.roles(), words) {
+        ([], []) => Arguments::none(),
+        (roles, words) => read_words(names, roles, words)?,
     };
-    if form.kinds.is_empty() && words.is_empty() {
-        return Ok(form.command);
-    }
-    let arguments = read_words(names, form.kinds, words)?;
-    match form_of(verb, arguments) {
-        Some(form) => Ok(form.command),
-        None => Err(LineFault::UnknownCommand),
-    }
+    Ok(verb.make(arguments))
 }

@@ -1,19 +1,67 @@
 // The words of a line, and what those behind a verb name.
-ghost use Rattle.std.specs.Prelude.{◌≡◌, ◌≤◌, ◌∷◌, [], length, MatchOption, not, position};
+ghost use Rattle.std.specs.Prelude.{◌≡◌, ◌≤◌, ◌∷◌, [], length, map, MatchOption, not, position};
 ghost use Rattle.std.specs.List.{position_or_len};
 ghost use Rattle.reh_script.specs.Script as script;
 
 use crate::commands::LineFault;
 use reh_cluster::Names;
 use reh_types::BookieIx;
+use std::fmt;
 
-/// What a word behind a verb has to be.
+/// What a word behind a verb stands for.
+#[derive(Clone, Copy, PartialEq, Eq, Debug)]
+pub enum Role {
+    /// A bookie.
+    Bookie,
+    /// A worker, which goes by its bookie's name.
+    Worker,
+    /// A ledger's id.
+    Ledger,
+    /// A fragment of the ledger, counted from 0.
+    Fragment,
+    /// An index of the fragment's ensemble.
+    Index,
+    /// The version of the ledger's metadata.
+    Version,
+    /// How many ticks the clock goes on.
+    Ticks,
+}
+
+/// What a word has to be.
 #[derive(Clone, Copy, PartialEq, Eq, Debug)]
 pub enum Kind {
-    /// A bookie's name; a worker goes by its bookie's.
-    Bookie,
+    /// A bookie's name.
+    Name,
     /// A number of 1 to 13 decimal digits.
     Number,
+}
+
+impl Role {
+    /// What a word of this role has to be.
+    fn kind(self) -> Kind
+        ensures { result ≡ script.kind_of self }
+    {
+        match self {
+            Role::Bookie | Role::Worker => Kind::Name,
+            Role::Ledger | Role::Fragment | Role::Index | Role::Version | Role::Ticks =>
+                Kind::Number,
+        }
+    }
+}
+
+/// The role as it is written in help.
+impl fmt::Display for Role {
+    fn fmt<W: fmt::Write>(&self, f: &mut fmt::Formatter<W>) -> fmt::Result {
+        f.write_str(match self {
+            Role::Bookie => "BOOKIE",
+            Role::Worker => "WORKER",
+            Role::Ledger => "LEDGER",
+            Role::Fragment => "FRAGMENT",
+            Role::Index => "INDEX",
+            Role::Version => "VERSION",
+            Role::Ticks => "N",
+        })
+    }
 }
 
 /// What the words behind a verb name: at most one bookie, and at most four numbers in their order. Others are 0.
@@ -61,28 +109,35 @@ impl Arguments {
     }
 }
 
-/// What the words of a text name, if they are of these kinds.
-pub(crate) fn read_words(names: &Names, kinds: &[Kind], text: &[u8]) -> Result<Arguments, LineFault>
-    ensures { result ≡ script.arguments_of names.now kinds.now (script.words_of text.now) }
+/// What the words of a text name, if they are what these roles want.
+pub(crate) fn read_words(names: &Names, roles: &[Role], text: &[u8]) -> Result<Arguments, LineFault>
+    ensures { result ≡ script.arguments_of names.now (map script.kind_of roles.now) (script.words_of text.now) }
 {
-    match (kinds, next_word(text)) {
-        ([], None) => Ok(Arguments::none()),
-        ([Kind::Number, kinds @ ..], Some((word, rest))) => {
+    let next = next_word(text);
+    let [role, roles @ ..] = roles else {
+        return match next {
+            Some(_) => Err(LineFault::BadWords),
+            None => Ok(Arguments::none()),
+        };
+    };
+    let (word, rest) = next.ok_or(LineFault::BadWords)?;
+    match role.kind() {
+        Kind::Number => {
             let number = parse_number(word).ok_or(LineFault::BadWords)?;
-            Ok(read_words(names, kinds, rest)?.with_number(number))
+            Ok(read_words(names, roles, rest)?.with_number(number))
         }
-        ([Kind::Bookie, kinds @ ..], Some((word, rest))) => {
-            let others = read_words(names, kinds, rest)?;
+        Kind::Name => {
+            let others = read_words(names, roles, rest)?;
             let bookie = names.find(word).ok_or(LineFault::UnknownName)?;
             Ok(others.with_bookie(bookie))
         }
-        _ => Err(LineFault::BadWords),
     }
 }
 
 /// The first word of a text, if there is one, and what follows it.
 pub(crate) fn next_word(text: &[u8]) -> Option<(&[u8], &[u8])>
-    ensures { MatchOption result (script.words_of text.now ≡ []) (λ found. script.words_of text.now ≡ found.0.now ∷ script.words_of found.1.now) }
+    ensures { MatchOption result (script.words_of text.now ≡ [])
+        (λ found. script.words_of text.now ≡ found.0.now ∷ script.words_of found.1.now) }
 {
     let text = &text[blanks(text)..];
     if text.is_empty() {

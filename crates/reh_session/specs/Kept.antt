@@ -18,20 +18,24 @@ abbrev pub led_on : Cluster → List (List Change) → Cluster
 led_on s [] = s
 led_on s (changes ∷ records) = led_on (exchanged s changes) records
 
--- The events before the cursor survive, the others are undone. The opening cluster is kept nowhere: the records of the surviving events lead back to it.
+-- The events before the cursor survive, the others are undone. The opening cluster is kept nowhere: the records of the
+-- surviving events lead back to it.
 abbrev pub session_of : Cluster → List Event → List (List Change) → ℕ → Session
-session_of s events records cursor = record { opening = led_back s (take cursor records); done = take cursor events; undone = drop cursor events }
+session_of s events records cursor =
+    record { opening = led_back s (take cursor records); done = take cursor events; undone = drop cursor events }
 
 -- events that lead from one cluster to another, each with the record that leads back over it
 abbrev pub Trail : Cluster → List Event → List (List Change) → Cluster → Type 0
 Trail s [] [] t = s ≡ t
-Trail s (event ∷ events) (changes ∷ records) t = (refusal_of s event ≡ None) × IsDelta (after s event) s changes × Trail (after s event) events records t
+Trail s (event ∷ events) (changes ∷ records) t =
+    (refusal_of s event ≡ None) × IsDelta (after s event) s changes × Trail (after s event) events records t
 Trail s events records t = ⊥
 
 -- events that can be made from a cluster, each with the record that makes it
 abbrev pub Ahead : Cluster → List Event → List (List Change) → Type 0
 Ahead s [] [] = Unit {0}
-Ahead s (event ∷ events) (changes ∷ records) = (refusal_of s event ≡ None) × IsDelta s (after s event) changes × Ahead (after s event) events records
+Ahead s (event ∷ events) (changes ∷ records) =
+    (refusal_of s event ≡ None) × IsDelta s (after s event) changes × Ahead (after s event) events records
 Ahead s events records = ⊥
 
 -- each record before the cursor leads back over its event, and each one behind it makes its event

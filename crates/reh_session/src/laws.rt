@@ -11,7 +11,8 @@ ghost use Rattle.reh_model.specs.Scan.{aim_refusal, scan, post_refusal, copy_of}
 ghost use Rattle.reh_model.specs.Step.{refusal_of, after};
 ghost use Rattle.reh_model.specs.Session.{Session, state_of, reply_to, moved_session};
 
-/// An accepted event can be undone, and its undo restores the state and the surviving events; the one event that is undone then is that event.
+/// An accepted event can be undone, and its undo restores the state and the surviving events; the one event that is
+/// undone then is that event.
 pub fn undo_restores()
     ensures can_undo { (m : Session) (event : Event) → reply_to m (Do event) ≡ Done
         → reply_to (moved_session m (Do event)) Undo ≡ Done }
@@ -35,11 +36,11 @@ pub fn stripes_stay()
         IsSome (stop_at s l f) → stripe_at (after s event) l f i ≡ stripe_at s l f i }
 {}
 
-/// The copy that an accepted post stands for is accepted, too. What a scan finds for an aim that is not refused is posted in
-/// that state as its copy would be made: with the same refusal, or with none.
+/// The copy that an accepted post stands for is accepted, too. What a scan finds for an aim that is not refused is
+/// posted in that state as its copy would be made: with the same refusal, or with none.
 pub fn posts_are_copies()
     ensures accepted { (s : Cluster) (content : Content) → post_refusal s content ≡ None
         → refusal_of s (copy_of content) ≡ None }
-    ensures scanned { (s : Cluster) (aim : Aim) (content : Content) → aim_refusal s aim ≡ None → scan s aim ≡ Some content
-        → post_refusal s content ≡ refusal_of s (copy_of content) }
+    ensures scanned { (s : Cluster) (aim : Aim) (content : Content) → aim_refusal s aim ≡ None
+        → scan s aim ≡ Some content → post_refusal s content ≡ refusal_of s (copy_of content) }
 {}

@@ -1,5 +1,6 @@
 // Sessions, which can undo and redo.
-ghost use Rattle.std.specs.Prelude.{◌≡◌, ℕ, All, ◌+◌, ◌<◌, ◌≤◌, ◌∷◌, [], ◌++◌, length, take, drop, Some, IsSome, IfOk, OnErr, OnOk, vec_capacity};
+ghost use Rattle.std.specs.Prelude.{◌≡◌, ℕ, All, ◌+◌, ◌<◌, ◌≤◌, ◌∷◌, [], ◌++◌, length, take, drop, Some, IsSome, IfOk};
+ghost use Rattle.std.specs.Prelude.{OnErr, OnOk, vec_capacity};
 ghost use Rattle.reh_types.specs.declared.limits.TheConstants.{MAX_EVENTS};
 ghost use Rattle.std.specs.Result.{IsOkAnd};
 ghost use Rattle.reh_model.specs.Session.{replay as replayed};
@@ -75,7 +76,8 @@ impl Session {
         &self.events[..self.cursor]
     }
 
-    /// The undone events, of which the first is redone next. All of them can be redone, and with those that survive there are at most 100,000.
+    /// The undone events, of which the first is redone next. All of them can be redone, and with those that survive
+    /// there are at most 100,000.
     pub fn undone(&self) -> &[Event]
         ensures events { result.now ≡ self.now.undone }
         ensures redoable { IsSome (replayed self.now.opening (self.now.done ++ self.now.undone)) }
@@ -85,21 +87,24 @@ impl Session {
     }
 
     /// The records of these events: first those of the surviving ones, oldest first, each of which leads back over its
-    /// event (`trail`); and then those of the undone ones, each of which makes its event again (`ahead`). Each has exactly
-    /// one change for each place in which its event made a difference.
+    /// event (`trail`); and then those of the undone ones, each of which makes its event again (`ahead`). Each has
+    /// exactly one change for each place in which its event made a difference.
     pub fn records(&self) -> &[Changes]
         ensures count { length result.now ≡ length self.now.done + length self.now.undone }
-        ensures trail { Trail self.now.opening self.now.done (take (length self.now.done) result.now) (state_of self.now) }
+        ensures trail { Trail self.now.opening self.now.done (take (length self.now.done) result.now)
+            (state_of self.now) }
         ensures ahead { Ahead (state_of self.now) self.now.undone (drop (length self.now.done) result.now) }
         ensures back { (k : ℕ) → k ≤ length self.now.done → replayed self.now.opening (take k self.now.done)
             ≡ Some (led_back (state_of self.now) (drop k (take (length self.now.done) result.now))) }
-        ensures forth { (k : ℕ) → k ≤ length self.now.undone → replayed self.now.opening (self.now.done ++ take k self.now.undone)
+        ensures forth { (k : ℕ) → k ≤ length self.now.undone
+            → replayed self.now.opening (self.now.done ++ take k self.now.undone)
             ≡ Some (led_on (state_of self.now) (take k (drop (length self.now.done) result.now))) }
     {
         &self.records
     }
 
-    /// Makes an event, unless it is refused: by the event's own refusals first, then by `Full`, and then for want of memory. A refused event changes nothing.
+    /// Makes an event, unless it is refused: by the event's own refusals first, then by `Full`, and then for want of
+    /// memory. A refused event changes nothing.
     ///
     /// No swap that is made loses an entry (`safe`): the worker's bookie holds each one that the fragment stripes
     /// onto the index. While the swap survives it stays so (`lasting`).
@@ -112,9 +117,9 @@ impl Session {
         self.make(*event)
     }
 
-    /// Posts what a worker found, unless it is refused: by the refusals of a post first, then by `Full`, and then for want
-    /// of memory. A refused post changes nothing. An accepted one is the copy to its aim at its version, which survives,
-    /// and is undone, as that event.
+    /// Posts what a worker found, unless it is refused: by the refusals of a post first, then by `Full`, and then for
+    /// want of memory. A refused post changes nothing. An accepted one is the copy to its aim at its version, which
+    /// survives, and is undone, as that event.
     pub fn post(&mut self, content: &Content) -> Result<(), Refusal>
         ensures answers { Performs self.old (Post content.now) (reply_of result) self.new }
         ensures lasting { AllSafe self.new }
@@ -140,8 +145,8 @@ impl Session {
         }
         let alloc = *self.events.allocator();
         let mut changes = changes_of(alloc, &self.state, &event)?;
-        make_room(&mut self.events, self.cursor)?;
-        make_room(&mut self.records, self.cursor)?;
+        reserve_next(&mut self.events, self.cursor)?;
+        reserve_next(&mut self.records, self.cursor)?;
         self.state.exchange(&mut changes);
         keep(&mut self.events, self.cursor, event);
         keep(&mut self.records, self.cursor, changes);
@@ -197,7 +202,8 @@ impl Session {
     }
 
     /// Makes moves in order. Room for all answers is taken first, and where there is none, nothing changes.
-    /// Later an event for which there is no memory is answered so, and the run goes on. No swap of the run loses an entry.
+    /// Later an event for which there is no memory is answered so, and the run goes on. No swap of the run loses an
+    /// entry.
     pub fn run(&mut self, moves: &[Move]) -> Result<Vec<Reply>, AllocError>
         ensures run { IfOk result (λ replies. Run self.old moves.now replies.items self.new) }
         ensures safe { IfOk result (λ replies. IsSafeRun self.old moves.now replies.items) }
@@ -216,7 +222,7 @@ impl Session {
 }
 
 /// Makes room for one element behind the first `cursor`.
-fn make_room<T>(items: &mut Vec<T>, cursor: usize) -> Result<(), AllocError>
+fn reserve_next<T>(items: &mut Vec<T>, cursor: usize) -> Result<(), AllocError>
     requires { cursor ≤ length items.old.items }
     ensures items { items.new.items ≡ items.old.items }
     ensures room { OnOk result (cursor < vec_capacity items.new) }

@@ -20,7 +20,7 @@ pub fn is_striped(entry: u32, index: u32, size: u32, quorum: u32) -> bool
     index < size && rank_of(entry, index, size) < quorum
 }
 
-// The rank at which the index carries the entry, if it is below the write quorum.
+/// The rank at which the index carries the entry, if it is below the write quorum.
 fn rank_of(entry: u32, index: u32, size: u32) -> u32
     requires inside { index < size }
     requires small { size ≤ MAX_ENSEMBLE_SIZE }
@@ -45,7 +45,7 @@ pub fn rank_from(start: u32, index: u32, size: u32) -> u32
 #[derive(Drop)]
 pub struct Striped {
     at: u32,
-    // the index of rank 0 there
+    /// The index of rank 0 there.
     start: u32,
     stop: u32,
     index: u32,

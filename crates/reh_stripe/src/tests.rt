@@ -1,7 +1,7 @@
 // Striping as BookKeeper's documentation shows it, and of a small ledger.
 use crate::{Striped, is_striped, write_set};
 
-// Five bookies and a write quorum of three: an entry goes round the ensemble, one bookie further each time.
+/// Five bookies and a write quorum of three: an entry goes round the ensemble, one bookie further each time.
 #[test]
 fn goes_round_the_ensemble(rt: HostRuntime) {
     let write_sets = [
@@ -17,7 +17,7 @@ fn goes_round_the_ensemble(rt: HostRuntime) {
     }
 }
 
-// Three bookies and a write quorum of two.
+/// Three bookies and a write quorum of two.
 #[test]
 fn stripes_the_entries_of_a_ledger(rt: HostRuntime) {
     assert!(rt; Striped::new(0, 6, 1, 3, 2).eq([0, 1, 3, 4]));

@@ -9,7 +9,7 @@ use std::marker::Model;
 /// The indexes of a write set, in the order of their ranks; contracts see those that are left.
 #[derive(Drop)]
 pub struct WriteSet {
-    // the index of rank 0
+    /// The index of rank 0.
     start: u32,
     rank: u32,
     size: u32,
@@ -65,7 +65,7 @@ impl Iterator for WriteSet {
     }
 }
 
-// A number below twice the size, round an ensemble of this size.
+/// A number below twice the size, round an ensemble of this size.
 pub(crate) fn wrapped(number: u32, size: u32) -> u32
     requires { number < 2 * size }
     ensures { result ≡ number % size }

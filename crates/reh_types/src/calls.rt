@@ -26,7 +26,7 @@ pub struct Line {
 
 /// A line of a seat's own list: a call that it made, and the reply.
 #[derive(Drop)]
-pub struct Exchange {
+pub struct OwnLine {
     pub call: Call,
     pub reply: Reply,
 }

@@ -13,3 +13,5 @@ mod pictures;
 mod sessions;
 #[cfg(test)]
 mod streams;
+#[cfg(test)]
+mod texts;

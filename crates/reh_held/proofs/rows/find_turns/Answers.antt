@@ -14,6 +14,8 @@ returns-clause-bits c =
     let others : List ℕ = c.args.others.now in
     let are : turns_between 0 words others ≡ c.loop-number.turns.items =
     c.loop-number.invariant
-    ∙ ap (λ (ws : List ℕ). c.loop-number.turns.items ++ turns_between number ws (drop number others)) (drop_all number words c.loop-number-test.false)
+    ∙ ap (λ (ws : List ℕ). c.loop-number.turns.items ++ turns_between number ws (drop number others))
+    (drop_all number words c.loop-number-test.false)
     ∙ append-nil c.loop-number.turns.items in
-    subst (λ (us : List Turn). All (λ u. u.bits < 2 ^ 64) us) are (between-small 0 words others (λ i. omega (arith, c.type_inv.words i)) (λ i. omega (arith, c.type_inv.others i)))
+    subst (λ (us : List Turn). All (λ u. u.bits < 2 ^ 64) us) are
+    (between-small 0 words others (λ i. omega (arith, c.type_inv.words i)) (λ i. omega (arith, c.type_inv.others i)))

@@ -9,4 +9,6 @@ returns-in-Some-Some c =
     let found : Some c.in-Some-Some.last.now ≡ last_of c.args.fragments.now = c.in-Some-Some.ensures'.value in
     ap (λ (last : Fragment). nat_le last.first c.in-Some-Some.end) c.last-in-Some-Some.view_is
     ∙ ap (λ (o : Option Fragment). option_map_or (λ last. nat_le last.first c.in-Some-Some.end) o true) found
-    ∙ ap (λ (o : Option ℕ). option_map_or (λ end. option_map_or (λ last. nat_le last.first end) (last_of c.args.fragments.now) true) o true) c.in-Some-Some.ensures
+    ∙ ap (λ (o : Option ℕ).
+    option_map_or (λ end. option_map_or (λ last. nat_le last.first end) (last_of c.args.fragments.now) true) o true)
+    c.in-Some-Some.ensures

@@ -17,5 +17,12 @@ loop-ends-preserved c =
     let contents =
     ap (λ (v : HeldValue). set.union v.contents (set.from_list copies)) c.loop-ends.invariant
     ∙ union-from_list triples _ copies
-    ∙ sym (copies-next c.args.held.now.contents holding.bookie holding.ledger ranges c.loop-ends.ends-index none c.loop-ends-test.true) in
-    c.add_range.ensures ∙ (λ j. record { contents = contents j; bookies = (c.loop-ends.invariant j).bookies; words = (c.loop-ends.invariant j).words })
+    ∙ sym (copies-next c.args.held.now.contents holding.bookie holding.ledger ranges c.loop-ends.ends-index none
+    c.loop-ends-test.true) in
+    c.add_range.ensures
+    ∙ (λ j.
+    record {
+      contents = contents j;
+      bookies = (c.loop-ends.invariant j).bookies;
+      words = (c.loop-ends.invariant j).words;
+    })

@@ -7,4 +7,8 @@ use Rattle.reh_picture.proofs.contents.add_holding.Given as goal
 
 abbrev pub invariant-loop-ends : goal.invariant-loop-ends
 invariant-loop-ends l =
-    l.held ≡ record l.fn.held { contents = fold set.insert l.fn.held.contents (flat_map (copies_within l.holding-inside.bookie l.holding-inside.ledger) (take l.ends-index l.ends-items)) }
+    l.held
+    ≡ record l.fn.held {
+      contents = fold set.insert l.fn.held.contents
+          (flat_map (copies_within l.holding-inside.bookie l.holding-inside.ledger) (take l.ends-index l.ends-items));
+    }

@@ -18,7 +18,9 @@ loop-ledger-init c = record {
   few = omega (arith, c.new-held.ensures.few);
   rows = record {
     bookies = c.new-held.ensures.bookies;
-    words = λ l. ap (λ (words : FinMap nat_cmp ℕ). unwrap_or (finite.get words l) 0) c.new-held.ensures.words ∙ ap (λ o. unwrap_or o 0) (get-empty nat_cmp l);
+    words =
+        λ l. ap (λ (words : FinMap nat_cmp ℕ). unwrap_or (finite.get words l) 0) c.new-held.ensures.words
+        ∙ ap (λ o. unwrap_or o 0) (get-empty nat_cmp l);
   };
 }
 
@@ -30,23 +32,33 @@ loop-ledger-preserved c =
     let ledger = c.ledger-item.result in
     let before = c.loop-ledger.held in
     let after = c.if-entries-gt0.held in
-    let next = rows-next c.args.bookies before after ledgers place ledger c.requires.different c.loop-ledger-test.true c.ledger-item.is so_far.rows in
+    let next =
+    rows-next c.args.bookies before after ledgers place ledger c.requires.different c.loop-ledger-test.true
+    c.ledger-item.is so_far.rows in
     elim c.if-entries-gt0.branch [
       | then-entries-gt0+in_ok-reserve w ↦
           let is = w.held-is ∙ w.in_ok-reserve.ensures.ok in
           record {
             contents = ap (λ (v : HeldValue). v.contents) is ∙ so_far.contents;
-            few = omega (arith, ap (λ (v : HeldValue). finite.len v.words) w.held-is, w.in_ok-reserve.ensures.few, so_far.few);
-            rows = next (ap (λ (v : HeldValue). v.bookies) is) (grown-last before after ledger w.id.result c.words.result w.id.ensures c.words.ensures (omega (arith, w.if-entries-gt0.true)) is);
+            few =
+                omega
+                (arith, ap (λ (v : HeldValue). finite.len v.words) w.held-is, w.in_ok-reserve.ensures.few, so_far.few);
+            rows =
+                next (ap (λ (v : HeldValue). v.bookies) is)
+                (grown-last before after ledger w.id.result c.words.result w.id.ensures c.words.ensures
+                (omega (arith, w.if-entries-gt0.true)) is);
           }
       | else-entries-gt0 w ↦ record {
         contents = ap (λ (v : HeldValue). v.contents) w.held-is ∙ so_far.contents;
         few = omega (arith, ap (λ (v : HeldValue). finite.len v.words) w.held-is, so_far.few);
-        rows = next (ap (λ (v : HeldValue). v.bookies) w.held-is) (grown-none before after ledger (omega (arith, c.words.ensures, w.if-entries-gt0.false)) w.held-is);
+        rows =
+            next (ap (λ (v : HeldValue). v.bookies) w.held-is)
+            (grown-none before after ledger (omega (arith, c.words.ensures, w.if-entries-gt0.false)) w.held-is);
       }
     ]
 
 pub returns-clause-rows : goal.returns-clause-rows
 returns-clause-rows c =
     let ledgers = c.args.ledgers.now in
-    subst (λ (gs : List Ledger). HasRows c.args.bookies gs c.loop-ledger.held) (take_all c.loop-ledger.ledger-index ledgers c.loop-ledger-test.false) c.loop-ledger.invariant.rows
+    subst (λ (gs : List Ledger). HasRows c.args.bookies gs c.loop-ledger.held)
+    (take_all c.loop-ledger.ledger-index ledgers c.loop-ledger-test.false) c.loop-ledger.invariant.rows

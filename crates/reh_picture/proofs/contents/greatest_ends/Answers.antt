@@ -16,5 +16,7 @@ loop-holding-init c = λ l. ap (λ es. lookup (is_at (nat_cmp l)) es) c.new-ends
 
 pub returns : goal.returns
 returns c =
-    let all : take c.loop-holding.holding-index c.args.holdings.now ≡ c.args.holdings.now = take_all c.loop-holding.holding-index c.args.holdings.now c.loop-holding-test.false in
-    λ l. c.loop-holding.invariant l ∙ ap (λ (s : Contents). greatest_held s l) (from_list-fold triples _ ∙ ap held_in all)
+    let all : take c.loop-holding.holding-index c.args.holdings.now ≡ c.args.holdings.now =
+    take_all c.loop-holding.holding-index c.args.holdings.now c.loop-holding-test.false in
+    λ l. c.loop-holding.invariant l
+    ∙ ap (λ (s : Contents). greatest_held s l) (from_list-fold triples _ ∙ ap held_in all)

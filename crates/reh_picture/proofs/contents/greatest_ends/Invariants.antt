@@ -8,4 +8,5 @@ use Rattle.reh_picture.specs.Contents.{copies_in, IsGreatest}
 use Rattle.reh_picture.proofs.contents.greatest_ends.Given as goal
 
 abbrev pub invariant-loop-holding : goal.invariant-loop-holding
-invariant-loop-holding l = IsGreatest (get nat_cmp l.ends) (fold set.insert set.empty (flat_map copies_in (take l.holding-index l.holdings)))
+invariant-loop-holding l =
+    IsGreatest (get nat_cmp l.ends) (fold set.insert set.empty (flat_map copies_in (take l.holding-index l.holdings)))

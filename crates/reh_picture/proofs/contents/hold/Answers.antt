@@ -10,10 +10,13 @@ use Rattle.reh_picture.proofs.contents.hold.Goals as goal
 pub add_holding-requires : goal.add_holding-requires
 add_holding-requires c =
     let ends : HasEnds c.args.bookies c.args.ledgers.now c.holding-item.result =
-    subst (λ (h : Holding). HasEnds c.args.bookies c.args.ledgers.now h) (sym c.holding-item.is) (c.requires.ends c.loop-holding.holding-index c.holding-item.result c.loop-holding-test.true) in
-    FitsIn-rows c.args.bookies c.args.ledgers.now c.loop-holding.held c.holding-item.result c.loop-holding.invariant.rows ends
+    subst (λ (h : Holding). HasEnds c.args.bookies c.args.ledgers.now h) (sym c.holding-item.is)
+    (c.requires.ends c.loop-holding.holding-index c.holding-item.result c.loop-holding-test.true) in
+    FitsIn-rows c.args.bookies c.args.ledgers.now c.loop-holding.held c.holding-item.result
+    c.loop-holding.invariant.rows ends
 
 pub returns-clause-contents : goal.returns-clause-contents
 returns-clause-contents c =
-    let all : take c.loop-holding.holding-index c.args.holdings.now ≡ c.args.holdings.now = take_all c.loop-holding.holding-index c.args.holdings.now c.loop-holding-test.false in
+    let all : take c.loop-holding.holding-index c.args.holdings.now ≡ c.args.holdings.now =
+    take_all c.loop-holding.holding-index c.args.holdings.now c.loop-holding-test.false in
     c.loop-holding.invariant.contents ∙ from_list-fold triples _ ∙ ap held_in all

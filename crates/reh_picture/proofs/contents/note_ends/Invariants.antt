@@ -11,4 +11,6 @@ use Rattle.reh_picture.proofs.contents.note_ends.Given as goal
 abbrev pub invariant-loop-range : goal.invariant-loop-range
 invariant-loop-range l =
     (contents : Contents) → IsGreatest (get nat_cmp l.fn.ends) contents
-    → IsGreatest (get nat_cmp l.ends) (fold set.insert contents (flat_map (copies_within l.holding-inside.bookie l.holding-inside.ledger) (take l.range-index l.range-items)))
+    → IsGreatest (get nat_cmp l.ends)
+    (fold set.insert contents
+    (flat_map (copies_within l.holding-inside.bookie l.holding-inside.ledger) (take l.range-index l.range-items)))

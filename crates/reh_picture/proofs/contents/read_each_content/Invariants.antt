@@ -7,6 +7,7 @@ use Rattle.reh_picture.proofs.contents.read_each_content.Given as goal
 
 abbrev pub invariant-loop-value : goal.invariant-loop-value
 invariant-loop-value l = record {
-  made : HasMade (λ before d. content_fault l.names l.ids.keys (pairs_in l.names before) d) (holding_in l.names) l.values l.value-index l.holdings.items;
+  made : HasMade (λ before d. content_fault l.names l.ids.keys (pairs_in l.names before) d) (holding_in l.names)
+      l.values l.value-index l.holdings.items;
   pairs : l.pairs.keys ≡ pairs_in l.names (map view (take l.value-index l.values));
 }

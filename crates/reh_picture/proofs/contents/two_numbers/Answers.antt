@@ -6,4 +6,6 @@ use Rattle.reh_picture.proofs.ContentsLemmas.{two_numbers-short}
 use Rattle.reh_picture.proofs.contents.two_numbers.Goals as goal
 
 pub returns-in_default : goal.returns-in_default
-returns-in_default c = two_numbers-short (map view c.args.list.now) (omega (arith, c.in_default.len_below, length-map c.args.list.now view))
+returns-in_default c =
+    two_numbers-short (map view c.args.list.now)
+    (omega (arith, c.in_default.len_below, length-map c.args.list.now view))

@@ -12,9 +12,13 @@ pub loop-value-preserved : goal.loop-value-preserved
 loop-value-preserved c =
     let so_far = c.loop-value.invariant in
     let value = c.value-item.result in record {
-      made = HasMade-next _ _ c.args.values.now c.loop-value.value-index value c.loop-value-test.true c.value-item.is c.loop-value.listed.items _ so_far.made
+      made =
+          HasMade-next _ _ c.args.values.now c.loop-value.value-index value c.loop-value-test.true c.value-item.is
+          c.loop-value.listed.items _ so_far.made
           (rw (← so_far.ids) c.in_ok-read_ledger.ensures.fault)
           (rw (← c.in_ok-read_ledger.ensures.ledger) c.in_ok-push.ensures.items);
       ids = c.in_ok-read_ledger.ensures.ids ∙ ap (λ ids. ids ++ number_of (view value) field.Id ∷ []) so_far.ids
-          ∙ sym (ap ids_in (passed_to view c.args.values.now c.loop-value.value-index value c.loop-value-test.true c.value-item.is) ∙ map-append (λ d. number_of d field.Id) (map view (take c.loop-value.value-index c.args.values.now)) _);
+          ∙ sym (ap ids_in
+          (passed_to view c.args.values.now c.loop-value.value-index value c.loop-value-test.true c.value-item.is)
+          ∙ map-append (λ d. number_of d field.Id) (map view (take c.loop-value.value-index c.args.values.now)) _);
     }

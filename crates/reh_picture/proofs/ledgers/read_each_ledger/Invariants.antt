@@ -7,6 +7,7 @@ use Rattle.reh_picture.proofs.ledgers.read_each_ledger.Given as goal
 
 abbrev pub invariant-loop-value : goal.invariant-loop-value
 invariant-loop-value l = record {
-  made : HasMade (λ before d. ledger_fault l.names (ids_in before) d) (listed_in l.names) l.values l.value-index l.listed.items;
+  made : HasMade (λ before d. ledger_fault l.names (ids_in before) d) (listed_in l.names) l.values l.value-index
+      l.listed.items;
   ids : l.ids.keys ≡ ids_in (map view (take l.value-index l.values));
 }

@@ -6,4 +6,5 @@ use Rattle.reh_picture.proofs.ledgers.read_ensemble.Given as goal
 
 abbrev pub invariant-loop-member : goal.invariant-loop-member
 invariant-loop-member l =
-    HasMade (λ _ member. member_fault l.names member) (λ member. bookie_in l.names (member_name member)) l.members l.member-index l.ensemble.items
+    HasMade (λ _ member. member_fault l.names member) (λ member. bookie_in l.names (member_name member)) l.members
+    l.member-index l.ensemble.items

@@ -7,7 +7,12 @@ use Rattle.reh_picture.proofs.ledgers.read_fragments.Goals as goal
 
 pub loop-value-preserved : goal.loop-value-preserved
 loop-value-preserved c = record {
-  made = HasMade-next _ _ c.args.values.now c.loop-value.value-index c.value-item.result c.loop-value-test.true c.value-item.is c.loop-value.fragments.items _ c.loop-value.invariant.made c.in_ok-read_fragment.ensures.fault
+  made =
+      HasMade-next _ _ c.args.values.now c.loop-value.value-index c.value-item.result c.loop-value-test.true
+      c.value-item.is c.loop-value.fragments.items _ c.loop-value.invariant.made c.in_ok-read_fragment.ensures.fault
       (rw (← c.in_ok-read_fragment.ensures.fragment) c.in_ok-push.ensures.items);
-  firsts = rw c.in_ok-push.ensures.items (All-push (λ f. f.first < ENTRY_END) c.loop-value.fragments.items _ c.loop-value.invariant.firsts c.in_ok-read_fragment.ensures.first);
+  firsts =
+      rw c.in_ok-push.ensures.items
+      (All-push (λ f. f.first < ENTRY_END) c.loop-value.fragments.items _ c.loop-value.invariant.firsts
+      c.in_ok-read_fragment.ensures.first);
 }

@@ -8,6 +8,7 @@ use Rattle.reh_picture.proofs.ledgers.read_fragments.Given as goal
 
 abbrev pub invariant-loop-value : goal.invariant-loop-value
 invariant-loop-value l = record {
-  made : HasMade (λ _ fragment. fragment_fault l.names fragment) (fragment_in l.names) l.values l.value-index l.fragments.items;
+  made : HasMade (λ _ fragment. fragment_fault l.names fragment) (fragment_in l.names) l.values l.value-index
+      l.fragments.items;
   firsts : All (λ f. f.first < ENTRY_END) l.fragments.items;
 }

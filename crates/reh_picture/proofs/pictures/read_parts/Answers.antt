@@ -12,5 +12,8 @@ returns-in_err-holdings-clause-fault c =
     let ledgers = c.in_ok-ids.ensures in
     let fault = c.in_err-holdings.field-0.0 in
     let first : fault ≢ NoMemory → parts_fault (view c.args.picture.now) ≡ Some fault =
-    λ known. contents_fault_first (view c.args.picture.now) c.in_ok-names.names c.in_ok-ids.field-0.ids.keys (sym c.in_ok-grace.ensures.fault) names.fault names.names ledgers.fault ledgers.ids fault (c.in_err-holdings.ensures.fault known) in
+    λ known.
+    contents_fault_first (view c.args.picture.now) c.in_ok-names.names c.in_ok-ids.field-0.ids.keys
+    (sym c.in_ok-grace.ensures.fault) names.fault names.names ledgers.fault ledgers.ids fault
+    (c.in_err-holdings.ensures.fault known) in
     search (rules, first, c.from_residual-in_err-holdings.ensures)

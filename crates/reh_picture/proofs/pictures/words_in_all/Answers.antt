@@ -11,9 +11,14 @@ loop-ledger-preserved c =
     let ledgers = c.args.ledgers.now in
     let place = c.loop-ledger.ledger-index in
     let words = λ (g : Ledger). g.words in
-    let few : ENTRIES_IN_WORD * (get_or ledgers place c.ledger-item.result).words ≤ ENTRY_END = c.requires.words place c.ledger-item.result c.loop-ledger-test.true in
-    let one : c.words.result ≡ (get_or ledgers place c.ledger-item.result).words = c.words.ensures ∙ ap words c.ledger-item.is in record {
-      sum = (λ i. c.loop-ledger.invariant.sum i + c.words.ensures i) ∙ ap (λ g. sum_by words (take place ledgers) + words g) c.ledger-item.is
+    let few : ENTRIES_IN_WORD * (get_or ledgers place c.ledger-item.result).words ≤ ENTRY_END =
+    c.requires.words place c.ledger-item.result c.loop-ledger-test.true in
+    let one : c.words.result ≡ (get_or ledgers place c.ledger-item.result).words =
+    c.words.ensures ∙ ap words c.ledger-item.is in
+    record {
+      sum =
+          (λ i. c.loop-ledger.invariant.sum i + c.words.ensures i)
+          ∙ ap (λ g. sum_by words (take place ledgers) + words g) c.ledger-item.is
           ∙ sym (sum_by_more words ledgers place c.ledger-item.result c.loop-ledger-test.true);
       small = omega (arith, c.loop-ledger.invariant.small, few, one);
     }

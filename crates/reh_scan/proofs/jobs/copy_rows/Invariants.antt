@@ -7,5 +7,7 @@ use Rattle.reh_scan.proofs.jobs.copy_rows.Given as goal
 abbrev pub invariant-loop-bookie : goal.invariant-loop-bookie
 invariant-loop-bookie l = record {
   size : length l.rows.items ≡ l.bookie-index;
-  same : (index entry : ℕ) → index < l.bookie-index → l.fragment.first ≤ entry → entry < l.stop → has_copy l.fragment.first l.rows.items entry index ≡ is_source l.state l.ledger.id entry (slice_index l.fragment.ensemble index);
+  same : (index entry : ℕ) → index < l.bookie-index → l.fragment.first ≤ entry → entry < l.stop
+      → has_copy l.fragment.first l.rows.items entry index
+      ≡ is_source l.state l.ledger.id entry (slice_index l.fragment.ensemble index);
 }

@@ -7,6 +7,8 @@ use Rattle.reh_scan.proofs.jobs.find_source.Given as goal
 
 abbrev pub invariant-loop-index : goal.invariant-loop-index
 invariant-loop-index l = record {
-  first : find (has_copy l.reading.first l.reading.rows.items l.entry) (write_set l.entry l.reading.size l.reading.write_quorum) ≡ find (has_copy l.reading.first l.reading.rows.items l.entry) l.index-iterator;
+  first : find (has_copy l.reading.first l.reading.rows.items l.entry)
+      (write_set l.entry l.reading.size l.reading.write_quorum)
+      ≡ find (has_copy l.reading.first l.reading.rows.items l.entry) l.index-iterator;
   within : All (λ index. index < l.reading.size) l.index-iterator;
 }

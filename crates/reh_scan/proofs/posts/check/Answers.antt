@@ -13,7 +13,10 @@ returns-in_err-check_member c =
     let content : Content = c.args.content.now in
     let g : Ledger = c.in_ok-ledger.ledger.now in
     let fragment : Fragment = c.in-Some.fragment.now in
-    let seen : IsSeen g.metadata content fragment = subst (λ (m : Metadata). IsSeen m content fragment) c.metadata.ensures c.in-Some.ensures in
+    let seen : IsSeen g.metadata content fragment =
+    subst (λ (m : Metadata). IsSeen m content fragment) c.metadata.ensures c.in-Some.ensures in
     let owned = c.in_ok-ledger.ensures in
-    let refused = post_refusal-seen s content g fragment owned.0 owned.1 owned.2 seen ∙ source_checks-found s content g fragment _ seen.index c.in_err-check_member.ensures.checks in
+    let refused =
+    post_refusal-seen s content g fragment owned.0 owned.1 owned.2 seen
+    ∙ source_checks-found s content g fragment _ seen.index c.in_err-check_member.ensures.checks in
     search (rules, refused)

@@ -16,10 +16,13 @@ loop-entry-preserved c =
     let rest : List ℕ = zip_first c.next.new.self in
     let others : List (Option ℕ) = iter_rest (zip_second c.next.new.self) in
     let here : lost (c.in-Some.entry, c.in-Some.source.now) ≡ None =
-    lost_source-rows c.args.state.now c.args.ledger.now c.args.fragment.now c.source_rows-rows.result c.metadata-metadata.result.now c.metadata-metadata.ensures
+    lost_source-rows c.args.state.now c.args.ledger.now c.args.fragment.now c.source_rows-rows.result
+    c.metadata-metadata.result.now c.metadata-metadata.ensures
     c.source_rows-rows.ensures.well_formed c.source_rows-rows.ensures.rows c.in-Some.entry c.in-Some.source.now
     ∙ c.in_ok-check_source.ensures in
-    c.loop-entry.invariant ∙ lost-next lost _ rest _ others c.in-Some.entry c.in-Some.source.now c.in-Some.ensures.steps.0 c.in-Some.ensures.steps.1
+    c.loop-entry.invariant
+    ∙ lost-next lost _ rest _ others c.in-Some.entry c.in-Some.source.now c.in-Some.ensures.steps.0
+    c.in-Some.ensures.steps.1
     ∙ ap (λ reason. option_or reason (first_reason (map lost (zip rest others)))) here
 
 pub returns-in_err-check_source : goal.returns-in_err-check_source
@@ -28,11 +31,14 @@ returns-in_err-check_source c =
     let rest : List ℕ = zip_first c.next.new.self in
     let others : List (Option ℕ) = iter_rest (zip_second c.next.new.self) in
     let here =
-    lost_source-rows c.args.state.now c.args.ledger.now c.args.fragment.now c.source_rows-rows.result c.metadata-metadata.result.now c.metadata-metadata.ensures
+    lost_source-rows c.args.state.now c.args.ledger.now c.args.fragment.now c.source_rows-rows.result
+    c.metadata-metadata.result.now c.metadata-metadata.ensures
     c.source_rows-rows.ensures.well_formed c.source_rows-rows.ensures.rows c.in-Some.entry c.in-Some.source.now
     ∙ c.in_err-check_source.ensures in
     let refused =
-    c.loop-entry.invariant ∙ lost-next lost _ rest _ others c.in-Some.entry c.in-Some.source.now c.in-Some.ensures.steps.0 c.in-Some.ensures.steps.1
+    c.loop-entry.invariant
+    ∙ lost-next lost _ rest _ others c.in-Some.entry c.in-Some.source.now c.in-Some.ensures.steps.0
+    c.in-Some.ensures.steps.1
     ∙ ap (λ reason. option_or reason (first_reason (map lost (zip rest others)))) here in
     search (rules, refused)
 

@@ -10,5 +10,12 @@ use Rattle.reh_scan.proofs.posts.check_sources.Given as goal
 
 abbrev pub invariant-loop-entry : goal.invariant-loop-entry
 invariant-loop-entry l =
-    first_reason (map (lost_source l.state l.ledger l.fragment) (zip (striped_entries l.content.first l.content.stop l.content.aim.index l.ledger.metadata.size l.ledger.metadata.write_quorum) l.content.sources))
-    ≡ first_reason (map (lost_source l.state l.ledger l.fragment) (zip (zip_first l.entry-iterator) (iter_rest (zip_second l.entry-iterator))))
+    first_reason
+    (map (lost_source l.state l.ledger l.fragment)
+    (zip
+    (striped_entries l.content.first l.content.stop l.content.aim.index l.ledger.metadata.size
+    l.ledger.metadata.write_quorum)
+    l.content.sources))
+    ≡ first_reason
+    (map (lost_source l.state l.ledger l.fragment)
+    (zip (zip_first l.entry-iterator) (iter_rest (zip_second l.entry-iterator))))

@@ -7,6 +7,7 @@ use Rattle.reh_scan.proofs.posts.entries_of.Goals as goal
 pub returns-clause-few : goal.returns-clause-few
 returns-clause-few c =
     let content : Content = c.args.content.now in
-    let few = striped_entries-few content.first content.stop content.aim.index c.size-size.result c.write_quorum.result in
+    let few =
+    striped_entries-few content.first content.stop content.aim.index c.size-size.result c.write_quorum.result in
     let long = ap (λ (es : List ℕ). length es) c.new.ensures in
     omega (arith, few, long)

@@ -7,7 +7,8 @@ use Rattle.reh_scan.proofs.sources.first_unreadable.Goals as goal
 pub returns-then-not-is_readable : goal.returns-then-not-is_readable
 returns-then-not-is_readable c =
     let here : is_readable c.args.state.now c.args.ledger.now c.args.fragment.now c.in-Some.entry ≡ false =
-    is_readable-rows c.args.state.now c.args.ledger.now c.args.fragment.now c.source_rows-rows.result c.metadata-metadata.result.now c.metadata-metadata.ensures
+    is_readable-rows c.args.state.now c.args.ledger.now c.args.fragment.now c.source_rows-rows.result
+    c.metadata-metadata.result.now c.metadata-metadata.ensures
     c.source_rows-rows.ensures.well_formed c.source_rows-rows.ensures.rows c.in-Some.entry
     ∙ sym c.is_readable.ensures ∙ c.if-not-is_readable.true in
     search (rules, here)
@@ -15,7 +16,8 @@ returns-then-not-is_readable c =
 pub loop-entry-preserved : goal.loop-entry-preserved
 loop-entry-preserved c =
     let here : is_readable c.args.state.now c.args.ledger.now c.args.fragment.now c.in-Some.entry ≡ true =
-    is_readable-rows c.args.state.now c.args.ledger.now c.args.fragment.now c.source_rows-rows.result c.metadata-metadata.result.now c.metadata-metadata.ensures
+    is_readable-rows c.args.state.now c.args.ledger.now c.args.fragment.now c.source_rows-rows.result
+    c.metadata-metadata.result.now c.metadata-metadata.ensures
     c.source_rows-rows.ensures.well_formed c.source_rows-rows.ensures.rows c.in-Some.entry
     ∙ sym c.is_readable.ensures ∙ c.if-not-is_readable.false in
     search (rules, here)

@@ -7,6 +7,7 @@ use Rattle.reh_scan.proofs.sources.is_readable.Given as goal
 
 abbrev pub invariant-loop-index : goal.invariant-loop-index
 invariant-loop-index l = record {
-  readable : list_any (is_set_at l.rows l.entry) (write_set l.entry l.metadata.size l.metadata.write_quorum) ≡ list_any (is_set_at l.rows l.entry) l.index-iterator;
+  readable : list_any (is_set_at l.rows l.entry) (write_set l.entry l.metadata.size l.metadata.write_quorum)
+      ≡ list_any (is_set_at l.rows l.entry) l.index-iterator;
   within : All (λ index. index < l.metadata.size) l.index-iterator;
 }

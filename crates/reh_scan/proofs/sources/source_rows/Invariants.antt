@@ -7,5 +7,6 @@ use Rattle.reh_scan.proofs.sources.source_rows.Given as goal
 abbrev pub invariant-loop-index : goal.invariant-loop-index
 invariant-loop-index l = record {
   whole : length l.rows ≡ MAX_ENSEMBLE_SIZE;
-  filled : (index entry : ℕ) → index < l.index → is_set_at l.rows entry index ≡ is_source_at l.state l.ledger l.fragment entry index;
+  filled : (index entry : ℕ) → index < l.index
+      → is_set_at l.rows entry index ≡ is_source_at l.state l.ledger l.fragment entry index;
 }

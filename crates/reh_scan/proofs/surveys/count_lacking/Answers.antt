@@ -7,22 +7,28 @@ use Rattle.std.proofs.lemmas.Nat.{ones-le, and_le_l}
 use Rattle.reh_model.specs.Metadata.{Metadata}
 use Rattle.reh_model.specs.Striping.{range, write_set}
 use Rattle.reh_scan.specs.Sources.{is_set_at}
-use Rattle.reh_scan.proofs.SurveyLaws.{is_counted, counted_below, count-le, counted-none, counted-more, counted-all, lacking-bits}
+use Rattle.reh_scan.proofs.SurveyLaws.{is_counted, counted_below, count-le, counted-none, counted-more, counted-all}
+use Rattle.reh_scan.proofs.SurveyLaws.{lacking-bits}
 use Rattle.reh_scan.proofs.surveys.count_lacking.Goals as goal
 
 pub loop-number-init : goal.loop-number-init
 loop-number-init c =
     let m : Metadata = c.args.metadata.now in
-    counted-none (λ e. not (list_any (is_set_at c.args.rows.now e) (write_set e m.size m.write_quorum))) c.args.first c.args.last
+    counted-none (λ e. not (list_any (is_set_at c.args.rows.now e) (write_set e m.size m.write_quorum))) c.args.first
+    c.args.last
 
 pub overflow_add-count : goal.overflow_add-count
 overflow_add-count c =
     let m : Metadata = c.args.metadata.now in
     let lacks : ℕ → Bool = λ e. not (list_any (is_set_at c.args.rows.now e) (write_set e m.size m.write_quorum)) in
     let bits : ℕ = bit_and c.bits_between.result (bit_not w64 c.readable_word-readable.result) in
-    let fits : bits < 2 ^ 64 = omega (arith, c.bits_between.type_inv, and_le_l c.bits_between.result (bit_not w64 c.readable_word-readable.result)) in
-    let was : c.loop-number.count ≡ counted_below lacks c.args.first c.args.last c.loop-number.number = c.loop-number.invariant in
-    let bound : counted_below lacks c.args.first c.args.last c.loop-number.number ≤ 64 * c.loop-number.number = count-le (is_counted lacks c.args.first c.args.last) 0 (64 * c.loop-number.number) in
+    let fits : bits < 2 ^ 64 =
+    omega
+    (arith, c.bits_between.type_inv, and_le_l c.bits_between.result (bit_not w64 c.readable_word-readable.result)) in
+    let was : c.loop-number.count ≡ counted_below lacks c.args.first c.args.last c.loop-number.number =
+    c.loop-number.invariant in
+    let bound : counted_below lacks c.args.first c.args.last c.loop-number.number ≤ 64 * c.loop-number.number =
+    count-le (is_counted lacks c.args.first c.args.last) 0 (64 * c.loop-number.number) in
     omega (arith, was, bound, ones-le 64 bits fits)
 
 pub loop-number-preserved : goal.loop-number-preserved
@@ -30,9 +36,12 @@ loop-number-preserved c =
     let m : Metadata = c.args.metadata.now in
     let reads : ℕ → Bool = λ e. list_any (is_set_at c.args.rows.now e) (write_set e m.size m.write_quorum) in
     let bits : ℕ = bit_and c.bits_between.result (bit_not w64 c.readable_word-readable.result) in
-    let fits : bits < 2 ^ 64 = omega (arith, c.bits_between.type_inv, and_le_l c.bits_between.result (bit_not w64 c.readable_word-readable.result)) in
+    let fits : bits < 2 ^ 64 =
+    omega
+    (arith, c.bits_between.type_inv, and_le_l c.bits_between.result (bit_not w64 c.readable_word-readable.result)) in
     counted-more (λ e. not (reads e)) c.args.first c.args.last c.loop-number.number c.loop-number.count bits fits
-    (lacking-bits reads c.args.first c.args.last c.loop-number.number c.bits_between.result c.readable_word-readable.result
+    (lacking-bits reads c.args.first c.args.last c.loop-number.number c.bits_between.result
+    c.readable_word-readable.result
     c.readable_word-readable.type_inv c.bits_between.ensures c.readable_word-readable.ensures) c.loop-number.invariant
 
 pub overflow_cast-result : goal.overflow_cast-result
@@ -40,11 +49,13 @@ overflow_cast-result c =
     let m : Metadata = c.args.metadata.now in
     let lacks : ℕ → Bool = λ e. not (list_any (is_set_at c.args.rows.now e) (write_set e m.size m.write_quorum)) in
     let all : c.loop-number.count ≡ count_by lacks (range c.args.first (c.args.last + 1)) =
-    c.loop-number.invariant ∙ counted-all lacks c.args.first c.args.last c.loop-number.number c.requires.order (omega arith) in
+    c.loop-number.invariant
+    ∙ counted-all lacks c.args.first c.args.last c.loop-number.number c.requires.order (omega arith) in
     omega (arith, all, count-le lacks c.args.first (c.args.last + 1 - c.args.first))
 
 pub returns : goal.returns
 returns c =
     let m : Metadata = c.args.metadata.now in
     let lacks : ℕ → Bool = λ e. not (list_any (is_set_at c.args.rows.now e) (write_set e m.size m.write_quorum)) in
-    c.loop-number.invariant ∙ counted-all lacks c.args.first c.args.last c.loop-number.number c.requires.order (omega arith)
+    c.loop-number.invariant
+    ∙ counted-all lacks c.args.first c.args.last c.loop-number.number c.requires.order (omega arith)

@@ -7,4 +7,7 @@ use Rattle.reh_scan.proofs.SurveyLaws.{counted_below}
 use Rattle.reh_scan.proofs.surveys.count_lacking.Given as goal
 
 abbrev pub invariant-loop-number : goal.invariant-loop-number
-invariant-loop-number l = l.count ≡ counted_below (λ e. not (list_any (is_set_at l.rows e) (write_set e l.metadata.size l.metadata.write_quorum))) l.first l.last l.number
+invariant-loop-number l =
+    l.count
+    ≡ counted_below (λ e. not (list_any (is_set_at l.rows e) (write_set e l.metadata.size l.metadata.write_quorum)))
+    l.first l.last l.number

@@ -10,7 +10,9 @@ returns-then-index-write_quorum c =
     let rules_of : IsMetadata m = c.requires.well_formed in
     let behind : c.args.index - 1 + 1 ≡ c.args.index = omega (arith, c.requires.some) in
     let carried : c.args.index < m.write_quorum = omega (arith, c.write_quorum.ensures, c.if-index-write_quorum.true) in
-    mask-next_with m.size m.write_quorum (c.args.index - 1) c.args.index c.args.before (omega (arith, rules_of.some_acks, rules_of.acks_within)) rules_of.writes_within behind c.requires.inside c.requires.mask carried
+    mask-next_with m.size m.write_quorum (c.args.index - 1) c.args.index c.args.before
+    (omega (arith, rules_of.some_acks, rules_of.acks_within)) rules_of.writes_within behind c.requires.inside
+    c.requires.mask carried
 
 pub returns-else-index-write_quorum : goal.returns-else-index-write_quorum
 returns-else-index-write_quorum c =
@@ -18,4 +20,6 @@ returns-else-index-write_quorum c =
     let rules_of : IsMetadata m = c.requires.well_formed in
     let behind : c.args.index - 1 + 1 ≡ c.args.index = omega (arith, c.requires.some) in
     let missed : m.write_quorum ≤ c.args.index = omega (arith, c.write_quorum.ensures, c.if-index-write_quorum.false) in
-    mask-next_without m.size m.write_quorum (c.args.index - 1) c.args.index c.args.before (omega (arith, rules_of.some_acks, rules_of.acks_within)) rules_of.writes_within behind c.requires.inside c.requires.mask missed
+    mask-next_without m.size m.write_quorum (c.args.index - 1) c.args.index c.args.before
+    (omega (arith, rules_of.some_acks, rules_of.acks_within)) rules_of.writes_within behind c.requires.inside
+    c.requires.mask missed

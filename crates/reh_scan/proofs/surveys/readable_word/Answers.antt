@@ -11,10 +11,12 @@ loop-index-preserved c =
     let index : ℕ = c.loop-index.index in
     let number : ℕ = c.args.number in
     let rules_of : IsMetadata m = c.size-size.ensures.well_formed in
-    let inside : index < length c.args.rows.now = omega (arith, rules_of.small, c.size-size.ensures.size, c.told-rows) in
+    let inside : index < length c.args.rows.now =
+    omega (arith, rules_of.small, c.size-size.ensures.size, c.told-rows) in
     let rank : c.rank_from.result ≡ rank_of (64 * number) index m.size =
     c.rank_from.ensures ∙ ap (λ n. (index + n - (64 * number) % n) % n) c.size-size.ensures.size in
-    read-more c.args.rows.now c.args.masks.now m.size number index c.loop-index.readable c.word_at.result (get_or c.args.masks.now c.rank_from.result 0) _ inside
+    read-more c.args.rows.now c.args.masks.now m.size number index c.loop-index.readable c.word_at.result
+    (get_or c.args.masks.now c.rank_from.result 0) _ inside
     c.word_at.ensures (ap (λ n. slice_index c.args.masks.now n) rank) c.loop-index.invariant
 
 pub returns : goal.returns
@@ -22,6 +24,8 @@ returns c =
     let m : Metadata = c.args.metadata.now in
     let rules_of : IsMetadata m = c.size-size.ensures.well_formed in
     let all : c.loop-index.index ≡ m.size = omega (arith, c.size-size.ensures.size) in
-    let was = subst (λ (n : ℕ). IsRead c.args.rows.now c.args.masks.now m.size c.args.number n c.loop-index.readable) all c.loop-index.invariant in
+    let was =
+    subst (λ (n : ℕ). IsRead c.args.rows.now c.args.masks.now m.size c.args.number n c.loop-index.readable) all
+    c.loop-index.invariant in
     read-all c.args.rows.now c.args.masks.now m.size m.write_quorum c.args.number c.loop-index.readable
     (omega (arith, rules_of.some_acks, rules_of.acks_within)) rules_of.writes_within c.requires.masks was

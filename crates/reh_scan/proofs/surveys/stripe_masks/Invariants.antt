@@ -7,5 +7,6 @@ use Rattle.reh_scan.proofs.surveys.stripe_masks.Given as goal
 abbrev pub invariant-loop-index : goal.invariant-loop-index
 invariant-loop-index l = record {
   whole : length l.masks ≡ MAX_ENSEMBLE_SIZE;
-  filled : (index : ℕ) → index < l.index → IsMask l.metadata.size l.metadata.write_quorum index (slice_index l.masks index);
+  filled : (index : ℕ) → index < l.index
+      → IsMask l.metadata.size l.metadata.write_quorum index (slice_index l.masks index);
 }

@@ -3,4 +3,4 @@ use Rattle.reh_script.proofs.words.+read_words.Given as goal
 
 -- proposed from what the function passes where it calls itself
 abbrev pub decreases-read_words : goal.decreases-read_words
-decreases-read_words l = length l.kinds.now
+decreases-read_words l = length l.roles.now

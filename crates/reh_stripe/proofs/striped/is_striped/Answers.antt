@@ -7,7 +7,8 @@ use Rattle.reh_stripe.proofs.striped.is_striped.Goals as goal
 pub returns-then-index-size : goal.returns-then-index-size
 returns-then-index-size c =
     ap (λ r. nat_lt r c.args.quorum) c.rank_of.ensures
-    ∙ sym (is_striped-rank_of c.args.entry c.args.index c.args.size c.args.quorum c.requires.some c.requires.within (omega arith))
+    ∙ sym (is_striped-rank_of c.args.entry c.args.index c.args.size c.args.quorum c.requires.some c.requires.within
+    (omega arith))
 
 pub returns-else-index-size : goal.returns-else-index-size
 returns-else-index-size c =

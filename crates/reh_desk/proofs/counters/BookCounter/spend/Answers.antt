@@ -1,6 +1,12 @@
 -- The seat still counts the tickets that are out.
+use Rattle.std.proofs.Common.{sym, ap, ◌∙◌}
+use Rattle.reh_desk.specs.Seats.{SeatView}
 use Rattle.reh_desk.proofs.SeatCalls.{spent_counted}
 use Rattle.reh_desk.proofs.counters.BookCounter.spend.Goals as goal
 
 pub returns-clause-may : goal.returns-clause-may
-returns-clause-may c = rw c.spend_for.ensures.seat (spent_counted _ _ _ _ _ _ c.requires c.spend_for.ensures.called)
+returns-clause-may c =
+    let s = c.seat.inside.caller.seat in
+    rw c.spend_by.ensures.caller
+    (spent_counted _ _ s _ _ _ (c.requires ∙ sym (ap (λ (s : SeatView). s.out) c.seat.view_is))
+    c.spend_by.ensures.called c.spend_by.ensures.none)

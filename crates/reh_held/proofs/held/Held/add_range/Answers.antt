@@ -16,11 +16,16 @@ use Rattle.reh_held.proofs.held.Held.add_range.Goals as goal
 use Rattle.reh_held.proofs.held.Held.add_range.Goals.{in-Some, in-None}
 
 pub insert_range-requires-clause-table : goal.insert_range-requires-clause-table
-insert_range-requires-clause-table c = own_table (kept_table c.self.inside.tables.entries c.args.ledger c.in-Some.table.now c.self.invariant.tables c.in-Some.ensures.value)
+insert_range-requires-clause-table c =
+    own_table
+    (kept_table c.self.inside.tables.entries c.args.ledger c.in-Some.table.now c.self.invariant.tables
+    c.in-Some.ensures.value)
 
 pub insert_range-requires-clause-bookie : goal.insert_range-requires-clause-bookie
 insert_range-requires-clause-bookie c =
-    let table = kept_table c.self.inside.tables.entries c.args.ledger c.in-Some.table.now c.self.invariant.tables c.in-Some.ensures.value in
+    let table =
+    kept_table c.self.inside.tables.entries c.args.ledger c.in-Some.table.now c.self.invariant.tables
+    c.in-Some.ensures.value in
     let within = rw (← c.self.view_is) at c.requires.bookie in
     omega (arith, table.size)
 
@@ -36,10 +41,20 @@ invariant_of-self c = elim c.match-get_mut.branch [
       let found = w.in-Some.ensures.value in
       let h = c.get_mut.follows.holds w.insert_range.new.self in
       let table = kept_table tables c.args.ledger w.in-Some.table.now c.self.invariant.tables found in
-      let still : IsTable c.self.inside.bookies w.insert_range.new.self = subst (λ n. IsTable n w.insert_range.new.self) table.size w.insert_range.ensures.table in
+      let still : IsTable c.self.inside.bookies w.insert_range.new.self =
+      subst (λ n. IsTable n w.insert_range.new.self) table.size w.insert_range.ensures.table in
       subst IsKept (sym w.self-inside-is) (record {
-        few = subst (λ words. finite.len words ≤ MAX_LEDGERS) (sym (written-same_words tables (c.get_mut.follows.lender w.insert_range.new.self).entries c.args.ledger w.insert_range.new.self (h.3 (subst IsSome found refl)).0 w.in-Some.table.now found w.insert_range.ensures.width)) c.self.invariant.few;
-        tables = written-kept tables (c.get_mut.follows.lender w.insert_range.new.self).entries c.args.ledger w.insert_range.new.self (h.3 (subst IsSome found refl)).0 c.self.inside.bookies still c.self.invariant.tables;
+        few =
+            subst (λ words. finite.len words ≤ MAX_LEDGERS)
+            (sym
+            (written-same_words tables (c.get_mut.follows.lender w.insert_range.new.self).entries c.args.ledger
+            w.insert_range.new.self (h.3 (subst IsSome found refl)).0 w.in-Some.table.now found
+            w.insert_range.ensures.width))
+            c.self.invariant.few;
+        tables =
+            written-kept tables (c.get_mut.follows.lender w.insert_range.new.self).entries c.args.ledger
+            w.insert_range.new.self (h.3 (subst IsSome found refl)).0 c.self.inside.bookies still
+            c.self.invariant.tables;
       })
   | in-None w ↦
       let within = rw (← c.self.view_is) at c.requires.last in
@@ -55,13 +70,22 @@ returns c = elim c.match-get_mut.branch [
       let h = c.get_mut.follows.holds w.insert_range.new.self in
       let written = (h.3 (subst IsSome found refl)).0 in
       let entries : List ℕ = range_with_len c.args.first (c.args.last + 1 - c.args.first) in
-      let contents = written-range tables after c.args.ledger w.insert_range.new.self written c.args.bookie c.args.first c.args.last (λ b e.
+      let contents =
+      written-range tables after c.args.ledger w.insert_range.new.self written c.args.bookie c.args.first c.args.last
+      (λ b e.
       w.insert_range.ensures.bits b e
-      ∙ ap (λ was. (nat_eq b c.args.bookie && is_between c.args.first c.args.last e) || was) (sym (has-found tables b c.args.ledger e w.in-Some.table.now found))) in
-      let words = written-same_words tables after c.args.ledger w.insert_range.new.self written w.in-Some.table.now found w.insert_range.ensures.width in
+      ∙ ap (λ was. (nat_eq b c.args.bookie && is_between c.args.first c.args.last e) || was)
+      (sym (has-found tables b c.args.ledger e w.in-Some.table.now found))) in
+      let words =
+      written-same_words tables after c.args.ledger w.insert_range.new.self written w.in-Some.table.now found
+      w.insert_range.ensures.width in
       ap held_of w.self-inside-is
       ∙ (λ i. record {
-        contents = (contents ∙ ap (λ (v : HeldValue). set.union v.contents (copies_of c.args.bookie c.args.ledger entries)) c.self.view_is) i;
+        contents =
+            (contents
+            ∙ ap (λ (v : HeldValue). set.union v.contents (copies_of c.args.bookie c.args.ledger entries))
+            c.self.view_is)
+            i;
         bookies = (c.self.view_is i).bookies;
         words = (words ∙ ap (λ (v : HeldValue). v.words) c.self.view_is) i;
       })

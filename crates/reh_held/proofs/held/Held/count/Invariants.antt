@@ -3,4 +3,5 @@ use Rattle.reh_held.proofs.CountHeldLaws.{IsCounting}
 use Rattle.reh_held.proofs.held.Held.count.Given as goal
 
 abbrev pub invariant-loop-table : goal.invariant-loop-table
-invariant-loop-table l = IsCounting l.self.bookies l.bookie (count_held l.self.contents l.bookie) l.table-iterator l.count
+invariant-loop-table l =
+    IsCounting l.self.bookies l.bookie (count_held l.self.contents l.bookie) l.table-iterator l.count

@@ -13,11 +13,16 @@ use Rattle.reh_held.proofs.held.Held.toggle.Goals as goal
 use Rattle.reh_held.proofs.held.Held.toggle.Goals.{in-Some, in-None}
 
 pub toggle-requires-clause-table : goal.toggle-requires-clause-table
-toggle-requires-clause-table c = own_table (kept_table c.self.inside.tables.entries c.args.ledger c.in-Some.table.now c.self.invariant.tables c.in-Some.ensures.value)
+toggle-requires-clause-table c =
+    own_table
+    (kept_table c.self.inside.tables.entries c.args.ledger c.in-Some.table.now c.self.invariant.tables
+    c.in-Some.ensures.value)
 
 pub toggle-requires-clause-bookie : goal.toggle-requires-clause-bookie
 toggle-requires-clause-bookie c =
-    let table = kept_table c.self.inside.tables.entries c.args.ledger c.in-Some.table.now c.self.invariant.tables c.in-Some.ensures.value in
+    let table =
+    kept_table c.self.inside.tables.entries c.args.ledger c.in-Some.table.now c.self.invariant.tables
+    c.in-Some.ensures.value in
     let within = rw (← c.self.view_is) at c.requires.bookie in
     omega (arith, table.size)
 
@@ -33,10 +38,18 @@ invariant_of-self c = elim c.match-get_mut.branch [
       let found = w.in-Some.ensures.value in
       let h = c.get_mut.follows.holds w.toggle.new.self in
       let table = kept_table tables c.args.ledger w.in-Some.table.now c.self.invariant.tables found in
-      let still : IsTable c.self.inside.bookies w.toggle.new.self = subst (λ n. IsTable n w.toggle.new.self) table.size w.toggle.ensures.table in
+      let still : IsTable c.self.inside.bookies w.toggle.new.self =
+      subst (λ n. IsTable n w.toggle.new.self) table.size w.toggle.ensures.table in
       subst IsKept (sym w.self-inside-is) (record {
-        few = subst (λ words. finite.len words ≤ MAX_LEDGERS) (sym (written-same_words tables (c.get_mut.follows.lender w.toggle.new.self).entries c.args.ledger w.toggle.new.self (h.3 (subst IsSome found refl)).0 w.in-Some.table.now found w.toggle.ensures.width)) c.self.invariant.few;
-        tables = written-kept tables (c.get_mut.follows.lender w.toggle.new.self).entries c.args.ledger w.toggle.new.self (h.3 (subst IsSome found refl)).0 c.self.inside.bookies still c.self.invariant.tables;
+        few =
+            subst (λ words. finite.len words ≤ MAX_LEDGERS)
+            (sym
+            (written-same_words tables (c.get_mut.follows.lender w.toggle.new.self).entries c.args.ledger
+            w.toggle.new.self (h.3 (subst IsSome found refl)).0 w.in-Some.table.now found w.toggle.ensures.width))
+            c.self.invariant.few;
+        tables =
+            written-kept tables (c.get_mut.follows.lender w.toggle.new.self).entries c.args.ledger w.toggle.new.self
+            (h.3 (subst IsSome found refl)).0 c.self.inside.bookies still c.self.invariant.tables;
       })
   | in-None w ↦
       let within = rw (← c.self.view_is) at c.requires.number in
@@ -51,13 +64,22 @@ returns c = elim c.match-get_mut.branch [
       let found = w.in-Some.ensures.value in
       let h = c.get_mut.follows.holds w.toggle.new.self in
       let written = (h.3 (subst IsSome found refl)).0 in
-      let contents = written-turned tables after c.args.ledger w.toggle.new.self written c.args.bookie c.args.number c.args.bits (λ b e.
+      let contents =
+      written-turned tables after c.args.ledger w.toggle.new.self written c.args.bookie c.args.number c.args.bits
+      (λ b e.
       w.toggle.ensures.bits b e
-      ∙ ap (λ was. one_of was (nat_eq b c.args.bookie && is_in_word c.args.number c.args.bits e)) (sym (has-found tables b c.args.ledger e w.in-Some.table.now found))) in
-      let words = written-same_words tables after c.args.ledger w.toggle.new.self written w.in-Some.table.now found w.toggle.ensures.width in
+      ∙ ap (λ was. one_of was (nat_eq b c.args.bookie && is_in_word c.args.number c.args.bits e))
+      (sym (has-found tables b c.args.ledger e w.in-Some.table.now found))) in
+      let words =
+      written-same_words tables after c.args.ledger w.toggle.new.self written w.in-Some.table.now found
+      w.toggle.ensures.width in
       ap held_of w.self-inside-is
       ∙ (λ i. record {
-        contents = (contents ∙ ap (λ (v : HeldValue). turned v.contents c.args.bookie c.args.ledger c.args.number c.args.bits) c.self.view_is) i;
+        contents =
+            (contents
+            ∙ ap (λ (v : HeldValue). turned v.contents c.args.bookie c.args.ledger c.args.number c.args.bits)
+            c.self.view_is)
+            i;
         bookies = (c.self.view_is i).bookies;
         words = (words ∙ ap (λ (v : HeldValue). v.words) c.self.view_is) i;
       })

@@ -6,6 +6,8 @@ use Rattle.reh_held.proofs.held.tests.turns_there_and_back.Goals as goal
 
 pub delta_of-requires-clause-entries : goal.delta_of-requires-clause-entries
 delta_of-requires-clause-entries g c =
-    let room : 4 < 64 * words_in c.add_range.new.self 7 = subst (λ (v : HeldValue). 4 < 64 * words_in v 7) (sym c.add_range.ensures) c.in_ok-reserve.ensures.room in
+    let room : 4 < 64 * words_in c.add_range.new.self 7 =
+    subst (λ (v : HeldValue). 4 < 64 * words_in v 7) (sym c.add_range.ensures) c.in_ok-reserve.ensures.room in
     let P : ℕ → Type 0 = λ e. e < 64 * words_in c.add_range.new.self 7 in
-    All-cons P 0 (1 ∷ 3 ∷ 4 ∷ []) (omega arith) (All-cons P 1 (3 ∷ 4 ∷ []) (omega arith) (All-cons P 3 (4 ∷ []) (omega arith) (All-cons P 4 [] room (All-nil P))))
+    All-cons P 0 (1 ∷ 3 ∷ 4 ∷ []) (omega arith)
+    (All-cons P 1 (3 ∷ 4 ∷ []) (omega arith) (All-cons P 3 (4 ∷ []) (omega arith) (All-cons P 4 [] room (All-nil P))))

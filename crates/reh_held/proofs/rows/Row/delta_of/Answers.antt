@@ -16,8 +16,10 @@ returns c =
     let copied : c.in_ok-after.after ≡ words = c.in_ok-after.ensures.cases in
     let size : length after ≡ length words = c.insert_all.ensures.width ∙ ap (length {A = ℕ}) copied in
     let turns = c.in_ok-turns.turns.items in
-    let are : turns ≡ turns_between 0 words after = c.in_ok-turns.ensures.turns ∙ (λ i. turns_between 0 (c.as_slice.ensures i) (c.as_slice-2.ensures i)) in
-    let small : All (λ u. u.bits < 2 ^ 64) (turns_between 0 words after) = subst (λ (us : List Turn). All (λ u. u.bits < 2 ^ 64) us) are c.in_ok-turns.ensures.bits in
+    let are : turns ≡ turns_between 0 words after =
+    c.in_ok-turns.ensures.turns ∙ (λ i. turns_between 0 (c.as_slice.ensures i) (c.as_slice-2.ensures i)) in
+    let small : All (λ u. u.bits < 2 ^ 64) (turns_between 0 words after) =
+    subst (λ (us : List Turn). All (λ u. u.bits < 2 ^ 64) us) are c.in_ok-turns.ensures.bits in
     let makes = turning words after (λ e. is_set words e || list_any (λ x. e == x) entries) size small (λ e.
     c.insert_all.ensures.bits e ∙ ap (λ (ws : List ℕ). is_set ws e || list_any (λ x. e == x) entries) copied) in
     rw are makes

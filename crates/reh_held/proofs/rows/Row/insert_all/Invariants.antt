@@ -5,4 +5,5 @@ use Rattle.reh_held.proofs.rows.Row.insert_all.Given as goal
 
 abbrev pub invariant-loop-entry : goal.invariant-loop-entry
 invariant-loop-entry l =
-    (length l.self ≡ length l.fn.self) × ((e : ℕ) → is_set l.self e ≡ (is_set l.fn.self e || list_any (λ x. e == x) (take l.entry-index l.entries)))
+    (length l.self ≡ length l.fn.self)
+    × ((e : ℕ) → is_set l.self e ≡ (is_set l.fn.self e || list_any (λ x. e == x) (take l.entry-index l.entries)))

@@ -6,4 +6,5 @@ abbrev pub invariant-loop-row : goal.invariant-loop-row
 invariant-loop-row l =
     (length l.rows.items ≡ l.row-index)
     × ((b : ℕ) → b < l.row-index → length (slice_index_or l.rows.items b []) ≡ l.width)
-    × ((b e : ℕ) → b < l.row-index → is_set (slice_index_or l.rows.items b []) e ≡ is_set (slice_index_or l.row-items b []) e)
+    × ((b e : ℕ) → b < l.row-index
+    → is_set (slice_index_or l.rows.items b []) e ≡ is_set (slice_index_or l.row-items b []) e)

@@ -17,9 +17,13 @@ returns c =
     let there : slice_get g.metadata.fragments aim.fragment ≡ Some fragment =
     ap (λ (m : Metadata). slice_get m.fragments aim.fragment) (sym c.metadata-metadata.ensures)
     ∙ ap (λ (fragments : List Fragment). slice_get fragments aim.fragment) (sym c.fragments.ensures.fragments)
-    ∙ slice_get-there c.fragments.result.now aim.fragment fragment c.in-Some-get.ensures.lookup.3.0 c.in-Some-get.ensures.lookup.1 in
+    ∙ slice_get-there c.fragments.result.now aim.fragment fragment c.in-Some-get.ensures.lookup.3.0
+    c.in-Some-get.ensures.lookup.1 in
     let ends : stop_of g.metadata aim.fragment ≡ Some c.in-Some-end_of.stop =
     ap (λ (m : Metadata). stop_of m aim.fragment) (sym c.metadata-metadata.ensures) ∙ sym c.in-Some-end_of.ensures in
-    let version : c.version.result ≡ g.metadata.version = c.version.ensures ∙ ap (λ (m : Metadata). m.version) c.metadata-metadata.ensures in
+    let version : c.version.result ≡ g.metadata.version =
+    c.version.ensures ∙ ap (λ (m : Metadata). m.version) c.metadata-metadata.ensures in
     scan-found s aim g fragment c.in-Some-end_of.stop (sym c.in-Some.ensures) there ends
-    ∙ ap Some (content_of-read s g aim fragment c.in-Some-end_of.stop c.version.result c.in_ok-reading.reading c.in_ok-reading.ensures version there ends)
+    ∙ ap Some
+    (content_of-read s g aim fragment c.in-Some-end_of.stop c.version.result c.in_ok-reading.reading
+    c.in_ok-reading.ensures version there ends)

@@ -7,7 +7,8 @@ use Rattle.reh_session.proofs.Keeps.{accepted_now, act_refused, kept_safe, perfo
 use Rattle.reh_session.proofs.sessions.Session.act.Goals as goal
 
 pub returns-in_err-check-clause-answers : goal.returns-in_err-check-clause-answers
-returns-in_err-check-clause-answers c = search (rules, act_refused c.self.invariant _ c.self.view_is c.args.event.now _ c.in_err-check.ensures)
+returns-in_err-check-clause-answers c =
+    search (rules, act_refused c.self.invariant _ c.self.view_is c.args.event.now _ c.in_err-check.ensures)
 
 pub returns-in_err-check-clause-lasting : goal.returns-in_err-check-clause-lasting
 returns-in_err-check-clause-lasting c = kept_safe c.self.invariant _ c.self.view_is
@@ -16,7 +17,10 @@ pub make-requires : goal.make-requires
 make-requires c = accepted_now c.self.invariant _ c.self.view_is c.args.event.now c.in_ok-check.ensures
 
 pub returns-clause-safe : goal.returns-clause-safe
-returns-clause-safe c = safe_move c.args.self.now (Do c.args.event.now) (reply_of c.make.result) c.make.new.self c.make.ensures
+returns-clause-safe c =
+    safe_move c.args.self.now (Do c.args.event.now) (reply_of c.make.result) c.make.new.self c.make.ensures
 
 pub returns-clause-lasting : goal.returns-clause-lasting
-returns-clause-lasting c = perform_safe c.self.invariant _ c.self.view_is c.make.new.self (Do c.args.event.now) (reply_of c.make.result) c.make.ensures
+returns-clause-lasting c =
+    perform_safe c.self.invariant _ c.self.view_is c.make.new.self (Do c.args.event.now) (reply_of c.make.result)
+    c.make.ensures

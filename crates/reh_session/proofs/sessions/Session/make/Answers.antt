@@ -11,16 +11,21 @@ changes_of-requires c = accepted_inside c.self.invariant _ c.self.view_is c.args
 
 pub invariant_of-self-2 : goal.invariant_of-self-2
 invariant_of-self-2 c =
-    act_keeps c.self.invariant c.args.event (accepted_inside c.self.invariant _ c.self.view_is c.args.event c.requires) (omega arith) _ c.in_ok-changes.ensures c.exchange.new.changes _ _ _
-    c.exchange.ensures.state c.exchange.ensures.inverse (rw c.make_room.ensures.items at c.keep.ensures) (rw c.make_room-2.ensures.items at c.keep-2.ensures)
+    act_keeps c.self.invariant c.args.event (accepted_inside c.self.invariant _ c.self.view_is c.args.event c.requires)
+    (omega arith) _ c.in_ok-changes.ensures c.exchange.new.changes _ _ _
+    c.exchange.ensures.state c.exchange.ensures.inverse (rw c.reserve_next.ensures.items at c.keep.ensures)
+    (rw c.reserve_next-2.ensures.items at c.keep-2.ensures)
 
 pub returns : goal.returns
 returns c =
     let accepted = accepted_inside c.self.invariant _ c.self.view_is c.args.event c.requires in
-    let done : reply_to c.args.self.now (Do c.args.event) ≡ Done = act_done c.self.invariant _ c.self.view_is c.args.event accepted (omega arith) in
+    let done : reply_to c.args.self.now (Do c.args.event) ≡ Done =
+    act_done c.self.invariant _ c.self.view_is c.args.event accepted (omega arith) in
     inl (
       sym done,
-      act_moves c.self.invariant c.args.event accepted (omega arith) _ c.in_ok-changes.ensures c.exchange.new.changes _ _ _
-          c.exchange.ensures.state c.exchange.ensures.inverse (rw c.make_room.ensures.items at c.keep.ensures) (rw c.make_room-2.ensures.items at c.keep-2.ensures)
+      act_moves c.self.invariant c.args.event accepted (omega arith) _ c.in_ok-changes.ensures c.exchange.new.changes _
+          _ _
+          c.exchange.ensures.state c.exchange.ensures.inverse (rw c.reserve_next.ensures.items at c.keep.ensures)
+          (rw c.reserve_next-2.ensures.items at c.keep-2.ensures)
           ∙ ap (λ (m : Session). moved_session m (Do c.args.event)) c.self.view_is,
     )

@@ -14,4 +14,6 @@ returns-clause-replays c = rw (← c.self.view_is) (replay_done c.self.invariant
 pub returns-clause-lasting : goal.returns-clause-lasting
 returns-clause-lasting c =
     let s = c.self.inside in
-    subst (λ (m : Session). All (HoldsStripe s.state) m.done) c.self.view_is (lasting (led_back s.state (take s.cursor s.records.items)) s.state (take s.cursor s.events.items) (replay_done c.self.invariant))
+    subst (λ (m : Session). All (HoldsStripe s.state) m.done) c.self.view_is
+    (lasting (led_back s.state (take s.cursor s.records.items)) s.state (take s.cursor s.events.items)
+    (replay_done c.self.invariant))

@@ -7,12 +7,15 @@ pub exchange-requires : goal.exchange-requires
 exchange-requires c = undo_fits c.self.invariant (omega arith) c.index_mut.result.now c.index_mut.ensures.value
 
 pub invariant_of-self : goal.invariant_of-self
-invariant_of-self c = undo_keeps c.self.invariant (omega arith) c.index_mut.result.now c.index_mut.ensures.value _ _ c.exchange.ensures.state c.exchange.ensures.inverse
+invariant_of-self c =
+    undo_keeps c.self.invariant (omega arith) c.index_mut.result.now c.index_mut.ensures.value _ _
+    c.exchange.ensures.state c.exchange.ensures.inverse
 
 pub returns-clause-answers : goal.returns-clause-answers
 returns-clause-answers c =
     rw (← c.self.view_is)
-    (undo_answers c.self.invariant (omega arith) c.index_mut.result.now c.index_mut.ensures.value c.exchange.new.changes c.exchange.new.self c.exchange.ensures.state c.exchange.ensures.inverse)
+    (undo_answers c.self.invariant (omega arith) c.index_mut.result.now c.index_mut.ensures.value c.exchange.new.changes
+    c.exchange.new.self c.exchange.ensures.state c.exchange.ensures.inverse)
 
 pub returns-clause-lasting : goal.returns-clause-lasting
 returns-clause-lasting c = kept_safe (invariant_of-self c) _ refl
