@@ -1,12 +1,10 @@
 -- A play after its first lines, one line at a time.
-use Rattle.std.proofs.Common.{◌≡◌, ℕ, suc, ◌+◌, ◌-◌, ◌<◌, List, [], ◌∷◌, ◌++◌, length, take, drop, Option, None, Ok, Err, true, refl, sym, ap, ◌∙◌, subst, arith, append-nil, length-append}
+use Rattle.std.proofs.Common.{◌≡◌, ℕ, suc, ◌+◌, ◌-◌, ◌<◌, List, [], ◌∷◌, ◌++◌, length, take, drop, Option, None, Ok}
+use Rattle.std.proofs.Common.{Err, true, refl, sym, ap, ◌∙◌, subst, arith, append-nil, length-append}
 use mathlib.Core.List.{append_assoc}
 use Rattle.std.proofs.lemmas.List.{take_rest, take-append-drop}
 use Rattle.std.proofs.KnownBytes.{Appends-trans, Appends-nil}
 use Rattle.std.specs.Io.KnownBytes.{Appends}
-use Rattle.reh_types.specs.declared.calls.Call.{Call}
-use Rattle.reh_types.specs.declared.moves.Reply.{Reply}
-use Rattle.reh_model.specs.Cluster.{Cluster}
 use Rattle.reh_desk.specs.Numbered.{Numbered}
 use Rattle.reh_desk.specs.Seats.{SeatView}
 use Rattle.reh_crew.specs.declared.surveyors.SurveyFault.{SurveyFault}
@@ -17,49 +15,67 @@ use Rattle.reh_script.specs.Lines.{lines_of}
 use Rattle.std.specs.Prelude.{◌==◌}
 use Rattle.std.proofs.lemmas.Bool.Decides.{nat_tests}
 use Rattle.reh_script.specs.Faults.{play_fault_of}
-use Rattle.reh_script.specs.Players.{Player, Takes, TakesAll, Begins}
+use Rattle.reh_script.specs.Players.{Setting, Player, Takes, TakesAll, Begins}
 use Rattle.reh_script.specs.Plays.{StopsWanting, IsPlayed}
 use Rattle.reh_script.specs.Turns.{player, held, IsWanted, LeadsTo}
 
 -- Of all lines the first were taken and answered, so many, and these are left.
-pub record IsAt {S : Type 0} (go : S → ℕ → Call → Reply → S → Type 0) (scene : S → Option Cluster) (names : List (List ℕ)) (all left : List (List ℕ)) (number : ℕ) (x y : Player S) (old mid : Option (List ℕ)) : Type 0 where
+pub record IsAt {S : Type 0} (place : Setting S) (all left : List (List ℕ)) (number : ℕ) (x y : Player S)
+    (old mid : Option (List ℕ)) : Type 0 where
   pub done : List (List ℕ)
   pub text : List ℕ
   pub split : all ≡ done ++ left
   pub count : number ≡ length done
-  pub taken : TakesAll go scene names x 1 done text y
+  pub taken : TakesAll place x 1 done text y
   pub written : Appends old mid text
 
 -- lines, and one more
-takes_more : {S : Type 0} (go : S → ℕ → Call → Reply → S → Type 0) (scene : S → Option Cluster) (names : List (List ℕ)) (x : Player S) (n : ℕ) (lines : List (List ℕ)) (text : List ℕ) (y : Player S) (line answer : List ℕ) (z : Player S) → TakesAll go scene names x n lines text y
-    → Takes go scene names y (n + length lines) (asked names line) answer z → TakesAll go scene names x n (lines ++ line ∷ []) (text ++ answer) z
-takes_more go scene names x n [] text y line answer z taken next =
-    let none : n + 0 ≡ n = omega arith in
-    (answer, [], z, ap (λ t. t ++ answer) taken.0 ∙ sym (append-nil answer), subst (λ v. Takes go scene names v n (asked names line) answer z) taken.1 (subst (λ i. Takes go scene names y i (asked names line) answer z) none next), (refl, refl))
-takes_more go scene names x n (l ∷ lines) text y line answer z taken next =
+takes_more : {S : Type 0} (place : Setting S) (x : Player S) (n : ℕ) (lines : List (List ℕ)) (text : List ℕ)
+    (y : Player S) (line answer : List ℕ) (z : Player S) → TakesAll place x n lines text y
+    → Takes place y (n + length lines) (asked place.names line) answer z
+    → TakesAll place x n (lines ++ line ∷ []) (text ++ answer) z
+takes_more place x n [] text y line answer z taken next =
+    let none : n + 0 ≡ n = omega arith in (
+      answer,
+      [],
+      z,
+      ap (λ t. t ++ answer) taken.0
+          ∙ sym (append-nil answer),
+      subst (λ v. Takes place v n (asked place.names line) answer z) taken.1
+          (subst (λ i. Takes place y i (asked place.names line) answer z) none next),
+      (refl, refl),
+    )
+takes_more place x n (l ∷ lines) text y line answer z taken next =
     let shift : n + suc (length lines) ≡ n + 1 + length lines = omega arith in (
       taken.0,
       taken.1 ++ answer,
       taken.2,
       ap (λ t. t ++ answer) taken.3 ∙ append_assoc taken.0 taken.1 answer,
       taken.4,
-      takes_more go scene names taken.2 (n + 1) lines taken.1 y line answer z taken.5 (subst (λ i. Takes go scene names y i (asked names line) answer z) shift next),
+      takes_more place taken.2 (n + 1) lines taken.1 y line answer z taken.5
+          (subst (λ i. Takes place y i (asked place.names line) answer z) shift next),
     )
 
-pub is_at_start : {S : Type 0} (go : S → ℕ → Call → Reply → S → Type 0) (scene : S → Option Cluster) (names : List (List ℕ)) (all : List (List ℕ)) (x : Player S) (old : Option (List ℕ)) → IsAt go scene names all all 0 x x old old
-is_at_start go scene names all x old = record { done = []; text = []; split = refl; count = refl; taken = (refl, refl); written = Appends-nil old }
+pub is_at_start : {S : Type 0} (place : Setting S) (all : List (List ℕ)) (x : Player S) (old : Option (List ℕ))
+    → IsAt place all all 0 x x old old
+is_at_start place all x old =
+    record { done = []; text = []; split = refl; count = refl; taken = (refl, refl); written = Appends-nil old }
 
 -- after one more line
-pub is_at_next : {S : Type 0} (go : S → ℕ → Call → Reply → S → Type 0) (scene : S → Option Cluster) (names : List (List ℕ)) (all lines rest : List (List ℕ)) (line answer : List ℕ) (k : ℕ) (x y z : Player S) (old mid new : Option (List ℕ)) → IsAt go scene names all lines k x y old mid
-    → lines ≡ line ∷ rest → Takes go scene names y (k + 1) (asked names line) answer z → Appends mid new answer → IsAt go scene names all rest (k + 1) x z old new
-is_at_next go scene names all lines rest line answer k x y z old mid new at first next sent =
+pub is_at_next : {S : Type 0} (place : Setting S) (all lines rest : List (List ℕ)) (line answer : List ℕ) (k : ℕ)
+    (x y z : Player S) (old mid new : Option (List ℕ)) → IsAt place all lines k x y old mid
+    → lines ≡ line ∷ rest → Takes place y (k + 1) (asked place.names line) answer z → Appends mid new answer
+    → IsAt place all rest (k + 1) x z old new
+is_at_next place all lines rest line answer k x y z old mid new at first next sent =
     let number : k + 1 ≡ 1 + length at.done = omega (arith, at.count) in
     record {
       done = at.done ++ line ∷ [];
       text = at.text ++ answer;
-      split = at.split ∙ ap (λ (ls : List (List ℕ)). at.done ++ ls) first ∙ sym (append_assoc at.done (line ∷ []) rest);
+      split = at.split ∙ ap (λ (ls : List (List ℕ)). at.done ++ ls) first
+          ∙ sym (append_assoc at.done (line ∷ []) rest);
       count = omega (arith, at.count, length-append at.done (line ∷ []));
-      taken = takes_more go scene names x 1 at.done at.text y line answer z at.taken (subst (λ i. Takes go scene names y i (asked names line) answer z) number next);
+      taken = takes_more place x 1 at.done at.text y line answer z at.taken
+          (subst (λ i. Takes place y i (asked place.names line) answer z) number next);
       written = Appends-trans old mid new at.text answer at.written sent;
     }
 
@@ -70,19 +86,35 @@ none_left (b ∷ bs) none =
     absurd (omega (arith, zero))
 
 -- where no line is left
-pub all_answered : {S : Type 0} (go : S → ℕ → Call → Reply → S → Type 0) (scene : S → Option Cluster) (names : List (List ℕ)) (all lines : List (List ℕ)) (k : ℕ) (x y : Player S) (old new : Option (List ℕ)) → IsAt go scene names all lines k x y old new → lines ≡ []
-    → LeadsTo go scene names all (Ok tt) x y old new
-all_answered go scene names all lines k x y old new at none = λ last end ends.
-    let same : at.done ≡ all = sym (append-nil at.done) ∙ ap (λ (ls : List (List ℕ)). at.done ++ ls) (sym none) ∙ sym at.split in
-    (refl, record { text = at.text; y = y; taken = subst (λ (ls : List (List ℕ)). TakesAll go scene names x 1 ls at.text y) same at.taken; ends = ends; written = at.written })
+pub all_answered : {S : Type 0} (place : Setting S) (all lines : List (List ℕ)) (k : ℕ) (x y : Player S)
+    (old new : Option (List ℕ)) → IsAt place all lines k x y old new → lines ≡ []
+    → LeadsTo place all (Ok tt) x y old new
+all_answered place all lines k x y old new at none = λ end ends.
+    let same : at.done ≡ all =
+    sym (append-nil at.done) ∙ ap (λ (ls : List (List ℕ)). at.done ++ ls) (sym none) ∙ sym at.split in (
+      refl,
+      record {
+        text = at.text;
+        y = y;
+        taken =
+            subst (λ (ls : List (List ℕ)). TakesAll place x 1 ls at.text y) same at.taken;
+        ends = ends;
+        written =
+            at.written;
+      },
+    )
 
 number_is : (k : ℕ) (done : List (List ℕ)) → k ≡ length done → k + 1 ≡ length done + 1
 number_is k done count = omega (arith, count)
 
 -- where a write fails
-pub stops_writing : {S : Type 0} (go : S → ℕ → Call → Reply → S → Type 0) (scene : S → Option Cluster) (names : List (List ℕ)) (all lines rest : List (List ℕ)) (line answer : List ℕ) (k : ℕ) (x y z : Player S) (old mid new : Option (List ℕ)) → IsAt go scene names all lines k x y old mid
-    → lines ≡ line ∷ rest → Takes go scene names y (k + 1) (asked names line) answer z → (part : List ℕ) × (lost : List ℕ) × (part ++ lost ≡ answer) × (0 < length lost) × Appends mid new part → LeadsTo go scene names all (Err WriteFault) x z old new
-stops_writing go scene names all lines rest line answer k x y z old mid new at first next (part, lost, whole, some, sent) = λ last end ends.
+pub stops_writing : {S : Type 0} (place : Setting S) (all lines rest : List (List ℕ)) (line answer : List ℕ) (k : ℕ)
+    (x y z : Player S) (old mid new : Option (List ℕ)) → IsAt place all lines k x y old mid
+    → lines ≡ line ∷ rest → Takes place y (k + 1) (asked place.names line) answer z → (part : List ℕ)
+    × (lost : List ℕ) × (part ++ lost ≡ answer) × (0 < length lost) × Appends mid new part
+    → LeadsTo place all (Err WriteFault) x z old new
+stops_writing place all lines rest line answer k x y z old mid new at first next (part, lost, whole, some, sent) =
+    λ end ends.
     record {
       done = at.done;
       line = line;
@@ -94,22 +126,26 @@ stops_writing go scene names all lines rest line answer k x y z old mid new at f
       y = z;
       split = at.split ∙ ap (λ (ls : List (List ℕ)). at.done ++ ls) first;
       before = at.taken;
-      taken = subst (λ t. Takes go scene names y (length at.done + 1) (asked names line) t z) (sym whole) (subst (λ i. Takes go scene names y i (asked names line) answer z) (number_is k at.done at.count) next);
+      taken = subst (λ t. Takes place y (length at.done + 1) (asked place.names line) t z) (sym whole)
+          (subst (λ i. Takes place y i (asked place.names line) answer z) (number_is k at.done at.count) next);
       is_lost = some;
       ends = ends;
       written = Appends-trans old mid new at.text part at.written sent;
     }
 
-wants : {S : Type 0} (go : S → ℕ → Call → Reply → S → Type 0) (scene : S → Option Cluster) (names all : List (List ℕ)) (fault : SurveyFault) (x : Player S) (last : S) (end : SeatView) (old mid : Option (List ℕ)) (stops : StopsWanting go scene names all x last end old mid)
-    → IsWanted fault (asked names stops.line) → IsPlayed go scene names all None (Err (play_fault_of fault)) x last end old mid
-wants go scene names all survey_fault.NoMemory x last end old mid stops wanted = stops
-wants go scene names all survey_fault.NoThread x last end old mid stops wanted = (stops, wanted)
+wants : {S : Type 0} (place : Setting S) (all : List (List ℕ)) (fault : SurveyFault) (x z : Player S)
+    (old mid : Option (List ℕ)) (stops : StopsWanting place all x z old mid)
+    → IsWanted fault (asked place.names stops.line) → IsPlayed place all None (Err (play_fault_of fault)) x z old mid
+wants place all survey_fault.NoMemory x z old mid stops wanted = stops
+wants place all survey_fault.NoThread x z old mid stops wanted = (stops, wanted)
 
 -- where there is no memory, or no thread for a survey
-pub stops_wanting : {S : Type 0} (go : S → ℕ → Call → Reply → S → Type 0) (scene : S → Option Cluster) (names : List (List ℕ)) (all lines rest : List (List ℕ)) (line : List ℕ) (k : ℕ) (fault : SurveyFault) (x y z : Player S) (old mid : Option (List ℕ)) → IsAt go scene names all lines k x y old mid
-    → lines ≡ line ∷ rest → Begins go scene names y (k + 1) (asked names line) z → IsWanted fault (asked names line) → LeadsTo go scene names all (Err (play_fault_of fault)) x z old mid
-stops_wanting go scene names all lines rest line k fault x y z old mid at first begun wanted = λ last end ends.
-    let stops : StopsWanting go scene names all x last end old mid = record {
+pub stops_wanting : {S : Type 0} (place : Setting S) (all lines rest : List (List ℕ)) (line : List ℕ) (k : ℕ)
+    (fault : SurveyFault) (x y z : Player S) (old mid : Option (List ℕ)) → IsAt place all lines k x y old mid
+    → lines ≡ line ∷ rest → Begins place y (k + 1) (asked place.names line) z
+    → IsWanted fault (asked place.names line) → LeadsTo place all (Err (play_fault_of fault)) x z old mid
+stops_wanting place all lines rest line k fault x y z old mid at first begun wanted = λ end ends.
+    let stops : StopsWanting place all x end old mid = record {
       done = at.done;
       line = line;
       rest = rest;
@@ -118,21 +154,26 @@ stops_wanting go scene names all lines rest line k fault x y z old mid at first 
       y = z;
       split = at.split ∙ ap (λ (ls : List (List ℕ)). at.done ++ ls) first;
       before = at.taken;
-      begun = subst (λ i. Begins go scene names y i (asked names line) z) (number_is k at.done at.count) begun;
+      begun = subst (λ i. Begins place y i (asked place.names line) z) (number_is k at.done at.count) begun;
       ends = ends;
       written = at.written;
     } in
-    wants go scene names all fault x last end old mid stops wanted
+    wants place all fault x end old mid stops wanted
 
 -- where a write fails, no ticket is at hand
-pub stops_lost : {S : Type 0} (go : S → ℕ → Call → Reply → S → Type 0) (scene : S → Option Cluster) (names : List (List ℕ)) (all lines rest : List (List ℕ)) (line answer : List ℕ) (k : ℕ) (x y : Player S) (s : S) (seat : SeatView) (hand : List Numbered) (old mid new : Option (List ℕ))
-    → IsAt go scene names all lines k x y old mid → lines ≡ line ∷ rest → Takes go scene names y (k + 1) (asked names line) answer (player s seat hand)
-    → (part : List ℕ) × (lost : List ℕ) × (part ++ lost ≡ answer) × (0 < length lost) × Appends mid new part → LeadsTo go scene names all (Err WriteFault) x (player s seat (hand ++ held None)) old new
-stops_lost go scene names all lines rest line answer k x y s seat hand old mid new at first next part =
-    subst (λ h. LeadsTo go scene names all (Err WriteFault) x (player s seat h) old new) (sym (append-nil hand)) (stops_writing go scene names all lines rest line answer k x y (player s seat hand) old mid new at first next part)
+pub stops_lost : {S : Type 0} (place : Setting S) (all lines rest : List (List ℕ)) (line answer : List ℕ) (k : ℕ)
+    (x y : Player S) (s : S) (seat : SeatView) (hand : List Numbered) (old mid new : Option (List ℕ))
+    → IsAt place all lines k x y old mid → lines ≡ line ∷ rest
+    → Takes place y (k + 1) (asked place.names line) answer (player s seat hand)
+    → (part : List ℕ) × (lost : List ℕ) × (part ++ lost ≡ answer) × (0 < length lost) × Appends mid new part
+    → LeadsTo place all (Err WriteFault) x (player s seat (hand ++ held None)) old new
+stops_lost place all lines rest line answer k x y s seat hand old mid new at first next part =
+    subst (λ h. LeadsTo place all (Err WriteFault) x (player s seat h) old new) (sym (append-nil hand))
+    (stops_writing place all lines rest line answer k x y (player s seat hand) old mid new at first next part)
 
 -- the first n bytes of what is left are sent too
-pub sent_more : (front rest bytes : List ℕ) (n : ℕ) → front ++ rest ≡ bytes → (front ++ take n rest) ++ take (length rest - n) (drop n rest) ≡ bytes
+pub sent_more : (front rest bytes : List ℕ) (n : ℕ) → front ++ rest ≡ bytes
+    → (front ++ take n rest) ++ take (length rest - n) (drop n rest) ≡ bytes
 sent_more front rest bytes n all =
     append_assoc front (take n rest) (take (length rest - n) (drop n rest))
     ∙ ap (λ xs. front ++ (take n rest ++ xs)) (take_rest rest n)

@@ -1,28 +1,33 @@
--- How a play goes at a book with one seat: what it printed is the transcript, and it leaves the book where the transcript does.
-use Rattle.std.specs.Prelude.{◌≡◌, ℕ, ◌+◌, ◌<◌, ◌⊎◌, Bool, false, List, ◌∷◌, ◌++◌, length, Option, None, Some, IsSome, Result, Ok, Err}
+-- How a play goes at a book with one seat: what it printed is the transcript, and it leaves the book where that does.
+use Rattle.std.specs.Prelude.{◌≡◌, ℕ, ◌+◌, ◌<◌, ◌⊎◌, Bool, false}
+use Rattle.std.specs.Prelude.{List, ◌∷◌, ◌++◌, length, Option, None, Some, IsSome, Result, Ok, Err}
 use Rattle.std.specs.Io.KnownBytes.{Appends, Keeps}
 use Rattle.reh_types.specs.declared.calls.Call.{Call}
 use Rattle.reh_model.specs.Book as model
 use Rattle.reh_model.specs.Book.{Book, answer_to}
+use Rattle.reh_model.specs.Session.{state_of}
+use Rattle.reh_desk.specs.Kept.{Kept, Called}
 use Rattle.reh_script.specs.declared.commands.Command.{Command}
 use Rattle.reh_script.specs.declared.commands.LineFault.{LineFault}
 use Rattle.reh_script.specs.Answers.{asked}
 use Rattle.reh_script.specs.Hand.{call_of}
 use Rattle.reh_script.specs.Lines.{answered_lines}
 use Rattle.reh_script.specs.Plays.{stop_of}
-use Rattle.reh_script.specs.Players.{AsksForSurvey}
+use Rattle.reh_script.specs.Players.{Setting, setting, AsksForSurvey}
 use Rattle.reh_script.specs.Readings.{Gives}
 use Rattle.reh_script.specs.Transcript.{BookPlayer, starting, transcript, line_answer, after_line, after_lines, end_of}
 use Rattle.reh_script.specs.declared.faults.PlayFault.{PlayFault}
 use Rattle.reh_script.specs.declared.faults.PlayFault.TheVariants.{ReadFault, TooLong, WriteFault, NoMemory, NoThread}
 
 -- Every line was taken and answered.
-pub record AnswersAll (names : List (List ℕ)) (seat : ℕ) (lines : List (List ℕ)) (p : BookPlayer) (b : Book) (old new : Option (List ℕ)) : Type 0 where
+pub record TranscribesAll (names : List (List ℕ)) (seat : ℕ) (lines : List (List ℕ)) (p : BookPlayer) (b : Book)
+    (old new : Option (List ℕ)) : Type 0 where
   pub taken : b ≡ end_of seat (after_lines names seat p lines)
   pub written : Appends old new (transcript names seat p 1 lines)
 
 -- A write failed: the last line that was taken is the one whose answer was going out, and some of this answer is lost.
-pub record StopsWriting (names : List (List ℕ)) (seat : ℕ) (lines : List (List ℕ)) (p : BookPlayer) (b : Book) (old new : Option (List ℕ)) : Type 0 where
+pub record TranscribesPart (names : List (List ℕ)) (seat : ℕ) (lines : List (List ℕ)) (p : BookPlayer) (b : Book)
+    (old new : Option (List ℕ)) : Type 0 where
   pub done : List (List ℕ)
   pub line : List ℕ
   pub rest : List (List ℕ)
@@ -49,10 +54,13 @@ MayWantMemory seat p (Some (Err fault)) = ⊥
 abbrev pub LacksAnswer : List (List ℕ) → ℕ → BookPlayer → List ℕ → Book → Type 0
 LacksAnswer names seat p line b =
     IsSome (asked names line)
-    × ((b ≡ end_of seat (after_line names seat p line)) ⊎ ((b ≡ end_of seat p) × MayWantMemory seat p (asked names line)))
+    × ((b ≡ end_of seat (after_line names seat p line))
+    ⊎ ((b ≡ end_of seat p) × MayWantMemory seat p (asked names line)))
 
--- There was no memory for a line, or no thread for a survey: the lines before it were taken and answered, and of its own answer nothing was written.
-pub record StopsWanting (names : List (List ℕ)) (seat : ℕ) (lines : List (List ℕ)) (p : BookPlayer) (b : Book) (old new : Option (List ℕ)) : Type 0 where
+-- There was no memory for a line, or no thread for a survey: the lines before it were taken and answered, and of its
+-- own answer nothing was written.
+pub record TranscribesUntil (names : List (List ℕ)) (seat : ℕ) (lines : List (List ℕ)) (p : BookPlayer) (b : Book)
+    (old new : Option (List ℕ)) : Type 0 where
   pub done : List (List ℕ)
   pub line : List ℕ
   pub rest : List (List ℕ)
@@ -60,21 +68,35 @@ pub record StopsWanting (names : List (List ℕ)) (seat : ℕ) (lines : List (Li
   pub lacks : LacksAnswer names seat (after_lines names seat p done) line b
   pub written : Appends old new (transcript names seat p 1 done)
 
--- How a play of lines ends that has to stop behind them for a fault, if there is one: it leaves the book b, and what is written goes from old to new.
-abbrev pub IsPlayed : List (List ℕ) → ℕ → List (List ℕ) → Option PlayFault → Result (Unit {0}) PlayFault → BookPlayer → Book → Option (List ℕ) → Option (List ℕ) → Type 0
-IsPlayed names seat lines stop (Ok done) p b old new = (stop ≡ None) × AnswersAll names seat lines p b old new
-IsPlayed names seat lines stop (Err ReadFault) p b old new = (stop ≡ Some ReadFault) × AnswersAll names seat lines p b old new
-IsPlayed names seat lines stop (Err TooLong) p b old new = (stop ≡ Some TooLong) × AnswersAll names seat lines p b old new
-IsPlayed names seat lines stop (Err WriteFault) p b old new = StopsWriting names seat lines p b old new
-IsPlayed names seat lines stop (Err NoMemory) p b old new = StopsWanting names seat lines p b old new
-IsPlayed names seat lines stop (Err NoThread) p b old new = (stops : StopsWanting names seat lines p b old new) × AsksForSurvey (asked names stops.line)
+-- How a play of lines ends that has to stop behind them for a fault, if there is one: it leaves the book b.
+abbrev pub IsTranscribed : List (List ℕ) → ℕ → List (List ℕ) → Option PlayFault → Result (Unit {0}) PlayFault
+    → BookPlayer → Book → Option (List ℕ) → Option (List ℕ) → Type 0
+IsTranscribed names seat lines stop (Ok done) p b old new =
+    (stop ≡ None) × TranscribesAll names seat lines p b old new
+IsTranscribed names seat lines stop (Err ReadFault) p b old new =
+    (stop ≡ Some ReadFault) × TranscribesAll names seat lines p b old new
+IsTranscribed names seat lines stop (Err TooLong) p b old new =
+    (stop ≡ Some TooLong) × TranscribesAll names seat lines p b old new
+IsTranscribed names seat lines stop (Err WriteFault) p b old new = TranscribesPart names seat lines p b old new
+IsTranscribed names seat lines stop (Err NoMemory) p b old new = TranscribesUntil names seat lines p b old new
+IsTranscribed names seat lines stop (Err NoThread) p b old new =
+    (until : TranscribesUntil names seat lines p b old new) × AsksForSurvey (asked names until.line)
 
 -- There was no memory for the hand or the text, of which no read had failed: nothing was taken and nothing written.
-abbrev pub LacksText : Bool → Result (Unit {0}) PlayFault → Book → Book → Option (List ℕ) → Option (List ℕ) → Type 0
-LacksText failed result b c old new = (result ≡ Err NoMemory) × (failed ≡ false) × (c ≡ b) × Keeps old new
+abbrev pub TranscribesNone : Bool → Result (Unit {0}) PlayFault → Book → Book → Option (List ℕ) → Option (List ℕ)
+    → Type 0
+TranscribesNone failed result b c old new = (result ≡ Err NoMemory) × (failed ≡ false) × (c ≡ b) × Keeps old new
 
--- A play of the text that a reader gives, whose bytes to come were left_old and are left_new: the book goes from b to c.
-pub record Plays (names : List (List ℕ)) (seat : ℕ) (result : Result (Unit {0}) PlayFault) (failed : Bool) (left_old left_new : Option (List ℕ)) (b c : Book) (old new : Option (List ℕ)) : Type 0 where
+-- A play of the text that a reader gives, whose bytes to come were left_old and are left_new: the book goes from b
+-- to c.
+pub record Transcribes (names : List (List ℕ)) (seat : ℕ) (result : Result (Unit {0}) PlayFault) (failed : Bool)
+    (left_old left_new : Option (List ℕ)) (b c : Book) (old new : Option (List ℕ)) : Type 0 where
   pub text : List ℕ
   pub given : Gives left_old left_new failed text
-  pub played : IsPlayed names seat (answered_lines failed text) (stop_of failed text) result (starting b) c old new ⊎ LacksText failed result b c old new
+  pub played :
+      IsTranscribed names seat (answered_lines failed text) (stop_of failed text) result (starting b) c old new
+      ⊎ TranscribesNone failed result b c old new
+
+-- at a book, which shows its state
+abbrev pub at_book : List (List ℕ) → Setting Kept
+at_book names = setting Called (λ k. Some (state_of k.book.session)) names

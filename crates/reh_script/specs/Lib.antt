@@ -11,4 +11,6 @@ pub mod Players
 pub mod Plays
 pub mod Turns
 pub mod BookPlays
+pub mod Openings
 pub mod Pipes
+pub mod Runs

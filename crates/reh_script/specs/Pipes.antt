@@ -9,7 +9,7 @@ use Rattle.reh_picture.specs.Pictures.{picture_of}
 use Rattle.reh_script.specs.Lines.{cut_of, is_told, answered_lines}
 use Rattle.reh_script.specs.Readings.{Gives}
 use Rattle.reh_script.specs.Plays.{stop_of, is_write_fault}
-use Rattle.reh_script.specs.BookPlays.{IsPlayed}
+use Rattle.reh_script.specs.BookPlays.{IsTranscribed}
 use Rattle.reh_script.specs.Transcript.{starting}
 use Rattle.reh_script.specs.declared.faults.PlayFault.{PlayFault}
 use Rattle.reh_script.specs.declared.faults.PlayFault.TheVariants.{ReadFault, NoMemory}
@@ -40,7 +40,7 @@ pub record EndsAsPlayed (rehearsal : Rehearsal) (result : Result (Unit {0}) Pipe
   pub end : Result (Unit {0}) PlayFault
   pub book : Book
   pub same : result ≡ piped end
-  pub played : IsPlayed rehearsal.state.names 0 rehearsal.lines rehearsal.stop end (starting (new_book (opened_session rehearsal.state))) book old new
+  pub played : IsTranscribed rehearsal.state.names 0 rehearsal.lines rehearsal.stop end (starting (new_book (opened_session rehearsal.state))) book old new
 
 -- There was no memory for the picture, the book or the hand, and nothing was written.
 abbrev pub LacksState : Result (Unit {0}) PipeFault → Option (List ℕ) → Option (List ℕ) → Type 0

@@ -22,7 +22,8 @@ starting b = record { book = b; hand = [] }
 abbrev pub called : BookPlayer → ℕ → Command → Call → BookPlayer
 called p seat command call =
     let reply = answer_to p.book seat call in
-    record { book = book_after p.book seat call reply; hand = hand_after (state_of p.book.session) command reply p.hand }
+    let hand = hand_after (state_of p.book.session) command reply p.hand in
+    record { book = book_after p.book seat call reply; hand = hand }
 
 -- the answer to a command that makes this call, or none, and the player after it
 abbrev pub answer_by : List (List ℕ) → ℕ → BookPlayer → Command → Option Call → List ℕ
@@ -54,7 +55,8 @@ after_line names seat p line = after_command seat p (asked names line)
 -- the answers to lines, of which the first is the n-th
 abbrev pub transcript : List (List ℕ) → ℕ → BookPlayer → ℕ → List (List ℕ) → List ℕ
 transcript names seat p n [] = []
-transcript names seat p n (line ∷ lines) = line_answer names seat p n line ++ transcript names seat (after_line names seat p line) (n + 1) lines
+transcript names seat p n (line ∷ lines) =
+    line_answer names seat p n line ++ transcript names seat (after_line names seat p line) (n + 1) lines
 
 -- the player after lines
 abbrev pub after_lines : List (List ℕ) → ℕ → BookPlayer → List (List ℕ) → BookPlayer
@@ -64,7 +66,9 @@ after_lines names seat p (line ∷ lines) = after_lines names seat (after_line n
 -- the book after a hand is given back, the oldest first
 abbrev pub given_back : ℕ → Book → List Numbered → Book
 given_back seat b [] = b
-given_back seat b (finding ∷ hand) = given_back seat (book_after b seat (discard_of finding) (answer_to b seat (discard_of finding))) hand
+given_back seat b (finding ∷ hand) =
+    let call = discard_of finding in
+    given_back seat (book_after b seat call (answer_to b seat call)) hand
 
 -- where a player ends: what is left in the hand is given back
 abbrev pub end_of : ℕ → BookPlayer → Book

@@ -1,8 +1,9 @@
 // Plays by a seat of a book that it has for itself.
 ghost use Rattle.std.specs.Prelude.{◌≡◌, ◌+◌, ◌≤◌, [], false, length};
-ghost use Rattle.reh_script.specs.BookPlays.{IsPlayed, Plays};
+ghost use Rattle.reh_script.specs.BookPlays.{IsTranscribed, Transcribes, at_book};
 ghost use Rattle.reh_script.specs.Lines.{answered_lines};
-ghost use Rattle.reh_script.specs.Plays.{stop_of, is_write_fault};
+ghost use Rattle.reh_script.specs.Players.{seated};
+ghost use Rattle.reh_script.specs.Plays.{Plays, stop_of, is_write_fault};
 ghost use Rattle.reh_script.specs.Transcript.{starting};
 
 use crate::faults::PlayFault;
@@ -18,7 +19,8 @@ use std::alloc::Global;
 
 /// Reads a script and answers its lines in order, by the one seat of a book, with the bookies of these names.
 ///
-/// It is a `play`: what it prints is the transcript of the book, and it leaves the book where the transcript does.
+/// It is a `play`, with what that adds to the seat's list and the tape. What it prints is the transcript of the book,
+/// and it leaves the book where the transcript does.
 pub fn play_book<V: Surveyor, R: TextIn, W: TextOut>(
     alloc: Global,
     book: &mut Book,
@@ -32,7 +34,13 @@ pub fn play_book<V: Surveyor, R: TextIn, W: TextOut>(
     requires reads { R.has_failed reader.old ≡ false }
     requires writes { W.has_failed writer.old ≡ false }
     ensures out { length book.new.book.out ≡ seat.new.out }
-    ensures plays { Plays names.now seat.old.number result (R.has_failed reader.new) (R.remaining reader.old) (R.remaining reader.new) book.old.book book.new.book (W.contents writer.old) (W.contents writer.new) }
+    ensures plays { Plays (at_book names.now) result
+        (R.has_failed reader.new) (R.remaining reader.old) (R.remaining reader.new)
+        (seated book.old seat.old) (seated book.new seat.new)
+        (W.contents writer.old) (W.contents writer.new) }
+    ensures transcribes { Transcribes names.now seat.old.number result
+        (R.has_failed reader.new) (R.remaining reader.old) (R.remaining reader.new)
+        book.old.book book.new.book (W.contents writer.old) (W.contents writer.new) }
     ensures write { W.has_failed writer.new ≡ is_write_fault result }
     ensures calls { R.calls reader.new ≤ R.calls reader.old + (MAX_SCRIPT_BYTES + 1) }
 {
@@ -52,7 +60,9 @@ pub(crate) fn answer_at_book<V: Surveyor, W: TextOut>(
     requires out { length book.old.book.out ≡ seat.old.out }
     requires empty { hand ≡ [] }
     requires writes { W.has_failed writer.old ≡ false }
-    ensures played { IsPlayed tools.now.names.now seat.old.number (answered_lines failed script.now) (stop_of failed script.now) result (starting book.old.book) book.new.book (W.contents writer.old) (W.contents writer.new) }
+    ensures transcribed { IsTranscribed tools.now.names.now seat.old.number
+        (answered_lines failed script.now) (stop_of failed script.now) result
+        (starting book.old.book) book.new.book (W.contents writer.old) (W.contents writer.new) }
     ensures write { W.has_failed writer.new ≡ is_write_fault result }
 {
     answer_script(tools, book, seat, hand, script, failed, writer)

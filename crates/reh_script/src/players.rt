@@ -2,7 +2,7 @@
 ghost use Rattle.std.specs.Prelude.{◌≡◌, ◌++◌, ◌<◌, length, Some, IfOk, IfErr, Ok};
 ghost use Rattle.reh_script.specs.Players.{GivesBack};
 ghost use Rattle.reh_crew.specs.declared.surveyors.SurveyFault.TheVariants.{NoMemory};
-ghost use Rattle.reh_script.specs.Turns.{player, held, IsAnswered, IsBegun, IsWanted};
+ghost use Rattle.reh_script.specs.Turns.{player, held, with_ticket, IsAnswered, IsBegun, IsWanted};
 ghost use Rattle.reh_script.specs.declared.commands.Command.TheVariants as command;
 
 use crate::answers::Answer;
@@ -53,8 +53,12 @@ pub(crate) fn answer<C: Counter, V: Surveyor>(
 ) -> Result<Answer, Unanswered>
     requires { C.may counter.old seat.old }
     ensures may { C.may counter.new seat.new }
-    ensures ok { IfOk result (λ answer. IsAnswered C.goes C.scene (player counter.old seat.old hand.old) asked answer (player counter.new seat.new hand.new)) }
-    ensures err { IfErr result (λ u. IsBegun C.goes C.scene (player counter.old seat.old hand.old) asked (player counter.new seat.new (hand.new ++ held u.ticket))) }
+    ensures ok { IfOk result (λ answer. IsAnswered C.goes C.scene
+        (player counter.old seat.old hand.old) asked answer
+        (player counter.new seat.new hand.new)) }
+    ensures err { IfErr result (λ u. IsBegun C.goes C.scene
+        (player counter.old seat.old hand.old) asked
+        (with_ticket counter.new seat.new hand.new u.ticket)) }
     ensures wanted { IfErr result (λ u. IsWanted u.fault (Some asked)) }
 {
     match asked {
@@ -77,8 +81,12 @@ fn make<C: Counter>(
 ) -> Result<Answer, Unanswered>
     requires { C.may counter.old seat.old }
     ensures may { C.may counter.new seat.new }
-    ensures ok { IfOk result (λ answer. IsAnswered C.goes C.scene (player counter.old seat.old hand.now) (Ok (command.Make step)) answer (player counter.new seat.new hand.now)) }
-    ensures err { IfErr result (λ u. IsBegun C.goes C.scene (player counter.old seat.old hand.now) (Ok (command.Make step)) (player counter.new seat.new (hand.now ++ held u.ticket))) }
+    ensures ok { IfOk result (λ answer. IsAnswered C.goes C.scene
+        (player counter.old seat.old hand.now) (Ok (command.Make step)) answer
+        (player counter.new seat.new hand.now)) }
+    ensures err { IfErr result (λ u. IsBegun C.goes C.scene
+        (player counter.old seat.old hand.now) (Ok (command.Make step))
+        (with_ticket counter.new seat.new hand.now u.ticket)) }
     ensures wanted { IfErr result (λ u. u.fault ≡ NoMemory) }
 {
     match counter.call(seat, step) {
@@ -97,8 +105,12 @@ fn check_out<C: Counter>(
 ) -> Result<Answer, Unanswered>
     requires { C.may counter.old seat.old }
     ensures may { C.may counter.new seat.new }
-    ensures ok { IfOk result (λ answer. IsAnswered C.goes C.scene (player counter.old seat.old hand.old) (Ok (command.Checkout aim)) answer (player counter.new seat.new hand.new)) }
-    ensures err { IfErr result (λ u. IsBegun C.goes C.scene (player counter.old seat.old hand.old) (Ok (command.Checkout aim)) (player counter.new seat.new (hand.new ++ held u.ticket))) }
+    ensures ok { IfOk result (λ answer. IsAnswered C.goes C.scene
+        (player counter.old seat.old hand.old) (Ok (command.Checkout aim)) answer
+        (player counter.new seat.new hand.new)) }
+    ensures err { IfErr result (λ u. IsBegun C.goes C.scene
+        (player counter.old seat.old hand.old) (Ok (command.Checkout aim))
+        (with_ticket counter.new seat.new hand.new u.ticket)) }
     ensures wanted { IfErr result (λ u. u.fault ≡ NoMemory) }
 {
     if hand.len() >= MAX_HAND {
@@ -131,8 +143,12 @@ fn spend<C: Counter>(
 ) -> Result<Answer, Unanswered>
     requires { C.may counter.old seat.old }
     ensures may { C.may counter.new seat.new }
-    ensures ok { IfOk result (λ answer. IsAnswered C.goes C.scene (player counter.old seat.old hand.old) (Ok command.Spend) answer (player counter.new seat.new hand.new)) }
-    ensures err { IfErr result (λ u. IsBegun C.goes C.scene (player counter.old seat.old hand.old) (Ok command.Spend) (player counter.new seat.new (hand.new ++ held u.ticket))) }
+    ensures ok { IfOk result (λ answer. IsAnswered C.goes C.scene
+        (player counter.old seat.old hand.old) (Ok command.Spend) answer
+        (player counter.new seat.new hand.new)) }
+    ensures err { IfErr result (λ u. IsBegun C.goes C.scene
+        (player counter.old seat.old hand.old) (Ok command.Spend)
+        (with_ticket counter.new seat.new hand.new u.ticket)) }
     ensures wanted { IfErr result (λ u. u.fault ≡ NoMemory) }
 {
     let Some(finding) = hand.oldest() else {
@@ -155,7 +171,9 @@ fn spend<C: Counter>(
 fn discard<C: Counter>(counter: &mut C, seat: &mut Seat, hand: &mut Hand) -> Answer
     requires { C.may counter.old seat.old }
     ensures may { C.may counter.new seat.new }
-    ensures done { IsAnswered C.goes C.scene (player counter.old seat.old hand.old) (Ok command.Discard) result (player counter.new seat.new hand.new) }
+    ensures done { IsAnswered C.goes C.scene
+        (player counter.old seat.old hand.old) (Ok command.Discard) result
+        (player counter.new seat.new hand.new) }
 {
     let Some(finding) = hand.oldest() else {
         return Answer::Said(Reply::Refused(Refusal::HandEmpty));
@@ -176,8 +194,12 @@ fn survey<C: Counter, V: Surveyor>(
     seat: &Seat,
     hand: &Hand,
 ) -> Result<Answer, Unanswered>
-    ensures ok { IfOk result (λ answer. IsAnswered C.goes C.scene (player counter.now seat.now hand.now) (Ok command.Survey) answer (player counter.now seat.now hand.now)) }
-    ensures err { IfErr result (λ u. IsBegun C.goes C.scene (player counter.now seat.now hand.now) (Ok command.Survey) (player counter.now seat.now (hand.now ++ held u.ticket))) }
+    ensures ok { IfOk result (λ answer. IsAnswered C.goes C.scene
+        (player counter.now seat.now hand.now) (Ok command.Survey) answer
+        (player counter.now seat.now hand.now)) }
+    ensures err { IfErr result (λ u. IsBegun C.goes C.scene
+        (player counter.now seat.now hand.now) (Ok command.Survey)
+        (with_ticket counter.now seat.now hand.now u.ticket)) }
 {
     let Some(state) = counter.whole() else {
         return Ok(Answer::Hidden);

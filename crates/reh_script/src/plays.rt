@@ -1,18 +1,19 @@
 // Answering the lines of a script.
-ghost use Rattle.std.specs.Prelude.{◌≡◌, ◌+◌, ◌≤◌, ◌<◌, ◌++◌, ℕ, List, true, false, None, Ok, Err, length, IfErr, OnOk, OnErr, MatchResult, string_bytes};
+ghost use Rattle.std.specs.Prelude.{◌≡◌, ◌+◌, ◌≤◌, ◌<◌, ◌++◌, ℕ, List, true, false, Ok, Err, length, string_bytes};
+ghost use Rattle.std.specs.Prelude.{IfErr, OnOk, OnErr, MatchResult};
 ghost use Rattle.std.specs.Io.KnownBytes.{Appends};
 ghost use Rattle.reh_script.specs.Answers.{asked};
 ghost use Rattle.reh_script.specs.Lines.{lines_of, answered_lines};
-ghost use Rattle.reh_script.specs.Players.{Takes, Begins};
+ghost use Rattle.reh_script.specs.Players.{setting, seated, Takes, Begins};
 ghost use Rattle.reh_script.specs.Plays.{stop_of, IsPlayed, Plays, is_write_fault};
-ghost use Rattle.reh_script.specs.Turns.{player, held, IsWanted, LeadsTo};
+ghost use Rattle.reh_script.specs.Turns.{player, with_ticket, IsWanted, LeadsTo};
 
 use crate::answers::push_answer;
 use crate::faults::PlayFault;
 use crate::hand::Hand;
 use crate::inputs::{first_line, front, whole_lines};
 use crate::players::{Tools, Unanswered, answer, give_back};
-use crate::readings::read;
+use crate::readings::read_text;
 use crate::scripts::parse_line;
 use crate::streams::{StreamFault, TextIn, TextOut};
 use reh_cluster::Names;
@@ -30,8 +31,8 @@ struct Stopped {
 
 /// Reads a script and answers its lines in order, by a seat of a counter, with the bookies of these names.
 ///
-/// A script that is too long, and one behind which a read fails, have the lines answered that end in time. Whatever ends
-/// the play, it gives back what it has neither spent nor given back.
+/// A script that is too long, and one behind which a read fails, have the lines answered that end in time. Whatever
+/// ends the play, it gives back what it has neither spent nor given back.
 pub fn play<C: Counter, V: Surveyor, R: TextIn, W: TextOut>(
     alloc: Global,
     counter: &mut C,
@@ -45,7 +46,10 @@ pub fn play<C: Counter, V: Surveyor, R: TextIn, W: TextOut>(
     requires reads { R.has_failed reader.old ≡ false }
     requires writes { W.has_failed writer.old ≡ false }
     ensures may { C.may counter.new seat.new }
-    ensures plays { Plays C.goes C.scene names.now result (R.has_failed reader.new) (R.remaining reader.old) (R.remaining reader.new) counter.old seat.old counter.new seat.new (W.contents writer.old) (W.contents writer.new) }
+    ensures plays { Plays (setting C.goes C.scene names.now) result
+        (R.has_failed reader.new) (R.remaining reader.old) (R.remaining reader.new)
+        (seated counter.old seat.old) (seated counter.new seat.new)
+        (W.contents writer.old) (W.contents writer.new) }
     ensures write { W.has_failed writer.new ≡ is_write_fault result }
     ensures calls { R.calls reader.new ≤ R.calls reader.old + (MAX_SCRIPT_BYTES + 1) }
 {
@@ -55,7 +59,7 @@ pub fn play<C: Counter, V: Surveyor, R: TextIn, W: TextOut>(
         names,
         surveyor,
     };
-    match read(alloc, reader, MAX_SCRIPT_BYTES + 1) {
+    match read_text(alloc, reader, MAX_SCRIPT_BYTES + 1) {
         Ok(script) => answer_script(
             &tools,
             counter,
@@ -85,7 +89,10 @@ pub(crate) fn answer_script<C: Counter, V: Surveyor, W: TextOut>(
     requires may { C.may counter.old seat.old }
     requires writes { W.has_failed writer.old ≡ false }
     ensures may { C.may counter.new seat.new }
-    ensures played { IsPlayed C.goes C.scene tools.now.names.now (answered_lines failed script.now) (stop_of failed script.now) result (player counter.old seat.old hand) counter.new seat.new (W.contents writer.old) (W.contents writer.new) }
+    ensures played { IsPlayed (setting C.goes C.scene tools.now.names.now)
+        (answered_lines failed script.now) (stop_of failed script.now) result
+        (player counter.old seat.old hand) (seated counter.new seat.new)
+        (W.contents writer.old) (W.contents writer.new) }
     ensures write { W.has_failed writer.new ≡ is_write_fault result }
 {
     let mut hand = hand;
@@ -133,9 +140,17 @@ fn answer_lines<C: Counter, V: Surveyor, W: TextOut>(
     requires may { C.may counter.old seat.old }
     requires writes { W.has_failed writer.old ≡ false }
     ensures may { C.may counter.new seat.new }
-    ensures ok { OnOk result (LeadsTo C.goes C.scene tools.now.names.now (lines_of text.now) (Ok tt) (player counter.old seat.old hand.old) (player counter.new seat.new hand.new) (W.contents writer.old) (W.contents writer.new)) }
-    ensures err { IfErr result (λ s. LeadsTo C.goes C.scene tools.now.names.now (lines_of text.now) (Err s.fault) (player counter.old seat.old hand.old) (player counter.new seat.new (hand.new ++ held s.ticket)) (W.contents writer.old) (W.contents writer.new)) }
-    ensures write { MatchResult result (λ _. W.has_failed writer.new ≡ false) (λ s. W.has_failed writer.new ≡ is_write_fault (Err s.fault)) }
+    ensures ok { OnOk result (LeadsTo (setting C.goes C.scene tools.now.names.now)
+        (lines_of text.now) (Ok tt)
+        (player counter.old seat.old hand.old) (player counter.new seat.new hand.new)
+        (W.contents writer.old) (W.contents writer.new)) }
+    ensures err { IfErr result (λ s. LeadsTo (setting C.goes C.scene tools.now.names.now)
+        (lines_of text.now) (Err s.fault)
+        (player counter.old seat.old hand.old) (with_ticket counter.new seat.new hand.new s.ticket)
+        (W.contents writer.old) (W.contents writer.new)) }
+    ensures write { MatchResult result
+        (λ _. W.has_failed writer.new ≡ false)
+        (λ s. W.has_failed writer.new ≡ is_write_fault (Err s.fault)) }
 {
     let mut rest = text;
     let mut number = 0;
@@ -175,8 +190,12 @@ fn answer_line<C: Counter, V: Surveyor>(
 ) -> Result<(), Unanswered>
     requires { C.may counter.old seat.old }
     ensures may { C.may counter.new seat.new }
-    ensures ok { OnOk result (Takes C.goes C.scene tools.now.names.now (player counter.old seat.old hand.old) number (asked tools.now.names.now line.now) (string_bytes text.new) (player counter.new seat.new hand.new)) }
-    ensures err { IfErr result (λ u. Begins C.goes C.scene tools.now.names.now (player counter.old seat.old hand.old) number (asked tools.now.names.now line.now) (player counter.new seat.new (hand.new ++ held u.ticket))) }
+    ensures ok { OnOk result (Takes (setting C.goes C.scene tools.now.names.now)
+        (player counter.old seat.old hand.old) number (asked tools.now.names.now line.now)
+        (string_bytes text.new) (player counter.new seat.new hand.new)) }
+    ensures err { IfErr result (λ u. Begins (setting C.goes C.scene tools.now.names.now)
+        (player counter.old seat.old hand.old) number (asked tools.now.names.now line.now)
+        (with_ticket counter.new seat.new hand.new u.ticket)) }
     ensures wanted { IfErr result (λ u. IsWanted u.fault (asked tools.now.names.now line.now)) }
 {
     text.clear();
@@ -196,7 +215,9 @@ fn write_all<W: TextOut>(writer: &mut W, bytes: &[u8]) -> Result<(), StreamFault
     ensures failed { OnErr result (W.has_failed writer.new ≡ true) }
 
     // A part was written, and some is lost.
-    ensures part { OnErr result ((part : List ℕ) × (lost : List ℕ) × (part ++ lost ≡ bytes.now) × (0 < length lost) × Appends (W.contents writer.old) (W.contents writer.new) part) }
+    ensures part { OnErr result ((part : List ℕ) × (lost : List ℕ)
+        × (part ++ lost ≡ bytes.now) × (0 < length lost)
+        × Appends (W.contents writer.old) (W.contents writer.new) part) }
 {
     let mut rest = bytes;
     while !rest.is_empty() {

@@ -1,5 +1,5 @@
 // The commands: one table.
-ghost use Rattle.std.specs.Prelude.{◌≡◌, Some};
+ghost use Rattle.std.specs.Prelude.{◌≡◌};
 ghost use Rattle.std.specs.Str.{bytes_eq};
 ghost use Rattle.reh_types.specs.declared.moves.Event.TheVariants.{Roll, Copy, Swap};
 ghost use Rattle.reh_types.specs.declared.moves.Move.TheVariants.{Do};

@@ -4,16 +4,14 @@
 ghost use Rattle.std.specs.Prelude.{◌≡◌, false};
 
 mod faults;
+mod files;
 mod tasks;
 
 use clap::Error;
 use faults::{RunFault, after_flush, status_of, want_of_memory};
+use files::LateFile;
 use reh_crew::Plain;
-use reh_desk::Book;
-use reh_picture::read_picture;
-use reh_script::{FromRead, ToWrite, pipe, play_book, read};
-use reh_session::Session;
-use reh_types::MAX_PICTURE_BYTES;
+use reh_script::{FromRead, ToWrite, pipe};
 use std::io::{BufWriter, Write};
 use std::process::ExitCode;
 use std::{env, fs, io};
@@ -77,7 +75,7 @@ fn run(rt: &HostRuntime, task: Task<'_>) -> Result<(), RunFault> {
     after_flush(played, flushed)
 }
 
-/// Plays a script file on a picture file, by the one seat of a book. The picture is judged before the script is opened.
+/// Plays a script file on a picture file. The script is opened once the picture is accepted.
 fn run_files<W: Write>(
     rt: &HostRuntime,
     picture: &str,
@@ -86,26 +84,11 @@ fn run_files<W: Write>(
 ) -> Result<(), RunFault>
     requires { writer.old.has_failed ≡ false }
 {
-    let mut reader = FromRead::new(fs::open(rt, picture)?);
-    let picture = read(rt.alloc(), &mut reader, MAX_PICTURE_BYTES + 1)?;
-    if picture.failed {
-        return Err(RunFault::ReadFault);
+    let mut picture = FromRead::new(fs::open(rt, picture)?);
+    let mut script = LateFile::new(rt, script);
+    let played = reh_script::run(rt.alloc(), &Plain, &mut picture, &mut script, writer);
+    match script.into_unopened() {
+        Some(fault) => Err(fault),
+        None => played.map_err(RunFault::from),
     }
-    let state = read_picture(rt.alloc(), &picture.bytes)?;
-    let names = state.names().clone_in()?;
-    let (mut book, mut seat) = match Book::open(Session::open(rt.alloc(), state)?) {
-        Ok(opened) => opened,
-        Err((_, want)) => return Err(RunFault::from(want)),
-    };
-    let mut reader = FromRead::new(fs::open(rt, script)?);
-    play_book(
-        rt.alloc(),
-        &mut book,
-        &mut seat,
-        &names,
-        &Plain,
-        &mut reader,
-        writer,
-    )?;
-    Ok(())
 }

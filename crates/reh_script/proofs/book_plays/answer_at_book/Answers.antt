@@ -1,5 +1,5 @@
 use Rattle.reh_script.proofs.Transcripts.{played_book}
 use Rattle.reh_script.proofs.book_plays.answer_at_book.Goals as goal
 
-pub returns-clause-played : goal.returns-clause-played
-returns-clause-played g c = played_book _ _ _ _ _ _ _ _ _ (rw c.requires.empty at c.answer_script.ensures.played)
+pub returns-clause-transcribed : goal.returns-clause-transcribed
+returns-clause-transcribed g c = played_book _ _ _ _ _ _ _ _ (rw c.requires.empty at c.answer_script.ensures.played)

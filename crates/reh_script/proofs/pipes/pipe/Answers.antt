@@ -8,6 +8,9 @@ returns-in_err-input-clause-pipes g c = pipes_none _ _ _ _ _ c.from_residual.ens
 
 pub returns-clause-pipes : goal.returns-clause-pipes
 returns-clause-pipes g c =
-    subst (λ (f : Bool). Pipes c.transcribe.result f (g.R.TextIn.remaining c.args.reader.now) (g.R.TextIn.remaining c.read.new.reader) (g.W.TextOut.contents c.args.writer.now) (g.W.TextOut.contents c.transcribe.new.writer))
+    subst (λ (f : Bool). Pipes c.transcribe.result f (g.R.TextIn.remaining c.args.reader.now)
+    (g.R.TextIn.remaining c.read_text.new.reader) (g.W.TextOut.contents c.args.writer.now)
+    (g.W.TextOut.contents c.transcribe.new.writer))
     (sym c.in_ok-input.ensures.failed)
-    (pipes_all c.in_ok-input.input.failed c.in_ok-input.input.bytes.items _ _ _ _ _ c.in_ok-input.ensures.reads (rw c.deref.ensures.value at c.transcribe.ensures.piped))
+    (pipes_all c.in_ok-input.input.failed c.in_ok-input.input.bytes.items _ _ _ _ _ c.in_ok-input.ensures.reads
+    (rw c.deref.ensures.value at c.transcribe.ensures.piped))

@@ -7,7 +7,8 @@ use Rattle.reh_script.proofs.players.give_hand_back.Given as goal
 abbrev pub invariant-loop-finding : goal.invariant-loop-finding
 invariant-loop-finding g l = record {
   may : g.C.Counter.may l.counter l.seat;
-  rest : (last : g.row.C.Denot) (end : SeatView) → GivesBack g.C.Counter.goes l.counter l.seat l.hand last end → GivesBack g.C.Counter.goes l.fn.counter l.fn.seat l.fn.hand last end;
+  rest : (last : g.row.C.Denot) (end : SeatView) → GivesBack g.C.Counter.goes l.counter l.seat l.hand last end
+      → GivesBack g.C.Counter.goes l.fn.counter l.fn.seat l.fn.hand last end;
 }
 
 abbrev pub decreases-loop-finding : goal.decreases-loop-finding

@@ -1,5 +1,6 @@
 use Rattle.std.proofs.Common.{◌≡◌, ◌+◌, ◌≤◌, length, false}
 use Rattle.reh_script.specs.Lines.{lines_of}
+use Rattle.reh_script.specs.Players.{setting}
 use Rattle.reh_script.specs.Turns.{player}
 use Rattle.reh_script.proofs.Steps.{IsAt}
 use Rattle.reh_script.proofs.plays.answer_lines.Given as goal
@@ -8,7 +9,9 @@ use Rattle.reh_script.proofs.plays.answer_lines.Given as goal
 abbrev pub invariant-loop-rest : goal.invariant-loop-rest
 invariant-loop-rest g l = record {
   may : g.C.Counter.may l.counter l.seat;
-  at : IsAt g.C.Counter.goes g.C.Counter.scene l.fn.tools.names.now (lines_of l.fn.text) (lines_of l.rest) l.number (player l.fn.counter l.fn.seat l.fn.hand) (player l.counter l.seat l.hand) (g.W.TextOut.contents l.fn.writer) (g.W.TextOut.contents l.writer);
+  at : IsAt (setting g.C.Counter.goes g.C.Counter.scene l.fn.tools.names.now) (lines_of l.fn.text)
+      (lines_of l.rest) l.number (player l.fn.counter l.fn.seat l.fn.hand) (player l.counter l.seat l.hand)
+      (g.W.TextOut.contents l.fn.writer) (g.W.TextOut.contents l.writer);
   few : l.number + length l.rest ≤ length l.fn.text;
   fine : g.W.TextOut.has_failed l.writer ≡ false;
 }

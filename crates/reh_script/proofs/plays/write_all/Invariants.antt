@@ -5,7 +5,8 @@ use Rattle.reh_script.proofs.plays.write_all.Given as goal
 -- what was sent and what is left are all, and no call has failed
 abbrev pub invariant-loop-rest : goal.invariant-loop-rest
 invariant-loop-rest g l = record {
-  sent : (front : List ℕ) × (front ++ l.rest ≡ l.fn.bytes) × Appends (g.W.TextOut.contents l.fn.writer) (g.W.TextOut.contents l.writer) front;
+  sent : (front : List ℕ) × (front ++ l.rest ≡ l.fn.bytes)
+      × Appends (g.W.TextOut.contents l.fn.writer) (g.W.TextOut.contents l.writer) front;
   fine : g.W.TextOut.has_failed l.writer ≡ false;
 }
 

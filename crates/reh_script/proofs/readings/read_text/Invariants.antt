@@ -1,6 +1,6 @@
 use Rattle.std.proofs.Common.{◌≡◌, ◌+◌, ◌-◌, ◌≤◌, false, vec_len}
 use Rattle.std.specs.Io.KnownBytes.{Consumes}
-use Rattle.reh_script.proofs.readings.read.Given as goal
+use Rattle.reh_script.proofs.readings.read_text.Given as goal
 
 -- the bytes so far are what the reader gave, no call has failed, and each gave a byte
 abbrev pub invariant-loop-block : goal.invariant-loop-block

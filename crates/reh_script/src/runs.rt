@@ -1,0 +1,46 @@
+// From a picture and a script, each of its own reader, to the bytes of the transcript.
+ghost use Rattle.std.specs.Prelude.{◌≡◌, ◌+◌, ◌≤◌, false};
+ghost use Rattle.reh_script.specs.Pipes.{loses_output};
+ghost use Rattle.reh_script.specs.Runs.{Runs};
+
+use crate::book_plays::play_book;
+use crate::faults::PipeFault;
+use crate::openings::open_text;
+use crate::streams::{TextIn, TextOut};
+use reh_crew::Surveyor;
+use reh_types::{MAX_PICTURE_BYTES, MAX_SCRIPT_BYTES};
+use std::alloc::Global;
+
+/// Reads a picture, and then a script, and writes the transcript.
+///
+/// Where the picture is not accepted, the script's reader is left as it was.
+pub fn run<V: Surveyor, P: TextIn, R: TextIn, W: TextOut>(
+    alloc: Global,
+    surveyor: &V,
+    picture: &mut P,
+    script: &mut R,
+    writer: &mut W,
+) -> Result<(), PipeFault>
+    requires picture { P.has_failed picture.old ≡ false }
+    requires script { R.has_failed script.old ≡ false }
+    requires writes { W.has_failed writer.old ≡ false }
+    ensures runs { Runs result (script.new ≡ script.old)
+        (P.has_failed picture.new) (P.remaining picture.old) (P.remaining picture.new)
+        (R.has_failed script.new) (R.remaining script.old) (R.remaining script.new)
+        (W.contents writer.old) (W.contents writer.new) }
+    ensures write { W.has_failed writer.new ≡ loses_output result }
+    ensures picture_calls { P.calls picture.new ≤ P.calls picture.old + (MAX_PICTURE_BYTES + 1) }
+    ensures script_calls { R.calls script.new ≤ R.calls script.old + (MAX_SCRIPT_BYTES + 1) }
+{
+    let mut rehearsal = open_text(alloc, picture)?;
+    play_book(
+        alloc,
+        &mut rehearsal.book,
+        &mut rehearsal.seat,
+        &rehearsal.names,
+        surveyor,
+        script,
+        writer,
+    )?;
+    Ok(())
+}
