@@ -38,7 +38,7 @@ use Rattle.reh_model.proofs.ListLaws.{change_at-here}
 use Rattle.reh_model.proofs.RecoveryLaws.{IsHeld-readable, readable_before_end, has-recovered_copies, any-up_writes, IsRecovered-at}
 use Rattle.reh_model.proofs.TurnedLaws.{one_of-false}
 use Rattle.reh_model.proofs.EventLaws.{IsWellFormed-after}
-use Rattle.reh_model.proofs.ExchangeLaws.{delta_of_changes}
+use Rattle.reh_model.proofs.ExchangeLaws.{Differs, delta_of_changes}
 use Rattle.reh_model.proofs.DeltaLaws.{Stands, stands, part_differs}
 use Rattle.reh_scan.proofs.ReadingLaws.{write_set_within}
 use Rattle.reh_step.proofs.CopyLaws.{words-rising, words-there, words-differ, exchanged-words}
