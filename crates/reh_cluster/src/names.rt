@@ -1,5 +1,6 @@
 // The names of the bookies, in picture order.
-ghost use Rattle.std.specs.Prelude.{◌≡◌, ◌==◌, ◌<◌, ◌≤◌, [], ◌∷◌, ◌++◌, length, slice_get, option_map, IfOk, OnErr, if◌then◌else◌, not};
+ghost use Rattle.std.specs.Prelude.{◌≡◌, ◌==◌, ◌<◌, ◌≤◌, [], ◌∷◌, ◌++◌, length, slice_get, option_map, IfOk, OnErr};
+ghost use Rattle.std.specs.Prelude.{if◌then◌else◌, not};
 ghost use Rattle.std.specs.List.{list_any, IsDistinct};
 ghost use Rattle.std.specs.Str.{bytes_eq};
 ghost use Rattle.reh_types.specs.declared.limits.TheConstants.{MAX_BOOKIES};

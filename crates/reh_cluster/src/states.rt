@@ -23,7 +23,8 @@ use reh_types::{BookieIx, BookieSet, LedgerId, Scalars};
 use std::alloc::{AllocError, Global};
 use std::marker::Model;
 
-/// The cluster as it stands: names, registered bookies, ledgers in picture order with their tasks and locks, contents, clock and grace.
+/// The cluster as it stands: names, registered bookies, ledgers in picture order with their tasks and locks,
+/// contents, clock and grace.
 ///
 /// Each value is well-formed by its type; contracts see it as `Cluster` of the definitions.
 #[derive(Drop)]
@@ -48,7 +49,8 @@ impl Model for State {
 }
 
 impl State {
-    /// The state at clock 0 with these names, registered bookies, grace in ticks, ledgers in picture order with their ids, and contents.
+    /// The state at clock 0 with these names, registered bookies, grace in ticks, ledgers in picture order with their
+    /// ids, and contents.
     pub fn build(
         names: Names,
         up: BookieSet,
@@ -186,9 +188,9 @@ impl State {
         self.grace
     }
 
-    /// The turns after which the bookie holds these entries of the ledger too: for each word of 64 entries in which that
-    /// changes something, its number and the bits that change. The bookie has to be in the picture, and the entries have
-    /// to lie within the ledger's words.
+    /// The turns after which the bookie holds these entries of the ledger too: for each word of 64 entries in which
+    /// that changes something, its number and the bits that change. The bookie has to be in the picture, and the
+    /// entries have to lie within the ledger's words.
     pub fn delta_of(
         &self,
         alloc: Global,
@@ -208,8 +210,8 @@ impl State {
     }
 
     /// Swaps what the changes hold with what stands at their places: the state has what they held, and they hold what
-    /// brings it back. A word's bits turn, and are the same ones afterwards. The places have to be the state's, and what
-    /// comes of it has to be well-formed. It takes no memory.
+    /// brings it back. A word's bits turn, and are the same ones afterwards. The places have to be the state's, and
+    /// what comes of it has to be well-formed. It takes no memory.
     pub fn exchange(&mut self, changes: &mut Changes)
         requires { Fits self.old changes.old }
         ensures state { self.new ≡ exchanged self.old changes.old }

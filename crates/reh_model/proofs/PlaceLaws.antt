@@ -316,30 +316,30 @@ same_change n p (Registration b x) (Registration d y) at here there same =
 same_change n p (Metadata i x) (Metadata j y) at here there same =
     let place : i ≡ j = cc in
     let told : x ≡ y = same_part (λ g. g.metadata) (λ m g. record g { metadata = m }) (λ m g. refl) p.ledgers i x y here
-        (same ∙ ap
-        (λ k. option_map (λ (g : Ledger). g.metadata)
-        (slice_get (change_at p.ledgers k (λ g. record g { metadata = y })) i)) (sym place)) in
+    (same ∙ ap
+    (λ k. option_map (λ (g : Ledger). g.metadata)
+    (slice_get (change_at p.ledgers k (λ g. record g { metadata = y })) i)) (sym place)) in
     λ k. Metadata (place k) (told k)
 same_change n p (Task i x) (Task j y) at here there same =
     let place : i ≡ j = cc in
     let told : x ≡ y = same_part (λ g. g.task) (λ t g. record g { task = t }) (λ t g. refl) p.ledgers i x y here
-        (same ∙ ap
-        (λ k. option_map (λ (g : Ledger). g.task) (slice_get (change_at p.ledgers k (λ g. record g { task = y })) i))
-        (sym place)) in
+    (same ∙ ap
+    (λ k. option_map (λ (g : Ledger). g.task) (slice_get (change_at p.ledgers k (λ g. record g { task = y })) i))
+    (sym place)) in
     λ k. Task (place k) (told k)
 same_change n p (Lock i x) (Lock j y) at here there same =
     let place : i ≡ j = cc in
     let told : x ≡ y = same_part (λ g. g.lock) (λ o g. record g { lock = o }) (λ o g. refl) p.ledgers i x y here
-        (same ∙ ap
-        (λ k. option_map (λ (g : Ledger). g.lock) (slice_get (change_at p.ledgers k (λ g. record g { lock = y })) i))
-        (sym place)) in
+    (same ∙ ap
+    (λ k. option_map (λ (g : Ledger). g.lock) (slice_get (change_at p.ledgers k (λ g. record g { lock = y })) i))
+    (sym place)) in
     λ k. Lock (place k) (told k)
 same_change n p (Word b l k x) (Word c m o y) at here there same =
     let first : b ≡ c = cc in
     let second : l ≡ m = cc in
     let third : k ≡ o = cc in
     let told : x ≡ y = same_turn p.held b l k x y here.2 there.2 (λ e within.
-        same e within ∙ (λ i. has (turned p.held (sym first i) (sym second i) (sym third i) y) b l e)) in
+    same e within ∙ (λ i. has (turned p.held (sym first i) (sym second i) (sym third i) y) b l e)) in
     λ i. Word (first i) (second i) (third i) (told i)
 same_change n p (Scalar x) (Scalar y) at here there same =
     let number : number_of x ≡ number_of y = cc in

@@ -16,7 +16,7 @@ less-trans (l ∷ ls) [] ns h k = absurd h
 less-trans (l ∷ ls) (m ∷ ms) [] h k = absurd k
 less-trans (l ∷ ls) (m ∷ ms) (n ∷ ns) h k = elim h [
   | inl first ↦
-  elim k [ inl second ↦ inl (omega (arith, first, second)) | inr later ↦ inl (omega (arith, first, later.0)) ]
+      elim k [ inl second ↦ inl (omega (arith, first, second)) | inr later ↦ inl (omega (arith, first, later.0)) ]
   | inr first ↦ elim k [
     | inl second ↦ inl (omega (arith, first.0, second))
     | inr later ↦ inr (first.0 ∙ later.0, less-trans ls ms ns first.1 later.1)

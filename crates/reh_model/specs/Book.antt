@@ -1,5 +1,6 @@
 -- A book: a session for several seats, with tickets for scans, and a tape of calls and replies.
-use Rattle.std.specs.Prelude.{◌≡◌, ◌≢◌, ◌⊎◌, ℕ, ◌+◌, Bool, true, false, ◌&&◌, ◌==◌, nat_lt, IsTrue, if◌then◌else◌, List, [], ◌∷◌, ◌++◌, length, Option, None, Some, is_none, position, remove}
+use Rattle.std.specs.Prelude.{◌≡◌, ◌≢◌, ◌⊎◌, ℕ, ◌+◌, Bool, true, false, ◌&&◌, ◌==◌, nat_lt, IsTrue, if◌then◌else◌}
+use Rattle.std.specs.Prelude.{List, [], ◌∷◌, ◌++◌, length, Option, None, Some, is_none, position, remove}
 use Rattle.std.specs.List.{flat_map}
 use Rattle.std.specs.Option.{option_map_or}
 use Rattle.reh_types.specs.declared.limits.TheConstants.{MAX_LINES}
@@ -39,7 +40,8 @@ without t out = option_map_or (remove out) (ticket_place t out) out
 
 -- Books
 
--- a session, how many lines the tape has, the last ticket's number, and the tickets that are out, in the order of their numbers
+-- a session, how many lines the tape has, the last ticket's number, and the tickets that are out, in the order of
+-- their numbers
 pub record Book : Type 0 where
   pub session : Session
   pub lines : ℕ
@@ -68,13 +70,16 @@ or_refused (Some refusal) reply = Refused refusal
 -- the reply to a call of a seat
 abbrev pub answer_to : Book → ℕ → Call → Reply
 answer_to b seat (Ask move) = or_refused (tape_full b 1) (reply_to b.session move)
-answer_to b seat (Checkout aim) = or_refused (first_reason (tape_full b 2 ∷ aim_refusal (state_of b.session) aim ∷ [])) (Issued (b.last_ticket + 1))
-answer_to b seat (Spend number content) = or_refused (not_out b (ticket seat number content.aim)) (reply_to b.session (Post content))
+answer_to b seat (Checkout aim) =
+    or_refused (first_reason (tape_full b 2 ∷ aim_refusal (state_of b.session) aim ∷ [])) (Issued (b.last_ticket + 1))
+answer_to b seat (Spend number content) =
+    or_refused (not_out b (ticket seat number content.aim)) (reply_to b.session (Post content))
 answer_to b seat (Discard number aim) = or_refused (not_out b (ticket seat number aim)) Discarded
 
 -- What a call leaves
 
--- whether a call with this reply adds a line to the tape: not where the ticket is not out, the tape is full, or there is no memory
+-- whether a call with this reply adds a line to the tape: not where the ticket is not out, the tape is full, or there
+-- is no memory
 abbrev pub is_written : Reply → Bool
 is_written Done = true
 is_written (Clock clock) = true
@@ -90,27 +95,34 @@ abbrev pub with_ticket : Book → ℕ → Aim → Reply → Book
 with_ticket b seat aim (Issued number) = record b { last_ticket = number; out = b.out ++ ticket seat number aim ∷ [] }
 with_ticket b seat aim reply = b
 
--- what a call that adds a line changes besides: a move or a post the session, a checkout, a spend and a discard the tickets that are out
+-- what a call that adds a line changes besides: a move or a post the session, a checkout, a spend and a discard the
+-- tickets that are out
 abbrev pub changed : Book → ℕ → Call → Reply → Book
 changed b seat (Ask move) reply = record b { session = session_after b.session move reply }
 changed b seat (Checkout aim) reply = with_ticket b seat aim reply
-changed b seat (Spend number content) reply = record b { session = session_after b.session (Post content) reply; out = without (ticket seat number content.aim) b.out }
+changed b seat (Spend number content) reply = record b {
+  session = session_after b.session (Post content) reply;
+  out = without (ticket seat number content.aim) b.out;
+}
 changed b seat (Discard number aim) reply = record b { out = without (ticket seat number aim) b.out }
 
 -- the book after a call and its reply
 abbrev pub book_after : Book → ℕ → Call → Reply → Book
-book_after b seat call reply = if is_written reply then record (changed b seat call reply) { lines = b.lines + 1 } else b
+book_after b seat call reply =
+    if is_written reply then record (changed b seat call reply) { lines = b.lines + 1 } else b
 
 -- Answers
 
--- where want of memory may stand in place of the book's answer: not in place of a full tape; for a spend only in place of `Done`; for a discard never
+-- where want of memory may stand in place of the book's answer: not in place of a full tape; for a spend only in
+-- place of `Done`; for a discard never
 abbrev pub MayWantMemory : Call → Reply → Type 0
 MayWantMemory (Ask move) answer = answer ≢ Refused TapeFull
 MayWantMemory (Checkout aim) answer = answer ≢ Refused TapeFull
 MayWantMemory (Spend number content) answer = answer ≡ Done
 MayWantMemory (Discard number aim) answer = ⊥
 
--- From b a call of a seat has this reply, and leaves c: the book's answer, or want of memory where it may stand, which changes nothing.
+-- From b a call of a seat has this reply, and leaves c: the book's answer, or want of memory where it may stand,
+-- which changes nothing.
 abbrev pub Answers : Book → ℕ → Call → Reply → Book → Type 0
 Answers b seat call reply c =
     ((reply ≡ answer_to b seat call) ⊎ ((reply ≡ Refused NoMemory) × MayWantMemory call (answer_to b seat call)))
@@ -122,7 +134,8 @@ Answers b seat call reply c =
 abbrev pub Legal : Book → List Line → Book → Type 0
 Legal b [] c = c ≡ b
 Legal b (line ∷ lines) c =
-    (line.reply ≡ answer_to b line.seat line.call) × IsTrue (is_written line.reply) × Legal (book_after b line.seat line.call line.reply) lines c
+    (line.reply ≡ answer_to b line.seat line.call) × IsTrue (is_written line.reply)
+    × Legal (book_after b line.seat line.call line.reply) lines c
 
 -- the number of the ticket that a reply issues, if it issues one
 abbrev pub issued_by : Reply → List ℕ

@@ -11,7 +11,8 @@ use Rattle.reh_types.specs.Sets.{Set, numbers}
 use Rattle.reh_model.specs.Contents.{Contents, has}
 use Rattle.reh_model.specs.Metadata.{Metadata, Fragment, writes, stop_of, stripe_of}
 
--- a ledger: its metadata, how many words of 64 entries it has, the bookies that its task is to replace, if it has one, and the task's lock, if it is locked
+-- a ledger: its metadata, how many words of 64 entries it has, the bookies that its task is to replace, if it has
+-- one, and the task's lock, if it is locked
 pub record Ledger : Type 0 where
   pub id : ℕ
   pub metadata : Metadata
@@ -106,6 +107,7 @@ is_readable s g fragment entry = list_any (is_source s g.id entry) (writes g.met
 abbrev pub stop_at : Cluster → ℕ → ℕ → Option ℕ
 stop_at s l f = option_and_then (λ g. stop_of g.metadata f) (ledger_at s l)
 
--- the entries of a ledger that a fragment stripes onto the index, rising; none where there is no such ledger or fragment, or it has no stop
+-- the entries of a ledger that a fragment stripes onto the index, rising; none where there is no such ledger or
+-- fragment, or it has no stop
 abbrev pub stripe_at : Cluster → ℕ → ℕ → ℕ → List ℕ
 stripe_at s l f i = option_map_or (λ g. stripe_of g.metadata f i) (ledger_at s l) []

@@ -1,5 +1,6 @@
 -- The places of a cluster's parts; records of changes, and what exchanging a record makes of the parts and of it.
-use Rattle.std.specs.Prelude.{◌≡◌, ◌≢◌, ℕ, zero, suc, ◌<◌, ◌/◌, ◌^◌, Bool, true, false, List, [], ◌∷◌, All, map, length, slice_get, Option, ◌⊎◌}
+use Rattle.std.specs.Prelude.{◌≡◌, ◌≢◌, ℕ, zero, suc, ◌<◌, ◌/◌, ◌^◌, Bool, true, false, List, [], ◌∷◌, All, map}
+use Rattle.std.specs.Prelude.{length, slice_get, Option, ◌⊎◌}
 use Rattle.std.specs.Option.{option_map}
 use Rattle.reh_types.specs.declared.changes.Change as change
 use Rattle.reh_types.specs.declared.changes.Change.TheVariants.{Registration, Metadata, Task, Lock, Word, Scalar}

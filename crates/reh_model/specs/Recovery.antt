@@ -1,4 +1,5 @@
--- Where an open ledger's next entry would go, and where its recovery ends it: what BookKeeper's `LedgerRecoveryOp` reads and writes back, from the last fragment on.
+-- Where an open ledger's next entry would go, and where its recovery ends it: what BookKeeper's `LedgerRecoveryOp`
+-- reads and writes back, from the last fragment on.
 use Rattle.std.specs.Prelude.{ℕ, ◌+◌, max, Bool, not, ◌==◌, List, map, unwrap_or}
 use Rattle.std.specs.List.{filter, find, flat_map}
 use Rattle.std.specs.Option.{option_map_or}
@@ -8,7 +9,8 @@ use Rattle.reh_model.specs.Contents.{Contents, greatest_held}
 use Rattle.reh_model.specs.Metadata.{last_fragment, writes}
 use Rattle.reh_model.specs.Cluster.{Cluster, Ledger, is_up, is_readable, ledger_at}
 
--- the writer's next entry: one more than the greatest that any bookie holds, registered or not, and no less than the last fragment's first
+-- the writer's next entry: one more than the greatest that any bookie holds, registered or not, and no less than the
+-- last fragment's first
 abbrev pub next_entry : Cluster → Ledger → ℕ
 next_entry s g =
     let first = (last_fragment g.metadata).first in

@@ -1,10 +1,18 @@
 -- When each refusal applies, as a check that gives the refusal or none.
-use Rattle.std.specs.Prelude.{◌≡◌, ℕ, ◌+◌, ◌-◌, not, ◌&&◌, ◌||◌, ◌==◌, nat_lt, nat_le, List, [], ◌∷◌, length, Option, None, Some, is_none, unwrap_or, slice_get, slice_index, Result, MatchResult}
+use Rattle.std.specs.Prelude.{◌≡◌, ℕ, ◌+◌, ◌-◌, not, ◌&&◌, ◌||◌, ◌==◌, nat_lt, nat_le, List, [], ◌∷◌, length, Option}
+use Rattle.std.specs.Prelude.{None, Some, is_none, unwrap_or, slice_get, slice_index, Result, MatchResult}
 use Rattle.std.specs.List.{find, list_any}
 use Rattle.std.specs.Option.{option_map, option_and_then}
 use Rattle.reh_types.specs.declared.limits.TheConstants.{CLOCK_END, ENTRY_END, MAX_FRAGMENTS, MAX_TICKS, MAX_VERSION}
 use Rattle.reh_types.specs.declared.refusals.Refusal.{Refusal}
-use Rattle.reh_types.specs.declared.refusals.Refusal.TheVariants.{NoBookie, NoLedger, AlreadyDown, AlreadyUp, NothingToPublish, NoTask, Locked, NotOwner, StillUnder, NoLocks, NotOpen, NotNeeded, GraceSet, GraceRuns, NoGrace, BadTick, ClockEnd, NoFragment, NoIndex, MemberUp, TargetDown, TargetIsMember, NoEndpoint, Stale, NoSource, MissingEntry, Undecided, TooFew, NotRecovering, FragmentsFull, EntryEnd, VersionEnd, NoMemory}
+use Rattle.reh_types.specs.declared.refusals.Refusal.TheVariants.{NoBookie, NoLedger, AlreadyDown, AlreadyUp}
+use Rattle.reh_types.specs.declared.refusals.Refusal.TheVariants.{NothingToPublish, NoTask, Locked, NotOwner}
+use Rattle.reh_types.specs.declared.refusals.Refusal.TheVariants.{StillUnder, NoLocks, NotOpen, NotNeeded, GraceSet}
+use Rattle.reh_types.specs.declared.refusals.Refusal.TheVariants.{GraceRuns, NoGrace, BadTick, ClockEnd, NoFragment}
+use Rattle.reh_types.specs.declared.refusals.Refusal.TheVariants.{NoIndex, MemberUp, TargetDown, TargetIsMember}
+use Rattle.reh_types.specs.declared.refusals.Refusal.TheVariants.{NoEndpoint, Stale, NoSource, MissingEntry}
+use Rattle.reh_types.specs.declared.refusals.Refusal.TheVariants.{Undecided, TooFew, NotRecovering, FragmentsFull}
+use Rattle.reh_types.specs.declared.refusals.Refusal.TheVariants.{EntryEnd, VersionEnd, NoMemory}
 use Rattle.reh_model.specs.Metadata.{Fragment, is_open, is_in_recovery, stop_of, stripe_of}
 use Rattle.reh_model.specs.Cluster.{Cluster, Ledger, is_up, holds, is_readable, ledger_at, is_locked_by, due_of}
 use Rattle.reh_model.specs.Audit.{is_news, first_under, is_needed}
@@ -100,13 +108,17 @@ grace_runs s g = option_and_then (λ due. reason_if (nat_lt s.parts.scalars.cloc
 
 -- the least entry that a recovery passes with fewer registered members of its write set than the ack quorum
 abbrev pub too_few : Cluster → Ledger → Option Refusal
-too_few s g = option_map (λ e. TooFew e) (find (λ e. nat_lt (length (up_writes s g e)) g.metadata.ack_quorum) (recovered_entries s g))
+too_few s g =
+    option_map (λ e. TooFew e)
+    (find (λ e. nat_lt (length (up_writes s g e)) g.metadata.ack_quorum) (recovered_entries s g))
 
--- the members that lack the first entry that can't be read, and say so, are too few: those left could be an ack quorum of it
+-- the members that lack the first entry that can't be read, and say so, are too few: those left could be an ack
+-- quorum of it
 abbrev pub undecided : Cluster → Ledger → Option Refusal
 undecided s g =
     let end = recovered_end s g in
-    reason_if (nat_lt (length (up_writes s g end)) (g.metadata.write_quorum - g.metadata.ack_quorum + 1)) (Undecided end)
+    reason_if (nat_lt (length (up_writes s g end)) (g.metadata.write_quorum - g.metadata.ack_quorum + 1))
+    (Undecided end)
 
 -- Open ledgers: another ensemble
 
@@ -138,17 +150,23 @@ target_is_member fragment b = reason_if (list_any (λ member. member == b) fragm
 abbrev pub no_endpoint : Ledger → ℕ → Option Refusal
 no_endpoint g f = reason_if (is_none (stop_of g.metadata f)) NoEndpoint
 
--- why the bookie can't take that index of the fragment's ensemble: there is no such fragment or index, the member there is registered, the bookie is not, it is a member already, or the fragment has no stop
+-- why the bookie can't take that index of the fragment's ensemble: there is no such fragment or index, the member
+-- there is registered, the bookie is not, it is a member already, or the fragment has no stop
 abbrev pub no_place : Cluster → ℕ → Ledger → ℕ → ℕ → Option Refusal
-no_place s b g f i = at_fragment g f (λ fragment. no_index g i ∷ member_up s fragment i ∷ target_down s b ∷ target_is_member fragment b ∷ no_endpoint g f ∷ [])
+no_place s b g f i =
+    at_fragment g f (λ fragment. no_index g i ∷ member_up s fragment i ∷ target_down s b ∷ target_is_member fragment b
+    ∷ no_endpoint g f ∷ [])
 
 -- the least striped entry that can't be read
 abbrev pub no_source : Cluster → Ledger → ℕ → ℕ → Option Refusal
-no_source s g f i = at_fragment g f (λ fragment. option_map (λ e. NoSource e) (find (λ e. not (is_readable s g fragment e)) (stripe_of g.metadata f i)) ∷ [])
+no_source s g f i =
+    at_fragment g f (λ fragment.
+    option_map (λ e. NoSource e) (find (λ e. not (is_readable s g fragment e)) (stripe_of g.metadata f i)) ∷ [])
 
 -- the least striped entry that the bookie lacks
 abbrev pub missing_entry : Cluster → ℕ → Ledger → ℕ → ℕ → Option Refusal
-missing_entry s b g f i = option_map (λ e. MissingEntry e) (find (λ e. not (holds s b g.id e)) (stripe_of g.metadata f i))
+missing_entry s b g f i =
+    option_map (λ e. MissingEntry e) (find (λ e. not (holds s b g.id e)) (stripe_of g.metadata f i))
 
 abbrev pub version_end : Ledger → Option Refusal
 version_end g = reason_if (g.metadata.version == MAX_VERSION) VersionEnd

@@ -1,5 +1,6 @@
 -- A session: the surviving events over an opening cluster and the undone ones, its replies, and what moves make of it.
-use Rattle.std.specs.Prelude.{◌≡◌, ◌-◌, ◌==◌, Bool, true, false, IsTrue, nat_le, List, [], ◌∷◌, ◌++◌, length, take, drop, Option, None, Some, unwrap_or, Result, Ok, Err, ◌⊎◌}
+use Rattle.std.specs.Prelude.{◌≡◌, ◌-◌, ◌==◌, Bool, true, false, IsTrue, nat_le, List, [], ◌∷◌, ◌++◌, length, take}
+use Rattle.std.specs.Prelude.{drop, Option, None, Some, unwrap_or, Result, Ok, Err, ◌⊎◌}
 use Rattle.reh_types.specs.declared.limits.TheConstants.{MAX_EVENTS}
 use Rattle.reh_types.specs.declared.moves.Event.{Event}
 use Rattle.reh_types.specs.declared.moves.Move.{Move}
@@ -64,11 +65,13 @@ reply_to m Look = Clock (state_of m).parts.scalars.clock
 abbrev pub with_event : Session → Event → Session
 with_event m event = record m { done = m.done ++ event ∷ []; undone = [] }
 
--- what a move that is done makes of a session: an event, or the copy that a post stands for, is added; undo and redo move one event across
+-- what a move that is done makes of a session: an event, or the copy that a post stands for, is added; undo and redo
+-- move one event across
 abbrev pub moved_session : Session → Move → Session
 moved_session m (Do event) = with_event m event
 moved_session m (Post content) = with_event m (copy_of content)
-moved_session m Undo = record m { done = take (length m.done - 1) m.done; undone = drop (length m.done - 1) m.done ++ m.undone }
+moved_session m Undo =
+    record m { done = take (length m.done - 1) m.done; undone = drop (length m.done - 1) m.done ++ m.undone }
 moved_session m Redo = record m { done = m.done ++ take 1 m.undone; undone = drop 1 m.undone }
 moved_session m Look = m
 
@@ -92,7 +95,8 @@ takes_memory (Do event) = true
 takes_memory (Post content) = true
 takes_memory move = false
 
--- From m a move has this reply, and leaves n: as the machine says; or there is no memory for a move that takes some, only where the machine says done, and nothing changes.
+-- From m a move has this reply, and leaves n: as the machine says; or there is no memory for a move that takes some,
+-- only where the machine says done, and nothing changes.
 abbrev pub Performs : Session → Move → Reply → Session → Type 0
 Performs m move reply n =
     Answers m move reply n

@@ -3,19 +3,27 @@ use Rattle.std.specs.Prelude.{ℕ, ◌+◌, ◌-◌, if◌then◌else◌, List, 
 use Rattle.std.specs.Option.{option_map}
 use Rattle.reh_types.specs.declared.locks.Lock.{Lock}
 use Rattle.reh_types.specs.declared.moves.Event.{Event}
-use Rattle.reh_types.specs.declared.moves.Event.TheVariants.{Lose, Join, Audit, Acquire, Release, Finish, Expire, Grace, Tick, Roll, Fence, Seal, Copy, Swap}
+use Rattle.reh_types.specs.declared.moves.Event.TheVariants.{Lose, Join, Audit, Acquire, Release, Finish, Expire}
+use Rattle.reh_types.specs.declared.moves.Event.TheVariants.{Grace, Tick, Roll, Fence, Seal, Copy, Swap}
 use Rattle.reh_types.specs.declared.names.LedgerState.TheVariants.{InRecovery, Closed}
 use Rattle.reh_types.specs.declared.refusals.Refusal.{Refusal}
 use Rattle.reh_types.specs.Sets as set
 use Rattle.reh_model.specs.Contents.{copies_of}
-use Rattle.reh_model.specs.Metadata.{Metadata, last_fragment, with_member_at, with_fragment_at, with_state, next_version}
-use Rattle.reh_model.specs.Cluster.{Cluster, Ledger, change_ledger, is_locked_by, stripe_at, with_clock, with_held, with_ledgers, with_up}
+use Rattle.reh_model.specs.Metadata.{Metadata, last_fragment, with_member_at, with_fragment_at, with_state}
+use Rattle.reh_model.specs.Metadata.{next_version}
+use Rattle.reh_model.specs.Cluster.{Cluster, Ledger, change_ledger, is_locked_by, stripe_at, with_clock, with_held}
+use Rattle.reh_model.specs.Cluster.{with_ledgers, with_up}
 use Rattle.reh_model.specs.Audit.{audited_ledger}
 use Rattle.reh_model.specs.Recovery.{next_entry, is_rolling_over, recovered_end, recovered_at}
 use Rattle.reh_model.specs.Checks.{first_reason}
-use Rattle.reh_model.specs.Refusals.{at_ledger, no_bookie, already_down, already_up, nothing_to_publish, no_task, lock_held, not_owner, still_under, no_locks, bad_tick, clock_end, not_open, not_recovering, not_needed, grace_set, no_grace, grace_runs, too_few, undecided, no_index, member_up, target_down, target_is_member, fragments_full, entry_end, stale_version, no_place, no_source, missing_entry, version_end}
+use Rattle.reh_model.specs.Refusals.{at_ledger, no_bookie, already_down, already_up, nothing_to_publish, no_task}
+use Rattle.reh_model.specs.Refusals.{lock_held, not_owner, still_under, no_locks, bad_tick, clock_end, not_open}
+use Rattle.reh_model.specs.Refusals.{not_recovering, not_needed, grace_set, no_grace, grace_runs, too_few, undecided}
+use Rattle.reh_model.specs.Refusals.{no_index, member_up, target_down, target_is_member, fragments_full, entry_end}
+use Rattle.reh_model.specs.Refusals.{stale_version, no_place, no_source, missing_entry, version_end}
 
--- what a copy and a swap ask first: the worker holds the ledger's lock, the version is the stored one, and the worker's bookie can take the place
+-- what a copy and a swap ask first: the worker holds the ledger's lock, the version is the stored one, and the
+-- worker's bookie can take the place
 abbrev pub place_checks : Cluster → ℕ → ℕ → ℕ → ℕ → Ledger → List (Option Refusal)
 place_checks s w f i v g = not_owner w g ∷ stale_version g v ∷ no_place s w g f i ∷ []
 
@@ -31,11 +39,13 @@ swap_checks s w f i v g = place_checks s w f i v g ++ missing_entry s w g f i �
 abbrev pub grace_checks : Cluster → ℕ → Ledger → List (Option Refusal)
 grace_checks s w g = not_owner w g ∷ not_open g ∷ not_needed s g ∷ grace_set g ∷ []
 
--- the writer of an open ledger puts a registered bookie in the place of a member that is not, where there is a next entry, room for a fragment and a next version
+-- the writer of an open ledger puts a registered bookie in the place of a member that is not, where there is a next
+-- entry, room for a fragment and a next version
 abbrev pub roll_checks : Cluster → ℕ → ℕ → Ledger → List (Option Refusal)
 roll_checks s i b g =
     let last = last_fragment g.metadata in
-    not_open g ∷ no_index g i ∷ member_up s last i ∷ target_down s b ∷ target_is_member last b ∷ entry_end s g ∷ fragments_full s g ∷ version_end g ∷ []
+    not_open g ∷ no_index g i ∷ member_up s last i ∷ target_down s b ∷ target_is_member last b ∷ entry_end s g
+    ∷ fragments_full s g ∷ version_end g ∷ []
 
 -- a fence asks what a grace asks, but that the grace was granted and is over, and that there is a next version
 abbrev pub fence_checks : Cluster → ℕ → Ledger → List (Option Refusal)
@@ -52,7 +62,8 @@ refusal_of s (Join b) = first_reason (no_bookie s b ∷ already_up s b ∷ [])
 refusal_of s Audit = nothing_to_publish s
 refusal_of s (Acquire w l) = first_reason (no_bookie s w ∷ at_ledger s l (λ g. no_task g ∷ lock_held g ∷ []) ∷ [])
 refusal_of s (Release w l) = first_reason (no_bookie s w ∷ at_ledger s l (λ g. not_owner w g ∷ []) ∷ [])
-refusal_of s (Finish w l) = first_reason (no_bookie s w ∷ at_ledger s l (λ g. not_owner w g ∷ still_under s g ∷ []) ∷ [])
+refusal_of s (Finish w l) =
+    first_reason (no_bookie s w ∷ at_ledger s l (λ g. not_owner w g ∷ still_under s g ∷ []) ∷ [])
 refusal_of s (Expire w) = first_reason (no_bookie s w ∷ no_locks s w ∷ [])
 refusal_of s (Grace w l) = first_reason (no_bookie s w ∷ at_ledger s l (grace_checks s w) ∷ [])
 refusal_of s (Tick n) = first_reason (bad_tick n ∷ clock_end s n ∷ [])
@@ -90,11 +101,13 @@ with_due due g = record g { lock = option_map (timed_lock due) g.lock }
 abbrev pub graced_ledger : ℕ → Ledger → Ledger
 graced_ledger due g = with_due (Some due) g
 
--- the metadata with that bookie at an index of the last ensemble: in a new fragment from the next entry on, or in the last fragment itself while none of its entries is held
+-- the metadata with that bookie at an index of the last ensemble: in a new fragment from the next entry on, or in the
+-- last fragment itself while none of its entries is held
 abbrev pub rolled_metadata : Cluster → ℕ → ℕ → Ledger → Metadata
 rolled_metadata s i b g =
     let m = g.metadata in
-    if is_rolling_over s g then with_fragment_at m (next_entry s g) i b else with_member_at m (length m.fragments - 1) i b
+    if is_rolling_over s g then with_fragment_at m (next_entry s g) i b
+    else with_member_at m (length m.fragments - 1) i b
 
 -- a ledger at the next version, with that bookie in the last ensemble, and without a due tick
 abbrev pub rolled_ledger : Cluster → ℕ → ℕ → Ledger → Ledger

@@ -1,4 +1,5 @@
--- What can't be read any more: for each fragment, how many members are not registered, and how many entries nobody registered holds.
+-- What can't be read any more: for each fragment, how many members are not registered, and how many entries nobody
+-- registered holds.
 use Rattle.std.specs.Prelude.{ℕ, not, List, map, Option, slice_get, count_by}
 use Rattle.std.specs.List.{enumerate_from, flat_map}
 use Rattle.std.specs.Option.{option_and_then, option_map}
@@ -13,10 +14,13 @@ down_of s fragment = count_by (λ b. not (is_up s b)) fragment.ensemble
 
 -- how many entries of the ledger's fragment of that number can't be read, none where it has no stop
 abbrev pub lost_of : Cluster → Ledger → ℕ → Fragment → Option ℕ
-lost_of s g f fragment = option_map (λ stop. count_by (λ e. not (is_readable s g fragment e)) (range fragment.first stop)) (stop_of g.metadata f)
+lost_of s g f fragment =
+    option_map (λ stop. count_by (λ e. not (is_readable s g fragment e)) (range fragment.first stop))
+    (stop_of g.metadata f)
 
 abbrev pub line_of : Cluster → Ledger → ℕ → Fragment → SurveyLine
-line_of s g f fragment = record { ledger = g.id; fragment = f; down = down_of s fragment; lost = lost_of s g f fragment }
+line_of s g f fragment =
+    record { ledger = g.id; fragment = f; down = down_of s fragment; lost = lost_of s g f fragment }
 
 -- the line of the fragment of that number, if the ledger of that id has one
 abbrev pub line_at : Cluster → ℕ → ℕ → Option SurveyLine

@@ -9,7 +9,8 @@ use Rattle.reh_types.specs.declared.moves.Reply.TheVariants.{Done}
 use Rattle.reh_model.specs.Cluster.{Cluster, holds, stop_at, stripe_at}
 use Rattle.reh_model.specs.Session.{Session, state_of, session_after}
 
--- what a swap promises of a cluster: the fragment has a stop there, so that its entries are known, and the worker's bookie holds every entry that it stripes onto the index. Other events promise nothing.
+-- what a swap promises of a cluster: the fragment has a stop there, so that its entries are known, and the worker's
+-- bookie holds every entry that it stripes onto the index. Other events promise nothing.
 abbrev pub HoldsStripe : Cluster → Event → Type 0
 HoldsStripe s (Swap w l f i v) = IsSome (stop_at s l f) × All (λ e. holds s w l e ≡ true) (stripe_at s l f i)
 HoldsStripe s event = Unit {0}
@@ -21,7 +22,8 @@ IsSafe s move reply = Unit {0}
 
 -- so it is with each move of a run
 abbrev pub IsSafeRun : Session → List Move → List Reply → Type 0
-IsSafeRun m (move ∷ moves) (reply ∷ replies) = IsSafe (state_of m) move reply × IsSafeRun (session_after m move reply) moves replies
+IsSafeRun m (move ∷ moves) (reply ∷ replies) =
+    IsSafe (state_of m) move reply × IsSafeRun (session_after m move reply) moves replies
 IsSafeRun m moves replies = Unit {0}
 
 -- each swap among the surviving events keeps its promise in the present state

@@ -3,7 +3,8 @@ use Rattle.std.specs.Prelude.{◌≡◌, ℕ, true, ◌+◌, ◌*◌, ◌<◌, �
 use Rattle.std.specs.List.{IsDistinct}
 use Rattle.std.specs.Option.{ForSome, IsSome}
 use Rattle.std.specs.Str.{bytes_eq}
-use Rattle.reh_types.specs.declared.limits.TheConstants.{CLOCK_END, ENTRIES_IN_WORD, ENTRY_END, MAX_BOOKIES, MAX_GRACE, MAX_LEDGERS, MAX_LEDGER_ID, MAX_WORDS}
+use Rattle.reh_types.specs.declared.limits.TheConstants.{CLOCK_END, ENTRIES_IN_WORD, ENTRY_END, MAX_BOOKIES}
+use Rattle.reh_types.specs.declared.limits.TheConstants.{MAX_GRACE, MAX_LEDGERS, MAX_LEDGER_ID, MAX_WORDS}
 use Rattle.reh_types.specs.Sets as set
 use Rattle.reh_types.specs.Sets.{Set, numbers}
 use Rattle.reh_model.specs.Contents.{Contents}
@@ -16,7 +17,8 @@ pub record AreNames (names : List (List ℕ)) : Type 0 where
   pub few : length names ≤ MAX_BOOKIES
   pub different : IsDistinct bytes_eq names
 
--- a ledger among so many bookies, where no due tick is past the latest one: its metadata, which names these bookies, its words, its task and its lock
+-- a ledger among so many bookies, where no due tick is past the latest one: its metadata, which names these bookies,
+-- its words, its task and its lock
 pub record IsLedger (bookies latest : ℕ) (g : Ledger) : Type 0 where
   pub id : g.id ≤ MAX_LEDGER_ID
   pub metadata : IsMetadata g.metadata
@@ -33,7 +35,8 @@ pub record AreLedgers (bookies latest : ℕ) (ledgers : List Ledger) : Type 0 wh
 
 -- the bookie and the ledger are in the picture, and the entry lies within the ledger's words
 abbrev pub IsCopy : ℕ → List Ledger → ℕ × ℕ × ℕ → Type 0
-IsCopy bookies ledgers t = (t.0 < bookies) × IsSome (ledger_among ledgers t.1) × (t.2 < ENTRIES_IN_WORD * words_among ledgers t.1)
+IsCopy bookies ledgers t =
+    (t.0 < bookies) × IsSome (ledger_among ledgers t.1) × (t.2 < ENTRIES_IN_WORD * words_among ledgers t.1)
 
 pub record AreContents (bookies : ℕ) (ledgers : List Ledger) (held : Contents) : Type 0 where
   pub copies : All (IsCopy bookies ledgers) (set.items held)

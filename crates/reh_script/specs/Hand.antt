@@ -1,5 +1,6 @@
 -- The hand of a player: the findings that it holds, oldest first, and the calls that its commands make.
-use Rattle.std.specs.Prelude.{◌≡◌, ℕ, nat_le, if◌then◌else◌, List, [], ◌∷◌, ◌++◌, length, drop, Option, None, Some, IfSome}
+use Rattle.std.specs.Prelude.{◌≡◌, ℕ, nat_le, if◌then◌else◌, List, [], ◌∷◌, ◌++◌, length, drop, Option, None, Some}
+use Rattle.std.specs.Prelude.{IfSome}
 use Rattle.reh_types.specs.declared.calls.Call.{Call}
 use Rattle.reh_types.specs.declared.calls.Call.TheVariants as call
 use Rattle.reh_types.specs.declared.contents.Content.{Content}
@@ -27,7 +28,8 @@ abbrev pub of_oldest : (Numbered → Call) → List Numbered → Option Call
 of_oldest make [] = None
 of_oldest make (finding ∷ hand) = Some (make finding)
 
--- the call that a player with this hand makes for a command: none where the hand is full, or empty, or for what is shown
+-- the call that a player with this hand makes for a command: none where the hand is full, or empty, or for what is
+-- shown
 abbrev pub call_of : Command → List Numbered → Option Call
 call_of (Make move) hand = Some (call.Ask move)
 call_of (Checkout aim) hand = if nat_le MAX_HAND (length hand) then None else Some (call.Checkout aim)
@@ -51,7 +53,8 @@ hand_issued s aim (Issued number) hand = hand ++ found number (scan s aim)
 hand_issued s aim Discarded hand = hand
 hand_issued s aim (Refused refusal) hand = hand
 
--- the hand after a command's call at this state, and its reply: a spend and a discard take the oldest, but for a spend whose ticket was not out
+-- the hand after a command's call at this state, and its reply: a spend and a discard take the oldest, but for a
+-- spend whose ticket was not out
 abbrev pub hand_after : Cluster → Command → Reply → List Numbered → List Numbered
 hand_after s (Make move) reply hand = hand
 hand_after s (Checkout aim) reply hand = hand_issued s aim reply hand
@@ -66,7 +69,8 @@ abbrev pub HandIssued : Option Cluster → Aim → Reply → List Numbered → L
 HandIssued scene aim Done hand next = next ≡ hand
 HandIssued scene aim (Clock clock) hand next = next ≡ hand
 HandIssued scene aim (Issued number) hand next =
-    (content : Content) × (content.aim ≡ aim) × IfSome scene (λ s. scan s aim ≡ Some content) × (next ≡ hand ++ found number (Some content))
+    (content : Content) × (content.aim ≡ aim) × IfSome scene (λ s. scan s aim ≡ Some content)
+    × (next ≡ hand ++ found number (Some content))
 HandIssued scene aim Discarded hand next = next ≡ hand
 HandIssued scene aim (Refused refusal) hand next = next ≡ hand
 

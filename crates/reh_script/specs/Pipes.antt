@@ -23,12 +23,16 @@ pub record Rehearsal : Type 0 where
   pub stop : Option PlayFault
 
 abbrev pub rehearsal_by : Bool → Result Cluster PictureFault → List ℕ → Result Rehearsal PipeFault
-rehearsal_by failed (Ok state) script = Ok (record { state = state; lines = answered_lines failed script; stop = stop_of failed script })
+rehearsal_by failed (Ok state) script =
+    Ok (record { state = state; lines = answered_lines failed script; stop = stop_of failed script })
 rehearsal_by failed (Err fault) script = Err (Picture fault)
 
--- what an input is, behind which a read failed or none did: a rehearsal, or the fault that comes before any line. A picture is judged as soon as it is told.
+-- what an input is, behind which a read failed or none did: a rehearsal, or the fault that comes before any line. A
+-- picture is judged as soon as it is told.
 abbrev pub rehearsal_of : Bool → List ℕ → Result Rehearsal PipeFault
-rehearsal_of failed input = if is_told failed input then rehearsal_by failed (picture_of (cut_of input).picture) (cut_of input).script else Err (Play ReadFault)
+rehearsal_of failed input =
+    if is_told failed input then rehearsal_by failed (picture_of (cut_of input).picture) (cut_of input).script
+    else Err (Play ReadFault)
 
 -- a play's end as the pipe's
 abbrev pub piped : Result (Unit {0}) PlayFault → Result (Unit {0}) PipeFault
@@ -36,24 +40,29 @@ piped (Ok x) = Ok x
 piped (Err fault) = Err (Play fault)
 
 -- The pipe's end is that of a play of the rehearsal by the one seat of a new book.
-pub record EndsAsPlayed (rehearsal : Rehearsal) (result : Result (Unit {0}) PipeFault) (old new : Option (List ℕ)) : Type 0 where
+pub record EndsAsPlayed (rehearsal : Rehearsal) (result : Result (Unit {0}) PipeFault)
+    (old new : Option (List ℕ)) : Type 0 where
   pub end : Result (Unit {0}) PlayFault
   pub book : Book
   pub same : result ≡ piped end
-  pub played : IsTranscribed rehearsal.state.names 0 rehearsal.lines rehearsal.stop end (starting (new_book (opened_session rehearsal.state))) book old new
+  pub played : IsTranscribed rehearsal.state.names 0 rehearsal.lines rehearsal.stop end
+      (starting (new_book (opened_session rehearsal.state))) book old new
 
 -- There was no memory for the picture, the book or the hand, and nothing was written.
 abbrev pub LacksState : Result (Unit {0}) PipeFault → Option (List ℕ) → Option (List ℕ) → Type 0
 LacksState result old new = (result ≡ Err (Play NoMemory)) × Keeps old new
 
 -- How a pipe ends, given what its input is.
-abbrev pub IsPiped : Result Rehearsal PipeFault → Result (Unit {0}) PipeFault → Option (List ℕ) → Option (List ℕ) → Type 0
+abbrev pub IsPiped : Result Rehearsal PipeFault → Result (Unit {0}) PipeFault → Option (List ℕ) → Option (List ℕ)
+    → Type 0
 IsPiped (Ok rehearsal) result old new = EndsAsPlayed rehearsal result old new ⊎ LacksState result old new
-IsPiped (Err (Picture fault)) result old new = ((result ≡ Err (Picture fault)) × Keeps old new) ⊎ LacksState result old new
+IsPiped (Err (Picture fault)) result old new =
+    ((result ≡ Err (Picture fault)) × Keeps old new) ⊎ LacksState result old new
 IsPiped (Err (Play fault)) result old new = (result ≡ Err (Play fault)) × Keeps old new
 
 -- A pipe of the input that a reader gives, whose bytes to come were left_old and are left_new.
-pub record Pipes (result : Result (Unit {0}) PipeFault) (failed : Bool) (left_old left_new : Option (List ℕ)) (old new : Option (List ℕ)) : Type 0 where
+pub record Pipes (result : Result (Unit {0}) PipeFault) (failed : Bool)
+    (left_old left_new : Option (List ℕ)) (old new : Option (List ℕ)) : Type 0 where
   pub input : List ℕ
   pub given : Gives left_old left_new failed input
   pub ends : IsPiped (rehearsal_of failed input) result old new

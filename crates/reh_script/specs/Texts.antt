@@ -1,5 +1,6 @@
 -- What is printed: replies, and the report of a cluster.
-use Rattle.std.specs.Prelude.{ℕ, ◌-◌, ◌==◌, if◌then◌else◌, Bool, List, [], ◌∷◌, ◌++◌, map, Option, None, Some, unwrap_or, slice_get, filter, flat_map, codes}
+use Rattle.std.specs.Prelude.{ℕ, ◌-◌, ◌==◌, if◌then◌else◌, Bool, List, [], ◌∷◌, ◌++◌, map, Option, None, Some}
+use Rattle.std.specs.Prelude.{unwrap_or, slice_get, filter, flat_map, codes}
 use Rattle.std.specs.List.{enumerate_from}
 use Rattle.std.specs.Option.{option_map_or}
 use Rattle.std.specs.Fmt.{decimal}
@@ -52,7 +53,8 @@ registration up = if up then codes "up" else codes "down"
 
 -- a bookie's name, whether it is registered, and how many entries it holds
 abbrev pub bookie_line : Cluster → ℕ → List ℕ → List ℕ
-bookie_line s bookie name = spaced (codes "bookie" ∷ name ∷ registration (is_up s bookie) ∷ decimal (count_held s.parts.held bookie) ∷ [])
+bookie_line s bookie name =
+    spaced (codes "bookie" ∷ name ∷ registration (is_up s bookie) ∷ decimal (count_held s.parts.held bookie) ∷ [])
 
 -- the state of a ledger
 abbrev pub state_word : LedgerState → List ℕ
@@ -68,7 +70,8 @@ last_word (Closed end) = if end == 0 then codes "-1" else decimal (end - 1)
 
 abbrev pub ledger_line : ℕ → Metadata → List ℕ
 ledger_line id m =
-    spaced (codes "ledger" ∷ decimal id ∷ state_word m.state ∷ codes "version" ∷ decimal m.version ∷ codes "last" ∷ last_word m.state
+    spaced (codes "ledger" ∷ decimal id ∷ state_word m.state ∷ codes "version" ∷ decimal m.version ∷ codes "last"
+    ∷ last_word m.state
     ∷ codes "quorum" ∷ decimal m.size ∷ decimal m.write_quorum ∷ decimal m.ack_quorum ∷ [])
 
 -- where a fragment stops, if it does
@@ -79,14 +82,17 @@ stop_word (Some stop) = decimal stop
 -- a fragment by its number, where it stops, and its ensemble
 abbrev pub fragment_line : List (List ℕ) → ℕ → Fragment → Option ℕ → List ℕ
 fragment_line names number fragment stop =
-    spaced (codes "fragment" ∷ decimal number ∷ codes "first" ∷ decimal fragment.first ∷ codes "stop" ∷ stop_word stop ∷ map (name_of names) fragment.ensemble)
+    spaced (codes "fragment" ∷ decimal number ∷ codes "first" ∷ decimal fragment.first ∷ codes "stop" ∷ stop_word stop
+    ∷ map (name_of names) fragment.ensemble)
 
 abbrev pub fragment_lines : List (List ℕ) → Metadata → List (List ℕ)
-fragment_lines names m = map (λ place. fragment_line names place.0 place.1 (stop_of m place.0)) (enumerate_from 0 m.fragments)
+fragment_lines names m =
+    map (λ place. fragment_line names place.0 place.1 (stop_of m place.0)) (enumerate_from 0 m.fragments)
 
 -- the names of these bookies, in picture order
 abbrev pub names_in : List (List ℕ) → Set numbers → List (List ℕ)
-names_in names bookies = map (λ place. place.1) (filter (λ place. set.contains bookies place.0) (enumerate_from 0 names))
+names_in names bookies =
+    map (λ place. place.1) (filter (λ place. set.contains bookies place.0) (enumerate_from 0 names))
 
 -- the bookies that a task is to replace, if there is one
 abbrev pub task_lines : List (List ℕ) → Option (Set numbers) → List (List ℕ)
@@ -98,18 +104,25 @@ due_words (Some due) = codes "due" ∷ decimal due ∷ []
 
 -- who locks the task, if it is locked, and the due tick, if a grace runs
 abbrev pub lock_lines : List (List ℕ) → Option Lock → List (List ℕ)
-lock_lines names lock = option_map_or (λ lock. spaced (codes "lock" ∷ name_of names lock.owner ∷ due_words lock.due) ∷ []) lock []
+lock_lines names lock =
+    option_map_or (λ lock. spaced (codes "lock" ∷ name_of names lock.owner ∷ due_words lock.due) ∷ []) lock []
 
 -- a ledger, its fragments, its task and the task's lock
 abbrev pub ledger_lines : List (List ℕ) → Ledger → List (List ℕ)
-ledger_lines names g = ledger_line g.id g.metadata ∷ (fragment_lines names g.metadata ++ (task_lines names g.task ++ lock_lines names g.lock))
+ledger_lines names g =
+    ledger_line g.id g.metadata
+    ∷ (fragment_lines names g.metadata ++ (task_lines names g.task ++ lock_lines names g.lock))
 
 -- the clock, the bookies and the ledgers, in picture order
 abbrev pub report : Cluster → List (List ℕ)
-report s = clock_line s ∷ (map (λ place. bookie_line s place.0 place.1) (enumerate_from 0 s.names) ++ flat_map (ledger_lines s.names) s.parts.ledgers)
+report s =
+    clock_line s ∷ (map (λ place. bookie_line s place.0 place.1) (enumerate_from 0 s.names)
+    ++ flat_map (ledger_lines s.names) s.parts.ledgers)
 
 -- The survey
 
 -- how many members of a fragment are not registered, and how many of its entries can't be read
 abbrev pub survey_line_text : SurveyLine → List ℕ
-survey_line_text line = spaced (codes "ledger" ∷ decimal line.ledger ∷ codes "fragment" ∷ decimal line.fragment ∷ codes "down" ∷ decimal line.down ∷ codes "lost" ∷ option_map_or decimal line.lost (codes "-") ∷ [])
+survey_line_text line =
+    spaced (codes "ledger" ∷ decimal line.ledger ∷ codes "fragment" ∷ decimal line.fragment ∷ codes "down"
+    ∷ decimal line.down ∷ codes "lost" ∷ option_map_or decimal line.lost (codes "-") ∷ [])

@@ -54,7 +54,8 @@ pub(crate) fn push_answer<C: Counter>(
 
 /// Adds the number of a line, with the words around it.
 fn push_number(text: &mut String, number: usize) -> Result<(), AllocError>
-    ensures { OnOk result (string_bytes text.new ≡ string_bytes text.old ++ (codes "line " ++ (decimal number ++ codes ": "))) }
+    ensures { OnOk result (string_bytes text.new ≡ string_bytes text.old
+        ++ (codes "line " ++ (decimal number ++ codes ": "))) }
 {
     let mut digits = Buffer::new();
     text.push_str("line ")?;

@@ -58,7 +58,8 @@ impl Hand {
 
     /// Gives out the oldest finding.
     pub(crate) fn oldest(&mut self) -> Option<Finding>
-        ensures oldest { MatchOption result ((self.old ≡ []) × (self.new ≡ [])) (λ finding. self.old ≡ finding ∷ self.new) }
+        ensures oldest { MatchOption result ((self.old ≡ []) × (self.new ≡ [])) (λ finding. self.old ≡ finding
+            ∷ self.new) }
         ensures room { OnSome result (length self.new < MAX_HAND) }
     {
         self.findings.pop_front()

@@ -1,6 +1,8 @@
 // The input: a picture, a line `%` and a script.
-ghost use Rattle.std.specs.Prelude.{◌≡◌, ℕ, ◌==◌, ◌<◌, ◌≤◌, List, ◌∷◌, ◌++◌, length, take, count_by, position, option_map, IfSome};
-ghost use Rattle.reh_script.specs.Lines.{lines_of, cut_of, ended, is_told as tells_picture, after_end as follows_end, after_percent as follows_percent};
+ghost use Rattle.std.specs.Prelude.{◌≡◌, ℕ, ◌==◌, ◌<◌, ◌≤◌, List, ◌∷◌, ◌++◌, length, take, count_by, position};
+ghost use Rattle.std.specs.Prelude.{option_map, IfSome};
+ghost use Rattle.reh_script.specs.Lines.{lines_of, cut_of, ended, is_told as tells_picture, after_end as follows_end};
+ghost use Rattle.reh_script.specs.Lines.{after_percent as follows_percent};
 
 use reh_types::MAX_PICTURE_BYTES;
 
@@ -52,7 +54,8 @@ pub fn split_input(input: &[u8]) -> (&[u8], &[u8])
     (input, &input[input.len()..])
 }
 
-/// Whether an input tells its picture: no read failed behind it, or it is too long for a picture that a line `%` ends, or such a line ends in it.
+/// Whether an input tells its picture: no read failed behind it, or it is too long for a picture that a line `%`
+/// ends, or such a line ends in it.
 pub fn is_told(input: &[u8], failed: bool) -> bool
     ensures { result ≡ tells_picture failed input.now }
 {

@@ -12,7 +12,8 @@ fn piece_at(pieces: &[usize], call: u64) -> usize
     piece.max(1)
 }
 
-/// A reader of some bytes. Each call gives at most its piece of them, any number once the pieces are used up, and the call of the stated number, counted from 0, fails.
+/// A reader of some bytes. Each call gives at most its piece of them, any number once the pieces are used up, and the
+/// call of the stated number, counted from 0, fails.
 #[derive(Drop)]
 pub struct PiecesIn<'a> {
     rest: &'a [u8],
@@ -62,7 +63,8 @@ impl TextIn for PiecesIn<'_> {
     }
 }
 
-/// A writer into memory. Each call takes at most its piece of the bytes, any number once the pieces are used up, and the call of the stated number, counted from 0, fails. A call for no bytes isn't counted.
+/// A writer into memory. Each call takes at most its piece of the bytes, any number once the pieces are used up, and
+/// the call of the stated number, counted from 0, fails. A call for no bytes isn't counted.
 #[derive(Drop)]
 pub struct PiecesOut<'a> {
     /// What was written.

@@ -1,5 +1,6 @@
 // The report of a state.
-ghost use Rattle.std.specs.Prelude.{◌≡◌, ◌<◌, ◌++◌, ◌∷◌, [], IfOk, OnOk, string_bytes, codes, map, slice_get, flat_map, if◌then◌else◌};
+ghost use Rattle.std.specs.Prelude.{◌≡◌, ◌<◌, ◌++◌, ◌∷◌, [], IfOk, OnOk, string_bytes, codes, map, slice_get};
+ghost use Rattle.std.specs.Prelude.{flat_map, if◌then◌else◌};
 ghost use Rattle.std.specs.List.{enumerate_from};
 ghost use Rattle.std.specs.Option.{option_copied};
 ghost use Rattle.reh_types.specs.Sets as set;
@@ -34,7 +35,8 @@ pub(crate) fn push_report(text: &mut String, state: &State) -> Result<(), AllocE
 /// Adds the lines of all bookies.
 fn push_bookies(text: &mut String, state: &State) -> Result<(), AllocError>
     ensures { OnOk result (string_bytes text.new ≡ string_bytes text.old
-        ++ texts.text_of (map (λ place. texts.bookie_line state.now place.0 place.1) (enumerate_from 0 state.now.names))) }
+        ++ texts.text_of (map (λ place. texts.bookie_line state.now place.0 place.1)
+        (enumerate_from 0 state.now.names))) }
 {
     for i in 0..state.names().len() {
         push_bookie(text, state, i)?;
@@ -45,7 +47,8 @@ fn push_bookies(text: &mut String, state: &State) -> Result<(), AllocError>
 /// Adds the line of the i-th bookie, if there is one.
 fn push_bookie(text: &mut String, state: &State, i: usize) -> Result<(), AllocError>
     requires { i < MAX_BOOKIES }
-    ensures { OnOk result (string_bytes text.new ≡ string_bytes text.old ++ line_at state.now i (slice_get state.now.names i)) }
+    ensures { OnOk result (string_bytes text.new ≡ string_bytes text.old
+        ++ line_at state.now i (slice_get state.now.names i)) }
 {
     let bookie = BookieIx(i as u8);
     let Some(name) = state.names().name(bookie) else {
@@ -58,7 +61,8 @@ fn push_bookie(text: &mut String, state: &State, i: usize) -> Result<(), AllocEr
 
 /// Adds the lines of ledgers.
 fn push_ledgers(text: &mut String, names: &Names, ledgers: &[Ledger]) -> Result<(), AllocError>
-    ensures { OnOk result (string_bytes text.new ≡ string_bytes text.old ++ texts.text_of (flat_map (texts.ledger_lines names.now) ledgers.now)) }
+    ensures { OnOk result (string_bytes text.new ≡ string_bytes text.old
+        ++ texts.text_of (flat_map (texts.ledger_lines names.now) ledgers.now)) }
 {
     for ledger in ledgers {
         push_ledger(text, names, ledger)?;
@@ -68,7 +72,8 @@ fn push_ledgers(text: &mut String, names: &Names, ledgers: &[Ledger]) -> Result<
 
 /// Adds the lines of a ledger.
 fn push_ledger(text: &mut String, names: &Names, ledger: &Ledger) -> Result<(), AllocError>
-    ensures { OnOk result (string_bytes text.new ≡ string_bytes text.old ++ texts.text_of (texts.ledger_lines names.now ledger.now)) }
+    ensures { OnOk result (string_bytes text.new ≡ string_bytes text.old
+        ++ texts.text_of (texts.ledger_lines names.now ledger.now)) }
 {
     push_metadata(text, ledger.id(), ledger.metadata())?;
     push_fragments(text, names, ledger.metadata())?;
@@ -78,7 +83,8 @@ fn push_ledger(text: &mut String, names: &Names, ledger: &Ledger) -> Result<(), 
 
 /// Adds the line of a ledger's metadata.
 fn push_metadata(text: &mut String, id: LedgerId, metadata: &LedgerMeta) -> Result<(), AllocError>
-    ensures { OnOk result (string_bytes text.new ≡ string_bytes text.old ++ (texts.ledger_line id metadata.now ++ codes "\n")) }
+    ensures { OnOk result (string_bytes text.new ≡ string_bytes text.old
+        ++ (texts.ledger_line id metadata.now ++ codes "\n")) }
 {
     let state = state_word(metadata.state());
     write!(
@@ -121,7 +127,8 @@ fn push_last(text: &mut String, state: LedgerState) -> Result<(), AllocError>
 
 /// Adds the lines of a ledger's fragments.
 fn push_fragments(text: &mut String, names: &Names, metadata: &LedgerMeta) -> Result<(), AllocError>
-    ensures { OnOk result (string_bytes text.new ≡ string_bytes text.old ++ texts.text_of (texts.fragment_lines names.now metadata.now)) }
+    ensures { OnOk result (string_bytes text.new ≡ string_bytes text.old
+        ++ texts.text_of (texts.fragment_lines names.now metadata.now)) }
 {
     for (f, fragment) in metadata.fragments().iter().enumerate() {
         push_fragment(text, names, f, fragment, metadata.end_of(f))?;
@@ -137,7 +144,8 @@ fn push_fragment(
     fragment: &Fragment,
     stop: Option<u32>,
 ) -> Result<(), AllocError>
-    ensures { OnOk result (string_bytes text.new ≡ string_bytes text.old ++ (texts.fragment_line names.now number fragment.now stop ++ codes "\n")) }
+    ensures { OnOk result (string_bytes text.new ≡ string_bytes text.old
+        ++ (texts.fragment_line names.now number fragment.now stop ++ codes "\n")) }
 {
     write!(text, "fragment {number} first {} stop ", fragment.first)?;
     push_stop(text, stop)?;
@@ -157,7 +165,8 @@ fn push_stop(text: &mut String, stop: Option<u32>) -> Result<(), AllocError>
 
 /// Adds the names of bookies, each behind a space.
 fn push_names(text: &mut String, names: &Names, bookies: &[BookieIx]) -> Result<(), AllocError>
-    ensures { OnOk result (string_bytes text.new ≡ string_bytes text.old ++ texts.behind_spaces (map (texts.name_of names.now) bookies.now)) }
+    ensures { OnOk result (string_bytes text.new ≡ string_bytes text.old
+        ++ texts.behind_spaces (map (texts.name_of names.now) bookies.now)) }
 {
     for bookie in bookies {
         push_name(text, names, *bookie)?;
@@ -167,7 +176,8 @@ fn push_names(text: &mut String, names: &Names, bookies: &[BookieIx]) -> Result<
 
 /// Adds the line of a task, if there is one.
 fn push_task(text: &mut String, names: &Names, task: Option<&BookieSet>) -> Result<(), AllocError>
-    ensures { OnOk result (string_bytes text.new ≡ string_bytes text.old ++ texts.text_of (texts.task_lines names.now (option_copied task.entry))) }
+    ensures { OnOk result (string_bytes text.new ≡ string_bytes text.old
+        ++ texts.text_of (texts.task_lines names.now (option_copied task.entry))) }
 {
     let Some(bookies) = task else {
         return Ok(());
@@ -179,7 +189,8 @@ fn push_task(text: &mut String, names: &Names, task: Option<&BookieSet>) -> Resu
 
 /// Adds the names of a set's bookies in picture order, each behind a space.
 fn push_members(text: &mut String, names: &Names, bookies: &BookieSet) -> Result<(), AllocError>
-    ensures { OnOk result (string_bytes text.new ≡ string_bytes text.old ++ texts.behind_spaces (texts.names_in names.now bookies.now)) }
+    ensures { OnOk result (string_bytes text.new ≡ string_bytes text.old
+        ++ texts.behind_spaces (texts.names_in names.now bookies.now)) }
 {
     for i in 0..names.len() {
         push_member(text, names, bookies, i)?;
@@ -207,7 +218,8 @@ fn push_member(
 
 /// Adds the line of a task's lock, if there is one.
 fn push_lock(text: &mut String, names: &Names, lock: Option<Lock>) -> Result<(), AllocError>
-    ensures { OnOk result (string_bytes text.new ≡ string_bytes text.old ++ texts.text_of (texts.lock_lines names.now lock)) }
+    ensures { OnOk result (string_bytes text.new ≡ string_bytes text.old
+        ++ texts.text_of (texts.lock_lines names.now lock)) }
 {
     let Some(lock) = lock else {
         return Ok(());

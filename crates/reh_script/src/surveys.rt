@@ -7,7 +7,8 @@ use std::alloc::AllocError;
 
 /// Adds the lines of a survey.
 pub(crate) fn push_survey(text: &mut String, lines: &[SurveyLine]) -> Result<(), AllocError>
-    ensures { OnOk result (string_bytes text.new ≡ string_bytes text.old ++ texts.text_of (map texts.survey_line_text lines.now)) }
+    ensures { OnOk result (string_bytes text.new ≡ string_bytes text.old
+        ++ texts.text_of (map texts.survey_line_text lines.now)) }
 {
     for line in lines {
         push_line(text, line)?;
@@ -17,7 +18,8 @@ pub(crate) fn push_survey(text: &mut String, lines: &[SurveyLine]) -> Result<(),
 
 /// Adds one line.
 fn push_line(text: &mut String, line: &SurveyLine) -> Result<(), AllocError>
-    ensures { OnOk result (string_bytes text.new ≡ string_bytes text.old ++ (texts.survey_line_text line.now ++ codes "\n")) }
+    ensures { OnOk result (string_bytes text.new ≡ string_bytes text.old
+        ++ (texts.survey_line_text line.now ++ codes "\n")) }
 {
     write!(
         text,

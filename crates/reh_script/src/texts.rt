@@ -45,7 +45,8 @@ pub(crate) fn push_name(
     names: &Names,
     bookie: BookieIx,
 ) -> Result<(), AllocError>
-    ensures { OnOk result (string_bytes text.new ≡ string_bytes text.old ++ (codes " " ++ texts.name_of names.now bookie)) }
+    ensures { OnOk result (string_bytes text.new ≡ string_bytes text.old
+        ++ (codes " " ++ texts.name_of names.now bookie)) }
 {
     match names.name(bookie) {
         Some(name) => write!(text, " {name}"),

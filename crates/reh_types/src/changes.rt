@@ -30,7 +30,8 @@ pub enum Change<M> {
         place: usize,
         lock: Option<Lock>,
     },
-    /// The 64 entries of the ledger from 64 times the number on, as the bookie holds them: a bit for each that turns, the lowest for the first.
+    /// The 64 entries of the ledger from 64 times the number on, as the bookie holds them: a bit for each that turns,
+    /// the lowest for the first.
     Word {
         bookie: BookieIx,
         ledger: LedgerId,

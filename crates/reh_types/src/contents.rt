@@ -43,8 +43,8 @@ impl Members {
     }
 }
 
-/// For each entry that a fragment stripes onto an index, rising, a bookie from which it can be copied, or none; contracts
-/// see the list.
+/// For each entry that a fragment stripes onto an index, rising, a bookie from which it can be copied, or none;
+/// contracts see the list.
 #[derive(Drop)]
 pub struct Sources {
     items: Vec<Option<BookieIx>>,
@@ -82,8 +82,8 @@ impl Sources {
     }
 }
 
-/// What a worker found when it scanned the fragment of its aim: the metadata's version and the fragment as they were read,
-/// and a source, or none, for each striped entry.
+/// What a worker found when it scanned the fragment of its aim: the metadata's version and the fragment as they were
+/// read, and a source, or none, for each striped entry.
 #[derive(Drop)]
 pub struct Content {
     pub aim: Aim,

@@ -6,9 +6,11 @@ use Rattle.reh_script.specs.declared.faults.PipeFault.{PipeFault}
 use Rattle.reh_script.specs.declared.faults.PipeFault.TheVariants as pipe_fault
 use Rattle.rehearse.specs.declared.faults.RunFault.{RunFault}
 use Rattle.reh_script.specs.declared.streams.StreamFault.{StreamFault}
-use Rattle.rehearse.specs.declared.faults.RunFault.TheVariants.{Picture, ReadFault, TooLong, WriteFault, NoMemory, NoThread}
+use Rattle.rehearse.specs.declared.faults.RunFault.TheVariants.{Picture, ReadFault, TooLong, WriteFault, NoMemory}
+use Rattle.rehearse.specs.declared.faults.RunFault.TheVariants.{NoThread}
 
--- how a run ends once its answers were flushed: a failed flush is a write fault where answers were lost, and any other fault stays
+-- how a run ends once its answers were flushed: a failed flush is a write fault where answers were lost, and any
+-- other fault stays
 abbrev pub end_after_flush : Result (Unit {0}) RunFault → Result (Unit {0}) StreamFault → Result (Unit {0}) RunFault
 end_after_flush played (Ok flushed) = played
 end_after_flush (Ok played) (Err lost) = Err WriteFault
