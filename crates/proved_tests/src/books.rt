@@ -26,7 +26,13 @@ const LOSS: &[&str] = &["lose b2:3181", "audit", "acquire b4:3181 7"];
 
 /// Six bookies and one closed ledger, of which each member of the ensemble holds each entry.
 const SIX_BOOKIES: &str =
-    "{\"format\":1,\"grace\":0,\"bookies\":[{\"name\":\"b1:3181\",\"up\":true},{\"name\":\"b2:3181\",\"up\":true},{\"name\":\"b3:3181\",\"up\":true},{\"name\":\"b4:3181\",\"up\":true},{\"name\":\"b5:3181\",\"up\":true},{\"name\":\"b6:3181\",\"up\":true}],\"ledgers\":[{\"id\":7,\"state\":\"CLOSED\",\"lastEntryId\":5,\"ensembleSize\":3,\"writeQuorumSize\":3,\"ackQuorumSize\":2,\"version\":0,\"fragments\":[{\"firstEntry\":0,\"ensemble\":[\"b1:3181\",\"b2:3181\",\"b3:3181\"]}]}],\"contents\":[{\"bookie\":\"b1:3181\",\"ledger\":7,\"entries\":[[0,5]]},{\"bookie\":\"b2:3181\",\"ledger\":7,\"entries\":[[0,5]]},{\"bookie\":\"b3:3181\",\"ledger\":7,\"entries\":[[0,5]]}]}";
+    "{\"format\":1,\"grace\":0,\"bookies\":[{\"name\":\"b1:3181\",\"up\":true},{\"name\":\"b2:3181\",\
+     \"up\":true},{\"name\":\"b3:3181\",\"up\":true},{\"name\":\"b4:3181\",\"up\":true},{\"name\":\"b5:3181\",\
+     \"up\":true},{\"name\":\"b6:3181\",\"up\":true}],\"ledgers\":[{\"id\":7,\"state\":\"CLOSED\",\"lastEntryId\":5,\
+     \"ensembleSize\":3,\"writeQuorumSize\":3,\"ackQuorumSize\":2,\"version\":0,\"fragments\":[{\"firstEntry\":0,\
+     \"ensemble\":[\"b1:3181\",\"b2:3181\",\"b3:3181\"]}]}],\"contents\":[{\"bookie\":\"b1:3181\",\"ledger\":7,\
+     \"entries\":[[0,5]]},{\"bookie\":\"b2:3181\",\"ledger\":7,\"entries\":[[0,5]]},{\"bookie\":\"b3:3181\",\
+     \"ledger\":7,\"entries\":[[0,5]]}]}";
 
 /// Lines of a script, then a scan of an aim, and lines that come before what was found is spent.
 #[derive(Clone, Copy)]
@@ -139,7 +145,8 @@ fn play_round(rt: &impl Abort, alloc: Global, book: &mut Book, text: &mut String
     push(rt, text, reply);
 }
 
-/// What rounds at a new book reply and find, how many entries the fourth bookie holds then, and how many lines and tickets there are.
+/// What rounds at a new book reply and find, how many entries the fourth bookie holds then, and how many lines and
+/// tickets there are.
 fn played(
     rt: &impl Abort,
     alloc: Global,
@@ -178,7 +185,8 @@ fn a_spend_behind_a_swap_is_stale(rt: HostRuntime) {
     let text = played(&rt, rt.alloc(), FIVE_BOOKIES, &[round], &[]);
     assert_eq!(rt;
         text.as_str(),
-        "ok\nok\nok\nticket 1\nversion 0 first 0 stop 6 members 0 1 2 sources 0 2 0 2\nok\nok\nrefused 24 Stale 1\n4 held, 7 lines, 0 out\n"
+        "ok\nok\nok\nticket 1\nversion 0 first 0 stop 6 members 0 1 2 sources 0 2 0 2\nok\nok\nrefused 24 Stale 1\n\
+         4 held, 7 lines, 0 out\n"
     );
 }
 
@@ -217,7 +225,8 @@ fn a_version_is_not_enough(rt: HostRuntime) {
     let text = played(&rt, rt.alloc(), SIX_BOOKIES, &[round], &[]);
     assert_eq!(rt;
         text.as_str(),
-        "ok\nok\nok\nok\nok\nok\nok\nok\nticket 1\nversion 1 first 0 stop 6 members 0 3 2 sources 0 3 0 0 3 0\nok\nok\nok\nok\nok\nok\nok\nok\nok\nrefused 24 Stale 1\n6 held, 19 lines, 0 out\n"
+        "ok\nok\nok\nok\nok\nok\nok\nok\nticket 1\nversion 1 first 0 stop 6 members 0 3 2 sources 0 3 0 0 3 0\n\
+         ok\nok\nok\nok\nok\nok\nok\nok\nok\nrefused 24 Stale 1\n6 held, 19 lines, 0 out\n"
     );
 }
 
@@ -238,7 +247,8 @@ fn a_post_without_a_source_is_refused(rt: HostRuntime) -> Result<(), Fail> {
     let text = played(&rt, rt.alloc(), &picture, &[round], &[]);
     assert_eq!(rt;
         text.as_str(),
-        "ok\nok\nok\nrefused 25 NoSource 1\nticket 1\nversion 0 first 0 stop 6 members 0 1 2 sources 0 - 0 2\nrefused 25 NoSource 1\n0 held, 6 lines, 0 out\n"
+        "ok\nok\nok\nrefused 25 NoSource 1\nticket 1\nversion 0 first 0 stop 6 members 0 1 2 sources 0 - 0 2\n\
+         refused 25 NoSource 1\n0 held, 6 lines, 0 out\n"
     );
     Ok(())
 }
@@ -261,7 +271,9 @@ fn a_lost_source_is_told_by_its_entry(rt: HostRuntime) {
     let text = played(&rt, rt.alloc(), FIVE_BOOKIES, &rounds, &["undo", "redo"]);
     assert_eq!(rt;
         text.as_str(),
-        "ok\nok\nok\nticket 1\nversion 0 first 0 stop 6 members 0 1 2 sources 0 2 0 2\nok\nrefused 36 SourceGone 1\nok\nticket 2\nversion 0 first 0 stop 6 members 0 1 2 sources 0 2 0 2\nok\nok\nok\n4 held, 11 lines, 0 out\n"
+        "ok\nok\nok\nticket 1\nversion 0 first 0 stop 6 members 0 1 2 sources 0 2 0 2\nok\nrefused 36 SourceGone 1\n\
+         ok\nticket 2\nversion 0 first 0 stop 6 members 0 1 2 sources 0 2 0 2\nok\nok\nok\n\
+         4 held, 11 lines, 0 out\n"
     );
 }
 

@@ -119,7 +119,8 @@ fn goes_there_and_back(
     Ok(())
 }
 
-// The test is run with each request for memory refused in turn. It ends well where that is no event's: an undo and a redo make none.
+// The test is run with each request for memory refused in turn. It ends well where that is no event's: an undo and a
+// redo make none.
 #[test]
 fn want_of_memory_changes_nothing(rt: HostRuntime) {
     if let Ok(mut session) = opened(&rt, rt.alloc()) {

@@ -118,8 +118,8 @@ fn reads_in_any_pieces(rt: HostRuntime) -> Result<(), Fail> {
     Ok(())
 }
 
-/// What a play at a new book writes of a script, in these pieces and with a write of this number that fails, how it ends,
-/// and how many lines and tickets out the book has then.
+/// What a play at a new book writes of a script, in these pieces and with a write of this number that fails, how it
+/// ends, and how many lines and tickets out the book has then.
 fn played(
     alloc: Global,
     picture: &str,

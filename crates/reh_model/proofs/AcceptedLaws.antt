@@ -382,3 +382,8 @@ done_within m event accepted room =
     let few : nat_le MAX_EVENTS (length m.done) ≡ false = grind (arith, nat_tests) in
     ap (λ (o : Option Refusal). reply_unless (first_reason (o ∷ no_room m ∷ []))) accepted
     ∙ ap (λ (b : Bool). reply_unless (first_reason (reason_if b Full ∷ []))) few
+
+-- and refused where there is none
+pub full_refused : (m : Session) (event : Event) → refusal_of (state_of m) event ≡ None → nat_le MAX_EVENTS (length m.done) ≡ true → reply_to m (Do event) ≡ Refused Full
+full_refused m event accepted full =
+    ap (λ (o : Option Refusal). reply_unless (first_reason (o ∷ no_room m ∷ []))) accepted ∙ ap (λ (b : Bool). reply_unless (first_reason (reason_if b Full ∷ []))) full

@@ -26,7 +26,7 @@ use Rattle.reh_model.proofs.PlaceLaws.{contains-with_member-here}
 use Rattle.reh_model.proofs.ListLaws.{set-read, change_at-then, change_at-here, change_at-front, slice_get-here, slice_get-front}
 use Rattle.reh_model.proofs.AuditLaws.{audited_news, audited_same, news_differs}
 use Rattle.reh_model.proofs.AcceptedLaws.{IsRollable, IsFenceable, IsSealable, IsSwappable, accepted_lose, accepted_join, accepted_tick, accepted_free, accepted_owner, accepted_grace, accepted_roll, accepted_fence, accepted_seal}
-use Rattle.reh_model.proofs.WellFormedLaws.{IsLedgerOf, IsLedger-found, next_entry-within, IsSwappable-last, swappable-found}
+use Rattle.reh_model.proofs.WellFormedLaws.{IsLedgerOf, IsLedger-found, next_entry-within, swappable-found}
 use Rattle.reh_model.proofs.EventLaws.{IsWellFormed-after}
 use Rattle.reh_model.proofs.ExchangeLaws.{Differs, delta_of_changes}
 
@@ -223,10 +223,6 @@ pub rollable_there : (s : Cluster) (l i b k : ℕ) (g : Ledger) → IsWellFormed
 rollable_there s l i b k g was is read none =
     let found : ledger_at s l ≡ Some g = ledger_at-position s l k g was.ledgers.different is read in
     accepted_roll s l i b g found (next_entry-within s l g was found) (IsLedger-found s l g was found).metadata.version none
-
--- so the bookie can take its place in the last fragment
-pub rollable_last : (s : Cluster) (l i b k : ℕ) (g : Ledger) → IsWellFormed s → position (λ g. g.id == l) s.parts.ledgers ≡ Some k → g ≡ get_or s.parts.ledgers k g → refusal_of s (Roll l i b) ≡ None → IsSwappable s g b (length g.metadata.fragments - 1) i
-rollable_last s l i b k g was is read none = IsSwappable-last s g i b (IsLedger-found s l g was (ledger_at-position s l k g was.ledgers.different is read)) (rollable_there s l i b k g was is read none)
 
 -- what such a fence shows of it
 pub fenceable_there : (s : Cluster) (w l k : ℕ) (g : Ledger) → IsWellFormed s → position (λ g. g.id == l) s.parts.ledgers ≡ Some k → g ≡ get_or s.parts.ledgers k g → refusal_of s (Fence w l) ≡ None → IsFenceable s g w

@@ -2,12 +2,11 @@
 use Rattle.std.proofs.Common.{◌≡◌, ℕ, zero, suc, true, false, cond, List, [], ◌∷◌, map, Option, None, Some, refl, sym, ap, ◌∙◌, arith, nat_eq, is_some, get_or, set, ◌<◌, nat_lt}
 use Rattle.std.specs.Prelude.{◌==◌, ◌+◌, if◌then◌else◌, sum_by, length, position, slice_get}
 use Rattle.std.specs.List.{IsDistinct, AllByRecursion, find, position_or_len}
-use Rattle.std.specs.Option.{IsSome, option_map, option_map_or, option_and_then}
+use Rattle.std.specs.Option.{option_map, option_map_or, option_and_then}
 use Rattle.std.proofs.lemmas.Bool.Decides.{nat_tests}
 use Rattle.std.proofs.lemmas.List.Sums.{sum_by-cons}
 use Rattle.std.proofs.lemmas.List.Folds.{find_at}
 use Rattle.std.proofs.lemmas.List.Quantifiers.{position-Some}
-use Rattle.std.proofs.lemmas.Option.{slice_get_within}
 use Rattle.reh_model.specs.Metadata.{stop_of, stripe_of}
 use Rattle.reh_model.specs.Cluster.{Cluster, Ledger, ledger_among, ledger_at, words_among, stop_at, stripe_at, change_ledger, with_ledgers}
 
@@ -142,20 +141,7 @@ ledger_at-position s l k g distinct is stood =
 
 -- The place of an id
 
--- an id that a ledger has has a place,
-pub place-found : (l : ℕ) (gs : List Ledger) → IsSome (find (λ g. g.id == l) gs) → IsSome (position (λ g. g.id == l) gs)
-place-found l gs = has_place (find (λ g. g.id == l) gs) refl where
-  first : ℕ
-  first = position_or_len (λ g. g.id == l) gs
-
-  has_place : (o : Option Ledger) → find (λ g. g.id == l) gs ≡ o → IsSome o → IsSome (position (λ g. g.id == l) gs)
-  has_place None is none = cc
-  has_place (Some g) is some =
-      let within : first < length gs = slice_get_within gs first g (sym (find_at (λ g. g.id == l) gs) ∙ is) in
-      let there : nat_lt first (length gs) ≡ true = grind (arith, nat_tests) in
-      ap (λ b. is_some (cond b (Some first) None)) there
-
--- where the one that is found stands
+-- where the ledger of an id that is found stands
 pub found_there : (l k : ℕ) (gs : List Ledger) (g : Ledger) → position (λ g. g.id == l) gs ≡ Some k → find (λ g. g.id == l) gs ≡ Some g → slice_get gs k ≡ Some g
 found_there l k gs g is found =
     let first : ℕ = position_or_len (λ g. g.id == l) gs in

@@ -1,5 +1,5 @@
 -- Striped entries: they rise, which ones they are, and the stripe of a fragment.
-use Rattle.std.proofs.Common.{◌≡◌, ℕ, ◌+◌, ◌-◌, ◌<◌, ◌≤◌, true, ◌&&◌, nat_eq, nat_lt, nat_le, [], Option, None, Some, refl, sym, ap, ◌∙◌, arith}
+use Rattle.std.proofs.Common.{◌≡◌, ℕ, ◌+◌, ◌-◌, ◌<◌, ◌≤◌, true, ◌&&◌, nat_eq, nat_lt, nat_le, [], Option, Some, sym, ap, ◌∙◌, arith}
 use Rattle.std.specs.Prelude.{slice_get}
 use Rattle.std.specs.Option.{option_map_or}
 use Rattle.std.specs.List.{list_any}
@@ -11,8 +11,7 @@ use Rattle.std.proofs.lemmas.List.FromFn.{length-range_with_len, get_or-range_wi
 use Rattle.std.proofs.lemmas.List.Kept.{IsStrictlyIncreasing-filter}
 use Rattle.reh_types.proofs.BitLaws.{any_filtered}
 use Rattle.reh_model.specs.Striping.{range, is_striped, striped_entries}
-use Rattle.reh_model.specs.Metadata.{Metadata, Fragment, IsMetadata, stop_of, stripe_of}
-use Rattle.reh_model.proofs.StripingLaws.{striped_entries-outside}
+use Rattle.reh_model.specs.Metadata.{Metadata, Fragment, stop_of, stripe_of}
 use Rattle.reh_model.proofs.Ranges.{passes_any, any_passes, same_answer, list_any-same}
 
 -- the entries that an index carries rise
@@ -48,14 +47,3 @@ pub stripe_of-found : (m : Metadata) (f i stop : ℕ) (fragment : Fragment) → 
 stripe_of-found m f i stop fragment found ends =
     let up_to = λ (x : Fragment) (stop : Option ℕ). option_map_or (λ stop. striped_entries x.first stop i m.size m.write_quorum) stop [] in
     ap (λ (o : Option Fragment). option_map_or (λ x. up_to x (stop_of m f)) o []) found ∙ ap (up_to fragment) ends
-
--- no index beside the ensemble carries an entry of a fragment
-pub stripe_of-outside : (m : Metadata) (f i : ℕ) → IsMetadata m → m.size ≤ i → stripe_of m f i ≡ []
-stripe_of-outside m f i was outside = of_fragment (slice_get m.fragments f) where
-  of_stop : (fragment : Fragment) (stop : Option ℕ) → option_map_or (λ stop. striped_entries fragment.first stop i m.size m.write_quorum) stop [] ≡ []
-  of_stop fragment None = refl
-  of_stop fragment (Some stop) = striped_entries-outside (stop - fragment.first) fragment.first i m.size m.write_quorum was.writes_within outside
-
-  of_fragment : (o : Option Fragment) → option_map_or (λ fragment. option_map_or (λ stop. striped_entries fragment.first stop i m.size m.write_quorum) (stop_of m f) []) o [] ≡ []
-  of_fragment None = refl
-  of_fragment (Some fragment) = of_stop fragment (stop_of m f)

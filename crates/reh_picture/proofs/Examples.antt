@@ -4,7 +4,8 @@ use Rattle.std.specs.Str.{is_utf8, chars}
 use Rattle.serde_json.proofs.OnLiterals.{serde_json_on_literals}
 use Rattle.reh_types.specs.Sets as set
 use Rattle.reh_types.specs.declared.names.LedgerState.TheVariants.{Open, Closed}
-use Rattle.reh_model.specs.Cluster.{Cluster, Ledger, cluster_of}
+use Rattle.reh_model.specs.Cluster.{Cluster, Ledger, with_held, with_ledgers}
+use Rattle.reh_model.proofs.Examples.{clear_cluster}
 use Rattle.reh_model.specs.Contents.{Contents, copies_of}
 use Rattle.reh_model.specs.Metadata.{Fragment}
 use Rattle.reh_picture.specs.declared.fields.Field.TheVariants as field
@@ -96,8 +97,8 @@ contents =
 
 abbrev cluster : Cluster
 cluster =
-    cluster_of (codes "b1:3181" ∷ codes "b2:3181" ∷ codes "b3:3181" ∷ codes "b4:3181" ∷ codes "b5:3181" ∷ [])
-    (set.from_list (0 ∷ 1 ∷ 2 ∷ 3 ∷ 4 ∷ [])) 3 (closed_ledger ∷ open_ledger ∷ []) contents
+    let started = clear_cluster (codes "b1:3181" ∷ codes "b2:3181" ∷ codes "b3:3181" ∷ codes "b4:3181" ∷ codes "b5:3181" ∷ []) in
+    with_held (with_ledgers started (closed_ledger ∷ open_ledger ∷ [])) contents
 
 -- it is read
 reads : picture_of

@@ -8,7 +8,7 @@ mod sources;
 mod surveys;
 
 pub use jobs::{Job, look};
-pub use places::{aimed, check_bookie, check_member, check_place, find_ledger, find_owned};
-pub use posts::check;
+pub use places::{Found, aimed, check_bookie, check_member, check_place, find_ledger, find_owned};
+pub use posts::{check, find_posted};
 pub use sources::{Rows, first_unreadable, is_readable, source_rows};
 pub use surveys::{survey_line, survey_plain};

@@ -7,19 +7,27 @@ ghost use Rattle.reh_model.specs.Refusals as model;
 ghost use Rattle.reh_model.specs.Refusals.{Decides};
 ghost use Rattle.reh_model.specs.Checks.{first_reason};
 ghost use Rattle.reh_model.specs.Scan.{aim_refusal};
+ghost use Rattle.reh_scan.specs.Places.{IsFound};
 
 use reh_cluster::{Ledger, State};
 use reh_meta::Fragment;
 use reh_stripe::Striped;
 use reh_types::{Aim, BookieIx, LedgerId, Refusal};
 
+/// A ledger that was found, and the place at which it stands in the picture.
+#[derive(Clone, Copy)]
+pub struct Found<'a> {
+    pub place: usize,
+    pub ledger: &'a Ledger,
+}
+
 /// Whether a worker is given a ticket to scan the fragment of this aim, or else the first refusal that applies: it has
 /// to hold the ledger's lock, and its bookie to be able to take the place. It takes no memory.
 pub fn aimed(state: &State, aim: &Aim) -> Result<(), Refusal>
     ensures { Decides result (aim_refusal state.now aim.now) }
 {
-    let ledger = find_owned(state, aim.worker, aim.ledger)?;
-    check_place(state, ledger, aim)?;
+    let found = find_owned(state, aim.worker, aim.ledger)?;
+    check_place(state, found.ledger, aim)?;
     Ok(())
 }
 
@@ -35,31 +43,34 @@ pub fn check_bookie(state: &State, bookie: BookieIx) -> Result<(), Refusal>
 }
 
 /// The ledger of that id, if it is in the picture.
-pub fn find_ledger(state: &State, ledger: LedgerId) -> Result<&Ledger, Refusal>
+pub fn find_ledger(state: &State, ledger: LedgerId) -> Result<Found<'_>, Refusal>
     ensures { MatchResult result
-        (λ g. ledger_at state.now ledger ≡ Some g.now)
+        (λ found. IsFound state.now ledger found)
         (λ refusal. (ledger_at state.now ledger ≡ None) × (refusal ≡ Refusal.NoLedger)) }
 {
-    match state.ledger(ledger) {
-        Some(found) => Ok(found),
-        None => Err(Refusal::NoLedger),
-    }
+    let Some(place) = state.place(ledger) else {
+        return Err(Refusal::NoLedger);
+    };
+    Ok(Found {
+        place,
+        ledger: &state.ledgers()[place],
+    })
 }
 
 /// The ledger of that id, if the worker holds its lock.
-pub fn find_owned(state: &State, worker: BookieIx, ledger: LedgerId) -> Result<&Ledger, Refusal>
+pub fn find_owned(state: &State, worker: BookieIx, ledger: LedgerId) -> Result<Found<'_>, Refusal>
     ensures { MatchResult result
-        (λ g. (model.no_bookie state.now worker ≡ None)
-        × (ledger_at state.now ledger ≡ Some g.now)
-        × (model.not_owner worker g.now ≡ None))
+        (λ found. (model.no_bookie state.now worker ≡ None)
+        × IsFound state.now ledger found
+        × (model.not_owner worker found.ledger.now ≡ None))
         (λ refusal. first_reason (model.no_bookie state.now worker
         ∷ model.at_ledger state.now ledger (λ g. model.not_owner worker g ∷ [])
         ∷ []) ≡ Some refusal) }
 {
     check_bookie(state, worker)?;
-    let ledger = find_ledger(state, ledger)?;
-    check_owner(ledger, worker)?;
-    Ok(ledger)
+    let found = find_ledger(state, ledger)?;
+    check_owner(found.ledger, worker)?;
+    Ok(found)
 }
 
 /// Whether the worker holds the ledger's lock.

@@ -3,7 +3,8 @@ ghost use Rattle.std.specs.Prelude.{◌≡◌, ◌^◌, ◌<◌, ◌&&◌, ◌==
 ghost use Rattle.std.specs.Prelude.{MatchOption};
 ghost use Rattle.std.specs.List.{list_any, zip};
 ghost use Rattle.reh_model.specs.Checks.{first_reason};
-ghost use Rattle.reh_model.specs.Refusals.{Decides};
+ghost use Rattle.reh_model.specs.Cluster.{stripe_at};
+ghost use Rattle.reh_model.specs.Refusals.{Decides, Finds};
 ghost use Rattle.reh_model.specs.Scan as scan;
 ghost use Rattle.reh_model.specs.Scan.{is_as_seen, lost_source, post_refusal};
 ghost use Rattle.reh_model.specs.Striping as stripe;
@@ -24,14 +25,25 @@ use reh_types::{BookieIx, Content, Refusal};
 pub fn check(state: &State, content: &Content) -> Result<(), Refusal>
     ensures { Decides result (post_refusal state.now content.now) }
 {
-    let aim = &content.aim;
-    let ledger = find_owned(state, aim.worker, aim.ledger)?;
-    let Some(fragment) = find_seen(ledger.metadata(), content) else {
-        return Err(Refusal::Stale(ledger.metadata().version()));
-    };
-    check_member(state, ledger, fragment, aim.index, aim.worker)?;
-    check_sources(state, ledger, fragment, content)?;
+    find_posted(state, content)?;
     Ok(())
+}
+
+/// The entries that a post has copied, which the content's fragment stripes onto the index, if it can be posted.
+pub fn find_posted(state: &State, content: &Content) -> Result<Striped, Refusal>
+    ensures { Finds result (post_refusal state.now content.now)
+        (λ entries. entries
+        ≡ stripe_at state.now content.now.aim.ledger content.now.aim.fragment content.now.aim.index) }
+{
+    let aim = &content.aim;
+    let found = find_owned(state, aim.worker, aim.ledger)?;
+    let metadata = found.ledger.metadata();
+    let Some(fragment) = find_seen(metadata, content) else {
+        return Err(Refusal::Stale(metadata.version()));
+    };
+    check_member(state, found.ledger, fragment, aim.index, aim.worker)?;
+    check_sources(state, found.ledger, fragment, content)?;
+    Ok(entries_of(metadata, content))
 }
 
 /// The content's fragment, if the metadata is as the content saw it.

@@ -14,7 +14,8 @@ use Rattle.reh_types.specs.declared.names.LedgerState.{LedgerState}
 use Rattle.reh_types.specs.declared.names.LedgerState.TheVariants.{Open, InRecovery, Closed}
 use Rattle.reh_types.specs.Sets.{contains, insert, empty, from_list, items}
 use Rattle.reh_model.specs.Metadata.{Metadata, Fragment}
-use Rattle.reh_model.specs.Cluster.{Cluster, cluster_of, with_clock}
+use Rattle.reh_model.specs.Cluster.{Cluster, with_clock, with_held, with_ledgers, with_up}
+use Rattle.reh_model.proofs.Examples.{clear_cluster}
 use Rattle.reh_script.specs.Texts.{reply_text, report}
 
 -- two bookies
@@ -94,12 +95,14 @@ fragment first ensemble = record { first = first; ensemble = ensemble }
 
 -- ledgers in each state; one with a task that is locked, one with a task and a grace that runs
 abbrev worked : Cluster
-worked = with_clock (cluster_of (codes "b1" ∷ codes "b2" ∷ codes "b3" ∷ []) (from_list (0 ∷ 2 ∷ [])) 3
+worked =
+    let second_lost = with_up (clear_cluster (codes "b1" ∷ codes "b2" ∷ codes "b3" ∷ [])) (from_list (0 ∷ 2 ∷ [])) in
+    with_clock (with_held (with_ledgers second_lost
     (record { id = 7; metadata = metadata_of (Closed 6) 2 (fragment 0 (0 ∷ 1 ∷ []) ∷ fragment 4 (1 ∷ 2 ∷ []) ∷ []); words = 1; task = Some (from_list (1 ∷ [])); lock = Some (record { owner = 2; due = None }) }
     ∷ record { id = 0; metadata = metadata_of (Closed 0) 0 (fragment 0 (2 ∷ 0 ∷ []) ∷ []); words = 0; task = None; lock = None }
     ∷ record { id = 1_000_000_000_000; metadata = metadata_of Open 0 (fragment 0 (0 ∷ 1 ∷ []) ∷ []); words = 0; task = Some (from_list (2 ∷ 0 ∷ [])); lock = Some (record { owner = 0; due = Some 8 }) }
     ∷ record { id = 3; metadata = metadata_of InRecovery 1 (fragment 0 (0 ∷ 1 ∷ []) ∷ []); words = 1; task = Some (from_list (1 ∷ [])); lock = None }
-    ∷ [])
+    ∷ []))
     (from_list ((0, 7, 0) ∷ (1, 7, 0) ∷ (1, 7, 4) ∷ (1, 3, 0) ∷ []))) 5
 
 pub report_printed : report worked

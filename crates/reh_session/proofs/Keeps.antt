@@ -1,8 +1,9 @@
 -- Each move is answered as the machine says, and keeps what a session keeps.
 use Rattle.std.proofs.Common.{◌≡◌, ◌<◌, ◌≤◌, ◌+◌, ◌-◌, ℕ, zero, suc, List, [], ◌∷◌, ◌++◌, length, take, drop, get_or}
-use Rattle.std.proofs.Common.{set, sym, ap, subst, ◌∙◌, refl, arith, Option, Some, None, IsSome, is_some, inl}
-use Rattle.std.proofs.Common.{length-append}
+use Rattle.std.proofs.Common.{set, sym, ap, subst, ◌∙◌, refl, arith, Option, Some, None, IsSome, is_some, inl, inr}
+use Rattle.std.proofs.Common.{nat_le, true, false, length-append}
 use Rattle.std.specs.Prelude.{unwrap_or}
+use Rattle.std.proofs.lemmas.Bool.Decides.{nat_tests}
 use Rattle.std.proofs.lemmas.List.{take_more, drop_more, take_all, drop_all, take_more_set, take-set, drop-set}
 use Rattle.std.proofs.lemmas.List.{drop-set-lt, drop-drop, drop-take, take-take, take-append-drop, length-take-le}
 use Rattle.std.proofs.lemmas.List.{length-drop, length-set}
@@ -15,10 +16,11 @@ use Rattle.reh_types.specs.declared.moves.Move.TheVariants.{Do, Post, Undo, Redo
 use Rattle.reh_types.specs.declared.moves.Reply.{Reply}
 use Rattle.reh_types.specs.declared.moves.Reply.TheVariants.{Done, Clock, Refused}
 use Rattle.reh_types.specs.declared.refusals.Refusal.{Refusal}
-use Rattle.reh_types.specs.declared.refusals.Refusal.TheVariants.{NothingToUndo, NothingToRedo}
+use Rattle.reh_types.specs.declared.refusals.Refusal.TheVariants.{Full, NothingToUndo, NothingToRedo}
 use Rattle.reh_model.specs.Cluster.{Cluster}
 use Rattle.reh_model.specs.WellFormed.{IsWellFormed}
 use Rattle.reh_model.specs.Places.{Change, exchanged, left, Fits, IsDelta}
+use Rattle.reh_model.specs.Refusals.{or_no_memory}
 use Rattle.reh_model.specs.Scan.{post_refusal}
 use Rattle.reh_model.specs.Step.{refusal_of, after}
 use Rattle.reh_model.specs.Swaps.{AllSafe}
@@ -26,8 +28,9 @@ use Rattle.reh_model.specs.Session.{Session, replay, state_of, reply_to, moved_s
 use Rattle.reh_model.proofs.SessionLaws.{replay-append, reply_unless-some}
 use Rattle.reh_model.proofs.ExchangeLaws.{IsDelta-left}
 use Rattle.reh_model.proofs.SwapLaws.{CanRedoAll, CanRedoAll-performs, CanRedoAll-run, all_safe}
-use Rattle.reh_model.proofs.AcceptedLaws.{done_within, refused_first}
+use Rattle.reh_model.proofs.AcceptedLaws.{done_within, full_refused, refused_first}
 use Rattle.reh_model.proofs.PostLaws.{posted_first}
+use Rattle.reh_step.specs.Records.{IsRecordOf}
 use Rattle.reh_session.specs.Kept.{led_back, led_on, session_of, Trail, Ahead, IsKept}
 use Rattle.reh_session.proofs.Trails.{led_back-trail, replay-trail, replay-trail-first, replay-ahead}
 use Rattle.reh_session.proofs.Trails.{replay-ahead-first, trail_more, trail_less, IsLast}
@@ -84,6 +87,17 @@ module _ {s : Cluster} {es : List Event} {rs : List (List Change)} {k : ℕ} (h 
     pub accepted_inside : (e : Event) → refusal_of (state_of m) e ≡ None → refusal_of s e ≡ None
     accepted_inside e accepted = ap (λ (x : Cluster). refusal_of x e) (sym state_is) ∙ accepted
 
+    -- so is its record
+    pub record_now : (e : Event) (r : List Change) → IsRecordOf s e r → IsRecordOf (state_of m) e r
+    record_now e r = subst (λ (x : Cluster). IsRecordOf x e r) (sym state_is)
+
+    pub record_inside : (e : Event) (r : List Change) → IsRecordOf (state_of m) e r → IsRecordOf s e r
+    record_inside e r = subst (λ (x : Cluster). IsRecordOf x e r) state_is
+
+    -- and the room
+    pub count_now : length m.done ≡ k
+    count_now = ap (λ (n : Session). length n.done) (sym is) ∙ length-take-le k es h.within
+
     -- so is a content
     pub content_accepted : (content : Content) → post_refusal s content ≡ None
         → post_refusal (state_of m) content ≡ None
@@ -102,10 +116,23 @@ module _ {s : Cluster} {es : List Event} {rs : List (List Change)} {k : ℕ} (h 
 
     -- else an event is done, where there is room for it
     pub act_done : (e : Event) → refusal_of s e ≡ None → k < MAX_EVENTS → reply_to m (Do e) ≡ Done
-    act_done e accepted room =
-        let few : length m.done < MAX_EVENTS =
-        omega (arith, length-take-le k es h.within, ap (λ (n : Session). length n.done) is) in
-        done_within m e (accepted_now e accepted) few
+    act_done e accepted room = done_within m e (accepted_now e accepted) (omega (arith, count_now))
+
+    -- and refused, where there is none
+    pub act_full : (e : Event) → refusal_of s e ≡ None → nat_le MAX_EVENTS (length m.done) ≡ true
+        → Performs m (Do e) (Refused Full) m
+    act_full e accepted full = inl (sym (full_refused m e (accepted_now e accepted) full), refl)
+
+    -- where there is no record of it, it is refused, or memory is wanted
+    pub act_unmade : (e : Event) (r : Refusal) → nat_le MAX_EVENTS (length m.done) ≡ false
+        → r ≡ or_no_memory (refusal_of s e) → Performs m (Do e) (Refused r) m
+    act_unmade e r room tells =
+        elim (refusal_of s e) as (λ o. refusal_of s e ≡ o → r ≡ or_no_memory o → Performs m (Do e) (Refused r) m) [
+          | None ↦ λ accepted wants.
+              let few : k < MAX_EVENTS = grind (arith, nat_tests, room, count_now) in
+              inr (refl, ap Refused wants, act_done e accepted few, refl)
+          | Some refusal ↦ λ refused same. act_refused e r (refused ∙ ap Some (sym same))
+        ] refl tells
 
     -- a look shows the state's clock
     pub look_answers : (clock : ℕ) → clock ≡ s.parts.scalars.clock → Performs m Look (Clock clock) m

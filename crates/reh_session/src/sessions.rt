@@ -1,12 +1,13 @@
 // Sessions, which can undo and redo.
-ghost use Rattle.std.specs.Prelude.{◌≡◌, ℕ, All, ◌+◌, ◌<◌, ◌≤◌, ◌∷◌, [], ◌++◌, length, take, drop, Some, IsSome, IfOk};
-ghost use Rattle.std.specs.Prelude.{OnErr, OnOk, vec_capacity};
+ghost use Rattle.std.specs.Prelude.{◌≡◌, ℕ, nat_le, All, ◌+◌, ◌<◌, ◌≤◌, ◌∷◌, [], ◌++◌, length, take, drop, Some};
+ghost use Rattle.std.specs.Prelude.{IsSome, IfOk, OnErr, OnOk, vec_capacity};
 ghost use Rattle.reh_types.specs.declared.limits.TheConstants.{MAX_EVENTS};
 ghost use Rattle.std.specs.Result.{IsOkAnd};
 ghost use Rattle.reh_model.specs.Session.{replay as replayed};
 
 use reh_cluster::{Changes, State};
-use reh_step::{changes_of, check};
+use reh_scan::find_posted;
+use reh_step::{check, copy_record, decide};
 use reh_types::{Content, Event, MAX_EVENTS, Move, Refusal, Reply};
 use std::alloc::{AllocError, Global};
 use std::marker::Model;
@@ -41,6 +42,7 @@ impl Session {
     ghost use Rattle.reh_model.specs.Step.{refusal_of};
     ghost use Rattle.reh_model.specs.Swaps.{HoldsStripe, IsSafe, IsSafeRun, AllSafe};
     ghost use Rattle.reh_session.specs.Kept.{led_back, led_on, Trail, Ahead};
+    ghost use Rattle.reh_step.specs.Records.{IsRecordOf};
 
     /// A session on this state, with no event. It takes no memory and cannot fail.
     pub fn open(alloc: Global, state: State) -> Result<Session, AllocError>
@@ -113,8 +115,12 @@ impl Session {
         ensures safe { IsSafe (state_of self.old) (Do event.now) (reply_of result) }
         ensures lasting { AllSafe self.new }
     {
-        check(&self.state, event)?;
-        self.make(*event)
+        if self.is_full() {
+            check(&self.state, event)?;
+            return Err(Refusal::Full);
+        }
+        let changes = decide(self.allocator(), &self.state, event)?;
+        self.make(*event, changes)
     }
 
     /// Posts what a worker found, unless it is refused: by the refusals of a post first, then by `Full`, and then for
@@ -124,27 +130,37 @@ impl Session {
         ensures answers { Performs self.old (Post content.now) (reply_of result) self.new }
         ensures lasting { AllSafe self.new }
     {
-        reh_scan::check(&self.state, content)?;
+        let entries = find_posted(&self.state, content)?;
+        if self.is_full() {
+            return Err(Refusal::Full);
+        }
         let aim = content.aim;
-        self.make(Event::Copy {
+        let version = content.version;
+        let changes = copy_record(self.allocator(), &self.state, &aim, version, entries)?;
+        let copy = Event::Copy {
             worker: aim.worker,
             ledger: aim.ledger,
             fragment: aim.fragment,
             index: aim.index,
-            version: content.version,
-        })
+            version,
+        };
+        self.make(copy, changes)
     }
 
-    /// Makes an event that is accepted, where there is room for it.
-    fn make(&mut self, event: Event) -> Result<(), Refusal>
-        requires { refusal_of (state_of self.old) event ≡ None }
+    /// Whether as many events survive as there can be.
+    fn is_full(&self) -> bool
+        ensures { result ≡ nat_le MAX_EVENTS (length self.now.done) }
+    {
+        self.done().len() >= MAX_EVENTS
+    }
+
+    /// Makes an event that is accepted by its record. There has to be room for it.
+    fn make(&mut self, event: Event, mut changes: Changes) -> Result<(), Refusal>
+        requires accepted { refusal_of (state_of self.old) event ≡ None }
+        requires record_of { IsRecordOf (state_of self.old) event changes }
+        requires room { length self.old.done < MAX_EVENTS }
         ensures { Performs self.old (Do event) (reply_of result) self.new }
     {
-        if self.cursor >= MAX_EVENTS {
-            return Err(Refusal::Full);
-        }
-        let alloc = *self.events.allocator();
-        let mut changes = changes_of(alloc, &self.state, &event)?;
         reserve_next(&mut self.events, self.cursor)?;
         reserve_next(&mut self.records, self.cursor)?;
         self.state.exchange(&mut changes);

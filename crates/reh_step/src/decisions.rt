@@ -1,22 +1,25 @@
-// When an event is refused: one function for each event, over checks that they share.
-ghost use Rattle.std.specs.Prelude.{◌≡◌, [], ◌∷◌, length, None, Some, MatchResult, not, slice_get};
-ghost use Rattle.reh_types.specs.declared.moves.Event.TheVariants.{Lose, Join, Audit, Acquire, Release, Finish, Expire, Grace, Tick, Roll, Fence, Seal, Copy, Swap};
+// When an event is refused, and what is found where it isn't: one function for each event, over checks that they share.
+ghost use Rattle.std.specs.Prelude.{◌≡◌, [], ◌∷◌, None, Some, MatchResult, not};
+ghost use Rattle.reh_types.specs.declared.moves.Event.TheVariants.{Lose, Join, Audit, Acquire, Release, Finish, Expire};
+ghost use Rattle.reh_types.specs.declared.moves.Event.TheVariants.{Grace, Tick, Roll, Fence, Seal, Copy, Swap};
 ghost use Rattle.std.specs.List.{find, list_any};
-ghost use Rattle.reh_model.specs.Metadata.{stripe_of};
 ghost use Rattle.reh_model.specs.Cluster as cluster;
-ghost use Rattle.reh_model.specs.Cluster.{ledger_at, is_locked_by};
+ghost use Rattle.reh_model.specs.Cluster.{is_locked_by, stripe_at};
 ghost use Rattle.reh_model.specs.Refusals as model;
-ghost use Rattle.reh_model.specs.Refusals.{Decides};
+ghost use Rattle.reh_model.specs.Refusals.{Decides, Finds};
 ghost use Rattle.reh_model.specs.Checks.{first_reason};
 ghost use Rattle.reh_model.specs.Step.{refusal_of, place_checks};
+ghost use Rattle.reh_model.specs.Recovery as recovery;
+ghost use Rattle.reh_scan.specs.Places.{IsFound};
+ghost use Rattle.reh_step.specs.Places.{IsPlace};
 
-use crate::recoveries::{check_answers, last_fragment, next_entry};
+use crate::recoveries::{find_end, last_fragment, next_entry};
 use reh_audit::{has_news, is_under, under_of};
 use reh_cluster::{Ledger, State};
 use reh_held::is_set;
 use reh_meta::Fragment;
 use reh_scan::{
-    check_bookie, check_member, check_place, find_ledger, find_owned, first_unreadable,
+    Found, check_bookie, check_member, check_place, find_ledger, find_owned, first_unreadable,
 };
 use reh_stripe::Striped;
 use reh_types::{
@@ -26,27 +29,25 @@ use reh_types::{
 
 /// Whether the event is accepted, or else the first refusal that applies. It takes no memory.
 pub fn check(state: &State, event: &Event) -> Result<(), Refusal>
-    ensures { MatchResult result
-        (λ _. refusal_of state.now event.now ≡ None)
-        (λ refusal. refusal_of state.now event.now ≡ Some refusal) }
+    ensures { Decides result (refusal_of state.now event.now) }
 {
     match event {
         Event::Lose { bookie } => check_lose(state, *bookie),
         Event::Join { bookie } => check_join(state, *bookie),
         Event::Audit => check_audit(state),
-        Event::Acquire { worker, ledger } => check_acquire(state, *worker, *ledger),
-        Event::Release { worker, ledger } => check_release(state, *worker, *ledger),
-        Event::Finish { worker, ledger } => check_finish(state, *worker, *ledger),
+        Event::Acquire { worker, ledger } => check_acquire(state, *worker, *ledger).map(|_| ()),
+        Event::Release { worker, ledger } => check_release(state, *worker, *ledger).map(|_| ()),
+        Event::Finish { worker, ledger } => check_finish(state, *worker, *ledger).map(|_| ()),
         Event::Expire { worker } => check_expire(state, *worker),
-        Event::Grace { worker, ledger } => check_grace(state, *worker, *ledger),
+        Event::Grace { worker, ledger } => check_grace(state, *worker, *ledger).map(|_| ()),
         Event::Tick { ticks } => check_tick(state, *ticks),
         Event::Roll {
             ledger,
             index,
             bookie,
-        } => check_roll(state, *ledger, *index, *bookie),
-        Event::Fence { worker, ledger } => check_fence(state, *worker, *ledger),
-        Event::Seal { worker, ledger } => check_seal(state, *worker, *ledger),
+        } => check_roll(state, *ledger, *index, *bookie).map(|_| ()),
+        Event::Fence { worker, ledger } => check_fence(state, *worker, *ledger).map(|_| ()),
+        Event::Seal { worker, ledger } => check_seal(state, *worker, *ledger).map(|_| ()),
         Event::Copy {
             worker,
             ledger,
@@ -57,7 +58,8 @@ pub fn check(state: &State, event: &Event) -> Result<(), Refusal>
             state,
             &aim_of(*worker, *ledger, *fragment, *index),
             *version,
-        ),
+        )
+        .map(|_| ()),
         Event::Swap {
             worker,
             ledger,
@@ -68,13 +70,14 @@ pub fn check(state: &State, event: &Event) -> Result<(), Refusal>
             state,
             &aim_of(*worker, *ledger, *fragment, *index),
             *version,
-        ),
+        )
+        .map(|_| ()),
     }
 }
 
 // Events
 
-fn check_lose(state: &State, bookie: BookieIx) -> Result<(), Refusal>
+pub(crate) fn check_lose(state: &State, bookie: BookieIx) -> Result<(), Refusal>
     ensures { Decides result (refusal_of state.now (Lose bookie)) }
 {
     check_bookie(state, bookie)?;
@@ -84,7 +87,7 @@ fn check_lose(state: &State, bookie: BookieIx) -> Result<(), Refusal>
     Ok(())
 }
 
-fn check_join(state: &State, bookie: BookieIx) -> Result<(), Refusal>
+pub(crate) fn check_join(state: &State, bookie: BookieIx) -> Result<(), Refusal>
     ensures { Decides result (refusal_of state.now (Join bookie)) }
 {
     check_bookie(state, bookie)?;
@@ -94,7 +97,7 @@ fn check_join(state: &State, bookie: BookieIx) -> Result<(), Refusal>
     Ok(())
 }
 
-fn check_audit(state: &State) -> Result<(), Refusal>
+pub(crate) fn check_audit(state: &State) -> Result<(), Refusal>
     ensures { Decides result (refusal_of state.now Audit) }
 {
     if !has_news(state) {
@@ -103,38 +106,49 @@ fn check_audit(state: &State) -> Result<(), Refusal>
     Ok(())
 }
 
-fn check_acquire(state: &State, worker: BookieIx, ledger: LedgerId) -> Result<(), Refusal>
-    ensures { Decides result (refusal_of state.now (Acquire worker ledger)) }
+pub(crate) fn check_acquire(
+    state: &State,
+    worker: BookieIx,
+    ledger: LedgerId,
+) -> Result<Found<'_>, Refusal>
+    ensures { Finds result (refusal_of state.now (Acquire worker ledger)) (IsFound state.now ledger) }
 {
     check_bookie(state, worker)?;
-    let ledger = find_ledger(state, ledger)?;
-    if ledger.task().is_none() {
+    let found = find_ledger(state, ledger)?;
+    if found.ledger.task().is_none() {
         return Err(Refusal::NoTask);
     }
-    if let Some(lock) = ledger.lock() {
+    if let Some(lock) = found.ledger.lock() {
         return Err(Refusal::Locked(lock.owner));
     }
-    Ok(())
+    Ok(found)
 }
 
-fn check_release(state: &State, worker: BookieIx, ledger: LedgerId) -> Result<(), Refusal>
-    ensures { Decides result (refusal_of state.now (Release worker ledger)) }
+pub(crate) fn check_release(
+    state: &State,
+    worker: BookieIx,
+    ledger: LedgerId,
+) -> Result<Found<'_>, Refusal>
+    ensures { Finds result (refusal_of state.now (Release worker ledger)) (IsFound state.now ledger) }
 {
-    find_owned(state, worker, ledger)?;
-    Ok(())
+    find_owned(state, worker, ledger)
 }
 
-fn check_finish(state: &State, worker: BookieIx, ledger: LedgerId) -> Result<(), Refusal>
-    ensures { Decides result (refusal_of state.now (Finish worker ledger)) }
+pub(crate) fn check_finish(
+    state: &State,
+    worker: BookieIx,
+    ledger: LedgerId,
+) -> Result<Found<'_>, Refusal>
+    ensures { Finds result (refusal_of state.now (Finish worker ledger)) (IsFound state.now ledger) }
 {
-    let ledger = find_owned(state, worker, ledger)?;
-    if let Some(fragment) = under_of(state, ledger) {
+    let found = find_owned(state, worker, ledger)?;
+    if let Some(fragment) = under_of(state, found.ledger) {
         return Err(Refusal::StillUnder(fragment));
     }
-    Ok(())
+    Ok(found)
 }
 
-fn check_expire(state: &State, worker: BookieIx) -> Result<(), Refusal>
+pub(crate) fn check_expire(state: &State, worker: BookieIx) -> Result<(), Refusal>
     ensures { Decides result (refusal_of state.now (Expire worker)) }
 {
     check_bookie(state, worker)?;
@@ -144,19 +158,23 @@ fn check_expire(state: &State, worker: BookieIx) -> Result<(), Refusal>
     Ok(())
 }
 
-fn check_grace(state: &State, worker: BookieIx, ledger: LedgerId) -> Result<(), Refusal>
-    ensures { Decides result (refusal_of state.now (Grace worker ledger)) }
+pub(crate) fn check_grace(
+    state: &State,
+    worker: BookieIx,
+    ledger: LedgerId,
+) -> Result<Found<'_>, Refusal>
+    ensures { Finds result (refusal_of state.now (Grace worker ledger)) (IsFound state.now ledger) }
 {
-    let ledger = find_owned(state, worker, ledger)?;
-    check_open(ledger)?;
-    check_needed(state, ledger)?;
-    if let Some(due) = due_of(ledger) {
+    let found = find_owned(state, worker, ledger)?;
+    check_open(found.ledger)?;
+    check_needed(state, found.ledger)?;
+    if let Some(due) = due_of(found.ledger) {
         return Err(Refusal::GraceSet(due));
     }
-    Ok(())
+    Ok(found)
 }
 
-fn check_tick(state: &State, ticks: u64) -> Result<(), Refusal>
+pub(crate) fn check_tick(state: &State, ticks: u64) -> Result<(), Refusal>
     ensures { Decides result (refusal_of state.now (Tick ticks)) }
 {
     if ticks == 0 || ticks > MAX_TICKS {
@@ -168,63 +186,99 @@ fn check_tick(state: &State, ticks: u64) -> Result<(), Refusal>
     Ok(())
 }
 
-fn check_roll(state: &State, ledger: LedgerId, index: u64, bookie: BookieIx) -> Result<(), Refusal>
-    ensures { Decides result (refusal_of state.now (Roll ledger index bookie)) }
+/// Gives the writer's next entry, too.
+pub(crate) fn check_roll(
+    state: &State,
+    ledger: LedgerId,
+    index: u64,
+    bookie: BookieIx,
+) -> Result<(Found<'_>, u32), Refusal>
+    ensures { Finds result (refusal_of state.now (Roll ledger index bookie))
+        (λ (found, next). IsFound state.now ledger found × (next ≡ recovery.next_entry state.now found.ledger.now)) }
 {
     check_bookie(state, bookie)?;
-    let ledger = find_ledger(state, ledger)?;
-    check_open(ledger)?;
-    check_member(state, ledger, last_fragment(ledger), index, bookie)?;
-    check_room(state, ledger)?;
-    check_next_version(ledger)
+    let found = find_ledger(state, ledger)?;
+    check_open(found.ledger)?;
+    check_member(
+        state,
+        found.ledger,
+        last_fragment(found.ledger),
+        index,
+        bookie,
+    )?;
+    let next = find_room(state, found.ledger)?;
+    check_next_version(found.ledger)?;
+    Ok((found, next))
 }
 
-fn check_fence(state: &State, worker: BookieIx, ledger: LedgerId) -> Result<(), Refusal>
-    ensures { Decides result (refusal_of state.now (Fence worker ledger)) }
+pub(crate) fn check_fence(
+    state: &State,
+    worker: BookieIx,
+    ledger: LedgerId,
+) -> Result<Found<'_>, Refusal>
+    ensures { Finds result (refusal_of state.now (Fence worker ledger)) (IsFound state.now ledger) }
 {
-    let ledger = find_owned(state, worker, ledger)?;
-    check_open(ledger)?;
-    check_needed(state, ledger)?;
-    let Some(due) = due_of(ledger) else {
+    let found = find_owned(state, worker, ledger)?;
+    check_open(found.ledger)?;
+    check_needed(state, found.ledger)?;
+    let Some(due) = due_of(found.ledger) else {
         return Err(Refusal::NoGrace);
     };
     if state.clock() < due {
         return Err(Refusal::GraceRuns(due));
     }
-    check_next_version(ledger)
+    check_next_version(found.ledger)?;
+    Ok(found)
 }
 
-fn check_seal(state: &State, worker: BookieIx, ledger: LedgerId) -> Result<(), Refusal>
-    ensures { Decides result (refusal_of state.now (Seal worker ledger)) }
+/// Gives where the recovery ends the ledger, too.
+pub(crate) fn check_seal(
+    state: &State,
+    worker: BookieIx,
+    ledger: LedgerId,
+) -> Result<(Found<'_>, u32), Refusal>
+    ensures { Finds result (refusal_of state.now (Seal worker ledger))
+        (λ (found, end). IsFound state.now ledger found × (end ≡ recovery.recovered_end state.now found.ledger.now)) }
 {
-    let ledger = find_owned(state, worker, ledger)?;
-    if ledger.metadata().state() != LedgerState::InRecovery {
+    let found = find_owned(state, worker, ledger)?;
+    if found.ledger.metadata().state() != LedgerState::InRecovery {
         return Err(Refusal::NotRecovering);
     }
-    check_answers(state, ledger)?;
-    check_next_version(ledger)
+    let end = find_end(state, found.ledger)?;
+    check_next_version(found.ledger)?;
+    Ok((found, end))
 }
 
-fn check_copy(state: &State, aim: &Aim, version: u64) -> Result<(), Refusal>
-    ensures { Decides result (refusal_of state.now
-        (Copy aim.now.worker aim.now.ledger aim.now.fragment aim.now.index version)) }
+/// Gives the entries to copy.
+pub(crate) fn check_copy(state: &State, aim: &Aim, version: u64) -> Result<Striped, Refusal>
+    ensures { Finds result (refusal_of state.now
+        (Copy aim.now.worker aim.now.ledger aim.now.fragment aim.now.index version))
+        (λ entries. entries ≡ stripe_at state.now aim.now.ledger aim.now.fragment aim.now.index) }
 {
-    let (ledger, fragment, stripe) = find_place(state, aim, version)?;
-    if let Some(entry) = first_unreadable(state, ledger, fragment, stripe) {
+    let place = find_place(state, aim, version)?;
+    let entries = place.entries.duplicate();
+    if let Some(entry) = first_unreadable(state, place.found.ledger, place.fragment, entries) {
         return Err(Refusal::NoSource(entry as u64));
     }
-    Ok(())
+    Ok(place.entries)
 }
 
-fn check_swap(state: &State, aim: &Aim, version: u64) -> Result<(), Refusal>
-    ensures { Decides result (refusal_of state.now
-        (Swap aim.now.worker aim.now.ledger aim.now.fragment aim.now.index version)) }
+pub(crate) fn check_swap<'a>(
+    state: &'a State,
+    aim: &Aim,
+    version: u64,
+) -> Result<Found<'a>, Refusal>
+    ensures { Finds result (refusal_of state.now
+        (Swap aim.now.worker aim.now.ledger aim.now.fragment aim.now.index version))
+        (IsFound state.now aim.now.ledger) }
 {
-    let (ledger, _, stripe) = find_place(state, aim, version)?;
-    if let Some(entry) = first_lacked(state, aim.worker, ledger, stripe) {
+    let place = find_place(state, aim, version)?;
+    let found = place.found;
+    if let Some(entry) = first_lacked(state, aim.worker, found.ledger, place.entries) {
         return Err(Refusal::MissingEntry(entry as u64));
     }
-    check_next_version(ledger)
+    check_next_version(found.ledger)?;
+    Ok(found)
 }
 
 // Checks that events share
@@ -278,10 +332,11 @@ fn due_of(ledger: &Ledger) -> Option<u64>
     ledger.lock()?.due
 }
 
-/// Whether there is a next entry for the writer, and room for the fragment that begins there, if one is needed.
-fn check_room(state: &State, ledger: &Ledger) -> Result<(), Refusal>
-    ensures { Decides result (first_reason
-        (model.entry_end state.now ledger.now ∷ model.fragments_full state.now ledger.now ∷ [])) }
+/// The writer's next entry, if there is one, and room for the fragment that begins there, where one is needed.
+fn find_room(state: &State, ledger: &Ledger) -> Result<u32, Refusal>
+    ensures { Finds result (first_reason
+        (model.entry_end state.now ledger.now ∷ model.fragments_full state.now ledger.now ∷ []))
+        (λ next. next ≡ recovery.next_entry state.now ledger.now) }
 {
     let next = next_entry(state, ledger);
     if next as u64 == ENTRY_END {
@@ -291,7 +346,7 @@ fn check_room(state: &State, ledger: &Ledger) -> Result<(), Refusal>
     if needed && ledger.metadata().fragments().len() >= MAX_FRAGMENTS {
         return Err(Refusal::FragmentsFull);
     }
-    Ok(())
+    Ok(next)
 }
 
 // Copies and swaps
@@ -309,30 +364,36 @@ pub(crate) fn aim_of(worker: BookieIx, ledger: LedgerId, fragment: u64, index: u
     }
 }
 
-/// What a copy and a swap ask first: the ledger whose lock the worker holds, at that version, its fragment of that
-/// number, and the entries that this stripes onto the index, if the worker's bookie can take that place.
-fn find_place<'a>(
-    state: &'a State,
-    aim: &Aim,
-    version: u64,
-) -> Result<(&'a Ledger, &'a Fragment, Striped), Refusal>
+/// A place of an ensemble that a worker's bookie can take: its ledger, its fragment, and the entries that this stripes
+/// onto the place's index.
+#[derive(Drop)]
+struct Place<'a> {
+    found: Found<'a>,
+    fragment: &'a Fragment,
+    entries: Striped,
+}
+
+/// What a copy and a swap ask first: the place of the aim in the ledger whose lock the worker holds, at that version,
+/// if the worker's bookie can take it.
+fn find_place<'a>(state: &'a State, aim: &Aim, version: u64) -> Result<Place<'a>, Refusal>
     ensures { MatchResult result
         (λ place. (model.no_bookie state.now aim.now.worker ≡ None)
-        × (ledger_at state.now aim.now.ledger ≡ Some place.0.now)
-        × (first_reason (place_checks state.now aim.now.worker aim.now.fragment aim.now.index version place.0.now)
-        ≡ None)
-        × (slice_get place.0.now.metadata.fragments aim.now.fragment ≡ Some place.1.now)
-        × (length place.1.now.ensemble ≡ place.0.now.metadata.size)
-        × (place.2 ≡ stripe_of place.0.now.metadata aim.now.fragment aim.now.index))
+        × IsPlace state.now aim.now place
+        × (first_reason (place_checks state.now aim.now.worker aim.now.fragment aim.now.index version
+        place.found.ledger.now) ≡ None))
         (λ refusal. first_reason (model.no_bookie state.now aim.now.worker
         ∷ model.at_ledger state.now aim.now.ledger
         (place_checks state.now aim.now.worker aim.now.fragment aim.now.index version)
         ∷ []) ≡ Some refusal) }
 {
-    let ledger = find_owned(state, aim.worker, aim.ledger)?;
-    check_version(ledger, version)?;
-    let (fragment, stripe) = check_place(state, ledger, aim)?;
-    Ok((ledger, fragment, stripe))
+    let found = find_owned(state, aim.worker, aim.ledger)?;
+    check_version(found.ledger, version)?;
+    let (fragment, entries) = check_place(state, found.ledger, aim)?;
+    Ok(Place {
+        found,
+        fragment,
+        entries,
+    })
 }
 
 /// Whether the ledger's metadata is at that version.

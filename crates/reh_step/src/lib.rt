@@ -7,5 +7,5 @@ mod recoveries;
 mod steps;
 
 pub use decisions::check;
-pub use records::changes_of;
+pub use records::copy_record;
 pub use steps::{decide, step};

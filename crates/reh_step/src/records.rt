@@ -1,343 +1,310 @@
-// What an event that is accepted changes: one function for each kind of event.
-ghost use Rattle.std.specs.Prelude.{◌≡◌, ◌==◌, [], ◌∷◌, ◌++◌, unwrap_or, position, None, Some, IfOk};
-ghost use Rattle.std.specs.Option.{IsSome};
-ghost use Rattle.reh_types.specs.declared.moves.Event.TheVariants.{Lose, Join, Audit, Acquire, Release, Finish, Expire, Grace, Tick, Roll, Fence, Seal, Copy, Swap};
-ghost use Rattle.reh_model.specs.Cluster as cluster;
-ghost use Rattle.reh_model.specs.Recovery.{recovered_end};
-ghost use Rattle.reh_model.specs.WellFormed.{IsWellFormed};
-ghost use Rattle.reh_model.specs.Places.{IsDelta};
-ghost use Rattle.reh_model.specs.Step.{refusal_of, after};
-ghost use Rattle.reh_model.specs.Records.{due_gone};
-ghost use Rattle.reh_step.specs.Records as records;
-ghost use Rattle.reh_step.specs.Records.{word_changes};
+// What answers an event: one function for each kind of event, which asks its decision and makes its record of what that
+// found.
+ghost use Rattle.std.specs.Prelude.{◌≡◌, ◌==◌, [], ◌∷◌, ◌++◌, position, None, IfOk};
 ghost use Rattle.reh_types.specs.declared.changes.Change.TheVariants.{Metadata};
+ghost use Rattle.reh_types.specs.declared.moves.Event.TheVariants.{Lose, Join, Audit, Acquire, Release, Finish, Expire};
+ghost use Rattle.reh_types.specs.declared.moves.Event.TheVariants.{Grace, Tick, Roll, Fence, Seal, Copy, Swap};
+ghost use Rattle.reh_model.specs.Cluster.{stripe_at};
+ghost use Rattle.reh_model.specs.Recovery.{recovered_end};
+ghost use Rattle.reh_model.specs.Records.{due_gone};
+ghost use Rattle.reh_model.specs.Step.{refusal_of};
+ghost use Rattle.reh_step.specs.Records as records;
+ghost use Rattle.reh_step.specs.Records.{IsDecision, IsRecordOf, word_changes};
 
-use crate::decisions::aim_of;
-use crate::recoveries::{last_fragment, next_entry, recovered_end};
+use crate::decisions::{
+    check_acquire, check_audit, check_copy, check_expire, check_fence, check_finish, check_grace,
+    check_join, check_lose, check_release, check_roll, check_seal, check_swap, check_tick,
+};
+use crate::recoveries::last_fragment;
 use reh_audit::{is_news, published_of};
 use reh_cluster::{Changes, Ledger, State};
 use reh_held::Turn;
 use reh_meta::{Fragment, LedgerMeta};
+use reh_scan::Found;
 use reh_stripe::Striped;
-use reh_types::{Aim, BookieIx, Change, Event, LedgerId, Lock, Scalar};
+use reh_types::{Aim, BookieIx, Change, LedgerId, Lock, Refusal, Scalar};
 use std::alloc::{AllocError, Global};
 
-/// The record of an event that is accepted: one change for each place in which the state differs after it.
-pub fn changes_of(alloc: Global, state: &State, event: &Event) -> Result<Changes, AllocError>
-    requires { refusal_of state.now event.now ≡ None }
-    ensures { IfOk result (λ changes. IsDelta state.now (after state.now event.now) changes) }
-{
-    let _well_formed = state.up();
-    match event {
-        Event::Lose { bookie } => lose(alloc, state, *bookie),
-        Event::Join { bookie } => join(alloc, state, *bookie),
-        Event::Audit => audit(alloc, state),
-        Event::Acquire { worker, ledger } => acquire(alloc, state, *worker, *ledger),
-        Event::Release { worker, ledger } => release(alloc, state, *worker, *ledger),
-        Event::Finish { worker, ledger } => finish(alloc, state, *worker, *ledger),
-        Event::Expire { worker } => expire(alloc, state, *worker),
-        Event::Grace { worker, ledger } => grace(alloc, state, *worker, *ledger),
-        Event::Tick { ticks } => tick(alloc, state, *ticks),
-        Event::Roll {
-            ledger,
-            index,
-            bookie,
-        } => roll(alloc, state, *ledger, *index, *bookie),
-        Event::Fence { worker, ledger } => fence(alloc, state, *worker, *ledger),
-        Event::Seal { worker, ledger } => seal(alloc, state, *worker, *ledger),
-        Event::Copy {
-            worker,
-            ledger,
-            fragment,
-            index,
-            version,
-        } => copy(
-            alloc,
-            state,
-            &aim_of(*worker, *ledger, *fragment, *index),
-            *version,
-        ),
-        Event::Swap {
-            worker,
-            ledger,
-            fragment,
-            index,
-            version,
-        } => swap(
-            alloc,
-            state,
-            &aim_of(*worker, *ledger, *fragment, *index),
-            *version,
-        ),
-    }
-}
-
 /// The bookie's registration goes.
-fn lose(alloc: Global, state: &State, bookie: BookieIx) -> Result<Changes, AllocError>
-    requires accepted { refusal_of state.now (Lose bookie) ≡ None }
-    requires well_formed { IsWellFormed state.now }
-    ensures { IfOk result (λ changes. IsDelta state.now (after state.now (Lose bookie)) changes) }
+pub(crate) fn lose(alloc: Global, state: &State, bookie: BookieIx) -> Result<Changes, Refusal>
+    ensures { IsDecision state.now (Lose bookie) result }
 {
-    Changes::one(alloc, Change::Registration { bookie, up: false })
+    check_lose(state, bookie)?;
+    let _well_formed = state.names();
+    let changes = Changes::one(alloc, Change::Registration { bookie, up: false })?;
+    Ok(changes)
 }
 
 /// The bookie is registered.
-fn join(alloc: Global, state: &State, bookie: BookieIx) -> Result<Changes, AllocError>
-    requires accepted { refusal_of state.now (Join bookie) ≡ None }
-    requires well_formed { IsWellFormed state.now }
-    ensures { IfOk result (λ changes. IsDelta state.now (after state.now (Join bookie)) changes) }
+pub(crate) fn join(alloc: Global, state: &State, bookie: BookieIx) -> Result<Changes, Refusal>
+    ensures { IsDecision state.now (Join bookie) result }
 {
-    Changes::one(alloc, Change::Registration { bookie, up: true })
+    check_join(state, bookie)?;
+    let _well_formed = state.names();
+    let changes = Changes::one(alloc, Change::Registration { bookie, up: true })?;
+    Ok(changes)
 }
 
 /// Each task that an audit changes names the missing members too.
-fn audit(alloc: Global, state: &State) -> Result<Changes, AllocError>
-    requires { refusal_of state.now Audit ≡ None }
-    ensures { IfOk result (λ changes. IsDelta state.now (after state.now Audit) changes) }
+pub(crate) fn audit(alloc: Global, state: &State) -> Result<Changes, Refusal>
+    ensures { IsDecision state.now Audit result }
 {
+    check_audit(state)?;
     let ledgers = state.ledgers();
-    let mut parts = Vec::new(alloc);
+    let mut list = Vec::new(alloc);
     for (place, ledger) in ledgers.iter().enumerate() {
         if is_news(state, ledger) {
             let task = Some(published_of(state, ledger));
-            parts.push(Change::Task { place, task })?;
+            push(&mut list, Change::Task { place, task })?;
         }
     }
-    Ok(Changes::of(parts))
+    Ok(Changes::of(list))
 }
 
 /// The worker locks the ledger's task.
-fn acquire(
+pub(crate) fn acquire(
     alloc: Global,
     state: &State,
     worker: BookieIx,
     ledger: LedgerId,
-) -> Result<Changes, AllocError>
-    requires accepted { refusal_of state.now (Acquire worker ledger) ≡ None }
-    requires well_formed { IsWellFormed state.now }
-    ensures { IfOk result
-        (λ changes. IsDelta state.now (after state.now (Acquire worker ledger)) changes) }
+) -> Result<Changes, Refusal>
+    ensures { IsDecision state.now (Acquire worker ledger) result }
 {
-    let place = place_of(state, ledger);
+    let found = check_acquire(state, worker, ledger)?;
     let lock = Some(Lock {
         owner: worker,
         due: None,
     });
-    Changes::one(alloc, Change::Lock { place, lock })
+    let place = found.place;
+    let changes = Changes::one(alloc, Change::Lock { place, lock })?;
+    Ok(changes)
 }
 
 /// The ledger's lock goes.
-fn release(
+pub(crate) fn release(
     alloc: Global,
     state: &State,
     worker: BookieIx,
     ledger: LedgerId,
-) -> Result<Changes, AllocError>
-    requires accepted { refusal_of state.now (Release worker ledger) ≡ None }
-    requires well_formed { IsWellFormed state.now }
-    ensures { IfOk result
-        (λ changes. IsDelta state.now (after state.now (Release worker ledger)) changes) }
+) -> Result<Changes, Refusal>
+    ensures { IsDecision state.now (Release worker ledger) result }
 {
-    let place = place_of(state, ledger);
-    Changes::one(alloc, Change::Lock { place, lock: None })
+    let found = check_release(state, worker, ledger)?;
+    let place = found.place;
+    let changes = Changes::one(alloc, Change::Lock { place, lock: None })?;
+    Ok(changes)
 }
 
 /// The ledger's task goes, and its lock.
-fn finish(
+pub(crate) fn finish(
     alloc: Global,
     state: &State,
     worker: BookieIx,
     ledger: LedgerId,
-) -> Result<Changes, AllocError>
-    requires accepted { refusal_of state.now (Finish worker ledger) ≡ None }
-    requires well_formed { IsWellFormed state.now }
-    ensures { IfOk result
-        (λ changes. IsDelta state.now (after state.now (Finish worker ledger)) changes) }
+) -> Result<Changes, Refusal>
+    ensures { IsDecision state.now (Finish worker ledger) result }
 {
-    let place = place_of(state, ledger);
-    let mut parts = Vec::with_capacity(alloc, 2)?;
-    parts.push(Change::Task { place, task: None })?;
-    parts.push(Change::Lock { place, lock: None })?;
-    Ok(Changes::of(parts))
+    let found = check_finish(state, worker, ledger)?;
+    let place = found.place;
+    let mut list = Vec::with_capacity(alloc, 2)?;
+    push(&mut list, Change::Task { place, task: None })?;
+    push(&mut list, Change::Lock { place, lock: None })?;
+    Ok(Changes::of(list))
 }
 
 /// Each lock of the worker goes.
-fn expire(alloc: Global, state: &State, worker: BookieIx) -> Result<Changes, AllocError>
-    requires { refusal_of state.now (Expire worker) ≡ None }
-    ensures { IfOk result (λ changes. IsDelta state.now (after state.now (Expire worker)) changes) }
+pub(crate) fn expire(alloc: Global, state: &State, worker: BookieIx) -> Result<Changes, Refusal>
+    ensures { IsDecision state.now (Expire worker) result }
 {
+    check_expire(state, worker)?;
     let ledgers = state.ledgers();
-    let mut parts = Vec::new(alloc);
+    let mut list = Vec::new(alloc);
     for (place, ledger) in ledgers.iter().enumerate() {
         if ledger.is_locked_by(worker) {
-            parts.push(Change::Lock { place, lock: None })?;
+            push(&mut list, Change::Lock { place, lock: None })?;
         }
     }
-    Ok(Changes::of(parts))
+    Ok(Changes::of(list))
 }
 
 /// The due tick of the ledger's lock is set: a grace from now.
-fn grace(
+pub(crate) fn grace(
     alloc: Global,
     state: &State,
     worker: BookieIx,
     ledger: LedgerId,
-) -> Result<Changes, AllocError>
-    requires accepted { refusal_of state.now (Grace worker ledger) ≡ None }
-    requires well_formed { IsWellFormed state.now }
-    ensures { IfOk result
-        (λ changes. IsDelta state.now (after state.now (Grace worker ledger)) changes) }
+) -> Result<Changes, Refusal>
+    ensures { IsDecision state.now (Grace worker ledger) result }
 {
-    let place = place_of(state, ledger);
+    let found = check_grace(state, worker, ledger)?;
     let lock = Some(Lock {
         owner: worker,
         due: Some(state.clock() + state.grace()),
     });
-    Changes::one(alloc, Change::Lock { place, lock })
+    let place = found.place;
+    let changes = Changes::one(alloc, Change::Lock { place, lock })?;
+    Ok(changes)
 }
 
 /// The clock goes on.
-fn tick(alloc: Global, state: &State, ticks: u64) -> Result<Changes, AllocError>
-    requires accepted { refusal_of state.now (Tick ticks) ≡ None }
-    requires well_formed { IsWellFormed state.now }
-    ensures { IfOk result (λ changes. IsDelta state.now (after state.now (Tick ticks)) changes) }
+pub(crate) fn tick(alloc: Global, state: &State, ticks: u64) -> Result<Changes, Refusal>
+    ensures { IsDecision state.now (Tick ticks) result }
 {
+    check_tick(state, ticks)?;
+    let _well_formed = state.names();
     let clock = state.clock() + ticks;
-    Changes::one(alloc, Change::Scalar(Scalar::Clock(clock)))
+    let changes = Changes::one(alloc, Change::Scalar(Scalar::Clock(clock)))?;
+    Ok(changes)
 }
 
 /// The bookie takes that index of the last ensemble, in a new fragment from the next entry on, or in the last fragment
 /// itself while none of its entries is held. The ledger's metadata goes to its next version, and the due tick of its
 /// lock goes.
-fn roll(
+pub(crate) fn roll(
     alloc: Global,
     state: &State,
     ledger: LedgerId,
     index: u64,
     bookie: BookieIx,
-) -> Result<Changes, AllocError>
-    requires accepted { refusal_of state.now (Roll ledger index bookie) ≡ None }
-    requires well_formed { IsWellFormed state.now }
-    ensures { IfOk result
-        (λ changes. IsDelta state.now (after state.now (Roll ledger index bookie)) changes) }
+) -> Result<Changes, Refusal>
+    ensures { IsDecision state.now (Roll ledger index bookie) result }
 {
-    let place = place_of(state, ledger);
-    let stored = &state.ledgers()[place];
-    let metadata = stored.metadata();
-    let next = next_entry(state, stored);
-    if next != last_fragment(stored).first {
+    let (found, next) = check_roll(state, ledger, index, bookie)?;
+    let metadata = found.ledger.metadata();
+    if next != last_fragment(found.ledger).first {
         let rolled = metadata.with_fragment(next, index as usize, bookie)?;
-        return without_due(alloc, place, stored, rolled);
+        let changes = without_due(alloc, found, rolled)?;
+        return Ok(changes);
     }
     let last = metadata.fragments().len() - 1;
     let rolled = metadata.with_member(last, index as usize, bookie)?;
-    without_due(alloc, place, stored, rolled)
+    let changes = without_due(alloc, found, rolled)?;
+    Ok(changes)
 }
 
 /// The ledger is in recovery, its metadata goes to its next version, and the due tick of its lock goes.
-fn fence(
+pub(crate) fn fence(
     alloc: Global,
     state: &State,
     worker: BookieIx,
     ledger: LedgerId,
-) -> Result<Changes, AllocError>
-    requires accepted { refusal_of state.now (Fence worker ledger) ≡ None }
-    requires well_formed { IsWellFormed state.now }
-    ensures { IfOk result
-        (λ changes. IsDelta state.now (after state.now (Fence worker ledger)) changes) }
+) -> Result<Changes, Refusal>
+    ensures { IsDecision state.now (Fence worker ledger) result }
 {
-    let place = place_of(state, ledger);
-    let stored = &state.ledgers()[place];
-    let metadata = stored.metadata().fenced()?;
-    without_due(alloc, place, stored, metadata)
+    let found = check_fence(state, worker, ledger)?;
+    let fenced = found.ledger.metadata().fenced()?;
+    let changes = without_due(alloc, found, fenced)?;
+    Ok(changes)
 }
 
 /// The ledger is closed where its recovery ends it, its metadata goes to its next version, and each entry that the
 /// recovery passes is held by all registered members of its write set, word by word. The lock stays.
-fn seal(
+pub(crate) fn seal(
     alloc: Global,
     state: &State,
     worker: BookieIx,
     ledger: LedgerId,
-) -> Result<Changes, AllocError>
-    requires accepted { refusal_of state.now (Seal worker ledger) ≡ None }
-    requires well_formed { IsWellFormed state.now }
-    ensures { IfOk result
-        (λ changes. IsDelta state.now (after state.now (Seal worker ledger)) changes) }
+) -> Result<Changes, Refusal>
+    ensures { IsDecision state.now (Seal worker ledger) result }
 {
-    let place = place_of(state, ledger);
-    let stored = &state.ledgers()[place];
-    let end = recovered_end(state, stored);
-    let metadata = stored.metadata().sealed(end)?;
-    let mut parts = Vec::new(alloc);
-    parts.push(Change::Metadata { place, metadata })?;
+    let (found, end) = check_seal(state, worker, ledger)?;
+    let metadata = found.ledger.metadata().sealed(end)?;
+    let mut list = Vec::new(alloc);
+    let place = found.place;
+    push(&mut list, Change::Metadata { place, metadata })?;
     for bookie in 0..state.names().len() {
         let bookie = BookieIx(bookie as u8);
-        let entries = recovered_by(alloc, state, stored, end, bookie)?;
+        let entries = recovered_by(alloc, state, found.ledger, end, bookie)?;
         let turns = state.delta_of(alloc, bookie, ledger, &entries)?;
-        push_words(&mut parts, bookie, ledger, &turns)?;
+        push_words(&mut list, bookie, ledger, &turns)?;
     }
-    Ok(Changes::of(parts))
+    Ok(Changes::of(list))
 }
 
-/// The striped entries that the worker's bookie lacks are held, word by word.
-fn copy(alloc: Global, state: &State, aim: &Aim, version: u64) -> Result<Changes, AllocError>
-    requires accepted { refusal_of state.now
-        (Copy aim.now.worker aim.now.ledger aim.now.fragment aim.now.index version) ≡ None }
-    requires well_formed { IsWellFormed state.now }
-    ensures { IfOk result (λ changes. IsDelta state.now
-        (after state.now (Copy aim.now.worker aim.now.ledger aim.now.fragment aim.now.index version)) changes) }
+/// The entries that the fragment stripes onto the index are held by the worker's bookie.
+pub(crate) fn copy(
+    alloc: Global,
+    state: &State,
+    aim: &Aim,
+    version: u64,
+) -> Result<Changes, Refusal>
+    ensures { IsDecision state.now
+        (Copy aim.now.worker aim.now.ledger aim.now.fragment aim.now.index version) result }
 {
-    let entries = striped_entries(alloc, state, aim)?;
-    let turns = state.delta_of(alloc, aim.worker, aim.ledger, &entries)?;
-    let mut parts = Vec::with_capacity(alloc, turns.len())?;
-    push_words(&mut parts, aim.worker, aim.ledger, &turns)?;
-    Ok(Changes::of(parts))
+    let entries = check_copy(state, aim, version)?;
+    let changes = copy_record(alloc, state, aim, version, entries)?;
+    Ok(changes)
 }
 
 /// The worker's bookie takes that index of the fragment's ensemble, and the ledger's metadata goes to its next version.
 /// BookKeeper's worker does so by `updateEnsembleInfo`, which writes the ledger's metadata conditional on its version.
-fn swap(alloc: Global, state: &State, aim: &Aim, version: u64) -> Result<Changes, AllocError>
-    requires accepted { refusal_of state.now
-        (Swap aim.now.worker aim.now.ledger aim.now.fragment aim.now.index version) ≡ None }
-    requires well_formed { IsWellFormed state.now }
-    ensures { IfOk result (λ changes. IsDelta state.now
-        (after state.now (Swap aim.now.worker aim.now.ledger aim.now.fragment aim.now.index version)) changes) }
+pub(crate) fn swap(
+    alloc: Global,
+    state: &State,
+    aim: &Aim,
+    version: u64,
+) -> Result<Changes, Refusal>
+    ensures { IsDecision state.now
+        (Swap aim.now.worker aim.now.ledger aim.now.fragment aim.now.index version) result }
 {
-    let place = place_of(state, aim.ledger);
-    let stored = state.ledgers()[place].metadata();
+    let found = check_swap(state, aim, version)?;
+    let stored = found.ledger.metadata();
     let metadata = stored.with_member(aim.fragment as usize, aim.index as usize, aim.worker)?;
-    Changes::one(alloc, Change::Metadata { place, metadata })
+    let place = found.place;
+    let changes = Changes::one(alloc, Change::Metadata { place, metadata })?;
+    Ok(changes)
+}
+
+// Copies
+
+/// The record of a copy of these entries that is accepted: word by word, those that the worker's bookie lacks.
+pub fn copy_record(
+    alloc: Global,
+    state: &State,
+    aim: &Aim,
+    version: u64,
+    entries: Striped,
+) -> Result<Changes, AllocError>
+    requires accepted { refusal_of state.now
+        (Copy aim.now.worker aim.now.ledger aim.now.fragment aim.now.index version) ≡ None }
+    requires entries { entries ≡ stripe_at state.now aim.now.ledger aim.now.fragment aim.now.index }
+    ensures { IfOk result (IsRecordOf state.now
+        (Copy aim.now.worker aim.now.ledger aim.now.fragment aim.now.index version)) }
+{
+    let _well_formed = state.names();
+    let entries = listed(alloc, entries)?;
+    let turns = state.delta_of(alloc, aim.worker, aim.ledger, &entries)?;
+    let mut list = Vec::with_capacity(alloc, turns.len())?;
+    push_words(&mut list, aim.worker, aim.ledger, &turns)?;
+    Ok(Changes::of(list))
 }
 
 // Open ledgers
 
-/// The record of a ledger's metadata that changes, and of its lock, whose due tick goes if it has one.
-fn without_due(
-    alloc: Global,
-    place: usize,
-    ledger: &Ledger,
-    metadata: LedgerMeta,
-) -> Result<Changes, AllocError>
+/// The record of the ledger's metadata that changes, and of its lock, whose due tick goes if it has one.
+fn without_due(alloc: Global, found: Found<'_>, metadata: LedgerMeta) -> Result<Changes, AllocError>
     ensures { IfOk result
-        (λ changes. changes ≡ Metadata place metadata ∷ due_gone place ledger.now) }
+        (λ changes. changes
+        ≡ Metadata found.entry.place metadata ∷ due_gone found.entry.place found.entry.ledger.now) }
 {
-    let mut parts = Vec::with_capacity(alloc, 2)?;
-    parts.push(Change::Metadata { place, metadata })?;
+    let place = found.place;
+    let mut list = Vec::with_capacity(alloc, 2)?;
+    list.push(Change::Metadata { place, metadata })?;
     if let Some(
         Lock {
             owner,
             due: Some(_),
         },
-    ) = ledger.lock()
+    ) = found.ledger.lock()
     {
         let lock = Some(Lock { owner, due: None });
-        parts.push(Change::Lock { place, lock })?;
+        list.push(Change::Lock { place, lock })?;
     }
-    Ok(Changes::of(parts))
+    Ok(Changes::of(list))
 }
 
-/// The entries that a recovery of the ledger up to this end writes back to the bookie, as a list; none for one that isn't
+/// The entries that a recovery of the ledger up to this end writes back to the bookie, as a list; none for one that
+/// isn't
 /// registered, or is no member of the last ensemble.
 fn recovered_by(
     alloc: Global,
@@ -383,47 +350,7 @@ fn member_index(fragment: &Fragment, bookie: BookieIx) -> Option<usize>
         .position(|member| *member == bookie)
 }
 
-// Places, entries and words
-
-/// Where the ledger of that id stands; there has to be one.
-fn place_of(state: &State, ledger: LedgerId) -> usize
-    requires { IsSome (cluster.ledger_at state.now ledger) }
-    ensures { position (λ g. g.id == ledger) state.now.parts.ledgers ≡ Some result }
-{
-    state.place(ledger).unwrap()
-}
-
-/// The entries that the aim's fragment stripes onto the index, as a list; none where there is no such fragment, or it has
-/// no stop.
-fn striped_entries(alloc: Global, state: &State, aim: &Aim) -> Result<Vec<u32>, AllocError>
-    ensures { IfOk result (λ entries. entries.items
-        ≡ cluster.stripe_at state.now aim.now.ledger aim.now.fragment aim.now.index) }
-{
-    match stripe_at(state, aim) {
-        Some(stripe) => listed(alloc, stripe),
-        None => Ok(Vec::new(alloc)),
-    }
-}
-
-/// The entries that the aim's fragment stripes onto the index, if there is such a fragment and it has a stop.
-fn stripe_at(state: &State, aim: &Aim) -> Option<Striped>
-    ensures { cluster.stripe_at state.now aim.now.ledger aim.now.fragment aim.now.index
-        ≡ unwrap_or result [] }
-{
-    let metadata = state.ledger(aim.ledger)?.metadata();
-    if aim.index >= metadata.size() as u64 {
-        return None;
-    }
-    let fragment = metadata.fragments().get(aim.fragment as usize)?;
-    let stop = metadata.end_of(aim.fragment as usize)?;
-    Some(Striped::new(
-        fragment.first,
-        stop,
-        aim.index as u32,
-        metadata.size(),
-        metadata.write_quorum(),
-    ))
-}
+// Entries and words
 
 /// The entries as a list.
 fn listed(alloc: Global, entries: Striped) -> Result<Vec<u32>, AllocError>
@@ -432,18 +359,26 @@ fn listed(alloc: Global, entries: Striped) -> Result<Vec<u32>, AllocError>
     entries.collect(alloc)
 }
 
+/// Adds a change.
+fn push(list: &mut Vec<Change<LedgerMeta>>, change: Change<LedgerMeta>) -> Result<(), AllocError>
+    ensures { IfOk result (λ _. list.new.items ≡ list.old.items ++ change ∷ []) }
+{
+    list.push(change)?;
+    Ok(())
+}
+
 /// Adds the words that turn, as changes of what the bookie holds of the ledger.
 fn push_words(
-    parts: &mut Vec<Change<LedgerMeta>>,
+    list: &mut Vec<Change<LedgerMeta>>,
     bookie: BookieIx,
     ledger: LedgerId,
     turns: &[Turn],
 ) -> Result<(), AllocError>
     ensures { IfOk result
-        (λ _. parts.new.items ≡ parts.old.items ++ word_changes bookie ledger turns.now) }
+        (λ _. list.new.items ≡ list.old.items ++ word_changes bookie ledger turns.now) }
 {
     for turn in turns {
-        parts.push(Change::Word {
+        list.push(Change::Word {
             bookie,
             ledger,
             number: turn.number,

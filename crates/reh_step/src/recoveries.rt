@@ -5,7 +5,7 @@ ghost use Rattle.reh_model.specs.Metadata.{IsMetadata};
 ghost use Rattle.reh_model.specs.Cluster as cluster;
 ghost use Rattle.reh_model.specs.Recovery as recovery;
 ghost use Rattle.reh_model.specs.Refusals as model;
-ghost use Rattle.reh_model.specs.Refusals.{Decides};
+ghost use Rattle.reh_model.specs.Refusals.{Finds};
 ghost use Rattle.reh_model.specs.Checks.{first_reason};
 ghost use Rattle.reh_model.specs.Striping as stripe;
 ghost use Rattle.reh_step.specs.Marks.{is_marked};
@@ -25,7 +25,8 @@ pub(crate) fn last_fragment(ledger: &Ledger) -> &Fragment
     &fragments[fragments.len() - 1]
 }
 
-/// The writer's next entry: one more than the greatest that any bookie holds, and no less than the last fragment's first.
+/// The writer's next entry: one more than the greatest that any bookie holds, and no less than the last fragment's
+/// first.
 pub(crate) fn next_entry(state: &State, ledger: &Ledger) -> u32
     ensures { result ≡ recovery.next_entry state.now ledger.now }
 {
@@ -37,29 +38,18 @@ pub(crate) fn next_entry(state: &State, ledger: &Ledger) -> u32
     }
 }
 
-/// Where a recovery ends the ledger: the first entry of the last fragment that can't be read.
-pub(crate) fn recovered_end(state: &State, ledger: &Ledger) -> u32
-    ensures { result ≡ recovery.recovered_end state.now ledger.now }
-{
-    let _well_formed = state.up();
-    let metadata = ledger.metadata();
-    let last = last_fragment(ledger);
-    let rows = source_rows(state, ledger, last);
-    let mut end = last.first;
-    while is_readable(&rows, metadata, end) {
-        end += 1;
-    }
-    end
-}
-
-/// Whether enough registered members answer a recovery: for each entry that it passes, an ack quorum of its write set,
-/// and for the one where it ends, which all that answer lack, so many that the others are no ack quorum.
+/// Where a recovery ends the ledger, the first entry of the last fragment that can't be read, if enough registered
+/// members
+/// answer it: for each entry that it passes, an ack quorum of its write set, and for the one where it ends, which all
+/// that answer lack, so many that the others are no ack quorum.
 ///
-/// BookKeeper's recovery (`LedgerRecoveryOp`) reads on from the last fragment's first entry, writes each entry back, and
+/// BookKeeper's recovery (`LedgerRecoveryOp`) reads on from the last fragment's first entry, writes each entry back,
+/// and
 /// ends at the first one that no ack quorum can have stored.
-pub(crate) fn check_answers(state: &State, ledger: &Ledger) -> Result<(), Refusal>
-    ensures { Decides result (first_reason
-        (model.too_few state.now ledger.now ∷ model.undecided state.now ledger.now ∷ [])) }
+pub(crate) fn find_end(state: &State, ledger: &Ledger) -> Result<u32, Refusal>
+    ensures { Finds result (first_reason
+        (model.too_few state.now ledger.now ∷ model.undecided state.now ledger.now ∷ []))
+        (λ end. end ≡ recovery.recovered_end state.now ledger.now) }
 {
     let _well_formed = state.up();
     let metadata = ledger.metadata();
@@ -77,7 +67,7 @@ pub(crate) fn check_answers(state: &State, ledger: &Ledger) -> Result<(), Refusa
     if count_registered(&registered, metadata, entry) < decisive {
         return Err(Refusal::Undecided(entry as u64));
     }
-    Ok(())
+    Ok(entry)
 }
 
 // The members of an ensemble

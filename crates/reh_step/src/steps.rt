@@ -1,11 +1,11 @@
 // What an event makes of the state.
 ghost use Rattle.std.specs.Prelude.{◌≡◌, None, IfOk, IfErr};
-ghost use Rattle.reh_model.specs.Places.{IsDelta};
 ghost use Rattle.reh_model.specs.Refusals.{or_no_memory};
 ghost use Rattle.reh_model.specs.Step.{refusal_of, after};
+ghost use Rattle.reh_step.specs.Records.{IsRecordOf};
 
-use crate::decisions::check;
-use crate::records::changes_of;
+use crate::decisions::aim_of;
+use crate::records;
 use reh_cluster::{Changes, State};
 use reh_types::{Event, Refusal};
 use std::alloc::Global;
@@ -16,13 +16,52 @@ use std::alloc::Global;
 /// Want of memory comes after all other refusals: it is answered only where the event is accepted.
 pub fn decide(alloc: Global, state: &State, event: &Event) -> Result<Changes, Refusal>
     ensures accepted { IfOk result (λ _. refusal_of state.now event.now ≡ None) }
-    ensures delta { IfOk result (λ changes. IsDelta state.now (after state.now event.now) changes) }
+    ensures delta { IfOk result (IsRecordOf state.now event.now) }
     ensures err { IfErr result
         (λ refusal. refusal ≡ or_no_memory (refusal_of state.now event.now)) }
 {
-    check(state, event)?;
-    let changes = changes_of(alloc, state, event)?;
-    Ok(changes)
+    match event {
+        Event::Lose { bookie } => records::lose(alloc, state, *bookie),
+        Event::Join { bookie } => records::join(alloc, state, *bookie),
+        Event::Audit => records::audit(alloc, state),
+        Event::Acquire { worker, ledger } => records::acquire(alloc, state, *worker, *ledger),
+        Event::Release { worker, ledger } => records::release(alloc, state, *worker, *ledger),
+        Event::Finish { worker, ledger } => records::finish(alloc, state, *worker, *ledger),
+        Event::Expire { worker } => records::expire(alloc, state, *worker),
+        Event::Grace { worker, ledger } => records::grace(alloc, state, *worker, *ledger),
+        Event::Tick { ticks } => records::tick(alloc, state, *ticks),
+        Event::Roll {
+            ledger,
+            index,
+            bookie,
+        } => records::roll(alloc, state, *ledger, *index, *bookie),
+        Event::Fence { worker, ledger } => records::fence(alloc, state, *worker, *ledger),
+        Event::Seal { worker, ledger } => records::seal(alloc, state, *worker, *ledger),
+        Event::Copy {
+            worker,
+            ledger,
+            fragment,
+            index,
+            version,
+        } => records::copy(
+            alloc,
+            state,
+            &aim_of(*worker, *ledger, *fragment, *index),
+            *version,
+        ),
+        Event::Swap {
+            worker,
+            ledger,
+            fragment,
+            index,
+            version,
+        } => records::swap(
+            alloc,
+            state,
+            &aim_of(*worker, *ledger, *fragment, *index),
+            *version,
+        ),
+    }
 }
 
 /// The state after the event, or the first refusal that applies to it; the state that it is made on stays as it was.

@@ -83,6 +83,20 @@ impl Striped {
             quorum,
         }
     }
+
+    /// The entries that are left, to go over them twice.
+    pub fn duplicate(&self) -> Striped
+        ensures { result ≡ self.now }
+    {
+        Striped {
+            at: self.at,
+            start: self.start,
+            stop: self.stop,
+            index: self.index,
+            size: self.size,
+            quorum: self.quorum,
+        }
+    }
 }
 
 impl Iterator for Striped {

@@ -1,8 +1,7 @@
 -- A part of a ledger is swapped with what the change holds.
-use Rattle.std.proofs.Common.{◌≡◌, List, ap, set, sym, refl}
+use Rattle.std.proofs.Common.{List, ap, refl}
 use Rattle.reh_types.specs.declared.changes.Change.TheVariants.{Metadata, Task, Lock}
 use Rattle.reh_model.specs.Cluster.{Ledger}
-use Rattle.reh_model.specs.Places.{change_at}
 use Rattle.reh_model.proofs.ListLaws.{read_at-there}
 use Rattle.reh_cluster.specs.Parts.{PartsValue}
 use Rattle.reh_cluster.specs.Kept.{parts_in}

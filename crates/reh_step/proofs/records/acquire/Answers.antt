@@ -1,7 +1,13 @@
 -- The lock is the only difference.
+use Rattle.reh_types.specs.declared.moves.Event.TheVariants.{Acquire}
 use Rattle.reh_model.proofs.DeltaLaws.{acquire_delta}
-use Rattle.reh_step.proofs.RecordLaws.{made_delta}
+use Rattle.reh_step.proofs.RecordLaws.{decided}
 use Rattle.reh_step.proofs.records.acquire.Goals as goal
 
 pub returns : goal.returns
-returns c = made_delta c.args.state.now _ c.one.result _ c.one.ensures (acquire_delta c.args.state.now c.args.worker c.args.ledger c.place_of-place.result c.requires.well_formed c.place_of-place.ensures c.requires.accepted)
+returns c =
+    let found = c.in_ok-found.ensures in
+    decided c.args.state.now (Acquire c.args.worker c.args.ledger) _ c.in_ok-changes.changes found.0
+    c.in_ok-changes.ensures
+    (acquire_delta c.args.state.now c.args.worker c.args.ledger c.in_ok-found.found.place found.1.well_formed
+    found.1.place found.0)

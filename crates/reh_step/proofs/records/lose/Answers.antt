@@ -1,7 +1,11 @@
 -- A lost registration is the only difference.
+use Rattle.reh_types.specs.declared.moves.Event.TheVariants.{Lose}
 use Rattle.reh_model.proofs.DeltaLaws.{lose_delta}
-use Rattle.reh_step.proofs.RecordLaws.{made_delta}
+use Rattle.reh_step.proofs.RecordLaws.{decided}
 use Rattle.reh_step.proofs.records.lose.Goals as goal
 
 pub returns : goal.returns
-returns c = made_delta c.args.state.now _ c.one.result _ c.one.ensures (lose_delta c.args.state.now c.args.bookie c.requires.well_formed c.requires.accepted)
+returns c =
+    decided c.args.state.now (Lose c.args.bookie) _ c.in_ok-changes.changes c.in_ok-check_lose.ensures
+    c.in_ok-changes.ensures
+    (lose_delta c.args.state.now c.args.bookie c.names-well_formed.ensures.well_formed c.in_ok-check_lose.ensures)

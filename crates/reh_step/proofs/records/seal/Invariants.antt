@@ -3,4 +3,4 @@ use Rattle.reh_step.proofs.SealLaws.{AreSealed}
 use Rattle.reh_step.proofs.records.seal.Given as goal
 
 abbrev pub invariant-loop-bookie : goal.invariant-loop-bookie
-invariant-loop-bookie l = AreSealed l.state l.place l.stored l.bookie l.parts.items
+invariant-loop-bookie l = AreSealed l.state l.place l.found.ledger.now l.bookie l.list.items

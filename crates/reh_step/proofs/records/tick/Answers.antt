@@ -4,14 +4,14 @@ use Rattle.reh_types.specs.declared.changes.Change.TheVariants.{Scalar}
 use Rattle.reh_types.specs.declared.scalars.Scalar.TheVariants.{Clock}
 use Rattle.reh_types.specs.declared.moves.Event.TheVariants.{Tick}
 use Rattle.reh_model.specs.Cluster.{Cluster}
-use Rattle.reh_model.specs.Step.{after}
-use Rattle.reh_model.specs.Places.{IsDelta}
 use Rattle.reh_model.proofs.DeltaLaws.{tick_delta}
-use Rattle.reh_step.proofs.RecordLaws.{made_delta}
+use Rattle.reh_step.specs.Records.{IsRecordOf}
+use Rattle.reh_step.proofs.RecordLaws.{decided}
 use Rattle.reh_step.proofs.records.tick.Goals as goal
 
 pub returns : goal.returns
 returns c =
     let s : Cluster = c.args.state.now in
-    made_delta s (after s (Tick c.args.ticks)) c.one.result _ c.one.ensures
-    (subst (λ n. IsDelta s (after s (Tick c.args.ticks)) (Scalar (Clock (n + c.args.ticks)) ∷ [])) (sym c.clock.ensures.clock) (tick_delta s c.args.ticks c.requires.well_formed c.requires.accepted))
+    decided s (Tick c.args.ticks) _ c.in_ok-changes.changes c.in_ok-check_tick.ensures c.in_ok-changes.ensures
+    (subst (λ n. IsRecordOf s (Tick c.args.ticks) (Scalar (Clock (n + c.args.ticks)) ∷ [])) (sym c.clock.ensures.clock)
+    (tick_delta s c.args.ticks c.names-well_formed.ensures.well_formed c.in_ok-check_tick.ensures))

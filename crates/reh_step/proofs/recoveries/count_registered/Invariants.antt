@@ -8,7 +8,8 @@ use Rattle.reh_step.proofs.recoveries.count_registered.Given as goal
 
 abbrev pub invariant-loop-index : goal.invariant-loop-index
 invariant-loop-index l = record {
-  counted : l.count + count_by (is_marked l.registered) l.index-iterator ≡ count_by (is_marked l.registered) (write_set l.entry l.metadata.size l.metadata.write_quorum);
+  counted : l.count + count_by (is_marked l.registered) l.index-iterator
+      ≡ count_by (is_marked l.registered) (write_set l.entry l.metadata.size l.metadata.write_quorum);
   room : l.count + length l.index-iterator ≤ MAX_ENSEMBLE_SIZE;
   within : All (λ index. index < l.metadata.size) l.index-iterator;
 }

@@ -8,5 +8,6 @@ use Rattle.reh_step.proofs.recoveries.registered_members.Given as goal
 abbrev pub invariant-loop-index : goal.invariant-loop-index
 invariant-loop-index l = record {
   whole : length l.registered ≡ MAX_ENSEMBLE_SIZE;
-  marked : (index : ℕ) → index < l.index → is_marked l.registered index ≡ is_up l.state (slice_index l.fragment.ensemble index);
+  marked : (index : ℕ) → index < l.index
+      → is_marked l.registered index ≡ is_up l.state (slice_index l.fragment.ensemble index);
 }
