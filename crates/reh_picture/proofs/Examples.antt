@@ -97,7 +97,8 @@ contents =
 
 abbrev cluster : Cluster
 cluster =
-    let started = clear_cluster (codes "b1:3181" ∷ codes "b2:3181" ∷ codes "b3:3181" ∷ codes "b4:3181" ∷ codes "b5:3181" ∷ []) in
+    let started =
+    clear_cluster (codes "b1:3181" ∷ codes "b2:3181" ∷ codes "b3:3181" ∷ codes "b4:3181" ∷ codes "b5:3181" ∷ []) in
     with_held (with_ledgers started (closed_ledger ∷ open_ledger ∷ [])) contents
 
 -- it is read
