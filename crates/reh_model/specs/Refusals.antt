@@ -25,7 +25,8 @@ Decides result refusal = MatchResult result (λ _. refusal ≡ None) (λ reason.
 
 -- what decides so, and gives what it found where it is accepted
 abbrev pub Finds : {F : Type 0} → Result F Refusal → Option Refusal → (F → Type 0) → Type 0
-Finds result refusal IsFound = MatchResult result (λ found. (refusal ≡ None) × IsFound found) (λ reason. refusal ≡ Some reason)
+Finds result refusal IsFound =
+    MatchResult result (λ found. (refusal ≡ None) × IsFound found) (λ reason. refusal ≡ Some reason)
 
 -- the refusal; where there is none, want of memory, which comes after all others
 abbrev pub or_no_memory : Option Refusal → Refusal
