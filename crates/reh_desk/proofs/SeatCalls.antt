@@ -1,20 +1,21 @@
--- Calls that end a ticket: what they leave of their caller, and how many tickets are out after a spend.
+-- Calls that end a ticket: what they leave of their caller, and how many tickets are out after them.
 use Rattle.std.proofs.Common.{◌≡◌, ℕ, ◌+◌, ◌-◌, Bool, true, false, List, length, Option, None, Some, refl, sym, ap, ◌∙◌, inl, inr, arith, true≢false, remove}
 use Rattle.std.specs.Prelude.{◌⊎◌, IsTrue, is_none}
 use Rattle.std.specs.Option.{option_map_or}
 use Rattle.std.proofs.lemmas.List.Edits.{length-remove}
 use Rattle.std.proofs.lemmas.List.Quantifiers.{position-Some}
 use Rattle.reh_types.specs.declared.calls.Call.{Call}
-use Rattle.reh_types.specs.declared.calls.Call.TheVariants.{Spend}
+use Rattle.reh_types.specs.declared.calls.Call.TheVariants.{Spend, Discard}
 use Rattle.reh_types.specs.declared.calls.TicketOut.{TicketOut}
 use Rattle.reh_types.specs.declared.contents.Content.{Content}
 use Rattle.reh_types.specs.declared.moves.Move.TheVariants.{Post}
 use Rattle.reh_types.specs.declared.moves.Reply.{Reply}
-use Rattle.reh_types.specs.declared.moves.Reply.TheVariants.{Refused}
+use Rattle.reh_types.specs.declared.moves.Reply.TheVariants.{Discarded, Refused}
+use Rattle.reh_types.specs.declared.names.Aim.{Aim}
 use Rattle.reh_types.specs.declared.refusals.Refusal.TheVariants.{NotOut, NoMemory}
 use Rattle.reh_model.specs.Checks.{reason_if}
 use Rattle.reh_model.specs.Session.{reply_to}
-use Rattle.reh_model.specs.Book.{ticket, same_ticket, ticket_place, without, or_refused, answer_to, MayWantMemory, is_written}
+use Rattle.reh_model.specs.Book.{ticket, same_ticket, ticket_place, without, or_refused, answer_to, MayWantMemory, is_written, changed}
 use Rattle.reh_desk.specs.Kept.{Kept, Called}
 use Rattle.reh_desk.specs.Callers.{none_out, with_line, with_out, caller_after}
 use Rattle.reh_desk.specs.Seats.{SeatView, own_line, out_after, gained}
@@ -32,27 +33,43 @@ found : (t : TicketOut) (out : List TicketOut) (reply other : Reply) (o : Option
 found t out reply other None at is written = absurd (true≢false (sym written ∙ ap is_written is))
 found t out reply other (Some i) at is written = length-remove out i (position-Some (λ u. same_ticket u t) out i t at).0
 
-pub spent_counted : (k n : Kept) (s : SeatView) (number : ℕ) (content : Content) (reply : Reply)
-    → length k.book.out ≡ s.out → (none_out true s ≡ false → Called k s.number (Spend number content) reply n)
-    → (none_out true s ≡ true → (reply ≡ Refused NotOut) × (n ≡ k))
-    → length n.book.out ≡ (gained s (Spend number content) reply).out
-spent_counted k n s number content reply count called none =
-    (elim (none_out true s) as (λ b. none_out true s ≡ b → length n.book.out ≡ (gained s (Spend number content) reply).out) [
+-- a call that takes a ticket from those that are out leaves a seat that counts those that are left
+ended_counted : (k n : Kept) (s : SeatView) (call : Call) (reply other : Reply) (t : TicketOut)
+    → answer_to k.book s.number call ≡ or_refused (reason_if (is_none (ticket_place t k.book.out)) NotOut) other
+    → (changed k.book s.number call reply).out ≡ without t k.book.out → out_after call reply s.out ≡ s.out - 1
+    → length k.book.out ≡ s.out → (none_out true s ≡ false → Called k s.number call reply n)
+    → (none_out true s ≡ true → (reply ≡ Refused NotOut) × (n ≡ k)) → length n.book.out ≡ (gained s call reply).out
+ended_counted k n s call reply other t answer takes counts count called none =
+    (elim (none_out true s) as (λ b. none_out true s ≡ b → length n.book.out ≡ (gained s call reply).out) [
       | true ↦ λ is. rw ((none is).0, (none is).1) count
       | false ↦ λ is. of (called is)
     ]) refl
   where
-    t : TicketOut
-    t = ticket s.number number content.aim
-
-    fewer_out : (reply ≡ answer_to k.book s.number (Spend number content)) ⊎ ((reply ≡ Refused NoMemory) × MayWantMemory (Spend number content) (answer_to k.book s.number (Spend number content))) → IsTrue (is_written reply)
+    fewer : (reply ≡ answer_to k.book s.number call)
+        ⊎ ((reply ≡ Refused NoMemory) × MayWantMemory call (answer_to k.book s.number call)) → IsTrue (is_written reply)
         → length (without t k.book.out) + 1 ≡ length k.book.out
-    fewer_out (inl is) written = found t k.book.out reply (reply_to k.book.session (Post content)) (ticket_place t k.book.out) refl is written
-    fewer_out (inr wants) written = absurd (true≢false (sym written ∙ ap is_written wants.0))
+    fewer (inl is) written = found t k.book.out reply other (ticket_place t k.book.out) refl (is ∙ answer) written
+    fewer (inr wants) written = absurd (true≢false (sym written ∙ ap is_written wants.0))
 
-    of : Called k s.number (Spend number content) reply n → length n.book.out ≡ (gained s (Spend number content) reply).out
-    of call =
-        (elim (is_written reply) as (λ w. is_written reply ≡ w → length n.book.out ≡ (gained s (Spend number content) reply).out) [
-          | true ↦ λ written. let fewer = fewer_out call.answers.0 written in rw (call.answers.1, written) (omega (arith, fewer, count))
-          | false ↦ λ unwritten. rw (call.answers.1, unwritten) count
+    of : Called k s.number call reply n → length n.book.out ≡ (gained s call reply).out
+    of c =
+        (elim (is_written reply) as (λ w. is_written reply ≡ w → length n.book.out ≡ (gained s call reply).out) [
+          | true ↦ λ written.
+              let less = fewer c.answers.0 written in rw (c.answers.1, written, takes, counts) (omega (arith, less, count))
+          | false ↦ λ unwritten. rw (c.answers.1, unwritten) count
         ]) refl
+
+pub spent_counted : (k n : Kept) (s : SeatView) (number : ℕ) (content : Content) (reply : Reply)
+    → length k.book.out ≡ s.out → (none_out true s ≡ false → Called k s.number (Spend number content) reply n)
+    → (none_out true s ≡ true → (reply ≡ Refused NotOut) × (n ≡ k))
+    → length n.book.out ≡ (gained s (Spend number content) reply).out
+spent_counted k n s number content reply =
+    ended_counted k n s (Spend number content) reply (reply_to k.book.session (Post content))
+    (ticket s.number number content.aim) refl refl refl
+
+pub discarded_counted : (k n : Kept) (s : SeatView) (number : ℕ) (aim : Aim) (reply : Reply)
+    → length k.book.out ≡ s.out → (none_out true s ≡ false → Called k s.number (Discard number aim) reply n)
+    → (none_out true s ≡ true → (reply ≡ Refused NotOut) × (n ≡ k))
+    → length n.book.out ≡ (gained s (Discard number aim) reply).out
+discarded_counted k n s number aim reply =
+    ended_counted k n s (Discard number aim) reply Discarded (ticket s.number number aim) refl refl refl
