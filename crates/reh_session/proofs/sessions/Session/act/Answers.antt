@@ -24,9 +24,11 @@ returns-then-is_full-clause-lasting c = kept_safe c.self.invariant _ c.self.view
 
 pub returns-in_err-changes-clause-answers : goal.returns-in_err-changes-clause-answers
 returns-in_err-changes-clause-answers c =
-    search
-    (rules, act_unmade c.self.invariant _ c.self.view_is c.args.event.now _ (sym c.is_full.ensures ∙ c.if-is_full.false)
-    c.in_err-changes.ensures.err)
+    search (
+      rules,
+      act_unmade c.self.invariant _ c.self.view_is c.args.event.now _ (sym c.is_full.ensures ∙ c.if-is_full.false)
+          c.in_err-changes.ensures.err,
+    )
 
 pub returns-in_err-changes-clause-lasting : goal.returns-in_err-changes-clause-lasting
 returns-in_err-changes-clause-lasting c = kept_safe c.self.invariant _ c.self.view_is

@@ -29,9 +29,9 @@ returns c =
     inl (
       sym done,
       act_moves c.self.invariant c.args.event accepted
-      (omega (arith, count_now c.self.invariant _ c.self.view_is, c.requires.room)) _
-      (record_inside c.self.invariant _ c.self.view_is c.args.event c.args.changes c.requires.record_of)
-      c.exchange.new.changes _ _ _
+          (omega (arith, count_now c.self.invariant _ c.self.view_is, c.requires.room)) _
+          (record_inside c.self.invariant _ c.self.view_is c.args.event c.args.changes c.requires.record_of)
+          c.exchange.new.changes _ _ _
           c.exchange.ensures.state c.exchange.ensures.inverse (rw c.reserve_next.ensures.items at c.keep.ensures)
           (rw c.reserve_next-2.ensures.items at c.keep-2.ensures)
           ∙ ap (λ (m : Session). moved_session m (Do c.args.event)) c.self.view_is,
