@@ -7,7 +7,7 @@ use reh_types::{BookieIx, BookieSet, Event, LedgerId};
 use std::alloc::{AllocError, Global};
 use std::test::Fail;
 
-// Adds the numbers of the bookies in a set.
+/// Adds the numbers of the bookies in a set.
 fn push_set(text: &mut String, bookies: &BookieSet) -> Result<(), AllocError> {
     for i in 0..64 {
         if bookies.contains(BookieIx(i)) {
@@ -17,7 +17,7 @@ fn push_set(text: &mut String, bookies: &BookieSet) -> Result<(), AllocError> {
     Ok(())
 }
 
-// The ledger's missing members, and its least fragment with one.
+/// The ledger's missing members, and its least fragment with one.
 fn push_missing(text: &mut String, state: &State, ledger: LedgerId) -> Result<(), AllocError> {
     if state.ledger(ledger).is_none() {
         return Ok(());
@@ -29,7 +29,7 @@ fn push_missing(text: &mut String, state: &State, ledger: LedgerId) -> Result<()
     write!(text, " under {fragment:?}\n")
 }
 
-// The two ledgers' missing members, and the tasks of an audit.
+/// The two ledgers' missing members, and the tasks of an audit.
 fn audit_text(alloc: Global, state: &State) -> Result<String, AllocError> {
     let mut text = String::new(alloc);
     push_missing(&mut text, state, LedgerId(7))?;

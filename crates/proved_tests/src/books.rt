@@ -174,7 +174,7 @@ fn played(
     text
 }
 
-// The scan still sees the lost member, whose place another took since.
+/// The scan still sees the lost member, whose place another took since.
 #[test]
 fn a_spend_behind_a_swap_is_stale(rt: HostRuntime) {
     let round = Round {
@@ -190,7 +190,7 @@ fn a_spend_behind_a_swap_is_stale(rt: HostRuntime) {
     );
 }
 
-// Undone and done otherwise, the metadata is at the version that was seen, with another ensemble.
+/// Undone and done otherwise, the metadata is at the version that was seen, with another ensemble.
 #[test]
 fn a_version_is_not_enough(rt: HostRuntime) {
     let round = Round {
@@ -230,7 +230,7 @@ fn a_version_is_not_enough(rt: HostRuntime) {
     );
 }
 
-// Entry 1 was written to the second and third bookie, and the third lacks it.
+/// Entry 1 was written to the second and third bookie, and the third lacks it.
 #[test]
 fn a_post_without_a_source_is_refused(rt: HostRuntime) -> Result<(), Fail> {
     let picture = FIVE_BOOKIES.replacen(rt.alloc(), "[[1,2],[4,5]]", "[[2,2],[4,5]]", 1)?;
@@ -253,7 +253,7 @@ fn a_post_without_a_source_is_refused(rt: HostRuntime) -> Result<(), Fail> {
     Ok(())
 }
 
-// The third bookie, which is the source of entry 1, is lost and joins again.
+/// The third bookie, which is the source of entry 1, is lost and joins again.
 #[test]
 fn a_lost_source_is_told_by_its_entry(rt: HostRuntime) {
     let rounds = [
@@ -277,7 +277,7 @@ fn a_lost_source_is_told_by_its_entry(rt: HostRuntime) {
     );
 }
 
-// A ticket out has the last line reserved.
+/// A ticket out has the last line reserved.
 #[test]
 fn a_full_tape_takes_what_is_out(rt: HostRuntime) {
     let mut text = String::new(rt.alloc());
@@ -295,7 +295,7 @@ fn a_full_tape_takes_what_is_out(rt: HostRuntime) {
     assert_eq!(rt; book.tape().len(), 200_000);
 }
 
-// A checkout takes two lines, its own and the ticket's.
+/// A checkout takes two lines, its own and the ticket's.
 #[test]
 fn a_checkout_needs_two_lines(rt: HostRuntime) {
     let mut text = String::new(rt.alloc());
@@ -314,7 +314,7 @@ fn a_checkout_needs_two_lines(rt: HostRuntime) {
     assert_eq!(rt; book.call(SEAT, Move::Look), Reply::Clock(0));
 }
 
-// The finding of one book's second ticket, at another book that has issued one ticket alone.
+/// The finding of one book's second ticket, at another book that has issued one ticket alone.
 #[test]
 fn a_finding_of_another_book_is_handed_back(rt: HostRuntime) {
     let mut text = String::new(rt.alloc());
@@ -370,7 +370,7 @@ fn content(alloc: Global, sources: [Option<BookieIx>; 4]) -> Result<BoxedContent
     BoxedContent::of(alloc, content)
 }
 
-// An accepted post survives as the copy that it stands for, and is undone as that.
+/// An accepted post survives as the copy that it stands for, and is undone as that.
 #[test]
 fn a_post_is_a_copy(rt: HostRuntime) -> Result<(), Fail> {
     let mut session = Session::open(rt.alloc(), state_of(rt.alloc(), FIVE_BOOKIES)?)?;

@@ -7,8 +7,8 @@ use reh_types::{Move, Refusal, Reply};
 use std::alloc::{AllocError, Global};
 use std::process::Abort;
 
-// Lines of a script with their replies: the worker takes the place of the lost bookie, and tries to too early; so it
-// fences the open ledger, and recovers it.
+/// Lines of a script with their replies: the worker takes the place of the lost bookie, and tries to too early; so it
+/// fences the open ledger, and recovers it.
 const LINES: [(&str, &str); 14] = [
     ("lose b2:3181", "ok"),
     ("audit", "ok"),
@@ -26,7 +26,7 @@ const LINES: [(&str, &str); 14] = [
     ("seal b4:3181 9", "ok"),
 ];
 
-// A session on five bookies, of which the worker's holds one entry of the ledger; none where there is no memory.
+/// A session on five bookies, of which the worker's holds one entry of the ledger; none where there is no memory.
 fn opened(rt: &impl Abort, alloc: Global) -> Result<Session, AllocError> {
     let open = FIVE_BOOKIES.strip_suffix("]}").unwrap_or(FIVE_BOOKIES);
     let picture = format!(in alloc;
@@ -39,7 +39,7 @@ fn opened(rt: &impl Abort, alloc: Global) -> Result<Session, AllocError> {
     }
 }
 
-// The state, and how many events survive and are undone.
+/// The state, and how many events survive and are undone.
 fn shown(alloc: Global, session: &Session) -> Result<String, AllocError> {
     let mut text = report_text(alloc, session.state())?;
     write!(
@@ -51,7 +51,7 @@ fn shown(alloc: Global, session: &Session) -> Result<String, AllocError> {
     Ok(text)
 }
 
-// The move that a line asks for.
+/// The move that a line asks for.
 fn step_of(rt: &impl Abort, session: &Session, line: &str) -> Move {
     match parse_line(session.state().names(), line.as_bytes()) {
         Some(Ok(Command::Make(step))) => step,
@@ -59,7 +59,7 @@ fn step_of(rt: &impl Abort, session: &Session, line: &str) -> Move {
     }
 }
 
-// The reply to a line. Where there is no memory for its move nothing has changed, and it is asked for once more.
+/// The reply to a line. Where there is no memory for its move nothing has changed, and it is asked for once more.
 fn asked_again(
     rt: &impl Abort,
     alloc: Global,
@@ -77,7 +77,7 @@ fn asked_again(
     Ok(session.perform(&step))
 }
 
-// A line is replied to as expected.
+/// A line is replied to as expected.
 fn plays(
     rt: &impl Abort,
     alloc: Global,
@@ -91,7 +91,7 @@ fn plays(
     Ok(())
 }
 
-// All events are undone, and made again.
+/// All events are undone, and made again.
 fn goes_back_and_on(rt: &impl Abort, session: &mut Session) {
     for _ in 0..11 {
         assert_eq!(rt; session.undo(), Ok(()));
@@ -103,7 +103,7 @@ fn goes_back_and_on(rt: &impl Abort, session: &mut Session) {
     assert_eq!(rt; session.redo(), Err(Refusal::NothingToRedo));
 }
 
-// All lines are played, undone, and made again; then one is undone and another made in its place.
+/// All lines are played, undone, and made again; then one is undone and another made in its place.
 fn goes_there_and_back(
     rt: &impl Abort,
     alloc: Global,
@@ -119,8 +119,8 @@ fn goes_there_and_back(
     Ok(())
 }
 
-// The test is run with each request for memory refused in turn. It ends well where that is no event's: an undo and a
-// redo make none.
+/// The test is run with each request for memory refused in turn. It ends well where that is no event's: an undo and a
+/// redo make none.
 #[test]
 fn want_of_memory_changes_nothing(rt: HostRuntime) {
     if let Ok(mut session) = opened(&rt, rt.alloc()) {

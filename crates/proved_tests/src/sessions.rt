@@ -16,7 +16,7 @@ fn opened(alloc: Global, picture: &str) -> Result<Session, Fail> {
     Ok(Session::open(alloc, state)?)
 }
 
-// Makes the two events, undoes both, and redoes the first.
+/// Makes the two events, undoes both, and redoes the first.
 fn undo_tick(session: &mut Session) -> Result<(), Refusal> {
     session.act(&LOSE)?;
     session.act(&TICK)?;
@@ -25,7 +25,7 @@ fn undo_tick(session: &mut Session) -> Result<(), Refusal> {
     session.redo()
 }
 
-// Whether the events are this one alone.
+/// Whether the events are this one alone.
 fn are_just(events: &[Event], wanted: Event) -> bool {
     events.len() == 1 && events.contains(&wanted)
 }
@@ -39,7 +39,7 @@ fn undoes_and_redoes(rt: HostRuntime) -> Result<(), Fail> {
     Ok(())
 }
 
-// The clock that the first record would give the state.
+/// The clock that the first record would give the state.
 fn recorded_clock(session: &Session) -> Option<u64> {
     let record = session.records().first()?;
     match record.as_slice().first()? {
@@ -48,7 +48,7 @@ fn recorded_clock(session: &Session) -> Option<u64> {
     }
 }
 
-// While the event survives its record leads back over it, and once it is undone the record makes it again.
+/// While the event survives its record leads back over it, and once it is undone the record makes it again.
 #[test]
 fn a_record_leads_there_and_back(rt: HostRuntime) -> Result<(), Fail> {
     let mut session = opened(rt.alloc(), TWO_BOOKIES)?;
@@ -62,7 +62,7 @@ fn a_record_leads_there_and_back(rt: HostRuntime) -> Result<(), Fail> {
     Ok(())
 }
 
-// A script names no bookie that isn't there, so this refusal takes a call.
+/// A script names no bookie that isn't there, so this refusal takes a call.
 #[test]
 fn no_such_bookie(rt: HostRuntime) -> Result<(), Fail> {
     let mut session = opened(rt.alloc(), TWO_BOOKIES)?;
@@ -74,7 +74,7 @@ fn no_such_bookie(rt: HostRuntime) -> Result<(), Fail> {
     Ok(())
 }
 
-// A copy of the state and of its names, where there is memory.
+/// A copy of the state and of its names, where there is memory.
 #[test]
 fn a_copy_of_the_state(rt: HostRuntime) -> Result<(), Fail> {
     let session = opened(rt.alloc(), TWO_BOOKIES)?;
@@ -85,7 +85,7 @@ fn a_copy_of_the_state(rt: HostRuntime) -> Result<(), Fail> {
     Ok(())
 }
 
-// How many replies a run gives, and those that aren't `ok`, behind their places.
+/// How many replies a run gives, and those that aren't `ok`, behind their places.
 fn run(alloc: Global, picture: &str, moves: &[Move]) -> Result<String, Fail> {
     let mut session = opened(alloc, picture)?;
     let replies = session.run(moves)?;
@@ -99,7 +99,7 @@ fn run(alloc: Global, picture: &str, moves: &[Move]) -> Result<String, Fail> {
     Ok(text)
 }
 
-// A tick, so often, and behind it one event more than can survive, one that is refused, an undo, and an event again.
+/// A tick, so often, and behind it one event more than can survive, one that is refused, an undo, and an event again.
 fn ticks_and_moves(alloc: Global, count: usize) -> Result<Vec<Move>, AllocError> {
     let mut moves = Vec::new(alloc);
     for _ in 0..=count {

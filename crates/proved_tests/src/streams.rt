@@ -171,7 +171,7 @@ fn stops_at_a_failed_write(rt: HostRuntime) -> Result<(), Fail> {
     Ok(())
 }
 
-// A ticket is given back where a write fails, and the findings that are left where the script ends.
+/// A ticket is given back where a write fails, and the findings that are left where the script ends.
 #[test]
 fn gives_its_hand_back(rt: HostRuntime) -> Result<(), Fail> {
     let checkout = "checkout b4:3181 7 0 1\n";

@@ -14,7 +14,7 @@ use std::mem;
 pub struct Ledger {
     id: LedgerId,
     metadata: LedgerMeta,
-    // How many words of 64 entries the ledger has: each bookie's row of it has as many.
+    /// How many words of 64 entries the ledger has: each bookie's row of it has as many.
     words: usize,
     task: Option<BookieSet>,
     lock: Option<Lock>,

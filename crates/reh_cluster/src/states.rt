@@ -31,7 +31,7 @@ use std::marker::Model;
 pub struct State {
     names: Names,
     grace: u64,
-    // The ids of the ledgers, by which one is found.
+    /// The ids of the ledgers, by which one is found.
     ids: IndexSet<u64>,
     parts: Parts,
 }

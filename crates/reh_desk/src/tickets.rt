@@ -98,7 +98,7 @@ impl Ticket {
         self.job.aim()
     }
 
-    // The end of a ticket that is out no more.
+    /// The end of a ticket that is out no more.
     fn end(self) {
         let Ticket {
             number: _,
@@ -130,7 +130,7 @@ impl Finding {
         self.content.as_content()
     }
 
-    // The content, once for the tape's line and once for the seat's list.
+    /// The content, once for the tape's line and once for the seat's list.
     pub(crate) fn into_contents(self) -> (BoxedContent, BoxedContent)
         ensures { (result.0 ≡ self.content) × (result.1 ≡ self.content) }
     {
@@ -165,7 +165,7 @@ impl Unspent {
         }
     }
 
-    // The end of what is out no more.
+    /// The end of what is out no more.
     pub(crate) fn end(self) {
         match self {
             Unspent::Unscanned(ticket) => ticket.end(),
