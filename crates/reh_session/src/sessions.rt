@@ -7,7 +7,7 @@ ghost use Rattle.reh_model.specs.Session.{replay as replayed};
 
 use reh_cluster::{Changes, State};
 use reh_scan::find_posted;
-use reh_step::{check, copy_record, decide};
+use reh_step::{check_event, copy_record, decide};
 use reh_types::{Content, Event, MAX_EVENTS, Move, Refusal, Reply};
 use std::alloc::{AllocError, Global};
 use std::marker::Model;
@@ -116,7 +116,7 @@ impl Session {
         ensures lasting { AllSafe self.new }
     {
         if self.is_full() {
-            check(&self.state, event)?;
+            check_event(&self.state, event)?;
             return Err(Refusal::Full);
         }
         let changes = decide(self.allocator(), &self.state, event)?;

@@ -28,7 +28,7 @@ use reh_types::{
 };
 
 /// Whether the event is accepted, or else the first refusal that applies. It takes no memory.
-pub fn check(state: &State, event: &Event) -> Result<(), Refusal>
+pub fn check_event(state: &State, event: &Event) -> Result<(), Refusal>
     ensures { Decides result (refusal_of state.now event.now) }
 {
     match event {

@@ -6,6 +6,6 @@ mod records;
 mod recoveries;
 mod steps;
 
-pub use decisions::check;
+pub use decisions::check_event;
 pub use records::copy_record;
 pub use steps::{decide, step};

@@ -7,16 +7,16 @@ use Rattle.reh_session.proofs.Keeps.{accepted_now, record_now, act_refused, act_
 use Rattle.reh_session.proofs.Keeps.{perform_safe}
 use Rattle.reh_session.proofs.sessions.Session.act.Goals as goal
 
-pub returns-in_err-check-clause-answers : goal.returns-in_err-check-clause-answers
-returns-in_err-check-clause-answers c =
-    search (rules, act_refused c.self.invariant _ c.self.view_is c.args.event.now _ c.in_err-check.ensures)
+pub returns-in_err-check_event-clause-answers : goal.returns-in_err-check_event-clause-answers
+returns-in_err-check_event-clause-answers c =
+    search (rules, act_refused c.self.invariant _ c.self.view_is c.args.event.now _ c.in_err-check_event.ensures)
 
-pub returns-in_err-check-clause-lasting : goal.returns-in_err-check-clause-lasting
-returns-in_err-check-clause-lasting c = kept_safe c.self.invariant _ c.self.view_is
+pub returns-in_err-check_event-clause-lasting : goal.returns-in_err-check_event-clause-lasting
+returns-in_err-check_event-clause-lasting c = kept_safe c.self.invariant _ c.self.view_is
 
 pub returns-then-is_full-clause-answers : goal.returns-then-is_full-clause-answers
 returns-then-is_full-clause-answers c =
-    act_full c.self.invariant _ c.self.view_is c.args.event.now c.in_ok-check.ensures
+    act_full c.self.invariant _ c.self.view_is c.args.event.now c.in_ok-check_event.ensures
     (sym c.is_full.ensures ∙ c.if-is_full.true)
 
 pub returns-then-is_full-clause-lasting : goal.returns-then-is_full-clause-lasting
