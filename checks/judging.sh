@@ -22,8 +22,7 @@ judge() {
 # `need_program`: proves and builds the program first, where it is missing or older than its sources. Where that fails,
 # so has the check.
 need_program() {
-    ./rehearse --help > "$work/output"
-    [ $? -ne 1 ] || exit 1
+    ./rehearse --prove || exit 1
 }
 
 # `run NAME STATUS FAULT`: the program ends with that status on what $work/input holds, and says just that line on
