@@ -1,0 +1,86 @@
+"""What the checks of documents share. Each prints a line 'ok: NAME' or 'FAILED: NAME' for each thing that it judges.
+
+Who imports it sets `sys.dont_write_bytecode` first: a folder of compiled modules in checks/ would be taken for a check.
+"""
+
+import glob
+import os
+import re
+from typing import List, NamedTuple, Optional, Tuple
+
+TOP = os.path.dirname(os.path.dirname(os.path.abspath(__file__)))
+FENCE = re.compile(r"( *)(`{3,}|~{3,}) *(\S*).*")
+FAILED: List[str] = []
+
+
+class Block(NamedTuple):
+    """A block of a document, with the line and the mark of its fence. An indented block has none."""
+
+    number: int
+    mark: Optional[str]
+    lines: List[str]
+
+
+class Document(NamedTuple):
+    """A document by its name from the top: its numbered lines outside of fenced blocks, and its blocks."""
+
+    name: str
+    prose: List[Tuple[int, str]]
+    blocks: List[Block]
+
+
+def judge(name: str, wrong: List[str]) -> None:
+    """One thing is judged: it passes where nothing is wrong with it, and what is wrong is printed."""
+    print(f"FAILED: {name}" if wrong else f"ok: {name}")
+    for line in wrong:
+        print(f"    {line}")
+    if wrong:
+        FAILED.append(name)
+
+
+def status() -> int:
+    """Returns the status that a check ends with."""
+    return 1 if FAILED else 0
+
+
+def read_text(name: str) -> str:
+    """Reads a file of the repository."""
+    with open(os.path.join(TOP, name), encoding="utf-8", errors="backslashreplace") as it:
+        return it.read()
+
+
+def document_names() -> List[str]:
+    """Returns the documents: README.md and those of docs/."""
+    return ["README.md"] + sorted(os.path.relpath(file, TOP) for file in glob.glob(os.path.join(TOP, "docs", "*.md")))
+
+
+def read_document(name: str) -> Document:
+    """Reads a document, and parts its blocks from the rest."""
+    document = Document(name, [], [])
+    fence = None
+    for number, line in enumerate(read_text(name).splitlines(), 1):
+        found = FENCE.fullmatch(line)
+        if fence and found and not found[3] and found[2].startswith(fence[2]):
+            fence = None
+        elif fence:
+            document.blocks[-1].lines.append(re.sub(f"^ {{0,{len(fence[1])}}}", "", line))
+        elif found:
+            fence = found
+            document.blocks.append(Block(number, found[3], []))
+        else:
+            document.prose.append((number, line))
+    document.blocks.extend(indented_blocks(document.prose))
+    return document
+
+
+def indented_blocks(prose: List[Tuple[int, str]]) -> List[Block]:
+    """Returns a block for each line of code that is only indented: behind an empty line, and in no list."""
+    blocks = []
+    before, is_list = "", False
+    for number, line in prose:
+        if re.match(r" {4}|\t", line) and not before.strip() and not is_list:
+            blocks.append(Block(number, None, [line]))
+        elif line.strip() and not line.startswith(" "):
+            is_list = bool(re.match(r"[-*+] |[0-9]+[.)] ", line))
+        before = line
+    return blocks
