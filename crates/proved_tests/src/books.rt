@@ -24,16 +24,6 @@ const AIM: Aim = Aim {
 /// The loss of the second bookie, and the fourth one's lock.
 const LOSS: &[&str] = &["lose b2:3181", "audit", "acquire b4:3181 7"];
 
-/// Six bookies and one closed ledger, of which each member of the ensemble holds each entry.
-const SIX_BOOKIES: &str =
-    "{\"format\":1,\"grace\":0,\"bookies\":[{\"name\":\"b1:3181\",\"up\":true},{\"name\":\"b2:3181\",\
-     \"up\":true},{\"name\":\"b3:3181\",\"up\":true},{\"name\":\"b4:3181\",\"up\":true},{\"name\":\"b5:3181\",\
-     \"up\":true},{\"name\":\"b6:3181\",\"up\":true}],\"ledgers\":[{\"id\":7,\"state\":\"CLOSED\",\"lastEntryId\":5,\
-     \"ensembleSize\":3,\"writeQuorumSize\":3,\"ackQuorumSize\":2,\"version\":0,\"fragments\":[{\"firstEntry\":0,\
-     \"ensemble\":[\"b1:3181\",\"b2:3181\",\"b3:3181\"]}]}],\"contents\":[{\"bookie\":\"b1:3181\",\"ledger\":7,\
-     \"entries\":[[0,5]]},{\"bookie\":\"b2:3181\",\"ledger\":7,\"entries\":[[0,5]]},{\"bookie\":\"b3:3181\",\
-     \"ledger\":7,\"entries\":[[0,5]]}]}";
-
 /// Lines of a script, then a scan of an aim, and lines that come before what was found is spent.
 #[derive(Clone, Copy)]
 struct Round {
@@ -172,62 +162,6 @@ fn played(
     );
     assert!(rt; ended.is_ok());
     text
-}
-
-/// The scan still sees the lost member, whose place another took since.
-#[test]
-fn a_spend_behind_a_swap_is_stale(rt: HostRuntime) {
-    let round = Round {
-        before: LOSS,
-        aim: AIM,
-        meanwhile: &["copy b4:3181 7 0 1 0", "swap b4:3181 7 0 1 0"],
-    };
-    let text = played(&rt, rt.alloc(), FIVE_BOOKIES, &[round], &[]);
-    assert_eq!(rt;
-        text.as_str(),
-        "ok\nok\nok\nticket 1\nversion 0 first 0 stop 6 members 0 1 2 sources 0 2 0 2\nok\nok\nrefused 24 Stale 1\n\
-         4 held, 7 lines, 0 out\n"
-    );
-}
-
-/// Undone and done otherwise, the metadata is at the version that was seen, with another ensemble.
-#[test]
-fn a_version_is_not_enough(rt: HostRuntime) {
-    let round = Round {
-        before: &[
-            "lose b2:3181",
-            "lose b3:3181",
-            "audit",
-            "acquire b4:3181 7",
-            "copy b4:3181 7 0 1 0",
-            "swap b4:3181 7 0 1 0",
-            "release b4:3181 7",
-            "acquire b5:3181 7",
-        ],
-        aim: Aim {
-            worker: BookieIx(4),
-            ledger: LedgerId(7),
-            fragment: 0,
-            index: 2,
-        },
-        meanwhile: &[
-            "undo",
-            "undo",
-            "undo",
-            "release b4:3181 7",
-            "acquire b6:3181 7",
-            "copy b6:3181 7 0 1 0",
-            "swap b6:3181 7 0 1 0",
-            "release b6:3181 7",
-            "acquire b5:3181 7",
-        ],
-    };
-    let text = played(&rt, rt.alloc(), SIX_BOOKIES, &[round], &[]);
-    assert_eq!(rt;
-        text.as_str(),
-        "ok\nok\nok\nok\nok\nok\nok\nok\nticket 1\nversion 1 first 0 stop 6 members 0 3 2 sources 0 3 0 0 3 0\n\
-         ok\nok\nok\nok\nok\nok\nok\nok\nok\nrefused 24 Stale 1\n6 held, 19 lines, 0 out\n"
-    );
 }
 
 /// Entry 1 was written to the second and third bookie, and the third lacks it.
