@@ -7,3 +7,4 @@ pub mod Greatest
 pub mod Rows
 pub mod PicturesLemmas
 mod Examples
+pub mod PlacesLemmas
