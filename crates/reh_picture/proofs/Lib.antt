@@ -8,3 +8,4 @@ pub mod Rows
 pub mod PicturesLemmas
 mod Examples
 pub mod PlacesLemmas
+pub mod CountsLemmas

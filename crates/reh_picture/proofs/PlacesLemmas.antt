@@ -67,6 +67,26 @@ module _ (judge : ℕ → List Data → Data → Found) (xs : List Value) (i : �
       option_or check (located_along judge (i + 1) (map view (take (i + 1) xs)) (map view (drop (i + 1) xs)))) good)
       ∙ from_here
 
+-- what is judged along each list
+
+abbrev pub bookie_at : ℕ → List Data → Data → Found
+bookie_at i before d = fault_at (place.Bookie i) (bookie_fault (names_in before) d)
+
+abbrev pub member_at : List (List ℕ) → ℕ → ℕ → ℕ → List Data → Data → Found
+member_at names ledger fragment i before d = fault_at (place.Member ledger fragment i) (member_fault names d)
+
+abbrev pub fragment_at : List (List ℕ) → ℕ → ℕ → List Data → Data → Found
+fragment_at names ledger i before d = located_fragment names ledger i d
+
+abbrev pub ledger_at : List (List ℕ) → ℕ → List Data → Data → Found
+ledger_at names i before d = located_ledger names i (ids_in before) d
+
+abbrev pub range_at : ℕ → ℕ → List Data → Data → Found
+range_at content i before d = fault_at (place.Range content i) (range_fault (next_after before) d)
+
+abbrev pub content_at : List (List ℕ) → List ℕ → ℕ → List Data → Data → Found
+content_at names ids i before d = located_content names ids i (pairs_in names before) d
+
 -- Without their places they are the faults of the definition
 
 abbrev pub fault_of : Found → Option PictureFault
