@@ -1,16 +1,14 @@
 -- Faults with their places: along lists, and that they are the faults of the definition.
-use Rattle.std.proofs.Common.{◌≡◌, ◌≢◌, ℕ, ◌+◌, ◌<◌, Bool, true, false, List, [], ◌∷◌, ◌++◌, map, length, take, drop, get_or}
-use Rattle.std.proofs.Common.{Option, None, Some, refl, sym, ap, ◌∙◌, if◌then◌else◌, nat_lt, nat_le}
-use Rattle.std.specs.Prelude.{Result, Ok, Err}
+use Rattle.std.proofs.Common.{◌≡◌, ℕ, ◌+◌, ◌<◌, true, false, List, [], ◌∷◌, ◌++◌, map, length, take, drop, get_or}
+use Rattle.std.proofs.Common.{Option, None, Some, refl, sym, ap, ◌∙◌, if◌then◌else◌, nat_lt}
+use Rattle.std.specs.Prelude.{nat_le, Err}
 use Rattle.std.specs.Option.{option_or, option_map}
 use Rattle.std.specs.Result.{result_err}
 use Rattle.serde_json.specs.Data.{Data}
 use Rattle.serde_json.specs.View.{view}
 use Rattle.serde_json.specs.declared.value.Value.{Value}
 use Rattle.reh_types.specs.declared.limits.TheConstants.{MAX_BOOKIES, MAX_LEDGERS, MAX_PICTURE_BYTES, MAX_WORDS}
-use Rattle.reh_model.specs.Cluster.{Cluster}
 use Rattle.reh_model.specs.Checks.{reason_unless}
-use Rattle.reh_model.proofs.CheckLaws.{both-none}
 use Rattle.reh_picture.specs.declared.fields.Field.TheVariants as field
 use Rattle.reh_picture.specs.declared.faults.PictureFault.{PictureFault}
 use Rattle.reh_picture.specs.declared.faults.PictureFault.TheVariants.{TooLong, NotJson, Limit}
@@ -21,8 +19,8 @@ use Rattle.reh_picture.specs.Members.{list_in, list_of, number_of, list_fault}
 use Rattle.reh_picture.specs.Bookies.{bookie_fault, each_bookie_fault, bookies_fault, names_in}
 use Rattle.reh_picture.specs.Ledgers.{member_fault, members_fault, fragment_fault, fragments_fault, metadata_fault}
 use Rattle.reh_picture.specs.Ledgers.{ledger_fault, each_ledger_fault, ledgers_fault, ids_in}
-use Rattle.reh_picture.specs.Contents.{next_after, range_fault, ranges_fault, pairs_in, content_fault, each_content_fault}
-use Rattle.reh_picture.specs.Contents.{contents_fault}
+use Rattle.reh_picture.specs.Contents.{next_after, range_fault, ranges_fault, pairs_in, content_fault}
+use Rattle.reh_picture.specs.Contents.{each_content_fault, contents_fault}
 use Rattle.reh_picture.specs.Pictures.{names_of, ids_of, head_fault, parts_fault, fields_fault, words_in_all}
 use Rattle.reh_picture.specs.Pictures.{pictured_cluster, json_of, picture_of, unless_fault, shown_by}
 use Rattle.reh_picture.specs.Places.{fault_at, located_along, located_bookies, located_members, located_fragment}

@@ -1,6 +1,6 @@
--- Where the first fault of a picture is: the checks that give its faults once more, each with the place of what it judges.
-use Rattle.std.specs.Prelude.{◌≡◌, ◌≢◌, ℕ, ◌+◌, nat_lt, nat_le, not, List, [], ◌∷◌, ◌++◌, length, if◌then◌else◌, Option, None}
-use Rattle.std.specs.Prelude.{Some, Result, MatchResult, nat_eq}
+-- Where the first fault of a picture is: the checks that give its faults, each with the place of what it judges.
+use Rattle.std.specs.Prelude.{◌≡◌, ◌≢◌, ℕ, ◌+◌, nat_lt, nat_le, not, List, [], ◌∷◌, ◌++◌, length, if◌then◌else◌, Option}
+use Rattle.std.specs.Prelude.{None, Some, Result, MatchResult, nat_eq}
 use Rattle.std.specs.List.{list_any}
 use Rattle.std.specs.Option.{option_map, option_or}
 use Rattle.std.specs.Result.{result_err}
@@ -11,11 +11,12 @@ use Rattle.reh_model.specs.Checks.{first_reason, reason_unless}
 use Rattle.reh_picture.specs.declared.fields.Field.TheVariants as field
 use Rattle.reh_picture.specs.declared.faults.Repeated.TheVariants as repeated
 use Rattle.reh_picture.specs.declared.faults.PictureFault.{PictureFault}
-use Rattle.reh_picture.specs.declared.faults.PictureFault.TheVariants.{TooLong, NotJson, WrongKind, Twice, Limit, NoMemory}
+use Rattle.reh_picture.specs.declared.faults.PictureFault.TheVariants.{TooLong, NotJson, WrongKind, Twice, Limit}
+use Rattle.reh_picture.specs.declared.faults.PictureFault.TheVariants.{NoMemory}
 use Rattle.reh_picture.specs.declared.places.Place.{Place}
 use Rattle.reh_picture.specs.declared.places.Place.TheVariants as place
 use Rattle.reh_picture.specs.declared.places.LocatedFault.{LocatedFault}
-use Rattle.reh_picture.specs.Members.{is_object, number_in, list_in, number_of, list_of, number_fault, list_fault}
+use Rattle.reh_picture.specs.Members.{is_object, list_in, number_of, list_of, number_fault, list_fault}
 use Rattle.reh_picture.specs.Bookies.{bookie_fault, names_in}
 use Rattle.reh_picture.specs.Ledgers.{member_fault, state_fault, sizes_fault, metadata_fault, ids_in}
 use Rattle.reh_picture.specs.Contents.{range_fault, next_after, pair_fault, pairs_in}
@@ -137,7 +138,8 @@ abbrev pub located_fields : Data → Option (PictureFault × Place)
 located_fields d =
     first_reason (
     located_parts d
-    ∷ fault_at place.Picture (reason_unless (nat_le (words_in_all (pictured_cluster d)) MAX_WORDS) (Limit field.Contents))
+    ∷ fault_at place.Picture
+    (reason_unless (nat_le (words_in_all (pictured_cluster d)) MAX_WORDS) (Limit field.Contents))
     ∷ [])
 
 abbrev pub located_value : Option Data → Option (PictureFault × Place)
