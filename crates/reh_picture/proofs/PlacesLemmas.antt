@@ -1,24 +1,33 @@
 -- Faults with their places: along lists, and that they are the faults of the definition.
 use Rattle.std.proofs.Common.{◌≡◌, ℕ, ◌+◌, ◌<◌, true, false, List, [], ◌∷◌, ◌++◌, map, length, take, drop, get_or}
 use Rattle.std.proofs.Common.{Option, None, Some, refl, sym, ap, ◌∙◌, if◌then◌else◌, nat_lt}
-use Rattle.std.specs.Prelude.{nat_le, Err}
+use Rattle.std.proofs.Common.{◌≢◌, ◌≤◌, arith, nat_eq, not}
+use Rattle.std.specs.Prelude.{nat_le, Result, Ok, Err, IfErr}
+use Rattle.std.specs.List.{list_any}
 use Rattle.std.specs.Option.{option_or, option_map}
+use Rattle.std.proofs.lemmas.Bool.Decides.{nat_tests}
 use Rattle.std.specs.Result.{result_err}
 use Rattle.serde_json.specs.Data.{Data}
 use Rattle.serde_json.specs.View.{view}
 use Rattle.serde_json.specs.declared.value.Value.{Value}
-use Rattle.reh_types.specs.declared.limits.TheConstants.{MAX_BOOKIES, MAX_LEDGERS, MAX_PICTURE_BYTES, MAX_WORDS}
+use Rattle.reh_types.specs.declared.limits.TheConstants.{MAX_BOOKIES, MAX_ENTRY_ID, MAX_FRAGMENTS, MAX_LEDGERS}
+use Rattle.reh_types.specs.declared.limits.TheConstants.{MAX_LEDGER_ID, MAX_PICTURE_BYTES, MAX_VERSION, MAX_WORDS}
+use Rattle.reh_meta.specs.Faults as rules
 use Rattle.reh_model.specs.Checks.{reason_unless}
 use Rattle.reh_picture.specs.declared.fields.Field.TheVariants as field
 use Rattle.reh_picture.specs.declared.faults.PictureFault.{PictureFault}
-use Rattle.reh_picture.specs.declared.faults.PictureFault.TheVariants.{TooLong, NotJson, Limit}
+use Rattle.reh_picture.specs.declared.faults.PictureFault.TheVariants.{TooLong, NotJson, WrongKind, Twice, Limit}
+use Rattle.reh_picture.specs.declared.faults.PictureFault.TheVariants.{NoMemory}
+use Rattle.reh_picture.specs.declared.faults.Repeated.TheVariants as repeated
+use Rattle.reh_picture.specs.declared.places.LocatedFault.{LocatedFault}
 use Rattle.reh_picture.specs.declared.places.Place.{Place}
 use Rattle.reh_picture.specs.declared.places.Place.TheVariants as place
 use Rattle.reh_picture.specs.Faults.{fault_along}
-use Rattle.reh_picture.specs.Members.{list_in, list_of, number_of, list_fault}
+use Rattle.reh_picture.specs.Members.{is_object, list_in, list_of, number_of, number_fault, list_fault}
 use Rattle.reh_picture.specs.Bookies.{bookie_fault, each_bookie_fault, bookies_fault, names_in}
 use Rattle.reh_picture.specs.Ledgers.{member_fault, members_fault, fragment_fault, fragments_fault, metadata_fault}
-use Rattle.reh_picture.specs.Ledgers.{ledger_fault, each_ledger_fault, ledgers_fault, ids_in}
+use Rattle.reh_picture.specs.Ledgers.{ledger_fault, each_ledger_fault, ledgers_fault, ids_in, state_fault, sizes_fault}
+use Rattle.reh_picture.specs.Ledgers.{broken_rule, pictured_metadata}
 use Rattle.reh_picture.specs.Contents.{next_after, range_fault, ranges_fault, pairs_in, content_fault}
 use Rattle.reh_picture.specs.Contents.{each_content_fault, contents_fault}
 use Rattle.reh_picture.specs.Pictures.{names_of, ids_of, head_fault, parts_fault, fields_fault, words_in_all}
@@ -99,17 +108,18 @@ fault_of-or : (found later : Found) → fault_of (option_or found later) ≡ opt
 fault_of-or None later = refl
 fault_of-or (Some f) later = refl
 
-module _ {check more : Option PictureFault} {found later : Found} where
-  either : fault_of found ≡ check → fault_of later ≡ more → fault_of (option_or found later) ≡ option_or check more
-  either is rest = fault_of-or found later ∙ ap (λ c. option_or c (fault_of later)) is ∙ ap (option_or check) rest
+either : (found later : Found) (check more : Option PictureFault) → fault_of found ≡ check → fault_of later ≡ more
+    → fault_of (option_or found later) ≡ option_or check more
+either found later check more is rest =
+    fault_of-or found later ∙ ap (λ c. option_or c (fault_of later)) is ∙ ap (option_or check) rest
 
 fault_of-along : (locate : ℕ → List Data → Data → Found) (judge : List Data → Data → Option PictureFault)
     → ((i : ℕ) (before : List Data) (d : Data) → fault_of (locate i before d) ≡ judge before d)
     → (i : ℕ) (before ds : List Data) → fault_of (located_along locate i before ds) ≡ fault_along judge before ds
 fault_of-along locate judge each i before [] = refl
 fault_of-along locate judge each i before (d ∷ ds) =
-    either {check = judge before d} {more = fault_along judge (before ++ d ∷ []) ds} {found = locate i before d}
-    {later = located_along locate (i + 1) (before ++ d ∷ []) ds} (each i before d)
+    either (locate i before d) (located_along locate (i + 1) (before ++ d ∷ []) ds) (judge before d)
+    (fault_along judge (before ++ d ∷ []) ds) (each i before d)
     (fault_of-along locate judge each (i + 1) (before ++ d ∷ []) ds)
 
 fault_of-bookies : (bookies : List Data) → fault_of (located_bookies bookies) ≡ each_bookie_fault bookies
@@ -135,8 +145,9 @@ three None None None d = refl
 fault_of-fragment : (names : List (List ℕ)) (l f : ℕ) (d : Data)
     → fault_of (located_fragment names l f d) ≡ fragment_fault names d
 fault_of-fragment names l f d =
-    either (fault_of-fault_at (place.Fragment l f) _) (either (fault_of-members names l f (list_of d field.Ensemble)) refl)
-    ∙ three _ _ _ _
+    either _ _ _ _ (fault_of-fault_at (place.Fragment l f) _) (either _ _ _ _ (fault_of-members names l f (list_of d field.Ensemble)) refl)
+    ∙ three (reason_unless (is_object d) (WrongKind field.Fragment)) (number_fault d field.FirstEntry 0 MAX_ENTRY_ID)
+    (result_err (list_in d field.Ensemble)) (members_fault names (list_of d field.Ensemble))
 
 fault_of-fragments : (names : List (List ℕ)) (l : ℕ) (fragments : List Data)
     → fault_of (located_fragments names l fragments) ≡ fragments_fault names fragments
@@ -168,11 +179,15 @@ fault_of-ledger : (names : List (List ℕ)) (i : ℕ) (ids : List ℕ) (d : Data
     → fault_of (located_ledger names i ids d) ≡ ledger_fault names ids d
 unfolding metadata_fault
 fault_of-ledger names i ids d =
-    either (fault_of-fault_at (place.Ledger i) _)
-    (either (fault_of-fault_at (place.Ledger i) _)
-    (either (fault_of-fragments names i (list_of d field.Fragments))
-    (either (fault_of-fault_at (place.Ledger i) (metadata_fault names (number_of d field.Id) d)) refl)))
-    ∙ again _ _ _ _ _ _ _ _ _
+    either _ _ _ _ (fault_of-fault_at (place.Ledger i) _)
+    (either _ _ _ _ (fault_of-fault_at (place.Ledger i) _)
+    (either _ _ _ _ (fault_of-fragments names i (list_of d field.Fragments))
+    (either _ _ _ _ (fault_of-fault_at (place.Ledger i) (metadata_fault names (number_of d field.Id) d)) refl)))
+    ∙ again (reason_unless (is_object d) (WrongKind field.Ledger)) (number_fault d field.Id 0 MAX_LEDGER_ID)
+    (reason_unless (not (list_any (nat_eq (number_of d field.Id)) ids)) (Twice (repeated.Ledger (number_of d field.Id))))
+    (state_fault d) (sizes_fault d) (number_fault d field.Version 0 MAX_VERSION)
+    (list_fault d field.Fragments 0 MAX_FRAGMENTS) (fragments_fault names (list_of d field.Fragments))
+    (option_map (broken_rule (number_of d field.Id)) (rules.fault_of (pictured_metadata names d)))
 
 fault_of-ledgers : (names : List (List ℕ)) (ledgers : List Data)
     → fault_of (located_ledgers names ledgers) ≡ each_ledger_fault names ledgers
@@ -189,9 +204,9 @@ fault_of-ranges content ranges =
 fault_of-content : (names : List (List ℕ)) (ids : List ℕ) (i : ℕ) (pairs : List (ℕ × ℕ)) (d : Data)
     → fault_of (located_content names ids i pairs d) ≡ content_fault names ids pairs d
 fault_of-content names ids i pairs d =
-    either (fault_of-fault_at (place.Content i) _)
-    (either (fault_of-fault_at (place.Content i) _)
-    (either (fault_of-ranges i (list_of d field.Entries)) refl))
+    either _ _ _ _ (fault_of-fault_at (place.Content i) _)
+    (either _ _ _ _ (fault_of-fault_at (place.Content i) _)
+    (either _ _ _ _ (fault_of-ranges i (list_of d field.Entries)) refl))
 
 fault_of-contents : (names : List (List ℕ)) (ids : List ℕ) (contents : List Data)
     → fault_of (located_contents names ids contents) ≡ each_content_fault names ids contents
@@ -218,14 +233,17 @@ paired None None None None None None None = refl
 fault_of-parts : (d : Data) → fault_of (located_parts d) ≡ parts_fault d
 unfolding bookies_fault ledgers_fault contents_fault
 fault_of-parts d =
-    either (fault_of-fault_at place.Picture (head_fault d))
-    (either (fault_of-fault_at place.Picture (list_fault d field.Bookies 1 MAX_BOOKIES))
-    (either (fault_of-bookies (list_of d field.Bookies))
-    (either (fault_of-fault_at place.Picture (list_fault d field.Ledgers 0 MAX_LEDGERS))
-    (either (fault_of-ledgers (names_of d) (list_of d field.Ledgers))
-    (either (fault_of-fault_at place.Picture (result_err (list_in d field.Contents)))
-    (either (fault_of-contents (names_of d) (ids_of d) (list_of d field.Contents)) refl))))))
-    ∙ paired _ _ _ _ _ _ _
+    either _ _ _ _ (fault_of-fault_at place.Picture (head_fault d))
+    (either _ _ _ _ (fault_of-fault_at place.Picture (list_fault d field.Bookies 1 MAX_BOOKIES))
+    (either _ _ _ _ (fault_of-bookies (list_of d field.Bookies))
+    (either _ _ _ _ (fault_of-fault_at place.Picture (list_fault d field.Ledgers 0 MAX_LEDGERS))
+    (either _ _ _ _ (fault_of-ledgers (names_of d) (list_of d field.Ledgers))
+    (either _ _ _ _ (fault_of-fault_at place.Picture (result_err (list_in d field.Contents)))
+    (either _ _ _ _ (fault_of-contents (names_of d) (ids_of d) (list_of d field.Contents)) refl))))))
+    ∙ paired (head_fault d) (list_fault d field.Bookies 1 MAX_BOOKIES) (each_bookie_fault (list_of d field.Bookies))
+    (list_fault d field.Ledgers 0 MAX_LEDGERS) (each_ledger_fault (names_of d) (list_of d field.Ledgers))
+    (result_err (list_in d field.Contents))
+    (each_content_fault (names_of d) (ids_of d) (list_of d field.Contents))
 
 -- Pictures
 
@@ -234,7 +252,7 @@ words_fault d = reason_unless (nat_le (words_in_all (pictured_cluster d)) MAX_WO
 
 fault_of-fields : (d : Data) → fault_of (located_fields d) ≡ fields_fault d
 unfolding words_fault
-fault_of-fields d = either (fault_of-parts d) (either (fault_of-fault_at place.Picture (words_fault d)) refl)
+fault_of-fields d = either _ _ _ _ (fault_of-parts d) (either _ _ _ _ (fault_of-fault_at place.Picture (words_fault d)) refl)
 
 -- where no part has a fault, that of the picture as a whole is at its place
 pub located_last : (d : Data) (fault : PictureFault) → located_parts d ≡ None → fields_fault d ≡ Some fault
@@ -262,7 +280,8 @@ located_part d found is =
 -- what a value's located fault says of the picture that it shows
 refused_value : (v : Option Data) (fault : PictureFault) (here : Place) → located_value v ≡ Some (fault, here)
     → shown_by v ≡ Err fault
-refused_value None fault here is = let same : NotJson ≡ fault = cc in ap Err same
+refused_value None fault here is =
+    let same : (NotJson, place.Picture) ≡ (fault, here) = cc in ap (λ (f : PictureFault × Place). Err f.0) same
 refused_value (Some d) fault here is =
     ap (λ check. unless_fault check (pictured_cluster d)) (sym (fault_of-fields d) ∙ ap fault_of is)
 
@@ -273,6 +292,20 @@ picture_of-located bytes fault here is =
     elim (nat_lt MAX_PICTURE_BYTES (length bytes)) as (λ long.
     (if long then Some (TooLong, place.Picture) else located_value (json_of bytes)) ≡ Some (fault, here)
     → (if long then Err TooLong else shown_by (json_of bytes)) ≡ Err fault) [
-      | true ↦ λ is. let same : TooLong ≡ fault = cc in ap Err same
+      | true ↦ λ is. let same : (TooLong, place.Picture) ≡ (fault, here) = cc in
+          ap (λ (f : PictureFault × Place). Err f.0) same
       | false ↦ λ is. refused_value (json_of bytes) fault here is
     ] is
+
+short : (bytes : List ℕ) → length bytes ≤ MAX_PICTURE_BYTES → nat_lt MAX_PICTURE_BYTES (length bytes) ≡ false
+short bytes few = grind (arith, nat_tests, few)
+
+-- a value's located fault is the fault of the picture that it was read from
+pub refused_fields : {A : Type 0} (bytes : List ℕ) (d : Data) (result : Result A LocatedFault)
+    → length bytes ≤ MAX_PICTURE_BYTES → json_of bytes ≡ Some d
+    → IfErr result (λ l. l.fault ≢ NoMemory → located_fields d ≡ Some (l.fault, l.place))
+    → IfErr result (λ l. l.fault ≢ NoMemory → picture_of bytes ≡ Err l.fault)
+refused_fields bytes d (Ok x) few json located = tt
+refused_fields bytes d (Err l) few json located = λ known.
+    ap (λ long. if long then Err TooLong else shown_by (json_of bytes)) (short bytes few) ∙ ap shown_by json
+    ∙ refused_value (Some d) l.fault l.place (located known)

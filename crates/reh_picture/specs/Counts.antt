@@ -33,7 +33,7 @@ counts_of s = record {
   bookies = length s.names;
   up = up_in s;
   ledgers = length s.parts.ledgers;
-  open = count_by (λ g. is_open g.metadata.state) s.parts.ledgers;
+  «open» = count_by (λ g. is_open g.metadata.state) s.parts.ledgers;
   in_recovery = count_by (λ g. is_in_recovery g.metadata.state) s.parts.ledgers;
   closed = count_by (λ g. is_closed g.metadata.state) s.parts.ledgers;
   fragments = fragments_of s.parts.ledgers;
@@ -44,7 +44,7 @@ counts_of s = record {
 -- a line for each kind of thing, and no line's end behind the last
 abbrev pub counts_text : Counts → List ℕ
 counts_text c =
-    (codes "bookies "
+    codes "bookies "
     ++ (decimal c.bookies
     ++ (codes " up "
     ++ (decimal c.up
@@ -53,8 +53,11 @@ counts_text c =
     ++ (codes " OPEN "
     ++ (decimal c.open
     ++ (codes " IN_RECOVERY "
-    ++ (decimal c.in_recovery ++ (codes " CLOSED " ++ (decimal c.closed ++ codes "\n"))))))))))))
-    ++ (codes "fragments "
+    ++ (decimal c.in_recovery
+    ++ (codes " CLOSED "
+    ++ (decimal c.closed
+    ++ (codes "\nfragments "
     ++ (decimal c.fragments
     ++ (codes "\nentries "
-    ++ (decimal c.entries ++ (codes "\nwords " ++ (decimal c.words ++ (codes " of " ++ decimal MAX_WORDS)))))))
+    ++ (decimal c.entries
+    ++ (codes "\nwords " ++ (decimal c.words ++ (codes " of " ++ decimal MAX_WORDS))))))))))))))))))

@@ -42,12 +42,9 @@ impl Counts {
             bookies: state.names().len(),
             up: count_up(state),
             ledgers: ledgers.len(),
-            open: ledgers.iter().filter(|ledger| is_open(ledger)).count(),
-            in_recovery: ledgers
-                .iter()
-                .filter(|ledger| is_in_recovery(ledger))
-                .count(),
-            closed: ledgers.iter().filter(|ledger| is_closed(ledger)).count(),
+            open: count_open(ledgers),
+            in_recovery: count_in_recovery(ledgers),
+            closed: count_closed(ledgers),
             fragments: count_fragments(ledgers),
             entries: count_entries(state),
             words: words_in_all(state.names().len(), ledgers),
@@ -64,13 +61,17 @@ impl fmt::Display for Counts {
     fn fmt<W: fmt::Write>(&self, f: &mut fmt::Formatter<W>) -> fmt::Result {
         write!(
             f,
-            "bookies {} up {}\nledgers {} OPEN {} IN_RECOVERY {} CLOSED {}\n",
-            self.bookies, self.up, self.ledgers, self.open, self.in_recovery, self.closed
-        )?;
-        write!(
-            f,
-            "fragments {}\nentries {}\nwords {} of {MAX_WORDS}",
-            self.fragments, self.entries, self.words
+            "bookies {} up {}\nledgers {} OPEN {} IN_RECOVERY {} CLOSED {}\nfragments {}\nentries {}\nwords {} of {}",
+            self.bookies,
+            self.up,
+            self.ledgers,
+            self.open,
+            self.in_recovery,
+            self.closed,
+            self.fragments,
+            self.entries,
+            self.words,
+            MAX_WORDS
         )
     }
 }
@@ -112,6 +113,13 @@ fn count_fragments(ledgers: &[Ledger]) -> usize
     fragments
 }
 
+/// How many ledgers are OPEN.
+fn count_open(ledgers: &[Ledger]) -> usize
+    ensures { result ≡ count_by (λ g. meta.is_open g.metadata.state) ledgers.now }
+{
+    ledgers.iter().filter(|ledger| is_open(ledger)).count()
+}
+
 /// Whether a ledger is OPEN.
 fn is_open(ledger: &Ledger) -> bool
     ensures { result ≡ meta.is_open ledger.now.metadata.state }
@@ -119,11 +127,28 @@ fn is_open(ledger: &Ledger) -> bool
     matches!(ledger.metadata().state(), LedgerState::Open)
 }
 
+/// How many ledgers are IN_RECOVERY.
+fn count_in_recovery(ledgers: &[Ledger]) -> usize
+    ensures { result ≡ count_by (λ g. meta.is_in_recovery g.metadata.state) ledgers.now }
+{
+    ledgers
+        .iter()
+        .filter(|ledger| is_in_recovery(ledger))
+        .count()
+}
+
 /// Whether a ledger is IN_RECOVERY.
 fn is_in_recovery(ledger: &Ledger) -> bool
     ensures { result ≡ meta.is_in_recovery ledger.now.metadata.state }
 {
     matches!(ledger.metadata().state(), LedgerState::InRecovery)
+}
+
+/// How many ledgers are CLOSED.
+fn count_closed(ledgers: &[Ledger]) -> usize
+    ensures { result ≡ count_by (λ g. is_closed_state g.metadata.state) ledgers.now }
+{
+    ledgers.iter().filter(|ledger| is_closed(ledger)).count()
 }
 
 /// Whether a ledger is CLOSED.

@@ -48,7 +48,11 @@ pub(crate) fn known_bookie(
 }
 
 /// A member of an ensemble.
-pub(crate) fn read_member(alloc: Global, names: &Names, member: &Value) -> Result<BookieIx, PictureFault>
+pub(crate) fn read_member(
+    alloc: Global,
+    names: &Names,
+    member: &Value,
+) -> Result<BookieIx, PictureFault>
     ensures fault { FailsWith result (member_fault names.now (view member.now)) }
     ensures bookie { IfOk result
         (λ bookie. bookie ≡ bookie_in names.now (member_name (view member.now))) }

@@ -21,7 +21,10 @@ pub enum Place {
     /// A ledger.
     Ledger(usize),
     /// A fragment of a ledger.
-    Fragment { ledger: usize, fragment: usize },
+    Fragment {
+        ledger: usize,
+        fragment: usize,
+    },
     /// A member of a fragment's ensemble.
     Member {
         ledger: usize,
@@ -31,7 +34,10 @@ pub enum Place {
     /// What one bookie holds of one ledger.
     Content(usize),
     /// A range of the entries that it holds.
-    Range { content: usize, range: usize },
+    Range {
+        content: usize,
+        range: usize,
+    },
 }
 
 impl Place {
@@ -209,7 +215,8 @@ impl LedgerFlaw {
         match self {
             LedgerFlaw::Quorum => "1 <= ackQuorumSize <= writeQuorumSize <= ensembleSize <= 16",
             LedgerFlaw::Fragment => "firstEntry 0 in the first, and a greater one in each after it",
-            LedgerFlaw::Ensemble => "as many different bookies in each ensemble as ensembleSize says",
+            LedgerFlaw::Ensemble =>
+                "as many different bookies in each ensemble as ensembleSize says",
             LedgerFlaw::Last => "at least the firstEntry of the last fragment minus 1",
             LedgerFlaw::Unknown => "the id of a ledger of the picture",
         }
@@ -261,15 +268,25 @@ fn wanted(field: Field, place: Place) -> &'static str
 
 // The numbers in these texts are the limits.
 const _: () = prove!(MAX_PICTURE_BYTES == 8_388_608);
+
 const _: () = prove!(MAX_WORDS == 4_194_304);
+
 const _: () = prove!(MAX_GRACE == 1_000_000);
+
 const _: () = prove!(MAX_BOOKIES == 64);
+
 const _: () = prove!(MAX_NAME_BYTES == 300);
+
 const _: () = prove!(MAX_LEDGERS == 512);
+
 const _: () = prove!(MAX_LEDGER_ID == 1_000_000_000_000);
+
 const _: () = prove!(MAX_VERSION == 1_000_000_000_000);
+
 const _: () = prove!(MAX_ENSEMBLE_SIZE == 16);
+
 const _: () = prove!(MAX_FRAGMENTS == 256);
+
 const _: () = prove!(MAX_ENTRY_ID == 65_535);
 
 impl fmt::Display for LocatedFault {

@@ -1,16 +1,16 @@
 // The walk along a refused picture once more, for the place of its first fault.
-ghost use Rattle.std.specs.Prelude.{◌≡◌, ◌≢◌, ◌≤◌, [], ◌∷◌, ◌++◌, length, map, Ok, Err, Some, None, MatchResult, IfOk};
+ghost use Rattle.std.specs.Prelude.{◌≡◌, ◌≢◌, ◌<◌, ◌≤◌, ◌+◌, [], ◌∷◌, ◌++◌, length, map, Ok, Err, Some, None, MatchResult, IfOk};
 ghost use Rattle.std.specs.Prelude.{IfErr, OnOk};
 ghost use Rattle.std.specs.Result.{result_err};
 ghost use Rattle.serde_json.specs.View.{view};
 ghost use Rattle.reh_types.specs.declared.limits.TheConstants.{MAX_BOOKIES};
 ghost use Rattle.reh_picture.specs.Faults.{FailsWith};
-ghost use Rattle.reh_picture.specs.Members.{number_of, list_of};
-ghost use Rattle.reh_picture.specs.Bookies.{names_in};
-ghost use Rattle.reh_picture.specs.Ledgers.{ids_in};
-ghost use Rattle.reh_picture.specs.Contents.{pair_of};
+ghost use Rattle.reh_picture.specs.Members.{number_of, text_of, list_in, list_of, list_fault};
+ghost use Rattle.reh_picture.specs.Bookies.{bookie_fault, names_in};
+ghost use Rattle.reh_picture.specs.Ledgers.{member_fault, ids_in};
+ghost use Rattle.reh_picture.specs.Contents.{pair_of, range_fault, ends_of};
 ghost use Rattle.reh_picture.specs.Pictures.{head_fault, fields_fault, picture_of, picture_in, json_of};
-ghost use Rattle.reh_picture.specs.Places.{FailsAt, before_members, id_fault, before_fragments, located_bookies};
+ghost use Rattle.reh_picture.specs.Places.{FailsAt, fault_at, before_members, id_fault, before_fragments, located_bookies};
 ghost use Rattle.reh_picture.specs.Places.{located_members, located_fragment, located_fragments, located_ledger};
 ghost use Rattle.reh_picture.specs.Places.{located_ledgers, located_ranges, located_content, located_contents};
 ghost use Rattle.reh_picture.specs.Places.{located_parts, located_fields, located_of};
@@ -87,16 +87,54 @@ fn locate(alloc: Global, picture: &Value, fault: PictureFault) -> LocatedFault
 fn locate_parts(alloc: Global, picture: &Value) -> Result<(), LocatedFault>
     ensures { FailsAt result (located_parts (view picture.now)) }
 {
-    let here = Place::Picture;
-    read_grace(picture).map_err(|fault| fault.at(here))?;
-    let bookies =
-        list_within(picture, Field::Bookies, 1, MAX_BOOKIES).map_err(|fault| fault.at(here))?;
+    read_head(picture)?;
+    let bookies = list_at(picture, Field::Bookies, 1, MAX_BOOKIES)?;
     let names = locate_bookies(alloc, bookies)?;
-    let ledgers =
-        list_within(picture, Field::Ledgers, 0, MAX_LEDGERS).map_err(|fault| fault.at(here))?;
+    let ledgers = list_at(picture, Field::Ledgers, 0, MAX_LEDGERS)?;
     let ids = locate_ledgers(alloc, &names, ledgers)?;
-    let contents = list(picture, Field::Contents).map_err(|fault| fault.at(here))?;
+    let contents = contents_at(picture)?;
     locate_contents(alloc, &names, &ids, contents)
+}
+
+/// What stands before a picture's lists.
+fn read_head(picture: &Value) -> Result<(), LocatedFault>
+    ensures { FailsAt result (fault_at Place.Picture (head_fault (view picture.now))) }
+{
+    match read_grace(picture) {
+        Ok(_) => Ok(()),
+        Err(fault) => Err(fault.at(Place::Picture)),
+    }
+}
+
+/// A list of a picture with from the least to the most elements.
+fn list_at(
+    picture: &Value,
+    field: Field,
+    least: usize,
+    most: usize,
+) -> Result<&[Value], LocatedFault>
+    ensures fault { FailsAt result
+        (fault_at Place.Picture (list_fault (view picture.now) field least most)) }
+    ensures list { IfOk result (λ list. list_of (view picture.now) field ≡ map view list.now) }
+    ensures within { IfOk result (λ list. length list.now ≤ most) }
+{
+    match list_within(picture, field, least, most) {
+        Ok(list) => Ok(list),
+        Err(fault) => Err(fault.at(Place::Picture)),
+    }
+}
+
+/// The list of a picture's contents.
+fn contents_at(picture: &Value) -> Result<&[Value], LocatedFault>
+    ensures fault { FailsAt result
+        (fault_at Place.Picture (result_err (list_in (view picture.now) Field.Contents))) }
+    ensures list { IfOk result
+        (λ list. list_of (view picture.now) Field.Contents ≡ map view list.now) }
+{
+    match list(picture, Field::Contents) {
+        Ok(list) => Ok(list),
+        Err(fault) => Err(fault.at(Place::Picture)),
+    }
 }
 
 /// The first fault of bookies, or their names.
@@ -108,9 +146,28 @@ fn locate_bookies(alloc: Global, bookies: &[Value]) -> Result<Names, LocatedFaul
 {
     let mut names = Names::new(alloc);
     for (i, bookie) in bookies.iter().enumerate() {
-        read_bookie(alloc, &mut names, bookie).map_err(|fault| fault.at(Place::Bookie(i)))?;
+        locate_bookie(alloc, &mut names, i, bookie)?;
     }
     Ok(names)
+}
+
+/// The fault of the bookie of this number, whose name joins the names. After an `Err` they may have it.
+fn locate_bookie(
+    alloc: Global,
+    names: &mut Names,
+    number: usize,
+    bookie: &Value,
+) -> Result<(), LocatedFault>
+    requires { length names.old < MAX_BOOKIES }
+    ensures fault { FailsAt result
+        (fault_at (Place.Bookie number) (bookie_fault names.old (view bookie.now))) }
+    ensures named { OnOk result
+        (names.new ≡ names.old ++ text_of (view bookie.now) Field.Name ∷ []) }
+{
+    match read_bookie(alloc, names, bookie) {
+        Ok(_) => Ok(()),
+        Err(fault) => Err(fault.at(Place::Bookie(number))),
+    }
 }
 
 /// The first fault of ledgers, or their ids.
@@ -243,9 +300,24 @@ fn locate_members(
             fragment,
             member: i,
         };
-        read_member(alloc, names, member).map_err(|fault| fault.at(here))?;
+        locate_member(alloc, names, here, member)?;
     }
     Ok(())
+}
+
+/// The fault of the member at this place.
+fn locate_member(
+    alloc: Global,
+    names: &Names,
+    here: Place,
+    member: &Value,
+) -> Result<(), LocatedFault>
+    ensures { FailsAt result (fault_at here (member_fault names.now (view member.now))) }
+{
+    match read_member(alloc, names, member) {
+        Ok(_) => Ok(()),
+        Err(fault) => Err(fault.at(here)),
+    }
 }
 
 /// The first fault of contents.
@@ -294,8 +366,18 @@ fn locate_ranges(content: usize, ranges: &[Value]) -> Result<(), LocatedFault>
     let mut least = 0;
     for (i, range) in ranges.iter().enumerate() {
         let here = Place::Range { content, range: i };
-        let (_, last) = read_range(least, range).map_err(|fault| fault.at(here))?;
-        least = last as u64 + 1;
+        least = locate_range(least, here, range)?;
     }
     Ok(())
+}
+
+/// The fault of the range at this place, or where the next one may begin.
+fn locate_range(least: u64, here: Place, range: &Value) -> Result<u64, LocatedFault>
+    ensures fault { FailsAt result (fault_at here (range_fault least (view range.now))) }
+    ensures next { IfOk result (λ next. next ≡ (ends_of (view range.now)).1 + 1) }
+{
+    match read_range(least, range) {
+        Ok((_, last)) => Ok(last as u64 + 1),
+        Err(fault) => Err(fault.at(here)),
+    }
 }
