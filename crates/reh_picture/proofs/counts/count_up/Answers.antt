@@ -5,20 +5,23 @@ use Rattle.reh_picture.proofs.CountsLemmas.{sum_by-range_more}
 use Rattle.reh_picture.proofs.counts.count_up.Goals as goal
 use Rattle.reh_picture.proofs.counts.count_up.Goals.{then-is_up, else-is_up}
 
+-- how much a bookie counts
+abbrev one : Bool → ℕ
+one up = cond up 1 0
+
 pub loop-i-preserved : goal.loop-i-preserved
 loop-i-preserved c =
-    let one = λ (b : ℕ). cond (is_up c.args.state.now b) 1 0 in
-    let more = sum_by-range_more one c.loop-i.i in
-    let here : cond c.is_up.result 1 0 ≡ one c.loop-i.i = ap (λ (up : Bool). cond up 1 0) c.is_up.ensures in
+    let is_here = is_up c.args.state.now c.loop-i.i in
+    let more = sum_by-range_more (λ (b : ℕ). one (is_up c.args.state.now b)) c.loop-i.i in
     elim c.if-is_up.branch [
       | then-is_up w ↦
-          let is : 1 ≡ one c.loop-i.i = sym (ap (λ (up : Bool). cond up 1 0) w.if-is_up.true) ∙ here in
+          let is : one is_here ≡ 1 = ap one (sym c.is_up.ensures ∙ w.if-is_up.true) in
           record {
             count = omega (arith, w.up-is, c.loop-i.invariant.count, more, is);
             few = omega (arith, w.up-is, c.loop-i.invariant.few);
           }
       | else-is_up w ↦
-          let is : 0 ≡ one c.loop-i.i = sym (ap (λ (up : Bool). cond up 1 0) w.if-is_up.false) ∙ here in
+          let is : one is_here ≡ 0 = ap one (sym c.is_up.ensures ∙ w.if-is_up.false) in
           record {
             count = omega (arith, w.up-is, c.loop-i.invariant.count, more, is);
             few = omega (arith, w.up-is, c.loop-i.invariant.few);
