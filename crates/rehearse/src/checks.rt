@@ -43,7 +43,7 @@ fn unread(alloc: Global, failed: &str, path: &str, error: io::Error) -> RunFault
     }
 }
 
-/// What could not be done with a file, and the system's reason without its number.
+/// What could not be done with a file, and the system's reason.
 fn unread_text(
     alloc: Global,
     failed: &str,
@@ -51,9 +51,14 @@ fn unread_text(
     error: io::Error,
 ) -> Result<String, AllocError> {
     let said = format!(in alloc; "{error}")?;
-    let reason = match said.as_str().split_once(" (os error ") {
-        Some((reason, _number)) => reason,
-        None => said.as_str(),
-    };
+    let reason = without_number(said.as_str());
     format!(in alloc; "cannot {failed} {path}: {reason}")
+}
+
+/// A system's reason without the number that stands behind it.
+fn without_number(reason: &str) -> &str {
+    match reason.split_once(" (os error ") {
+        Some((words, _)) => words,
+        None => reason,
+    }
 }
