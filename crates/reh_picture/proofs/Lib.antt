@@ -7,3 +7,5 @@ pub mod Greatest
 pub mod Rows
 pub mod PicturesLemmas
 mod Examples
+pub mod PlacesLemmas
+pub mod CountsLemmas

@@ -5,3 +5,6 @@ pub mod Bookies
 pub mod Ledgers
 pub mod Contents
 pub mod Pictures
+pub mod Places
+pub mod Expected
+pub mod Counts

@@ -58,7 +58,11 @@ fn read_each_bookie(alloc: Global, bookies: &[Value]) -> Result<(Names, BookieSe
 }
 
 /// Adds one more bookie's name, and says whether the bookie is registered. After an `Err` the names may have its name.
-fn read_bookie(alloc: Global, names: &mut Names, bookie: &Value) -> Result<bool, PictureFault>
+pub(crate) fn read_bookie(
+    alloc: Global,
+    names: &mut Names,
+    bookie: &Value,
+) -> Result<bool, PictureFault>
     requires { length names.old < MAX_BOOKIES }
     ensures fault { FailsWith result (bookie_fault names.old (view bookie.now)) }
     ensures named { OnOk result

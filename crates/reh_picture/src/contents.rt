@@ -54,7 +54,7 @@ fn two_numbers(list: &[Value]) -> Option<(u64, u64)>
 }
 
 /// A range of entries that begins at the least entry or after it.
-fn read_range(least: u64, range: &Value) -> Result<(u32, u32), PictureFault>
+pub(crate) fn read_range(least: u64, range: &Value) -> Result<(u32, u32), PictureFault>
     ensures fault { result_err result ≡ range_fault least (view range.now) }
     ensures ends { IfOk result (λ ends. ends ≡ ends_of (view range.now)) }
     ensures limit { IfOk result (λ ends. (ends.0 ≤ ends.1) × (ends.1 < ENTRY_END)) }
@@ -100,7 +100,7 @@ impl Model for Holding {
 }
 
 /// The bookie and the ledger of one more holding, which join the pairs. After an `Err` they may be there.
-fn read_pair(
+pub(crate) fn read_pair(
     alloc: Global,
     names: &Names,
     ids: &IndexSet<u64>,

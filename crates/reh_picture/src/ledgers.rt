@@ -48,7 +48,11 @@ pub(crate) fn known_bookie(
 }
 
 /// A member of an ensemble.
-fn read_member(alloc: Global, names: &Names, member: &Value) -> Result<BookieIx, PictureFault>
+pub(crate) fn read_member(
+    alloc: Global,
+    names: &Names,
+    member: &Value,
+) -> Result<BookieIx, PictureFault>
     ensures fault { FailsWith result (member_fault names.now (view member.now)) }
     ensures bookie { IfOk result
         (λ bookie. bookie ≡ bookie_in names.now (member_name (view member.now))) }
@@ -117,7 +121,7 @@ fn read_fragments(
 }
 
 /// Where a ledger stands.
-fn read_state(ledger: &Value) -> Result<LedgerState, PictureFault>
+pub(crate) fn read_state(ledger: &Value) -> Result<LedgerState, PictureFault>
     ensures fault { result_err result ≡ state_fault (view ledger.now) }
     ensures state { IfOk result (λ state. state ≡ state_in (view ledger.now)) }
     ensures end { IfOk result (λ state. ForSome (end_of_state state) (λ end. end ≤ ENTRY_END)) }
@@ -147,7 +151,7 @@ fn read_end(ledger: &Value) -> Result<u32, PictureFault>
 }
 
 /// The sizes of a ledger.
-fn read_sizes(ledger: &Value) -> Result<Sizes, PictureFault>
+pub(crate) fn read_sizes(ledger: &Value) -> Result<Sizes, PictureFault>
     ensures fault { result_err result ≡ sizes_fault (view ledger.now) }
     ensures ensemble { IfOk result
         (λ sizes. sizes.ensemble ≡ number_of (view ledger.now) Field.EnsembleSize) }
@@ -179,7 +183,7 @@ fn ledger_fault_of(ledger: LedgerId, fault: MetaFault) -> PictureFault
 
 /// The metadata of a ledger.
 #[tactic(auto, unfolding(crate::specs::Ledgers::metadata_fault))]
-fn read_metadata(
+pub(crate) fn read_metadata(
     alloc: Global,
     names: &Names,
     id: LedgerId,

@@ -3,12 +3,18 @@
 
 mod bookies;
 mod contents;
+mod counts;
 mod faults;
 mod fields;
 mod ledgers;
 mod members;
 mod pictures;
+mod places;
+mod walks;
 
+pub use counts::Counts;
 pub use faults::{FaultName, LedgerFlaw, PictureFault, Repeated};
 pub use fields::Field;
 pub use pictures::read_picture;
+pub use places::{LocatedFault, Place, TextPlace};
+pub use walks::check_picture;

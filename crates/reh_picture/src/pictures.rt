@@ -49,7 +49,7 @@ fn parse_json(alloc: Global, bytes: &[u8]) -> Result<Value, PictureFault>
 }
 
 /// The state that a picture's fields name.
-fn read_cluster(alloc: Global, picture: &Value) -> Result<State, PictureFault>
+pub(crate) fn read_cluster(alloc: Global, picture: &Value) -> Result<State, PictureFault>
     ensures fault { FailsWith result (fields_fault (view picture.now)) }
     ensures state { IfOk result (λ state. state ≡ pictured_cluster (view picture.now)) }
 {
@@ -71,7 +71,7 @@ fn read_cluster(alloc: Global, picture: &Value) -> Result<State, PictureFault>
 }
 
 /// How many words of entries so many bookies take, each as many for a ledger as it has.
-fn words_in_all(bookies: usize, ledgers: &[Ledger]) -> u64
+pub(crate) fn words_in_all(bookies: usize, ledgers: &[Ledger]) -> u64
     requires bookies { bookies ≤ MAX_BOOKIES }
     requires ledgers { length ledgers.now ≤ MAX_LEDGERS }
     requires words { All (λ g. ENTRIES_IN_WORD * g.words ≤ ENTRY_END) ledgers.now }
@@ -97,7 +97,7 @@ struct Parts {
 
 /// The grace of a picture, in ticks.
 #[tactic(auto, unfolding(crate::specs::Pictures::head_fault))]
-fn read_grace(picture: &Value) -> Result<u64, PictureFault>
+pub(crate) fn read_grace(picture: &Value) -> Result<u64, PictureFault>
     ensures fault { result_err result ≡ head_fault (view picture.now) }
     ensures grace { IfOk result (λ grace. grace ≡ number_of (view picture.now) Field.Grace) }
     ensures limit { IfOk result (λ grace. grace ≤ MAX_GRACE) }

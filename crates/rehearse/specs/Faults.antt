@@ -1,13 +1,17 @@
 -- The statuses and texts of faults.
-use Rattle.std.specs.Prelude.{ℕ, List, ◌++◌, Result, Ok, Err, codes}
+use Rattle.std.specs.Prelude.{ℕ, List, ◌++◌, Result, Ok, Err, codes, string_bytes}
+use Rattle.reh_picture.specs.declared.faults.PictureFault.{PictureFault}
+use Rattle.reh_picture.specs.declared.faults.PictureFault.TheVariants as picture_fault
+use Rattle.reh_picture.specs.declared.places.LocatedFault.{LocatedFault}
 use Rattle.reh_picture.specs.Faults.{fault_text}
+use Rattle.reh_picture.specs.Expected.{located_text}
 use Rattle.reh_script.specs.declared.faults.PlayFault.TheVariants as play_fault
 use Rattle.reh_script.specs.declared.faults.PipeFault.{PipeFault}
 use Rattle.reh_script.specs.declared.faults.PipeFault.TheVariants as pipe_fault
 use Rattle.rehearse.specs.declared.faults.RunFault.{RunFault}
 use Rattle.reh_script.specs.declared.streams.StreamFault.{StreamFault}
 use Rattle.rehearse.specs.declared.faults.RunFault.TheVariants.{Picture, ReadFault, TooLong, WriteFault, NoMemory}
-use Rattle.rehearse.specs.declared.faults.RunFault.TheVariants.{NoThread}
+use Rattle.rehearse.specs.declared.faults.RunFault.TheVariants.{NoThread, Refused, Unread}
 
 -- how a run ends once its answers were flushed: a failed flush is a write fault where answers were lost, and any
 -- other fault stays
@@ -21,6 +25,8 @@ end_after_flush (Err fault) (Err lost) = Err fault
 -- the exit status of a run that ends so
 abbrev pub status_number : RunFault → ℕ
 status_number (Picture fault) = 3
+status_number (Refused located) = 3
+status_number (Unread reason) = 4
 status_number ReadFault = 4
 status_number TooLong = 4
 status_number WriteFault = 5
@@ -30,6 +36,8 @@ status_number NoThread = 7
 -- what standard error shows
 abbrev pub run_fault_text : RunFault → List ℕ
 run_fault_text (Picture fault) = codes "picture: " ++ fault_text fault
+run_fault_text (Refused located) = codes "picture: " ++ located_text located
+run_fault_text (Unread reason) = string_bytes reason
 run_fault_text ReadFault = codes "read fault"
 run_fault_text TooLong = codes "script too long"
 run_fault_text WriteFault = codes "write fault"
@@ -44,3 +52,8 @@ run_fault_of (pipe_fault.Play play_fault.TooLong) = TooLong
 run_fault_of (pipe_fault.Play play_fault.WriteFault) = WriteFault
 run_fault_of (pipe_fault.Play play_fault.NoMemory) = NoMemory
 run_fault_of (pipe_fault.Play play_fault.NoThread) = NoThread
+
+-- the fault of a picture that is checked as the run's
+abbrev pub refused_by : PictureFault → LocatedFault → RunFault
+refused_by picture_fault.NoMemory located = NoMemory
+refused_by fault located = Refused located

@@ -2,7 +2,7 @@
 ghost use Rattle.std.specs.Prelude.{◌≡◌};
 ghost use Rattle.rehearse.specs.Faults.{status_number, end_after_flush};
 
-use reh_picture::PictureFault;
+use reh_picture::{LocatedFault, PictureFault};
 use reh_script::{PipeFault, PlayFault, StreamFault};
 use std::alloc::AllocError;
 use std::error::Error;
@@ -14,6 +14,10 @@ use std::{fmt, io};
 pub enum RunFault {
     /// The picture is refused.
     Picture(PictureFault),
+    /// The picture that is checked is refused.
+    Refused(LocatedFault),
+    /// The file of the picture that is checked can't be opened or read, for the reason that this says.
+    Unread(String),
     /// A read failed.
     ReadFault,
     /// The script is longer than 1,048,576 bytes.
@@ -31,8 +35,8 @@ pub fn status_of(fault: &RunFault) -> u8
     ensures { result ≡ status_number fault.now }
 {
     match fault {
-        RunFault::Picture(_) => 3,
-        RunFault::ReadFault | RunFault::TooLong => 4,
+        RunFault::Picture(_) | RunFault::Refused(_) => 3,
+        RunFault::Unread(_) | RunFault::ReadFault | RunFault::TooLong => 4,
         RunFault::WriteFault => 5,
         RunFault::NoMemory => 6,
         RunFault::NoThread => 7,
@@ -48,6 +52,8 @@ impl fmt::Display for RunFault {
     fn fmt<W: fmt::Write>(&self, f: &mut fmt::Formatter<W>) -> fmt::Result {
         match self {
             RunFault::Picture(fault) => write!(f, "picture: {fault}"),
+            RunFault::Refused(located) => write!(f, "picture: {located}"),
+            RunFault::Unread(reason) => write!(f, "{reason}"),
             RunFault::ReadFault => write!(f, "read fault"),
             RunFault::TooLong => write!(f, "script too long"),
             RunFault::WriteFault => write!(f, "write fault"),
@@ -127,6 +133,20 @@ impl From<PictureFault> for RunFault {
 
     fn from(fault: PictureFault) -> RunFault {
         RunFault::from(PipeFault::from(fault))
+    }
+}
+
+impl From<LocatedFault> for RunFault {
+    ghost use Rattle.std.specs.Prelude.{◌≡◌};
+    ghost use Rattle.rehearse.specs.Faults.{refused_by};
+
+    ghost from_gives = { λ located run. run ≡ refused_by located.fault located };
+
+    fn from(located: LocatedFault) -> RunFault {
+        match &located.fault {
+            PictureFault::NoMemory => RunFault::NoMemory,
+            _ => RunFault::Refused(located),
+        }
     }
 }
 

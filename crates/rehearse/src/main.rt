@@ -1,12 +1,14 @@
-// Rehearses events on a picture of a cluster: from standard input, or from files.
+// Rehearses events on a picture of a cluster, from standard input or from files; or checks a picture.
 #![tactic(auto)]
 
 ghost use Rattle.std.specs.Prelude.{◌≡◌, false};
 
+mod checks;
 mod faults;
 mod files;
 mod tasks;
 
+use checks::check_file;
 use clap::Error;
 use faults::{RunFault, after_flush, status_of, want_of_memory};
 use files::LateFile;
@@ -15,7 +17,7 @@ use reh_script::{FromRead, ToWrite, pipe};
 use std::io::{BufWriter, Write};
 use std::process::ExitCode;
 use std::{env, fs, io};
-use tasks::{Task, task_of};
+use tasks::{Input, Task, task_of};
 
 fn main(rt: HostRuntime) -> ExitCode {
     let words = match words(&rt) {
@@ -23,7 +25,8 @@ fn main(rt: HostRuntime) -> ExitCode {
         Err(fault) => return end(&rt, Err(fault)),
     };
     match task_of(rt.alloc(), &words) {
-        Ok(task) => end(&rt, run(&rt, task)),
+        Ok(Task::Play(input)) => end(&rt, play(&rt, input)),
+        Ok(Task::Check { picture }) => end(&rt, check_file(&rt, picture)),
         Err(error) => show(&rt, &error),
     }
 }
@@ -60,16 +63,16 @@ fn show(rt: &HostRuntime, error: &Error) -> ExitCode {
     }
 }
 
-/// Does what is asked for, to standard output. What was answered before a fault is written too.
-fn run(rt: &HostRuntime, task: Task<'_>) -> Result<(), RunFault> {
+/// Plays a script on a picture, to standard output. What was answered before a fault is written too.
+fn play(rt: &HostRuntime, input: Input<'_>) -> Result<(), RunFault> {
     let buffer = BufWriter::new(rt.alloc(), io::writer(rt))?;
     let mut writer = ToWrite::new(buffer);
-    let played = match task {
-        Task::Pipe => {
+    let played = match input {
+        Input::Pipe => {
             let mut reader = FromRead::new(rt.reader());
             pipe(rt.alloc(), &Plain, &mut reader, &mut writer).map_err(RunFault::from)
         }
-        Task::Run { picture, script } => run_files(rt, picture, script, &mut writer),
+        Input::Files { picture, script } => run_files(rt, picture, script, &mut writer),
     };
     let flushed = writer.flush();
     after_flush(played, flushed)

@@ -7,11 +7,23 @@ use std::alloc::{AllocError, Global};
 /// What the program is asked to do.
 #[derive(Clone, Copy)]
 pub enum Task<'a> {
-    /// Plays standard input: a picture, a line `%` and a script.
-    Pipe,
-    /// Plays a script on a picture, each in a file.
-    Run { picture: &'a str, script: &'a str },
+    /// Plays a script on a picture.
+    Play(Input<'a>),
+    /// Checks the picture in a file.
+    Check { picture: &'a str },
 }
+
+/// Where a picture and a script are.
+#[derive(Clone, Copy)]
+pub enum Input<'a> {
+    /// On standard input: a picture, a line `%` and a script.
+    Pipe,
+    /// Each in a file.
+    Files { picture: &'a str, script: &'a str },
+}
+
+/// What `--version` says; a picture has the number of its format in itself.
+const VERSION: &str = "1.0.0";
 
 const ABOUT: &str =
     "Rehearses Apache BookKeeper AutoRecovery on a picture of a cluster, and not on the cluster.";
@@ -44,13 +56,14 @@ pub(crate) fn task_of<'a>(alloc: Global, words: &'a [String]) -> Result<Task<'a>
 
 /// What these matches ask for.
 fn asked_task<'a>(matches: &ArgMatches<'a>) -> Task<'a> {
-    let Some((_, run)) = matches.subcommand() else {
-        return Task::Pipe;
+    let Some((name, given)) = matches.subcommand() else {
+        return Task::Play(Input::Pipe);
     };
-    match (run.get_str("PICTURE"), run.get_str("SCRIPT")) {
-        (Some(picture), Some(script)) => Task::Run { picture, script },
-        // Both are required, so that a run has both.
-        _ => Task::Pipe,
+    match (name, given.get_str("PICTURE"), given.get_str("SCRIPT")) {
+        ("check", Some(picture), _) => Task::Check { picture },
+        (_, Some(picture), Some(script)) => Task::Play(Input::Files { picture, script }),
+        // All of them are required, so that a run has both and a check its one.
+        _ => Task::Play(Input::Pipe),
     }
 }
 
@@ -72,22 +85,31 @@ fn all_ways(alloc: Global) -> Result<String, AllocError> {
     Ok(ways)
 }
 
-/// The command line: no word, or `run PICTURE SCRIPT`.
+/// The command line: no word, `run PICTURE SCRIPT`, or `check PICTURE`.
 fn command<'a>(alloc: Global, ways: &'a str) -> Result<Command<'a>, Error> {
-    let picture = Arg::new(alloc, "PICTURE")
-        .required(true)
-        .help("A file with the picture");
     let script = Arg::new(alloc, "SCRIPT")
         .required(true)
         .help("A file with the script");
     let run = Command::new(alloc, "run")
         .about("Plays a script on a picture, each in a file")
-        .arg(picture)?
+        .arg(picture_arg(alloc))?
         .arg(script)?;
+    let check = Command::new(alloc, "check")
+        .about("Says how much a picture shows, or where it is wrong")
+        .arg(picture_arg(alloc))?;
     let command = Command::new(alloc, "rehearse")
+        .version(VERSION)
         .about(ABOUT)
         .after_help(ways)
         .disable_help_subcommand(true)
-        .subcommand(run)?;
+        .subcommand(run)?
+        .subcommand(check)?;
     Ok(command)
+}
+
+/// The argument that names a picture's file.
+fn picture_arg<'a>(alloc: Global) -> Arg<'a> {
+    Arg::new(alloc, "PICTURE")
+        .required(true)
+        .help("A file with the picture")
 }
