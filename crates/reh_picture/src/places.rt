@@ -187,7 +187,8 @@ impl PictureFault {
             PictureFault::TooLong => "at most 8388608 bytes",
             PictureFault::NotJson => "JSON",
             PictureFault::Limit(Field::Contents) => {
-                "entries that take at most 4194304 words of 64, counted for every bookie up to a ledger's greatest entry"
+                "entries that take at most 4194304 words of 64, counted for every bookie up to a ledger's \
+                 greatest entry"
             }
             PictureFault::Missing(field)
             | PictureFault::WrongKind(field)

@@ -1,6 +1,6 @@
 // The walk along a refused picture once more, for the place of its first fault.
-ghost use Rattle.std.specs.Prelude.{◌≡◌, ◌≢◌, ◌<◌, ◌≤◌, ◌+◌, [], ◌∷◌, ◌++◌, length, map, Ok, Err, Some, None, MatchResult, IfOk};
-ghost use Rattle.std.specs.Prelude.{IfErr, OnOk};
+ghost use Rattle.std.specs.Prelude.{◌≡◌, ◌≢◌, ◌<◌, ◌≤◌, ◌+◌, [], ◌∷◌, ◌++◌, length, map};
+ghost use Rattle.std.specs.Prelude.{Ok, Err, Some, None, MatchResult, IfOk, IfErr, OnOk};
 ghost use Rattle.std.specs.Result.{result_err};
 ghost use Rattle.serde_json.specs.View.{view};
 ghost use Rattle.reh_types.specs.declared.limits.TheConstants.{MAX_BOOKIES};
@@ -10,7 +10,8 @@ ghost use Rattle.reh_picture.specs.Bookies.{bookie_fault, names_in};
 ghost use Rattle.reh_picture.specs.Ledgers.{member_fault, ids_in};
 ghost use Rattle.reh_picture.specs.Contents.{pair_of, range_fault, ends_of};
 ghost use Rattle.reh_picture.specs.Pictures.{head_fault, fields_fault, picture_of, picture_in, json_of};
-ghost use Rattle.reh_picture.specs.Places.{FailsAt, fault_at, before_members, id_fault, before_fragments, located_bookies};
+ghost use Rattle.reh_picture.specs.Places.{FailsAt, fault_at, before_members, id_fault, before_fragments};
+ghost use Rattle.reh_picture.specs.Places.{located_bookies};
 ghost use Rattle.reh_picture.specs.Places.{located_members, located_fragment, located_fragments, located_ledger};
 ghost use Rattle.reh_picture.specs.Places.{located_ledgers, located_ranges, located_content, located_contents};
 ghost use Rattle.reh_picture.specs.Places.{located_parts, located_fields, located_of};
