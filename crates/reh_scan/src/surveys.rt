@@ -105,7 +105,6 @@ fn count_lost(state: &State, ledger: &Ledger, fragment: &Fragment, stop: u32) ->
 /// How many entries from the first to the last are in no row at an index of their write sets.
 ///
 /// It goes by words, of 64 entries each: the entries that one index carries are a mask of the bits of its row's word.
-#[inline(never)]
 fn count_lacking(rows: &Rows<'_>, metadata: &LedgerMeta, first: u32, last: u32) -> u32
     requires order { first ≤ last }
     requires last { last + 1 < 2 ^ 32 }
