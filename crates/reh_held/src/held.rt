@@ -3,7 +3,7 @@ ghost use Rattle.std.specs.Prelude.{◌≡◌, ℕ, ◌+◌, ◌-◌, ◌*◌, �
 ghost use Rattle.std.specs.List.{range_with_len};
 ghost use Rattle.std.specs.Ordering.{nat_cmp};
 ghost use Rattle.std.specs.FinMap as map;
-ghost use Rattle.reh_types.specs.declared.limits.TheConstants.{MAX_LEDGERS};
+ghost use Rattle.reh_types.specs.declared.limits.TheConstants.{MAX_BOOKIES, MAX_LEDGERS};
 ghost use Rattle.reh_types.specs.Sets as set;
 ghost use Rattle.reh_model.specs.Contents.{has, copies_of, count_held, greatest_held, turned};
 ghost use Rattle.reh_held.specs.Rows.{is_set};
@@ -208,9 +208,25 @@ impl Held {
         }
     }
 
-    /// Whether the bookie holds the same entries of the ledger here and there, where its rows have as many words. It
-    /// compares them word by word.
-    pub fn has_same_row(&self, other: &Held, bookie: BookieIx, ledger: LedgerId) -> bool
+    /// Whether each bookie holds the same entries of the ledger here and there, where there are as many bookies and
+    /// words. It compares the rows word by word, and takes no memory.
+    pub fn has_same_rows(&self, other: &Held, ledger: LedgerId) -> bool
+        requires few { self.now.bookies ≤ MAX_BOOKIES }
+        requires bookies { self.now.bookies ≡ other.now.bookies }
+        requires words { words_in self.now ledger ≡ words_in other.now ledger }
+        ensures { IsTrue result ↔ ((b e : ℕ) → b < self.now.bookies
+            → has self.now.contents b ledger e ≡ has other.now.contents b ledger e) }
+    {
+        for bookie in 0..self.bookies {
+            if !self.has_same_row(other, BookieIx(bookie as u8), ledger) {
+                return false;
+            }
+        }
+        true
+    }
+
+    /// Whether the bookie holds the same entries of the ledger here and there, where its rows have as many words.
+    fn has_same_row(&self, other: &Held, bookie: BookieIx, ledger: LedgerId) -> bool
         requires bookie { bookie < self.now.bookies }
         requires other { bookie < other.now.bookies }
         requires words { words_in self.now ledger ≡ words_in other.now ledger }

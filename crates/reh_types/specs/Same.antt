@@ -49,7 +49,8 @@ tells_options tells (Some a) (Some b) =
 abbrev pub same_members : {K : Type 0} {o : Order K} → Set o → Set o → Bool
 same_members s t = is_subset s t && is_subset t s
 
-two_ways : (a b : Bool) → (a ≡ true → b ≡ true) → (b ≡ true → a ≡ true) → a ≡ b
+-- tests that imply each other
+pub two_ways : (a b : Bool) → (a ≡ true → b ≡ true) → (b ≡ true → a ≡ true) → a ≡ b
 two_ways true b there back = sym (there refl)
 two_ways false true there back = back refl
 two_ways false false there back = refl
