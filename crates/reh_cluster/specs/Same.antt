@@ -1,9 +1,12 @@
--- Which tests of ledgers and parts tell whether they are equal; contents go row by row.
+-- Which tests of ledgers tell whether they are equal, and the test of parts; contents go row by row.
 use Rattle.std.specs.Prelude.{◌≡◌, ◌<◌, ℕ, Bool, ◌&&◌, List, All, nat_eq}
 use Rattle.std.specs.Option.{option_eq}
+use Rattle.std.specs.Cmp.Lexicographic.{pointwise}
 use mathlib.Core.Path.{ap}
 use Rattle.reh_types.specs.declared.locks.Lock.{Lock}
+use Rattle.reh_types.specs.declared.scalars.Scalars.{Scalars}
 use Rattle.reh_types.specs.contracts.locks.LockPartialEq.TheImpl as derived
+use Rattle.reh_types.specs.contracts.scalars.ScalarsPartialEq.TheImpl as scalars
 use Rattle.reh_types.specs.Same.{Tells, told_by, told_both, tells_numbers, tells_options, same_members, tells_sets}
 use Rattle.reh_meta.specs.Same.{same_metadata, tells_metadata}
 use Rattle.reh_model.specs.Contents.{Contents, has}
@@ -39,9 +42,14 @@ tells_ledgers g h =
       (ap (λ (x : Ledger). x.words) e, (ap (λ (x : Ledger). x.task) e, ap (λ (x : Ledger). x.lock) e))),
     ))
 
--- the parts are equal, but for the contents
-abbrev pub AreSameButContents : Parts → Parts → Type 0
-AreSameButContents p q = record p { held = q.held } ≡ q
+-- the derived `==` of scalars
+abbrev pub same_scalars : Scalars → Scalars → Bool
+same_scalars = (scalars.eq-value).it
+
+-- whether the parts are equal, but for the contents
+abbrev pub same_but_contents : Parts → Parts → Bool
+same_but_contents p q =
+    same_members p.up q.up && (pointwise same_ledger p.ledgers q.ledgers && same_scalars p.scalars q.scalars)
 
 -- each of so many bookies holds the same entries of each ledger
 abbrev pub HaveSameRows : ℕ → List Ledger → Contents → Contents → Type 0
