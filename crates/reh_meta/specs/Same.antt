@@ -58,8 +58,14 @@ tells_metadata m n =
     })
     (λ e. (
       ap (λ (x : Metadata). x.size) e,
-      (ap (λ (x : Metadata). x.write_quorum) e,
-      (ap (λ (x : Metadata). x.ack_quorum) e,
-      (ap (λ (x : Metadata). x.state) e,
-      (ap (λ (x : Metadata). x.version) e, ap (λ (x : Metadata). x.fragments) e)))),
+      (
+        ap (λ (x : Metadata). x.write_quorum) e,
+        (
+          ap (λ (x : Metadata). x.ack_quorum) e,
+          (
+            ap (λ (x : Metadata). x.state) e,
+            (ap (λ (x : Metadata). x.version) e, ap (λ (x : Metadata). x.fragments) e),
+          ),
+        ),
+      ),
     ))

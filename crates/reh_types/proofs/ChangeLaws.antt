@@ -1,8 +1,6 @@
 -- The derived `==` of changes tells whether they are equal, where that of the metadata does.
-use Rattle.std.proofs.Common.{◌≡◌, ℕ, Bool, true, false, ◌&&◌, refl, sym, ap, subst, true≢false, Option}
-use Rattle.std.specs.Prelude.{nat_eq}
+use Rattle.std.proofs.Common.{◌≡◌, ℕ, Bool, true, ◌&&◌, refl, sym, ap, subst, true≢false}
 use Rattle.std.specs.Cmp.{first_so, second_so, booleans_Decides}
-use Rattle.std.specs.Option.{option_eq}
 use Rattle.std.specs.declared.cmp.PartialEq.{Ghosts}
 use denote.RattleType.{RattleType}
 use mir.Syntax.{Dict}
@@ -54,7 +52,7 @@ module _ (M : RattleType) (g : Ghosts M.Denot) (dict : Dict) (tells : Tells g.eq
       let q = both _ _ p.1 in
       let r = both _ _ q.1 in
       λ i. change.Word ((tells_numbers b c).0 p.0 i) ((tells_numbers l m).0 q.0 i) ((tells_numbers j k).0 r.0 i)
-          ((tells_numbers x y).0 r.1 i)
+      ((tells_numbers x y).0 r.1 i)
   told (change.Scalar x) (change.Scalar y) e = ap change.Scalar ((scalars_tell x y).0 e)
   told a b e = absurd (true≢false (sym e))
 

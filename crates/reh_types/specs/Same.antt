@@ -3,12 +3,12 @@
 --     tells_laws      such a test has the laws of `==`
 --     told_both, told_by      a test of two parts, and of what follows from parts
 --     tells_numbers, tells_lists, tells_options, tells_sets      of numbers, lists, options and sets
-use Rattle.std.specs.Prelude.{◌≡◌, ◌↔◌, ℕ, Bool, true, false, ◌&&◌, List, Option, None, Some, IsTrue, nat_eq, refl}
+use Rattle.std.specs.Prelude.{◌≡◌, ◌↔◌, Bool, true, false, ◌&&◌, Option, None, Some, IsTrue, nat_eq, refl}
 use Rattle.std.specs.Prelude.{is_some, unwrap_or}
 use Rattle.std.specs.Cmp.{IsPartialEquivalence, partial_equiv_from_equiv, decided, unsigned_Decides, first_so, second_so}
 use Rattle.std.specs.Cmp.Lexicographic.{pointwise, pointwise_decides}
 use Rattle.std.specs.Option.{option_eq}
-use mathlib.Core.Path.{sym, ap, subst, ◌∙◌}
+use mathlib.Core.Path.{sym, ap, subst}
 use mathlib.Core.Bool.{true≢false}
 use Rattle.reh_types.specs.Sets.{Order, Set, contains, is_subset, same_set, is_subset-contains, contains-is_subset}
 
