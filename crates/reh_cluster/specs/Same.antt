@@ -38,8 +38,10 @@ tells_ledgers g h =
     (λ p i. record { id = p.0 i; metadata = p.1.0 i; words = p.1.1.0 i; task = p.1.1.1.0 i; lock = p.1.1.1.1 i })
     (λ e. (
       ap (λ (x : Ledger). x.id) e,
-      (ap (λ (x : Ledger). x.metadata) e,
-      (ap (λ (x : Ledger). x.words) e, (ap (λ (x : Ledger). x.task) e, ap (λ (x : Ledger). x.lock) e))),
+      (
+        ap (λ (x : Ledger). x.metadata) e,
+        (ap (λ (x : Ledger). x.words) e, (ap (λ (x : Ledger). x.task) e, ap (λ (x : Ledger). x.lock) e)),
+      ),
     ))
 
 -- the derived `==` of scalars

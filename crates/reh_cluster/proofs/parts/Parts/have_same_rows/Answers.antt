@@ -3,7 +3,7 @@ use Rattle.std.proofs.Common.{◌≡◌, ◌<◌, ◌∙◌, ℕ, List, length, 
 use Rattle.std.specs.Prelude.{All}
 use Rattle.std.proofs.lemmas.List.{take_all}
 use Rattle.std.proofs.lemmas.List.Elements.{All-more}
-use Rattle.reh_model.specs.Contents.{Contents, has}
+use Rattle.reh_model.specs.Contents.{has}
 use Rattle.reh_model.specs.Cluster.{Ledger}
 use Rattle.reh_cluster.specs.Parts.{PartsValue}
 use Rattle.reh_cluster.proofs.parts.Parts.have_same_rows.Goals as goal
