@@ -1,12 +1,9 @@
 -- Sessions are equal exactly where state, cursor, events and the records of the surviving events are.
-use Rattle.std.proofs.Common.{◌≡◌, ◌∙◌, List, sym, take, true≢false}
+use Rattle.std.proofs.Common.{◌∙◌, sym, take, true≢false}
 use Rattle.std.proofs.lemmas.Slice.Eq.{slice_eq-Decides}
-use Rattle.reh_types.specs.Same.{Tells, told_by, tells_lists, tells_numbers}
-use Rattle.reh_types.specs.declared.moves.Event.{Event}
-use Rattle.reh_types.proofs.EventLaws.{same_event, events_tell}
-use Rattle.reh_model.specs.Places.{Change}
-use Rattle.reh_session.specs.Kept.{session_of}
-use Rattle.reh_session.proofs.SameLaws.{HaveSameParts, sessions_are_parts, told_by_records}
+use Rattle.reh_types.specs.Same.{told_by, tells_numbers}
+use Rattle.reh_types.proofs.EventLaws.{events_tell}
+use Rattle.reh_session.proofs.SameLaws.{sessions_are_parts, told_by_records}
 use Rattle.reh_session.proofs.sessions.Session.same.Goals.{then-self-other, else-self-other, then-eq, else-eq}
 use Rattle.reh_session.proofs.sessions.Session.same.Goals as goal
 
@@ -37,8 +34,8 @@ returns-else-same c = (
   λ told. absurd (true≢false (sym told ∙ c.if-same.false)),
   λ same.
       let parts = sessions_are_parts c.self.inside.state c.other.inside.state c.self.inside.events.items
-          c.other.inside.events.items c.self.inside.records.items c.other.inside.records.items c.self.inside.cursor
-          c.other.inside.cursor c.self.invariant c.other.invariant (c.self.view_is ∙ same ∙ sym c.other.view_is) in
+      c.other.inside.events.items c.self.inside.records.items c.other.inside.records.items c.self.inside.cursor
+      c.other.inside.cursor c.self.invariant c.other.invariant (c.self.view_is ∙ same ∙ sym c.other.view_is) in
       elim c.if-eq.branch [
         | then-eq w ↦ w.value-is ∙ w.same.ensures.1 parts.state
         | else-eq w ↦
