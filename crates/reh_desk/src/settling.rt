@@ -1,5 +1,5 @@
 // Whether a tape and the lists of its seats tell the same.
-ghost use Rattle.std.specs.Prelude.{◌≡◌, ◌↔◌, IsTrue, MatchOption, length};
+ghost use Rattle.std.specs.Prelude.{◌≡◌, ◌↔◌, IsTrue, MatchOption, OnOk, length};
 ghost use Rattle.reh_desk.specs.Seats.{own_line};
 ghost use Rattle.reh_desk.specs.Desks.{own_lines, AreSeated, AllAgree, AgreeBelow, Differs};
 ghost use Rattle.reh_desk.specs.Desks.{IsAbsent, AreBelow, AreSeats, Settles};
@@ -24,7 +24,7 @@ impl Book {
     /// no memory. The numbers of the seats have to be those from 0 on, each once.
     pub fn settle(&self, opening: &Session, seats: &[Seat]) -> Result<(), Unsettled>
         requires { AreSeats (length seats.now) seats.now }
-        ensures { Settles self.now opening.now seats.now result }
+        ensures { OnOk result (Settles self.now opening.now seats.now result) }
     {
         let out = self.out();
         if out > 0 {

@@ -1,5 +1,5 @@
 // To go.
-ghost use Rattle.std.specs.Prelude.{◌≡◌, ◌↔◌, IsTrue, IfOk};
+ghost use Rattle.std.specs.Prelude.{◌≡◌, IsTrue, IfOk};
 
 use reh_session::Session;
 use std::alloc::AllocError;
@@ -11,7 +11,7 @@ pub(crate) fn clone_in(session: &Session) -> Result<Session, AllocError>
 }
 
 pub(crate) fn same(session: &Session, other: &Session) -> bool
-    ensures { IsTrue result ↔ (session.now ≡ other.now) }
+    ensures { IsTrue result → session.now ≡ other.now }
 {
     false
 }
