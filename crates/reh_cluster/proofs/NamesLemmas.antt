@@ -1,7 +1,8 @@
 -- Names by their bytes: what is found among them, their copies, and that they are few and different.
-use Rattle.std.proofs.Common.{◌≡◌, ℕ, Bool, List, [], ◌∷◌, map, position, length, nat_lt, cond, not, refl, sym, ap, ◌∙◌, Some, None, ◌+◌, ◌≤◌, arith, subst, String, false}
+use Rattle.std.proofs.Common.{◌≡◌, ℕ, Bool, List, [], ◌∷◌, map, position, length, nat_lt, cond, not, refl, sym, ap, ◌∙◌, Some, None, ◌+◌, ◌≤◌, arith, subst, String, false, ◌&&◌}
 use Rattle.std.proofs.lemmas.List.{length-map}
 use Rattle.std.specs.List.{prefix_len, position_or_len, AllZip, AllByRecursion, IsDistinct}
+use Rattle.std.specs.Cmp.Lexicographic.{pointwise}
 use Rattle.std.specs.Str.{IsUtf8, bytes_eq}
 use Rattle.std.specs.String.{string_bytes}
 use Rattle.std.proofs.lemmas.Str.{IsUtf8-string_bytes}
@@ -65,3 +66,10 @@ module _ {A B : Type 0} (f : A → B) (e : B → B → Bool) where
 -- the bytes of texts that differ, no more than there can be bookies
 pub IsNames-keys : {Z : Type 0} (keys : List (String Z)) → length keys ≤ MAX_BOOKIES → IsDistinct (λ a b. bytes_eq (string_bytes a) (string_bytes b)) keys → IsNames (map string_bytes keys)
 IsNames-keys keys few different = record { few = omega (arith, length-map keys string_bytes); different = IsDistinct-map string_bytes bytes_eq keys different }
+
+-- a test of elements by what they are seen as is one of what they are seen as
+pub pointwise-map : {A B : Type 0} (f : A → B) (e : B → B → Bool) (xs ys : List A) → pointwise (λ x y. e (f x) (f y)) xs ys ≡ pointwise e (map f xs) (map f ys)
+pointwise-map f e [] [] = refl
+pointwise-map f e [] (y ∷ ys) = refl
+pointwise-map f e (x ∷ xs) [] = refl
+pointwise-map f e (x ∷ xs) (y ∷ ys) = ap (λ b. e (f x) (f y) && b) (pointwise-map f e xs ys)

@@ -1,9 +1,9 @@
 // Records of changes.
-ghost use Rattle.std.specs.Prelude.{◌≡◌, [], ◌∷◌, map, IfOk};
+ghost use Rattle.std.specs.Prelude.{◌≡◌, ◌↔◌, [], ◌∷◌, map, IfOk, IsTrue};
 ghost use Rattle.reh_model.specs.Places.{place_of, AreRising};
 
 use reh_meta::LedgerMeta;
-use reh_types::Change;
+use reh_types::{BookieSet, Change};
 use std::alloc::{AllocError, Global};
 use std::marker::Model;
 
@@ -50,4 +50,58 @@ impl Changes {
     {
         &self.list
     }
+
+    /// Whether both are the same changes. It takes no memory.
+    pub fn same(&self, other: &Changes) -> bool
+        ensures { IsTrue result ↔ (self.now ≡ other.now) }
+    {
+        self.list == other.list
+    }
+
+    /// A copy, on the same allocator.
+    pub fn clone_in(&self) -> Result<Changes, AllocError>
+        ensures { IfOk result (λ copy. copy ≡ self.now) }
+    {
+        let mut list = Vec::with_capacity(*self.list.allocator(), self.list.len())?;
+        for change in &self.list {
+            list.push(clone_change(change)?)?;
+        }
+        Ok(Changes { list })
+    }
+}
+
+/// A copy of a change.
+fn clone_change(change: &Change<LedgerMeta>) -> Result<Change<LedgerMeta>, AllocError>
+    ensures { IfOk result (λ copy. copy ≡ change.now) }
+{
+    Ok(match change {
+        Change::Registration { bookie, up } => Change::Registration {
+            bookie: *bookie,
+            up: *up,
+        },
+        Change::Metadata { place, metadata } => Change::Metadata {
+            place: *place,
+            metadata: metadata.clone_in()?,
+        },
+        Change::Task { place, task } => Change::Task {
+            place: *place,
+            task: task.as_ref().map(BookieSet::copied),
+        },
+        Change::Lock { place, lock } => Change::Lock {
+            place: *place,
+            lock: *lock,
+        },
+        Change::Word {
+            bookie,
+            ledger,
+            number,
+            bits,
+        } => Change::Word {
+            bookie: *bookie,
+            ledger: *ledger,
+            number: *number,
+            bits: *bits,
+        },
+        Change::Scalar(scalar) => Change::Scalar(*scalar),
+    })
 }

@@ -48,6 +48,23 @@ impl Clone for Ledger {
     }
 }
 
+impl PartialEq for Ledger {
+    ghost use Rattle.reh_types.specs.Same.{tells_laws};
+    ghost use Rattle.reh_cluster.specs.Same.{same_ledger, tells_ledgers};
+
+    ghost eq = { same_ledger };
+
+    ghost laws = { tells_laws tells_ledgers };
+
+    fn eq(&self, other: &Ledger) -> bool {
+        self.id == other.id
+            && self.metadata == other.metadata
+            && self.words == other.words
+            && self.task == other.task
+            && self.lock == other.lock
+    }
+}
+
 impl Ledger {
     /// A ledger with no task and so many words of 64 entries: each bookie's row of it has as many.
     pub fn new(id: LedgerId, metadata: LedgerMeta, words: usize) -> Ledger

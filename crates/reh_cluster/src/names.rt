@@ -1,6 +1,6 @@
 // The names of the bookies, in picture order.
-ghost use Rattle.std.specs.Prelude.{◌≡◌, ◌==◌, ◌<◌, ◌≤◌, [], ◌∷◌, ◌++◌, length, slice_get, option_map, IfOk, OnErr};
-ghost use Rattle.std.specs.Prelude.{if◌then◌else◌, not};
+ghost use Rattle.std.specs.Prelude.{◌≡◌, ◌==◌, ◌<◌, ◌≤◌, [], ◌∷◌, ◌++◌, ◌↔◌, length, slice_get, option_map, IfOk};
+ghost use Rattle.std.specs.Prelude.{if◌then◌else◌, not, IsTrue, OnErr};
 ghost use Rattle.std.specs.List.{list_any, IsDistinct};
 ghost use Rattle.std.specs.Str.{bytes_eq};
 ghost use Rattle.reh_types.specs.declared.limits.TheConstants.{MAX_BOOKIES};
@@ -87,6 +87,13 @@ impl Names {
     {
         let name = self.names.get_index(bookie.0 as usize)?;
         Some(name.as_str())
+    }
+
+    /// Whether both are the same names, in the same order. It takes no memory.
+    pub fn same(&self, other: &Names) -> bool
+        ensures { IsTrue result ↔ (self.now ≡ other.now) }
+    {
+        self.names.as_slice() == other.names.as_slice()
     }
 
     /// A copy.

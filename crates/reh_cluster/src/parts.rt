@@ -1,5 +1,6 @@
 // The parts of a state that events change.
-ghost use Rattle.std.specs.Prelude.{◌≡◌, IfOk};
+ghost use Rattle.std.specs.Prelude.{◌≡◌, ◌↔◌, IfOk, IsTrue};
+ghost use Rattle.reh_cluster.specs.Same.{same_but_contents, HaveSameRows};
 
 use crate::ledgers::Ledger;
 use reh_held::Held;
@@ -41,5 +42,27 @@ impl Parts {
             held: self.held.clone_in()?,
             scalars: self.scalars,
         })
+    }
+
+    /// Whether both are the same, but for the contents.
+    pub(crate) fn are_same_but_contents(&self, other: &Parts) -> bool
+        ensures { result ≡ same_but_contents self.now.parts other.now.parts }
+    {
+        self.up == other.up && self.ledgers == other.ledgers && self.scalars == other.scalars
+    }
+
+    /// Whether each bookie holds the same entries of each ledger, where bookies and ledgers are the same.
+    pub(crate) fn have_same_rows(&self, other: &Parts) -> bool
+        requires bookies { self.now.bookies ≡ other.now.bookies }
+        requires ledgers { self.now.parts.ledgers ≡ other.now.parts.ledgers }
+        ensures { IsTrue result
+            ↔ HaveSameRows self.now.bookies self.now.parts.ledgers self.now.parts.held other.now.parts.held }
+    {
+        for ledger in &self.ledgers {
+            if !self.held.has_same_rows(&other.held, ledger.id()) {
+                return false;
+            }
+        }
+        true
     }
 }

@@ -1,5 +1,6 @@
 // The state of a cluster.
-ghost use Rattle.std.specs.Prelude.{◌≡◌, ℕ, ◌*◌, ◌<◌, ◌≤◌, ◌==◌, length, map, position, All, IfOk};
+ghost use Rattle.std.specs.Prelude.{◌≡◌, ℕ, ◌*◌, ◌<◌, ◌≤◌, ◌==◌, ◌↔◌, length, map, position, All, IfOk};
+ghost use Rattle.std.specs.Prelude.{IsTrue};
 ghost use Rattle.std.specs.Option.{option_copied};
 ghost use Rattle.reh_types.specs.declared.limits.TheConstants.{CLOCK_END};
 ghost use Rattle.reh_types.specs.Sets as set;
@@ -88,6 +89,16 @@ impl State {
             ids: self.ids.clone()?,
             parts: self.parts.clone_in()?,
         })
+    }
+
+    /// Whether both are the same state. It takes no memory.
+    pub fn same(&self, other: &State) -> bool
+        ensures { IsTrue result ↔ (self.now ≡ other.now) }
+    {
+        self.names.same(&other.names)
+            && self.grace == other.grace
+            && self.parts.are_same_but_contents(&other.parts)
+            && self.parts.have_same_rows(&other.parts)
     }
 
     /// The names of the bookies.

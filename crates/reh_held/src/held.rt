@@ -1,9 +1,9 @@
 // What the bookies hold.
-ghost use Rattle.std.specs.Prelude.{◌≡◌, ℕ, ◌+◌, ◌-◌, ◌*◌, ◌<◌, ◌≤◌, length, All, IfOk, OnOk, OnErr};
+ghost use Rattle.std.specs.Prelude.{◌≡◌, ℕ, ◌+◌, ◌-◌, ◌*◌, ◌<◌, ◌≤◌, ◌↔◌, length, All, IfOk, IsTrue, OnOk, OnErr};
 ghost use Rattle.std.specs.List.{range_with_len};
 ghost use Rattle.std.specs.Ordering.{nat_cmp};
 ghost use Rattle.std.specs.FinMap as map;
-ghost use Rattle.reh_types.specs.declared.limits.TheConstants.{MAX_LEDGERS};
+ghost use Rattle.reh_types.specs.declared.limits.TheConstants.{MAX_BOOKIES, MAX_LEDGERS};
 ghost use Rattle.reh_types.specs.Sets as set;
 ghost use Rattle.reh_model.specs.Contents.{has, copies_of, count_held, greatest_held, turned};
 ghost use Rattle.reh_held.specs.Rows.{is_set};
@@ -12,6 +12,7 @@ ghost use Rattle.reh_held.specs.Turns.{IsTurning};
 ghost use Rattle.reh_held.specs.Values.{words_in, with_room};
 ghost use Rattle.reh_held.specs.declared.rows.TheConstants.{MAX_WIDTH};
 
+use crate::rows::have_same_entries;
 use crate::tables::Table;
 use crate::turns::Turn;
 use reh_types::{BookieIx, LedgerId};
@@ -205,6 +206,34 @@ impl Held {
             Some(table) => table.row(bookie),
             None => &[],
         }
+    }
+
+    /// Whether each bookie holds the same entries of the ledger here and there, where there are as many bookies and
+    /// words. It compares the rows word by word, and takes no memory.
+    pub fn has_same_rows(&self, other: &Held, ledger: LedgerId) -> bool
+        requires few { self.now.bookies ≤ MAX_BOOKIES }
+        requires bookies { self.now.bookies ≡ other.now.bookies }
+        requires words { words_in self.now ledger ≡ words_in other.now ledger }
+        ensures { IsTrue result ↔ ((b e : ℕ) → b < self.now.bookies
+            → has self.now.contents b ledger e ≡ has other.now.contents b ledger e) }
+    {
+        for bookie in 0..self.bookies {
+            if !self.has_same_row(other, BookieIx(bookie as u8), ledger) {
+                return false;
+            }
+        }
+        true
+    }
+
+    /// Whether the bookie holds the same entries of the ledger here and there, where its rows have as many words.
+    fn has_same_row(&self, other: &Held, bookie: BookieIx, ledger: LedgerId) -> bool
+        requires bookie { bookie < self.now.bookies }
+        requires other { bookie < other.now.bookies }
+        requires words { words_in self.now ledger ≡ words_in other.now ledger }
+        ensures { IsTrue result
+            ↔ ((e : ℕ) → has self.now.contents bookie ledger e ≡ has other.now.contents bookie ledger e) }
+    {
+        have_same_entries(self.row(bookie, ledger), other.row(bookie, ledger))
     }
 
     /// Whether the bookie holds the entry of the ledger.

@@ -1,5 +1,5 @@
 // Rows of words.
-ghost use Rattle.std.specs.Prelude.{◌≡◌, ℕ, ◌+◌, ◌*◌, ◌^◌, ◌<◌, ◌≤◌, false, ◌==◌, ◌||◌, length, All, IfOk};
+ghost use Rattle.std.specs.Prelude.{◌≡◌, ℕ, ◌+◌, ◌*◌, ◌^◌, ◌<◌, ◌≤◌, false, ◌==◌, ◌||◌, ◌↔◌, length, All, IfOk, IsTrue};
 ghost use Rattle.std.specs.List.{list_any};
 ghost use Rattle.std.specs.Int.{bit_at};
 ghost use Rattle.reh_model.specs.Contents.{is_in_word, one_of};
@@ -163,6 +163,19 @@ pub fn is_set(words: &[u64], entry: u32) -> bool
         Some(word) => (*word >> (entry % 64)) & 1 == 1,
         None => false,
     }
+}
+
+/// Whether two rows of as many words have the same entries.
+pub(crate) fn have_same_entries(words: &[u64], others: &[u64]) -> bool
+    requires { length words.now ≡ length others.now }
+    ensures { IsTrue result ↔ ((e : ℕ) → rows.is_set words.now e ≡ rows.is_set others.now e) }
+{
+    for number in 0..words.len() {
+        if words[number] != others[number] {
+            return false;
+        }
+    }
+    true
 }
 
 /// The turns from some words to others.

@@ -38,6 +38,19 @@ impl Clone for Fragment {
     }
 }
 
+impl PartialEq for Fragment {
+    ghost use Rattle.reh_types.specs.Same.{tells_laws};
+    ghost use Rattle.reh_meta.specs.Same.{same_fragment, tells_fragments};
+
+    ghost eq = { same_fragment };
+
+    ghost laws = { tells_laws tells_fragments };
+
+    fn eq(&self, other: &Fragment) -> bool {
+        self.first == other.first && self.ensemble == other.ensemble
+    }
+}
+
 impl Fragment {
     /// Puts another bookie into a place of the ensemble.
     pub(crate) fn replace(&mut self, index: usize, bookie: BookieIx)

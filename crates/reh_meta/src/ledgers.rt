@@ -82,6 +82,24 @@ impl Model for LedgerMeta {
     ghost invariant = { IsMetadataIn };
 }
 
+impl PartialEq for LedgerMeta {
+    ghost use Rattle.reh_types.specs.Same.{tells_laws};
+    ghost use Rattle.reh_meta.specs.Same.{same_metadata, tells_metadata};
+
+    ghost eq = { same_metadata };
+
+    ghost laws = { tells_laws tells_metadata };
+
+    fn eq(&self, other: &LedgerMeta) -> bool {
+        self.size == other.size
+            && self.write_quorum == other.write_quorum
+            && self.ack_quorum == other.ack_quorum
+            && self.state == other.state
+            && self.version == other.version
+            && self.fragments == other.fragments
+    }
+}
+
 impl LedgerMeta {
     ghost use Rattle.reh_meta.specs.Faults.{metadata_of, fault_of, fault_found};
     ghost use Rattle.reh_meta.specs.LedgerMeta.{changed_metadata};

@@ -1,6 +1,6 @@
 // Sessions, which can undo and redo.
 ghost use Rattle.std.specs.Prelude.{◌≡◌, ℕ, nat_le, All, ◌+◌, ◌<◌, ◌≤◌, ◌∷◌, [], ◌++◌, length, take, drop, Some};
-ghost use Rattle.std.specs.Prelude.{IsSome, IfOk, OnErr, OnOk, vec_capacity};
+ghost use Rattle.std.specs.Prelude.{◌↔◌, IsTrue, IsSome, IfOk, OnErr, OnOk, vec_capacity};
 ghost use Rattle.reh_types.specs.declared.limits.TheConstants.{MAX_EVENTS};
 ghost use Rattle.std.specs.Result.{IsOkAnd};
 ghost use Rattle.reh_model.specs.Session.{replay as replayed};
@@ -54,6 +54,36 @@ impl Session {
             events: Vec::new(alloc),
             records: Vec::new(alloc),
             cursor: 0,
+        })
+    }
+
+    /// Whether both are the same session: the same opening state, and the same events done and undone. It takes no
+    /// memory.
+    ///
+    /// The opening states are not there to be compared: sessions with the same state and the same surviving events have
+    /// the same one exactly where the records of these events are the same.
+    pub fn same(&self, other: &Session) -> bool
+        ensures { IsTrue result ↔ (self.now ≡ other.now) }
+    {
+        self.cursor == other.cursor
+            && self.events == other.events
+            && self.state.same(&other.state)
+            && are_same(&self.records[..self.cursor], &other.records[..other.cursor])
+    }
+
+    /// A copy, on the session's own allocator.
+    pub fn clone_in(&self) -> Result<Session, AllocError>
+        ensures { IfOk result (λ copy. copy ≡ self.now) }
+    {
+        let mut records = Vec::with_capacity(self.allocator(), self.records.len())?;
+        for changes in &self.records {
+            records.push(changes.clone_in()?)?;
+        }
+        Ok(Session {
+            state: self.state.clone_in()?,
+            events: self.events.clone()?,
+            records,
+            cursor: self.cursor,
         })
     }
 
@@ -235,6 +265,21 @@ impl Session {
         }
         Ok(replies)
     }
+}
+
+/// Whether both are the same records, one by one.
+fn are_same(records: &[Changes], others: &[Changes]) -> bool
+    ensures { IsTrue result ↔ (records.now ≡ others.now) }
+{
+    if records.len() != others.len() {
+        return false;
+    }
+    for index in 0..records.len() {
+        if !records[index].same(&others[index]) {
+            return false;
+        }
+    }
+    true
 }
 
 /// Makes room for one element behind the first `cursor`.

@@ -1,4 +1,6 @@
 // What a seat calls at a book, and the lines of its tape.
+ghost use Rattle.std.specs.Prelude.{◌≡◌, ◌↔◌, IsTrue};
+
 use crate::contents::BoxedContent;
 use crate::moves::{Move, Reply};
 use crate::names::Aim;
@@ -14,6 +16,33 @@ pub enum Call {
     Spend { number: u32, content: BoxedContent },
     /// The ticket of this number is given back.
     Discard { number: u32, aim: Aim },
+}
+
+impl Call {
+    /// Whether both are the same call.
+    pub fn same(&self, other: &Call) -> bool
+        ensures { IsTrue result ↔ (self.now ≡ other.now) }
+    {
+        match (self, other) {
+            (Call::Ask(step), Call::Ask(second)) => step.same(second),
+            (Call::Checkout(aim), Call::Checkout(second)) => *aim == *second,
+            (
+                Call::Spend { number, content },
+                Call::Spend {
+                    number: second,
+                    content: other_content,
+                },
+            ) => *number == *second && content.same(other_content),
+            (
+                Call::Discard { number, aim },
+                Call::Discard {
+                    number: second,
+                    aim: other_aim,
+                },
+            ) => *number == *second && *aim == *other_aim,
+            _ => false,
+        }
+    }
 }
 
 /// A line of a book's tape: a call of a seat, and the reply.

@@ -8,7 +8,7 @@ use crate::scalars::Scalar;
 /// it has the bits that are to turn.
 ///
 /// A ledger's parts go by its place in the picture, from 0; what a bookie holds of it goes by its id.
-#[derive(Drop)]
+#[derive(PartialEq, Drop)]
 pub enum Change<M> {
     /// Whether the bookie is registered.
     Registration {

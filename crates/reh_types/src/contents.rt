@@ -1,5 +1,5 @@
 // What a worker finds when it scans a fragment.
-ghost use Rattle.std.specs.Prelude.{◌≡◌, IfOk};
+ghost use Rattle.std.specs.Prelude.{◌≡◌, ◌↔◌, IfOk, IsTrue};
 
 use crate::names::{Aim, BookieIx};
 use std::alloc::{AllocError, Global};
@@ -41,6 +41,13 @@ impl Members {
         let items = self.items.clone()?;
         Ok(Members { items })
     }
+
+    /// Whether both are the same members.
+    pub fn same(&self, other: &Members) -> bool
+        ensures { IsTrue result ↔ (self.now ≡ other.now) }
+    {
+        self.items.as_slice() == other.items.as_slice()
+    }
 }
 
 /// For each entry that a fragment stripes onto an index, rising, a bookie from which it can be copied, or none;
@@ -80,6 +87,13 @@ impl Sources {
         let items = self.items.clone()?;
         Ok(Sources { items })
     }
+
+    /// Whether both are the same sources.
+    pub fn same(&self, other: &Sources) -> bool
+        ensures { IsTrue result ↔ (self.now ≡ other.now) }
+    {
+        self.items.as_slice() == other.items.as_slice()
+    }
 }
 
 /// What a worker found when it scanned the fragment of its aim: the metadata's version and the fragment as they were
@@ -109,6 +123,18 @@ impl Content {
             ensemble: self.ensemble.clone_in()?,
             sources: self.sources.clone_in()?,
         })
+    }
+
+    /// Whether both are the same content.
+    pub fn same(&self, other: &Content) -> bool
+        ensures { IsTrue result ↔ (self.now ≡ other.now) }
+    {
+        self.aim == other.aim
+            && self.version == other.version
+            && self.first == other.first
+            && self.stop == other.stop
+            && self.ensemble.same(&other.ensemble)
+            && self.sources.same(&other.sources)
     }
 }
 
@@ -148,5 +174,12 @@ impl BoxedContent {
     {
         let alloc = *self.content.ensemble.items.allocator();
         BoxedContent::of(alloc, self.content.clone_in()?)
+    }
+
+    /// Whether both are the same content.
+    pub fn same(&self, other: &BoxedContent) -> bool
+        ensures { IsTrue result ↔ (self.now ≡ other.now) }
+    {
+        self.content.same(&other.content)
     }
 }
