@@ -4,3 +4,5 @@ pub mod SeatCalls
 pub mod Wants
 pub mod Agreement
 pub mod NewSeats
+pub mod ReplyLaws
+pub mod Closing

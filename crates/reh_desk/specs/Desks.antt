@@ -22,8 +22,9 @@ AreNewFrom k [] = Unit {0}
 AreNewFrom k (s ∷ seats) = (s ≡ new_seat k) × AreNewFrom (k + 1) seats
 
 -- so many new seats, numbered from 0 on
-abbrev pub AreNew : ℕ → List SeatView → Type 0
-AreNew n seats = (length seats ≡ n) × AreNewFrom 0 seats
+pub record AreNew (n : ℕ) (seats : List SeatView) : Type 0 where
+  pub count : length seats ≡ n
+  pub each : AreNewFrom 0 seats
 
 -- no seat has this number
 abbrev pub IsAbsent : ℕ → List SeatView → Type 0

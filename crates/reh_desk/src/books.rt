@@ -88,7 +88,7 @@ impl Book {
         ensures err { IfErr result (λ e. e.0 ≡ session) }
     {
         let alloc = session.allocator();
-        match crate::stand_in::clone_in(&session) {
+        match session.clone_in() {
             Ok(opening) => Ok(Book {
                 opening,
                 session,

@@ -85,7 +85,7 @@ impl Desk {
             Ok(seats) => seats,
             Err(want) => return Err((session, want)),
         };
-        let opening = match crate::stand_in::clone_in(&session) {
+        let opening = match session.clone_in() {
             Ok(opening) => opening,
             Err(want) => return Err((session, want)),
         };
@@ -144,7 +144,7 @@ impl Desk {
 }
 
 /// New seats, numbered from 0.
-#[tactic(auto, using(crate::proofs::NewSeats::new_push))]
+#[tactic(auto, using(crate::proofs::NewSeats::new_more))]
 fn new_seats(alloc: Global, count: u32) -> Result<Vec<Seat>, AllocError>
     ensures { IfOk result (λ seats. AreNew count seats.items) }
 {

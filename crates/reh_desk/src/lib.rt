@@ -9,7 +9,6 @@ mod desks;
 mod laws;
 mod seats;
 mod settling;
-mod stand_in;
 mod tickets;
 
 pub use books::{Book, SpendCause, SpendFault};

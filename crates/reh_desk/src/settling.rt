@@ -7,7 +7,7 @@ ghost use Rattle.reh_desk.specs.Desks.{IsAbsent, AreBelow, AreSeats, Settles};
 use crate::books::Book;
 use crate::seats::Seat;
 use reh_session::Session;
-use reh_types::{Line, OwnLine};
+use reh_types::{Line, OwnLine, Reply};
 
 /// Why a book doesn't settle with its seats.
 #[derive(Clone, Copy, PartialEq, Eq, Debug)]
@@ -30,7 +30,7 @@ impl Book {
         if out > 0 {
             return Err(Unsettled::StillOut(out));
         }
-        if !crate::stand_in::same(self.opening(), opening)
+        if !self.opening().same(opening)
             || !are_seated(self.tape(), seats.len())
         {
             return Err(Unsettled::Mismatch(0));
@@ -136,5 +136,12 @@ fn agrees(tape: &[Line], number: u32, lines: &[OwnLine]) -> bool
 fn is_line(own: &OwnLine, line: &Line) -> bool
     ensures { IsTrue result ↔ (own_line line.now.call line.now.reply ≡ own.now) }
 {
-    own.call.same(&line.call) && own.reply == line.reply
+    own.call.same(&line.call) && is_reply(own.reply, line.reply)
+}
+
+/// Whether both are the same reply.
+fn is_reply(reply: Reply, other: Reply) -> bool
+    ensures { IsTrue result ↔ (reply ≡ other) }
+{
+    reply == other
 }
