@@ -121,3 +121,16 @@ fn a_session_is_full_at_100_000_events(rt: HostRuntime) -> Result<(), Fail> {
     );
     Ok(())
 }
+
+/// A copy is the same session until one of the two makes a move.
+#[test]
+fn a_copy_is_the_same_session(rt: HostRuntime) -> Result<(), Fail> {
+    let mut session = opened(rt.alloc(), TWO_BOOKIES)?;
+    session.act(&LOSE)?;
+    session.act(&TICK)?;
+    let mut copy = session.clone_in()?;
+    assert!(rt; copy.same(&session));
+    copy.undo()?;
+    assert!(rt; !copy.same(&session));
+    Ok(())
+}

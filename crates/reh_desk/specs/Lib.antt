@@ -4,3 +4,5 @@ pub mod Replies
 pub mod Kept
 pub mod Seats
 pub mod Callers
+pub mod Desks
+pub mod Closings

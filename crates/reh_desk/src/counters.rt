@@ -1,5 +1,5 @@
 // Where a seat makes its calls.
-ghost use Rattle.std.specs.Prelude.{◌≡◌, ℕ, length, IfOk, IfErr, IfSome, IsTrue, Option, Some};
+ghost use Rattle.std.specs.Prelude.{◌≡◌, ℕ, length, IfOk, IfErr, IfSome, IsTrue, Option, None, Some};
 ghost use Rattle.std.specs.Option.{option_copied};
 ghost use Rattle.reh_types.specs.declared.calls.Call.{Call};
 ghost use Rattle.reh_types.specs.declared.calls.Call.TheVariants as call;
@@ -14,10 +14,12 @@ ghost use Rattle.reh_desk.specs.Seats.{SeatView, gained};
 ghost use Rattle.reh_desk.specs.Unspent.{number_of, aim_of};
 
 use crate::books::{Book, SpendFault};
+use crate::desks::Desk;
 use crate::seats::Seat;
 use crate::tickets::{Finding, Stray, Ticket, Unspent};
 use reh_cluster::State;
 use reh_types::{Aim, Move, Refusal, Reply};
+use std::sync::Wait;
 
 /// Where a seat makes its calls: a book of its own, or one that it shares.
 ///
@@ -100,5 +102,48 @@ impl Counter for Book {
 
     fn discard(&mut self, seat: &mut Seat, unspent: Unspent) -> Result<(), Stray> {
         self.discard_by(&mut seat.caller, unspent)
+    }
+}
+
+/// A desk, at which a seat may have to wait for another one's call to end. It shows no state: another seat's call may
+/// change it before one's own.
+pub struct AtDesk<'a, R: Wait> {
+    pub desk: &'a Desk,
+    pub rt: &'a R,
+}
+
+impl<'a, R: Wait> Drop for AtDesk<'a, R> {
+    fn drop(self) {
+        let AtDesk { desk: _, rt: _ } = self;
+    }
+}
+
+impl<'a, R: Wait> Counter for AtDesk<'a, R> {
+    ghost may = { λ _ _. Unit {0} };
+
+    ghost goes = { λ _ _ _ _ _. Unit {0} };
+
+    ghost scene = { λ _. None };
+
+    fn whole(&self) -> Option<&State> {
+        None
+    }
+
+    fn call(&mut self, seat: &mut Seat, step: Move) -> Reply {
+        self.desk.book(self.rt).call_by(&mut seat.caller, step)
+    }
+
+    fn checkout(&mut self, seat: &mut Seat, aim: Aim) -> Result<Ticket, Refusal> {
+        self.desk.book(self.rt).checkout_by(&mut seat.caller, aim)
+    }
+
+    fn spend(&mut self, seat: &mut Seat, finding: Finding) -> Result<Reply, SpendFault> {
+        self.desk.book(self.rt).spend_by(&mut seat.caller, finding)
+    }
+
+    fn discard(&mut self, seat: &mut Seat, unspent: Unspent) -> Result<(), Stray> {
+        self.desk
+            .book(self.rt)
+            .discard_by(&mut seat.caller, unspent)
     }
 }
