@@ -23,6 +23,8 @@ use reh_script::{FromRead, ToWrite, pipe};
 use reh_types::MAX_PICTURE_BYTES;
 use std::io::{BufWriter, Write};
 use std::process::ExitCode;
+use std::sync::Wait;
+use std::thread::Threads;
 use std::{env, fs, io};
 use tasks::{DrillFiles, Input, Task, task_of};
 
@@ -34,7 +36,7 @@ fn main(rt: HostRuntime) -> ExitCode {
     match task_of(rt.alloc(), &words) {
         Ok(Task::Play(input)) => end(&rt, play(&rt, input)),
         Ok(Task::Check { picture }) => end(&rt, check_file(&rt, picture)),
-        Ok(Task::Drill(files)) => end(&rt, drill(&rt, files)),
+        Ok(Task::Drill(files)) => end(&rt, drill(&rt, &rt, files)),
         Err(error) => show(&rt, &error),
     }
 }
@@ -105,12 +107,16 @@ fn run_files<W: Write>(
 }
 
 /// Plays the scripts of a drill, to standard output. All of its files are read before anything is judged or played.
-fn drill(rt: &HostRuntime, files: DrillFiles<'_>) -> Result<(), RunFault> {
+fn drill<R: Threads + Wait + Sync>(
+    rt: &HostRuntime,
+    threads: &R,
+    files: DrillFiles<'_>,
+) -> Result<(), RunFault> {
     let picture = read_file(rt, files.picture, MAX_PICTURE_BYTES as u64 + 1)?;
     let scripts = read_scripts(rt, &files.scripts)?;
     let buffer = BufWriter::new(rt.alloc(), io::writer(rt))?;
     let mut writer = ToWrite::new(buffer);
-    let drilled = drill_over(rt, rt.alloc(), &picture, scripts, &mut writer);
+    let drilled = drill_over(threads, rt.alloc(), &picture, scripts, &mut writer);
     let flushed = writer.flush();
     after_flush(drilled, flushed)
 }
