@@ -4,6 +4,8 @@ ghost use Rattle.std.specs.Option.{option_copied};
 ghost use Rattle.reh_types.specs.declared.calls.Call.{Call};
 ghost use Rattle.reh_types.specs.declared.calls.Call.TheVariants as call;
 ghost use Rattle.reh_types.specs.declared.moves.Reply.{Reply};
+ghost use Rattle.reh_types.specs.declared.moves.Reply.TheVariants.{Refused};
+ghost use Rattle.reh_types.specs.declared.refusals.Refusal.TheVariants.{NotOut};
 ghost use Rattle.reh_model.specs.Book.{is_written};
 ghost use Rattle.reh_model.specs.Cluster.{Cluster};
 ghost use Rattle.reh_model.specs.Scan.{scan};
@@ -54,8 +56,8 @@ pub trait Counter {
         ensures aim { IfOk result (λ ticket. ticket.content.aim ≡ aim) }
         ensures ticket { IfOk result (λ ticket. IfSome (scene self.old) (λ s. scan s aim ≡ Some ticket.content)) };
 
-    /// Posts what was found with a ticket. Where its ticket isn't out at this seat, or there is no memory for an
-    /// accepted post, the finding is handed back.
+    /// Posts what was found with a ticket. Where its ticket isn't out at this seat, as none is of a seat that counts
+    /// none, or there is no memory for an accepted post, the finding is handed back.
     fn spend(&mut self, seat: &mut Seat, finding: Finding) -> Result<Reply, SpendFault>
         requires { may self.old seat.old }
         ensures may { may self.new seat.new }
@@ -63,10 +65,11 @@ pub trait Counter {
             (call.Spend finding.number finding.content) (spent result) self.new }
         ensures seat { seat.new ≡ gained seat.old (call.Spend finding.number finding.content) (spent result) }
         ensures written { IfOk result (λ reply. IsTrue (is_written reply)) }
+        ensures none { seat.old.out ≡ 0 → spent result ≡ Refused NotOut }
         ensures back { IfErr result (λ fault. fault.finding ≡ finding) };
 
-    /// Gives a ticket, or what was found with it, back. It takes no memory. Where it isn't out at this seat, it comes
-    /// back as a stray.
+    /// Gives a ticket, or what was found with it, back. It takes no memory. Where it isn't out at this seat, as none is
+    /// of a seat that counts none, it comes back as a stray.
     fn discard(&mut self, seat: &mut Seat, unspent: Unspent) -> Result<(), Stray>
         requires { may self.old seat.old }
         ensures may { may self.new seat.new }
@@ -74,6 +77,7 @@ pub trait Counter {
             (call.Discard (number_of unspent) (aim_of unspent)) (discarded result) self.new }
         ensures seat { seat.new ≡ gained seat.old
             (call.Discard (number_of unspent) (aim_of unspent)) (discarded result) }
+        ensures none { seat.old.out ≡ 0 → discarded result ≡ Refused NotOut }
         ensures back { IfErr result (λ stray. stray ≡ unspent) };
 }
 

@@ -1,6 +1,7 @@
 // Desks: a book behind a lock, at which several seats call, each on a thread.
-ghost use Rattle.std.specs.Prelude.{◌≡◌, ◌<◌, ◌≤◌, ◌↔◌, IfOk, IfErr};
+ghost use Rattle.std.specs.Prelude.{◌≡◌, ◌⊎◌, ◌<◌, ◌≤◌, ◌↔◌, IfOk, IfErr};
 ghost use Rattle.reh_desk.specs.Desks.{AreNew, AreSeats, IsClosed};
+ghost use Rattle.reh_desk.specs.Closings.{IsUnsettled};
 ghost use Rattle.reh_desk.specs.Seats.{new_seat};
 
 use crate::books::Book;
@@ -105,6 +106,8 @@ impl Desk {
         ensures back { IfErr result (λ fault. (fault.desk ≡ self) × (fault.seats ≡ seats)) }
         ensures seats { IfErr result (λ fault.
             (fault.cause ≡ CloseCause.Seats) ↔ (AreSeats self.seats seats.items → ⊥)) }
+        ensures book { IfErr result (λ fault.
+            (fault.cause ≡ CloseCause.Seats) ⊎ IsUnsettled self.opening seats.items fault.cause) }
     {
         if !are_seats(&seats, self.seats) {
             let cause = CloseCause::Seats;

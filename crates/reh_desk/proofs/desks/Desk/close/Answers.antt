@@ -1,4 +1,4 @@
-use Rattle.std.proofs.Common.{◌≡◌, Ok, sym, subst}
+use Rattle.std.proofs.Common.{◌≡◌, Ok, Err, sym, subst, inr}
 use Rattle.std.specs.Prelude.{◌↔◌}
 use Rattle.reh_desk.specs.declared.desks.CloseCause.{CloseCause}
 use Rattle.reh_desk.specs.declared.desks.CloseCause.TheVariants.{Seats}
@@ -21,3 +21,13 @@ returns-in-Err-clause-seats c =
     subst (λ (cause : CloseCause). (cause ≡ Seats) ↔ (AreSeats c.args.self.seats c.args.seats.items → ⊥)) (sym c.from-cause.ensures)
     (not_for_seats c.args.self.seats c.args.seats.items c.in-Err.unsettled
     (subst (λ (d : DeskView). AreSeats d.seats c.args.seats.items) c.self.view_is own))
+
+pub returns-in-Err-clause-book : goal.returns-in-Err-clause-book
+returns-in-Err-clause-book c =
+    let settles = subst (λ seats. Settles c.into_inner-book.result c.self.inside.opening seats (Err c.in-Err.unsettled)) c.deref-2.ensures.value c.in-Err.ensures in
+    inr (record {
+      book = c.into_inner-book.result;
+      unsettled = c.in-Err.unsettled;
+      settles = subst (λ (d : DeskView). Settles c.into_inner-book.result d.opening c.args.seats.items (Err c.in-Err.unsettled)) c.self.view_is settles;
+      told = c.from-cause.ensures;
+    })
