@@ -6,3 +6,4 @@ pub mod Agreement
 pub mod NewSeats
 pub mod ReplyLaws
 pub mod Closing
+pub mod Endings

@@ -6,3 +6,4 @@ pub mod Seats
 pub mod Callers
 pub mod Desks
 pub mod Closings
+pub mod Tickets
