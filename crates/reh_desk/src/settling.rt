@@ -30,9 +30,7 @@ impl Book {
         if out > 0 {
             return Err(Unsettled::StillOut(out));
         }
-        if !self.opening().same(opening)
-            || !are_seated(self.tape(), seats.len())
-        {
+        if !self.opening().same(opening) || !are_seated(self.tape(), seats.len()) {
             return Err(Unsettled::Mismatch(0));
         }
         match first_mismatch(self.tape(), seats) {
