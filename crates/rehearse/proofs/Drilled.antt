@@ -19,18 +19,19 @@ use Rattle.reh_script.specs.Lines.{answered_lines}
 use Rattle.reh_script.specs.Plays.{AnswersAll, stop_of, is_write_fault}
 use Rattle.reh_script.specs.declared.faults.PlayFault.{PlayFault}
 use Rattle.reh_script.specs.declared.faults.PlayFault.TheVariants as play_fault
+use Rattle.reh_script.specs.declared.faults.PipeFault.TheVariants.{Play}
 use Rattle.reh_script.specs.declared.streams.StreamFault.{StreamFault}
 use Rattle.reh_script.proofs.Sitting.{number_at_desk}
 use Rattle.rehearse.specs.Drills.{transcripts_from, end_text, Writes, IsRoom, OpensDesk, fault_in_memory, IsOutcome}
 use Rattle.rehearse.specs.Drills.{OnePlayed, AllPlayed, transcript_of, fault_of, or_else, first_fault, seat_of}
 use Rattle.rehearse.specs.Drills.{IsOperated, AreOperated, IsDrilled, AreOutcomes, transcripts_of, EndsFor, EndsEarly}
-use Rattle.rehearse.specs.Drills.{StopsWriting, Drills}
+use Rattle.rehearse.specs.Drills.{HasToPrint, StopsWriting, is_lost, Drills}
 use Rattle.rehearse.specs.Faults.{run_fault_of}
 use Rattle.rehearse.specs.declared.faults.RunFault.{RunFault}
 use Rattle.rehearse.specs.declared.faults.RunFault.TheVariants.{Picture, WriteFault, NoMemory, Close}
 use Rattle.rehearse.specs.declared.openings.Room.{Room}
 use Rattle.rehearse.specs.declared.operators.Outcome.{Outcome}
-use Rattle.rehearse.proofs.Writing.{writes_part}
+use Rattle.rehearse.proofs.Writing.{writes_then}
 
 -- Openings
 
@@ -106,6 +107,53 @@ count_played names (s ∷ ss) [] os all = absurd all
 count_played names (s ∷ ss) (c ∷ cs) [] all = absurd all
 count_played names (s ∷ ss) (c ∷ cs) (o ∷ os) all = ap suc (count_played names ss cs os all.1)
 
+-- No operator's fault is that of a write, since none writes to a stream.
+
+loses : Option PlayFault → Bool
+loses None = false
+loses (Some fault) = is_write_fault (Err fault)
+
+memory_loses_none : (ended : Result (Unit {0}) PlayFault) → loses (fault_in_memory ended) ≡ false
+memory_loses_none (Ok done) = refl
+memory_loses_none (Err play_fault.ReadFault) = refl
+memory_loses_none (Err play_fault.TooLong) = refl
+memory_loses_none (Err play_fault.WriteFault) = refl
+memory_loses_none (Err play_fault.NoMemory) = refl
+memory_loses_none (Err play_fault.NoThread) = refl
+
+either_loses : (a b : Option PlayFault) → loses a ≡ false → loses b ≡ false → loses (or_else a b) ≡ false
+either_loses None b no none = none
+either_loses (Some fault) b no none = no
+
+one_loses_none : (names : List (List ℕ)) (s : SeatView) (c : List ℕ) (o : Result Outcome PlayFault)
+    → OnePlayed names s c o → loses (fault_of o) ≡ false
+one_loses_none names s c (Ok o) one = ap loses one.fault ∙ memory_loses_none one.ended
+one_loses_none names s c (Err fault) one = ap (λ f. loses (Some f)) one
+
+first_loses_none : (names : List (List ℕ)) (ss : List SeatView) (cs : List (List ℕ))
+    (os : List (Result Outcome PlayFault)) → AllPlayed names ss cs os → loses (first_fault os) ≡ false
+first_loses_none names [] [] [] all = refl
+first_loses_none names [] [] (o ∷ os) all = absurd all
+first_loses_none names [] (c ∷ cs) os all = absurd all
+first_loses_none names (s ∷ ss) [] os all = absurd all
+first_loses_none names (s ∷ ss) (c ∷ cs) [] all = absurd all
+first_loses_none names (s ∷ ss) (c ∷ cs) (o ∷ os) all =
+    either_loses (fault_of o) (first_fault os) (one_loses_none names s c o all.0)
+    (first_loses_none names ss cs os all.1)
+
+lost_play : (fault : PlayFault) → is_lost (Err (run_fault_of (Play fault))) ≡ is_write_fault (Err fault)
+lost_play play_fault.ReadFault = refl
+lost_play play_fault.TooLong = refl
+lost_play play_fault.WriteFault = refl
+lost_play play_fault.NoMemory = refl
+lost_play play_fault.NoThread = refl
+
+pub operators_lose_none : (names : List (List ℕ)) (ss : List SeatView) (cs : List (List ℕ))
+    (os : List (Result Outcome PlayFault)) (fault : PlayFault) → AllPlayed names ss cs os
+    → first_fault os ≡ Some fault → is_lost (Err (run_fault_of (Play fault))) ≡ false
+operators_lose_none names ss cs os fault all first =
+    lost_play fault ∙ sym (ap loses first) ∙ first_loses_none names ss cs os all
+
 -- Ends without a closed desk
 
 -- where no desk is opened
@@ -150,25 +198,6 @@ drills_early (Ok state) count room scripts outcomes fault (Err e) old new opens 
       are = are_outcomes state count room scripts outcomes opens played;
       reason = subst (λ f. EndsFor outcomes f) (sym is) ends;
       written = written;
-    }))
-
--- where a write fails
-pub drills_part : (read : Result Cluster PictureFault) (count : ℕ) (room : Room) (scripts : List (List ℕ))
-    (outcomes : List (Result Outcome PlayFault)) (behind : List ℕ) (lost : StreamFault)
-    (result : Result (Unit {0}) RunFault) (old new : Option (List ℕ)) → OpensDesk read count (Ok room)
-    → AllPlayed room.names room.seats.items scripts outcomes
-    → Writes (Err lost) (transcripts_of outcomes ++ behind) old new → IsErrAnd result (λ e. e ≡ WriteFault)
-    → Drills read scripts result old new
-drills_part (Err reason) count room scripts outcomes behind lost result old new opens played part is = absurd opens
-drills_part (Ok state) count room scripts outcomes behind lost (Ok done) old new opens played part is = absurd is
-drills_part (Ok state) count room scripts outcomes behind lost (Err e) old new opens played part is =
-    inr
-    (inr (record {
-      outcomes = outcomes;
-      are = are_outcomes state count room scripts outcomes opens played;
-      is = is;
-      behind = behind;
-      written = part;
     }))
 
 -- Ends with a closed desk
@@ -252,6 +281,50 @@ drilled state count room scripts outcomes after tape end is counted played fine 
   text_is = refl;
 }
 
+-- where a write fails
+
+pub drills_part : (read : Result Cluster PictureFault) (count : ℕ) (room : Room) (scripts : List (List ℕ))
+    (outcomes : List (Result Outcome PlayFault)) (lost : StreamFault) (result : Result (Unit {0}) RunFault)
+    (old new : Option (List ℕ)) → OpensDesk read count (Ok room)
+    → AllPlayed room.names room.seats.items scripts outcomes
+    → Writes (Err lost) (transcripts_of outcomes) old new → IsErrAnd result (λ e. e ≡ WriteFault)
+    → Drills read scripts result old new
+drills_part (Err reason) count room scripts outcomes lost result old new opens played part is = absurd opens
+drills_part (Ok state) count room scripts outcomes lost (Ok done) old new opens played part is = absurd is
+drills_part (Ok state) count room scripts outcomes lost (Err e) old new opens played part is =
+    inr
+    (inr (record {
+      is = is;
+      text = transcripts_of outcomes;
+      prints = inl (outcomes, are_outcomes state count room scripts outcomes opens played, refl);
+      written = part;
+    }))
+
+-- and where it is one behind the transcripts
+pub drills_short : (read : Result Cluster PictureFault) (count : ℕ) (room : Room) (scripts : List (List ℕ))
+    (outcomes : List (Result Outcome PlayFault)) (after : List SeatView) (tape : List Line) (end : Session)
+    (lost : StreamFault) (result : Result (Unit {0}) RunFault) (old mid new : Option (List ℕ))
+    → OpensDesk read count (Ok room) → count ≡ length scripts
+    → AllPlayed room.names room.seats.items scripts outcomes → first_fault outcomes ≡ None
+    → after ≡ flat_map seat_of outcomes → IsClosed room.desk after end tape
+    → Appends old mid (transcripts_of outcomes)
+    → Writes (Err lost) (end_text (length tape) (state_of end)) mid new → IsErrAnd result (λ e. e ≡ WriteFault)
+    → Drills read scripts result old new
+drills_short (Err reason) count room scripts outcomes after tape end lost result old mid new opens counted played fine
+    handed closed before part is = absurd opens
+drills_short (Ok state) count room scripts outcomes after tape end lost (Ok done) old mid new opens counted played fine
+    handed closed before part is = absurd is
+drills_short (Ok state) count room scripts outcomes after tape end lost (Err e) old mid new opens counted played fine
+    handed closed before part is =
+    inr
+    (inr (record {
+      is = is;
+      text = transcripts_of outcomes ++ end_text (length tape) (state_of end);
+      prints = inr (drilled state count room scripts outcomes after tape end opens counted played fine handed closed);
+      written = writes_then (Err lost) _ _ old mid new before part;
+    }))
+
+-- where all is written
 pub drills_whole : (read : Result Cluster PictureFault) (count : ℕ) (room : Room) (scripts : List (List ℕ))
     (outcomes : List (Result Outcome PlayFault)) (after : List SeatView) (tape : List Line) (end : Session)
     (done : Unit {0}) (old mid new : Option (List ℕ)) → OpensDesk read count (Ok room) → count ≡ length scripts

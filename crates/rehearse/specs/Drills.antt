@@ -1,5 +1,5 @@
 -- A drill: several operators, each with a script of its own, at one desk.
-use Rattle.std.specs.Prelude.{◌≡◌, ◌⊎◌, ℕ, ◌+◌, ◌<◌, false, List, [], ◌∷◌, ◌++◌, map, length, codes}
+use Rattle.std.specs.Prelude.{◌≡◌, ◌⊎◌, ℕ, ◌+◌, ◌<◌, Bool, true, false, List, [], ◌∷◌, ◌++◌, map, length, codes}
 use Rattle.std.specs.Prelude.{Option, None, Some, Result, Ok, Err}
 use Rattle.std.specs.Fmt.{decimal}
 use Rattle.std.specs.Io.KnownBytes.{Appends, Keeps}
@@ -162,18 +162,29 @@ pub record EndsEarly (state : Cluster) (scripts : List (List ℕ)) (fault : RunF
   pub reason : EndsFor outcomes fault
   pub written : Appends old new (transcripts_of outcomes)
 
--- A write failed: a part was written of the transcripts, or of them and what stands behind them.
+-- What a drill has to print: the transcripts of operators that ended so, or the whole text, where it went well.
+abbrev pub HasToPrint : Cluster → List (List ℕ) → List ℕ → Type 0
+HasToPrint state scripts text =
+    ((outcomes : List (Result Outcome PlayFault)) × AreOutcomes state scripts outcomes
+    × (text ≡ transcripts_of outcomes))
+    ⊎ IsDrilled state scripts text
+
+-- A write failed: of what the drill has to print, a part was written.
 pub record StopsWriting (state : Cluster) (scripts : List (List ℕ)) (fault : RunFault) (old new : Option (List ℕ))
     : Type 0 where
-  pub outcomes : List (Result Outcome PlayFault)
-  pub are : AreOutcomes state scripts outcomes
   pub is : fault ≡ WriteFault
-  pub behind : List ℕ
-  pub written : Writes (Err fault) (transcripts_of outcomes ++ behind) old new
+  pub text : List ℕ
+  pub prints : HasToPrint state scripts text
+  pub written : Writes (Err fault) text old new
 
 -- there was no memory before the first operator began
 abbrev pub IsNotBegun : RunFault → Option (List ℕ) → Option (List ℕ) → Type 0
 IsNotBegun fault old new = (fault ≡ NoMemory) × Keeps old new
+
+-- whether it ends for a failed write
+abbrev pub is_lost : Result (Unit {0}) RunFault → Bool
+is_lost (Err WriteFault) = true
+is_lost result = false
 
 -- How a drill of these scripts ends, on what a picture shows: where that is a fault, nothing is written.
 abbrev pub Drills : Result Cluster PictureFault → List (List ℕ) → Result (Unit {0}) RunFault → Option (List ℕ)

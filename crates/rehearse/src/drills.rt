@@ -4,7 +4,7 @@ ghost use Rattle.std.specs.Prelude.{IfOk, string_bytes};
 ghost use Rattle.std.specs.List.{flat_map};
 ghost use Rattle.reh_model.specs.Session.{state_of};
 ghost use Rattle.reh_picture.specs.Pictures.{picture_of};
-ghost use Rattle.rehearse.specs.Drills.{Drills, Writes, transcript_of, seat_of, transcripts_from, end_text};
+ghost use Rattle.rehearse.specs.Drills.{Drills, is_lost, Writes, transcript_of, seat_of, transcripts_from, end_text};
 
 use crate::faults::RunFault;
 use crate::openings::{Room, open_room};
@@ -35,8 +35,9 @@ pub fn drill_over<R: Threads + Wait + Sync, W: TextOut>(
     requires some { 0 < length scripts.items }
     requires few { length scripts.items ≤ MAX_OPERATORS }
     requires writes { W.has_failed writer.old ≡ false }
-    ensures { Drills (picture_of picture.now) (map (λ s. s.items) scripts.items) result
+    ensures drilled { Drills (picture_of picture.now) (map (λ s. s.items) scripts.items) result
         (W.contents writer.old) (W.contents writer.new) }
+    ensures write { W.has_failed writer.new ≡ is_lost result }
 {
     let Room { desk, seats, names } = open_room(alloc, picture, scripts.len() as u32)?;
     let outcomes = play_scripts(rt, alloc, &desk, &names, seats, scripts)?;
