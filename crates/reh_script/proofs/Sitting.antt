@@ -1,6 +1,6 @@
 -- A play at a counter that shows no state, told of its seat alone.
 use Rattle.std.proofs.Common.{◌≡◌, ℕ, ◌+◌, ◌⊎◌, List, [], ◌∷◌, ◌++◌, length, refl, ap, ◌∙◌, subst, inl, inr}
-use Rattle.std.proofs.Common.{Option, None, Some, Result, Ok, Err}
+use Rattle.std.proofs.Common.{Option, None, Some, Result, Ok, Err, false}
 use Rattle.std.specs.Prelude.{IsErrAnd}
 use Rattle.std.proofs.KnownBytes.{Keeps-refl}
 use Rattle.reh_types.specs.declared.calls.Call.{Call}
