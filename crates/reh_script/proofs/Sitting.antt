@@ -1,5 +1,5 @@
 -- A play at a counter that shows no state, told of its seat alone.
-use Rattle.std.proofs.Common.{◌≡◌, ℕ, ◌+◌, ◌⊎◌, List, [], ◌∷◌, ◌++◌, length, refl, ap, ◌∙◌, subst, inl, inr}
+use Rattle.std.proofs.Common.{◌≡◌, ℕ, ◌+◌, List, [], ◌∷◌, ◌++◌, length, refl, ap, ◌∙◌, subst, inl, inr}
 use Rattle.std.proofs.Common.{Option, None, Some, Result, Ok, Err, false}
 use Rattle.std.specs.Prelude.{IsErrAnd}
 use Rattle.std.proofs.KnownBytes.{Keeps-refl}
@@ -11,13 +11,13 @@ use Rattle.reh_script.specs.declared.commands.Command.{Command}
 use Rattle.reh_script.specs.declared.commands.LineFault.{LineFault}
 use Rattle.reh_script.specs.declared.faults.PlayFault.{PlayFault}
 use Rattle.reh_script.specs.declared.faults.PlayFault.TheVariants as fault
-use Rattle.reh_script.specs.Answers.{asked, numbered, own_answer}
+use Rattle.reh_script.specs.Answers.{asked, own_answer}
 use Rattle.reh_script.specs.DeskPlays.{anyhow, at_desk, sitting, PlaysAtDesk}
 use Rattle.reh_script.specs.Hand.{call_of, discard_of, HandAfter}
 use Rattle.reh_script.specs.Lines.{answered_lines}
 use Rattle.reh_script.specs.Players.{Going, Player, Setting, seated, Calls, Commands, Takes, TakesAll, Wants, Begins}
 use Rattle.reh_script.specs.Players.{GivesBack}
-use Rattle.reh_script.specs.Plays.{stop_of, AnswersAll, StopsWriting, StopsWanting, IsPlayed, LacksText}
+use Rattle.reh_script.specs.Plays.{stop_of, AnswersAll, StopsWriting, StopsWanting, IsPlayed}
 use Rattle.reh_script.proofs.Transcripts.{gained_number}
 
 -- a player without its counter

@@ -1,7 +1,5 @@
 -- How a play of a script goes by a seat of a desk, of whose book nothing is known.
 use Rattle.std.specs.Prelude.{ℕ, ◌⊎◌, false, List, Option, None, Result}
-use Rattle.reh_types.specs.declared.calls.Call.{Call}
-use Rattle.reh_types.specs.declared.moves.Reply.{Reply}
 use Rattle.reh_model.specs.Cluster.{Cluster}
 use Rattle.reh_desk.specs.Seats.{SeatView}
 use Rattle.reh_script.specs.Lines.{answered_lines}
