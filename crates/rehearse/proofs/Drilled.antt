@@ -4,6 +4,7 @@ use Rattle.std.proofs.Common.{Option, None, Some, Result, Ok, Err, Bool, true, f
 use Rattle.std.specs.Prelude.{◌≢◌, IsErrAnd, is_some, is_err}
 use Rattle.std.specs.List.{flat_map}
 use Rattle.std.specs.Io.KnownBytes.{Appends, Keeps}
+use Rattle.rehearse.proofs.Writing.{appends_kept}
 use Rattle.std.proofs.KnownBytes.{Keeps-refl, Appends-trans}
 use Rattle.std.proofs.lemmas.Bool.{false≢true}
 use Rattle.reh_types.specs.declared.calls.Line.{Line}
@@ -24,8 +25,8 @@ use Rattle.reh_script.specs.declared.streams.StreamFault.{StreamFault}
 use Rattle.reh_script.proofs.Sitting.{number_at_desk}
 use Rattle.rehearse.specs.Drills.{transcripts_from, end_text, Writes, IsRoom, OpensDesk, fault_in_memory, IsOutcome}
 use Rattle.rehearse.specs.Drills.{OnePlayed, AllPlayed, transcript_of, fault_of, or_else, first_fault, seat_of}
-use Rattle.rehearse.specs.Drills.{IsOperated, AreOperated, IsDrilled, AreOutcomes, transcripts_of, EndsFor, EndsEarly}
-use Rattle.rehearse.specs.Drills.{HasToPrint, StopsWriting, is_lost, Drills}
+use Rattle.rehearse.specs.Drills.{IsOperated, AreOperated, IsDrilled, AreOutcomes, transcripts_of, ClosesWith, Closes}
+use Rattle.rehearse.specs.Drills.{IsUnclosed, EndsWith, Ends, Drills, is_lost, is_lost_play}
 use Rattle.rehearse.specs.Faults.{run_fault_of}
 use Rattle.rehearse.specs.declared.faults.RunFault.{RunFault}
 use Rattle.rehearse.specs.declared.faults.RunFault.TheVariants.{Picture, WriteFault, NoMemory, Close}
@@ -109,11 +110,7 @@ count_played names (s ∷ ss) (c ∷ cs) (o ∷ os) all = ap suc (count_played n
 
 -- No operator's fault is that of a write, since none writes to a stream.
 
-loses : Option PlayFault → Bool
-loses None = false
-loses (Some fault) = is_write_fault (Err fault)
-
-memory_loses_none : (ended : Result (Unit {0}) PlayFault) → loses (fault_in_memory ended) ≡ false
+memory_loses_none : (ended : Result (Unit {0}) PlayFault) → is_lost_play (fault_in_memory ended) ≡ false
 memory_loses_none (Ok done) = refl
 memory_loses_none (Err play_fault.ReadFault) = refl
 memory_loses_none (Err play_fault.TooLong) = refl
@@ -121,38 +118,46 @@ memory_loses_none (Err play_fault.WriteFault) = refl
 memory_loses_none (Err play_fault.NoMemory) = refl
 memory_loses_none (Err play_fault.NoThread) = refl
 
-either_loses : (a b : Option PlayFault) → loses a ≡ false → loses b ≡ false → loses (or_else a b) ≡ false
+either_loses : (a b : Option PlayFault) → is_lost_play a ≡ false → is_lost_play b ≡ false → is_lost_play (or_else a b) ≡ false
 either_loses None b no none = none
-either_loses (Some fault) b no none = no
+either_is_lost_play (Some fault) b no none = no
 
 one_loses_none : (names : List (List ℕ)) (s : SeatView) (c : List ℕ) (o : Result Outcome PlayFault)
-    → OnePlayed names s c o → loses (fault_of o) ≡ false
-one_loses_none names s c (Ok o) one = ap loses one.fault ∙ memory_loses_none one.ended
-one_loses_none names s c (Err fault) one = ap (λ f. loses (Some f)) one
+    → OnePlayed names s c o → is_lost_play (fault_of o) ≡ false
+one_loses_none names s c (Ok o) one = ap is_lost_play one.fault ∙ memory_loses_none one.ended
+one_loses_none names s c (Err fault) one = ap (λ f. is_lost_play (Some f)) one
 
-first_loses_none : (names : List (List ℕ)) (ss : List SeatView) (cs : List (List ℕ))
-    (os : List (Result Outcome PlayFault)) → AllPlayed names ss cs os → loses (first_fault os) ≡ false
+pub first_loses_none : (names : List (List ℕ)) (ss : List SeatView) (cs : List (List ℕ))
+    (os : List (Result Outcome PlayFault)) → AllPlayed names ss cs os → is_lost_play (first_fault os) ≡ false
 first_loses_none names [] [] [] all = refl
 first_loses_none names [] [] (o ∷ os) all = absurd all
 first_loses_none names [] (c ∷ cs) os all = absurd all
 first_loses_none names (s ∷ ss) [] os all = absurd all
 first_loses_none names (s ∷ ss) (c ∷ cs) [] all = absurd all
 first_loses_none names (s ∷ ss) (c ∷ cs) (o ∷ os) all =
-    either_loses (fault_of o) (first_fault os) (one_loses_none names s c o all.0)
+    either_is_lost_play (fault_of o) (first_fault os) (one_loses_none names s c o all.0)
     (first_loses_none names ss cs os all.1)
 
-lost_play : (fault : PlayFault) → is_lost (Err (run_fault_of (Play fault))) ≡ is_write_fault (Err fault)
+-- what an operator's fault is to the run
+pub lost_play : (fault : PlayFault) → is_lost (Err (run_fault_of (Play fault))) ≡ is_lost_play (Some fault)
 lost_play play_fault.ReadFault = refl
 lost_play play_fault.TooLong = refl
 lost_play play_fault.WriteFault = refl
 lost_play play_fault.NoMemory = refl
 lost_play play_fault.NoThread = refl
 
-pub operators_lose_none : (names : List (List ℕ)) (ss : List SeatView) (cs : List (List ℕ))
-    (os : List (Result Outcome PlayFault)) (fault : PlayFault) → AllPlayed names ss cs os
-    → first_fault os ≡ Some fault → is_lost (Err (run_fault_of (Play fault))) ≡ false
-operators_lose_none names ss cs os fault all first =
-    lost_play fault ∙ sym (ap loses first) ∙ first_loses_none names ss cs os all
+-- whether a write failed, told by a fault that is handed on
+pub lost_as : (lost : Bool) (fault : RunFault) (result : Result (Unit {0}) RunFault)
+    → IsErrAnd result (λ e. e ≡ fault) → lost ≡ is_lost (Err fault) → lost ≡ is_lost result
+lost_as lost fault (Ok done) is same = absurd is
+lost_as lost fault (Err e) is same = same ∙ ap (λ f. is_lost (Err f)) (sym is)
+
+-- where no desk is opened, no write failed
+pub opens_lose_none : (read : Result Cluster PictureFault) (count : ℕ) (fault : RunFault)
+    → OpensDesk read count (Err fault) → false ≡ is_lost (Err fault)
+opens_lose_none (Ok state) count fault refused = ap (λ f. is_lost (Err f)) (sym refused)
+opens_lose_none (Err reason) count fault (inl refused) = ap (λ f. is_lost (Err f)) (sym refused)
+opens_lose_none (Err reason) count fault (inr refused) = ap (λ f. is_lost (Err f)) (sym refused)
 
 -- Ends without a closed desk
 
@@ -181,24 +186,6 @@ are_outcomes state count room scripts outcomes is played = record {
   new = is.seats.1;
   played = subst (λ names. AllPlayed names room.seats.items scripts outcomes) is.names played;
 }
-
--- where the transcripts are written, and a fault stands behind them
-pub drills_early : (read : Result Cluster PictureFault) (count : ℕ) (room : Room) (scripts : List (List ℕ))
-    (outcomes : List (Result Outcome PlayFault)) (fault : RunFault) (result : Result (Unit {0}) RunFault)
-    (old new : Option (List ℕ)) → OpensDesk read count (Ok room)
-    → AllPlayed room.names room.seats.items scripts outcomes → EndsFor outcomes fault
-    → Appends old new (transcripts_of outcomes) → IsErrAnd result (λ e. e ≡ fault)
-    → Drills read scripts result old new
-drills_early (Err reason) count room scripts outcomes fault result old new opens played ends written is = absurd opens
-drills_early (Ok state) count room scripts outcomes fault (Ok done) old new opens played ends written is = absurd is
-drills_early (Ok state) count room scripts outcomes fault (Err e) old new opens played ends written is =
-    inr
-    (inl (record {
-      outcomes = outcomes;
-      are = are_outcomes state count room scripts outcomes opens played;
-      reason = subst (λ f. EndsFor outcomes f) (sym is) ends;
-      written = written;
-    }))
 
 -- Ends with a closed desk
 
@@ -281,62 +268,125 @@ drilled state count room scripts outcomes after tape end is counted played fine 
   text_is = refl;
 }
 
--- where a write fails
+printed : (state : Cluster) (count : ℕ) (room : Room) (scripts : List (List ℕ))
+    (outcomes : List (Result Outcome PlayFault)) (text : List ℕ) → IsRoom state count room → count ≡ length scripts
+    → AllPlayed room.names room.seats.items scripts outcomes → EndsWith room.desk outcomes text
+    → IsDrilled state scripts text
+printed state count room scripts outcomes text is counted played ends =
+    subst (IsDrilled state scripts) (sym (ends.is ∙ ap (λ t. transcripts_of outcomes ++ t) ends.closes.is))
+    (drilled state count room scripts outcomes (flat_map seat_of outcomes) ends.closes.tape ends.closes.end is counted
+    played ends.fine refl ends.closes.closed)
 
-pub drills_part : (read : Result Cluster PictureFault) (count : ℕ) (room : Room) (scripts : List (List ℕ))
-    (outcomes : List (Result Outcome PlayFault)) (lost : StreamFault) (result : Result (Unit {0}) RunFault)
-    (old new : Option (List ℕ)) → OpensDesk read count (Ok room)
-    → AllPlayed room.names room.seats.items scripts outcomes
-    → Writes (Err lost) (transcripts_of outcomes) old new → IsErrAnd result (λ e. e ≡ WriteFault)
+-- as its desk ends
+pub drills_ended : (read : Result Cluster PictureFault) (count : ℕ) (room : Room) (scripts : List (List ℕ))
+    (outcomes : List (Result Outcome PlayFault)) (result : Result (Unit {0}) RunFault) (old new : Option (List ℕ))
+    → OpensDesk read count (Ok room) → count ≡ length scripts
+    → AllPlayed room.names room.seats.items scripts outcomes → Ends room.desk outcomes result old new
     → Drills read scripts result old new
-drills_part (Err reason) count room scripts outcomes lost result old new opens played part is = absurd opens
-drills_part (Ok state) count room scripts outcomes lost (Ok done) old new opens played part is = absurd is
-drills_part (Ok state) count room scripts outcomes lost (Err e) old new opens played part is =
+drills_ended (Err reason) count room scripts outcomes result old new opens counted played ends = absurd opens
+drills_ended (Ok state) count room scripts outcomes (Ok done) old new opens counted played (text, ends, written) =
+    (text, printed state count room scripts outcomes text opens counted played ends, written)
+drills_ended (Ok state) count room scripts outcomes (Err fault) old new opens counted played (inl (reason, written)) =
+    inr
+    (inl (record {
+      outcomes = outcomes;
+      are = are_outcomes state count room scripts outcomes opens played;
+      reason = reason;
+      written = written;
+    }))
+drills_ended (Ok state) count room scripts outcomes (Err fault) old new opens counted played
+    (inr (is, text, inl all, part)) =
     inr
     (inr (record {
       is = is;
-      text = transcripts_of outcomes;
-      prints = inl (outcomes, are_outcomes state count room scripts outcomes opens played, refl);
+      text = text;
+      prints = inl (outcomes, are_outcomes state count room scripts outcomes opens played, all);
+      written = part;
+    }))
+drills_ended (Ok state) count room scripts outcomes (Err fault) old new opens counted played
+    (inr (is, text, inr ends, part)) =
+    inr
+    (inr (record {
+      is = is;
+      text = text;
+      prints = inr (printed state count room scripts outcomes text opens counted played ends);
       written = part;
     }))
 
--- and where it is one behind the transcripts
-pub drills_short : (read : Result Cluster PictureFault) (count : ℕ) (room : Room) (scripts : List (List ℕ))
-    (outcomes : List (Result Outcome PlayFault)) (after : List SeatView) (tape : List Line) (end : Session)
-    (lost : StreamFault) (result : Result (Unit {0}) RunFault) (old mid new : Option (List ℕ))
-    → OpensDesk read count (Ok room) → count ≡ length scripts
-    → AllPlayed room.names room.seats.items scripts outcomes → first_fault outcomes ≡ None
-    → after ≡ flat_map seat_of outcomes → IsClosed room.desk after end tape
-    → Appends old mid (transcripts_of outcomes)
-    → Writes (Err lost) (end_text (length tape) (state_of end)) mid new → IsErrAnd result (λ e. e ≡ WriteFault)
-    → Drills read scripts result old new
-drills_short (Err reason) count room scripts outcomes after tape end lost result old mid new opens counted played fine
-    handed closed before part is = absurd opens
-drills_short (Ok state) count room scripts outcomes after tape end lost (Ok done) old mid new opens counted played fine
-    handed closed before part is = absurd is
-drills_short (Ok state) count room scripts outcomes after tape end lost (Err e) old mid new opens counted played fine
-    handed closed before part is =
-    inr
-    (inr (record {
-      is = is;
-      text = transcripts_of outcomes ++ end_text (length tape) (state_of end);
-      prints = inr (drilled state count room scripts outcomes after tape end opens counted played fine handed closed);
-      written = writes_then (Err lost) _ _ old mid new before part;
-    }))
+-- Ends of a desk
+
+-- where it doesn't close, or there is no memory for its text
+pub closes_not : (desk : DeskView) (seats : List SeatView) (fault : RunFault) (result : Result (Unit {0}) RunFault)
+    (old : Option (List ℕ)) → IsUnclosed fault → IsErrAnd result (λ e. e ≡ fault) → Closes desk seats result old old
+closes_not desk seats fault (Ok done) old unclosed is = absurd is
+closes_not desk seats fault (Err e) old unclosed is = inl (subst IsUnclosed (sym is) unclosed, Keeps-refl old)
+
+closes_with : (desk : DeskView) (seats : List SeatView) (tape : List Line) (end : Session) (text : List ℕ)
+    → IsClosed desk seats end tape → text ≡ end_text (length tape) (state_of end) → ClosesWith desk seats text
+closes_with desk seats tape end text closed is = record { tape = tape; end = end; closed = closed; is = is }
+
+-- where a write fails
+pub closes_short : (desk : DeskView) (seats : List SeatView) (tape : List Line) (end : Session) (text : List ℕ)
+    (lost : StreamFault) (result : Result (Unit {0}) RunFault) (old new : Option (List ℕ))
+    → IsClosed desk seats end tape → text ≡ end_text (length tape) (state_of end)
+    → Writes (Err lost) text old new → IsErrAnd result (λ e. e ≡ WriteFault) → Closes desk seats result old new
+closes_short desk seats tape end text lost (Ok done) old new closed text_is part is = absurd is
+closes_short desk seats tape end text lost (Err e) old new closed text_is part is =
+    inr (is, text, closes_with desk seats tape end text closed text_is, part)
 
 -- where all is written
-pub drills_whole : (read : Result Cluster PictureFault) (count : ℕ) (room : Room) (scripts : List (List ℕ))
-    (outcomes : List (Result Outcome PlayFault)) (after : List SeatView) (tape : List Line) (end : Session)
-    (done : Unit {0}) (old mid new : Option (List ℕ)) → OpensDesk read count (Ok room) → count ≡ length scripts
-    → AllPlayed room.names room.seats.items scripts outcomes → first_fault outcomes ≡ None
-    → after ≡ flat_map seat_of outcomes → IsClosed room.desk after end tape
-    → Appends old mid (transcripts_of outcomes) → Appends mid new (end_text (length tape) (state_of end))
-    → Drills read scripts (Ok done) old new
-drills_whole (Err reason) count room scripts outcomes after tape end done old mid new opens counted played fine handed
-    closed before behind = absurd opens
-drills_whole (Ok state) count room scripts outcomes after tape end done old mid new opens counted played fine handed
-    closed before behind = (
-  transcripts_of outcomes ++ end_text (length tape) (state_of end),
-  drilled state count room scripts outcomes after tape end opens counted played fine handed closed,
-  Appends-trans old mid new _ _ before behind,
+pub closes_whole : (desk : DeskView) (seats : List SeatView) (tape : List Line) (end : Session) (text : List ℕ)
+    (old new : Option (List ℕ)) → IsClosed desk seats end tape → text ≡ end_text (length tape) (state_of end)
+    → Appends old new text → Closes desk seats (Ok tt) old new
+closes_whole desk seats tape end text old new closed text_is written =
+    (text, closes_with desk seats tape end text closed text_is, written)
+
+-- Ends of a drill
+
+-- where a transcript is not written
+pub ends_short : (desk : DeskView) (outcomes : List (Result Outcome PlayFault)) (lost : StreamFault)
+    (result : Result (Unit {0}) RunFault) (old new : Option (List ℕ))
+    → Writes (Err lost) (transcripts_of outcomes) old new → IsErrAnd result (λ e. e ≡ WriteFault)
+    → Ends desk outcomes result old new
+ends_short desk outcomes lost (Ok done) old new part is = absurd is
+ends_short desk outcomes lost (Err e) old new part is = inr (is, transcripts_of outcomes, inl refl, part)
+
+-- where an operator ended early
+pub ends_early : (desk : DeskView) (outcomes : List (Result Outcome PlayFault)) (reason : PlayFault) (fault : RunFault)
+    (old new : Option (List ℕ)) → first_fault outcomes ≡ Some reason → fault ≡ run_fault_of (Play reason)
+    → Appends old new (transcripts_of outcomes) → Ends desk outcomes (Err fault) old new
+ends_early desk outcomes reason fault old new first is written = inl (inl (reason, first, is), written)
+
+-- where there is no memory for the seats
+pub ends_wanting : (desk : DeskView) (outcomes : List (Result Outcome PlayFault))
+    (result : Result (Unit {0}) RunFault) (old new : Option (List ℕ)) → first_fault outcomes ≡ None
+    → Appends old new (transcripts_of outcomes) → IsErrAnd result (λ e. e ≡ NoMemory)
+    → Ends desk outcomes result old new
+ends_wanting desk outcomes (Ok done) old new fine written is = absurd is
+ends_wanting desk outcomes (Err e) old new fine written is = inl (inr (fine, inr is), written)
+
+-- as its desk is closed
+pub ends_closing : (desk : DeskView) (outcomes : List (Result Outcome PlayFault)) (seats : List SeatView)
+    (result : Result (Unit {0}) RunFault) (old mid new : Option (List ℕ)) → first_fault outcomes ≡ None
+    → seats ≡ flat_map seat_of outcomes → Appends old mid (transcripts_of outcomes)
+    → Closes desk seats result mid new → Ends desk outcomes result old new
+ends_closing desk outcomes seats (Ok done) old mid new fine handed before (text, closes, written) = (
+  transcripts_of outcomes ++ text,
+  record { fine = fine; behind = text; closes = subst (λ s. ClosesWith desk s text) handed closes; is = refl },
+  Appends-trans old mid new _ _ before written,
 )
+ends_closing desk outcomes seats (Err fault) old mid new fine handed before (inl (unclosed, kept)) =
+    inl (inr (fine, unclosed), appends_kept old mid new (transcripts_of outcomes) before kept)
+ends_closing desk outcomes seats (Err fault) old mid new fine handed before (inr (is, text, closes, part)) =
+    inr
+    (
+      is,
+      transcripts_of outcomes ++ text,
+      inr (record {
+        fine = fine;
+        behind = text;
+        closes = subst (λ s. ClosesWith desk s text) handed closes;
+        is = refl;
+      }),
+      writes_then (Err fault) _ _ old mid new before part,
+    )

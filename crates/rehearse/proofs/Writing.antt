@@ -1,8 +1,8 @@
 -- Texts that are written one behind the other.
 use Rattle.std.proofs.Common.{◌≡◌, ℕ, ◌+◌, ◌<◌, List, [], ◌∷◌, ◌++◌, length, length-append, arith, sym, ap, ◌∙◌, subst}
-use Rattle.std.proofs.Common.{Option, Result, Ok, Err}
+use Rattle.std.proofs.Common.{Option, None, Some, Result, Ok, Err}
 use Rattle.std.specs.Prelude.{IsErrAnd}
-use Rattle.std.specs.Io.KnownBytes.{Appends}
+use Rattle.std.specs.Io.KnownBytes.{Appends, Keeps}
 use Rattle.std.proofs.KnownBytes.{Appends-trans}
 use mathlib.Core.List.{append_assoc}
 use Rattle.rehearse.specs.Drills.{Writes}
@@ -36,3 +36,11 @@ writes_then (Err fault) first rest old mid new before (part, lost, is, some, wri
   some,
   Appends-trans old mid new first part before written,
 )
+
+-- a text that was written, and nothing behind it
+pub appends_kept : (old mid new : Option (List ℕ)) (text : List ℕ) → Appends old mid text → Keeps mid new
+    → Appends old new text
+appends_kept None mid new text before kept = tt
+appends_kept (Some xs) None new text before kept = absurd before
+appends_kept (Some xs) (Some ys) None text before kept = absurd kept
+appends_kept (Some xs) (Some ys) (Some zs) text before kept = kept ∙ before

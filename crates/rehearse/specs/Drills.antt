@@ -2,17 +2,18 @@
 use Rattle.std.specs.Prelude.{◌≡◌, ◌⊎◌, ℕ, ◌+◌, ◌<◌, Bool, true, false, List, [], ◌∷◌, ◌++◌, map, length, codes}
 use Rattle.std.specs.Prelude.{Option, None, Some, Result, Ok, Err}
 use Rattle.std.specs.Fmt.{decimal}
+use Rattle.std.specs.List.{flat_map}
 use Rattle.std.specs.Io.KnownBytes.{Appends, Keeps}
 use Rattle.reh_types.specs.declared.calls.Line.{Line}
 use Rattle.reh_model.specs.Cluster.{Cluster}
 use Rattle.reh_model.specs.Session.{Session, state_of, opened_session}
-use Rattle.reh_desk.specs.Desks.{AreNew, AreNewFrom, AreSeated, IsHistory, own_lines}
+use Rattle.reh_desk.specs.Desks.{DeskView, AreNew, AreNewFrom, AreSeated, IsClosed, IsHistory, own_lines}
 use Rattle.reh_desk.specs.Seats.{SeatView, new_seat}
 use Rattle.reh_desk.specs.declared.desks.CloseCause.{CloseCause}
 use Rattle.reh_picture.specs.declared.faults.PictureFault.{PictureFault}
 use Rattle.reh_script.specs.DeskPlays.{at_desk, sitting, PlaysAtDesk}
 use Rattle.reh_script.specs.Lines.{answered_lines}
-use Rattle.reh_script.specs.Plays.{AnswersAll, stop_of}
+use Rattle.reh_script.specs.Plays.{AnswersAll, stop_of, is_write_fault}
 use Rattle.reh_script.specs.Texts.{report, text_of}
 use Rattle.reh_script.specs.declared.faults.PlayFault.{PlayFault}
 use Rattle.reh_script.specs.declared.faults.PlayFault.TheVariants as play_fault
@@ -40,6 +41,15 @@ abbrev pub Writes : {E : Type 0} → Result (Unit {0}) E → List ℕ → Option
 Writes {E} (Ok done) text old new = Appends old new text
 Writes {E} (Err fault) text old new =
     (part : List ℕ) × (lost : List ℕ) × (part ++ lost ≡ text) × (0 < length lost) × Appends old new part
+
+-- whether a run ends for a failed write, and whether an operator's play does
+abbrev pub is_lost : Result (Unit {0}) RunFault → Bool
+is_lost (Err WriteFault) = true
+is_lost result = false
+
+abbrev pub is_lost_play : Option PlayFault → Bool
+is_lost_play None = false
+is_lost_play (Some fault) = is_write_fault (Err fault)
 
 -- Openings
 
@@ -148,12 +158,49 @@ pub record AreOutcomes (state : Cluster) (scripts : List (List ℕ)) (outcomes :
 abbrev pub transcripts_of : List (Result Outcome PlayFault) → List ℕ
 transcripts_of outcomes = transcripts_from 1 (map transcript_of outcomes)
 
+-- Desks at their end
+
+-- A desk that closed with these seats has this text.
+pub record ClosesWith (desk : DeskView) (seats : List SeatView) (text : List ℕ) : Type 0 where
+  pub tape : List Line
+  pub end : Session
+  pub closed : IsClosed desk seats end tape
+  pub is : text ≡ end_text (length tape) (state_of end)
+
+-- why it doesn't close, or its text isn't made: nothing is written then
+abbrev pub IsUnclosed : RunFault → Type 0
+IsUnclosed fault = ((cause : CloseCause) × (fault ≡ Close cause)) ⊎ (fault ≡ NoMemory)
+
+-- A desk is closed with these seats, and its text is written, or a part of it, where a write failed.
+abbrev pub Closes : DeskView → List SeatView → Result (Unit {0}) RunFault → Option (List ℕ) → Option (List ℕ) → Type 0
+Closes desk seats (Ok done) old new = (text : List ℕ) × ClosesWith desk seats text × Appends old new text
+Closes desk seats (Err fault) old new =
+    (IsUnclosed fault × Keeps old new)
+    ⊎ ((fault ≡ WriteFault) × (text : List ℕ) × ClosesWith desk seats text × Writes (Err fault) text old new)
+
 -- Why a drill ends early whose operators ended so: the lowest one's fault, where one has any, or what the desk answers
 -- that doesn't close, or want of memory for what stands behind the transcripts. All of these are written.
 abbrev pub EndsFor : List (Result Outcome PlayFault) → RunFault → Type 0
 EndsFor outcomes fault =
     ((reason : PlayFault) × (first_fault outcomes ≡ Some reason) × (fault ≡ run_fault_of (Play reason)))
-    ⊎ ((first_fault outcomes ≡ None) × (((cause : CloseCause) × (fault ≡ Close cause)) ⊎ (fault ≡ NoMemory)))
+    ⊎ ((first_fault outcomes ≡ None) × IsUnclosed fault)
+
+-- What is printed of a desk whose operators all ended well.
+pub record EndsWith (desk : DeskView) (outcomes : List (Result Outcome PlayFault)) (text : List ℕ) : Type 0 where
+  pub fine : first_fault outcomes ≡ None
+  pub behind : List ℕ
+  pub closes : ClosesWith desk (flat_map seat_of outcomes) behind
+  pub is : text ≡ transcripts_of outcomes ++ behind
+
+-- What the operators of a desk printed is written, and of a desk that closes its text; or a part of these.
+abbrev pub Ends : DeskView → List (Result Outcome PlayFault) → Result (Unit {0}) RunFault → Option (List ℕ)
+    → Option (List ℕ) → Type 0
+Ends desk outcomes (Ok done) old new = (text : List ℕ) × EndsWith desk outcomes text × Appends old new text
+Ends desk outcomes (Err fault) old new =
+    (EndsFor outcomes fault × Appends old new (transcripts_of outcomes))
+    ⊎ ((fault ≡ WriteFault)
+    × (text : List ℕ) × ((text ≡ transcripts_of outcomes) ⊎ EndsWith desk outcomes text)
+    × Writes (Err fault) text old new)
 
 pub record EndsEarly (state : Cluster) (scripts : List (List ℕ)) (fault : RunFault) (old new : Option (List ℕ))
     : Type 0 where
@@ -180,11 +227,6 @@ pub record StopsWriting (state : Cluster) (scripts : List (List ℕ)) (fault : R
 -- there was no memory before the first operator began
 abbrev pub IsNotBegun : RunFault → Option (List ℕ) → Option (List ℕ) → Type 0
 IsNotBegun fault old new = (fault ≡ NoMemory) × Keeps old new
-
--- whether it ends for a failed write
-abbrev pub is_lost : Result (Unit {0}) RunFault → Bool
-is_lost (Err WriteFault) = true
-is_lost result = false
 
 -- How a drill of these scripts ends, on what a picture shows: where that is a fault, nothing is written.
 abbrev pub Drills : Result Cluster PictureFault → List (List ℕ) → Result (Unit {0}) RunFault → Option (List ℕ)

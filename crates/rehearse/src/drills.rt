@@ -4,14 +4,15 @@ ghost use Rattle.std.specs.Prelude.{IfOk, string_bytes};
 ghost use Rattle.std.specs.List.{flat_map};
 ghost use Rattle.reh_model.specs.Session.{state_of};
 ghost use Rattle.reh_picture.specs.Pictures.{picture_of};
-ghost use Rattle.rehearse.specs.Drills.{Drills, is_lost, Writes, transcript_of, seat_of, transcripts_from, end_text};
+ghost use Rattle.rehearse.specs.Drills.{Drills, Ends, Closes, Writes, is_lost, is_lost_play};
+ghost use Rattle.rehearse.specs.Drills.{first_fault as first_fault_of, transcript_of, seat_of, transcripts_from, end_text};
 
 use crate::faults::RunFault;
 use crate::openings::{Room, open_room};
 use crate::operators::Outcome;
 use crate::outcomes::{first_fault, play_scripts};
 use itoa::Buffer;
-use reh_desk::{Closed, Seat};
+use reh_desk::{Closed, Desk, Seat};
 use reh_script::{PlayFault, StreamFault, TextOut, report_text, write_all};
 use std::alloc::{AllocError, Global};
 use std::sync::Wait;
@@ -41,15 +42,46 @@ pub fn drill_over<R: Threads + Wait + Sync, W: TextOut>(
 {
     let Room { desk, seats, names } = open_room(alloc, picture, scripts.len() as u32)?;
     let outcomes = play_scripts(rt, alloc, &desk, &names, seats, scripts)?;
+    end_drill(alloc, desk, outcomes, writer)
+}
+
+/// Writes what the operators of a desk printed. Where each came to its script's end, it closes the desk and writes its
+/// text too.
+fn end_drill<W: TextOut>(
+    alloc: Global,
+    desk: Desk,
+    outcomes: Vec<Result<Outcome, PlayFault>>,
+    writer: &mut W,
+) -> Result<(), RunFault>
+    requires few { length outcomes.items ≤ MAX_OPERATORS }
+    requires kept { is_lost_play (first_fault_of outcomes.items) ≡ false }
+    requires writes { W.has_failed writer.old ≡ false }
+    ensures ends { Ends desk outcomes.items result (W.contents writer.old) (W.contents writer.new) }
+    ensures write { W.has_failed writer.new ≡ is_lost result }
+{
     write_transcripts(writer, &outcomes, 1)?;
     if let Some(fault) = first_fault(&outcomes) {
         return Err(RunFault::from(fault));
     }
     let seats = seats_of(alloc, outcomes)?;
+    close_desk(alloc, desk, seats, writer)
+}
+
+/// Closes a desk, and writes its text.
+fn close_desk<W: TextOut>(
+    alloc: Global,
+    desk: Desk,
+    seats: Vec<Seat>,
+    writer: &mut W,
+) -> Result<(), RunFault>
+    requires { W.has_failed writer.old ≡ false }
+    ensures closes { Closes desk seats.items result (W.contents writer.old) (W.contents writer.new) }
+    ensures write { W.has_failed writer.new ≡ is_lost result }
+{
     match desk.close(seats) {
         Ok(closed) => {
             let text = closing_text(alloc, &closed)?;
-            write_all(writer, text.as_bytes())?;
+            write_text(writer, text.as_bytes())?;
             Ok(())
         }
         Err(fault) => {
