@@ -1,6 +1,10 @@
 // Desks: seats that share a session, and what a desk says that doesn't close.
+ghost use Rattle.std.specs.Prelude.{◌<◌, ◌≤◌};
+
 use crate::pictures::{FIVE_BOOKIES, TWO_BOOKIES, state_of};
-use reh_desk::{AtDesk, CloseCause, CloseFault, Closed, Counter, Desk, Seat, Unspent};
+use reh_desk::{
+    AtDesk, CloseCause, CloseFault, Closed, Counter, Desk, Finding, Seat, SpendFault, Unspent, scan,
+};
 use reh_session::Session;
 use reh_types::{Aim, BookieIx, Call, Event, LedgerId, Line, Move, Refusal, Reply};
 use std::alloc::Global;
@@ -50,7 +54,13 @@ fn opened(
 }
 
 /// The reply to a move of a seat.
-fn ask<R: Wait + Abort>(rt: &R, desk: &Desk, seats: &mut [Seat], place: usize, step: Move) -> Reply {
+fn ask<R: Wait + Abort>(
+    rt: &R,
+    desk: &Desk,
+    seats: &mut [Seat],
+    place: usize,
+    step: Move,
+) -> Reply {
     match seats.get_mut(place) {
         Some(seat) => AtDesk { desk, rt }.call(seat, step),
         None => panic!(rt; "no seat"),
@@ -105,7 +115,11 @@ fn a_ticket_keeps_a_desk_open(rt: HostRuntime) -> Result<(), Fail> {
     let Some(seat) = seats.first_mut() else {
         panic!(rt; "no seat")
     };
-    let Ok(ticket) = (AtDesk { desk: &desk, rt: &rt }.checkout(seat, AIM)) else {
+    let Ok(ticket) = (AtDesk {
+        desk: &desk,
+        rt: &rt,
+    }
+    .checkout(seat, AIM)) else {
         panic!(rt; "no ticket")
     };
     let (cause, desk, seats) = unclosed(&rt, desk.close(seats));
@@ -114,12 +128,58 @@ fn a_ticket_keeps_a_desk_open(rt: HostRuntime) -> Result<(), Fail> {
     let Some(seat) = seats.first_mut() else {
         panic!(rt; "no seat")
     };
-    let unspent = Unspent::Unscanned(ticket);
-    if let Err(stray) = (AtDesk { desk: &desk, rt: &rt }.discard(seat, unspent)) {
-        stray.forfeit();
-    }
+    give_back(&rt, &desk, seat, Unspent::Unscanned(ticket));
     assert!(rt; desk.close(seats).is_ok());
     Ok(())
+}
+
+/// What was scanned with a desk's ticket is posted there.
+#[test]
+fn a_finding_is_spent_at_a_desk(rt: HostRuntime) -> Result<(), Fail> {
+    let (desk, mut seats) = opened(&rt, rt.alloc(), FIVE_BOOKIES, &LOSS, 1)?;
+    let Some(seat) = seats.first_mut() else {
+        panic!(rt; "no seat")
+    };
+    let Ok(ticket) = (AtDesk {
+        desk: &desk,
+        rt: &rt,
+    }
+    .checkout(seat, AIM)) else {
+        panic!(rt; "no ticket")
+    };
+    let posted = match scan(rt.alloc(), ticket) {
+        Ok(finding) => spend(&rt, &desk, seat, finding),
+        Err((ticket, _)) => {
+            give_back(&rt, &desk, seat, Unspent::Unscanned(ticket));
+            None
+        }
+    };
+    assert_eq!(rt; posted, Some(Reply::Done));
+    let Ok(Closed { session, tape }) = desk.close(seats) else {
+        panic!(rt; "not closed")
+    };
+    assert_eq!(rt; session.done().len(), 4);
+    assert_eq!(rt; tape.len(), 2);
+    Ok(())
+}
+
+/// The reply to a spend at a desk. A finding that comes back is given back.
+fn spend<R: Wait>(rt: &R, desk: &Desk, seat: &mut Seat, finding: Finding) -> Option<Reply> {
+    match (AtDesk { desk, rt }.spend(seat, finding)) {
+        Ok(reply) => Some(reply),
+        Err(fault) => {
+            let SpendFault { finding, cause: _ } = fault;
+            give_back(rt, desk, seat, Unspent::Scanned(finding));
+            None
+        }
+    }
+}
+
+/// Gives a ticket, or what was found with it, back to a desk.
+fn give_back<R: Wait>(rt: &R, desk: &Desk, seat: &mut Seat, unspent: Unspent) {
+    if let Err(stray) = (AtDesk { desk, rt }.discard(seat, unspent)) {
+        stray.forfeit();
+    }
 }
 
 /// Why a desk doesn't close, and what it hands back.
@@ -151,7 +211,10 @@ fn a_desk_wants_its_own_seats(rt: HostRuntime) -> Result<(), Fail> {
 fn a_desk_does_not_take_another_ones_seat(rt: HostRuntime) -> Result<(), Fail> {
     let (desk, _seats) = opened(&rt, rt.alloc(), TWO_BOOKIES, &[], 1)?;
     let (other, mut seats) = opened(&rt, rt.alloc(), TWO_BOOKIES, &[], 1)?;
-    assert_eq!(rt; ask(&rt, &other, &mut seats, 0, Move::Look), Reply::Clock(0));
+    assert_eq!(rt;
+        ask(&rt, &other, &mut seats, 0, Move::Look),
+        Reply::Clock(0)
+    );
     let (cause, _desk, _seats) = unclosed(&rt, desk.close(seats));
     assert_eq!(rt; cause, CloseCause::Mismatch(0));
     Ok(())

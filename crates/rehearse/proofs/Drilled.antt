@@ -68,6 +68,12 @@ pub opens_state : (read : Result Cluster PictureFault) (state : Cluster) (count 
 opens_state read state count room is opened =
     subst (λ (r : Result Cluster PictureFault). OpensDesk r count (Ok room)) (sym is) opened
 
+-- a desk has as many seats as were asked for
+pub opens_count : (read : Result Cluster PictureFault) (count : ℕ) (room : Room) → OpensDesk read count (Ok room)
+    → length room.seats.items ≡ count
+opens_count (Ok state) count room opened = opened.seats.count
+opens_count (Err fault) count room opened = absurd opened
+
 -- Outcomes
 
 -- a play that ended for want of memory for its transcript, or for any other fault
@@ -119,8 +125,8 @@ memory_loses_none (Err play_fault.NoMemory) = refl
 memory_loses_none (Err play_fault.NoThread) = refl
 
 either_loses : (a b : Option PlayFault) → is_lost_play a ≡ false → is_lost_play b ≡ false → is_lost_play (or_else a b) ≡ false
-either_loses None b no none = none
-either_is_lost_play (Some fault) b no none = no
+either_loses None b first second = second
+either_loses (Some fault) b first second = first
 
 one_loses_none : (names : List (List ℕ)) (s : SeatView) (c : List ℕ) (o : Result Outcome PlayFault)
     → OnePlayed names s c o → is_lost_play (fault_of o) ≡ false
@@ -135,7 +141,7 @@ first_loses_none names [] (c ∷ cs) os all = absurd all
 first_loses_none names (s ∷ ss) [] os all = absurd all
 first_loses_none names (s ∷ ss) (c ∷ cs) [] all = absurd all
 first_loses_none names (s ∷ ss) (c ∷ cs) (o ∷ os) all =
-    either_is_lost_play (fault_of o) (first_fault os) (one_loses_none names s c o all.0)
+    either_loses (fault_of o) (first_fault os) (one_loses_none names s c o all.0)
     (first_loses_none names ss cs os all.1)
 
 -- what an operator's fault is to the run
@@ -183,7 +189,7 @@ are_outcomes : (state : Cluster) (count : ℕ) (room : Room) (scripts : List (Li
     → AllPlayed room.names room.seats.items scripts outcomes → AreOutcomes state scripts outcomes
 are_outcomes state count room scripts outcomes is played = record {
   seats = room.seats.items;
-  new = is.seats.1;
+  new = is.seats.each;
   played = subst (λ names. AllPlayed names room.seats.items scripts outcomes) is.names played;
 }
 
@@ -262,7 +268,7 @@ drilled state count room scripts outcomes after tape end is counted played fine 
   history = subst (λ (d : DeskView). IsHistory d.opening tape end) is.desk closed.history;
   seated = subst (λ (n : ℕ). AreSeated n tape) (ap (λ (d : DeskView). d.seats) is.desk ∙ counted) closed.seated;
   operated =
-      are_operated state.names 0 tape room.seats.items scripts outcomes is.seats.1
+      are_operated state.names 0 tape room.seats.items scripts outcomes is.seats.each
       (subst (λ names. AllPlayed names room.seats.items scripts outcomes) is.names played) fine
       (subst (AllAgree tape) handed closed.agree);
   text_is = refl;

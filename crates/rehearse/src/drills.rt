@@ -12,7 +12,7 @@ use crate::openings::{Room, open_room};
 use crate::operators::Outcome;
 use crate::outcomes::{first_fault, play_scripts};
 use itoa::Buffer;
-use reh_desk::{Closed, Desk, Seat};
+use reh_desk::{CloseCause, CloseFault, Closed, Desk, Seat};
 use reh_script::{PlayFault, StreamFault, TextOut, report_text, write_all};
 use std::alloc::{AllocError, Global};
 use std::sync::Wait;
@@ -80,15 +80,19 @@ fn close_desk<W: TextOut>(
 {
     match desk.close(seats) {
         Ok(closed) => {
-            let text = closing_text(alloc, &closed)?;
+            let text = closing_text(alloc, closed)?;
             write_text(writer, text.as_bytes())?;
             Ok(())
         }
-        Err(fault) => {
-            let cause = fault.cause;
-            Err(RunFault::from(cause))
-        }
+        Err(fault) => Err(RunFault::from(cause_of(fault))),
     }
+}
+
+/// Why a desk doesn't close.
+fn cause_of(fault: CloseFault) -> CloseCause
+    ensures { result ≡ fault.cause }
+{
+    fault.cause
 }
 
 /// Writes the transcripts of operators, of whom the first has this number.
@@ -162,9 +166,9 @@ fn seats_of(alloc: Global, outcomes: Vec<Result<Outcome, PlayFault>>) -> Result<
 }
 
 /// What is printed of a closed desk: how many lines its tape has, and the report of its session's state.
-fn closing_text(alloc: Global, closed: &Closed) -> Result<String, AllocError>
+fn closing_text(alloc: Global, closed: Closed) -> Result<String, AllocError>
     ensures { IfOk result (λ text. string_bytes text
-        ≡ end_text (length closed.now.tape.items) (state_of closed.now.session)) }
+        ≡ end_text (length closed.tape.items) (state_of closed.session)) }
 {
     let report = report_text(alloc, closed.session.state())?;
     format!(in alloc; "tape {}\n{report}", closed.tape.len())
