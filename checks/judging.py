@@ -49,6 +49,11 @@ def read_text(name: str) -> str:
         return it.read()
 
 
+def scripts_of_drill(example: str) -> List[str]:
+    """Returns the scripts of an example that is a drill, by its operators: NAME-1.script, NAME-2.script and so on."""
+    return sorted(glob.glob(f"{glob.escape(example)}-[1-8].script"))
+
+
 def document_names() -> List[str]:
     """Returns the documents: README.md and those of docs/."""
     return ["README.md"] + sorted(os.path.relpath(file, TOP) for file in glob.glob(os.path.join(TOP, "docs", "*.md")))

@@ -6,6 +6,10 @@ mod audits;
 #[cfg(test)]
 mod books;
 #[cfg(test)]
+mod desks;
+#[cfg(test)]
+mod limits;
+#[cfg(test)]
 mod memory;
 #[cfg(test)]
 mod pictures;

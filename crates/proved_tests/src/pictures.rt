@@ -1,6 +1,7 @@
-// Pictures: five bookies with a closed and an open ledger, and two bookies.
+// Pictures: five bookies with a closed and an open ledger, and two bookies; and how a bookie is lost.
 use reh_cluster::State;
 use reh_picture::read_picture;
+use reh_types::{BookieIx, Event, LedgerId};
 use std::alloc::Global;
 use std::test::Fail;
 
@@ -20,6 +21,18 @@ pub(crate) const FIVE_BOOKIES: &str =
 pub(crate) const TWO_BOOKIES: &str =
     "{\"format\":1,\"grace\":3,\"bookies\":[{\"name\":\"b1:3181\",\"up\":true},{\"name\":\"b2:3181\",\
      \"up\":true}],\"ledgers\":[],\"contents\":[]}";
+
+/// The loss of the second of five bookies, and the lock of the fourth one's worker.
+pub(crate) const LOSS: [Event; 3] = [
+    Event::Lose {
+        bookie: BookieIx(1),
+    },
+    Event::Audit,
+    Event::Acquire {
+        worker: BookieIx(3),
+        ledger: LedgerId(7),
+    },
+];
 
 pub(crate) fn state_of(alloc: Global, picture: &str) -> Result<State, Fail> {
     let state = read_picture(alloc, picture.as_bytes())?;

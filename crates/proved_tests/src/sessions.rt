@@ -1,5 +1,5 @@
 // Sessions by their own calls, and a long run, on two bookies.
-use crate::pictures::{TWO_BOOKIES, state_of};
+use crate::pictures::{FIVE_BOOKIES, LOSS, TWO_BOOKIES, state_of};
 use reh_session::Session;
 use reh_types::{BookieIx, Change, Event, Move, Refusal, Reply, Scalar};
 use std::alloc::{AllocError, Global};
@@ -119,5 +119,23 @@ fn a_session_is_full_at_100_000_events(rt: HostRuntime) -> Result<(), Fail> {
         shown.as_str(),
         "100004 replies\n100000: refused 35 Full\n100001: refused 16 BadTick\n"
     );
+    Ok(())
+}
+
+/// A copy is the same session until one of the two makes a move, and again once the other has made the same.
+#[test]
+fn a_copy_is_the_same_session(rt: HostRuntime) -> Result<(), Fail> {
+    let mut session = opened(rt.alloc(), FIVE_BOOKIES)?;
+    for event in &LOSS {
+        session.act(event)?;
+    }
+    let mut copy = session.clone_in()?;
+    assert!(rt; copy.same(&session));
+    session.act(&TICK)?;
+    assert!(rt; !copy.same(&session));
+    copy.act(&TICK)?;
+    assert!(rt; copy.same(&session));
+    copy.undo()?;
+    assert!(rt; !copy.same(&session));
     Ok(())
 }

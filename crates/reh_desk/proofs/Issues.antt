@@ -41,7 +41,7 @@ record IssuesNext (b : Book) (l : Line) (c : Book) : Type 0 where
   out : c.out ≡ b.out ++ issued ∷ []
 
 -- nothing but a checkout issues a ticket
-refused_none : (o : Option Refusal) (reply : Reply) → issued_by reply ≡ [] → issued_by (or_refused o reply) ≡ []
+pub refused_none : (o : Option Refusal) (reply : Reply) → issued_by reply ≡ [] → issued_by (or_refused o reply) ≡ []
 refused_none None reply none = none
 refused_none (Some refusal) reply none = refl
 
@@ -49,7 +49,7 @@ unless_none : (o : Option Refusal) → issued_by (reply_unless o) ≡ []
 unless_none None = refl
 unless_none (Some refusal) = refl
 
-move_none : (m : Session) (move : Move) → issued_by (reply_to m move) ≡ []
+pub move_none : (m : Session) (move : Move) → issued_by (reply_to m move) ≡ []
 move_none m (Do event) = unless_none _
 move_none m (Post content) = unless_none _
 move_none m Undo = unless_none _

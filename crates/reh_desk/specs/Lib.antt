@@ -4,3 +4,6 @@ pub mod Replies
 pub mod Kept
 pub mod Seats
 pub mod Callers
+pub mod Desks
+pub mod Closings
+pub mod Tickets

@@ -2,7 +2,6 @@
 ghost use Rattle.std.specs.Prelude.{◌≡◌, ℕ, ◌+◌, ◌-◌, ◌<◌, ◌≤◌, true, false, nat_lt, [], ◌∷◌, ◌++◌, length, remove};
 ghost use Rattle.std.specs.Prelude.{if◌then◌else◌, Some, IfSome, IfOk, IfErr, OnOk, MatchResult, IsTrue, vec_capacity};
 ghost use Rattle.std.specs.Option.{option_copied};
-ghost use Rattle.std.specs.Result.{IsOkAnd};
 ghost use Rattle.reh_types.specs.declared.calls.Call.TheVariants as call;
 ghost use Rattle.reh_types.specs.declared.limits.TheConstants.{MAX_LINES};
 ghost use Rattle.reh_types.specs.declared.moves.Move.TheVariants.{Post};
@@ -26,7 +25,6 @@ use reh_session::Session;
 use reh_types::{Aim, Call, Content, Line, MAX_LINES, Move, OwnLine, Refusal, Reply, TicketOut};
 use std::alloc::AllocError;
 use std::marker::Model;
-use std::snapshot::Snapshot;
 
 /// Why a finding could not be spent.
 #[derive(Clone, Copy, PartialEq, Eq, Debug)]
@@ -51,7 +49,7 @@ pub struct SpendFault {
 /// leads from the session that it opened on.
 #[derive(Drop)]
 pub struct Book {
-    opening: Snapshot<Session>,
+    opening: Session,
     session: Session,
     lines: Vec<Line>,
     last_ticket: u32,
@@ -64,27 +62,42 @@ impl Model for Book {
 
     ghost Value = { Kept };
 
-    ghost view = { λ b. kept_of b.opening.value b.session b.lines.items b.last_ticket b.out.items };
+    ghost view = { λ b. kept_of b.opening b.session b.lines.items b.last_ticket b.out.items };
 
     ghost invariant = { λ b.
-        IsKept (kept_of b.opening.value b.session b.lines.items b.last_ticket b.out.items) (vec_capacity b.lines) };
+        IsKept (kept_of b.opening b.session b.lines.items b.last_ticket b.out.items) (vec_capacity b.lines) };
 }
 
 impl Book {
-    /// A book on this session, before its first call, and its one seat, of number 0. It takes no memory and cannot
-    /// fail.
+    /// A book on this session, before its first call, and its one seat, of number 0. Where there is no memory for the
+    /// copy of the session that it keeps, the session is handed back.
     pub fn open(session: Session) -> Result<(Book, Seat), (Session, AllocError)>
-        ensures { IsOkAnd result (λ r. (r.0 ≡ opened session) × (r.1 ≡ new_seat 0)) }
+        ensures ok { IfOk result (λ r. (r.0 ≡ opened session) × (r.1 ≡ new_seat 0)) }
+        ensures err { IfErr result (λ e. e.0 ≡ session) }
+    {
+        let seat = Seat::new(session.allocator(), 0);
+        match Book::of(session) {
+            Ok(book) => Ok((book, seat)),
+            Err(back) => Err(back),
+        }
+    }
+
+    /// A book on this session, before its first call, or the session, where there is no memory for a copy of it.
+    pub(crate) fn of(session: Session) -> Result<Book, (Session, AllocError)>
+        ensures ok { IfOk result (λ book. book ≡ opened session) }
+        ensures err { IfErr result (λ e. e.0 ≡ session) }
     {
         let alloc = session.allocator();
-        let book = Book {
-            opening: Snapshot::of(&session),
-            session,
-            lines: Vec::new(alloc),
-            last_ticket: 0,
-            out: Vec::new(alloc),
-        };
-        Ok((book, Seat::new(alloc, 0)))
+        match session.clone_in() {
+            Ok(opening) => Ok(Book {
+                opening,
+                session,
+                lines: Vec::new(alloc),
+                last_ticket: 0,
+                out: Vec::new(alloc),
+            }),
+            Err(want) => Err((session, want)),
+        }
     }
 
     /// Makes a move of the session for a seat, and answers it as the session does. Before that it is refused with
@@ -144,6 +157,13 @@ impl Book {
         self.out.len() as u32
     }
 
+    /// The session that the book opened on.
+    pub fn opening(&self) -> &Session
+        ensures { result.now ≡ self.now.opening }
+    {
+        &self.opening
+    }
+
     /// The lines of the tape, oldest first. From the session that the book opened on they lead to where it is
     /// (`legal`), and with one for each ticket that is out there are at most 200,000 (`few`).
     pub fn tape(&self) -> &[Line]
@@ -152,6 +172,22 @@ impl Book {
         ensures few { length self.now.tape + length self.now.book.out ≤ MAX_LINES }
     {
         &self.lines
+    }
+
+    /// The session as it is now, and the tape that leads to it.
+    pub(crate) fn into_parts(self) -> (Session, Vec<Line>)
+        ensures session { result.0 ≡ self.book.session }
+        ensures tape { result.1.items ≡ self.tape }
+        ensures legal { Legal (new_book self.opening) self.tape self.book }
+    {
+        let Book {
+            opening: _,
+            session,
+            lines,
+            last_ticket: _,
+            out: _,
+        } = self;
+        (session, lines)
     }
 }
 

@@ -1,6 +1,7 @@
 // What holds of every book, whatever session it opened on.
-ghost use Rattle.std.specs.Prelude.{◌≡◌, ◌⊎◌, ℕ, ◌+◌, ◌<◌, List, All, AllPairs};
+ghost use Rattle.std.specs.Prelude.{◌≡◌, ◌⊎◌, ℕ, ◌+◌, ◌<◌, List, [], ◌++◌, map, All, AllPairs};
 ghost use Rattle.std.specs.List.{Contains};
+ghost use Rattle.std.specs.List.Sorted.{IsPermutation};
 ghost use Rattle.reh_types.specs.declared.calls.Call.{Call};
 ghost use Rattle.reh_types.specs.declared.calls.Call.TheVariants.{Ask, Checkout, Spend, Discard};
 ghost use Rattle.reh_types.specs.declared.calls.Line.{Line};
@@ -13,6 +14,7 @@ ghost use Rattle.reh_types.specs.declared.refusals.Refusal.TheVariants.{NotOut, 
 ghost use Rattle.reh_model.specs.Striping.{range};
 ghost use Rattle.reh_model.specs.Session.{Session};
 ghost use Rattle.reh_model.specs.Book.{Book, new_book, answer_to, Answers, Legal, issued_on, issue_of};
+ghost use Rattle.reh_desk.specs.Tickets.{issued_tickets, ended_tickets};
 
 /// No ticket is issued twice: along each tape from a new book the tickets are numbered from 1 on, up to the book's last
 /// one, each once. Those that are out were each issued on the tape to their seat, for their aim, and no two of them
@@ -24,6 +26,19 @@ pub fn tickets_differ()
         → All (λ ticket. Contains tape (issue_of ticket)) b.out }
     ensures rising { (m : Session) (tape : List Line) (b : Book) → Legal (new_book m) tape b
         → AllPairs (λ earlier later. earlier.number < later.number) b.out }
+{}
+
+/// Each ticket that is issued along a tape from a new book is spent or discarded there, by its own seat, for its own
+/// aim, or is still out. Where none is out at the end, as at the end of each closed desk's tape, each is spent or
+/// discarded. Nothing else is, and none is twice: the tickets issued have the numbers of `tickets_differ`, 1, 2, 3 and
+/// so on, each once.
+pub fn tickets_end()
+    ensures each { (m : Session) (tape : List Line) (b : Book) → Legal (new_book m) tape b
+        → IsPermutation (issued_tickets tape) (ended_tickets tape ++ b.out) }
+    ensures none_out { (m : Session) (tape : List Line) (b : Book) → Legal (new_book m) tape b
+        → b.out ≡ [] → IsPermutation (issued_tickets tape) (ended_tickets tape) }
+    ensures numbers { (m : Session) (tape : List Line) (b : Book) → Legal (new_book m) tape b
+        → map (λ ticket. ticket.number) (issued_tickets tape) ≡ issued_on tape }
 {}
 
 /// Want of memory stands in place of a spend's answer only where the post would be done, never in place of a discard's

@@ -11,6 +11,7 @@ pub mod Steps
 pub mod Answered
 pub mod Enough
 pub mod Transcripts
+pub mod Sitting
 pub mod OpeningLaws
 pub mod InputEnough
 pub mod Ends

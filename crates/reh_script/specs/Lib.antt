@@ -11,6 +11,7 @@ pub mod Players
 pub mod Plays
 pub mod Turns
 pub mod BookPlays
+pub mod DeskPlays
 pub mod Openings
 pub mod Pipes
 pub mod Runs

@@ -2,6 +2,7 @@
 use reh_crew::SurveyFault;
 use reh_picture::PictureFault;
 use std::alloc::AllocError;
+use std::thread::SpawnError;
 
 /// Why the lines of a script are not all answered.
 #[derive(Clone, Copy, PartialEq, Eq, Debug)]
@@ -14,7 +15,7 @@ pub enum PlayFault {
     WriteFault,
     /// There is no memory for an answer.
     NoMemory,
-    /// There is no thread for a survey.
+    /// There is no thread for a survey, or for an operator.
     NoThread,
 }
 
@@ -35,6 +36,17 @@ impl From<AllocError> for PlayFault {
 
     fn from(_want: AllocError) -> PlayFault {
         PlayFault::NoMemory
+    }
+}
+
+impl<F: Drop> From<SpawnError<F>> for PlayFault {
+    ghost use Rattle.std.specs.Prelude.{◌≡◌};
+    ghost use Rattle.reh_script.specs.declared.faults.PlayFault.TheVariants.{NoThread};
+
+    ghost from_gives = { λ _ fault. fault ≡ NoThread };
+
+    fn from(_refused: SpawnError<F>) -> PlayFault {
+        PlayFault::NoThread
     }
 }
 

@@ -4,6 +4,7 @@
 mod answers;
 mod book_plays;
 mod commands;
+mod desk_plays;
 mod faults;
 mod hand;
 mod inputs;
@@ -24,11 +25,12 @@ mod words;
 
 pub use book_plays::play_book;
 pub use commands::{Command, LineFault};
+pub use desk_plays::play_at_desk;
 pub use faults::{PipeFault, PlayFault};
 pub use openings::{Opened, open_picture, open_text};
 pub use pieces::{PiecesIn, PiecesOut};
 pub use pipes::pipe;
-pub use plays::play;
+pub use plays::{play, write_all};
 pub use reports::report_text;
 pub use runs::run;
 pub use scripts::parse_line;

@@ -208,7 +208,7 @@ fn answer_line<C: Counter, V: Surveyor>(
 }
 
 /// Writes all of some bytes, or as many as it can.
-fn write_all<W: TextOut>(writer: &mut W, bytes: &[u8]) -> Result<(), StreamFault>
+pub fn write_all<W: TextOut>(writer: &mut W, bytes: &[u8]) -> Result<(), StreamFault>
     requires { W.has_failed writer.old ≡ false }
     ensures ok { OnOk result (Appends (W.contents writer.old) (W.contents writer.new) bytes.now) }
     ensures fine { OnOk result (W.has_failed writer.new ≡ false) }

@@ -1,5 +1,8 @@
 -- The statuses and texts of faults.
 use Rattle.std.specs.Prelude.{ℕ, List, ◌++◌, Result, Ok, Err, codes, string_bytes}
+use Rattle.std.specs.Fmt.{decimal}
+use Rattle.reh_desk.specs.declared.desks.CloseCause.{CloseCause}
+use Rattle.reh_desk.specs.declared.desks.CloseCause.TheVariants.{Seats, StillOut, Mismatch}
 use Rattle.reh_picture.specs.declared.faults.PictureFault.{PictureFault}
 use Rattle.reh_picture.specs.declared.faults.PictureFault.TheVariants as picture_fault
 use Rattle.reh_picture.specs.declared.places.LocatedFault.{LocatedFault}
@@ -11,7 +14,7 @@ use Rattle.reh_script.specs.declared.faults.PipeFault.TheVariants as pipe_fault
 use Rattle.rehearse.specs.declared.faults.RunFault.{RunFault}
 use Rattle.reh_script.specs.declared.streams.StreamFault.{StreamFault}
 use Rattle.rehearse.specs.declared.faults.RunFault.TheVariants.{Picture, ReadFault, TooLong, WriteFault, NoMemory}
-use Rattle.rehearse.specs.declared.faults.RunFault.TheVariants.{NoThread, Refused, Unread}
+use Rattle.rehearse.specs.declared.faults.RunFault.TheVariants.{NoThread, Refused, Unread, Close}
 
 -- how a run ends once its answers were flushed: a failed flush is a write fault where answers were lost, and any
 -- other fault stays
@@ -32,6 +35,13 @@ status_number TooLong = 4
 status_number WriteFault = 5
 status_number NoMemory = 6
 status_number NoThread = 7
+status_number (Close cause) = 7
+
+-- why a desk doesn't close: its number, name and value
+abbrev pub cause_text : CloseCause → List ℕ
+cause_text Seats = codes "1 Seats"
+cause_text (StillOut count) = codes "2 StillOut " ++ decimal count
+cause_text (Mismatch number) = codes "3 Mismatch " ++ decimal number
 
 -- what standard error shows
 abbrev pub run_fault_text : RunFault → List ℕ
@@ -43,6 +53,7 @@ run_fault_text TooLong = codes "script too long"
 run_fault_text WriteFault = codes "write fault"
 run_fault_text NoMemory = codes "no memory"
 run_fault_text NoThread = codes "no thread"
+run_fault_text (Close cause) = codes "close: " ++ cause_text cause
 
 -- a pipe's fault as the run's
 abbrev pub run_fault_of : PipeFault → RunFault

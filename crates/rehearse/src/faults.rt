@@ -2,6 +2,7 @@
 ghost use Rattle.std.specs.Prelude.{◌≡◌};
 ghost use Rattle.rehearse.specs.Faults.{status_number, end_after_flush};
 
+use reh_desk::CloseCause;
 use reh_picture::{LocatedFault, PictureFault};
 use reh_script::{PipeFault, PlayFault, StreamFault};
 use std::alloc::AllocError;
@@ -26,8 +27,10 @@ pub enum RunFault {
     WriteFault,
     /// There is no memory.
     NoMemory,
-    /// There is no thread for a survey.
+    /// There is no thread for a survey, or for an operator.
     NoThread,
+    /// The desk of a drill doesn't close.
+    Close(CloseCause),
 }
 
 /// The exit status of a fault.
@@ -39,7 +42,7 @@ pub fn status_of(fault: &RunFault) -> u8
         RunFault::Unread(_) | RunFault::ReadFault | RunFault::TooLong => 4,
         RunFault::WriteFault => 5,
         RunFault::NoMemory => 6,
-        RunFault::NoThread => 7,
+        RunFault::Close(_) | RunFault::NoThread => 7,
     }
 }
 
@@ -59,6 +62,11 @@ impl fmt::Display for RunFault {
             RunFault::WriteFault => write!(f, "write fault"),
             RunFault::NoMemory => write!(f, "no memory"),
             RunFault::NoThread => write!(f, "no thread"),
+            RunFault::Close(CloseCause::Seats) => write!(f, "close: 1 Seats"),
+            RunFault::Close(CloseCause::StillOut(count)) => write!(f, "close: 2 StillOut {count}"),
+            RunFault::Close(CloseCause::Mismatch(number)) => {
+                write!(f, "close: 3 Mismatch {number}")
+            }
         }
     }
 }
@@ -147,6 +155,28 @@ impl From<LocatedFault> for RunFault {
             PictureFault::NoMemory => RunFault::NoMemory,
             _ => RunFault::Refused(located),
         }
+    }
+}
+
+impl From<StreamFault> for RunFault {
+    ghost use Rattle.std.specs.Prelude.{◌≡◌};
+    ghost use Rattle.rehearse.specs.declared.faults.RunFault.TheVariants.{WriteFault};
+
+    ghost from_gives = { λ _ fault. fault ≡ WriteFault };
+
+    fn from(_lost: StreamFault) -> RunFault {
+        RunFault::WriteFault
+    }
+}
+
+impl From<CloseCause> for RunFault {
+    ghost use Rattle.std.specs.Prelude.{◌≡◌};
+    ghost use Rattle.rehearse.specs.declared.faults.RunFault.TheVariants.{Close};
+
+    ghost from_gives = { λ cause fault. fault ≡ Close cause };
+
+    fn from(cause: CloseCause) -> RunFault {
+        RunFault::Close(cause)
     }
 }
 

@@ -1,11 +1,14 @@
-// A file that is read as text.
-ghost use Rattle.std.specs.Prelude.{◌≡◌, false, None};
+// Files that are read as text.
+ghost use Rattle.std.specs.Prelude.{◌≡◌, false, None, length, IfOk, OnOk, ◌+◌};
 ghost use Rattle.std.specs.Io.{ReadsAtMost};
 
 use crate::faults::RunFault;
 use reh_script::{FromRead, StreamFault, TextIn};
+use reh_types::MAX_SCRIPT_BYTES;
+use std::alloc::AllocError;
 use std::fs;
 use std::fs::File;
+use std::io::Read;
 
 /// A file that is opened at its first read, so that what is read before it is judged before it.
 #[derive(Drop)]
@@ -80,4 +83,32 @@ impl TextIn for LateFile<'_> {
         }
         taken
     }
+}
+
+/// The first bytes of a file, at most so many.
+pub(crate) fn read_file(rt: &HostRuntime, path: &str, most: u64) -> Result<Vec<u8>, RunFault> {
+    let file = fs::open(rt, path)?;
+    let mut bytes = Vec::new(rt.alloc());
+    file.take(most).read_to_end(&mut bytes)?;
+    Ok(bytes)
+}
+
+/// The scripts in these files, in order, and of a longer one a byte more than a script may have.
+pub(crate) fn read_scripts(rt: &HostRuntime, paths: &[&str]) -> Result<Vec<Vec<u8>>, RunFault>
+    ensures { IfOk result (λ scripts. length scripts.items ≡ length paths.now) }
+{
+    let mut scripts = Vec::new(rt.alloc());
+    for path in paths {
+        let script = read_file(rt, path, MAX_SCRIPT_BYTES as u64 + 1)?;
+        push_script(&mut scripts, script)?;
+    }
+    Ok(scripts)
+}
+
+/// Adds a script.
+fn push_script(scripts: &mut Vec<Vec<u8>>, script: Vec<u8>) -> Result<(), AllocError>
+    ensures { OnOk result (length scripts.new.items ≡ length scripts.old.items + 1) }
+{
+    scripts.push(script)?;
+    Ok(())
 }

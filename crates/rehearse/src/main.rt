@@ -1,23 +1,32 @@
-// Rehearses events on a picture of a cluster, from standard input or from files; or checks a picture.
+// Rehearses events on a picture of a cluster, from standard input or from files, by one operator or several; or checks
+// a picture.
 #![tactic(auto)]
 
 ghost use Rattle.std.specs.Prelude.{◌≡◌, false};
 
 mod checks;
+mod drills;
 mod faults;
 mod files;
+mod openings;
+mod operators;
+mod outcomes;
 mod tasks;
 
 use checks::check_file;
 use clap::Error;
+use drills::drill_over;
 use faults::{RunFault, after_flush, status_of, want_of_memory};
-use files::LateFile;
+use files::{LateFile, read_file, read_scripts};
 use reh_crew::Plain;
 use reh_script::{FromRead, ToWrite, pipe};
+use reh_types::MAX_PICTURE_BYTES;
 use std::io::{BufWriter, Write};
 use std::process::ExitCode;
+use std::sync::Wait;
+use std::thread::Threads;
 use std::{env, fs, io};
-use tasks::{Input, Task, task_of};
+use tasks::{DrillFiles, Input, Task, task_of};
 
 fn main(rt: HostRuntime) -> ExitCode {
     let words = match words(&rt) {
@@ -27,6 +36,7 @@ fn main(rt: HostRuntime) -> ExitCode {
     match task_of(rt.alloc(), &words) {
         Ok(Task::Play(input)) => end(&rt, play(&rt, input)),
         Ok(Task::Check { picture }) => end(&rt, check_file(&rt, picture)),
+        Ok(Task::Drill(files)) => end(&rt, drill(&rt, &rt, files)),
         Err(error) => show(&rt, &error),
     }
 }
@@ -94,4 +104,19 @@ fn run_files<W: Write>(
         Some(fault) => Err(fault),
         None => played.map_err(RunFault::from),
     }
+}
+
+/// Plays the scripts of a drill, to standard output. All of its files are read before anything is judged or played.
+fn drill<R: Threads + Wait + Sync>(
+    rt: &HostRuntime,
+    threads: &R,
+    files: DrillFiles<'_>,
+) -> Result<(), RunFault> {
+    let picture = read_file(rt, files.picture, MAX_PICTURE_BYTES as u64 + 1)?;
+    let scripts = read_scripts(rt, &files.scripts)?;
+    let buffer = BufWriter::new(rt.alloc(), io::writer(rt))?;
+    let mut writer = ToWrite::new(buffer);
+    let drilled = drill_over(threads, rt.alloc(), &picture, scripts, &mut writer);
+    let flushed = writer.flush();
+    after_flush(drilled, flushed)
 }

@@ -1,16 +1,30 @@
 // What the words of the command line ask for.
+ghost use Rattle.std.specs.Prelude.{◌<◌, ◌≤◌, vec_len};
+
+use crate::drills::MAX_OPERATORS;
 use clap::error::ErrorKind;
 use clap::{Arg, ArgMatches, Command, Error};
 use reh_script::Verb;
 use std::alloc::{AllocError, Global};
 
 /// What the program is asked to do.
-#[derive(Clone, Copy)]
+#[derive(Drop)]
 pub enum Task<'a> {
     /// Plays a script on a picture.
     Play(Input<'a>),
     /// Checks the picture in a file.
     Check { picture: &'a str },
+    /// Plays scripts on a picture, each by an operator of its own.
+    Drill(DrillFiles<'a>),
+}
+
+/// Where the picture of a drill is, and its scripts, of which there are 1 to 8.
+#[derive(Drop)]
+pub struct DrillFiles<'a> {
+    pub picture: &'a str,
+    pub scripts: Vec<&'a str>,
+    ghost some: { 0 < vec_len scripts },
+    ghost few: { vec_len scripts ≤ 8 },
 }
 
 /// Where a picture and a script are.
@@ -44,7 +58,7 @@ A script has a command a line. For example:
 /// What these words ask for, the program's own name first; or `clap`'s text of what is wrong with them, or of help.
 pub(crate) fn task_of<'a>(alloc: Global, words: &'a [String]) -> Result<Task<'a>, Error> {
     match command(alloc, WAYS)?.try_get_matches_from(words) {
-        Ok(matches) => Ok(asked_task(&matches)),
+        Ok(matches) => Ok(asked_task(alloc, &matches)?),
         Err(error) => {
             if error.kind() == ErrorKind::DisplayHelp {
                 show_help(alloc, words)?;
@@ -55,15 +69,20 @@ pub(crate) fn task_of<'a>(alloc: Global, words: &'a [String]) -> Result<Task<'a>
 }
 
 /// What these matches ask for.
-fn asked_task<'a>(matches: &ArgMatches<'a>) -> Task<'a> {
+fn asked_task<'a>(alloc: Global, matches: &ArgMatches<'a>) -> Result<Task<'a>, AllocError> {
     let Some((name, given)) = matches.subcommand() else {
-        return Task::Play(Input::Pipe);
+        return Ok(Task::Play(Input::Pipe));
     };
-    match (name, given.get_str("PICTURE"), given.get_str("SCRIPT")) {
-        ("check", Some(picture), _) => Task::Check { picture },
-        (_, Some(picture), Some(script)) => Task::Play(Input::Files { picture, script }),
-        // All of them are required, so that a run has both and a check its one.
-        _ => Task::Play(Input::Pipe),
+    let scripts = given.get_strs("SCRIPT").unwrap_or(&[]);
+    match (name, given.get_str("PICTURE"), scripts.first()) {
+        ("check", Some(picture), _) => Ok(Task::Check { picture }),
+        ("drill", Some(picture), Some(_)) if scripts.len() <= MAX_OPERATORS => {
+            let scripts = scripts.to_vec(alloc)?;
+            Ok(Task::Drill(DrillFiles { picture, scripts }))
+        }
+        ("run", Some(picture), Some(script)) => Ok(Task::Play(Input::Files { picture, script })),
+        // All of them are required, so that a run and a drill have both and a check its one.
+        _ => Ok(Task::Play(Input::Pipe)),
     }
 }
 
@@ -85,7 +104,7 @@ fn all_ways(alloc: Global) -> Result<String, AllocError> {
     Ok(ways)
 }
 
-/// The command line: no word, `run PICTURE SCRIPT`, or `check PICTURE`.
+/// The command line: no word, `run PICTURE SCRIPT`, `check PICTURE`, or `drill PICTURE SCRIPT..`.
 fn command<'a>(alloc: Global, ways: &'a str) -> Result<Command<'a>, Error> {
     let script = Arg::new(alloc, "SCRIPT")
         .required(true)
@@ -97,13 +116,22 @@ fn command<'a>(alloc: Global, ways: &'a str) -> Result<Command<'a>, Error> {
     let check = Command::new(alloc, "check")
         .about("Says how much a picture shows, or where it is wrong")
         .arg(picture_arg(alloc))?;
+    let scripts = Arg::new(alloc, "SCRIPT")
+        .required(true)
+        .num_args(1..=MAX_OPERATORS)
+        .help("Files with the scripts of the operators, 1 to 8");
+    let drill = Command::new(alloc, "drill")
+        .about("Plays scripts on a picture, each by an operator with a thread of its own")
+        .arg(picture_arg(alloc))?
+        .arg(scripts)?;
     let command = Command::new(alloc, "rehearse")
         .version(VERSION)
         .about(ABOUT)
         .after_help(ways)
         .disable_help_subcommand(true)
         .subcommand(run)?
-        .subcommand(check)?;
+        .subcommand(check)?
+        .subcommand(drill)?;
     Ok(command)
 }
 

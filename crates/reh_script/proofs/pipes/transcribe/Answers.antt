@@ -1,4 +1,4 @@
-use Rattle.std.proofs.Common.{◌≡◌, true, Ok}
+use Rattle.std.proofs.Common.{◌≡◌, true, Ok, sym, ◌∙◌}
 use Rattle.reh_script.specs.declared.faults.PlayFault.TheVariants.{NoMemory}
 use Rattle.reh_script.specs.Lines.{is_told}
 use Rattle.reh_script.proofs.Ends.{ends_lacking, ends_unopened, ends_early, ends_played}
@@ -7,7 +7,7 @@ use Rattle.reh_script.proofs.pipes.transcribe.Goals as goal
 
 pub returns-in_err-rehearsal-clause-piped : goal.returns-in_err-rehearsal-clause-piped
 returns-in_err-rehearsal-clause-piped g c =
-    let told : is_told c.args.failed c.args.input.now ≡ true = cc in
+    let told : is_told c.args.failed c.args.input.now ≡ true = sym c.is_told.ensures ∙ c.if-not-is_told.false in
     ends_unopened c.args.failed c.args.input.now _ _ c.in_err-rehearsal.field-0.0 _ _ told c.split_input.ensures.picture
     c.split_input.ensures.script c.in_err-rehearsal.ensures c.from_residual.ensures.1
 
@@ -18,7 +18,7 @@ returns-in_err-rehearsal-clause-write g c =
 
 pub returns-in_err-hand-clause-piped : goal.returns-in_err-hand-clause-piped
 returns-in_err-hand-clause-piped g c =
-    let told : is_told c.args.failed c.args.input.now ≡ true = cc in
+    let told : is_told c.args.failed c.args.input.now ≡ true = sym c.is_told.ensures ∙ c.if-not-is_told.false in
     ends_lacking c.args.failed c.args.input.now _ _ _ _ told c.split_input.ensures.picture c.split_input.ensures.script
     c.from_residual-in_err-hand.ensures.1
 
@@ -27,7 +27,7 @@ returns-in_err-hand-clause-write g c = handed_on _ NoMemory _ c.from_residual-in
 
 pub returns-in_err-answer_at_book-clause-piped : goal.returns-in_err-answer_at_book-clause-piped
 returns-in_err-answer_at_book-clause-piped g c =
-    let told : is_told c.args.failed c.args.input.now ≡ true = cc in
+    let told : is_told c.args.failed c.args.input.now ≡ true = sym c.is_told.ensures ∙ c.if-not-is_told.false in
     ends_early c.args.failed c.args.input.now _ _ c.in_ok-rehearsal.rehearsal c.in_err-answer_at_book.field-0.0 _
     c.answer_at_book.new.book.book (g.W.TextOut.contents c.args.writer.now)
     (g.W.TextOut.contents c.answer_at_book.new.writer) told c.split_input.ensures.picture c.split_input.ensures.script
@@ -41,7 +41,7 @@ returns-in_err-answer_at_book-clause-write g c =
 
 pub returns-clause-piped : goal.returns-clause-piped
 returns-clause-piped g c =
-    let told : is_told c.args.failed c.args.input.now ≡ true = cc in
+    let told : is_told c.args.failed c.args.input.now ≡ true = sym c.is_told.ensures ∙ c.if-not-is_told.false in
     ends_played c.args.failed c.args.input.now _ _ c.in_ok-rehearsal.rehearsal (Ok tt)
     c.answer_at_book.new.book.book (g.W.TextOut.contents c.args.writer.now)
     (g.W.TextOut.contents c.answer_at_book.new.writer) told c.split_input.ensures.picture c.split_input.ensures.script

@@ -21,7 +21,7 @@ returns-in-Err-clause-called g c few =
     let reserved : c.len-reserved.result ≡ length i.out.items = omega (arith, i.out.ok.0, c.len-reserved.ensures) in
     let call = Checkout c.args.aim in
     let reply = Refused c.in-Err.refusal in
-    let after = kept_of i.opening.value i.session c.write.new.lines.items i.last_ticket i.out.items in
+    let after = kept_of i.opening i.session c.write.new.lines.items i.last_ticket i.out.items in
     subst (λ n. Called c.args.self.now n call reply after) c.number-seat.ensures
     (subst (λ (k : Kept). Called k c.number-seat.result call reply after) c.self.view_is
     (rw (c.write.ensures.lines, c.make_room.ensures.items)
@@ -44,7 +44,7 @@ returns-clause-called g c few =
     let call = Checkout c.args.aim in
     let reply = Issued (i.last_ticket + 1) in
     let after =
-    kept_of i.opening.value i.session c.write-2.new.lines.items (i.last_ticket + 1) c.push_reserved.new.self.items in
+    kept_of i.opening i.session c.write-2.new.lines.items (i.last_ticket + 1) c.push_reserved.new.self.items in
     rw c.new.ensures
     (subst (λ n. Called c.args.self.now n call reply after) c.number-seat.ensures
     (subst (λ (k : Kept). Called k c.number-seat.result call reply after) c.self.view_is

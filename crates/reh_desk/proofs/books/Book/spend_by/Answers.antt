@@ -58,7 +58,7 @@ returns-clause-called g c counted =
     let i = c.self.inside in
     let call = Spend c.args.finding.number c.args.finding.content in
     let after =
-    kept_of i.opening.value c.post.new.session c.write.new.lines.items i.last_ticket c.end_ticket.new.out.items in
+    kept_of i.opening c.post.new.session c.write.new.lines.items i.last_ticket c.end_ticket.new.out.items in
     subst (λ n. Called c.args.self.now n call c.in-Ok.reply after) c.number-seat.ensures
     (subst (λ (k : Kept). Called k c.number-seat.result call c.in-Ok.reply after) c.self.view_is
     (rw (pushed g c, c.end_ticket.ensures.out)
