@@ -39,3 +39,10 @@ __attribute__((destructor)) static void tell(void) {
     if (file)
         dprintf(creat(file, 0600), "%d\n", count);
 }
+
+/* A program with threads ends so, and calls no destructor. */
+void _exit(int status) {
+    tell();
+    ((void (*)(int)) next("_exit"))(status);
+    __builtin_unreachable();
+}
