@@ -1,1 +1,2 @@
+pub mod GainLaws
 pub mod RunLaws

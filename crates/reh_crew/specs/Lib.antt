@@ -1,2 +1,3 @@
+pub mod Gained
 pub mod Shares
 pub mod Surveys

@@ -1,11 +1,13 @@
-// Who surveys a cluster for what can't be read any more.
+// Several workers: those of a survey for what can't be read any more, and replication workers at one desk.
 #![tactic(auto)]
 
+mod drives;
 mod gates;
 mod shares;
 mod surveyors;
 mod threads;
 
+pub use drives::drive;
 pub use gates::{Gate, OpenGate};
 pub use reh_types::SurveyLine;
 pub use surveyors::{BySurvey, Plain, SurveyFault, Surveyor};
