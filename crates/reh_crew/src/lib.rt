@@ -3,12 +3,14 @@
 
 mod drives;
 mod gates;
+mod laws;
 mod shares;
 mod surveyors;
 mod threads;
 
 pub use drives::drive;
 pub use gates::{Gate, OpenGate};
+pub use laws::{closed_desks_balance, driven_groups_are_whole};
 pub use reh_types::SurveyLine;
 pub use surveyors::{BySurvey, Plain, SurveyFault, Surveyor};
 pub use threads::{MAX_WORKERS, Threads};
