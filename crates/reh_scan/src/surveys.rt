@@ -73,6 +73,9 @@ fn push_run(
     ensures { OnOk result (lines.new.items
         ≡ lines.old.items ++ take count (drop first (model.lines_of state.now ledger.now))) }
 {
+    if count == 0 {
+        return Ok(());
+    }
     let metadata = ledger.metadata();
     let fragments = metadata.fragments();
     let masks = stripe_masks(metadata);
