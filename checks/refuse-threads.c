@@ -1,5 +1,5 @@
 /* Refuses requests for a thread of a program that this library is loaded into: from the one on whose number, counted
-   from 1, the environment's REFUSE names. */
+   from 1, the environment's REFUSE names, to the one that UNTIL names, or to the last, where there is no UNTIL. */
 extern void *dlsym(void *library, const char *name);
 extern char *getenv(const char *name);
 extern int atoi(const char *text);
@@ -11,8 +11,9 @@ static int count;
 
 int pthread_create(void *thread, const void *attributes, void *(*start)(void *), void *argument) {
     const char *number = getenv("REFUSE");
+    const char *last = getenv("UNTIL");
     count += 1;
-    if (number && count >= atoi(number))
+    if (number && count >= atoi(number) && (!last || count <= atoi(last)))
         return EAGAIN;
     int (*next)(void *, const void *, void *(*)(void *), void *) = dlsym((void *) -1L, "pthread_create");
     return next(thread, attributes, start, argument);
