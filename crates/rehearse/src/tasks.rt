@@ -128,8 +128,7 @@ fn command<'a>(alloc: Global, ways: &'a str) -> Result<Command<'a>, Error> {
         .long("workers")
         .value_name("N")
         .value_parser(value_parser!(u64).range(1..=MAX_WORKERS as i64))
-        .default_value("1")
-        .help("How many workers make each survey, 1 to 8");
+        .help("How many workers make each survey, 1 to 8; by default 1");
     let run = Command::new(alloc, "run")
         .about("Plays a script on a picture, each in a file")
         .arg(picture_arg(alloc))?
