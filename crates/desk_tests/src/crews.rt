@@ -71,13 +71,7 @@ fn workers_of_a_survey_overlap(rt: HostRuntime) -> Result<(), Fail> {
 
 /// How many lines of the tape have this reply.
 fn count_of(tape: &[Line], reply: Reply) -> usize {
-    let mut count = 0;
-    for line in tape {
-        if line.reply == reply {
-            count += 1;
-        }
-    }
-    count
+    tape.iter().filter(|line| line.reply == reply).count()
 }
 
 /// Two workers are driven to the place of the lost bookie, once each: both are given a ticket, and both posts are
