@@ -25,6 +25,14 @@ need_program() {
     ./rehearse --prove || exit 1
 }
 
+# `need_library NAME`: builds checks/NAME.c, so that a program can be loaded with $work/NAME.so.
+need_library() {
+    local clang
+    clang=$(dirname "$(readlink -f "$(command -v rt)")")/../toolchain/bin/clang
+    "$clang" -shared -fPIC -nostdlib -fuse-ld=lld -o "$work/$1.so" "checks/$1.c"
+    judge "the library $1 is built" $?
+}
+
 # `run NAME STATUS FAULT`: the program ends with that status on what $work/input holds, and says just that line on
 # standard error. What it writes must be $work/expected.
 run() {

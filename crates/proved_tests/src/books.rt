@@ -1,5 +1,5 @@
 // Workers that scan outside the book: rehearsals by a book's own calls, and by posts of a session.
-use crate::pictures::{FIVE_BOOKIES, state_of};
+use desk_tests::pictures::{FIVE_BOOKIES, state_of};
 use reh_desk::{Book, Finding, SpendCause, SpendFault, Unspent, scan};
 use reh_picture::read_picture;
 use reh_script::{Command, parse_line};

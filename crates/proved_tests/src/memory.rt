@@ -1,5 +1,5 @@
 // Sessions where there is no memory.
-use crate::pictures::FIVE_BOOKIES;
+use desk_tests::pictures::FIVE_BOOKIES;
 use reh_picture::{PictureFault, read_picture};
 use reh_script::{Command, parse_line, report_text};
 use reh_session::Session;

@@ -1,5 +1,5 @@
 // The whole path over memory: what is written for a text, and how its play ends.
-use crate::pictures::{FIVE_BOOKIES, state_of};
+use desk_tests::pictures::{FIVE_BOOKIES, state_of};
 use reh_crew::Plain;
 use reh_desk::Book;
 use reh_script::{PiecesIn, PiecesOut, PipeFault, TextOut, ToWrite, pipe, play_book};

@@ -1,5 +1,5 @@
 // The texts of a report and of a reply, where there is memory.
-use crate::pictures::{TWO_BOOKIES, state_of};
+use desk_tests::pictures::{TWO_BOOKIES, state_of};
 use reh_script::{reply_text, report_text};
 use reh_types::{BookieIx, Refusal, Reply};
 use std::test::Fail;

@@ -1,0 +1,4 @@
+pub mod BalanceLaws
+pub mod GainLaws
+pub mod RunLaws
+pub mod WholeLaws

@@ -1,0 +1,4 @@
+pub mod Balance
+pub mod Gained
+pub mod Shares
+pub mod Surveys

@@ -1,4 +1,5 @@
 pub mod JobLaws
+pub mod PlaceLaws
 pub mod PostLaws
 pub mod ReadingLaws
 pub mod SurveyLaws

@@ -1,16 +1,17 @@
 -- Entries that can't be read, counted word by word.
 use Rattle.std.proofs.Common.{◌≡◌, ◌∙◌, ◌+◌, ◌-◌, ◌*◌, ◌/◌, ◌^◌, ◌<◌, ◌≤◌, ◌&&◌, ◌++◌, ◌∷◌, [], List, Bool, true, false}
-use Rattle.std.proofs.Common.{cond, not, ℕ, zero, suc, refl, ap, sym, arith, nat_le, map, drop, length, get_or}
-use Rattle.std.proofs.Common.{append_assoc}
+use Rattle.std.proofs.Common.{cond, not, ℕ, zero, suc, refl, ap, sym, arith, nat_le, map, min, drop, take, length}
+use Rattle.std.proofs.Common.{append_assoc, get_or, length-drop}
 use Rattle.std.specs.Prelude.{◌==◌, bit_and, count_by}
 use Rattle.std.specs.Int.{bit_at, bit_not, w64}
 use Rattle.std.specs.Int.Count.{ones}
-use Rattle.std.specs.List.{enumerate_from, range_with_len}
+use Rattle.std.specs.List.{enumerate_from, flat_map, range_with_len}
 use Rattle.std.proofs.lemmas.Bool.Decides.{nat_tests}
 use Rattle.std.proofs.lemmas.Nat.Bits.{bit_at-lt, bit_at_not}
 use Rattle.std.proofs.lemmas.List.Sums.{count_by-le-length}
-use Rattle.std.proofs.lemmas.List.FromFn.{length-range_with_len}
-use Rattle.std.proofs.lemmas.List.{append-nil, drop_more, drop_all}
+use Rattle.std.proofs.lemmas.Grind.{flat_map-append}
+use Rattle.std.proofs.lemmas.List.FromFn.{length-range_with_len, length-enumerate_from, get_or-enumerate_from}
+use Rattle.std.proofs.lemmas.List.{append-nil, drop_min, drop_more, get_or-drop, get_or-map, length-map, take_all, take_min, take_more}
 use Rattle.reh_held.specs.Rows.{is_between}
 use Rattle.reh_held.proofs.CountLaws.{count-cons, count-range, count-append, count-ones}
 use Rattle.reh_model.specs.Striping.{range}
@@ -111,18 +112,113 @@ lacking-bits p first last number between readable within are_between are_readabl
     has_bit-and between (bit_not w64 readable) i
     ∙ (λ j. are_between i inside j && (has_bit-not readable i within inside ∙ ap not (are_readable i inside)) j)
 
+-- Runs
+
+-- what is taken of two lists, one behind the other, and what is left out of them
+take_across : {X : Type 0} (n : ℕ) (xs ys : List X) → take n xs ++ take (n - length xs) ys ≡ take n (xs ++ ys)
+take_across zero xs ys = let none : 0 - length xs ≡ 0 = omega arith in ap (λ m. take m ys) none
+take_across (suc n) [] ys = let all : suc n - 0 ≡ suc n = omega arith in ap (λ m. take m ys) all
+take_across (suc n) (x ∷ xs) ys =
+    let fewer : suc n - suc (length xs) ≡ n - length xs = omega arith in
+    ap (λ m. x ∷ take n xs ++ take m ys) fewer ∙ ap (λ zs. x ∷ zs) (take_across n xs ys)
+
+drop_across : {X : Type 0} (n : ℕ) (xs ys : List X) → drop n xs ++ drop (n - length xs) ys ≡ drop n (xs ++ ys)
+drop_across zero xs ys =
+    let none : 0 - length xs ≡ 0 = omega arith in ap (λ m. xs ++ drop m ys) none
+drop_across (suc n) [] ys = let all : suc n - 0 ≡ suc n = omega arith in ap (λ m. drop m ys) all
+drop_across (suc n) (x ∷ xs) ys =
+    let fewer : suc n - suc (length xs) ≡ n - length xs = omega arith in
+    ap (λ m. drop n xs ++ drop m ys) fewer ∙ drop_across n xs ys
+
+-- a run of two lists is its run of the first, and what is left of it of the second
+pub run_across : {X : Type 0} (xs ys : List X) (before wanted skipped run : ℕ) → skipped ≡ min before (length xs)
+    → run ≡ min wanted (length xs - skipped)
+    → take run (drop skipped xs) ++ take (wanted - run) (drop (before - skipped) ys)
+    ≡ take wanted (drop before (xs ++ ys))
+run_across {X = X} xs ys before wanted skipped run skips runs =
+    let left : List X = drop before xs in
+    let same : drop skipped xs ≡ left = ap (λ n. drop n xs) skips ∙ drop_min before xs in
+    let many : length left ≡ length xs - before = length-drop before xs in
+    let there : run ≡ min wanted (length left) = omega (arith, skips, runs, many) in
+    let first : take run (drop skipped xs) ≡ take wanted left =
+    ap (λ zs. take run zs) same ∙ ap (λ n. take n left) there ∙ take_min wanted left in
+    let more : wanted - run ≡ wanted - length left = omega (arith, there) in
+    let further : before - skipped ≡ before - length xs = omega (arith, skips) in
+    (λ j. first j ++ take (more j) (drop (further j) ys))
+    ∙ take_across wanted left (drop (before - length xs) ys)
+    ∙ ap (λ zs. take wanted zs) (drop_across before xs ys)
+
 -- Lines
 
--- the next one of a list whose elements are numbered
+-- what is made of the element at a place of a list whose elements are numbered
+numbered-there : {X Y : Type 0} (f : ℕ × X → Y) (xs : List X) (i : ℕ) (x : X) (y : Y) → i < length xs
+    → x ≡ get_or xs i x → get_or (map f (enumerate_from 0 xs)) i y ≡ f (i, x)
+numbered-there f xs i x y within is =
+    let inside : i < length (enumerate_from 0 xs) = omega (arith, length-enumerate_from 0 xs) in
+    let number : 0 + i ≡ i = omega arith in
+    get_or-map f (enumerate_from 0 xs) i (i, x) y inside
+    ∙ ap f (get_or-enumerate_from 0 xs i (i, x) within ∙ (λ j. (number j, sym is j)))
+
+-- how many lines there are of such a list
+pub length-numbered : {X Y : Type 0} (f : ℕ × X → Y) (xs : List X) → length (map f (enumerate_from 0 xs)) ≡ length xs
+length-numbered f xs = length-map (enumerate_from 0 xs) f ∙ length-enumerate_from 0 xs
+
+-- the next one of the first of them
 pub numbered-more : {X Y : Type 0} (f : ℕ × X → Y) (ys : List Y) (xs : List X) (i : ℕ) (x : X) → i < length xs
     → x ≡ get_or xs i x
-    → (ys ++ f (i, x) ∷ []) ++ map f (enumerate_from (i + 1) (drop (i + 1) xs))
-    ≡ ys ++ map f (enumerate_from i (drop i xs))
-numbered-more f ys xs i x within is =
-    append_assoc ys (f (i, x) ∷ []) (map f (enumerate_from (i + 1) (drop (i + 1) xs)))
-    ∙ ap (λ y. ys ++ f (i, y) ∷ map f (enumerate_from (i + 1) (drop (i + 1) xs))) is
-    ∙ ap (λ zs. ys ++ map f (enumerate_from i zs)) (sym (drop_more xs i x within))
+    → (ys ++ take i (map f (enumerate_from 0 xs))) ++ f (i, x) ∷ []
+    ≡ ys ++ take (i + 1) (map f (enumerate_from 0 xs))
+numbered-more {Y = Y} f ys xs i x within is =
+    let lines : List Y = map f (enumerate_from 0 xs) in
+    append_assoc ys (take i lines) (f (i, x) ∷ [])
+    ∙ ap (λ zs. ys ++ zs)
+    (ap (λ z. take i lines ++ z ∷ []) (sym (numbered-there f xs i x (f (i, x)) within is))
+    ∙ sym (take_more lines i (f (i, x)) (omega (arith, length-numbered f xs))))
 
-pub numbered-all : {X Y : Type 0} (f : ℕ × X → Y) (ys : List Y) (xs : List X) (i : ℕ) → length xs ≤ i
-    → ys ++ map f (enumerate_from i (drop i xs)) ≡ ys
-numbered-all f ys xs i past = ap (λ zs. ys ++ map f (enumerate_from i zs)) (drop_all i xs past) ∙ append-nil ys
+-- the next one of a run
+pub run-more : {X Y : Type 0} (f : ℕ × X → Y) (ys : List Y) (xs : List X) (first i : ℕ) (x : X) → first ≤ i
+    → i < length xs → x ≡ get_or xs i x
+    → (ys ++ take (i - first) (drop first (map f (enumerate_from 0 xs)))) ++ f (i, x) ∷ []
+    ≡ ys ++ take (i + 1 - first) (drop first (map f (enumerate_from 0 xs)))
+run-more {Y = Y} f ys xs first i x from within is =
+    let lines : List Y = map f (enumerate_from 0 xs) in
+    let run : List Y = drop first lines in
+    let inside : i - first < length run = omega (arith, length-drop first lines, length-numbered f xs) in
+    let at : first + (i - first) ≡ i = omega arith in
+    let one : get_or run (i - first) (f (i, x)) ≡ f (i, x) =
+    get_or-drop first lines (i - first) (f (i, x))
+    ∙ ap (λ n. get_or lines n (f (i, x))) at
+    ∙ numbered-there f xs i x (f (i, x)) within is in
+    let more : i - first + 1 ≡ i + 1 - first = omega arith in
+    append_assoc ys (take (i - first) run) (f (i, x) ∷ [])
+    ∙ ap (λ zs. ys ++ zs)
+    (ap (λ z. take (i - first) run ++ z ∷ []) (sym one)
+    ∙ sym (take_more run (i - first) (f (i, x)) inside)
+    ∙ ap (λ n. take n run) more)
+
+-- the lines of a whole ledger
+pub run-whole : {Y : Type 0} (lines : List Y) (n : ℕ) → n ≡ length lines → take n (drop 0 lines) ≡ lines
+run-whole lines n all = take_all n lines (omega (arith, all))
+
+-- the lines of the next ledger
+pub lines-more : {X Y : Type 0} (f : X → List Y) (xs : List X) (i : ℕ) (x : X) → i < length xs → x ≡ get_or xs i x
+    → flat_map f (take i xs) ++ f x ≡ flat_map f (take (i + 1) xs)
+lines-more f xs i x within is =
+    let one : flat_map f (x ∷ []) ≡ f x = append-nil (f x) in
+    ap (λ ys. flat_map f (take i xs) ++ ys) (sym one)
+    ∙ sym (flat_map-append f (take i xs) (x ∷ []))
+    ∙ ap (λ y. flat_map f (take i xs ++ y ∷ [])) is
+    ∙ ap (λ zs. flat_map f zs) (sym (take_more xs i x within))
+
+-- a run of the lines of the ledgers that are left, of which the next one's are taken
+pub run-on : {X Y : Type 0} (f : X → List Y) (ys : List Y) (xs : List X) (i : ℕ) (x : X) (before wanted skipped run : ℕ)
+    → i < length xs → x ≡ get_or xs i x → skipped ≡ min before (length (f x)) → run ≡ min wanted (length (f x) - skipped)
+    → (ys ++ take run (drop skipped (f x))) ++ take (wanted - run) (drop (before - skipped) (flat_map f (drop (i + 1) xs)))
+    ≡ ys ++ take wanted (drop before (flat_map f (drop i xs)))
+run-on {Y = Y} f ys xs i x before wanted skipped run within is skips runs =
+    let rest : List Y = flat_map f (drop (i + 1) xs) in
+    append_assoc ys (take run (drop skipped (f x))) (take (wanted - run) (drop (before - skipped) rest))
+    ∙ ap (λ zs. ys ++ zs)
+    (run_across (f x) rest before wanted skipped run skips runs
+    ∙ ap (λ y. take wanted (drop before (f y ++ rest))) is
+    ∙ ap (λ zs. take wanted (drop before (flat_map f zs))) (sym (drop_more xs i x within)))

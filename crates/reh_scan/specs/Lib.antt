@@ -1,5 +1,7 @@
+pub mod Costs
 pub mod Jobs
 pub mod Masks
 pub mod Places
 pub mod Posts
 pub mod Sources
+pub mod Surveys

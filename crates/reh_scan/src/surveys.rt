@@ -1,6 +1,6 @@
 // What can't be read any more.
 ghost use Rattle.std.specs.Prelude.{◌≡◌, ℕ, ◌+◌, ◌-◌, ◌*◌, ◌%◌, ◌^◌, ◌<◌, ◌≤◌, ◌++◌, length, not, Some, count_by};
-ghost use Rattle.std.specs.Prelude.{slice_index, IfOk};
+ghost use Rattle.std.specs.Prelude.{drop, slice_index, take, IfOk, OnOk};
 ghost use Rattle.std.specs.List.{list_any};
 ghost use Rattle.std.specs.Option.{IsSome};
 ghost use Rattle.reh_types.specs.declared.limits.TheConstants.{MAX_ENSEMBLE_SIZE};
@@ -26,18 +26,61 @@ pub fn survey_plain(alloc: Global, state: &State) -> Result<Vec<SurveyLine>, All
 {
     let mut lines = Vec::new(alloc);
     for ledger in state.ledgers() {
-        push_lines(&mut lines, state, ledger)?;
+        push_run(
+            &mut lines,
+            state,
+            ledger,
+            0,
+            ledger.metadata().fragments().len(),
+        )?;
     }
     Ok(lines)
 }
 
-/// Puts the lines of the ledger's fragments behind the others.
-fn push_lines(lines: &mut Vec<SurveyLine>, state: &State, ledger: &Ledger) -> Result<(), AllocError>
-    ensures { IfOk result
-        (λ _. lines.new.items ≡ lines.old.items ++ model.lines_of state.now ledger.now) }
+/// A run of the survey: so many of its lines, or as many as there are, from that one on. Both ends of a run may lie
+/// within a ledger.
+pub fn survey_run(
+    alloc: Global,
+    state: &State,
+    first: usize,
+    count: usize,
+) -> Result<Vec<SurveyLine>, AllocError>
+    ensures { IfOk result (λ lines. lines.items ≡ take count (drop first (model.survey state.now))) }
 {
-    for (number, fragment) in ledger.metadata().fragments().iter().enumerate() {
-        lines.push(fragment_line(state, ledger, number, fragment))?;
+    let mut lines = Vec::new(alloc);
+    let mut before = first;
+    let mut wanted = count;
+    for ledger in state.ledgers() {
+        let there = ledger.metadata().fragments().len();
+        let skipped = before.min(there);
+        let run = wanted.min(there - skipped);
+        push_run(&mut lines, state, ledger, skipped, run)?;
+        before -= skipped;
+        wanted -= run;
+    }
+    Ok(lines)
+}
+
+/// Puts the lines of so many of the ledger's fragments, from that number on, behind the others.
+fn push_run(
+    lines: &mut Vec<SurveyLine>,
+    state: &State,
+    ledger: &Ledger,
+    first: usize,
+    count: usize,
+) -> Result<(), AllocError>
+    requires { first + count ≤ length ledger.now.metadata.fragments }
+    ensures { OnOk result (lines.new.items
+        ≡ lines.old.items ++ take count (drop first (model.lines_of state.now ledger.now))) }
+{
+    if count == 0 {
+        return Ok(());
+    }
+    let metadata = ledger.metadata();
+    let fragments = metadata.fragments();
+    let masks = stripe_masks(metadata);
+    for number in first..first + count {
+        lines.push(fragment_line(state, ledger, &masks, number, &fragments[number]))?;
     }
     Ok(())
 }
@@ -49,19 +92,28 @@ pub fn survey_line(state: &State, ledger: LedgerId, fragment: u64) -> SurveyLine
 {
     let found = state.ledger(ledger).unwrap();
     let number = fragment as usize;
-    fragment_line(state, found, number, &found.metadata().fragments()[number])
+    let metadata = found.metadata();
+    let masks = stripe_masks(metadata);
+    fragment_line(state, found, &masks, number, &metadata.fragments()[number])
 }
 
-/// The line of a ledger's fragment.
-fn fragment_line(state: &State, ledger: &Ledger, number: usize, fragment: &Fragment) -> SurveyLine
-    requires { length fragment.now.ensemble ≡ ledger.now.metadata.size }
+/// The line of a ledger's fragment, by the masks of its ensembles.
+fn fragment_line(
+    state: &State,
+    ledger: &Ledger,
+    masks: &Masks,
+    number: usize,
+    fragment: &Fragment,
+) -> SurveyLine
+    requires ensemble { length fragment.now.ensemble ≡ ledger.now.metadata.size }
+    requires masks { AreMasks ledger.now.metadata.size ledger.now.metadata.write_quorum masks.now }
     ensures { result ≡ model.line_of state.now ledger.now number fragment.now }
 {
     SurveyLine {
         ledger: ledger.id(),
         fragment: number as u64,
         down: count_down(state, ledger, fragment),
-        lost: lost_of(state, ledger, number, fragment),
+        lost: lost_of(state, ledger, masks, number, fragment),
     }
 }
 
@@ -80,17 +132,25 @@ fn count_down(state: &State, ledger: &Ledger, fragment: &Fragment) -> u32
 }
 
 /// How many entries of the ledger's fragment can't be read, if it has a stop.
-fn lost_of(state: &State, ledger: &Ledger, number: usize, fragment: &Fragment) -> Option<u32>
-    requires { length fragment.now.ensemble ≡ ledger.now.metadata.size }
+fn lost_of(
+    state: &State,
+    ledger: &Ledger,
+    masks: &Masks,
+    number: usize,
+    fragment: &Fragment,
+) -> Option<u32>
+    requires ensemble { length fragment.now.ensemble ≡ ledger.now.metadata.size }
+    requires masks { AreMasks ledger.now.metadata.size ledger.now.metadata.write_quorum masks.now }
     ensures { result ≡ model.lost_of state.now ledger.now number fragment.now }
 {
     let stop = ledger.metadata().end_of(number)?;
-    Some(count_lost(state, ledger, fragment, stop))
+    Some(count_lost(state, ledger, masks, fragment, stop))
 }
 
 /// How many entries from the fragment's first one up to, not including, the stop can't be read.
-fn count_lost(state: &State, ledger: &Ledger, fragment: &Fragment, stop: u32) -> u32
-    requires { length fragment.now.ensemble ≡ ledger.now.metadata.size }
+fn count_lost(state: &State, ledger: &Ledger, masks: &Masks, fragment: &Fragment, stop: u32) -> u32
+    requires ensemble { length fragment.now.ensemble ≡ ledger.now.metadata.size }
+    requires masks { AreMasks ledger.now.metadata.size ledger.now.metadata.write_quorum masks.now }
     ensures { result ≡ count_by
         (λ e. not (cluster.is_readable state.now ledger.now fragment.now e))
         (range fragment.now.first stop) }
@@ -99,23 +159,29 @@ fn count_lost(state: &State, ledger: &Ledger, fragment: &Fragment, stop: u32) ->
         return 0;
     }
     let rows = source_rows(state, ledger, fragment);
-    count_lacking(&rows, ledger.metadata(), fragment.first, stop - 1)
+    count_lacking(&rows, masks, ledger.metadata(), fragment.first, stop - 1)
 }
 
 /// How many entries from the first to the last are in no row at an index of their write sets.
 ///
 /// It goes by words, of 64 entries each: the entries that one index carries are a mask of the bits of its row's word.
-fn count_lacking(rows: &Rows<'_>, metadata: &LedgerMeta, first: u32, last: u32) -> u32
+fn count_lacking(
+    rows: &Rows<'_>,
+    masks: &Masks,
+    metadata: &LedgerMeta,
+    first: u32,
+    last: u32,
+) -> u32
+    requires masks { AreMasks metadata.now.size metadata.now.write_quorum masks.now }
     requires order { first ≤ last }
     requires last { last + 1 < 2 ^ 32 }
     ensures { result ≡ count_by
         (λ e. not (list_any (is_set_at rows.now e) (stripe.write_set e metadata.now.size metadata.now.write_quorum)))
         (range first (last + 1)) }
 {
-    let masks = stripe_masks(metadata);
     let mut count = 0;
     for number in first / 64..last / 64 + 1 {
-        let readable = readable_word(rows, &masks, metadata, number);
+        let readable = readable_word(rows, masks, metadata, number);
         let lacking = bits_between(number, first, last) & !readable;
         count += lacking.count_ones() as usize;
     }

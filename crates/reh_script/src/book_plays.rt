@@ -31,6 +31,7 @@ pub fn play_book<V: Surveyor, R: TextIn, W: TextOut>(
     writer: &mut W,
 ) -> Result<(), PlayFault>
     requires out { length book.old.book.out ≡ seat.old.out }
+    requires surveys { V.surveys surveyor.now }
     requires reads { R.has_failed reader.old ≡ false }
     requires writes { W.has_failed writer.old ≡ false }
     ensures out { length book.new.book.out ≡ seat.new.out }
@@ -58,6 +59,7 @@ pub(crate) fn answer_at_book<V: Surveyor, W: TextOut>(
     writer: &mut W,
 ) -> Result<(), PlayFault>
     requires out { length book.old.book.out ≡ seat.old.out }
+    requires surveys { V.surveys tools.now.surveyor.now }
     requires empty { hand ≡ [] }
     requires writes { W.has_failed writer.old ≡ false }
     ensures transcribed { IsTranscribed tools.now.names.now seat.old.number

@@ -29,6 +29,7 @@ pub fn pipe<V: Surveyor, R: TextIn, W: TextOut>(
     reader: &mut R,
     writer: &mut W,
 ) -> Result<(), PipeFault>
+    requires surveys { V.surveys surveyor.now }
     requires reads { R.has_failed reader.old ≡ false }
     requires writes { W.has_failed writer.old ≡ false }
     ensures pipes { Pipes result
@@ -49,7 +50,8 @@ fn transcribe<V: Surveyor, W: TextOut>(
     failed: bool,
     writer: &mut W,
 ) -> Result<(), PipeFault>
-    requires { W.has_failed writer.old ≡ false }
+    requires surveys { V.surveys surveyor.now }
+    requires writes { W.has_failed writer.old ≡ false }
     ensures piped { IsPiped (rehearsal_of failed input.now) result
         (W.contents writer.old) (W.contents writer.new) }
     ensures write { W.has_failed writer.new ≡ loses_output result }

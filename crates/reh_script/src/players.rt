@@ -51,7 +51,8 @@ pub(crate) fn answer<C: Counter, V: Surveyor>(
     hand: &mut Hand,
     asked: Result<Command, LineFault>,
 ) -> Result<Answer, Unanswered>
-    requires { C.may counter.old seat.old }
+    requires may { C.may counter.old seat.old }
+    requires surveys { V.surveys tools.now.surveyor.now }
     ensures may { C.may counter.new seat.new }
     ensures ok { IfOk result (λ answer. IsAnswered C.goes C.scene
         (player counter.old seat.old hand.old) asked answer
@@ -194,6 +195,7 @@ fn survey<C: Counter, V: Surveyor>(
     seat: &Seat,
     hand: &Hand,
 ) -> Result<Answer, Unanswered>
+    requires { V.surveys tools.now.surveyor.now }
     ensures ok { IfOk result (λ answer. IsAnswered C.goes C.scene
         (player counter.now seat.now hand.now) (Ok command.Survey) answer
         (player counter.now seat.now hand.now)) }

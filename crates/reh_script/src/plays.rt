@@ -43,6 +43,7 @@ pub fn play<C: Counter, V: Surveyor, R: TextIn, W: TextOut>(
     writer: &mut W,
 ) -> Result<(), PlayFault>
     requires may { C.may counter.old seat.old }
+    requires surveys { V.surveys surveyor.now }
     requires reads { R.has_failed reader.old ≡ false }
     requires writes { W.has_failed writer.old ≡ false }
     ensures may { C.may counter.new seat.new }
@@ -87,6 +88,7 @@ pub(crate) fn answer_script<C: Counter, V: Surveyor, W: TextOut>(
     writer: &mut W,
 ) -> Result<(), PlayFault>
     requires may { C.may counter.old seat.old }
+    requires surveys { V.surveys tools.now.surveyor.now }
     requires writes { W.has_failed writer.old ≡ false }
     ensures may { C.may counter.new seat.new }
     ensures played { IsPlayed (setting C.goes C.scene tools.now.names.now)
@@ -138,6 +140,7 @@ fn answer_lines<C: Counter, V: Surveyor, W: TextOut>(
     writer: &mut W,
 ) -> Result<(), Stopped>
     requires may { C.may counter.old seat.old }
+    requires surveys { V.surveys tools.now.surveyor.now }
     requires writes { W.has_failed writer.old ≡ false }
     ensures may { C.may counter.new seat.new }
     ensures ok { OnOk result (LeadsTo (setting C.goes C.scene tools.now.names.now)
@@ -188,7 +191,8 @@ fn answer_line<C: Counter, V: Surveyor>(
     line: &[u8],
     text: &mut String,
 ) -> Result<(), Unanswered>
-    requires { C.may counter.old seat.old }
+    requires may { C.may counter.old seat.old }
+    requires surveys { V.surveys tools.now.surveyor.now }
     ensures may { C.may counter.new seat.new }
     ensures ok { OnOk result (Takes (setting C.goes C.scene tools.now.names.now)
         (player counter.old seat.old hand.old) number (asked tools.now.names.now line.now)

@@ -21,6 +21,7 @@ pub fn run<V: Surveyor, P: TextIn, R: TextIn, W: TextOut>(
     script: &mut R,
     writer: &mut W,
 ) -> Result<(), PipeFault>
+    requires surveys { V.surveys surveyor.now }
     requires picture { P.has_failed picture.old ≡ false }
     requires script { R.has_failed script.old ≡ false }
     requires writes { W.has_failed writer.old ≡ false }

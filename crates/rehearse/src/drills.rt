@@ -12,6 +12,7 @@ use crate::openings::{Room, open_room};
 use crate::operators::Outcome;
 use crate::outcomes::{first_fault, play_scripts};
 use itoa::Buffer;
+use reh_crew::Gate;
 use reh_desk::{CloseCause, CloseFault, Closed, Desk, Seat};
 use reh_script::{PlayFault, StreamFault, TextOut, report_text, write_all};
 use std::alloc::{AllocError, Global};
@@ -24,11 +25,13 @@ pub const MAX_OPERATORS: usize = 8;
 /// Plays scripts on a picture, each by an operator of its own, on a thread of its own, at one desk. Then it writes what
 /// each operator was answered, how many lines the desk's tape has, and the report of where it ended.
 ///
-/// The operators' calls come in any order that the threads make. The picture is judged before anything is written.
+/// Operator k passes the gate as worker k - 1, once, before its first line. The operators' calls come in any order that
+/// the threads make. The picture is judged before anything is written.
 /// Where an operator's play ends early, all transcripts are written, and nothing behind them.
-pub fn drill_over<R: Threads + Wait + Sync, W: TextOut>(
+pub fn drill_over<R: Threads + Wait + Sync, G: Gate + Sync, W: TextOut>(
     rt: &R,
     alloc: Global,
+    gate: &G,
     picture: &[u8],
     scripts: Vec<Vec<u8>>,
     writer: &mut W,
@@ -41,7 +44,7 @@ pub fn drill_over<R: Threads + Wait + Sync, W: TextOut>(
     ensures write { W.has_failed writer.new ≡ is_lost result }
 {
     let Room { desk, seats, names } = open_room(alloc, picture, scripts.len() as u32)?;
-    let outcomes = play_scripts(rt, alloc, &desk, &names, seats, scripts)?;
+    let outcomes = play_scripts(rt, alloc, gate, &desk, &names, seats, scripts)?;
     end_drill(alloc, desk, outcomes, writer)
 }
 

@@ -11,6 +11,7 @@ mod files;
 mod openings;
 mod operators;
 mod outcomes;
+mod runs;
 mod tasks;
 
 use checks::check_file;
@@ -18,9 +19,10 @@ use clap::Error;
 use drills::drill_over;
 use faults::{RunFault, after_flush, status_of, want_of_memory};
 use files::{LateFile, read_file, read_scripts};
-use reh_crew::Plain;
+use reh_crew::{OpenGate, Plain};
 use reh_script::{FromRead, ToWrite, pipe};
 use reh_types::MAX_PICTURE_BYTES;
+use runs::{Crew, run_by};
 use std::io::{BufWriter, Write};
 use std::process::ExitCode;
 use std::sync::Wait;
@@ -34,7 +36,7 @@ fn main(rt: HostRuntime) -> ExitCode {
         Err(fault) => return end(&rt, Err(fault)),
     };
     match task_of(rt.alloc(), &words) {
-        Ok(Task::Play(input)) => end(&rt, play(&rt, input)),
+        Ok(Task::Play(input)) => end(&rt, play(&rt, &rt, input)),
         Ok(Task::Check { picture }) => end(&rt, check_file(&rt, picture)),
         Ok(Task::Drill(files)) => end(&rt, drill(&rt, &rt, files)),
         Err(error) => show(&rt, &error),
@@ -74,7 +76,11 @@ fn show(rt: &HostRuntime, error: &Error) -> ExitCode {
 }
 
 /// Plays a script on a picture, to standard output. What was answered before a fault is written too.
-fn play(rt: &HostRuntime, input: Input<'_>) -> Result<(), RunFault> {
+fn play<R: Threads + Wait + Sync>(
+    rt: &HostRuntime,
+    threads: &R,
+    input: Input<'_>,
+) -> Result<(), RunFault> {
     let buffer = BufWriter::new(rt.alloc(), io::writer(rt))?;
     let mut writer = ToWrite::new(buffer);
     let played = match input {
@@ -82,24 +88,30 @@ fn play(rt: &HostRuntime, input: Input<'_>) -> Result<(), RunFault> {
             let mut reader = FromRead::new(rt.reader());
             pipe(rt.alloc(), &Plain, &mut reader, &mut writer).map_err(RunFault::from)
         }
-        Input::Files { picture, script } => run_files(rt, picture, script, &mut writer),
+        Input::Files {
+            picture,
+            script,
+            crew,
+        } => run_files(rt, threads, picture, script, crew, &mut writer),
     };
     let flushed = writer.flush();
     after_flush(played, flushed)
 }
 
 /// Plays a script file on a picture file. The script is opened once the picture is accepted.
-fn run_files<W: Write>(
+fn run_files<R: Threads + Wait + Sync, W: Write>(
     rt: &HostRuntime,
+    threads: &R,
     picture: &str,
     script: &str,
+    crew: Crew,
     writer: &mut ToWrite<W>,
 ) -> Result<(), RunFault>
     requires { writer.old.has_failed ≡ false }
 {
     let mut picture = FromRead::new(fs::open(rt, picture)?);
     let mut script = LateFile::new(rt, script);
-    let played = reh_script::run(rt.alloc(), &Plain, &mut picture, &mut script, writer);
+    let played = run_by(threads, rt.alloc(), crew, &mut picture, &mut script, writer);
     match script.into_unopened() {
         Some(fault) => Err(fault),
         None => played.map_err(RunFault::from),
@@ -116,7 +128,14 @@ fn drill<R: Threads + Wait + Sync>(
     let scripts = read_scripts(rt, &files.scripts)?;
     let buffer = BufWriter::new(rt.alloc(), io::writer(rt))?;
     let mut writer = ToWrite::new(buffer);
-    let drilled = drill_over(threads, rt.alloc(), &picture, scripts, &mut writer);
+    let drilled = drill_over(
+        threads,
+        rt.alloc(),
+        &OpenGate,
+        &picture,
+        scripts,
+        &mut writer,
+    );
     let flushed = writer.flush();
     after_flush(drilled, flushed)
 }

@@ -4,6 +4,7 @@ ghost use Rattle.reh_script.specs.Plays.{is_write_fault};
 ghost use Rattle.rehearse.specs.Drills.{fault_in_memory, IsOutcome};
 
 use reh_cluster::Names;
+use reh_crew::Gate;
 use reh_desk::{Desk, Seat};
 use reh_script::{PlayFault, StreamFault, TextOut, play_at_desk};
 use std::alloc::{AllocError, Global};
@@ -43,17 +44,20 @@ pub struct Outcome {
     pub fault: Option<PlayFault>,
 }
 
-/// Plays a script by a seat of a desk.
-pub(crate) fn operate<R: Wait>(
+/// Passes the gate as the worker of that number, and plays a script by a seat of a desk.
+pub(crate) fn operate<R: Wait, G: Gate>(
     rt: &R,
     alloc: Global,
+    gate: &G,
     desk: &Desk,
     names: &Names,
     seat: Seat,
     script: Vec<u8>,
+    worker: usize,
 ) -> Outcome
     ensures { IsOutcome names.now seat script.items result }
 {
+    gate.pass(worker);
     let mut seat = seat;
     let mut transcript = Transcript {
         text: Vec::new(alloc),

@@ -5,6 +5,7 @@ ghost use Rattle.rehearse.specs.Drills.{OnePlayed, AllPlayed, first_fault};
 
 use crate::operators::{Outcome, operate};
 use reh_cluster::Names;
+use reh_crew::Gate;
 use reh_desk::{Desk, Seat};
 use reh_script::PlayFault;
 use std::alloc::{AllocError, Global};
@@ -28,14 +29,16 @@ impl Promise<Outcome> for PlayOf {
 }
 
 /// Starts the thread of one operator, or says that there is none for it.
-fn start<'s, 'e, R: Threads + Wait + Sync>(
+fn start<'s, 'e, R: Threads + Wait + Sync, G: Gate + Sync>(
     scope: &'s Scope<'s, &'e ()>,
     rt: &'s R,
     alloc: Global,
+    gate: &'s G,
     desk: &'s Desk,
     names: &'s Names,
     seat: Seat,
     script: Vec<u8>,
+    worker: usize,
 ) -> Result<PromisedHandle<Outcome, PlayOf>, PlayFault>
     ensures ok { IfOk result (λ handle. (handle.promise.names.value ≡ names.now)
         × (handle.promise.seat.value ≡ seat) × (handle.promise.script.value.items ≡ script.items)) }
@@ -48,7 +51,7 @@ fn start<'s, 'e, R: Threads + Wait + Sync>(
     };
     match scope.spawn_with(
         promise,
-        move || operate(rt, alloc, desk, names, seat, script),
+        move || operate(rt, alloc, gate, desk, names, seat, script, worker),
     ) {
         Ok(handle) => Ok(handle),
         Err(refused) => Err(PlayFault::from(refused)),
@@ -72,10 +75,11 @@ fn finish<R: Threads>(
 }
 
 /// Plays the scripts, each by its seat on a thread of its own. All threads are started before one is waited for.
-fn play_rest<'s, 'e, R: Threads + Wait + Sync>(
+fn play_rest<'s, 'e, R: Threads + Wait + Sync, G: Gate + Sync>(
     scope: &'s Scope<'s, &'e ()>,
     rt: &'s R,
     alloc: Global,
+    gate: &'s G,
     desk: &'s Desk,
     names: &'s Names,
     seats: &mut Vec<Seat>,
@@ -95,16 +99,20 @@ fn play_rest<'s, 'e, R: Threads + Wait + Sync>(
     let Some(script) = scripts.pop() else {
         return;
     };
-    let started = start(scope, rt, alloc, desk, names, seat, script);
-    play_rest(scope, rt, alloc, desk, names, seats, scripts, outcomes);
+    let worker = seats.len();
+    let started = start(scope, rt, alloc, gate, desk, names, seat, script, worker);
+    play_rest(
+        scope, rt, alloc, gate, desk, names, seats, scripts, outcomes,
+    );
     outcomes.push_reserved(finish(rt, started));
 }
 
 /// Plays the scripts, each by its seat on a thread of its own, over one desk. The room for what comes of them is taken
 /// before the first thread is started.
-pub(crate) fn play_scripts<R: Threads + Wait + Sync>(
+pub(crate) fn play_scripts<R: Threads + Wait + Sync, G: Gate + Sync>(
     rt: &R,
     alloc: Global,
+    gate: &G,
     desk: &Desk,
     names: &Names,
     seats: Vec<Seat>,
@@ -132,6 +140,7 @@ pub(crate) fn play_scripts<R: Threads + Wait + Sync>(
                 scope,
                 rt,
                 alloc,
+                gate,
                 desk,
                 names,
                 &mut seats,

@@ -2,8 +2,10 @@
 ghost use Rattle.std.specs.Prelude.{◌<◌, ◌≤◌, vec_len};
 
 use crate::drills::MAX_OPERATORS;
+use crate::runs::Crew;
 use clap::error::ErrorKind;
-use clap::{Arg, ArgMatches, Command, Error};
+use clap::{Arg, ArgMatches, Command, Error, value_parser};
+use reh_crew::MAX_WORKERS;
 use reh_script::Verb;
 use std::alloc::{AllocError, Global};
 
@@ -32,8 +34,12 @@ pub struct DrillFiles<'a> {
 pub enum Input<'a> {
     /// On standard input: a picture, a line `%` and a script.
     Pipe,
-    /// Each in a file.
-    Files { picture: &'a str, script: &'a str },
+    /// Each in a file; and who makes the surveys.
+    Files {
+        picture: &'a str,
+        script: &'a str,
+        crew: Crew,
+    },
 }
 
 /// What `--version` says; a picture has the number of its format in itself.
@@ -74,14 +80,23 @@ fn asked_task<'a>(alloc: Global, matches: &ArgMatches<'a>) -> Result<Task<'a>, A
         return Ok(Task::Play(Input::Pipe));
     };
     let scripts = given.get_strs("SCRIPT").unwrap_or(&[]);
+    let workers = given.get_one("workers").unwrap_or(1);
     match (name, given.get_str("PICTURE"), scripts.first()) {
         ("check", Some(picture), _) => Ok(Task::Check { picture }),
         ("drill", Some(picture), Some(_)) if scripts.len() <= MAX_OPERATORS => {
             let scripts = scripts.to_vec(alloc)?;
             Ok(Task::Drill(DrillFiles { picture, scripts }))
         }
-        ("run", Some(picture), Some(script)) => Ok(Task::Play(Input::Files { picture, script })),
-        // All of them are required, so that a run and a drill have both and a check its one.
+        ("run", Some(picture), Some(script)) if 0 < workers && workers <= MAX_WORKERS => {
+            let crew = Crew { workers };
+            Ok(Task::Play(Input::Files {
+                picture,
+                script,
+                crew,
+            }))
+        }
+        // All files are required, so that a run and a drill have both and a check its one; and the parser lets no
+        // other number of workers through.
         _ => Ok(Task::Play(Input::Pipe)),
     }
 }
@@ -104,15 +119,21 @@ fn all_ways(alloc: Global) -> Result<String, AllocError> {
     Ok(ways)
 }
 
-/// The command line: no word, `run PICTURE SCRIPT`, `check PICTURE`, or `drill PICTURE SCRIPT..`.
+/// The command line: no word, `run PICTURE SCRIPT --workers N`, `check PICTURE`, or `drill PICTURE SCRIPT..`.
 fn command<'a>(alloc: Global, ways: &'a str) -> Result<Command<'a>, Error> {
     let script = Arg::new(alloc, "SCRIPT")
         .required(true)
         .help("A file with the script");
+    let workers = Arg::new(alloc, "workers")
+        .long("workers")
+        .value_name("N")
+        .value_parser(value_parser!(u64).range(1..=MAX_WORKERS as i64))
+        .help("How many workers make each survey, 1 to 8; by default 1");
     let run = Command::new(alloc, "run")
         .about("Plays a script on a picture, each in a file")
         .arg(picture_arg(alloc))?
-        .arg(script)?;
+        .arg(script)?
+        .arg(workers)?;
     let check = Command::new(alloc, "check")
         .about("Says how much a picture shows, or where it is wrong")
         .arg(picture_arg(alloc))?;

@@ -13,7 +13,7 @@ returns-in_err-rehearsal-clause-piped g c =
 
 pub returns-in_err-rehearsal-clause-write : goal.returns-in_err-rehearsal-clause-write
 returns-in_err-rehearsal-clause-write g c =
-    keeps_writer _ c.in_err-rehearsal.field-0.0 _ c.requires
+    keeps_writer _ c.in_err-rehearsal.field-0.0 _ c.requires.writes
     (unopened_writes _ c.in_err-rehearsal.field-0.0 c.in_err-rehearsal.ensures) c.from_residual.ensures.1
 
 pub returns-in_err-hand-clause-piped : goal.returns-in_err-hand-clause-piped
@@ -23,7 +23,7 @@ returns-in_err-hand-clause-piped g c =
     c.from_residual-in_err-hand.ensures.1
 
 pub returns-in_err-hand-clause-write : goal.returns-in_err-hand-clause-write
-returns-in_err-hand-clause-write g c = handed_on _ NoMemory _ c.from_residual-in_err-hand.ensures.1 c.requires
+returns-in_err-hand-clause-write g c = handed_on _ NoMemory _ c.from_residual-in_err-hand.ensures.1 c.requires.writes
 
 pub returns-in_err-answer_at_book-clause-piped : goal.returns-in_err-answer_at_book-clause-piped
 returns-in_err-answer_at_book-clause-piped g c =

@@ -13,7 +13,7 @@ use std::sync::Wait;
 use std::test::Fail;
 
 /// The place of the lost bookie, for the fourth one.
-const AIM: Aim = Aim {
+pub(crate) const AIM: Aim = Aim {
     worker: BookieIx(3),
     ledger: LedgerId(7),
     fragment: 0,
@@ -21,7 +21,7 @@ const AIM: Aim = Aim {
 };
 
 /// A desk with so many seats, on a session that has made the events.
-fn opened(
+pub(crate) fn opened(
     rt: &impl Abort,
     alloc: Global,
     picture: &str,

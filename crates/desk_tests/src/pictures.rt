@@ -5,7 +5,7 @@ use reh_types::{BookieIx, Event, LedgerId};
 use std::alloc::Global;
 use std::test::Fail;
 
-pub(crate) const FIVE_BOOKIES: &str =
+pub const FIVE_BOOKIES: &str =
     "{\"format\":1,\"grace\":3,\"bookies\":[{\"name\":\"b1:3181\",\"up\":true},{\"name\":\"b2:3181\",\
      \"up\":true},{\"name\":\"b3:3181\",\"up\":true},{\"name\":\"b4:3181\",\"up\":true},{\"name\":\"b5:3181\",\
      \"up\":true}],\"ledgers\":[{\"id\":7,\"state\":\"CLOSED\",\"lastEntryId\":5,\"ensembleSize\":3,\
@@ -18,12 +18,12 @@ pub(crate) const FIVE_BOOKIES: &str =
      [4,5]]},{\"bookie\":\"b1:3181\",\"ledger\":9,\"entries\":[[0,4]]},{\"bookie\":\"b2:3181\",\"ledger\":9,\
      \"entries\":[[0,3]]},{\"bookie\":\"b3:3181\",\"ledger\":9,\"entries\":[[0,3]]}]}";
 
-pub(crate) const TWO_BOOKIES: &str =
+pub const TWO_BOOKIES: &str =
     "{\"format\":1,\"grace\":3,\"bookies\":[{\"name\":\"b1:3181\",\"up\":true},{\"name\":\"b2:3181\",\
      \"up\":true}],\"ledgers\":[],\"contents\":[]}";
 
 /// The loss of the second of five bookies, and the lock of the fourth one's worker.
-pub(crate) const LOSS: [Event; 3] = [
+pub const LOSS: [Event; 3] = [
     Event::Lose {
         bookie: BookieIx(1),
     },
@@ -34,7 +34,7 @@ pub(crate) const LOSS: [Event; 3] = [
     },
 ];
 
-pub(crate) fn state_of(alloc: Global, picture: &str) -> Result<State, Fail> {
+pub fn state_of(alloc: Global, picture: &str) -> Result<State, Fail> {
     let state = read_picture(alloc, picture.as_bytes())?;
     Ok(state)
 }

@@ -1,0 +1,66 @@
+// Runs whose surveys may be made by several workers.
+ghost use Rattle.std.specs.Prelude.{◌≡◌, ◌+◌, ◌<◌, ◌≤◌, false, IfOk};
+ghost use Rattle.reh_model.specs.Survey as model;
+ghost use Rattle.reh_crew.specs.Surveys.{FindsSurvey};
+ghost use Rattle.reh_crew.specs.declared.threads.TheConstants.{MAX_WORKERS};
+ghost use Rattle.reh_script.specs.Pipes.{loses_output};
+ghost use Rattle.reh_script.specs.Runs.{Runs};
+
+use reh_cluster::State;
+use reh_crew::{BySurvey, MAX_WORKERS, OpenGate, Plain, SurveyFault, SurveyLine, Threads};
+use reh_script::{PipeFault, TextIn, TextOut, run};
+use std::alloc::Global;
+use std::sync::Wait;
+use std::thread;
+
+/// How many workers make each survey of a run, from 1 to 8.
+#[derive(Clone, Copy)]
+pub struct Crew {
+    pub workers: usize,
+    ghost some: { 0 < workers },
+    ghost few: { workers ≤ MAX_WORKERS },
+}
+
+/// Reads a picture, and then a script, and writes the transcript. Where there is one worker, it is the caller's thread.
+pub(crate) fn run_by<T: thread::Threads + Wait + Sync, P: TextIn, R: TextIn, W: TextOut>(
+    rt: &T,
+    alloc: Global,
+    crew: Crew,
+    picture: &mut P,
+    script: &mut R,
+    writer: &mut W,
+) -> Result<(), PipeFault>
+    requires picture { P.has_failed picture.old ≡ false }
+    requires script { R.has_failed script.old ≡ false }
+    requires writes { W.has_failed writer.old ≡ false }
+    ensures runs { Runs result (script.new ≡ script.old)
+        (P.has_failed picture.new) (P.remaining picture.old) (P.remaining picture.new)
+        (R.has_failed script.new) (R.remaining script.old) (R.remaining script.new)
+        (W.contents writer.old) (W.contents writer.new) }
+    ensures write { W.has_failed writer.new ≡ loses_output result }
+{
+    if crew.workers == 1 {
+        return run(alloc, &Plain, picture, script, writer);
+    }
+    let call = |alloc: Global, state: &State| -> Result<Vec<SurveyLine>, SurveyFault>
+        ensures { FindsSurvey state.now result }
+    { survey_by(rt, alloc, crew, state) };
+    run(alloc, &BySurvey { call }, picture, script, writer)
+}
+
+/// The survey of a state by the workers of a crew.
+fn survey_by<T: thread::Threads + Wait + Sync>(
+    rt: &T,
+    alloc: Global,
+    crew: Crew,
+    state: &State,
+) -> Result<Vec<SurveyLine>, SurveyFault>
+    ensures { IfOk result (λ lines. lines.items ≡ model.survey state.now) }
+{
+    let threads = Threads {
+        rt,
+        workers: crew.workers,
+        gate: &OpenGate,
+    };
+    threads.survey(alloc, state)
+}
