@@ -1,6 +1,6 @@
 // Several workers: those of a survey, and replication workers at a desk.
 use crate::desks::{AIM, opened};
-use crate::pictures::{FIVE_BOOKIES, LOSS, state_of};
+use crate::pictures::{FIVE_BOOKIES, LOSS, TWO_BOOKIES, state_of};
 use reh_crew::{Gate, OpenGate, Threads, drive};
 use reh_desk::Closed;
 use reh_types::{BookieIx, LedgerId, Line, Reply};
@@ -12,60 +12,66 @@ use std::test::Fail;
 use std::thread;
 use std::thread::yield_now;
 
-/// At this gate worker 0 waits for another one, for so many turns.
+/// At this gate each worker waits, for so many turns, until this many have come.
 #[derive(Drop)]
-struct Overlap {
-    passed: AtomicBool,
-    turns: AtomicU64,
+struct Meeting {
+    size: u64,
+    come: AtomicU64,
+    numbers: AtomicU64,
+    is_late: AtomicBool,
 }
 
 /// After so many turns nobody waits any more.
 const MOST_TURNS: u64 = 10000000;
 
-impl Overlap {
-    fn new() -> Overlap {
-        Overlap {
-            passed: AtomicBool::new(false),
-            turns: AtomicU64::new(0),
+impl Meeting {
+    fn of(size: u64) -> Meeting {
+        Meeting {
+            size,
+            come: AtomicU64::new(0),
+            numbers: AtomicU64::new(0),
+            is_late: AtomicBool::new(false),
         }
     }
 
-    /// Whether another worker came while worker 0 waited, or before.
-    fn was_seen(&self) -> bool {
-        self.passed.load(Ordering::SeqCst) && self.turns.load(Ordering::SeqCst) < MOST_TURNS
+    /// Whether as many workers met as were to, each once; of their numbers each is a bit.
+    fn was_of(&self, numbers: u64) -> bool {
+        !self.is_late.load(Ordering::SeqCst)
+            && self.come.load(Ordering::SeqCst) == self.size
+            && self.numbers.load(Ordering::SeqCst) == numbers
     }
 }
 
-impl Gate for Overlap {
+impl Gate for Meeting {
     fn pass(&self, worker: usize) {
-        if worker != 0 {
-            self.passed.store(true, Ordering::SeqCst);
-            return;
-        }
+        let bit = 1u64.wrapping_shl((worker % 64) as u32);
+        self.numbers.fetch_add(bit, Ordering::SeqCst);
+        self.come.fetch_add(1, Ordering::SeqCst);
         for _ in 0..MOST_TURNS {
-            if self.passed.load(Ordering::SeqCst) {
+            if self.come.load(Ordering::SeqCst) >= self.size {
                 return;
             }
-            self.turns.fetch_add(1, Ordering::SeqCst);
             yield_now();
         }
+        self.is_late.store(true, Ordering::SeqCst);
     }
 }
 
+/// Eight workers survey a cluster without a ledger, so none of them has anything to read.
 #[test]
 fn workers_of_a_survey_overlap(rt: HostRuntime) -> Result<(), Fail> {
-    let state = state_of(rt.alloc(), FIVE_BOOKIES)?;
-    let gate = Overlap::new();
+    let state = state_of(rt.alloc(), TWO_BOOKIES)?;
+    let gate = Meeting::of(8);
     let threads = Threads {
         rt: &rt,
-        workers: 2,
+        workers: 8,
         gate: &gate,
     };
     let Ok(lines) = threads.survey(rt.alloc(), &state) else {
         panic!(rt; "no survey")
     };
-    assert_eq!(rt; lines.len(), 2);
-    assert!(rt; gate.was_seen());
+    assert_eq!(rt; lines.len(), 0);
+    assert!(rt; gate.was_of(0b1111_1111));
     Ok(())
 }
 
@@ -107,8 +113,49 @@ fn workers_are_driven(rt: HostRuntime) -> Result<(), Fail> {
 
 #[test]
 fn driven_workers_overlap(rt: HostRuntime) -> Result<(), Fail> {
-    let gate = Overlap::new();
+    let gate = Meeting::of(2);
     drive_two(&rt, rt.alloc(), &gate)?;
-    assert!(rt; gate.was_seen());
+    assert!(rt; gate.was_of(0b11));
+    Ok(())
+}
+
+/// Of three workers two have no aim: they pass the gate all the same.
+#[test]
+fn idle_workers_pass_the_gate(rt: HostRuntime) -> Result<(), Fail> {
+    let (desk, mut seats) = opened(&rt, rt.alloc(), FIVE_BOOKIES, &LOSS, 3)?;
+    if seats.is_empty() || seats.len() > 8 {
+        panic!(rt; "not three seats")
+    }
+    let gate = Meeting::of(3);
+    drive(&rt, rt.alloc(), &desk, seats.as_mut_slice(), &[AIM], &gate);
+    assert!(rt; gate.was_of(0b111));
+    let Ok(Closed { session: _, tape }) = desk.close(seats) else {
+        panic!(rt; "not closed")
+    };
+    assert_eq!(rt; tape.len(), 2);
+    Ok(())
+}
+
+/// Two workers are driven to five aims: the first takes three of them, the second two, with two lines for each.
+#[test]
+fn workers_take_all_their_aims(rt: HostRuntime) -> Result<(), Fail> {
+    let (desk, mut seats) = opened(&rt, rt.alloc(), FIVE_BOOKIES, &LOSS, 2)?;
+    if seats.is_empty() || seats.len() > 8 {
+        panic!(rt; "not two seats")
+    }
+    drive(
+        &rt,
+        rt.alloc(),
+        &desk,
+        seats.as_mut_slice(),
+        &[AIM, AIM, AIM, AIM, AIM],
+        &OpenGate,
+    );
+    let Ok(Closed { session: _, tape }) = desk.close(seats) else {
+        panic!(rt; "not closed")
+    };
+    assert_eq!(rt; tape.iter().filter(|line| line.seat == 0).count(), 6);
+    assert_eq!(rt; tape.iter().filter(|line| line.seat == 1).count(), 4);
+    assert_eq!(rt; count_of(&tape, Reply::Done), 5);
     Ok(())
 }
