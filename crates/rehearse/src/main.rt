@@ -5,6 +5,8 @@
 ghost use Rattle.std.specs.Prelude.{◌≡◌, false};
 
 mod checks;
+#[cfg(test)]
+mod drill_tests;
 mod drills;
 mod faults;
 mod files;
