@@ -5,6 +5,9 @@ pub mod WordLaws
 pub mod ReportLaws
 pub mod LinesLemmas
 pub mod EndedLaws
+pub mod Parts
+pub mod Gathering
+pub mod ReadingOn
 pub mod Cuts
 pub mod Turns
 pub mod Steps

@@ -7,6 +7,7 @@ pub mod Answers
 pub mod Hand
 pub mod Transcript
 pub mod Readings
+pub mod Streams
 pub mod Players
 pub mod Plays
 pub mod Turns
