@@ -12,6 +12,7 @@ pub mod Cuts
 pub mod Turns
 pub mod Steps
 pub mod Answered
+pub mod Reads
 pub mod Enough
 pub mod Transcripts
 pub mod Sitting

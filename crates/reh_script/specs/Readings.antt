@@ -45,6 +45,13 @@ ReadsOn TooLong old new left_old left_new failed =
     (bytes : List ℕ) × (byte : ℕ) × (new ≡ old ++ bytes) × Consumes left_old left_new (bytes ++ byte ∷ [])
     × IsQuiet bytes × (length new ≡ MAX_SCRIPT_BYTES) × (failed ≡ false)
 
+-- how many reads gave no byte for the script
+abbrev pub reads_past : Progress → ℕ
+reads_past (Lines end) = 0
+reads_past End = 1
+reads_past Failed = 1
+reads_past TooLong = 1
+
 -- what one more read gives, behind the longest script that there can be
 abbrev pub ReadsPast : Progress → Option (List ℕ) → Option (List ℕ) → Bool → Type 0
 ReadsPast (Lines end) left_old left_new failed = ⊥

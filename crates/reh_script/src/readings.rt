@@ -1,6 +1,6 @@
 // Reading a text to its end, or as far as it can matter.
 ghost use Rattle.std.specs.Prelude.{◌≡◌, ◌+◌, ◌≤◌, false, length, IfOk, OnErr, MatchResult};
-ghost use Rattle.reh_script.specs.Readings.{Reads, ReadsOn, ReadsPast, IsQuietUntil};
+ghost use Rattle.reh_script.specs.Readings.{Reads, ReadsOn, ReadsPast, IsQuietUntil, reads_past};
 
 use crate::inputs::whole_lines;
 use crate::streams::{StreamFault, TextIn};
@@ -78,8 +78,11 @@ pub(crate) fn read_on<R: TextIn>(
         (R.remaining reader.old) (R.remaining reader.new) (R.has_failed reader.new)) }
     ensures quiet { IsQuietUntil (R.remaining reader.old) (R.before reader.new) }
     ensures failed { OnErr result (R.has_failed reader.new ≡ false) }
-    ensures calls { R.calls reader.new + length script.old.items
-        ≤ R.calls reader.old + length script.new.items + 1 }
+    ensures calls { MatchResult result
+        (λ progress. R.calls reader.new + length script.old.items
+        ≤ R.calls reader.old + length script.new.items + reads_past progress)
+        (λ _. R.calls reader.new + length script.old.items
+        ≤ R.calls reader.old + length script.new.items + 1) }
 {
     let mut block = [0u8; 8192];
     while script.len() < MAX_SCRIPT_BYTES {
