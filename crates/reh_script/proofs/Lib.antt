@@ -12,7 +12,7 @@ pub mod Cuts
 pub mod Turns
 pub mod Steps
 pub mod Answered
-pub mod Reads
+pub mod ReadLaws
 pub mod Enough
 pub mod Transcripts
 pub mod Sitting

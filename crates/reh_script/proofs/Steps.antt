@@ -129,7 +129,7 @@ at_first place lines x old =
     (is_at_start place lines x old)
 
 pub goes_to_end : {S : Type 0} (place : Setting S) (lines : List (List ℕ)) (number : ℕ) (x y : Player S)
-    (old new : Option (List ℕ)) → GoesOn place 0 lines number x y old new → LeadsTo place lines (Ok tt) x y old new
+    (old new : Option (List ℕ)) → GoesOn place 0 lines number [] x y old new → LeadsTo place lines (Ok tt) x y old new
 goes_to_end place lines number x y old new goes =
     all_answered place lines [] number x y old new (goes lines [] x old (at_first place lines x old)) refl
 

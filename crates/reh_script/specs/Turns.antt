@@ -70,12 +70,13 @@ pub record IsAt {S : Type 0} (place : Setting S) (all left : List (List ℕ)) (n
   pub taken : TakesAll place x 1 done text y
   pub written : Appends old mid text
 
--- Lines behind so many others were taken and answered, whatever these are and whatever follows.
-abbrev pub GoesOn : {S : Type 0} → Setting S → ℕ → List (List ℕ) → ℕ → Player S → Player S → Option (List ℕ)
-    → Option (List ℕ) → Type 0
-GoesOn {S} place before lines number x y old new =
+-- Of lines behind so many others the first were taken and answered, and these are left, whatever stands before them and
+-- follows.
+abbrev pub GoesOn : {S : Type 0} → Setting S → ℕ → List (List ℕ) → ℕ → List (List ℕ) → Player S → Player S
+    → Option (List ℕ) → Option (List ℕ) → Type 0
+GoesOn {S} place before lines number left x y old new =
     (all rest : List (List ℕ)) (start : Player S) (first : Option (List ℕ))
-    → IsAt place all (lines ++ rest) before start x first old → IsAt place all rest number start y first new
+    → IsAt place all (lines ++ rest) before start x first old → IsAt place all (left ++ rest) number start y first new
 
 -- One of them was not answered, for this fault.
 abbrev pub Halts : {S : Type 0} → Setting S → ℕ → List (List ℕ) → PlayFault → Player S → Player S → Option (List ℕ)

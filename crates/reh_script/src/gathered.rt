@@ -78,7 +78,6 @@ impl<W: TextOut + Drop> TextOut for Gathered<W> {
         Ok(bytes.len())
     }
 
-    #[tactic(auto, using(crate::proofs::Gathering::grows_on))]
     fn flush(&mut self) -> Result<(), StreamFault> {
         self.send()?;
         self.inner.flush()

@@ -1,5 +1,5 @@
 // Answering the lines of a script.
-ghost use Rattle.std.specs.Prelude.{◌≡◌, ◌+◌, ◌^◌, ◌≤◌, ◌<◌, ◌++◌, ◌⊎◌, ℕ, List, None, true, false, Ok, Err, length};
+ghost use Rattle.std.specs.Prelude.{◌≡◌, ◌+◌, ◌^◌, ◌≤◌, ◌<◌, ◌++◌, ◌⊎◌, ℕ, List, [], None, true, false, Ok, Err, length};
 ghost use Rattle.std.specs.Prelude.{string_bytes, IfOk, IfErr, OnOk, OnErr, MatchResult};
 ghost use Rattle.std.specs.Io.KnownBytes.{Appends};
 ghost use Rattle.reh_script.specs.Answers.{asked};
@@ -234,7 +234,7 @@ fn answer_lines<C: Counter, V: Surveyor, W: TextOut>(
     requires few { before + length text.now < 2 ^ 64 }
     ensures may { C.may counter.new seat.new }
     ensures ok { IfOk result (λ number. GoesOn (setting C.goes C.scene tools.now.names.now)
-        before (lines_of text.now) number
+        before (lines_of text.now) number []
         (player counter.old seat.old hand.old) (player counter.new seat.new hand.new)
         (W.contents writer.old) (W.contents writer.new)) }
     ensures few { IfOk result (λ number. number ≤ before + length text.now) }

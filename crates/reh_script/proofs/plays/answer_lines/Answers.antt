@@ -42,3 +42,6 @@ returns-clause-ok g c = λ all rest start first at.
     (ls ++ rest) c.loop-rest.number start (player c.loop-rest.counter c.loop-rest.seat c.loop-rest.hand) first
     (g.W.TextOut.contents c.loop-rest.writer))
     (none_left c.loop-rest.rest.now (sym c.loop-rest-test.ensures)) (c.loop-rest.invariant.at all rest start first at)
+
+pub returns-in-Err-write_all-clause-seen : goal.returns-in-Err-write_all-clause-seen
+returns-in-Err-write_all-clause-seen g c = grows_on _ _ _ c.loop-rest.invariant.seen c.write_all.ensures.seen

@@ -7,7 +7,7 @@ use Rattle.reh_script.specs.Readings.{reads_past}
 use Rattle.reh_script.specs.Turns.{player, IsAt}
 use Rattle.reh_script.specs.declared.readings.Progress.{Progress}
 use Rattle.reh_script.specs.declared.readings.Progress.TheVariants.{Lines, End, Failed, TooLong}
-use Rattle.reh_script.proofs.Reads.{Stands}
+use Rattle.reh_script.proofs.ReadLaws.{Stands}
 use Rattle.reh_script.proofs.plays.answer_reads.Given as goal
 
 -- the lines of the first bytes were answered, and before the last read their answers could be seen

@@ -104,7 +104,7 @@ at_part place first part rest k x y old mid ends at =
 -- they were answered
 pub part_goes : {S : Type 0} (place : Setting S) (first part : List ℕ) (k n : ℕ) (x y z : Player S)
     (old mid new : Option (List ℕ)) → ended first ≡ first → IsAt place (lines_of first) [] k x y old mid
-    → GoesOn place k (lines_of part) n y z mid new → IsAt place (lines_of (first ++ part)) [] n x z old new
+    → GoesOn place k (lines_of part) n [] y z mid new → IsAt place (lines_of (first ++ part)) [] n x z old new
 part_goes place first part k n x y z old mid new ends at goes =
     subst (λ (all : List (List ℕ)). IsAt place all [] n x z old new) (append-nil (lines_of (first ++ part)))
     (goes (lines_of (first ++ part) ++ []) [] x old (at_part place first part [] k x y old mid ends at))
