@@ -106,3 +106,24 @@ ended-stays xs ys =
           )
       | false ↦ λ none. ([], ended-quiet xs ys none ∙ sym (append-nil (ended xs)))
     ] refl
+
+-- lines that end stay all
+has_lf-ended : (xs : List ℕ) → has_lf (ended xs) ≡ has_lf xs
+has_lf-ended [] = refl
+has_lf-ended (b ∷ bs) =
+    elim (has_lf (b ∷ bs)) as (λ t. has_lf (b ∷ bs) ≡ t → has_lf (cond t (b ∷ ended bs) []) ≡ t) [
+      | true ↦ λ some. ap (λ (t : Bool). (b == 10) || t) (has_lf-ended bs) ∙ some
+      | false ↦ λ none. refl
+    ] refl
+
+pub ended_twice : (xs : List ℕ) → ended (ended xs) ≡ ended xs
+ended_twice [] = refl
+ended_twice (b ∷ bs) =
+    elim (has_lf (b ∷ bs)) as
+    (λ t. has_lf (b ∷ bs) ≡ t → ended (cond t (b ∷ ended bs) []) ≡ cond t (b ∷ ended bs) []) [
+      | true ↦ λ some.
+          ap (λ (t : Bool). cond t (b ∷ ended (ended bs)) [])
+          (ap (λ (t : Bool). (b == 10) || t) (has_lf-ended bs) ∙ some)
+          ∙ ap (λ (text : List ℕ). b ∷ text) (ended_twice bs)
+      | false ↦ λ none. refl
+    ] refl

@@ -1,28 +1,30 @@
 -- How a play reads on in its script and answers the lines that are complete.
 use Rattle.std.proofs.Common.{◌≡◌, ℕ, ◌+◌, ◌-◌, ◌<◌, ◌≤◌, ◌⊎◌, inl, inr, Bool, true, false, List, [], ◌∷◌, ◌++◌, length}
-use Rattle.std.proofs.Common.{take, drop, Option, None, Some, Ok, Err, refl, sym, ap, ◌∙◌, subst, arith, append-nil}
+use Rattle.std.proofs.Common.{take, drop, Option, None, Some, Result, Ok, Err, refl, sym, ap, ◌∙◌, subst, arith, append-nil}
 use Rattle.std.proofs.Common.{length-append}
 use Rattle.std.specs.Prelude.{IfSome}
 use mathlib.Core.List.{append_assoc}
 use Rattle.std.proofs.Math.Seq.{take-add}
-use Rattle.std.proofs.lemmas.List.{take_at, take-append-le, take-append-drop}
+use Rattle.std.proofs.lemmas.List.{take_at, take_rest, take-append-le, take-append-drop, length-drop, length-take-le}
 use Rattle.std.proofs.KnownBytes.{Appends-trans, Consumes-nil, Consumes-trans, Consumes-whole}
 use Rattle.std.specs.Io.KnownBytes.{Appends, Consumes, Keeps, IsAtEnd}
 use Rattle.reh_types.specs.declared.limits.TheConstants.{MAX_SCRIPT_BYTES}
 use Rattle.reh_script.specs.Lines.{lines_of, ended, answered_lines}
 use Rattle.reh_script.specs.Players.{Setting, Player, TakesAll, Ends}
 use Rattle.reh_script.specs.Plays.{stop_of, Plays, StopsBetween, GoesOut}
-use Rattle.reh_script.specs.Readings.{IsQuiet, ReadsOn}
+use Rattle.reh_script.specs.Readings.{IsQuiet, ReadsOn, reads_past}
 use Rattle.reh_script.specs.Streams.{Grows}
-use Rattle.reh_script.specs.Turns.{IsAt, GoesOn, Halts, LeadsTo, PlaysTo}
+use Rattle.reh_script.specs.Turns.{player, with_ticket, IsAt, GoesOn, Halts, LeadsTo, PlaysTo}
+use Rattle.reh_desk.specs.Numbered.{Numbered}
+use Rattle.reh_desk.specs.Seats.{SeatView}
 use Rattle.reh_script.specs.declared.faults.PlayFault.{PlayFault}
 use Rattle.reh_script.specs.declared.faults.PlayFault.TheVariants.{ReadFault, TooLong, WriteFault, NoMemory}
 use Rattle.reh_script.specs.declared.readings.Progress.{Progress}
 use Rattle.reh_script.specs.declared.readings.Progress.TheVariants as progress
 use Rattle.reh_script.proofs.Answered.{not_script, answered_lines-long, answered_lines-failed, answered_lines-whole}
 use Rattle.reh_script.proofs.Answered.{answered_front, stop_of-long, stop_of-within, stops_early, ends_well, ends_stopped}
-use Rattle.reh_script.proofs.Parts.{lines_of-ended, ended-quiet}
-use Rattle.reh_script.proofs.Steps.{is_at_more, all_answered}
+use Rattle.reh_script.proofs.Parts.{lines_of-ended, ended-quiet, ended_twice}
+use Rattle.reh_script.proofs.Steps.{is_at_more, is_at_kept, all_answered}
 
 -- Where a play stands that has answered the lines of so many bytes of its script, after it has read on.
 abbrev pub Stands : Progress → ℕ → List ℕ → Option (List ℕ) → Option (List ℕ) → Bool → Type 0
@@ -150,11 +152,11 @@ stops_within place fault script left_old left x y old new given within leads = �
 
 -- a play that breaks off behind them
 breaks_off : {S : Type 0} (place : Setting S) (fault : PlayFault) (script : List ℕ)
-    (left_old left : Option (List ℕ)) (k : ℕ) (x y : Player S) (old new : Option (List ℕ))
+    (left_old left next : Option (List ℕ)) (k : ℕ) (x y : Player S) (old new : Option (List ℕ))
     → (fault ≡ NoMemory) ⊎ (fault ≡ WriteFault) → Consumes left_old left script → length script ≤ MAX_SCRIPT_BYTES
     → IsAt place (lines_of (ended script)) [] k x y old new
-    → PlaysTo place (Err fault) false left_old left x y old new
-breaks_off place fault script left_old left k x y old new is given within at = λ z ends.
+    → PlaysTo place (Err fault) false left_old next x y old new
+breaks_off place fault script left_old left next k x y old new is given within at = λ z ends.
     let behind = told left_old left script given in
     let front = answered_front script behind.0 within in
     let stops : StopsBetween place (answered_lines false (script ++ behind.0)) x z old new = record {
@@ -177,13 +179,13 @@ breaks_off place fault script left_old left k x y old new is given within at = �
     }
 
 pub lacks_memory : {S : Type 0} (place : Setting S) (script : List ℕ)
-    (left_old left : Option (List ℕ)) (failed : Bool) (k : ℕ) (x y : Player S) (old new : Option (List ℕ))
+    (left_old left next : Option (List ℕ)) (failed : Bool) (k : ℕ) (x y : Player S) (old new : Option (List ℕ))
     → Consumes left_old left script → length script ≤ MAX_SCRIPT_BYTES → failed ≡ false
     → IsAt place (lines_of (ended script)) [] k x y old new
-    → PlaysTo place (Err NoMemory) failed left_old left x y old new
-lacks_memory place script left_old left failed k x y old new given within fine at =
-    subst (λ (f : Bool). PlaysTo place (Err NoMemory) f left_old left x y old new) (sym fine)
-    (breaks_off place NoMemory script left_old left k x y old new (inl refl) given within at)
+    → PlaysTo place (Err NoMemory) failed left_old next x y old new
+lacks_memory place script left_old left next failed k x y old new given within fine at =
+    subst (λ (f : Bool). PlaysTo place (Err NoMemory) f left_old next x y old new) (sym fine)
+    (breaks_off place NoMemory script left_old left next k x y old new (inl refl) given within at)
 
 pub keeps_back : {S : Type 0} (place : Setting S) (script : List ℕ)
     (left_old left : Option (List ℕ)) (failed : Bool) (k : ℕ) (x y : Player S) (old new : Option (List ℕ))
@@ -192,7 +194,58 @@ pub keeps_back : {S : Type 0} (place : Setting S) (script : List ℕ)
     → PlaysTo place (Err WriteFault) failed left_old left x y old new
 keeps_back place script left_old left failed k x y old new given within fine at =
     subst (λ (f : Bool). PlaysTo place (Err WriteFault) f left_old left x y old new) (sym fine)
-    (breaks_off place WriteFault script left_old left k x y old new (inr refl) given within at)
+    (breaks_off place WriteFault script left_old left left k x y old new (inr refl) given within at)
+
+-- no ticket is at hand
+pub holds_none : {S : Type 0} (place : Setting S) (result : Result (Unit {0}) PlayFault) (failed : Bool)
+    (left_old left : Option (List ℕ)) (x : Player S) (s : S) (seat : SeatView) (hand : List Numbered)
+    (old new : Option (List ℕ)) → PlaysTo place result failed left_old left x (player s seat hand) old new
+    → PlaysTo place result failed left_old left x (with_ticket s seat hand None) old new
+holds_none place result failed left_old left x s seat hand old new plays =
+    subst (λ (h : List Numbered). PlaysTo place result failed left_old left x (player s seat h) old new)
+    (sym (append-nil hand)) plays
+
+-- The lines that are complete
+
+pub lines_stand : (p : Progress) (end done : ℕ) (script : List ℕ) (left_old left : Option (List ℕ)) (failed : Bool)
+    → p ≡ progress.Lines end → Stands p done script left_old left failed
+    → Stands (progress.Lines end) done script left_old left failed
+lines_stand p end done script left_old left failed is stands =
+    subst (λ (q : Progress). Stands q done script left_old left failed) is stands
+
+whole_part : (done end : ℕ) (script : List ℕ) → done ≤ end → take end script ≡ ended script
+    → take done script ++ take (end - done) (drop done script) ≡ ended script
+whole_part done end script order all = sym (joined done end script order) ∙ all
+
+-- they are answered
+pub answered_to : {S : Type 0} (place : Setting S) (p : Progress) (end done number n : ℕ) (script : List ℕ)
+    (left_old left : Option (List ℕ)) (failed : Bool) (x y z : Player S) (old mid new : Option (List ℕ))
+    → p ≡ progress.Lines end → Stands p done script left_old left failed
+    → ended (take done script) ≡ take done script → IsAt place (lines_of (take done script)) [] number x y old mid
+    → GoesOn place number (lines_of (take (end - done) (drop done script))) n [] y z mid new
+    → IsAt place (lines_of (ended script)) [] n x z old new
+answered_to place p end done number n script left_old left failed x y z old mid new is stands whole at goes =
+    let lines = lines_stand p end done script left_old left failed is stands in
+    subst (λ (t : List ℕ). IsAt place (lines_of t) [] n x z old new)
+    (whole_part done end script lines.0 lines.2)
+    (part_goes place (take done script) (take (end - done) (drop done script)) number n x y z old mid new whole at goes)
+
+-- or one of them is not
+pub stops_among : {S : Type 0} (place : Setting S) (p : Progress) (fault : PlayFault) (end done number : ℕ)
+    (script : List ℕ) (left_old left : Option (List ℕ)) (failed : Bool) (x y z : Player S)
+    (old mid new : Option (List ℕ)) → p ≡ progress.Lines end → Stands p done script left_old left failed
+    → ended (take done script) ≡ take done script → length script ≤ MAX_SCRIPT_BYTES
+    → IsAt place (lines_of (take done script)) [] number x y old mid
+    → Halts place number (lines_of (take (end - done) (drop done script))) fault y z mid new
+    → PlaysTo place (Err fault) failed left_old left x z old new
+stops_among place p fault end done number script left_old left failed x y z old mid new is stands whole within at halts =
+    let lines = lines_stand p end done script left_old left failed is stands in
+    subst (λ (f : Bool). PlaysTo place (Err fault) f left_old left x z old new) (sym lines.4)
+    (stops_within place fault script left_old left x z old new lines.3 within (λ rest.
+    subst (λ (t : List ℕ). LeadsTo place (lines_of t ++ rest) (Err fault) x z old new)
+    (whole_part done end script lines.0 lines.2)
+    (part_halts place (take done script) (take (end - done) (drop done script)) number fault x y z old mid new rest
+    whole at halts)))
 
 -- a play behind whose script a read failed
 pub ends_failed : {S : Type 0} (place : Setting S) (script : List ℕ) (left_old left : Option (List ℕ)) (failed : Bool)
@@ -281,6 +334,47 @@ keeps_last place script left_old left failed k x y old new given end within fine
       });
     })
 
+-- The last line, which no LF ends
+
+-- where the script ends
+pub end_stands : (p : Progress) (done : ℕ) (script : List ℕ) (left_old left : Option (List ℕ)) (failed : Bool)
+    → ((end : ℕ) → p ≡ progress.Lines end → ⊥) → ((end : ℕ) × (p ≡ progress.Lines end)) ⊎ (p ≡ progress.End)
+    → Stands p done script left_old left failed → Stands progress.End done script left_old left failed
+end_stands p done script left_old left failed not (inl lines) stands = absurd (not lines.0 lines.1)
+end_stands p done script left_old left failed not (inr is) stands =
+    subst (λ (q : Progress). Stands q done script left_old left failed) is stands
+
+pub end_calls : (p : Progress) → ((end : ℕ) → p ≡ progress.Lines end → ⊥)
+    → ((end : ℕ) × (p ≡ progress.Lines end)) ⊎ (p ≡ progress.End) → reads_past p ≡ 1
+end_calls p not (inl lines) = absurd (not lines.0 lines.1)
+end_calls p not (inr is) = ap reads_past is
+
+all_parts : (done : ℕ) (script : List ℕ) → take done script ++ take (length script - done) (drop done script) ≡ script
+all_parts done script =
+    ap (λ (t : List ℕ). take done script ++ t) (take_rest script done) ∙ take-append-drop done script
+
+pub answered_last : {S : Type 0} (place : Setting S) (done number n : ℕ) (script : List ℕ) (x y z : Player S)
+    (old mid new : Option (List ℕ)) → ended (take done script) ≡ take done script
+    → IsAt place (lines_of (take done script)) [] number x y old mid
+    → GoesOn place number (lines_of (take (length script - done) (drop done script))) n [] y z mid new
+    → IsAt place (lines_of script) [] n x z old new
+answered_last place done number n script x y z old mid new whole at goes =
+    subst (λ (t : List ℕ). IsAt place (lines_of t) [] n x z old new) (all_parts done script)
+    (part_goes place (take done script) (take (length script - done) (drop done script)) number n x y z old mid new whole
+    at goes)
+
+pub stops_at_last : {S : Type 0} (place : Setting S) (fault : PlayFault) (done number : ℕ) (script : List ℕ)
+    (left_old left : Option (List ℕ)) (failed : Bool) (x y z : Player S) (old mid new : Option (List ℕ))
+    → Stands progress.End done script left_old left failed → ended (take done script) ≡ take done script
+    → length script ≤ MAX_SCRIPT_BYTES → IsAt place (lines_of (take done script)) [] number x y old mid
+    → Halts place number (lines_of (take (length script - done) (drop done script))) fault y z mid new
+    → PlaysTo place (Err fault) failed left_old left x z old new
+stops_at_last place fault done number script left_old left failed x y z old mid new stands whole within at halts =
+    stops_last place fault script left_old left failed x z old new stands.1 stands.2 within stands.3
+    (subst (λ (t : List ℕ). LeadsTo place (lines_of t ++ []) (Err fault) x z old new) (all_parts done script)
+    (part_halts place (take done script) (take (length script - done) (drop done script)) number fault x y z old mid new
+    [] whole at halts))
+
 -- the answers to all complete lines could be seen when the reader was read
 pub goes_out : {S : Type 0} (place : Setting S) (script quiet : List ℕ) (left_old left before : Option (List ℕ)) (k : ℕ)
     (x y : Player S) (old mid shown : Option (List ℕ)) → Consumes left_old left script → IsQuiet quiet
@@ -319,3 +413,43 @@ out_grown place unread left_old before x old shown grown (inr out) more = inr (r
 pub stands_first : (left : Option (List ℕ)) (failed : Bool) → failed ≡ false
     → Stands (progress.Lines 0) 0 [] left left failed
 stands_first left failed fine = (omega arith, omega arith, refl, Consumes-nil left, fine)
+
+-- the bytes whose lines were answered, after more was read
+pub still_at : {S : Type 0} (place : Setting S) (end n : ℕ) (script new : List ℕ) (p : Progress)
+    (left next : Option (List ℕ)) (failed : Bool) (x y : Player S) (old mid kept : Option (List ℕ))
+    → end ≤ length script → take end script ≡ ended script → ReadsOn p script new left next failed
+    → IsAt place (lines_of (ended script)) [] n x y old mid → Keeps mid kept
+    → IsAt place (lines_of (take end new)) [] n x y old kept
+still_at place end n script new p left next failed x y old mid kept within all reads at keeps =
+    let more = grown_by p script new left next failed reads in
+    subst (λ (t : List ℕ). IsAt place (lines_of t) [] n x y old kept)
+    (sym (front_stays end script new more.0 within more.1 ∙ all))
+    (is_at_kept place (lines_of (ended script)) [] n x y old mid kept at keeps)
+
+pub still_whole : (end : ℕ) (script new : List ℕ) (p : Progress) (left next : Option (List ℕ)) (failed : Bool)
+    → end ≤ length script → take end script ≡ ended script → ReadsOn p script new left next failed
+    → ended (take end new) ≡ take end new
+still_whole end script new p left next failed within all reads =
+    let more = grown_by p script new left next failed reads in
+    let is : take end new ≡ ended script = front_stays end script new more.0 within more.1 ∙ all in
+    ap ended is ∙ ended_twice script ∙ sym is
+
+pub still_within : (end : ℕ) (script new : List ℕ) (p : Progress) (left next : Option (List ℕ)) (failed : Bool)
+    → end ≤ length script → ReadsOn p script new left next failed → end ≤ length new
+still_within end script new p left next failed within reads =
+    let more = grown_by p script new left next failed reads in
+    omega (arith, within, ap length more.1, length-append script more.0)
+
+-- there are no more lines than bytes
+pub count_within : (done end number n : ℕ) (script : List ℕ) → done ≤ end → end ≤ length script → number ≤ done
+    → n ≤ number + length (take (end - done) (drop done script)) → n ≤ end
+count_within done end number n script order within few more =
+    let room : end - done ≤ length (drop done script) = omega (arith, length-drop done script) in
+    omega (arith, more, length-take-le (end - done) (drop done script) room)
+
+pub lines_answered : {S : Type 0} (place : Setting S) (done number : ℕ) (script : List ℕ) (x y : Player S)
+    (old mid : Option (List ℕ)) → take done script ≡ ended script
+    → IsAt place (lines_of (take done script)) [] number x y old mid
+    → IsAt place (lines_of (ended script)) [] number x y old mid
+lines_answered place done number script x y old mid all at =
+    subst (λ (t : List ℕ). IsAt place (lines_of t) [] number x y old mid) all at

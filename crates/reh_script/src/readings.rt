@@ -78,6 +78,7 @@ pub(crate) fn read_on<R: TextIn>(
         (R.remaining reader.old) (R.remaining reader.new) (R.has_failed reader.new)) }
     ensures quiet { IsQuietUntil (R.remaining reader.old) (R.before reader.new) }
     ensures failed { OnErr result (R.has_failed reader.new ≡ false) }
+    ensures few { length script.new.items ≤ MAX_SCRIPT_BYTES }
     ensures calls { MatchResult result
         (λ progress. R.calls reader.new + length script.old.items
         ≤ R.calls reader.old + length script.new.items + reads_past progress)
