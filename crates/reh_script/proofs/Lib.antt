@@ -8,6 +8,7 @@ pub mod EndedLaws
 pub mod Parts
 pub mod Gathering
 pub mod ReadingOn
+pub mod HeadLaws
 pub mod Cuts
 pub mod Turns
 pub mod Steps

@@ -8,6 +8,7 @@ pub mod Hand
 pub mod Transcript
 pub mod Readings
 pub mod Streams
+pub mod Heads
 pub mod Players
 pub mod Plays
 pub mod Turns

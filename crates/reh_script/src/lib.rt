@@ -8,6 +8,7 @@ mod desk_plays;
 mod faults;
 mod gathered;
 mod hand;
+mod heads;
 mod inputs;
 mod openings;
 mod pieces;
