@@ -6,8 +6,8 @@ use Rattle.std.specs.Prelude.{IfSome}
 use mathlib.Core.List.{append_assoc}
 use Rattle.std.proofs.Math.Seq.{take-add}
 use Rattle.std.proofs.lemmas.List.{take_at, take_rest, take-append-le, take-append-drop, length-drop, length-take-le}
-use Rattle.std.proofs.KnownBytes.{Appends-trans, Consumes-nil, Consumes-trans, Consumes-whole}
-use Rattle.std.specs.Io.KnownBytes.{Appends, Consumes, Keeps, IsAtEnd}
+use Rattle.std.proofs.KnownBytes.{Appends-trans, Consumes-trans, Consumes-whole}
+use Rattle.std.specs.Io.KnownBytes.{Appends, Consumes, Keeps, IsAtEnd, prepend_known}
 use Rattle.reh_types.specs.declared.limits.TheConstants.{MAX_SCRIPT_BYTES}
 use Rattle.reh_script.specs.Lines.{lines_of, ended, answered_lines}
 use Rattle.reh_script.specs.Players.{Setting, Player, TakesAll, Ends}
@@ -23,7 +23,7 @@ use Rattle.reh_script.specs.declared.readings.Progress.{Progress}
 use Rattle.reh_script.specs.declared.readings.Progress.TheVariants as progress
 use Rattle.reh_script.proofs.Answered.{not_script, answered_lines-long, answered_lines-failed, answered_lines-whole}
 use Rattle.reh_script.proofs.Answered.{answered_front, stop_of-long, stop_of-within, stops_early, ends_well, ends_stopped}
-use Rattle.reh_script.proofs.Parts.{lines_of-ended, ended-quiet, ended_twice}
+use Rattle.reh_script.proofs.Parts.{lines_of-ended, ended-front, ended-quiet, ended_twice}
 use Rattle.reh_script.proofs.Steps.{is_at_more, is_at_kept, all_answered}
 
 -- Where a play stands that has answered the lines of so many bytes of its script, after it has read on.
@@ -409,10 +409,22 @@ out_grown place unread left_old before x old shown grown (inr out) more = inr (r
   );
 })
 
--- before anything was read
-pub stands_first : (left : Option (List ℕ)) (failed : Bool) → failed ≡ false
-    → Stands (progress.Lines 0) 0 [] left left failed
-stands_first left failed fine = (omega arith, omega arith, refl, Consumes-nil left, fine)
+-- before a play reads on
+at_hand : (script : List ℕ) (left : Option (List ℕ)) → Consumes (prepend_known script left) left script
+at_hand script None = tt
+at_hand script (Some rest) = refl
+
+pub stands_first : (script first : List ℕ) (left : Option (List ℕ)) (failed : Bool) → first ≡ ended script
+    → failed ≡ false → Stands (progress.Lines (length first)) 0 script (prepend_known script left) left failed
+stands_first script first left failed is fine =
+    let back = ended-front script in (
+      omega arith,
+      omega (arith, ap length is, ap length back.1, length-append (ended script) back.0),
+      ap (λ (text : List ℕ). take (length text) script) is ∙ ap (take (length (ended script))) back.1
+          ∙ take_at (ended script) back.0 (length (ended script)) refl,
+      at_hand script left,
+      fine,
+    )
 
 -- the bytes whose lines were answered, after more was read
 pub still_at : {S : Type 0} (place : Setting S) (end n : ℕ) (script new : List ℕ) (p : Progress)

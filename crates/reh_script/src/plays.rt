@@ -1,7 +1,7 @@
 // Answering the lines of a script.
 ghost use Rattle.std.specs.Prelude.{◌≡◌, ◌+◌, ◌^◌, ◌≤◌, ◌<◌, ◌++◌, ◌⊎◌, ℕ, List, [], None, true, false, Ok, Err, length};
 ghost use Rattle.std.specs.Prelude.{string_bytes, IfOk, IfErr, OnOk, OnErr, MatchResult};
-ghost use Rattle.std.specs.Io.KnownBytes.{Appends};
+ghost use Rattle.std.specs.Io.KnownBytes.{Appends, prepend_known};
 ghost use Rattle.reh_script.specs.Answers.{asked};
 ghost use Rattle.reh_script.specs.Lines.{lines_of, answered_lines};
 ghost use Rattle.reh_script.specs.Players.{setting, seated, Takes, Begins};
@@ -94,13 +94,45 @@ pub fn play<C: Counter, V: Surveyor, R: TextIn, W: TextOut>(
     ensures write { W.has_failed writer.new ≡ is_write_fault result }
     ensures calls { R.calls reader.new ≤ R.calls reader.old + (MAX_SCRIPT_BYTES + 1) }
 {
-    let mut hand = Hand::new(alloc)?;
+    let hand = Hand::new(alloc)?;
     let tools = Tools {
         alloc,
         names,
         surveyor,
     };
-    match answer_reads(&tools, counter, seat, &mut hand, reader, writer) {
+    let script = Vec::new(alloc);
+    play_on(&tools, counter, seat, hand, script, reader, writer)
+}
+
+/// Plays a script whose first bytes are at hand, and gives the hand back.
+pub(crate) fn play_on<C: Counter, V: Surveyor, R: TextIn, W: TextOut>(
+    tools: &Tools<V>,
+    counter: &mut C,
+    seat: &mut Seat,
+    hand: Hand,
+    script: Vec<u8>,
+    reader: &mut R,
+    writer: &mut W,
+) -> Result<(), PlayFault>
+    requires may { C.may counter.old seat.old }
+    requires surveys { V.surveys tools.now.surveyor.now }
+    requires few { length script.items ≤ MAX_SCRIPT_BYTES }
+    requires reads { R.has_failed reader.old ≡ false }
+    requires writes { W.has_failed writer.old ≡ false }
+    ensures may { C.may counter.new seat.new }
+    ensures plays { Plays (setting C.goes C.scene tools.now.names.now) result (R.has_failed reader.new)
+        (prepend_known script.items (R.remaining reader.old)) (R.remaining reader.new)
+        (player counter.old seat.old hand) (seated counter.new seat.new)
+        (W.contents writer.old) (W.contents writer.new) }
+    ensures out { (reader.new ≡ reader.old) ⊎ GoesOut (setting C.goes C.scene tools.now.names.now)
+        (prepend_known script.items (R.remaining reader.old)) (R.before reader.new)
+        (player counter.old seat.old hand) (W.contents writer.old) (W.seen writer.new) }
+    ensures seen { OnOk result (W.seen writer.new ≡ W.contents writer.new) }
+    ensures write { W.has_failed writer.new ≡ is_write_fault result }
+    ensures calls { R.calls reader.new ≤ R.calls reader.old + (MAX_SCRIPT_BYTES + 1) }
+{
+    let mut hand = hand;
+    match answer_reads(tools, counter, seat, &mut hand, script, reader, writer) {
         Ok(()) => {
             give_back(counter, seat, hand, None);
             Ok(())
@@ -113,30 +145,33 @@ pub fn play<C: Counter, V: Surveyor, R: TextIn, W: TextOut>(
     }
 }
 
-/// Reads a script and answers its lines, those that are complete before it reads on.
+/// Reads on in a script whose first bytes are at hand, and answers its lines, those that are complete before it reads on.
 fn answer_reads<C: Counter, V: Surveyor, R: TextIn, W: TextOut>(
     tools: &Tools<V>,
     counter: &mut C,
     seat: &mut Seat,
     hand: &mut Hand,
+    script: Vec<u8>,
     reader: &mut R,
     writer: &mut W,
 ) -> Result<(), Stopped>
     requires may { C.may counter.old seat.old }
     requires surveys { V.surveys tools.now.surveyor.now }
+    requires few { length script.items ≤ MAX_SCRIPT_BYTES }
     requires reads { R.has_failed reader.old ≡ false }
     requires writes { W.has_failed writer.old ≡ false }
     ensures may { C.may counter.new seat.new }
     ensures ok { OnOk result (PlaysTo (setting C.goes C.scene tools.now.names.now) (Ok tt)
-        (R.has_failed reader.new) (R.remaining reader.old) (R.remaining reader.new)
+        (R.has_failed reader.new) (prepend_known script.items (R.remaining reader.old)) (R.remaining reader.new)
         (player counter.old seat.old hand.old) (player counter.new seat.new hand.new)
         (W.contents writer.old) (W.contents writer.new)) }
     ensures err { IfErr result (λ s. PlaysTo (setting C.goes C.scene tools.now.names.now) (Err s.fault)
-        (R.has_failed reader.new) (R.remaining reader.old) (R.remaining reader.new)
+        (R.has_failed reader.new) (prepend_known script.items (R.remaining reader.old)) (R.remaining reader.new)
         (player counter.old seat.old hand.old) (with_ticket counter.new seat.new hand.new s.ticket)
         (W.contents writer.old) (W.contents writer.new)) }
     ensures out { (reader.new ≡ reader.old) ⊎ GoesOut (setting C.goes C.scene tools.now.names.now)
-        (R.remaining reader.old) (R.before reader.new) (player counter.old seat.old hand.old)
+        (prepend_known script.items (R.remaining reader.old)) (R.before reader.new)
+        (player counter.old seat.old hand.old)
         (W.contents writer.old) (W.seen writer.new) }
     ensures seen { OnOk result (W.seen writer.new ≡ W.contents writer.new) }
     ensures write { MatchResult result
@@ -144,10 +179,10 @@ fn answer_reads<C: Counter, V: Surveyor, R: TextIn, W: TextOut>(
         (λ s. W.has_failed writer.new ≡ is_write_fault (Err s.fault)) }
     ensures calls { R.calls reader.new ≤ R.calls reader.old + (MAX_SCRIPT_BYTES + 1) }
 {
-    let mut script = Vec::new(tools.alloc);
+    let mut script = script;
     let mut done = 0;
     let mut number = 0;
-    let mut read = Progress::Lines(0);
+    let mut read = Progress::Lines(whole_lines(&script).len());
     while let Progress::Lines(end) = read {
         let lines = &script[done..end];
         number = answer_lines(tools, counter, seat, hand, number, lines, writer)?;

@@ -1,16 +1,32 @@
-use Rattle.std.proofs.Common.{arith, rules, ap, subst, inr, None}
+use Rattle.std.proofs.Common.{[], arith, rules, ap, subst, refl, inl, inr, None}
+use Rattle.std.specs.Io.KnownBytes.{prepend_known}
 use Rattle.reh_script.specs.Players.{setting}
 use Rattle.reh_script.specs.Turns.{player, with_ticket, PlaysTo}
 use Rattle.reh_script.specs.declared.faults.PlayFault.TheVariants.{ReadFault, TooLong, WriteFault, NoMemory}
 use Rattle.reh_script.proofs.ReadLaws.{lines_stand, answered_to, stops_among, keeps_back, lacks_memory, holds_none}
 use Rattle.reh_script.proofs.ReadLaws.{goes_out, out_grown, stands_on, still_at, still_whole, still_within}
 use Rattle.reh_script.proofs.ReadLaws.{Stands, count_within, ends_failed, ends_long, stops_at_last, answered_last}
-use Rattle.reh_script.proofs.ReadLaws.{keeps_last, ends_whole, lines_answered, end_stands, end_calls}
+use Rattle.reh_script.proofs.ReadLaws.{keeps_last, ends_whole, lines_answered, end_stands, end_calls, stands_first}
 use Rattle.reh_script.specs.Readings.{reads_past}
 use Rattle.reh_script.specs.declared.readings.Progress.{Progress}
-use Rattle.reh_script.proofs.Steps.{is_at_kept}
+use Rattle.reh_script.proofs.Steps.{is_at_start, is_at_kept}
 use Rattle.reh_script.proofs.Turns.{if_err}
 use Rattle.reh_script.proofs.plays.answer_reads.Goals as goal
+
+pub loop-read-init : goal.loop-read-init
+loop-read-init g c = record {
+  may = c.requires.may;
+  at = is_at_start (setting g.C.Counter.goes g.C.Counter.scene c.args.tools.now.names.now) [] _ _;
+  whole = refl;
+  stands = stands_first c.args.script.items c.whole_lines.result.now _ _
+      (rw c.deref.ensures.value at c.whole_lines.ensures) c.requires.reads;
+  out = inl refl;
+  few = c.requires.few;
+  within = omega arith;
+  count = omega arith;
+  fine = c.requires.writes;
+  calls = omega arith;
+}
 
 pub returns-in_err-number-clause-err : goal.returns-in_err-number-clause-err
 returns-in_err-number-clause-err g c =
@@ -98,7 +114,7 @@ pub returns-in-Failed-clause-err : goal.returns-in-Failed-clause-err
 returns-in-Failed-clause-err g c =
     let place = setting g.C.Counter.goes g.C.Counter.scene c.args.tools.now.names.now in
     let ends = subst (λ (p : Progress). Stands p c.loop-read.done c.loop-read.script.items
-    (g.R.TextIn.remaining c.args.reader.now) (g.R.TextIn.remaining c.loop-read.reader)
+    (prepend_known c.args.script.items (g.R.TextIn.remaining c.args.reader.now)) (g.R.TextIn.remaining c.loop-read.reader)
     (g.R.TextIn.has_failed c.loop-read.reader)) c.in-Failed.is c.loop-read.invariant.stands in
     rw c.of.ensures (holds_none place _ _ _ _ _ _ _ _ _ _ (ends_failed place c.loop-read.script.items _ _ _ _ _ _ _ _
     ends.1 c.loop-read.invariant.few ends.2
@@ -108,7 +124,7 @@ pub returns-in-TooLong-clause-err : goal.returns-in-TooLong-clause-err
 returns-in-TooLong-clause-err g c =
     let place = setting g.C.Counter.goes g.C.Counter.scene c.args.tools.now.names.now in
     let ends = subst (λ (p : Progress). Stands p c.loop-read.done c.loop-read.script.items
-    (g.R.TextIn.remaining c.args.reader.now) (g.R.TextIn.remaining c.loop-read.reader)
+    (prepend_known c.args.script.items (g.R.TextIn.remaining c.args.reader.now)) (g.R.TextIn.remaining c.loop-read.reader)
     (g.R.TextIn.has_failed c.loop-read.reader)) c.in-TooLong.is c.loop-read.invariant.stands in
     rw c.of-in-TooLong.ensures (holds_none place _ _ _ _ _ _ _ _ _ _ (ends_long place c.loop-read.script.items ends.0 _ _ _ _
     _ _ _ _ ends.2 ends.3 ends.4

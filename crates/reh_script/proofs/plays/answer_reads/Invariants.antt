@@ -1,4 +1,5 @@
 use Rattle.std.proofs.Common.{◌≡◌, ℕ, ◌+◌, ◌-◌, ◌≤◌, ◌⊎◌, [], length, take, false}
+use Rattle.std.specs.Io.KnownBytes.{prepend_known}
 use Rattle.reh_types.specs.declared.limits.TheConstants.{MAX_SCRIPT_BYTES}
 use Rattle.reh_script.specs.Lines.{lines_of, ended}
 use Rattle.reh_script.specs.Players.{setting}
@@ -19,11 +20,11 @@ invariant-loop-read g l = record {
       (player l.fn.counter l.fn.seat l.fn.hand) (player l.counter l.seat l.hand)
       (g.W.TextOut.contents l.fn.writer) (g.W.TextOut.contents l.writer);
   whole : ended (take l.done l.script.items) ≡ take l.done l.script.items;
-  stands : Stands l.read l.done l.script.items (g.R.TextIn.remaining l.fn.reader) (g.R.TextIn.remaining l.reader)
-      (g.R.TextIn.has_failed l.reader);
+  stands : Stands l.read l.done l.script.items (prepend_known l.fn.script.items (g.R.TextIn.remaining l.fn.reader))
+      (g.R.TextIn.remaining l.reader) (g.R.TextIn.has_failed l.reader);
   out : (l.reader ≡ l.fn.reader) ⊎ GoesOut (setting g.C.Counter.goes g.C.Counter.scene l.fn.tools.names.now)
-      (g.R.TextIn.remaining l.fn.reader) (g.R.TextIn.before l.reader) (player l.fn.counter l.fn.seat l.fn.hand)
-      (g.W.TextOut.contents l.fn.writer) (g.W.TextOut.seen l.writer);
+      (prepend_known l.fn.script.items (g.R.TextIn.remaining l.fn.reader)) (g.R.TextIn.before l.reader)
+      (player l.fn.counter l.fn.seat l.fn.hand) (g.W.TextOut.contents l.fn.writer) (g.W.TextOut.seen l.writer);
   few : length l.script.items ≤ MAX_SCRIPT_BYTES;
   within : l.done ≤ length l.script.items;
   count : l.number ≤ l.done;

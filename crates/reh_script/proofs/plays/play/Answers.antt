@@ -1,5 +1,7 @@
+use Rattle.std.proofs.Common.{◌≡◌, ◌⊎◌, ℕ, List, Option, subst}
+use Rattle.std.proofs.KnownBytes.{prepend_known-nil}
 use Rattle.reh_script.specs.Players.{setting, seated}
-use Rattle.reh_script.specs.Turns.{with_ticket}
+use Rattle.reh_script.specs.Plays.{Plays, GoesOut}
 use Rattle.reh_script.proofs.Enough.{plays_nothing}
 use Rattle.reh_script.proofs.plays.play.Goals as goal
 
@@ -8,3 +10,21 @@ returns-in_err-hand-clause-plays g c =
     plays_nothing
     (setting g.C.Counter.goes g.C.Counter.scene c.args.names.now) _ _ _ _ _ _ _ c.from_residual.ensures.1
     c.requires.reads
+
+pub returns-clause-plays : goal.returns-clause-plays
+returns-clause-plays g c =
+    subst (λ (left : Option (List ℕ)). Plays (setting g.C.Counter.goes g.C.Counter.scene c.args.names.now)
+    c.play_on.result (g.R.TextIn.has_failed c.play_on.new.reader) left (g.R.TextIn.remaining c.play_on.new.reader)
+    (seated c.args.counter.now c.args.seat.now) (seated c.play_on.new.counter c.play_on.new.seat)
+    (g.W.TextOut.contents c.args.writer.now) (g.W.TextOut.contents c.play_on.new.writer))
+    (prepend_known-nil (g.R.TextIn.remaining c.args.reader.now))
+    (rw (c.new-script.ensures.items, c.in_ok-hand.ensures) at c.play_on.ensures.plays)
+
+pub returns-clause-out : goal.returns-clause-out
+returns-clause-out g c =
+    subst (λ (left : Option (List ℕ)). (c.play_on.new.reader ≡ c.args.reader.now)
+    ⊎ GoesOut (setting g.C.Counter.goes g.C.Counter.scene c.args.names.now) left
+    (g.R.TextIn.before c.play_on.new.reader) (seated c.args.counter.now c.args.seat.now)
+    (g.W.TextOut.contents c.args.writer.now) (g.W.TextOut.seen c.play_on.new.writer))
+    (prepend_known-nil (g.R.TextIn.remaining c.args.reader.now))
+    (rw (c.new-script.ensures.items, c.in_ok-hand.ensures) at c.play_on.ensures.out)
