@@ -3,7 +3,7 @@ use Rattle.std.specs.Prelude.{◌≡◌, ◌⊎◌, ℕ, ◌+◌, ◌==◌, ◌<
 use Rattle.std.specs.Prelude.{take, drop, Option}
 use Rattle.std.specs.Io.KnownBytes.{Consumes, IsAtEnd}
 use Rattle.reh_types.specs.declared.limits.TheConstants.{MAX_PICTURE_BYTES}
-use Rattle.reh_script.specs.Lines.{Cut, cut_of, cut_inside}
+use Rattle.reh_script.specs.Lines.{Cut, cut_of, cut_inside, ended}
 use Rattle.reh_script.specs.Readings.{IsQuiet}
 use Rattle.reh_script.specs.declared.heads.Head.{Head}
 use Rattle.reh_script.specs.declared.heads.Head.TheVariants.{Ended, Whole, TooLong, Failed}
@@ -19,9 +19,11 @@ is_percent (b ∷ c ∷ d ∷ rest) = false
 abbrev pub with_fronts : List ℕ → Cut → Cut
 with_fronts bytes cut = record cut { picture = bytes ++ cut.picture }
 
--- These bytes end with the line `%` and have this picture: whatever follows is the script.
+-- These bytes end with the line `%` and its LF, and have this picture: whatever follows is the script.
 abbrev pub IsHead : List ℕ → List ℕ → Type 0
-IsHead bytes picture = (script : List ℕ) → cut_of (bytes ++ script) ≡ record { picture = picture; script = script }
+IsHead bytes picture =
+    (ended bytes ≡ bytes)
+    × ((script : List ℕ) → cut_of (bytes ++ script) ≡ record { picture = picture; script = script })
 
 -- These lines are of the picture, whatever follows: none of them is the line `%`, and the last one's LF may be the one
 -- before it.
@@ -39,7 +41,7 @@ abbrev pub ReadsHead : Head → List ℕ → Option (List ℕ) → Option (List 
 ReadsHead (Ended percent) input left_old left_new failed =
     Consumes left_old left_new input × (failed ≡ false)
     × IsHead (take percent.script input) (take percent.picture input)
-    × (percent.picture ≤ percent.script) × (percent.script ≤ length input)
+    × (percent.picture < percent.script) × (percent.script ≤ length input)
     × (length input ≤ percent.script + 8192)
 ReadsHead Whole input left_old left_new failed =
     Consumes left_old left_new input × (failed ≡ false) × IsUntold input × IsAtEnd left_new

@@ -69,7 +69,7 @@ fn find_percent(input: &[u8], line: &mut usize, from: usize) -> Option<Percent>
     requires picture { IsPicture (take line.old input.now) }
     requires quiet { IsQuiet (take (from - line.old) (drop line.old input.now)) }
     ensures found { IfSome result (λ p. IsHead (take p.script input.now) (take p.picture input.now)
-        × (p.picture ≤ p.script) × (from < p.script) × (p.script ≤ length input.now)) }
+        × (p.picture < p.script) × (from < p.script) × (p.script ≤ length input.now)) }
     ensures picture { result ≡ None → IsPicture (take line.new input.now) }
     ensures within { result ≡ None → line.new ≤ length input.now }
     ensures quiet { result ≡ None → IsQuiet (drop line.new input.now) }

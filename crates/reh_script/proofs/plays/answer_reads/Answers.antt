@@ -34,7 +34,7 @@ returns-in_err-number-clause-err g c =
     if_err _ _ c.in_err-number.field-0.0 c.from_residual.ensures.1
     (stops_among place c.loop-read.read _ c.in-Lines.end c.loop-read.done c.loop-read.number c.loop-read.script.items
     _ _ _ _ _ _ _ _ _ c.in-Lines.is c.loop-read.invariant.stands c.loop-read.invariant.whole
-    c.loop-read.invariant.few c.loop-read.invariant.at (rw c.deref.ensures.value at c.in_err-number.ensures.err))
+    c.loop-read.invariant.few c.loop-read.invariant.at (rw c.deref-in-Lines.ensures.value at c.in_err-number.ensures.err))
 
 pub returns-in_err-number-clause-out : goal.returns-in_err-number-clause-out
 returns-in_err-number-clause-out g c =
@@ -52,7 +52,7 @@ returns-in_err-flush-clause-err g c =
     c.in-Lines.is c.loop-read.invariant.stands in
     let at = answered_to place c.loop-read.read c.in-Lines.end c.loop-read.done c.loop-read.number _
     c.loop-read.script.items _ _ _ _ _ _ _ _ _ c.in-Lines.is c.loop-read.invariant.stands c.loop-read.invariant.whole
-    c.loop-read.invariant.at (rw c.deref.ensures.value at c.in_ok-number.ensures.ok) in
+    c.loop-read.invariant.at (rw c.deref-in-Lines.ensures.value at c.in_ok-number.ensures.ok) in
     if_err _ _ (record { fault = WriteFault; ticket = None }) c.from_residual-in_err-flush.ensures.1
     (holds_none place _ _ _ _ _ _ _ _ _ _ (keeps_back place c.loop-read.script.items _ _ _ _ _ _ _ _ lines.3
     c.loop-read.invariant.few lines.4 (is_at_kept place _ _ _ _ _ _ _ _ at c.flush.ensures.bytes)))
@@ -64,7 +64,7 @@ returns-in_err-read-clause-err g c =
     c.in-Lines.is c.loop-read.invariant.stands in
     let at = answered_to place c.loop-read.read c.in-Lines.end c.loop-read.done c.loop-read.number _
     c.loop-read.script.items _ _ _ _ _ _ _ _ _ c.in-Lines.is c.loop-read.invariant.stands c.loop-read.invariant.whole
-    c.loop-read.invariant.at (rw c.deref.ensures.value at c.in_ok-number.ensures.ok) in
+    c.loop-read.invariant.at (rw c.deref-in-Lines.ensures.value at c.in_ok-number.ensures.ok) in
     if_err _ _ (record { fault = NoMemory; ticket = None }) c.from_residual-in_err-read.ensures.1
     (holds_none place _ _ _ _ _ _ _ _ _ _ (lacks_memory place c.loop-read.script.items _ _ _ _ _ _ _ _ _ lines.3
     c.loop-read.invariant.few c.in_err-read.ensures.failed
@@ -77,7 +77,7 @@ returns-in_err-read-clause-out g c =
     c.in-Lines.is c.loop-read.invariant.stands in
     let at = answered_to place c.loop-read.read c.in-Lines.end c.loop-read.done c.loop-read.number _
     c.loop-read.script.items _ _ _ _ _ _ _ _ _ c.in-Lines.is c.loop-read.invariant.stands c.loop-read.invariant.whole
-    c.loop-read.invariant.at (rw c.deref.ensures.value at c.in_ok-number.ensures.ok) in
+    c.loop-read.invariant.at (rw c.deref-in-Lines.ensures.value at c.in_ok-number.ensures.ok) in
     let quiet = c.read_on.ensures.quiet in
     inr (goes_out place c.loop-read.script.items quiet.0 _ _ _ _ _ _ _ _ _ lines.3 quiet.1 quiet.2
     (is_at_kept place _ _ _ _ _ _ _ _ at c.flush.ensures.bytes) c.in_ok-flush.ensures.seen)
@@ -89,7 +89,7 @@ loop-read-preserved g c =
     c.in-Lines.is c.loop-read.invariant.stands in
     let at = answered_to place c.loop-read.read c.in-Lines.end c.loop-read.done c.loop-read.number _
     c.loop-read.script.items _ _ _ _ _ _ _ _ _ c.in-Lines.is c.loop-read.invariant.stands c.loop-read.invariant.whole
-    c.loop-read.invariant.at (rw c.deref.ensures.value at c.in_ok-number.ensures.ok) in
+    c.loop-read.invariant.at (rw c.deref-in-Lines.ensures.value at c.in_ok-number.ensures.ok) in
     let quiet = c.read_on.ensures.quiet in
     record {
       may = search rules;
@@ -105,7 +105,7 @@ loop-read-preserved g c =
       within = still_within c.in-Lines.end c.loop-read.script.items _ c.in_ok-read.read _ _ _ lines.1
           c.in_ok-read.ensures.read;
       count = count_within c.loop-read.done c.in-Lines.end c.loop-read.number _ c.loop-read.script.items lines.0 lines.1
-          c.loop-read.invariant.count (rw c.deref.ensures.value at c.in_ok-number.ensures.few);
+          c.loop-read.invariant.count (rw c.deref-in-Lines.ensures.value at c.in_ok-number.ensures.few);
       fine = search rules;
       calls = omega (arith, c.loop-read.invariant.calls, ap reads_past c.in-Lines.is, c.in_ok-read.ensures.calls);
     }
