@@ -16,8 +16,7 @@ pub mod Answered
 pub mod ReadLaws
 pub mod Enough
 pub mod Transcripts
+pub mod Ends
 pub mod Sitting
 pub mod OpeningLaws
-pub mod InputEnough
-pub mod Ends
 pub mod RunLaws

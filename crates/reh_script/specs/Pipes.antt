@@ -6,10 +6,10 @@ use Rattle.reh_model.specs.Session.{opened_session}
 use Rattle.reh_model.specs.Book.{Book, new_book}
 use Rattle.reh_picture.specs.declared.faults.PictureFault.{PictureFault}
 use Rattle.reh_picture.specs.Pictures.{picture_of}
-use Rattle.reh_script.specs.Lines.{cut_of, is_told, answered_lines}
+use Rattle.reh_script.specs.Lines.{cut_of, is_told, answered_lines, lines_of, ended}
 use Rattle.reh_script.specs.Readings.{Gives}
 use Rattle.reh_script.specs.Plays.{stop_of, is_write_fault}
-use Rattle.reh_script.specs.BookPlays.{IsTranscribed, LeavesOff}
+use Rattle.reh_script.specs.BookPlays.{IsTranscribed, LeavesOff, Transcribes}
 use Rattle.reh_script.specs.Streams.{Reaches}
 use Rattle.reh_script.specs.Transcript.{starting, transcript}
 use Rattle.reh_script.specs.declared.faults.PlayFault.{PlayFault}
@@ -77,6 +77,38 @@ pub record AnswersGoOut (left_old left_before old shown : Option (List ℕ)) : T
   pub given : Consumes left_old left_before earlier
   pub reaches : IfOk (rehearsal_of true earlier) (λ r.
       Reaches old shown (transcript r.state.names 0 (starting (new_book (opened_session r.state))) 1 r.lines))
+
+-- The play of a script behind a picture of this state, of which left_old was to come.
+pub record PlayedBehind (state : Cluster) (result : Result (Unit {0}) PipeFault) (failed : Bool)
+    (left_old left_new old new : Option (List ℕ)) : Type 0 where
+  pub end : Result (Unit {0}) PlayFault
+  pub book : Book
+  pub same : result ≡ piped end
+  pub played : Transcribes state.names 0 end failed left_old left_new (new_book (opened_session state)) book old new
+
+-- Nothing was read of the script, and nothing written.
+abbrev pub IsUnplayed : PipeFault → Result (Unit {0}) PipeFault → Bool → Option (List ℕ) → Option (List ℕ) → Type 0
+IsUnplayed fault result failed old new = (result ≡ Err fault) × (failed ≡ false) × Keeps old new
+
+-- What becomes of a picture that was read so, and the script behind it.
+abbrev pub PlaysBehind : Result Cluster PictureFault → Result (Unit {0}) PipeFault → Bool → Option (List ℕ)
+    → Option (List ℕ) → Option (List ℕ) → Option (List ℕ) → Type 0
+PlaysBehind (Ok state) result failed left_old left_new old new =
+    PlayedBehind state result failed left_old left_new old new ⊎ IsUnplayed (Play NoMemory) result failed old new
+PlaysBehind (Err fault) result failed left_old left_new old new =
+    IsUnplayed (Picture fault) result failed old new ⊎ IsUnplayed (Play NoMemory) result failed old new
+
+-- The answers to the lines of the script that were complete when the reader was last read.
+pub record GoesOutFrom (state : Cluster) (left_old left_before old shown : Option (List ℕ)) : Type 0 where
+  pub earlier : List ℕ
+  pub given : Consumes left_old left_before earlier
+  pub reaches :
+      Reaches old shown (transcript state.names 0 (starting (new_book (opened_session state))) 1 (lines_of (ended earlier)))
+
+abbrev pub GoesOutBehind : Result Cluster PictureFault → Option (List ℕ) → Option (List ℕ) → Option (List ℕ)
+    → Option (List ℕ) → Type 0
+GoesOutBehind (Ok state) left_old left_before old shown = GoesOutFrom state left_old left_before old shown
+GoesOutBehind (Err fault) left_old left_before old shown = ⊥
 
 -- whether a pipe ended since a write failed
 abbrev pub loses_output : Result (Unit {0}) PipeFault → Bool

@@ -41,7 +41,7 @@ pub fn play_book<V: Surveyor, R: TextIn, W: TextOut>(
     ensures transcribes { Transcribes names.now seat.old.number result
         (R.has_failed reader.new) (R.remaining reader.old) (R.remaining reader.new)
         book.old.book book.new.book (W.contents writer.old) (W.contents writer.new) }
-    ensures out { (reader.new ≡ reader.old) ⊎ GoesOut (at_book names.now)
+    ensures prompt { (reader.new ≡ reader.old) ⊎ GoesOut (at_book names.now)
         (R.remaining reader.old) (R.before reader.new) (seated book.old seat.old)
         (W.contents writer.old) (W.seen writer.new) }
     ensures seen { OnOk result (W.seen writer.new ≡ W.contents writer.new) }
@@ -70,7 +70,7 @@ pub(crate) fn play_on_book<V: Surveyor, R: TextIn, W: TextOut>(
     ensures transcribes { Transcribes tools.now.names.now seat.old.number result (R.has_failed reader.new)
         (prepend_known script.items (R.remaining reader.old)) (R.remaining reader.new)
         book.old.book book.new.book (W.contents writer.old) (W.contents writer.new) }
-    ensures out { (reader.new ≡ reader.old) ⊎ GoesOut (at_book tools.now.names.now)
+    ensures prompt { (reader.new ≡ reader.old) ⊎ GoesOut (at_book tools.now.names.now)
         (prepend_known script.items (R.remaining reader.old)) (R.before reader.new) (seated book.old seat.old)
         (W.contents writer.old) (W.seen writer.new) }
     ensures seen { OnOk result (W.seen writer.new ≡ W.contents writer.new) }

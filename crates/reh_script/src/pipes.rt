@@ -1,8 +1,8 @@
 // From the bytes of the input to the bytes of the transcript.
-ghost use Rattle.std.specs.Prelude.{◌≡◌, ◌⊎◌, ◌+◌, ◌≤◌, ◌<◌, false, take, drop, length, List, ℕ, Option, OnOk};
+ghost use Rattle.std.specs.Prelude.{◌≡◌, ◌⊎◌, ◌+◌, ◌≤◌, ◌<◌, [], false, take, drop, length, List, ℕ, Option, OnOk};
 ghost use Rattle.std.specs.Io.KnownBytes.{prepend_known};
 ghost use Rattle.reh_picture.specs.Pictures.{picture_of};
-ghost use Rattle.reh_script.specs.Heads.{IsHead};
+ghost use Rattle.reh_script.specs.Lines.{cut_of};
 ghost use Rattle.reh_script.specs.Pipes.{rehearsal_of, IsPiped, Pipes, PlaysBehind, GoesOutBehind, AnswersGoOut};
 ghost use Rattle.reh_script.specs.Pipes.{loses_output};
 
@@ -40,7 +40,7 @@ pub fn pipe<V: Surveyor, R: TextIn, W: TextOut>(
     ensures pipes { Pipes result
         (R.has_failed reader.new) (R.remaining reader.old) (R.remaining reader.new)
         (W.contents writer.old) (W.contents writer.new) }
-    ensures out { (reader.new ≡ reader.old) ⊎ AnswersGoOut (R.remaining reader.old) (R.before reader.new)
+    ensures prompt { (reader.new ≡ reader.old) ⊎ AnswersGoOut (R.remaining reader.old) (R.before reader.new)
         (W.contents writer.old) (W.seen writer.new) }
     ensures seen { OnOk result ((writer.new ≡ writer.old) ⊎ (W.seen writer.new ≡ W.contents writer.new)) }
     ensures write { W.has_failed writer.new ≡ loses_output result }
@@ -82,7 +82,7 @@ fn play_behind<V: Surveyor, R: TextIn, W: TextOut>(
     ensures plays { PlaysBehind (picture_of (take percent.picture input.items)) result (R.has_failed reader.new)
         (prepend_known (drop percent.script input.items) (R.remaining reader.old)) (R.remaining reader.new)
         (W.contents writer.old) (W.contents writer.new) }
-    ensures out { (reader.new ≡ reader.old) ⊎ GoesOutBehind (picture_of (take percent.picture input.items))
+    ensures prompt { (reader.new ≡ reader.old) ⊎ GoesOutBehind (picture_of (take percent.picture input.items))
         (prepend_known (drop percent.script input.items) (R.remaining reader.old)) (R.before reader.new)
         (W.contents writer.old) (W.seen writer.new) }
     ensures seen { OnOk result (W.seen writer.new ≡ W.contents writer.new) }

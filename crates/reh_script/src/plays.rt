@@ -87,7 +87,7 @@ pub fn play<C: Counter, V: Surveyor, R: TextIn, W: TextOut>(
         (R.has_failed reader.new) (R.remaining reader.old) (R.remaining reader.new)
         (seated counter.old seat.old) (seated counter.new seat.new)
         (W.contents writer.old) (W.contents writer.new) }
-    ensures out { (reader.new ≡ reader.old) ⊎ GoesOut (setting C.goes C.scene names.now)
+    ensures prompt { (reader.new ≡ reader.old) ⊎ GoesOut (setting C.goes C.scene names.now)
         (R.remaining reader.old) (R.before reader.new) (seated counter.old seat.old)
         (W.contents writer.old) (W.seen writer.new) }
     ensures seen { OnOk result (W.seen writer.new ≡ W.contents writer.new) }
@@ -124,7 +124,7 @@ pub(crate) fn play_on<C: Counter, V: Surveyor, R: TextIn, W: TextOut>(
         (prepend_known script.items (R.remaining reader.old)) (R.remaining reader.new)
         (player counter.old seat.old hand) (seated counter.new seat.new)
         (W.contents writer.old) (W.contents writer.new) }
-    ensures out { (reader.new ≡ reader.old) ⊎ GoesOut (setting C.goes C.scene tools.now.names.now)
+    ensures prompt { (reader.new ≡ reader.old) ⊎ GoesOut (setting C.goes C.scene tools.now.names.now)
         (prepend_known script.items (R.remaining reader.old)) (R.before reader.new)
         (player counter.old seat.old hand) (W.contents writer.old) (W.seen writer.new) }
     ensures seen { OnOk result (W.seen writer.new ≡ W.contents writer.new) }
@@ -169,7 +169,7 @@ fn answer_reads<C: Counter, V: Surveyor, R: TextIn, W: TextOut>(
         (R.has_failed reader.new) (prepend_known script.items (R.remaining reader.old)) (R.remaining reader.new)
         (player counter.old seat.old hand.old) (with_ticket counter.new seat.new hand.new s.ticket)
         (W.contents writer.old) (W.contents writer.new)) }
-    ensures out { (reader.new ≡ reader.old) ⊎ GoesOut (setting C.goes C.scene tools.now.names.now)
+    ensures prompt { (reader.new ≡ reader.old) ⊎ GoesOut (setting C.goes C.scene tools.now.names.now)
         (prepend_known script.items (R.remaining reader.old)) (R.before reader.new)
         (player counter.old seat.old hand.old)
         (W.contents writer.old) (W.seen writer.new) }

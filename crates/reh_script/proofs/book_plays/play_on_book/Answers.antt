@@ -5,5 +5,5 @@ pub returns-clause-transcribes : goal.returns-clause-transcribes
 returns-clause-transcribes g c =
     plays_book _ _ _ _ _ _ _ _ _ _ _ (rw c.requires.empty at c.play_on.ensures.plays)
 
-pub returns-clause-out : goal.returns-clause-out
-returns-clause-out g c = rw c.requires.empty at c.play_on.ensures.out
+pub returns-clause-prompt : goal.returns-clause-prompt
+returns-clause-prompt g c = rw c.requires.empty at c.play_on.ensures.prompt

@@ -36,12 +36,12 @@ returns-in_err-number-clause-err g c =
     _ _ _ _ _ _ _ _ _ c.in-Lines.is c.loop-read.invariant.stands c.loop-read.invariant.whole
     c.loop-read.invariant.few c.loop-read.invariant.at (rw c.deref-in-Lines.ensures.value at c.in_err-number.ensures.err))
 
-pub returns-in_err-number-clause-out : goal.returns-in_err-number-clause-out
-returns-in_err-number-clause-out g c =
+pub returns-in_err-number-clause-prompt : goal.returns-in_err-number-clause-prompt
+returns-in_err-number-clause-prompt g c =
     out_grown _ _ _ _ _ _ _ _ c.loop-read.invariant.out c.answer_lines.ensures.seen
 
-pub returns-in_err-flush-clause-out : goal.returns-in_err-flush-clause-out
-returns-in_err-flush-clause-out g c =
+pub returns-in_err-flush-clause-prompt : goal.returns-in_err-flush-clause-prompt
+returns-in_err-flush-clause-prompt g c =
     out_grown _ _ _ _ _ _ _ _ (out_grown _ _ _ _ _ _ _ _ c.loop-read.invariant.out c.answer_lines.ensures.seen)
     c.flush.ensures.grows
 
@@ -70,8 +70,8 @@ returns-in_err-read-clause-err g c =
     c.loop-read.invariant.few c.in_err-read.ensures.failed
     (is_at_kept place _ _ _ _ _ _ _ _ at c.flush.ensures.bytes)))
 
-pub returns-in_err-read-clause-out : goal.returns-in_err-read-clause-out
-returns-in_err-read-clause-out g c =
+pub returns-in_err-read-clause-prompt : goal.returns-in_err-read-clause-prompt
+returns-in_err-read-clause-prompt g c =
     let place = setting g.C.Counter.goes g.C.Counter.scene c.args.tools.now.names.now in
     let lines = lines_stand c.loop-read.read c.in-Lines.end c.loop-read.done c.loop-read.script.items _ _ _
     c.in-Lines.is c.loop-read.invariant.stands in
@@ -140,8 +140,8 @@ returns-in_err-answer_lines-clause-err g c =
     c.loop-read.invariant.whole c.loop-read.invariant.few c.loop-read.invariant.at
     (rw c.deref-2.ensures.value at c.in_err-answer_lines.ensures.err))
 
-pub returns-in_err-answer_lines-clause-out : goal.returns-in_err-answer_lines-clause-out
-returns-in_err-answer_lines-clause-out g c =
+pub returns-in_err-answer_lines-clause-prompt : goal.returns-in_err-answer_lines-clause-prompt
+returns-in_err-answer_lines-clause-prompt g c =
     out_grown _ _ _ _ _ _ _ _ c.loop-read.invariant.out c.answer_lines-2.ensures.seen
 
 pub returns-in_err-answer_lines-clause-calls : goal.returns-in_err-answer_lines-clause-calls
@@ -160,8 +160,8 @@ returns-in_err-flush-2-clause-err g c =
     (holds_none place _ _ _ _ _ _ _ _ _ _ (keeps_last place c.loop-read.script.items _ _ _ _ _ _ _ _ ends.1 ends.2
     c.loop-read.invariant.few ends.3 (is_at_kept place _ _ _ _ _ _ _ _ at c.flush-2.ensures.bytes)))
 
-pub returns-in_err-flush-2-clause-out : goal.returns-in_err-flush-2-clause-out
-returns-in_err-flush-2-clause-out g c =
+pub returns-in_err-flush-2-clause-prompt : goal.returns-in_err-flush-2-clause-prompt
+returns-in_err-flush-2-clause-prompt g c =
     out_grown _ _ _ _ _ _ _ _ (out_grown _ _ _ _ _ _ _ _ c.loop-read.invariant.out c.answer_lines-2.ensures.seen)
     c.flush-2.ensures.grows
 
@@ -180,8 +180,8 @@ returns-clause-ok g c =
     ends_whole place c.loop-read.script.items _ _ _ _ _ _ _ _ ends.1 ends.2 c.loop-read.invariant.few ends.3
     (is_at_kept place _ _ _ _ _ _ _ _ at c.flush-2.ensures.bytes)
 
-pub returns-clause-out : goal.returns-clause-out
-returns-clause-out g c =
+pub returns-clause-prompt : goal.returns-clause-prompt
+returns-clause-prompt g c =
     out_grown _ _ _ _ _ _ _ _ (out_grown _ _ _ _ _ _ _ _ c.loop-read.invariant.out c.answer_lines-2.ensures.seen)
     c.flush-2.ensures.grows
 

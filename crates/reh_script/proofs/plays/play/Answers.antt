@@ -20,11 +20,11 @@ returns-clause-plays g c =
     (prepend_known-nil (g.R.TextIn.remaining c.args.reader.now))
     (rw (c.new-script.ensures.items, c.in_ok-hand.ensures) at c.play_on.ensures.plays)
 
-pub returns-clause-out : goal.returns-clause-out
-returns-clause-out g c =
+pub returns-clause-prompt : goal.returns-clause-prompt
+returns-clause-prompt g c =
     subst (λ (left : Option (List ℕ)). (c.play_on.new.reader ≡ c.args.reader.now)
     ⊎ GoesOut (setting g.C.Counter.goes g.C.Counter.scene c.args.names.now) left
     (g.R.TextIn.before c.play_on.new.reader) (seated c.args.counter.now c.args.seat.now)
     (g.W.TextOut.contents c.args.writer.now) (g.W.TextOut.seen c.play_on.new.writer))
     (prepend_known-nil (g.R.TextIn.remaining c.args.reader.now))
-    (rw (c.new-script.ensures.items, c.in_ok-hand.ensures) at c.play_on.ensures.out)
+    (rw (c.new-script.ensures.items, c.in_ok-hand.ensures) at c.play_on.ensures.prompt)
