@@ -1,7 +1,8 @@
 -- How a pipe ends.
 use Rattle.std.proofs.Common.{◌≡◌, ℕ, ◌+◌, ◌<◌, ◌≤◌, ◌⊎◌, Bool, true, false, cond, List, [], ◌++◌, length, Option, None}
 use Rattle.std.proofs.Common.{Some, Result, Ok, Err, inl, inr, refl, sym, ap, ◌∙◌, subst, arith, append-nil}
-use Rattle.std.proofs.Common.{if◌then◌else◌}
+use Rattle.std.proofs.Common.{take, drop}
+use Rattle.std.proofs.lemmas.List.{take-append-le, take-append-drop, length-take-le}
 use Rattle.std.specs.Prelude.{IsErrAnd, IfOk}
 use Rattle.std.proofs.KnownBytes.{Keeps-refl}
 use Rattle.std.specs.Io.KnownBytes.{Appends, Consumes, Keeps, prepend_known}
@@ -146,3 +147,11 @@ pub handed_on : (lost : Bool) (fault : PlayFault) (result : Result (Unit {0}) Pi
     → IsErrAnd result (λ e. e ≡ Play fault) → lost ≡ is_write_fault (Err fault) → lost ≡ loses_output result
 handed_on lost fault (Ok x) is was = absurd is
 handed_on lost fault (Err e) is was = was ∙ ap (λ (f : PipeFault). loses_output (Err f)) (sym is)
+
+-- the picture stands before the script
+pub front_of : (p n : ℕ) (input front : List ℕ) → p < n → n ≤ length input → front ≡ take n input
+    → take p front ≡ take p input
+front_of p n input front before within is =
+    let room : p ≤ length (take n input) = omega (arith, length-take-le n input within) in
+    ap (take p) is ∙ sym (take-append-le p (take n input) (drop n input) room)
+    ∙ ap (take p) (take-append-drop n input)
