@@ -4,7 +4,7 @@ use Rattle.std.proofs.Common.{Some, Result, Ok, Err, inl, inr, refl, sym, ap, �
 use Rattle.std.proofs.Common.{take, drop}
 use Rattle.std.proofs.lemmas.List.{take-append-le, take-append-drop, length-take-le}
 use Rattle.std.specs.Prelude.{IsErrAnd, IfOk}
-use Rattle.std.proofs.KnownBytes.{Keeps-refl}
+use Rattle.std.proofs.KnownBytes.{Appends-nil, Keeps-refl}
 use Rattle.std.specs.Io.KnownBytes.{Appends, Consumes, Keeps, prepend_known}
 use Rattle.reh_model.specs.Cluster.{Cluster}
 use Rattle.reh_model.specs.Session.{opened_session}
@@ -14,9 +14,10 @@ use Rattle.reh_desk.specs.Seats.{SeatView}
 use Rattle.reh_picture.specs.declared.faults.PictureFault.{PictureFault}
 use Rattle.reh_picture.specs.Pictures.{picture_of}
 use Rattle.reh_script.specs.BookPlays.{Transcribes, at_book}
-use Rattle.reh_script.specs.Lines.{lines_of, ended}
+use Rattle.reh_script.specs.Lines.{lines_of, ended, cut_of, answered_lines}
 use Rattle.reh_script.specs.Openings.{Opens, IsOpened}
 use Rattle.reh_script.specs.Pipes.{piped, loses_output, IsUnplayed, PlaysBehind, GoesOutBehind}
+use Rattle.reh_script.specs.Pipes.{rehearsal_by, rehearsal_of, IsPiped}
 use Rattle.reh_script.specs.Players.{seated}
 use Rattle.reh_script.specs.Plays.{GoesOut, is_write_fault}
 use Rattle.reh_script.specs.Streams.{Reaches}
@@ -155,3 +156,45 @@ front_of p n input front before within is =
     let room : p ≤ length (take n input) = omega (arith, length-take-le n input within) in
     ap (take p) is ∙ sym (take-append-le p (take n input) (drop n input) room)
     ∙ ap (take p) (take-append-drop n input)
+
+-- An input without a script
+
+-- nothing is taken of it, and nothing written
+plays_none : (state : Cluster) (held : Option (List ℕ))
+    → IsPiped false (rehearsal_by false (Ok state) []) (Ok tt) held held
+unfolding answered_lines
+plays_none state held = inl (record {
+  end = Ok tt;
+  book = new_book (opened_session state);
+  same = refl;
+  played = inl (refl, record { taken = refl; written = Appends-nil held });
+})
+
+whole_by : (read : Result Cluster PictureFault) (script : List ℕ) (o : Opened) (held : Option (List ℕ)) → script ≡ []
+    → Opens read (Ok o) → IsPiped false (rehearsal_by false read script) (Ok tt) held held
+whole_by (Ok state) script o held none opens =
+    subst (λ (t : List ℕ). IsPiped false (rehearsal_by false (Ok state) t) (Ok tt) held held) (sym none)
+    (plays_none state held)
+whole_by (Err fault) script o held none opens = absurd opens
+
+whole_refused : (read : Result Cluster PictureFault) (script : List ℕ) (fault : PipeFault) (held : Option (List ℕ))
+    → Opens read (Err fault) → IsPiped false (rehearsal_by false read script) (Err fault) held held
+whole_refused (Ok state) script fault held want = inr (ap (λ (f : PipeFault). Err f) want, Keeps-refl held)
+whole_refused (Err reason) script fault held (inl refusal) = inl (ap (λ (f : PipeFault). Err f) refusal, Keeps-refl held)
+whole_refused (Err reason) script fault held (inr want) = inr (ap (λ (f : PipeFault). Err f) want, Keeps-refl held)
+
+pub whole_opened : (input picture : List ℕ) (o : Opened) (held : Option (List ℕ)) → (cut_of input).script ≡ []
+    → picture ≡ (cut_of input).picture → Opens (picture_of picture) (Ok o)
+    → IsPiped false (rehearsal_of false input) (Ok tt) held held
+whole_opened input picture o held none is opens =
+    whole_by (picture_of (cut_of input).picture) (cut_of input).script o held none
+    (subst (λ (p : List ℕ). Opens (picture_of p) (Ok o)) is opens)
+
+pub whole_unopened : (input picture : List ℕ) (fault : PipeFault) (result : Result (Unit {0}) PipeFault)
+    (held : Option (List ℕ)) → picture ≡ (cut_of input).picture → Opens (picture_of picture) (Err fault)
+    → IsErrAnd result (λ e. e ≡ fault) → IsPiped false (rehearsal_of false input) result held held
+whole_unopened input picture fault (Ok x) held is opens same = absurd same
+whole_unopened input picture fault (Err e) held is opens same =
+    subst (λ (f : PipeFault). IsPiped false (rehearsal_of false input) (Err f) held held) (sym same)
+    (whole_refused (picture_of (cut_of input).picture) (cut_of input).script fault held
+    (subst (λ (p : List ℕ). Opens (picture_of p) (Err fault)) is opens))
