@@ -1,9 +1,11 @@
 -- How a pipe ends.
-use Rattle.std.proofs.Common.{◌≡◌, ℕ, Bool, true, false, List, Option, Result, Ok, Err, inl, inr, refl, sym, ap, ◌∙◌}
-use Rattle.std.proofs.Common.{subst}
-use Rattle.std.proofs.Common.{if◌then◌else◌}
-use Rattle.std.specs.Prelude.{IsErrAnd}
-use Rattle.std.proofs.KnownBytes.{Keeps-refl}
+use Rattle.std.proofs.Common.{◌≡◌, ℕ, ◌+◌, ◌<◌, ◌≤◌, ◌⊎◌, Bool, true, false, cond, List, [], ◌++◌, length, Option, None}
+use Rattle.std.proofs.Common.{Some, Result, Ok, Err, inl, inr, refl, sym, ap, ◌∙◌, subst, arith, append-nil}
+use Rattle.std.proofs.Common.{take, drop}
+use Rattle.std.proofs.lemmas.List.{take-append-le, take-append-drop, length-take-le}
+use Rattle.std.specs.Prelude.{IsErrAnd, IfOk}
+use Rattle.std.proofs.KnownBytes.{Appends-nil, Keeps-refl}
+use Rattle.std.specs.Io.KnownBytes.{Appends, Consumes, Keeps, prepend_known}
 use Rattle.reh_model.specs.Cluster.{Cluster}
 use Rattle.reh_model.specs.Session.{opened_session}
 use Rattle.reh_model.specs.Book.{Book, new_book}
@@ -11,151 +13,121 @@ use Rattle.reh_desk.specs.Kept.{Kept}
 use Rattle.reh_desk.specs.Seats.{SeatView}
 use Rattle.reh_picture.specs.declared.faults.PictureFault.{PictureFault}
 use Rattle.reh_picture.specs.Pictures.{picture_of}
-use Rattle.reh_script.specs.Lines.{cut_of, is_told, answered_lines}
-use Rattle.reh_script.specs.Plays.{stop_of, is_write_fault}
-use Rattle.reh_script.specs.BookPlays.{IsTranscribed}
+use Rattle.reh_script.specs.BookPlays.{Transcribes, at_book}
+use Rattle.reh_script.specs.Lines.{lines_of, ended, cut_of, answered_lines}
 use Rattle.reh_script.specs.Openings.{Opens, IsOpened}
-use Rattle.reh_script.specs.Transcript.{starting}
-use Rattle.reh_script.specs.Pipes.{Rehearsal, rehearsal_by, rehearsal_of, piped, IsPiped, loses_output}
+use Rattle.reh_script.specs.Pipes.{piped, loses_output, IsUnplayed, PlaysBehind, GoesOutBehind}
+use Rattle.reh_script.specs.Pipes.{rehearsal_by, rehearsal_of, IsPiped}
+use Rattle.reh_script.specs.Players.{seated}
+use Rattle.reh_script.specs.Plays.{GoesOut, is_write_fault}
+use Rattle.reh_script.specs.Streams.{Reaches}
+use Rattle.reh_script.specs.Transcript.{starting, transcript}
 use Rattle.reh_script.specs.declared.faults.PlayFault.{PlayFault}
-use Rattle.reh_script.specs.declared.faults.PlayFault.TheVariants.{ReadFault, NoMemory}
+use Rattle.reh_script.specs.declared.faults.PlayFault.TheVariants.{NoMemory}
 use Rattle.reh_script.specs.declared.faults.PipeFault.{PipeFault}
 use Rattle.reh_script.specs.declared.faults.PipeFault.TheVariants.{Picture, Play}
 use Rattle.reh_script.specs.declared.openings.Opened.{Opened}
+use Rattle.reh_script.proofs.Transcripts.{lines_follow}
 
--- a read that fails before the picture is told
-pub ends_untold : (failed : Bool) (input : List ℕ) (old : Option (List ℕ)) → is_told failed input ≡ false
-    → IsPiped (rehearsal_of failed input) (Err (Play ReadFault)) old old
-ends_untold failed input old untold =
-    let judged : Result Rehearsal PipeFault =
-    rehearsal_by failed (picture_of (cut_of input).picture) (cut_of input).script in
-    subst (λ (r : Result Rehearsal PipeFault). IsPiped r (Err (Play ReadFault)) old old)
-    (sym (ap (λ (t : Bool). if t then judged else Err (Play ReadFault)) untold)) (refl, Keeps-refl old)
-
--- any other input is judged by its picture
-judged : (failed : Bool) (input picture script : List ℕ) (read : Result Cluster PictureFault)
-    → is_told failed input ≡ true → picture ≡ (cut_of input).picture → script ≡ (cut_of input).script
-    → picture_of picture ≡ read
-    → rehearsal_by failed read script ≡ rehearsal_of failed input
-judged failed input picture script read told first behind is =
-    sym (ap (λ (r : Result Cluster PictureFault). rehearsal_by failed r script) is)
-    ∙ (λ i. rehearsal_by failed (picture_of (first i)) (behind i))
-    ∙ sym (ap
-    (λ (t : Bool). if t then rehearsal_by failed (picture_of (cut_of input).picture) (cut_of input).script else Err
-    (Play ReadFault)) told)
-
-lacks_state : (r : Result Rehearsal PipeFault) (failed : Bool) (picture : Result Cluster PictureFault) (script : List ℕ)
-    (old : Option (List ℕ)) → rehearsal_by failed picture script ≡ r → IsPiped r (Err (Play NoMemory)) old old
-lacks_state r failed (Ok state) script old is =
-    subst (λ (x : Result Rehearsal PipeFault). IsPiped x (Err (Play NoMemory)) old old) is (inr (refl, Keeps-refl old))
-lacks_state r failed (Err fault) script old is =
-    subst (λ (x : Result Rehearsal PipeFault). IsPiped x (Err (Play NoMemory)) old old) is (inr (refl, Keeps-refl old))
-
--- where there is no memory before the play
-pub ends_without_state : (failed : Bool) (input picture script : List ℕ) (old : Option (List ℕ))
-    → is_told failed input ≡ true → picture ≡ (cut_of input).picture → script ≡ (cut_of input).script
-    → IsPiped (rehearsal_of failed input) (Err (Play NoMemory)) old old
-ends_without_state failed input picture script old told first behind =
-    lacks_state _ failed (picture_of picture) script old
-    (judged failed input picture script (picture_of picture) told first behind refl)
+-- where there was no memory before the script was played
+lacks : (read : Result Cluster PictureFault) (failed : Bool) (left_old left_new old : Option (List ℕ))
+    → failed ≡ false → PlaysBehind read (Err (Play NoMemory)) failed left_old left_new old old
+lacks (Ok state) failed left_old left_new old fine = inr (refl, fine, Keeps-refl old)
+lacks (Err fault) failed left_old left_new old fine = inr (refl, fine, Keeps-refl old)
 
 -- handed on
-pub ends_lacking : (failed : Bool) (input picture script : List ℕ) (result : Result (Unit {0}) PipeFault)
-    (old : Option (List ℕ)) → is_told failed input ≡ true → picture ≡ (cut_of input).picture
-    → script ≡ (cut_of input).script
-    → IsErrAnd result (λ e. e ≡ Play NoMemory) → IsPiped (rehearsal_of failed input) result old old
-ends_lacking failed input picture script (Ok x) old told first behind is = absurd is
-ends_lacking failed input picture script (Err e) old told first behind is =
-    subst (λ (f : PipeFault). IsPiped (rehearsal_of failed input) (Err f) old old) (sym is)
-    (ends_without_state failed input picture script old told first behind)
+pub behind_lacking : (read : Result Cluster PictureFault) (result : Result (Unit {0}) PipeFault) (failed : Bool)
+    (left_old left_new old : Option (List ℕ)) → IsErrAnd result (λ e. e ≡ Play NoMemory) → failed ≡ false
+    → PlaysBehind read result failed left_old left_new old old
+behind_lacking read (Ok x) failed left_old left_new old is fine = absurd is
+behind_lacking read (Err e) failed left_old left_new old is fine =
+    subst (λ (f : PipeFault). PlaysBehind read (Err f) failed left_old left_new old old) (sym is)
+    (lacks read failed left_old left_new old fine)
 
-refused : (failed : Bool) (input picture script : List ℕ) (fault : PictureFault) (old : Option (List ℕ))
-    → is_told failed input ≡ true → picture ≡ (cut_of input).picture → script ≡ (cut_of input).script
-    → picture_of picture ≡ Err fault → IsPiped (rehearsal_of failed input) (Err (Picture fault)) old old
-refused failed input picture script fault old told first behind is =
-    subst (λ (r : Result Rehearsal PipeFault). IsPiped r (Err (Picture fault)) old old)
-    (judged failed input picture script (Err fault) told first behind is) (inl (refl, Keeps-refl old))
+unopened : (read : Result Cluster PictureFault) (fault : PipeFault) (failed : Bool)
+    (left_old left_new old : Option (List ℕ)) → Opens read (Err fault) → failed ≡ false
+    → PlaysBehind read (Err fault) failed left_old left_new old old
+unopened (Ok state) fault failed left_old left_new old want fine =
+    inr (ap (λ (f : PipeFault). Err f) want, fine, Keeps-refl old)
+unopened (Err reason) fault failed left_old left_new old (inl refusal) fine =
+    inl (ap (λ (f : PipeFault). Err f) refusal, fine, Keeps-refl old)
+unopened (Err reason) fault failed left_old left_new old (inr want) fine =
+    inr (ap (λ (f : PipeFault). Err f) want, fine, Keeps-refl old)
 
--- where the picture is not opened
-unopened : (failed : Bool) (input picture script : List ℕ) (read : Result Cluster PictureFault) (fault : PipeFault)
-    (old : Option (List ℕ)) → is_told failed input ≡ true → picture ≡ (cut_of input).picture
-    → script ≡ (cut_of input).script → picture_of picture ≡ read → Opens read (Err fault)
-    → IsPiped (rehearsal_of failed input) (Err fault) old old
-unopened failed input picture script (Ok state) fault old told first behind is want =
-    subst (λ (f : PipeFault). IsPiped (rehearsal_of failed input) (Err f) old old) (sym want)
-    (ends_without_state failed input picture script old told first behind)
-unopened failed input picture script (Err reason) fault old told first behind is opens =
-    elim opens [
-      | inl refusal ↦
-          subst (λ (f : PipeFault). IsPiped (rehearsal_of failed input) (Err f) old old) (sym refusal)
-          (refused failed input picture script reason old told first behind is)
-      | inr want ↦
-          subst (λ (f : PipeFault). IsPiped (rehearsal_of failed input) (Err f) old old) (sym want)
-          (ends_without_state failed input picture script old told first behind)
-    ]
-
-pub ends_unopened : (failed : Bool) (input picture script : List ℕ) (fault : PipeFault)
-    (result : Result (Unit {0}) PipeFault) (old : Option (List ℕ)) → is_told failed input ≡ true
-    → picture ≡ (cut_of input).picture → script ≡ (cut_of input).script → Opens (picture_of picture) (Err fault)
-    → IsErrAnd result (λ e. e ≡ fault) → IsPiped (rehearsal_of failed input) result old old
-ends_unopened failed input picture script fault (Ok x) old told first behind opens is = absurd is
-ends_unopened failed input picture script fault (Err e) old told first behind opens is =
-    subst (λ (f : PipeFault). IsPiped (rehearsal_of failed input) (Err f) old old) (sym is)
-    (unopened failed input picture script (picture_of picture) fault old told first behind refl opens)
+pub behind_unopened : (read : Result Cluster PictureFault) (fault : PipeFault) (result : Result (Unit {0}) PipeFault)
+    (failed : Bool) (left_old left_new old : Option (List ℕ)) → Opens read (Err fault)
+    → IsErrAnd result (λ e. e ≡ fault) → failed ≡ false
+    → PlaysBehind read result failed left_old left_new old old
+behind_unopened read fault (Ok x) failed left_old left_new old opens is fine = absurd is
+behind_unopened read fault (Err e) failed left_old left_new old opens is fine =
+    subst (λ (f : PipeFault). PlaysBehind read (Err f) failed left_old left_new old old) (sym is)
+    (unopened read fault failed left_old left_new old opens fine)
 
 -- a play by the seat of a book that was opened
-at_opened : (lines : List (List ℕ)) (stop : Option PlayFault) (result : Result (Unit {0}) PlayFault) (state : Cluster)
-    (o : Opened) (b : Book) (old new : Option (List ℕ)) → IsOpened state o
-    → IsTranscribed o.names o.seat.number lines stop result (starting o.book.book) b old new
-    → IsTranscribed state.names 0 lines stop result (starting (new_book (opened_session state))) b old new
-at_opened lines stop result state o b old new is played =
+at_opened : (state : Cluster) (o : Opened) (end : Result (Unit {0}) PlayFault) (failed : Bool)
+    (left_old left_new : Option (List ℕ)) (b : Book) (old new : Option (List ℕ)) → IsOpened state o
+    → Transcribes o.names o.seat.number end failed left_old left_new o.book.book b old new
+    → Transcribes state.names 0 end failed left_old left_new (new_book (opened_session state)) b old new
+at_opened state o end failed left_old left_new b old new is played =
     let fresh : Book = new_book (opened_session state) in
-    subst (λ (names : List (List ℕ)). IsTranscribed names 0 lines stop result (starting fresh) b old new) is.names
-    (subst (λ (s : SeatView). IsTranscribed o.names s.number lines stop result (starting fresh) b old new) is.seat
-    (subst (λ (k : Kept). IsTranscribed o.names o.seat.number lines stop result (starting k.book) b old new) is.book
+    subst (λ (names : List (List ℕ)). Transcribes names 0 end failed left_old left_new fresh b old new) is.names
+    (subst (λ (s : SeatView). Transcribes o.names s.number end failed left_old left_new fresh b old new) is.seat
+    (subst (λ (k : Kept). Transcribes o.names o.seat.number end failed left_old left_new k.book b old new) is.book
     played))
 
--- where its lines are played
-played_at : (failed : Bool) (input picture script : List ℕ) (read : Result Cluster PictureFault) (o : Opened)
-    (result : Result (Unit {0}) PlayFault) (b : Book) (old new : Option (List ℕ)) → is_told failed input ≡ true
-    → picture ≡ (cut_of input).picture → script ≡ (cut_of input).script → picture_of picture ≡ read
-    → Opens read (Ok o)
-    → IsTranscribed o.names o.seat.number (answered_lines failed script) (stop_of failed script) result
-    (starting o.book.book) b old new
-    → IsPiped (rehearsal_of failed input) (piped result) old new
-played_at failed input picture script (Err fault) o result b old new told first behind is opens played = absurd opens
-played_at failed input picture script (Ok state) o result b old new told first behind is opens played =
-    subst (λ (r : Result Rehearsal PipeFault). IsPiped r (piped result) old new)
-    (judged failed input picture script (Ok state) told first behind is)
-    (inl (record {
-      end = result;
-      book = b;
-      same = refl;
-      played =
-          at_opened (answered_lines failed script) (stop_of failed script) result state o b old new opens played;
-    }))
+pub behind_played : (read : Result Cluster PictureFault) (o : Opened) (end : Result (Unit {0}) PlayFault)
+    (result : Result (Unit {0}) PipeFault) (failed : Bool) (left_old left_new : Option (List ℕ)) (b : Book)
+    (old new : Option (List ℕ)) → Opens read (Ok o) → result ≡ piped end
+    → Transcribes o.names o.seat.number end failed left_old left_new o.book.book b old new
+    → PlaysBehind read result failed left_old left_new old new
+behind_played (Err fault) o end result failed left_old left_new b old new opens same played = absurd opens
+behind_played (Ok state) o end result failed left_old left_new b old new opens same played = inl (record {
+  end = end;
+  book = b;
+  same = same;
+  played = at_opened state o end failed left_old left_new b old new opens played;
+})
 
-pub ends_played : (failed : Bool) (input picture script : List ℕ) (o : Opened) (result : Result (Unit {0}) PlayFault)
-    (b : Book) (old new : Option (List ℕ)) → is_told failed input ≡ true → picture ≡ (cut_of input).picture
-    → script ≡ (cut_of input).script → Opens (picture_of picture) (Ok o)
-    → IsTranscribed o.names o.seat.number (answered_lines failed script) (stop_of failed script) result
-    (starting o.book.book) b old new
-    → IsPiped (rehearsal_of failed input) (piped result) old new
-ends_played failed input picture script o result b old new told first behind opens played =
-    played_at failed input picture script (picture_of picture) o result b old new told first behind refl opens played
+handed : (result : Result (Unit {0}) PipeFault) (fault : PlayFault) → IsErrAnd result (λ e. e ≡ Play fault)
+    → result ≡ piped (Err fault)
+handed (Ok x) fault is = absurd is
+handed (Err e) fault is = ap (λ (f : PipeFault). Err f) is
 
--- where they are not played to their end
-pub ends_early : (failed : Bool) (input picture script : List ℕ) (o : Opened) (fault : PlayFault)
-    (result : Result (Unit {0}) PipeFault) (b : Book) (old new : Option (List ℕ)) → is_told failed input ≡ true
-    → picture ≡ (cut_of input).picture → script ≡ (cut_of input).script → Opens (picture_of picture) (Ok o)
-    → IsErrAnd result (λ e. e ≡ Play fault)
-    → IsTranscribed o.names o.seat.number (answered_lines failed script) (stop_of failed script) (Err fault)
-    (starting o.book.book) b old new
-    → IsPiped (rehearsal_of failed input) result old new
-ends_early failed input picture script o fault (Ok x) b old new told first behind opens is played = absurd is
-ends_early failed input picture script o fault (Err e) b old new told first behind opens is played =
-    subst (λ (f : PipeFault). IsPiped (rehearsal_of failed input) (Err f) old new) (sym is)
-    (ends_played failed input picture script o (Err fault) b old new told first behind opens played)
+-- where it is not played to its end
+pub behind_early : (read : Result Cluster PictureFault) (o : Opened) (fault : PlayFault)
+    (result : Result (Unit {0}) PipeFault) (failed : Bool) (left_old left_new : Option (List ℕ)) (b : Book)
+    (old new : Option (List ℕ)) → Opens read (Ok o) → IsErrAnd result (λ e. e ≡ Play fault)
+    → Transcribes o.names o.seat.number (Err fault) failed left_old left_new o.book.book b old new
+    → PlaysBehind read result failed left_old left_new old new
+behind_early read o fault result failed left_old left_new b old new opens is played =
+    behind_played read o (Err fault) result failed left_old left_new b old new opens (handed result fault is) played
+
+-- the answers that could be seen are the transcript's
+seen_of : (state : Cluster) (o : Opened) (left_old left_before old shown : Option (List ℕ)) → IsOpened state o
+    → GoesOut (at_book o.names) left_old left_before (seated o.book o.seat) old shown
+    → GoesOutBehind (Ok state) left_old left_before old shown
+seen_of state o left_old left_before old shown is out =
+    let follows = lines_follow o.names (seated o.book o.seat) 1 (lines_of (ended out.earlier)) out.text out.y out.taken in
+    let fresh : Book = new_book (opened_session state) in
+    let lines : List (List ℕ) = lines_of (ended out.earlier) in
+    record {
+      earlier = out.earlier;
+      given = out.given;
+      reaches =
+          subst (λ (names : List (List ℕ)). Reaches old shown (transcript names 0 (starting fresh) 1 lines)) is.names
+          (subst (λ (s : SeatView). Reaches old shown (transcript o.names s.number (starting fresh) 1 lines)) is.seat
+          (subst (λ (k : Kept). Reaches old shown (transcript o.names o.seat.number (starting k.book) 1 lines)) is.book
+          (subst (λ (text : List ℕ). Reaches old shown text) follows.text_is out.reaches)));
+    }
+
+pub behind_out : (read : Result Cluster PictureFault) (o : Opened) (unread : Type 0)
+    (left_old left_before old shown : Option (List ℕ)) → Opens read (Ok o)
+    → unread ⊎ GoesOut (at_book o.names) left_old left_before (seated o.book o.seat) old shown
+    → unread ⊎ GoesOutBehind read left_old left_before old shown
+behind_out (Err fault) o unread left_old left_before old shown opens out = absurd opens
+behind_out (Ok state) o unread left_old left_before old shown opens (inl not) = inl not
+behind_out (Ok state) o unread left_old left_before old shown opens (inr out) =
+    inr (seen_of state o left_old left_before old shown opens out)
 
 -- a picture that is not opened is no failed write
 pub unopened_writes : (read : Result Cluster PictureFault) (fault : PipeFault) → Opens read (Err fault)
@@ -176,3 +148,53 @@ pub handed_on : (lost : Bool) (fault : PlayFault) (result : Result (Unit {0}) Pi
     → IsErrAnd result (λ e. e ≡ Play fault) → lost ≡ is_write_fault (Err fault) → lost ≡ loses_output result
 handed_on lost fault (Ok x) is was = absurd is
 handed_on lost fault (Err e) is was = was ∙ ap (λ (f : PipeFault). loses_output (Err f)) (sym is)
+
+-- the picture stands before the script
+pub front_of : (p n : ℕ) (input front : List ℕ) → p < n → n ≤ length input → front ≡ take n input
+    → take p front ≡ take p input
+front_of p n input front before within is =
+    let room : p ≤ length (take n input) = omega (arith, length-take-le n input within) in
+    ap (take p) is ∙ sym (take-append-le p (take n input) (drop n input) room)
+    ∙ ap (take p) (take-append-drop n input)
+
+-- An input without a script
+
+-- nothing is taken of it, and nothing written
+plays_none : (state : Cluster) (held : Option (List ℕ))
+    → IsPiped false (rehearsal_by false (Ok state) []) (Ok tt) held held
+unfolding answered_lines
+plays_none state held = inl (record {
+  end = Ok tt;
+  book = new_book (opened_session state);
+  same = refl;
+  played = inl (refl, record { taken = refl; written = Appends-nil held });
+})
+
+whole_by : (read : Result Cluster PictureFault) (script : List ℕ) (o : Opened) (held : Option (List ℕ)) → script ≡ []
+    → Opens read (Ok o) → IsPiped false (rehearsal_by false read script) (Ok tt) held held
+whole_by (Ok state) script o held none opens =
+    subst (λ (t : List ℕ). IsPiped false (rehearsal_by false (Ok state) t) (Ok tt) held held) (sym none)
+    (plays_none state held)
+whole_by (Err fault) script o held none opens = absurd opens
+
+whole_refused : (read : Result Cluster PictureFault) (script : List ℕ) (fault : PipeFault) (held : Option (List ℕ))
+    → Opens read (Err fault) → IsPiped false (rehearsal_by false read script) (Err fault) held held
+whole_refused (Ok state) script fault held want = inr (ap (λ (f : PipeFault). Err f) want, Keeps-refl held)
+whole_refused (Err reason) script fault held (inl refusal) = inl (ap (λ (f : PipeFault). Err f) refusal, Keeps-refl held)
+whole_refused (Err reason) script fault held (inr want) = inr (ap (λ (f : PipeFault). Err f) want, Keeps-refl held)
+
+pub whole_opened : (input picture : List ℕ) (o : Opened) (held : Option (List ℕ)) → (cut_of input).script ≡ []
+    → picture ≡ (cut_of input).picture → Opens (picture_of picture) (Ok o)
+    → IsPiped false (rehearsal_of false input) (Ok tt) held held
+whole_opened input picture o held none is opens =
+    whole_by (picture_of (cut_of input).picture) (cut_of input).script o held none
+    (subst (λ (p : List ℕ). Opens (picture_of p) (Ok o)) is opens)
+
+pub whole_unopened : (input picture : List ℕ) (fault : PipeFault) (result : Result (Unit {0}) PipeFault)
+    (held : Option (List ℕ)) → picture ≡ (cut_of input).picture → Opens (picture_of picture) (Err fault)
+    → IsErrAnd result (λ e. e ≡ fault) → IsPiped false (rehearsal_of false input) result held held
+whole_unopened input picture fault (Ok x) held is opens same = absurd same
+whole_unopened input picture fault (Err e) held is opens same =
+    subst (λ (f : PipeFault). IsPiped false (rehearsal_of false input) (Err f) held held) (sym same)
+    (whole_refused (picture_of (cut_of input).picture) (cut_of input).script fault held
+    (subst (λ (p : List ℕ). Opens (picture_of p) (Err fault)) is opens))

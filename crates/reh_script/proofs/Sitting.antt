@@ -174,7 +174,7 @@ pub sits_without : (names : List (List ℕ)) (script : List ℕ) (result : Resul
     (old : Option (List ℕ)) → IsErrAnd result (λ e. e ≡ fault.NoMemory)
     → PlaysAtDesk names script result seat seat old old
 sits_without names script (Ok done) seat old is = absurd is
-sits_without names script (Err reason) seat old is = inr (ap (λ e. Err e) is, refl, refl, Keeps-refl old)
+sits_without names script (Err reason) seat old is = inr (ap (λ e. Err e) is, refl, Keeps-refl old)
 
 -- A seat keeps its number.
 
@@ -253,4 +253,4 @@ number_at_desk names script result seat end old new (inl played) =
     number_played (at_desk names) (answered_lines false script) (stop_of false script) result
     (sitting seat) (sitting end) old new played
 number_at_desk names script result seat end old new (inr none) =
-    ap (λ (v : Player (Unit {0})). v.seat.number) none.2
+    ap (λ (v : Player (Unit {0})). v.seat.number) none.1

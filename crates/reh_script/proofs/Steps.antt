@@ -3,12 +3,13 @@ use Rattle.std.proofs.Common.{◌≡◌, ℕ, suc, ◌+◌, ◌-◌, ◌<◌, Li
 use Rattle.std.proofs.Common.{Err, true, refl, sym, ap, ◌∙◌, subst, arith, append-nil, length-append}
 use mathlib.Core.List.{append_assoc}
 use Rattle.std.proofs.lemmas.List.{take_rest, take-append-drop}
-use Rattle.std.proofs.KnownBytes.{Appends-trans, Appends-nil}
-use Rattle.std.specs.Io.KnownBytes.{Appends}
+use Rattle.std.proofs.KnownBytes.{Appends-trans, Appends-nil, Appends-kept}
+use Rattle.std.specs.Io.KnownBytes.{Appends, Keeps}
 use Rattle.reh_desk.specs.Numbered.{Numbered}
 use Rattle.reh_desk.specs.Seats.{SeatView}
 use Rattle.reh_crew.specs.declared.surveyors.SurveyFault.{SurveyFault}
 use Rattle.reh_crew.specs.declared.surveyors.SurveyFault.TheVariants as survey_fault
+use Rattle.reh_script.specs.declared.faults.PlayFault.{PlayFault}
 use Rattle.reh_script.specs.declared.faults.PlayFault.TheVariants.{WriteFault}
 use Rattle.reh_script.specs.Answers.{asked}
 use Rattle.reh_script.specs.Lines.{lines_of}
@@ -17,17 +18,7 @@ use Rattle.std.proofs.lemmas.Bool.Decides.{nat_tests}
 use Rattle.reh_script.specs.Faults.{play_fault_of}
 use Rattle.reh_script.specs.Players.{Setting, Player, Takes, TakesAll, Begins}
 use Rattle.reh_script.specs.Plays.{StopsWanting, IsPlayed}
-use Rattle.reh_script.specs.Turns.{player, held, IsWanted, LeadsTo}
-
--- Of all lines the first were taken and answered, so many, and these are left.
-pub record IsAt {S : Type 0} (place : Setting S) (all left : List (List ℕ)) (number : ℕ) (x y : Player S)
-    (old mid : Option (List ℕ)) : Type 0 where
-  pub done : List (List ℕ)
-  pub text : List ℕ
-  pub split : all ≡ done ++ left
-  pub count : number ≡ length done
-  pub taken : TakesAll place x 1 done text y
-  pub written : Appends old mid text
+use Rattle.reh_script.specs.Turns.{player, held, IsAt, IsWanted, LeadsTo, GoesOn, Halts}
 
 -- lines, and one more
 takes_more : {S : Type 0} (place : Setting S) (x : Player S) (n : ℕ) (lines : List (List ℕ)) (text : List ℕ)
@@ -85,6 +76,32 @@ none_left (b ∷ bs) none =
     let zero : length (b ∷ bs) ≡ 0 = grind (arith, nat_tests, none) in
     absurd (omega (arith, zero))
 
+-- and all the lines behind them
+pub is_at_more : {S : Type 0} (place : Setting S) (all left more : List (List ℕ)) (k : ℕ) (x y : Player S)
+    (old mid : Option (List ℕ)) → IsAt place all left k x y old mid
+    → IsAt place (all ++ more) (left ++ more) k x y old mid
+is_at_more place all left more k x y old mid at = record {
+  done = at.done;
+  text = at.text;
+  split = ap (λ (ls : List (List ℕ)). ls ++ more) at.split ∙ append_assoc at.done left more;
+  count = at.count;
+  taken = at.taken;
+  written = at.written;
+}
+
+-- where nothing more was written
+pub is_at_kept : {S : Type 0} (place : Setting S) (all left : List (List ℕ)) (k : ℕ) (x y : Player S)
+    (old mid new : Option (List ℕ)) → IsAt place all left k x y old mid → Keeps mid new
+    → IsAt place all left k x y old new
+is_at_kept place all left k x y old mid new at keeps = record {
+  done = at.done;
+  text = at.text;
+  split = at.split;
+  count = at.count;
+  taken = at.taken;
+  written = Appends-kept old mid new at.text at.written keeps;
+}
+
 -- where no line is left
 pub all_answered : {S : Type 0} (place : Setting S) (all lines : List (List ℕ)) (k : ℕ) (x y : Player S)
     (old new : Option (List ℕ)) → IsAt place all lines k x y old new → lines ≡ []
@@ -103,6 +120,22 @@ all_answered place all lines k x y old new at none = λ end ends.
             at.written;
       },
     )
+
+-- where the lines are all that there are
+at_first : {S : Type 0} (place : Setting S) (lines : List (List ℕ)) (x : Player S) (old : Option (List ℕ))
+    → IsAt place lines (lines ++ []) 0 x x old old
+at_first place lines x old =
+    subst (λ (ls : List (List ℕ)). IsAt place lines ls 0 x x old old) (sym (append-nil lines))
+    (is_at_start place lines x old)
+
+pub goes_to_end : {S : Type 0} (place : Setting S) (lines : List (List ℕ)) (number : ℕ) (x y : Player S)
+    (old new : Option (List ℕ)) → GoesOn place 0 lines number [] x y old new → LeadsTo place lines (Ok tt) x y old new
+goes_to_end place lines number x y old new goes =
+    all_answered place lines [] number x y old new (goes lines [] x old (at_first place lines x old)) refl
+
+pub halts_first : {S : Type 0} (place : Setting S) (lines : List (List ℕ)) (fault : PlayFault) (x y : Player S)
+    (old new : Option (List ℕ)) → Halts place 0 lines fault x y old new → LeadsTo place lines (Err fault) x y old new
+halts_first place lines fault x y old new halts = halts lines [] x old (at_first place lines x old)
 
 number_is : (k : ℕ) (done : List (List ℕ)) → k ≡ length done → k + 1 ≡ length done + 1
 number_is k done count = omega (arith, count)

@@ -23,12 +23,13 @@ use Rattle.reh_script.specs.declared.commands.LineFault.{LineFault}
 use Rattle.reh_script.specs.declared.faults.PlayFault.{PlayFault}
 use Rattle.reh_script.specs.declared.faults.PlayFault.TheVariants as fault
 use Rattle.reh_script.specs.Answers.{asked, reply_answer, numbered}
-use Rattle.reh_script.specs.BookPlays.{TranscribesAll, TranscribesPart, TranscribesUntil, CallMayWant, MayWantMemory}
+use Rattle.reh_script.specs.BookPlays.{TranscribesAll, TranscribesPart, TranscribesUntil, TranscribesBetween}
+use Rattle.reh_script.specs.BookPlays.{CallMayWant, MayWantMemory}
 use Rattle.reh_script.specs.BookPlays.{LacksAnswer, IsTranscribed, Transcribes, at_book}
 use Rattle.reh_script.specs.Hand.{call_of, discard_of, found, hand_after, hand_issued, HandAfter, HandIssued}
 use Rattle.reh_script.specs.Lines.{answered_lines}
 use Rattle.reh_script.specs.Players.{Player, seated, Calls, Commands, Takes, TakesAll, Begins, GivesBack}
-use Rattle.reh_script.specs.Plays.{stop_of, AnswersAll, StopsWriting, StopsWanting, IsPlayed, Plays}
+use Rattle.reh_script.specs.Plays.{stop_of, AnswersAll, StopsWriting, StopsWanting, StopsBetween, IsPlayed, Plays}
 use Rattle.reh_script.specs.Transcript.{BookPlayer, answer_by, after_by, answer_of, after_command, transcript}
 use Rattle.reh_script.specs.Transcript.{after_lines, given_back, end_of}
 
@@ -281,6 +282,19 @@ transcribes_until names lines x z old new stops =
       written = subst (λ t. Appends old new t) before.text_is stops.written;
     }
 
+pub transcribes_between : (names : List (List ℕ)) (lines : List (List ℕ)) (x z : Player Kept)
+    (old new : Option (List ℕ)) → StopsBetween (at_book names) lines x z old new
+    → TranscribesBetween names x.seat.number lines (player x) z.counter.book old new
+transcribes_between names lines x z old new stops =
+    let follows = lines_follow names x 1 stops.done stops.text stops.y stops.taken in
+    record {
+      done = stops.done;
+      rest = stops.rest;
+      split = stops.split;
+      taken = ends_at x stops.text stops.y _ _ z follows stops.ends;
+      written = subst (λ t. Appends old new t) follows.text_is stops.written;
+    }
+
 -- Plays
 
 -- a play of lines at a book
@@ -313,6 +327,8 @@ plays_book names result failed left_old left_new counter seat last end old new p
         inl
         (played_book names (answered_lines failed plays.text) (stop_of failed plays.text) result
         (seated counter seat) (seated last end) old new played)
-    | inr none ↦ inr (none.0, none.1, ap (λ (v : Player Kept). v.counter.book) none.2, none.3)
+    | inr breaks ↦
+        inr (breaks.0, breaks.1, transcribes_between names (answered_lines failed plays.text)
+        (seated counter seat) (seated last end) old new breaks.2)
   ];
 }

@@ -1,7 +1,7 @@
 -- How a play goes at a book with one seat: what it printed is the transcript, and it leaves the book where that does.
 use Rattle.std.specs.Prelude.{◌≡◌, ℕ, ◌+◌, ◌<◌, ◌⊎◌, Bool, false}
 use Rattle.std.specs.Prelude.{List, ◌∷◌, ◌++◌, length, Option, None, Some, IsSome, Result, Ok, Err}
-use Rattle.std.specs.Io.KnownBytes.{Appends, Keeps}
+use Rattle.std.specs.Io.KnownBytes.{Appends}
 use Rattle.reh_types.specs.declared.calls.Call.{Call}
 use Rattle.reh_model.specs.Book as model
 use Rattle.reh_model.specs.Book.{Book, answer_to}
@@ -82,10 +82,22 @@ IsTranscribed names seat lines stop (Err NoMemory) p b old new = TranscribesUnti
 IsTranscribed names seat lines stop (Err NoThread) p b old new =
     (until : TranscribesUntil names seat lines p b old new) × AsksForSurvey (asked names until.line)
 
--- There was no memory for the hand or the text, of which no read had failed: nothing was taken and nothing written.
-abbrev pub TranscribesNone : Bool → Result (Unit {0}) PlayFault → Book → Book → Option (List ℕ) → Option (List ℕ)
-    → Type 0
-TranscribesNone failed result b c old new = (result ≡ Err NoMemory) × (failed ≡ false) × (c ≡ b) × Keeps old new
+-- The first lines were taken and answered, and no other was begun.
+pub record TranscribesBetween (names : List (List ℕ)) (seat : ℕ) (lines : List (List ℕ)) (p : BookPlayer) (b : Book)
+    (old new : Option (List ℕ)) : Type 0 where
+  pub done : List (List ℕ)
+  pub rest : List (List ℕ)
+  pub split : lines ≡ done ++ rest
+  pub taken : b ≡ end_of seat (after_lines names seat p done)
+  pub written : Appends old new (transcript names seat p 1 done)
+
+-- A play broke off between two lines, and no read had failed: there was no memory for the hand or to read on, or what is
+-- written could not be handed on.
+abbrev pub LeavesOff : List (List ℕ) → ℕ → Bool → List (List ℕ) → Result (Unit {0}) PlayFault → BookPlayer → Book
+    → Option (List ℕ) → Option (List ℕ) → Type 0
+LeavesOff names seat failed lines result p b old new =
+    ((result ≡ Err NoMemory) ⊎ (result ≡ Err WriteFault)) × (failed ≡ false)
+    × TranscribesBetween names seat lines p b old new
 
 -- A play of the text that a reader gives, whose bytes to come were left_old and are left_new: the book goes from b
 -- to c.
@@ -95,7 +107,7 @@ pub record Transcribes (names : List (List ℕ)) (seat : ℕ) (result : Result (
   pub given : Gives left_old left_new failed text
   pub played :
       IsTranscribed names seat (answered_lines failed text) (stop_of failed text) result (starting b) c old new
-      ⊎ TranscribesNone failed result b c old new
+      ⊎ LeavesOff names seat failed (answered_lines failed text) result (starting b) c old new
 
 -- at a book, which shows its state
 abbrev pub at_book : List (List ℕ) → Setting Kept

@@ -4,7 +4,7 @@ use Rattle.reh_model.specs.Cluster.{Cluster}
 use Rattle.reh_desk.specs.Seats.{SeatView}
 use Rattle.reh_script.specs.Lines.{answered_lines}
 use Rattle.reh_script.specs.Players.{Going, Player, Setting, setting, seated}
-use Rattle.reh_script.specs.Plays.{stop_of, IsPlayed, LacksText}
+use Rattle.reh_script.specs.Plays.{stop_of, IsPlayed, LacksHand}
 use Rattle.reh_script.specs.declared.faults.PlayFault.{PlayFault}
 
 -- other seats call between any two calls, so any reply may come
@@ -30,4 +30,4 @@ abbrev pub PlaysAtDesk : List (List ℕ) → List ℕ → Result (Unit {0}) Play
 PlaysAtDesk names script result seat_old seat_new old new =
     IsPlayed (at_desk names) (answered_lines false script) (stop_of false script) result
     (sitting seat_old) (sitting seat_new) old new
-    ⊎ LacksText false result (sitting seat_old) (sitting seat_new) old new
+    ⊎ LacksHand result (sitting seat_old) (sitting seat_new) old new

@@ -7,6 +7,8 @@ pub mod Answers
 pub mod Hand
 pub mod Transcript
 pub mod Readings
+pub mod Streams
+pub mod Heads
 pub mod Players
 pub mod Plays
 pub mod Turns

@@ -1,11 +1,12 @@
 -- How a play goes at any counter: which lines were answered, which were taken, and why it ended.
 use Rattle.std.specs.Prelude.{◌≡◌, ℕ, ◌+◌, ◌<◌, ◌⊎◌, Bool, true, false, if◌then◌else◌}
 use Rattle.std.specs.Prelude.{List, ◌∷◌, ◌++◌, length, Option, None, Some, Result, Ok, Err}
-use Rattle.std.specs.Io.KnownBytes.{Appends, Keeps}
+use Rattle.std.specs.Io.KnownBytes.{Appends, Consumes, Keeps}
 use Rattle.reh_script.specs.Answers.{asked}
-use Rattle.reh_script.specs.Lines.{is_script, answered_lines}
+use Rattle.reh_script.specs.Lines.{is_script, lines_of, ended, answered_lines}
 use Rattle.reh_script.specs.Players.{Setting, Player, Takes, TakesAll, Begins, Ends, AsksForSurvey}
 use Rattle.reh_script.specs.Readings.{Gives}
+use Rattle.reh_script.specs.Streams.{Reaches}
 use Rattle.reh_script.specs.declared.faults.PlayFault.{PlayFault}
 use Rattle.reh_script.specs.declared.faults.PlayFault.TheVariants.{ReadFault, TooLong, WriteFault, NoMemory, NoThread}
 
@@ -69,10 +70,24 @@ IsPlayed {S} place lines stop (Err NoMemory) x z old new = StopsWanting place li
 IsPlayed {S} place lines stop (Err NoThread) x z old new =
     (stops : StopsWanting place lines x z old new) × AsksForSurvey (asked place.names stops.line)
 
--- There was no memory for the hand or the text, of which no read had failed: nothing was taken and nothing written.
-abbrev pub LacksText : {S : Type 0} → Bool → Result (Unit {0}) PlayFault → Player S → Player S → Option (List ℕ)
-    → Option (List ℕ) → Type 0
-LacksText {S} failed result x z old new = (result ≡ Err NoMemory) × (failed ≡ false) × (z ≡ x) × Keeps old new
+-- The first lines were taken and answered, and no other was begun.
+pub record StopsBetween {S : Type 0} (place : Setting S) (lines : List (List ℕ)) (x z : Player S)
+    (old new : Option (List ℕ)) : Type 0 where
+  pub done : List (List ℕ)
+  pub rest : List (List ℕ)
+  pub text : List ℕ
+  pub y : Player S
+  pub split : lines ≡ done ++ rest
+  pub taken : TakesAll place x 1 done text y
+  pub ends : Ends place y z
+  pub written : Appends old new text
+
+-- A play broke off between two lines, and no read had failed: there was no memory for the hand or to read on, or what is
+-- written could not be handed on.
+abbrev pub BreaksOff : {S : Type 0} → Setting S → Bool → List (List ℕ) → Result (Unit {0}) PlayFault → Player S
+    → Player S → Option (List ℕ) → Option (List ℕ) → Type 0
+BreaksOff {S} place failed lines result x z old new =
+    ((result ≡ Err NoMemory) ⊎ (result ≡ Err WriteFault)) × (failed ≡ false) × StopsBetween place lines x z old new
 
 -- A play of the text that a reader gives, whose bytes to come were left_old and are left_new.
 pub record Plays {S : Type 0} (place : Setting S) (result : Result (Unit {0}) PlayFault) (failed : Bool)
@@ -80,7 +95,24 @@ pub record Plays {S : Type 0} (place : Setting S) (result : Result (Unit {0}) Pl
   pub text : List ℕ
   pub given : Gives left_old left_new failed text
   pub played : IsPlayed place (answered_lines failed text) (stop_of failed text) result x z old new
-      ⊎ LacksText failed result x z old new
+      ⊎ BreaksOff place failed (answered_lines failed text) result x z old new
+
+-- When a reader was last read, the other end could see the answers to all lines that were complete by then. What the
+-- reader was to give was left_old before the play and left_before before that read; old was written before the play, and
+-- shown can be seen after it. As each read may be the last one, an answer never waits for a read.
+pub record GoesOut {S : Type 0} (place : Setting S) (left_old left_before : Option (List ℕ)) (x : Player S)
+    (old shown : Option (List ℕ)) : Type 0 where
+  pub earlier : List ℕ
+  pub text : List ℕ
+  pub y : Player S
+  pub given : Consumes left_old left_before earlier
+  pub taken : TakesAll place x 1 (lines_of (ended earlier)) text y
+  pub reaches : Reaches old shown text
+
+-- There was no memory for the hand: nothing was taken and nothing written.
+abbrev pub LacksHand : {S : Type 0} → Result (Unit {0}) PlayFault → Player S → Player S → Option (List ℕ)
+    → Option (List ℕ) → Type 0
+LacksHand {S} result x z old new = (result ≡ Err NoMemory) × (z ≡ x) × Keeps old new
 
 -- whether a play ended since a write failed
 abbrev pub is_write_fault : Result (Unit {0}) PlayFault → Bool

@@ -1,5 +1,6 @@
 -- How a player answers a line, and what it leaves where a line is not answered.
-use Rattle.std.specs.Prelude.{⊤, ℕ, List, [], ◌∷◌, ◌++◌, map, Option, None, Some, Result, codes}
+use Rattle.std.specs.Prelude.{◌≡◌, ⊤, ℕ, Bool, List, [], ◌∷◌, ◌++◌, length, map, Option, None, Some, Result, Err, codes}
+use Rattle.std.specs.Io.KnownBytes.{Appends}
 use Rattle.reh_model.specs.Cluster.{Cluster}
 use Rattle.reh_desk.specs.Numbered.{Numbered}
 use Rattle.reh_desk.specs.Seats.{SeatView}
@@ -11,8 +12,8 @@ use Rattle.reh_script.specs.declared.commands.Command.{Command}
 use Rattle.reh_script.specs.declared.commands.LineFault.{LineFault}
 use Rattle.reh_script.specs.declared.faults.PlayFault.{PlayFault}
 use Rattle.reh_script.specs.Answers.{numbered, reply_answer, fault_answer, shown, report_answer}
-use Rattle.reh_script.specs.Players.{Going, Player, Setting, setting, Takes, Begins, Ends, AsksForSurvey}
-use Rattle.reh_script.specs.Plays.{IsPlayed}
+use Rattle.reh_script.specs.Players.{Going, Player, Setting, setting, Takes, TakesAll, Begins, Ends, AsksForSurvey}
+use Rattle.reh_script.specs.Plays.{IsPlayed, Plays}
 use Rattle.reh_script.specs.Texts.{survey_line_text, text_of}
 
 abbrev pub player : {S : Type 0} → S → SeatView → List Numbered → Player S
@@ -58,3 +59,34 @@ abbrev pub LeadsTo : {S : Type 0} → Setting S → List (List ℕ) → Result (
     → Option (List ℕ) → Option (List ℕ) → Type 0
 LeadsTo {S} place lines result x y old new =
     (z : Player S) → Ends place y z → IsPlayed place lines None result x z old new
+
+-- Of all lines the first were taken and answered, so many, and these are left.
+pub record IsAt {S : Type 0} (place : Setting S) (all left : List (List ℕ)) (number : ℕ) (x y : Player S)
+    (old mid : Option (List ℕ)) : Type 0 where
+  pub done : List (List ℕ)
+  pub text : List ℕ
+  pub split : all ≡ done ++ left
+  pub count : number ≡ length done
+  pub taken : TakesAll place x 1 done text y
+  pub written : Appends old mid text
+
+-- Of lines behind so many others the first were taken and answered, and these are left, whatever stands before them and
+-- follows.
+abbrev pub GoesOn : {S : Type 0} → Setting S → ℕ → List (List ℕ) → ℕ → List (List ℕ) → Player S → Player S
+    → Option (List ℕ) → Option (List ℕ) → Type 0
+GoesOn {S} place before lines number left x y old new =
+    (all rest : List (List ℕ)) (start : Player S) (first : Option (List ℕ))
+    → IsAt place all (lines ++ rest) before start x first old → IsAt place all (left ++ rest) number start y first new
+
+-- One of them was not answered, for this fault.
+abbrev pub Halts : {S : Type 0} → Setting S → ℕ → List (List ℕ) → PlayFault → Player S → Player S → Option (List ℕ)
+    → Option (List ℕ) → Type 0
+Halts {S} place before lines fault x y old new =
+    (all rest : List (List ℕ)) (start : Player S) (first : Option (List ℕ))
+    → IsAt place all (lines ++ rest) before start x first old → LeadsTo place all (Err fault) start y first new
+
+-- A play of the text that a reader gives came from x to y, where its hand is still to be given back.
+abbrev pub PlaysTo : {S : Type 0} → Setting S → Result (Unit {0}) PlayFault → Bool → Option (List ℕ)
+    → Option (List ℕ) → Player S → Player S → Option (List ℕ) → Option (List ℕ) → Type 0
+PlaysTo {S} place result failed left_old left_new x y old new =
+    (z : Player S) → Ends place y z → Plays place result failed left_old left_new x z old new

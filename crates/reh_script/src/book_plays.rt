@@ -1,15 +1,14 @@
 // Plays by a seat of a book that it has for itself.
-ghost use Rattle.std.specs.Prelude.{◌≡◌, ◌+◌, ◌≤◌, [], false, length};
-ghost use Rattle.reh_script.specs.BookPlays.{IsTranscribed, Transcribes, at_book};
-ghost use Rattle.reh_script.specs.Lines.{answered_lines};
+ghost use Rattle.std.specs.Prelude.{◌≡◌, ◌⊎◌, ◌+◌, ◌≤◌, [], false, length, OnOk};
+ghost use Rattle.std.specs.Io.KnownBytes.{prepend_known};
+ghost use Rattle.reh_script.specs.BookPlays.{Transcribes, at_book};
 ghost use Rattle.reh_script.specs.Players.{seated};
-ghost use Rattle.reh_script.specs.Plays.{Plays, stop_of, is_write_fault};
-ghost use Rattle.reh_script.specs.Transcript.{starting};
+ghost use Rattle.reh_script.specs.Plays.{Plays, GoesOut, is_write_fault};
 
 use crate::faults::PlayFault;
 use crate::hand::Hand;
 use crate::players::Tools;
-use crate::plays::{answer_script, play};
+use crate::plays::{play, play_on};
 use crate::streams::{TextIn, TextOut};
 use reh_cluster::Names;
 use reh_crew::Surveyor;
@@ -42,30 +41,41 @@ pub fn play_book<V: Surveyor, R: TextIn, W: TextOut>(
     ensures transcribes { Transcribes names.now seat.old.number result
         (R.has_failed reader.new) (R.remaining reader.old) (R.remaining reader.new)
         book.old.book book.new.book (W.contents writer.old) (W.contents writer.new) }
+    ensures prompt { (reader.new ≡ reader.old) ⊎ GoesOut (at_book names.now)
+        (R.remaining reader.old) (R.before reader.new) (seated book.old seat.old)
+        (W.contents writer.old) (W.seen writer.new) }
+    ensures seen { OnOk result (W.seen writer.new ≡ W.contents writer.new) }
     ensures write { W.has_failed writer.new ≡ is_write_fault result }
     ensures calls { R.calls reader.new ≤ R.calls reader.old + (MAX_SCRIPT_BYTES + 1) }
 {
     play(alloc, book, seat, names, surveyor, reader, writer)
 }
 
-/// Answers the lines of a script, behind which a read has failed or none has, at a book of which no ticket is out.
-pub(crate) fn answer_at_book<V: Surveyor, W: TextOut>(
+/// Plays a script whose first bytes are at hand, at a book of which no ticket is out, and gives the hand back.
+pub(crate) fn play_on_book<V: Surveyor, R: TextIn, W: TextOut>(
     tools: &Tools<V>,
     book: &mut Book,
     seat: &mut Seat,
     hand: Hand,
-    script: &[u8],
-    failed: bool,
+    script: Vec<u8>,
+    reader: &mut R,
     writer: &mut W,
 ) -> Result<(), PlayFault>
     requires out { length book.old.book.out ≡ seat.old.out }
     requires surveys { V.surveys tools.now.surveyor.now }
     requires empty { hand ≡ [] }
+    requires few { length script.items ≤ MAX_SCRIPT_BYTES }
+    requires reads { R.has_failed reader.old ≡ false }
     requires writes { W.has_failed writer.old ≡ false }
-    ensures transcribed { IsTranscribed tools.now.names.now seat.old.number
-        (answered_lines failed script.now) (stop_of failed script.now) result
-        (starting book.old.book) book.new.book (W.contents writer.old) (W.contents writer.new) }
+    ensures transcribes { Transcribes tools.now.names.now seat.old.number result (R.has_failed reader.new)
+        (prepend_known script.items (R.remaining reader.old)) (R.remaining reader.new)
+        book.old.book book.new.book (W.contents writer.old) (W.contents writer.new) }
+    ensures prompt { (reader.new ≡ reader.old) ⊎ GoesOut (at_book tools.now.names.now)
+        (prepend_known script.items (R.remaining reader.old)) (R.before reader.new) (seated book.old seat.old)
+        (W.contents writer.old) (W.seen writer.new) }
+    ensures seen { OnOk result (W.seen writer.new ≡ W.contents writer.new) }
     ensures write { W.has_failed writer.new ≡ is_write_fault result }
+    ensures calls { R.calls reader.new ≤ R.calls reader.old + (MAX_SCRIPT_BYTES + 1) }
 {
-    answer_script(tools, book, seat, hand, script, failed, writer)
+    play_on(tools, book, seat, hand, script, reader, writer)
 }

@@ -17,6 +17,7 @@ fn piece_at(pieces: &[usize], call: u64) -> usize
 #[derive(Drop)]
 pub struct PiecesIn<'a> {
     rest: &'a [u8],
+    before: &'a [u8],
     pieces: &'a [usize],
     fails_at: Option<u64>,
     calls: u64,
@@ -32,6 +33,7 @@ impl<'a> PiecesIn<'a> {
     {
         PiecesIn {
             rest: bytes,
+            before: bytes,
             pieces,
             fails_at,
             calls: 0,
@@ -47,9 +49,12 @@ impl TextIn for PiecesIn<'_> {
 
     ghost calls = { λ s. s.calls };
 
+    ghost before = { λ s. Some s.before.now };
+
     fn take(&mut self, buffer: &mut [u8]) -> Result<usize, StreamFault> {
         let call = self.calls;
         self.calls = call.saturating_add(1);
+        self.before = self.rest;
         if self.fails_at == Some(call) {
             self.has_failed = true;
             return Err(StreamFault);
@@ -95,6 +100,8 @@ impl<'a> PiecesOut<'a> {
 impl TextOut for PiecesOut<'_> {
     ghost contents = { λ s. Some s.written.items };
 
+    ghost seen = { λ s. Some s.written.items };
+
     ghost has_failed = { λ s. s.has_failed };
 
     fn put(&mut self, bytes: &[u8]) -> Result<usize, StreamFault> {
@@ -109,5 +116,9 @@ impl TextOut for PiecesOut<'_> {
             return Err(StreamFault);
         }
         Ok(size)
+    }
+
+    fn flush(&mut self) -> Result<(), StreamFault> {
+        Ok(())
     }
 }

@@ -1,28 +1,33 @@
 // From the bytes of the input to the bytes of the transcript.
-ghost use Rattle.std.specs.Prelude.{◌≡◌, ◌+◌, ◌≤◌, false};
-ghost use Rattle.reh_script.specs.Pipes.{rehearsal_of, IsPiped, Pipes, loses_output};
+ghost use Rattle.std.specs.Prelude.{◌≡◌, ◌⊎◌, ◌+◌, ◌≤◌, ◌<◌, [], false, take, drop, length, List, ℕ, Option, OnOk};
+ghost use Rattle.std.specs.Io.KnownBytes.{prepend_known};
+ghost use Rattle.reh_picture.specs.Pictures.{picture_of};
+ghost use Rattle.reh_script.specs.Lines.{cut_of};
+ghost use Rattle.reh_script.specs.Pipes.{rehearsal_of, IsPiped, Pipes, PlaysBehind, GoesOutBehind, AnswersGoOut};
+ghost use Rattle.reh_script.specs.Pipes.{loses_output};
 
-use crate::book_plays::answer_at_book;
+use crate::book_plays::play_on_book;
 use crate::faults::{PipeFault, PlayFault};
 use crate::hand::Hand;
-use crate::inputs::{is_told, split_input};
+use crate::heads::{Head, Percent, read_head};
+use crate::inputs::split_input;
 use crate::openings::open_picture;
 use crate::players::Tools;
-use crate::readings::read_text;
 use crate::streams::{TextIn, TextOut};
 use reh_crew::Surveyor;
 use reh_types::{MAX_PICTURE_BYTES, MAX_SCRIPT_BYTES};
 use std::alloc::Global;
 
-/// So many bytes are enough to know a picture or a script that is too long: a picture of 8,388,608 bytes, LF, `%`, CR,
-/// LF, and a script of one byte more than there can be.
-const MAX_INPUT: usize = MAX_PICTURE_BYTES + 4 + MAX_SCRIPT_BYTES + 1;
+/// So many reads are enough: of a picture of 8,388,608 bytes, LF, `%`, CR, LF, and a script of one byte more than there
+/// can be.
+const MAX_READS: usize = MAX_PICTURE_BYTES + 4 + MAX_SCRIPT_BYTES + 1;
 
 /// Reads a picture, a line `%` and a script, and writes the transcript: an answer to each line of the script that has
 /// one.
 ///
-/// A picture's fault comes before any other. A script that is too long, and one behind which a read fails, have the
-/// lines answered that end in time.
+/// The picture is judged as soon as its line `%` has ended, and its fault comes before any other. All lines of the
+/// script that are complete are answered, and their answers handed on, before more is read. A script that is too long,
+/// and one behind which a read fails, have the lines answered that end in time.
 pub fn pipe<V: Surveyor, R: TextIn, W: TextOut>(
     alloc: Global,
     surveyor: &V,
@@ -35,45 +40,72 @@ pub fn pipe<V: Surveyor, R: TextIn, W: TextOut>(
     ensures pipes { Pipes result
         (R.has_failed reader.new) (R.remaining reader.old) (R.remaining reader.new)
         (W.contents writer.old) (W.contents writer.new) }
+    ensures prompt { (reader.new ≡ reader.old) ⊎ AnswersGoOut (R.remaining reader.old) (R.before reader.new)
+        (W.contents writer.old) (W.seen writer.new) }
+    ensures seen { OnOk result ((writer.new ≡ writer.old) ⊎ (W.seen writer.new ≡ W.contents writer.new)) }
     ensures write { W.has_failed writer.new ≡ loses_output result }
-    ensures calls { R.calls reader.new ≤ R.calls reader.old + MAX_INPUT }
+    ensures calls { R.calls reader.new ≤ R.calls reader.old + MAX_READS }
 {
-    let input = read_text(alloc, reader, MAX_INPUT)?;
-    transcribe(alloc, surveyor, &input.bytes, input.failed, writer)
+    let mut input = Vec::new(alloc);
+    match read_head(reader, &mut input)? {
+        Head::Ended(percent) => play_behind(alloc, surveyor, input, percent, reader, writer),
+        Head::Whole | Head::TooLong => open_whole(alloc, &input),
+        Head::Failed => Err(PipeFault::Play(PlayFault::ReadFault)),
+    }
 }
 
-/// Writes the transcript of an input, behind which a read has failed or none has.
-fn transcribe<V: Surveyor, W: TextOut>(
+/// Judges an input that has no script.
+fn open_whole(alloc: Global, input: &[u8]) -> Result<(), PipeFault>
+    requires { (cut_of input.now).script ≡ [] }
+    ensures { (held : Option (List ℕ)) → IsPiped false (rehearsal_of false input.now) result held held }
+{
+    let (picture, _) = split_input(input);
+    open_picture(alloc, picture)?;
+    Ok(())
+}
+
+/// Plays the script behind the line `%` of an input.
+fn play_behind<V: Surveyor, R: TextIn, W: TextOut>(
     alloc: Global,
     surveyor: &V,
-    input: &[u8],
-    failed: bool,
+    input: Vec<u8>,
+    percent: Percent,
+    reader: &mut R,
     writer: &mut W,
 ) -> Result<(), PipeFault>
     requires surveys { V.surveys surveyor.now }
+    requires order { percent.picture < percent.script }
+    requires within { percent.script ≤ length input.items }
+    requires few { length input.items ≤ percent.script + MAX_SCRIPT_BYTES }
+    requires reads { R.has_failed reader.old ≡ false }
     requires writes { W.has_failed writer.old ≡ false }
-    ensures piped { IsPiped (rehearsal_of failed input.now) result
+    ensures plays { PlaysBehind (picture_of (take percent.picture input.items)) result (R.has_failed reader.new)
+        (prepend_known (drop percent.script input.items) (R.remaining reader.old)) (R.remaining reader.new)
         (W.contents writer.old) (W.contents writer.new) }
+    ensures prompt { (reader.new ≡ reader.old) ⊎ GoesOutBehind (picture_of (take percent.picture input.items))
+        (prepend_known (drop percent.script input.items) (R.remaining reader.old)) (R.before reader.new)
+        (W.contents writer.old) (W.seen writer.new) }
+    ensures seen { OnOk result (W.seen writer.new ≡ W.contents writer.new) }
     ensures write { W.has_failed writer.new ≡ loses_output result }
+    ensures calls { R.calls reader.new ≤ R.calls reader.old + (MAX_SCRIPT_BYTES + 1) }
 {
-    if !is_told(input, failed) {
-        return Err(PipeFault::Play(PlayFault::ReadFault));
-    }
-    let (picture, script) = split_input(input);
-    let mut rehearsal = open_picture(alloc, picture)?;
+    let mut input = input;
+    let script = input.split_off(percent.script)?;
+    let mut rehearsal = open_picture(alloc, &input[..percent.picture])?;
+    drop(input);
     let hand = Hand::new(alloc)?;
     let tools = Tools {
         alloc,
         names: &rehearsal.names,
         surveyor,
     };
-    answer_at_book(
+    play_on_book(
         &tools,
         &mut rehearsal.book,
         &mut rehearsal.seat,
         hand,
         script,
-        failed,
+        reader,
         writer,
     )?;
     Ok(())

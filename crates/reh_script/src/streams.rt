@@ -1,10 +1,12 @@
-// Readers and writers of bytes that tell whether a call has failed.
+// Readers and writers of bytes that tell whether a call has failed, and what the other end can see.
 ghost use Rattle.std.specs.Prelude.{◌≡◌, ℕ, Bool, false, ◌||◌, ◌+◌, ◌-◌, ◌^◌, ◌<◌, ◌≤◌, min, List, length, Option};
-ghost use Rattle.std.specs.Prelude.{is_err, IfOk, Ok};
+ghost use Rattle.std.specs.Prelude.{is_err, IfOk, OnOk, Ok};
 ghost use Rattle.std.specs.Io.{ReadsAtMost};
 ghost use Rattle.std.specs.Io.KnownBytes.{ReadConsumes, WriteAppends, Keeps};
+ghost use Rattle.reh_script.specs.Streams.{Grows};
 
 use std::io::{Read, Write};
+use std::snapshot::Snapshot;
 
 /// A call that failed. It moved no byte.
 #[derive(Clone, Copy, PartialEq, Eq, Debug)]
@@ -21,18 +23,25 @@ pub trait TextIn {
     // How many calls there were so far.
     ghost calls: { Self → ℕ };
 
+    // What was still to come before the last call.
+    ghost before: { Self → Option (List ℕ) };
+
     /// Takes some bytes into the buffer and says how many: none only at the end, or where the buffer has no room.
     fn take(&mut self, buffer: &mut [u8]) -> Result<usize, StreamFault>
         ensures bound { ReadsAtMost result buffer.new }
         ensures bytes { ReadConsumes (remaining self.old) (remaining self.new) result buffer.new }
         ensures failed { has_failed self.new ≡ (has_failed self.old || is_err result) }
-        ensures counted { calls self.new ≡ min (calls self.old + 1) (2 ^ 64 - 1) };
+        ensures counted { calls self.new ≡ min (calls self.old + 1) (2 ^ 64 - 1) }
+        ensures last { before self.new ≡ remaining self.old };
 }
 
-/// A writer, like std's `Write`.
+/// A writer, like std's `Write`. It may keep back what it took, until a flush hands it on.
 pub trait TextOut {
     // The bytes that were written, where they are known.
     ghost contents: { Self → Option (List ℕ) };
+
+    // The bytes that the other end can see, where they are known.
+    ghost seen: { Self → Option (List ℕ) };
 
     // Whether a call has failed so far.
     ghost has_failed: { Self → Bool };
@@ -42,6 +51,14 @@ pub trait TextOut {
         ensures bound { IfOk result (λ count. (count ≤ length bytes.now) × (0 < length bytes.now → 0 < count)) }
         ensures empty { length bytes.now ≡ 0 → result ≡ Ok 0 }
         ensures bytes { WriteAppends (contents self.old) (contents self.new) result bytes.now }
+        ensures seen { Grows (seen self.old) (seen self.new) }
+        ensures failed { has_failed self.new ≡ (has_failed self.old || is_err result) };
+
+    /// Hands on all that was written, so that the other end can see it.
+    fn flush(&mut self) -> Result<(), StreamFault>
+        ensures bytes { Keeps (contents self.old) (contents self.new) }
+        ensures grows { Grows (seen self.old) (seen self.new) }
+        ensures seen { OnOk result (seen self.new ≡ contents self.new) }
         ensures failed { has_failed self.new ≡ (has_failed self.old || is_err result) };
 }
 
@@ -51,17 +68,21 @@ pub struct FromRead<R: Read> {
     inner: R,
     has_failed: bool,
     calls: u64,
+    before: Snapshot<R>,
 }
 
 impl<R: Read> FromRead<R> {
     /// The reader, of which no call was made yet.
     pub fn new(inner: R) -> Self
-        ensures { result ≡ record { inner = inner; has_failed = false; calls = 0 } }
+        ensures inner { result.inner ≡ inner }
+        ensures fresh { (result.has_failed ≡ false) × (result.calls ≡ 0) }
     {
+        let before = Snapshot::of(&inner);
         FromRead {
             inner,
             has_failed: false,
             calls: 0,
+            before,
         }
     }
 }
@@ -73,8 +94,11 @@ impl<R: Read> TextIn for FromRead<R> {
 
     ghost calls = { λ s. s.calls };
 
+    ghost before = { λ s. R.remaining s.before.value };
+
     fn take(&mut self, buffer: &mut [u8]) -> Result<usize, StreamFault> {
         self.calls = self.calls.saturating_add(1);
+        self.before = Snapshot::of(&self.inner);
         match self.inner.read(buffer) {
             Ok(count) => Ok(count),
             Err(_) => {
@@ -85,7 +109,8 @@ impl<R: Read> TextIn for FromRead<R> {
     }
 }
 
-/// std's writer as a `TextOut`. A write that takes no byte counts as failed.
+/// std's writer as a `TextOut`, for one that hands on what it takes, as standard output does, and keeps nothing back. A
+/// write that takes no byte counts as failed.
 #[derive(Drop)]
 pub struct ToWrite<W: Write> {
     inner: W,
@@ -102,22 +127,12 @@ impl<W: Write> ToWrite<W> {
             has_failed: false,
         }
     }
-
-    /// Hands on what the writer keeps back.
-    pub fn flush(&mut self) -> Result<(), StreamFault>
-        ensures bytes { Keeps (W.contents self.old.inner) (W.contents self.new.inner) }
-        ensures failed { self.new.has_failed ≡ (self.old.has_failed || is_err result) }
-    {
-        if self.inner.flush().is_err() {
-            self.has_failed = true;
-            return Err(StreamFault);
-        }
-        Ok(())
-    }
 }
 
 impl<W: Write> TextOut for ToWrite<W> {
     ghost contents = { λ s. W.contents s.inner };
+
+    ghost seen = { λ s. W.contents s.inner };
 
     ghost has_failed = { λ s. s.has_failed };
 
@@ -132,5 +147,13 @@ impl<W: Write> TextOut for ToWrite<W> {
                 Err(StreamFault)
             }
         }
+    }
+
+    fn flush(&mut self) -> Result<(), StreamFault> {
+        if self.inner.flush().is_err() {
+            self.has_failed = true;
+            return Err(StreamFault);
+        }
+        Ok(())
     }
 }

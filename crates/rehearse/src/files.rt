@@ -75,6 +75,8 @@ impl TextIn for LateFile<'_> {
 
     ghost calls = { λ s. s.calls };
 
+    ghost before = { λ _. None };
+
     fn take(&mut self, buffer: &mut [u8]) -> Result<usize, StreamFault> {
         self.calls = self.calls.saturating_add(1);
         let taken = self.take_opened(buffer);

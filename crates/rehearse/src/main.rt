@@ -22,10 +22,9 @@ use drills::drill_over;
 use faults::{RunFault, after_flush, status_of, want_of_memory};
 use files::{LateFile, read_file, read_scripts};
 use reh_crew::{OpenGate, Plain};
-use reh_script::{FromRead, ToWrite, pipe};
+use reh_script::{FromRead, Gathered, TextOut, ToWrite, pipe, run};
 use reh_types::MAX_PICTURE_BYTES;
 use runs::{Crew, run_by};
-use std::io::{BufWriter, Write};
 use std::process::ExitCode;
 use std::sync::Wait;
 use std::thread::Threads;
@@ -83,13 +82,13 @@ fn play<R: Threads + Wait + Sync>(
     threads: &R,
     input: Input<'_>,
 ) -> Result<(), RunFault> {
-    let buffer = BufWriter::new(rt.alloc(), io::writer(rt))?;
-    let mut writer = ToWrite::new(buffer);
+    let mut writer = Gathered::new(rt.alloc(), ToWrite::new(io::writer(rt)))?;
     let played = match input {
         Input::Pipe => {
             let mut reader = FromRead::new(rt.reader());
             pipe(rt.alloc(), &Plain, &mut reader, &mut writer).map_err(RunFault::from)
         }
+        Input::Talk { picture } => talk(rt, picture, &mut writer),
         Input::Files {
             picture,
             script,
@@ -100,16 +99,26 @@ fn play<R: Threads + Wait + Sync>(
     after_flush(played, flushed)
 }
 
+/// Plays standard input on a picture file: what a read brings is answered before the next.
+fn talk<W: TextOut>(rt: &HostRuntime, picture: &str, writer: &mut W) -> Result<(), RunFault>
+    requires { W.has_failed writer.old ≡ false }
+{
+    let mut picture = FromRead::new(fs::open(rt, picture)?);
+    let mut script = FromRead::new(rt.reader());
+    run(rt.alloc(), &Plain, &mut picture, &mut script, writer)?;
+    Ok(())
+}
+
 /// Plays a script file on a picture file. The script is opened once the picture is accepted.
-fn run_files<R: Threads + Wait + Sync, W: Write>(
+fn run_files<R: Threads + Wait + Sync, W: TextOut>(
     rt: &HostRuntime,
     threads: &R,
     picture: &str,
     script: &str,
     crew: Crew,
-    writer: &mut ToWrite<W>,
+    writer: &mut W,
 ) -> Result<(), RunFault>
-    requires { writer.old.has_failed ≡ false }
+    requires { W.has_failed writer.old ≡ false }
 {
     let mut picture = FromRead::new(fs::open(rt, picture)?);
     let mut script = LateFile::new(rt, script);
@@ -128,8 +137,7 @@ fn drill<R: Threads + Wait + Sync>(
 ) -> Result<(), RunFault> {
     let picture = read_file(rt, files.picture, MAX_PICTURE_BYTES as u64 + 1)?;
     let scripts = read_scripts(rt, &files.scripts)?;
-    let buffer = BufWriter::new(rt.alloc(), io::writer(rt))?;
-    let mut writer = ToWrite::new(buffer);
+    let mut writer = Gathered::new(rt.alloc(), ToWrite::new(io::writer(rt)))?;
     let drilled = drill_over(
         threads,
         rt.alloc(),

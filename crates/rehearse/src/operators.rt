@@ -20,6 +20,8 @@ pub(crate) struct Transcript {
 impl TextOut for Transcript {
     ghost contents = { λ t. Some t.text.items };
 
+    ghost seen = { λ t. Some t.text.items };
+
     ghost has_failed = { λ t. is_some t.want };
 
     fn put(&mut self, bytes: &[u8]) -> Result<usize, StreamFault> {
@@ -33,6 +35,10 @@ impl TextOut for Transcript {
                 Err(StreamFault)
             }
         }
+    }
+
+    fn flush(&mut self) -> Result<(), StreamFault> {
+        Ok(())
     }
 }
 

@@ -34,6 +34,8 @@ pub struct DrillFiles<'a> {
 pub enum Input<'a> {
     /// On standard input: a picture, a line `%` and a script.
     Pipe,
+    /// The picture in a file, and the script on standard input.
+    Talk { picture: &'a str },
     /// Each in a file; and who makes the surveys.
     Files {
         picture: &'a str,
@@ -83,6 +85,7 @@ fn asked_task<'a>(alloc: Global, matches: &ArgMatches<'a>) -> Result<Task<'a>, A
     let workers = given.get_one("workers").unwrap_or(1);
     match (name, given.get_str("PICTURE"), scripts.first()) {
         ("check", Some(picture), _) => Ok(Task::Check { picture }),
+        ("talk", Some(picture), _) => Ok(Task::Play(Input::Talk { picture })),
         ("drill", Some(picture), Some(_)) if scripts.len() <= MAX_OPERATORS => {
             let scripts = scripts.to_vec(alloc)?;
             Ok(Task::Drill(DrillFiles { picture, scripts }))
@@ -95,8 +98,8 @@ fn asked_task<'a>(alloc: Global, matches: &ArgMatches<'a>) -> Result<Task<'a>, A
                 crew,
             }))
         }
-        // All files are required, so that a run and a drill have both and a check its one; and the parser lets no
-        // other number of workers through.
+        // All files are required, so that a run and a drill have both, and a talk and a check their one; and the parser
+        // lets no other number of workers through.
         _ => Ok(Task::Play(Input::Pipe)),
     }
 }
@@ -119,7 +122,8 @@ fn all_ways(alloc: Global) -> Result<String, AllocError> {
     Ok(ways)
 }
 
-/// The command line: no word, `run PICTURE SCRIPT --workers N`, `check PICTURE`, or `drill PICTURE SCRIPT..`.
+/// The command line: no word, `run PICTURE SCRIPT --workers N`, `talk PICTURE`, `check PICTURE`, or
+/// `drill PICTURE SCRIPT..`.
 fn command<'a>(alloc: Global, ways: &'a str) -> Result<Command<'a>, Error> {
     let script = Arg::new(alloc, "SCRIPT")
         .required(true)
@@ -134,6 +138,9 @@ fn command<'a>(alloc: Global, ways: &'a str) -> Result<Command<'a>, Error> {
         .arg(picture_arg(alloc))?
         .arg(script)?
         .arg(workers)?;
+    let talk = Command::new(alloc, "talk")
+        .about("Plays what is typed on a picture: each line is answered before the next is read")
+        .arg(picture_arg(alloc))?;
     let check = Command::new(alloc, "check")
         .about("Says how much a picture shows, or where it is wrong")
         .arg(picture_arg(alloc))?;
@@ -151,6 +158,7 @@ fn command<'a>(alloc: Global, ways: &'a str) -> Result<Command<'a>, Error> {
         .after_help(ways)
         .disable_help_subcommand(true)
         .subcommand(run)?
+        .subcommand(talk)?
         .subcommand(check)?
         .subcommand(drill)?;
     Ok(command)

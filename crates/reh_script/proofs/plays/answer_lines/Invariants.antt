@@ -1,18 +1,19 @@
 use Rattle.std.proofs.Common.{◌≡◌, ◌+◌, ◌≤◌, length, false}
 use Rattle.reh_script.specs.Lines.{lines_of}
 use Rattle.reh_script.specs.Players.{setting}
-use Rattle.reh_script.specs.Turns.{player}
-use Rattle.reh_script.proofs.Steps.{IsAt}
+use Rattle.reh_script.specs.Streams.{Grows}
+use Rattle.reh_script.specs.Turns.{player, GoesOn}
 use Rattle.reh_script.proofs.plays.answer_lines.Given as goal
 
--- the first lines were answered, so many, each had a byte at least, and no write has failed
+-- the first lines were answered, each had a byte at least, and no write has failed
 abbrev pub invariant-loop-rest : goal.invariant-loop-rest
 invariant-loop-rest g l = record {
   may : g.C.Counter.may l.counter l.seat;
-  at : IsAt (setting g.C.Counter.goes g.C.Counter.scene l.fn.tools.names.now) (lines_of l.fn.text)
-      (lines_of l.rest) l.number (player l.fn.counter l.fn.seat l.fn.hand) (player l.counter l.seat l.hand)
+  at : GoesOn (setting g.C.Counter.goes g.C.Counter.scene l.fn.tools.names.now) l.fn.before (lines_of l.fn.text)
+      l.number (lines_of l.rest) (player l.fn.counter l.fn.seat l.fn.hand) (player l.counter l.seat l.hand)
       (g.W.TextOut.contents l.fn.writer) (g.W.TextOut.contents l.writer);
-  few : l.number + length l.rest ≤ length l.fn.text;
+  few : l.number + length l.rest ≤ l.fn.before + length l.fn.text;
+  seen : Grows (g.W.TextOut.seen l.fn.writer) (g.W.TextOut.seen l.writer);
   fine : g.W.TextOut.has_failed l.writer ≡ false;
 }
 

@@ -1,29 +1,30 @@
-use Rattle.std.proofs.Common.{Bool, subst, sym}
+use Rattle.std.proofs.Common.{◌≡◌, ◌⊎◌, ℕ, List, Option, subst}
+use Rattle.std.proofs.KnownBytes.{prepend_known-nil}
 use Rattle.reh_script.specs.Players.{setting, seated}
-use Rattle.reh_script.specs.Plays.{Plays}
-use Rattle.reh_script.proofs.Enough.{plays_all, plays_none, plays_nothing}
+use Rattle.reh_script.specs.Plays.{Plays, GoesOut}
+use Rattle.reh_script.proofs.Enough.{plays_nothing}
 use Rattle.reh_script.proofs.plays.play.Goals as goal
 
 pub returns-in_err-hand-clause-plays : goal.returns-in_err-hand-clause-plays
 returns-in_err-hand-clause-plays g c =
     plays_nothing
-    (setting g.C.Counter.goes g.C.Counter.scene c.args.names.now) _ _ _ _ _ _ c.from_residual.ensures.1
+    (setting g.C.Counter.goes g.C.Counter.scene c.args.names.now) _ _ _ _ _ _ _ c.from_residual.ensures.1
     c.requires.reads
 
-pub returns-in-Ok-clause-plays : goal.returns-in-Ok-clause-plays
-returns-in-Ok-clause-plays g c =
-    subst
-    (λ (f : Bool). Plays (setting g.C.Counter.goes g.C.Counter.scene c.args.names.now) c.answer_script.result f
-    (g.R.TextIn.remaining c.args.reader.now) (g.R.TextIn.remaining c.read_text.new.reader)
-    (seated c.args.counter.now c.args.seat.now) (seated c.answer_script.new.counter c.answer_script.new.seat)
-    (g.W.TextOut.contents c.args.writer.now) (g.W.TextOut.contents c.answer_script.new.writer))
-    (sym c.in-Ok.ensures.failed)
-    (plays_all
-    (setting g.C.Counter.goes g.C.Counter.scene c.args.names.now) c.in-Ok.script.failed c.in-Ok.script.bytes.items
-    _ _ _ _ _ _ _ c.in-Ok.ensures.reads
-    (rw (c.deref.ensures.value, c.in_ok-hand.ensures) at c.answer_script.ensures.played))
+pub returns-clause-plays : goal.returns-clause-plays
+returns-clause-plays g c =
+    subst (λ (left : Option (List ℕ)). Plays (setting g.C.Counter.goes g.C.Counter.scene c.args.names.now)
+    c.play_on.result (g.R.TextIn.has_failed c.play_on.new.reader) left (g.R.TextIn.remaining c.play_on.new.reader)
+    (seated c.args.counter.now c.args.seat.now) (seated c.play_on.new.counter c.play_on.new.seat)
+    (g.W.TextOut.contents c.args.writer.now) (g.W.TextOut.contents c.play_on.new.writer))
+    (prepend_known-nil (g.R.TextIn.remaining c.args.reader.now))
+    (rw (c.new-script.ensures.items, c.in_ok-hand.ensures) at c.play_on.ensures.plays)
 
-pub returns-in-Err-clause-plays : goal.returns-in-Err-clause-plays
-returns-in-Err-clause-plays g c =
-    plays_none
-    (setting g.C.Counter.goes g.C.Counter.scene c.args.names.now) _ _ _ _ _ _ c.from.ensures c.in-Err.ensures.failed
+pub returns-clause-prompt : goal.returns-clause-prompt
+returns-clause-prompt g c =
+    subst (λ (left : Option (List ℕ)). (c.play_on.new.reader ≡ c.args.reader.now)
+    ⊎ GoesOut (setting g.C.Counter.goes g.C.Counter.scene c.args.names.now) left
+    (g.R.TextIn.before c.play_on.new.reader) (seated c.args.counter.now c.args.seat.now)
+    (g.W.TextOut.contents c.args.writer.now) (g.W.TextOut.seen c.play_on.new.writer))
+    (prepend_known-nil (g.R.TextIn.remaining c.args.reader.now))
+    (rw (c.new-script.ensures.items, c.in_ok-hand.ensures) at c.play_on.ensures.prompt)

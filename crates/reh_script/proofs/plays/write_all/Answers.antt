@@ -1,5 +1,6 @@
 use Rattle.std.proofs.Common.{◌++◌, take, rules}
 use Rattle.std.proofs.KnownBytes.{Appends-trans}
+use Rattle.reh_script.proofs.Gathering.{grows_on}
 use Rattle.reh_script.proofs.Steps.{sent_more}
 use Rattle.reh_script.proofs.plays.write_all.Goals as goal
 
@@ -12,5 +13,9 @@ loop-rest-preserved g c =
         sent_more was.0 c.loop-rest.rest.now _ c.in_ok-count.count was.1,
         Appends-trans _ _ _ _ _ was.2 c.in_ok-count.ensures.bytes,
       );
+      seen = grows_on _ _ _ c.loop-rest.invariant.seen c.put.ensures.seen;
       fine = search rules;
     }
+
+pub returns-in_err-count-clause-seen : goal.returns-in_err-count-clause-seen
+returns-in_err-count-clause-seen g c = grows_on _ _ _ c.loop-rest.invariant.seen c.put.ensures.seen
