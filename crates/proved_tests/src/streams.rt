@@ -1,10 +1,13 @@
 // The whole path over memory: what is written for a text, and how its play ends.
+ghost use Rattle.std.specs.Prelude.{◌≡◌, false};
+
 use desk_tests::pictures::{FIVE_BOOKIES, state_of};
 use reh_crew::Plain;
 use reh_desk::Book;
 use reh_script::{PiecesIn, PiecesOut, PipeFault, TextOut, ToWrite, pipe, play_book};
 use reh_session::Session;
 use std::alloc::Global;
+use std::io::{self, Write};
 use std::test::Fail;
 
 /// One bookie and no ledger.
@@ -105,36 +108,44 @@ fn a_picture_is_too_long_before_a_failed_read(rt: HostRuntime) -> Result<(), Fai
     Ok(())
 }
 
+/// The same answers, where two reads bring the input, cut at any byte, and where each read brings a byte.
 #[test]
 fn reads_in_any_pieces(rt: HostRuntime) -> Result<(), Fail> {
-    let input = format!(in rt.alloc(); "{PICTURE}\n%\nlose b1:3181\nlsoe b1:3181\nundo\nreport")?;
+    let long = "a".repeat(rt.alloc(), 1025)?;
+    let faulty = "\nlsoe b1:3181\ntick x\nlose b9:3181\n";
+    let input = format!(in rt.alloc(); "{PICTURE}\n%\n# rehearsal\r\nlose b1:3181\r\n{faulty}{long}\nclock")?;
     let output =
-        "line 1: ok\nline 2: unknown command\nline 3: ok\nline 4: report\nclock 0 grace 0\nbookie b1:3181 up 0\n";
+        "line 2: ok\nline 4: unknown command\nline 5: bad words\nline 6: unknown name\nline 7: too long\nline 8: clock 0\n";
     for cut in 0..input.len() {
         let (written, end) = piped(rt.alloc(), input.as_bytes(), &[cut], None)?;
         assert_eq!(rt; end.as_str(), "done");
         assert_eq!(rt; written.as_slice(), output.as_bytes(), "cut at {cut}");
     }
+    let bytes = vec![in rt.alloc(); 1usize; input.len()]?;
+    let (written, end) = piped(rt.alloc(), input.as_bytes(), &bytes, None)?;
+    assert_eq!(rt; end.as_str(), "done");
+    assert_eq!(rt; written.as_slice(), output.as_bytes());
     Ok(())
 }
 
-/// What a play at a new book writes of a script, in these pieces and with a write of this number that fails, how it
-/// ends, and how many lines and tickets out the book has then.
-fn played(
+/// How a play of a script at a new book ends, which comes by reads of so many bytes; and how many lines and tickets out
+/// the book has then, and how many reads there were.
+fn played_by<W: TextOut>(
     alloc: Global,
     picture: &str,
-    script: &str,
-    pieces: &[usize],
-    fails_at: Option<u64>,
-) -> Result<String, Fail> {
+    script: &[u8],
+    reads: &[usize],
+    writer: &mut W,
+) -> Result<String, Fail>
+    requires { W.has_failed writer.old ≡ false }
+{
     let state = state_of(alloc, picture)?;
     let names = state.names().clone_in()?;
     let (mut book, mut seat) = match Book::open(Session::open(alloc, state)?) {
         Ok(opened) => opened,
         Err((_, want)) => return Err(Fail::from(want)),
     };
-    let mut reader = PiecesIn::new(script.as_bytes(), &[], None);
-    let mut writer = PiecesOut::new(alloc, pieces, fails_at);
+    let mut reader = PiecesIn::new(script, reads, None);
     let end = play_book(
         alloc,
         &mut book,
@@ -142,11 +153,24 @@ fn played(
         &names,
         &Plain,
         &mut reader,
-        &mut writer,
+        writer,
     );
+    let (lines, out, calls) = (book.tape().len(), book.out(), reader.calls());
+    Ok(format!(in alloc; "{end:?} {lines} lines, {out} out, {calls} reads")?)
+}
+
+/// What a play writes of a script, in these pieces and with a write of this number that fails, and how it ends.
+fn played(
+    alloc: Global,
+    picture: &str,
+    script: &str,
+    pieces: &[usize],
+    fails_at: Option<u64>,
+) -> Result<String, Fail> {
+    let mut writer = PiecesOut::new(alloc, pieces, fails_at);
+    let end = played_by(alloc, picture, script.as_bytes(), &[], &mut writer)?;
     let mut text = String::from_utf8(writer.written)?;
-    let (lines, out) = (book.tape().len(), book.out());
-    write!(text, "{end:?} {lines} lines, {out} out")?;
+    text.push_str(&end)?;
     Ok(text)
 }
 
@@ -154,12 +178,12 @@ fn played(
 fn stops_at_a_failed_write(rt: HostRuntime) -> Result<(), Fail> {
     // Each answer takes two writes, of 5 bytes and of what is left.
     let runs = [
-        (0, "Err(WriteFault) 1 lines, 0 out"),
-        (1, "line Err(WriteFault) 1 lines, 0 out"),
-        (2, "line 1: ok\nErr(WriteFault) 2 lines, 0 out"),
+        (0, "Err(WriteFault) 1 lines, 0 out, 1 reads"),
+        (1, "line Err(WriteFault) 1 lines, 0 out, 1 reads"),
+        (2, "line 1: ok\nErr(WriteFault) 2 lines, 0 out, 1 reads"),
         (
             5,
-            "line 1: ok\nline 2: ok\nline Err(WriteFault) 3 lines, 0 out",
+            "line 1: ok\nline 2: ok\nline Err(WriteFault) 3 lines, 0 out, 1 reads",
         ),
     ];
     for (fails_at, expected) in runs {
@@ -180,16 +204,40 @@ fn gives_its_hand_back(rt: HostRuntime) -> Result<(), Fail> {
     let shown = played(rt.alloc(), FIVE_BOOKIES, &script, &[], Some(4))?;
     assert_eq!(rt;
         shown.as_str(),
-        "line 1: ok\nline 2: ok\nline 3: ok\nline 4: ticket 1\nErr(WriteFault) 6 lines, 0 out"
+        "line 1: ok\nline 2: ok\nline 3: ok\nline 4: ticket 1\nErr(WriteFault) 6 lines, 0 out, 1 reads"
     );
     let nine = checkout.repeat(rt.alloc(), 9)?;
     let script = format!(in rt.alloc(); "{loss}{nine}discard\nspend\n")?;
     let shown = played(rt.alloc(), FIVE_BOOKIES, &script, &[], None)?;
     assert!(rt;
         shown.ends_with(
-            "line 12: refused 39 HandFull\nline 13: discarded\nline 14: ok\nOk(()) 19 lines, 0 out"
+            "line 12: refused 39 HandFull\nline 13: discarded\nline 14: ok\nOk(()) 19 lines, 0 out, 2 reads"
         )
     );
+    Ok(())
+}
+
+/// A writer that takes no byte.
+#[derive(Drop)]
+struct TakesNone;
+
+impl Write for TakesNone {
+    fn write(&mut self, _bytes: &[u8]) -> io::Result<usize> {
+        Ok(0)
+    }
+
+    fn flush(&mut self) -> io::Result<()> {
+        Ok(())
+    }
+}
+
+/// Each line comes by a read of its own. The first is answered before the second is read, and its answer is lost.
+#[test]
+fn reads_nothing_behind_a_lost_answer(rt: HostRuntime) -> Result<(), Fail> {
+    let script = b"lose b1:3181\ntick 1\n";
+    let mut writer = ToWrite::new(TakesNone);
+    let end = played_by(rt.alloc(), PICTURE, script, &[13, 7], &mut writer)?;
+    assert_eq!(rt; end.as_str(), "Err(WriteFault) 1 lines, 0 out, 1 reads");
     Ok(())
 }
 

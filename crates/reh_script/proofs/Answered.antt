@@ -1,12 +1,12 @@
 -- Which lines of a script are answered, and how a play of them ends.
 use Rattle.std.proofs.Common.{◌≡◌, ℕ, ◌+◌, ◌-◌, ◌<◌, ◌≤◌, Bool, true, false, cond, List, ◌++◌, length, take, sym, ap, ◌∙◌}
-use Rattle.std.proofs.Common.{arith, length-append, Option, None, Some, subst, inl, inr}
+use Rattle.std.proofs.Common.{arith, Option, None, Some, subst, inl, inr}
 use Rattle.std.specs.Prelude.{◌&&◌, not, Ok, Err, ◌⊎◌}
 use Rattle.std.proofs.lemmas.Bool.Decides.{nat_tests}
 use mathlib.Core.List.{append_assoc}
 use Rattle.std.proofs.Math.Seq.{take-append-add}
 use Rattle.std.proofs.lemmas.Bool.{cases_lt}
-use Rattle.std.proofs.lemmas.List.{take_all, take-append-le}
+use Rattle.std.proofs.lemmas.List.{take_all}
 use Rattle.reh_types.specs.declared.limits.TheConstants.{MAX_SCRIPT_BYTES}
 use Rattle.reh_script.specs.Lines.{lines_of, ended, is_script, answered_lines}
 use Rattle.reh_script.specs.Players.{Setting, Player, Ends}
@@ -72,15 +72,6 @@ answered_front script more within =
           )
     ]
 
--- more behind a script that is too long
-pub answered_lines-append : (script more : List ℕ) → MAX_SCRIPT_BYTES < length script
-    → answered_lines false (script ++ more) ≡ answered_lines false script
-answered_lines-append script more long =
-    let longer : MAX_SCRIPT_BYTES < length (script ++ more) = omega (arith, length-append script more) in
-    answered_lines-long false (script ++ more) (not_script (script ++ more) longer)
-    ∙ ap (λ (text : List ℕ). lines_of (ended text)) (take-append-le MAX_SCRIPT_BYTES script more (omega arith))
-    ∙ sym (answered_lines-long false script (not_script script long))
-
 pub stop_of-long : (failed : Bool) (script : List ℕ) → is_script script ≡ false → stop_of failed script ≡ Some TooLong
 stop_of-long failed script long = ap (λ (t : Bool). cond t (cond failed (Some ReadFault) None) (Some TooLong)) long
 
@@ -88,13 +79,6 @@ pub stop_of-within : (failed : Bool) (script : List ℕ) → length script ≤ M
     → stop_of failed script ≡ cond failed (Some ReadFault) None
 stop_of-within failed script within =
     ap (λ (t : Bool). cond t (cond failed (Some ReadFault) None) (Some TooLong)) (is_script-within script within)
-
-pub stop_of-append : (script more : List ℕ) → MAX_SCRIPT_BYTES < length script
-    → stop_of false (script ++ more) ≡ stop_of false script
-stop_of-append script more long =
-    let longer : MAX_SCRIPT_BYTES < length (script ++ more) = omega (arith, length-append script more) in
-    stop_of-long false (script ++ more) (not_script (script ++ more) longer)
-    ∙ sym (stop_of-long false script (not_script script long))
 
 -- where a line's answer is the last
 stops : {S : Type 0} (place : Setting S) (lines : List (List ℕ)) (stop : Option PlayFault) (fault : PlayFault)

@@ -120,14 +120,21 @@ seen_of state o left_old left_before old shown is out =
           (subst (λ (text : List ℕ). Reaches old shown text) follows.text_is out.reaches)));
     }
 
+pub out_of_opened : (read : Result Cluster PictureFault) (o : Opened)
+    (left_old left_before old shown : Option (List ℕ)) → Opens read (Ok o)
+    → GoesOut (at_book o.names) left_old left_before (seated o.book o.seat) old shown
+    → GoesOutBehind read left_old left_before old shown
+out_of_opened (Err fault) o left_old left_before old shown opens out = absurd opens
+out_of_opened (Ok state) o left_old left_before old shown opens out =
+    seen_of state o left_old left_before old shown opens out
+
 pub behind_out : (read : Result Cluster PictureFault) (o : Opened) (unread : Type 0)
     (left_old left_before old shown : Option (List ℕ)) → Opens read (Ok o)
     → unread ⊎ GoesOut (at_book o.names) left_old left_before (seated o.book o.seat) old shown
     → unread ⊎ GoesOutBehind read left_old left_before old shown
-behind_out (Err fault) o unread left_old left_before old shown opens out = absurd opens
-behind_out (Ok state) o unread left_old left_before old shown opens (inl not) = inl not
-behind_out (Ok state) o unread left_old left_before old shown opens (inr out) =
-    inr (seen_of state o left_old left_before old shown opens out)
+behind_out read o unread left_old left_before old shown opens (inl not) = inl not
+behind_out read o unread left_old left_before old shown opens (inr out) =
+    inr (out_of_opened read o left_old left_before old shown opens out)
 
 -- a picture that is not opened is no failed write
 pub unopened_writes : (read : Result Cluster PictureFault) (fault : PipeFault) → Opens read (Err fault)

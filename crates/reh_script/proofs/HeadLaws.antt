@@ -63,6 +63,18 @@ none_later : (t u : Bool) → (t || u) ≡ false → u ≡ false
 none_later true u none = cc
 none_later false u none = none
 
+-- three bytes that end no line
+no_percent_far : (b c d : ℕ) (rest more : List ℕ) → has_lf (b ∷ c ∷ d ∷ rest) ≡ false
+    → after_percent (b ∷ c ∷ d ∷ more) ≡ None
+no_percent_far b c d rest more none =
+    let later : has_lf (c ∷ d ∷ rest) ≡ false = none_later (b == 10) (has_lf (c ∷ d ∷ rest)) none in
+    elim (b == 37) as (λ t. cond t (after_end (c ∷ d ∷ more)) None ≡ None) [
+      | true ↦
+          no_end_behind c d more (none_first (c == 10) (has_lf (d ∷ rest)) later)
+          (none_first (d == 10) (has_lf rest) (none_later (c == 10) (has_lf (d ∷ rest)) later))
+      | false ↦ refl
+    ]
+
 -- and behind another there is none
 no_percent : (line more : List ℕ) → is_percent line ≡ false → has_lf line ≡ false
     → after_percent (line ++ 10 ∷ more) ≡ None
@@ -74,23 +86,15 @@ no_percent (b ∷ c ∷ []) more is none =
           no_end c 10 more (none_first (c == 10) (has_lf []) (none_later (b == 10) (has_lf (c ∷ [])) none)) plain
       | false ↦ λ plain. refl
     ] is
-no_percent (b ∷ c ∷ d ∷ rest) more is none =
-    let later : has_lf (c ∷ d ∷ rest) ≡ false = none_later (b == 10) (has_lf (c ∷ d ∷ rest)) none in
-    elim (b == 37) as (λ t. cond t (after_end (c ∷ d ∷ (rest ++ 10 ∷ more))) None ≡ None) [
-      | true ↦
-          no_end_behind c d (rest ++ 10 ∷ more) (none_first (c == 10) (has_lf (d ∷ rest)) later)
-          (none_first (d == 10) (has_lf rest) (none_later (c == 10) (has_lf (d ∷ rest)) later))
-      | false ↦ refl
-    ]
+no_percent (b ∷ c ∷ d ∷ rest) more is none = no_percent_far b c d rest (rest ++ 10 ∷ more) none
 
--- a line is passed
-passes : (line more : List ℕ) → has_lf line ≡ false
-    → cut_inside (line ++ 10 ∷ more) ≡ with_fronts line (cut_inside (10 ∷ more))
+-- bytes without LF are passed
+passes : (bytes more : List ℕ) → has_lf bytes ≡ false → cut_inside (bytes ++ more) ≡ with_fronts bytes (cut_inside more)
 passes [] more none = refl
 passes (b ∷ bs) more none =
     let other : (b == 10) ≡ false = none_first (b == 10) (has_lf bs) none in
-    ap (λ (t : Bool). cond t (cut_or (after_percent (bs ++ 10 ∷ more)) (with_front b (cut_inside (bs ++ 10 ∷ more))))
-    (with_front b (cut_inside (bs ++ 10 ∷ more)))) other
+    ap (λ (t : Bool). cond t (cut_or (after_percent (bs ++ more)) (with_front b (cut_inside (bs ++ more))))
+    (with_front b (cut_inside (bs ++ more)))) other
     ∙ ap (with_front b) (passes bs more (none_later (b == 10) (has_lf bs) none))
 
 fronts : (first next : List ℕ) (cut : Cut) → with_fronts first (with_fronts next cut) ≡ with_fronts (first ++ next) cut
@@ -129,7 +133,7 @@ past_line lines line (inl first) none is = inr (
   ap (λ (t : List ℕ). t ++ (line ++ 10 ∷ [])) first,
   λ more.
       ap (λ (o : Option (List ℕ)). cut_or o (cut_inside (line ++ 10 ∷ more))) (no_percent line more is none)
-      ∙ passes line more none,
+      ∙ passes line (10 ∷ more) none,
 )
 past_line lines line (inr (front, split, passed)) none is = inr (
   front ++ 10 ∷ line,
@@ -140,7 +144,7 @@ past_line lines line (inr (front, split, passed)) none is = inr (
       ∙ passed (line ++ 10 ∷ more)
       ∙ ap (λ (o : Option (List ℕ)). with_fronts front (cut_or o (with_front 10 (cut_inside (line ++ 10 ∷ more)))))
       (no_percent line more is none)
-      ∙ ap (λ (c : Cut). with_fronts front (with_front 10 c)) (passes line more none)
+      ∙ ap (λ (c : Cut). with_fronts front (with_front 10 c)) (passes line (10 ∷ more) none)
       ∙ fronts front (10 ∷ line) (cut_inside (10 ∷ more)),
 )
 
@@ -211,101 +215,99 @@ past_byte text line end order within other none =
 -- Inputs without the line `%`
 
 -- a line that no LF ends may be the line `%`, with nothing behind it
-quiet_percent : (tail : List ℕ) → has_lf tail ≡ false
-    → (after_percent tail ≡ None) ⊎ ((after_percent tail ≡ Some []) × (length tail ≤ 2))
+quiet_percent : (tail : List ℕ) → has_lf tail ≡ false → (after_percent tail ≡ None) ⊎ (after_percent tail ≡ Some [])
 quiet_percent [] none = inl refl
 quiet_percent (b ∷ []) none =
-    elim (b == 37) as (λ t. (cond t (after_end []) None ≡ None) ⊎ ((cond t (after_end []) None ≡ Some []) × (1 ≤ 2))) [
-      | true ↦ inr (refl, omega arith)
+    elim (b == 37) as (λ t. (cond t (after_end []) None ≡ None) ⊎ (cond t (after_end []) None ≡ Some [])) [
+      | true ↦ inr refl
       | false ↦ inl refl
     ]
 quiet_percent (b ∷ c ∷ []) none =
     let other : (c == 10) ≡ false = none_first (c == 10) (has_lf []) (none_later (b == 10) (has_lf (c ∷ [])) none) in
-    elim (b == 37) as
-    (λ t. (cond t (after_end (c ∷ [])) None ≡ None) ⊎ ((cond t (after_end (c ∷ [])) None ≡ Some []) × (2 ≤ 2))) [
+    let end : after_end (c ∷ []) ≡ cond (c == 13) (Some []) None =
+    ap (λ (t : Bool). cond t (Some []) (cond (c == 13) (Some []) None)) other in
+    elim (b == 37) as (λ t. (cond t (after_end (c ∷ [])) None ≡ None) ⊎ (cond t (after_end (c ∷ [])) None ≡ Some [])) [
       | true ↦
-          elim (c == 13) as
-          (λ u. (c == 13) ≡ u → (after_end (c ∷ []) ≡ None) ⊎ ((after_end (c ∷ []) ≡ Some []) × (2 ≤ 2))) [
-            | true ↦ λ is.
-                inr (ap (λ (t : Bool). cond t (Some []) (cond (c == 13) (Some []) None)) other
-                ∙ ap (λ (t : Bool). cond t (Some []) None) is, omega arith)
-            | false ↦ λ is.
-                inl (ap (λ (t : Bool). cond t (Some []) (cond (c == 13) (Some []) None)) other
-                ∙ ap (λ (t : Bool). cond t (Some []) None) is)
-          ] refl
+          elim (c == 13) as (λ u. after_end (c ∷ []) ≡ cond u (Some []) None
+          → (after_end (c ∷ []) ≡ None) ⊎ (after_end (c ∷ []) ≡ Some [])) [
+            | true ↦ λ is. inr is
+            | false ↦ λ is. inl is
+          ] end
       | false ↦ inl refl
     ]
-quiet_percent (b ∷ c ∷ d ∷ rest) none =
-    let later : has_lf (c ∷ d ∷ rest) ≡ false = none_later (b == 10) (has_lf (c ∷ d ∷ rest)) none in
-    inl (elim (b == 37) as (λ t. cond t (after_end (c ∷ d ∷ rest)) None ≡ None) [
-      | true ↦
-          no_end_behind c d rest (none_first (c == 10) (has_lf (d ∷ rest)) later)
-          (none_first (d == 10) (has_lf rest) (none_later (c == 10) (has_lf (d ∷ rest)) later))
-      | false ↦ refl
-    ])
+quiet_percent (b ∷ c ∷ d ∷ rest) none = inl (no_percent_far b c d rest rest none)
 
-quiet_inside : (tail : List ℕ) → has_lf tail ≡ false → cut_inside tail ≡ record { picture = tail; script = [] }
-quiet_inside [] none = refl
-quiet_inside (b ∷ bs) none =
-    let other : (b == 10) ≡ false = none_first (b == 10) (has_lf bs) none in
-    ap (λ (t : Bool). cond t (cut_or (after_percent bs) (with_front b (cut_inside bs))) (with_front b (cut_inside bs)))
-    other
-    ∙ ap (with_front b) (quiet_inside bs (none_later (b == 10) (has_lf bs) none))
-
--- such an input has no script, and almost all of it is the picture
-pub record HasNone (input : List ℕ) : Type 0 where
-  pub script : (cut_of input).script ≡ []
-  pub picture : length input ≤ length (cut_of input).picture + 3
-
-no_script : (front tail : List ℕ) (cut : Cut) → has_lf tail ≡ false
-    → cut ≡ with_fronts front (cut_or (after_percent tail) (with_front 10 (cut_inside tail)))
-    → (cut.script ≡ []) × (length (front ++ 10 ∷ tail) ≤ length cut.picture + 3)
-no_script front tail cut none is =
+-- the cut behind bytes without LF, where the line `%` has no script
+no_script_at : (tail : List ℕ) (cut : Cut) → has_lf tail ≡ false → cut.script ≡ []
+    → (cut_or (after_percent tail) cut).script ≡ []
+no_script_at tail cut none is =
     elim (quiet_percent tail none) [
-      | inl other ↦
-          let here : cut ≡ record { picture = front ++ 10 ∷ tail; script = [] } =
-          is ∙ ap (λ (o : Option (List ℕ)). with_fronts front (cut_or o (with_front 10 (cut_inside tail)))) other
-          ∙ ap (λ (c : Cut). with_fronts front (with_front 10 c)) (quiet_inside tail none) in
-          (ap (λ (c : Cut). c.script) here, omega (arith, ap (λ (c : Cut). length c.picture) here))
-      | inr percent ↦
-          let here : cut ≡ record { picture = front ++ []; script = [] } =
-          is ∙ ap (λ (o : Option (List ℕ)). with_fronts front (cut_or o (with_front 10 (cut_inside tail)))) percent.0 in
-          (
-            ap (λ (c : Cut). c.script) here,
-            omega (arith, ap (λ (c : Cut). length c.picture) here, ap length (append-nil front),
-                length-append front (10 ∷ tail), percent.1),
-          )
+      | inl other ↦ ap (λ (o : Option (List ℕ)). (cut_or o cut).script) other ∙ is
+      | inr percent ↦ ap (λ (o : Option (List ℕ)). (cut_or o cut).script) percent
     ]
 
-no_script_first : (input : List ℕ) → has_lf input ≡ false → HasNone input
-no_script_first input none =
-    elim (quiet_percent input none) [
-      | inl other ↦
-          let here : cut_of input ≡ record { picture = input; script = [] } =
-          ap (λ (o : Option (List ℕ)). cut_or o (cut_inside input)) other ∙ quiet_inside input none in
-          record {
-            script = ap (λ (c : Cut). c.script) here;
-            picture = omega (arith, ap (λ (c : Cut). length c.picture) here);
-          }
-      | inr percent ↦
-          let here : cut_of input ≡ record { picture = []; script = [] } =
-          ap (λ (o : Option (List ℕ)). cut_or o (cut_inside input)) percent.0 in
-          record {
-            script = ap (λ (c : Cut). c.script) here;
-            picture = omega (arith, percent.1);
-          }
-    ]
+quiet_inside : (tail : List ℕ) → has_lf tail ≡ false → (cut_inside tail).script ≡ []
+quiet_inside tail none =
+    ap (λ (t : List ℕ). (cut_inside t).script) (sym (append-nil tail))
+    ∙ ap (λ (c : Cut). c.script) (passes tail [] none)
 
-pub has_none : (input : List ℕ) → IsUntold input → HasNone input
-has_none input (line, within, inl first, quiet) =
-    no_script_first input (ap has_lf (sym (take-append-drop line input) ∙ ap (λ (t : List ℕ). t ++ drop line input) first)
-    ∙ quiet)
-has_none input (line, within, inr (front, split, passed), quiet) =
-    let whole : input ≡ front ++ 10 ∷ drop line input =
+-- an input behind the lines of its picture
+behind_lines : (input front : List ℕ) (line : ℕ) → take line input ≡ front ++ 10 ∷ []
+    → input ≡ front ++ 10 ∷ drop line input
+behind_lines input front line split =
     sym (take-append-drop line input) ∙ ap (λ (t : List ℕ). t ++ drop line input) split
-    ∙ append_assoc front (10 ∷ []) (drop line input) in
-    let here = no_script front (drop line input) (cut_of input) quiet (ap cut_of whole ∙ passed (drop line input)) in
-    record { script = here.0; picture = omega (arith, here.1, ap length whole) }
+    ∙ append_assoc front (10 ∷ []) (drop line input)
+
+first_line_alone : (input : List ℕ) (line : ℕ) → take line input ≡ [] → input ≡ drop line input
+first_line_alone input line first =
+    sym (take-append-drop line input) ∙ ap (λ (t : List ℕ). t ++ drop line input) first
+
+-- such an input has no script
+pub has_none : (input : List ℕ) → IsUntold input → (cut_of input).script ≡ []
+has_none input (line, within, inl first, quiet) =
+    let none : has_lf input ≡ false = ap has_lf (first_line_alone input line first) ∙ quiet in
+    no_script_at input (cut_inside input) none (quiet_inside input none)
+has_none input (line, within, inr (front, split, passed), quiet) =
+    ap (λ (t : List ℕ). (cut_of t).script) (behind_lines input front line split)
+    ∙ ap (λ (c : Cut). c.script) (passed (drop line input))
+    ∙ no_script_at (drop line input) (with_front 10 (cut_inside (drop line input))) quiet
+    (quiet_inside (drop line input) quiet)
+
+-- and almost all of it is of the picture, whatever follows
+far_or_short : (tail more : List ℕ) → has_lf tail ≡ false → (length tail ≤ 2) ⊎ (after_percent (tail ++ more) ≡ None)
+far_or_short [] more none = inl (omega arith)
+far_or_short (b ∷ []) more none = inl (omega arith)
+far_or_short (b ∷ c ∷ []) more none = inl (omega arith)
+far_or_short (b ∷ c ∷ d ∷ rest) more none = inr (no_percent_far b c d rest (rest ++ more) none)
+
+long_at : (tail more : List ℕ) (cut : Cut) → has_lf tail ≡ false → length tail ≤ length cut.picture
+    → length tail ≤ length (cut_or (after_percent (tail ++ more)) cut).picture + 2
+long_at tail more cut none is =
+    elim (far_or_short tail more none) [
+      | inl short ↦ omega arith
+      | inr other ↦
+          omega (arith, ap (λ (o : Option (List ℕ)). length (cut_or o cut).picture) other)
+    ]
+
+long_inside : (tail more : List ℕ) → has_lf tail ≡ false → length tail ≤ length (cut_inside (tail ++ more)).picture
+long_inside tail more none =
+    omega (arith, ap (λ (c : Cut). length c.picture) (passes tail more none),
+    length-append tail (cut_inside more).picture)
+
+pub stays_long : (input more : List ℕ) → IsUntold input → length input ≤ length (cut_of (input ++ more)).picture + 3
+stays_long input more (line, within, inl first, quiet) =
+    let none : has_lf input ≡ false = ap has_lf (first_line_alone input line first) ∙ quiet in
+    omega (arith, long_at input more (cut_inside (input ++ more)) none (long_inside input more none))
+stays_long input more (line, within, inr (front, split, passed), quiet) =
+    let tail : List ℕ = drop line input in
+    let next : Cut = with_front 10 (cut_inside (tail ++ more)) in
+    let here : cut_of (input ++ more) ≡ with_fronts front (cut_or (after_percent (tail ++ more)) next) =
+    ap (λ (t : List ℕ). cut_of (t ++ more)) (behind_lines input front line split)
+    ∙ ap cut_of (append_assoc front (10 ∷ tail) more) ∙ passed (tail ++ more) in
+    let long : length tail ≤ length next.picture = omega (arith, long_inside tail more quiet) in
+    omega (arith, ap (λ (c : Cut). length c.picture) here, long_at tail more next quiet long,
+    length-append front (cut_or (after_percent (tail ++ more)) next).picture,
+    ap length (behind_lines input front line split), length-append front (10 ∷ tail))
 
 -- its lines that end are of the picture
 pub lines_untold : (input : List ℕ) → IsUntold input → length (ended input) ≤ length (cut_of (ended input)).picture

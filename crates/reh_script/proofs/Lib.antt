@@ -9,7 +9,6 @@ pub mod Parts
 pub mod Gathering
 pub mod ReadingOn
 pub mod HeadLaws
-pub mod Cuts
 pub mod Turns
 pub mod Steps
 pub mod Answered
@@ -17,6 +16,7 @@ pub mod ReadLaws
 pub mod Enough
 pub mod Transcripts
 pub mod Ends
+pub mod Piped
 pub mod Sitting
 pub mod OpeningLaws
 pub mod RunLaws

@@ -1,18 +1,20 @@
 -- How a run of a picture and a script ends.
-use Rattle.std.proofs.Common.{◌≡◌, ℕ, Bool, true, false, List, Option, Result, Ok, Err, ap}
+use Rattle.std.proofs.Common.{◌≡◌, ◌⊎◌, ℕ, Bool, true, false, inl, inr, List, Option, Result, Ok, Err, ap}
 use Rattle.std.specs.Prelude.{IsErrAnd}
 use Rattle.std.proofs.KnownBytes.{Keeps-refl}
 use Rattle.reh_model.specs.Book.{Book}
 use Rattle.reh_picture.specs.Pictures.{picture_of}
-use Rattle.reh_script.specs.BookPlays.{Transcribes}
+use Rattle.reh_script.specs.BookPlays.{Transcribes, at_book}
 use Rattle.reh_script.specs.Openings.{OpensRead, OpensText}
-use Rattle.reh_script.specs.Pipes.{piped, loses_output}
-use Rattle.reh_script.specs.Runs.{Runs}
+use Rattle.reh_script.specs.Pipes.{piped, loses_output, GoesOutBehind}
+use Rattle.reh_script.specs.Players.{seated}
+use Rattle.reh_script.specs.Plays.{GoesOut}
+use Rattle.reh_script.specs.Runs.{Runs, RunsOut}
 use Rattle.reh_script.specs.declared.faults.PlayFault.{PlayFault}
 use Rattle.reh_script.specs.declared.faults.PipeFault.{PipeFault}
 use Rattle.reh_script.specs.declared.faults.PipeFault.TheVariants.{Play}
 use Rattle.reh_script.specs.declared.openings.Opened.{Opened}
-use Rattle.reh_script.proofs.Ends.{unopened_writes}
+use Rattle.reh_script.proofs.Ends.{unopened_writes, out_of_opened}
 
 handed : (result : Result (Unit {0}) PipeFault) (fault : PipeFault) → IsErrAnd result (λ e. e ≡ fault)
     → result ≡ Err fault
@@ -61,3 +63,23 @@ pub runs_early : (result : Result (Unit {0}) PipeFault) (untouched : Type 0) (un
 runs_early result untouched unread first_old first_new failed left_old left_new old new o fault b opens is played =
     runs_played result untouched unread first_old first_new failed left_old left_new old new o (Err fault) b opens
     (handed result (Play fault) is) played
+
+out_read : (unread : Bool) (picture : List ℕ) (o : Opened) (left_old left_before old shown : Option (List ℕ))
+    → OpensRead unread picture (Ok o)
+    → GoesOut (at_book o.names) left_old left_before (seated o.book o.seat) old shown
+    → GoesOutBehind (picture_of picture) left_old left_before old shown
+out_read true picture o left_old left_before old shown opens out = cc
+out_read false picture o left_old left_before old shown opens out =
+    out_of_opened (picture_of picture) o left_old left_before old shown opens out
+
+-- the answers that could be seen
+pub runs_out : (same : Type 0) (unread : Bool) (first_old first_new left_old left_before old shown : Option (List ℕ))
+    (o : Opened) → OpensText unread first_old first_new (Ok o)
+    → same ⊎ GoesOut (at_book o.names) left_old left_before (seated o.book o.seat) old shown
+    → same ⊎ RunsOut unread first_old first_new left_old left_before old shown
+runs_out same unread first_old first_new left_old left_before old shown o opens (inl untouched) = inl untouched
+runs_out same unread first_old first_new left_old left_before old shown o opens (inr out) = inr (record {
+  picture = opens.picture;
+  given = opens.given;
+  out = out_read unread opens.picture o left_old left_before old shown opens.opens out;
+})

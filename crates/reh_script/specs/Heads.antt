@@ -36,6 +36,12 @@ IsPicture lines =
 abbrev pub IsUntold : List ℕ → Type 0
 IsUntold input = (line : ℕ) × (line ≤ length input) × IsPicture (take line input) × IsQuiet (drop line input)
 
+-- What was given before the last read told nothing: the line `%` had not ended, and more could matter.
+abbrev pub IsUntoldUntil : Option (List ℕ) → Option (List ℕ) → Type 0
+IsUntoldUntil left_old left_before =
+    (earlier : List ℕ) × Consumes left_old left_before earlier × IsUntold earlier
+    × (length earlier < MAX_PICTURE_BYTES + 4)
+
 -- What came of reading an input up to its script.
 abbrev pub ReadsHead : Head → List ℕ → Option (List ℕ) → Option (List ℕ) → Bool → Type 0
 ReadsHead (Ended percent) input left_old left_new failed =

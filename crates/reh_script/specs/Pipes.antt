@@ -70,13 +70,14 @@ pub record Pipes (result : Result (Unit {0}) PipeFault) (failed : Bool)
   pub given : Gives left_old left_new failed input
   pub ends : IsPiped failed (rehearsal_of failed input) result old new
 
--- When the reader was last read, the other end could see the answers to all lines that were complete by then: those of
--- what was given before, as if this read had failed. So an answer never waits for a read.
+-- When the reader was last read, the other end could see the answers to all lines of the script that were complete by
+-- then, where what was given before tells a picture that is accepted. So an answer never waits for a read.
 pub record AnswersGoOut (left_old left_before old shown : Option (List ℕ)) : Type 0 where
   pub earlier : List ℕ
   pub given : Consumes left_old left_before earlier
   pub reaches : IfOk (rehearsal_of true earlier) (λ r.
-      Reaches old shown (transcript r.state.names 0 (starting (new_book (opened_session r.state))) 1 r.lines))
+      Reaches old shown (transcript r.state.names 0 (starting (new_book (opened_session r.state))) 1
+      (lines_of (ended (cut_of earlier).script))))
 
 -- The play of a script behind a picture of this state, of which left_old was to come.
 pub record PlayedBehind (state : Cluster) (result : Result (Unit {0}) PipeFault) (failed : Bool)

@@ -2,9 +2,11 @@
 use Rattle.std.specs.Prelude.{◌≡◌, ℕ, Bool, List, Option, Result, Ok, Err}
 use Rattle.std.specs.Io.KnownBytes.{Keeps}
 use Rattle.reh_model.specs.Book.{Book}
+use Rattle.reh_picture.specs.Pictures.{picture_of}
 use Rattle.reh_script.specs.BookPlays.{Transcribes}
 use Rattle.reh_script.specs.Openings.{OpensText}
-use Rattle.reh_script.specs.Pipes.{piped}
+use Rattle.reh_script.specs.Pipes.{piped, GoesOutBehind}
+use Rattle.reh_script.specs.Readings.{Gives}
 use Rattle.reh_script.specs.declared.faults.PlayFault.{PlayFault}
 use Rattle.reh_script.specs.declared.faults.PipeFault.{PipeFault}
 use Rattle.reh_script.specs.declared.openings.Opened.{Opened}
@@ -33,3 +35,10 @@ pub record Runs (result : Result (Unit {0}) PipeFault) (untouched : Type 0) (unr
   pub opened : Result Opened PipeFault
   pub opens : OpensText unread first_old first_new opened
   pub ends : IsRun untouched opened result failed left_old left_new old new
+
+-- When the script's reader was last read, the picture had been given and accepted, and the other end could see the
+-- answers to all lines of the script that were complete by then.
+pub record RunsOut (unread : Bool) (first_old first_new left_old left_before old shown : Option (List ℕ)) : Type 0 where
+  pub picture : List ℕ
+  pub given : Gives first_old first_new unread picture
+  pub out : GoesOutBehind (picture_of picture) left_old left_before old shown

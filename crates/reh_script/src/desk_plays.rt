@@ -40,5 +40,5 @@ pub fn play_at_desk<R: Wait, W: TextOut>(
         surveyor: &Plain,
     };
     let mut counter = AtDesk { desk, rt };
-    answer_script(&tools, &mut counter, seat, hand, script, false, writer)
+    answer_script(&tools, &mut counter, seat, hand, script, writer)
 }

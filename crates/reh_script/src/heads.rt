@@ -1,7 +1,8 @@
 // Reading an input up to its script.
-ghost use Rattle.std.specs.Prelude.{◌≡◌, ◌+◌, ◌-◌, ◌≤◌, ◌<◌, ◌==◌, [], None, false, take, drop, length, IfSome, IfOk, OnErr};
-ghost use Rattle.std.specs.Prelude.{MatchResult};
-ghost use Rattle.reh_script.specs.Heads.{is_percent as names_percent, IsHead, IsPicture, ReadsHead, last_read};
+ghost use Rattle.std.specs.Prelude.{◌≡◌, ◌⊎◌, ◌+◌, ◌-◌, ◌≤◌, ◌<◌, [], None, false, take, drop, length, IfSome, IfOk};
+ghost use Rattle.std.specs.Prelude.{OnErr, MatchResult};
+ghost use Rattle.reh_script.specs.Heads.{is_percent as names_percent, IsHead, IsPicture, IsUntoldUntil, ReadsHead};
+ghost use Rattle.reh_script.specs.Heads.{last_read};
 ghost use Rattle.reh_script.specs.Readings.{IsQuiet};
 
 use crate::streams::TextIn;
@@ -38,6 +39,8 @@ pub(crate) fn read_head<R: TextIn>(reader: &mut R, input: &mut Vec<u8>) -> Resul
     ensures head { IfOk result (λ head. ReadsHead head input.new.items
         (R.remaining reader.old) (R.remaining reader.new) (R.has_failed reader.new)) }
     ensures failed { OnErr result (R.has_failed reader.new ≡ false) }
+    ensures few { length input.new.items ≤ MAX_HEAD }
+    ensures until { (reader.new ≡ reader.old) ⊎ IsUntoldUntil (R.remaining reader.old) (R.before reader.new) }
     ensures calls { MatchResult result
         (λ head. R.calls reader.new ≤ R.calls reader.old + length input.new.items + last_read head)
         (λ _. R.calls reader.new ≤ R.calls reader.old + MAX_HEAD) }

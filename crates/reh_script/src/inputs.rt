@@ -1,13 +1,8 @@
 // The input: a picture, a line `%` and a script.
 ghost use Rattle.std.specs.Prelude.{◌≡◌, ℕ, ◌==◌, ◌<◌, ◌≤◌, List, ◌∷◌, ◌++◌, length, take, count_by, position};
 ghost use Rattle.std.specs.Prelude.{option_map, IfSome};
-ghost use Rattle.reh_script.specs.Lines.{lines_of, cut_of, ended, is_told as tells_picture, after_end as follows_end};
+ghost use Rattle.reh_script.specs.Lines.{lines_of, cut_of, ended, after_end as follows_end};
 ghost use Rattle.reh_script.specs.Lines.{after_percent as follows_percent};
-
-use reh_types::MAX_PICTURE_BYTES;
-
-/// An input that is so long and has no line `%` that ends has a picture of more than 8,388,608 bytes.
-const MAX_TOLD: usize = MAX_PICTURE_BYTES + 4;
 
 /// The first line of a text, without its LF, and what follows.
 pub fn first_line(text: &[u8]) -> (&[u8], &[u8])
@@ -52,19 +47,6 @@ pub fn split_input(input: &[u8]) -> (&[u8], &[u8])
         }
     }
     (input, &input[input.len()..])
-}
-
-/// Whether an input tells its picture: no read failed behind it, or it is too long for a picture that a line `%`
-/// ends, or such a line ends in it.
-pub fn is_told(input: &[u8], failed: bool) -> bool
-    ensures { result ≡ tells_picture failed input.now }
-{
-    if !failed || input.len() >= MAX_TOLD {
-        return true;
-    }
-    let lines = whole_lines(input);
-    let (picture, _) = split_input(lines);
-    picture.len() < lines.len()
 }
 
 /// A text up to its last LF.

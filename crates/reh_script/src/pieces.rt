@@ -40,6 +40,13 @@ impl<'a> PiecesIn<'a> {
             has_failed: false,
         }
     }
+
+    /// How many calls there were.
+    pub fn calls(&self) -> u64
+        ensures { result ≡ self.now.calls }
+    {
+        self.calls
+    }
 }
 
 impl TextIn for PiecesIn<'_> {

@@ -57,7 +57,8 @@ pub fn pipe<V: Surveyor, R: TextIn, W: TextOut>(
 /// Judges an input that has no script.
 fn open_whole(alloc: Global, input: &[u8]) -> Result<(), PipeFault>
     requires { (cut_of input.now).script ≡ [] }
-    ensures { (held : Option (List ℕ)) → IsPiped false (rehearsal_of false input.now) result held held }
+    ensures piped { (held : Option (List ℕ)) → IsPiped false (rehearsal_of false input.now) result held held }
+    ensures writes_none { loses_output result ≡ false }
 {
     let (picture, _) = split_input(input);
     open_picture(alloc, picture)?;

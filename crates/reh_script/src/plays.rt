@@ -200,14 +200,13 @@ fn answer_reads<C: Counter, V: Surveyor, R: TextIn, W: TextOut>(
     Ok(())
 }
 
-/// Answers the lines of a script, behind which a read has failed or none has, and gives the hand back.
+/// Answers the lines of a script, and gives the hand back.
 pub(crate) fn answer_script<C: Counter, V: Surveyor, W: TextOut>(
     tools: &Tools<V>,
     counter: &mut C,
     seat: &mut Seat,
     hand: Hand,
     script: &[u8],
-    failed: bool,
     writer: &mut W,
 ) -> Result<(), PlayFault>
     requires may { C.may counter.old seat.old }
@@ -215,13 +214,13 @@ pub(crate) fn answer_script<C: Counter, V: Surveyor, W: TextOut>(
     requires writes { W.has_failed writer.old ≡ false }
     ensures may { C.may counter.new seat.new }
     ensures played { IsPlayed (setting C.goes C.scene tools.now.names.now)
-        (answered_lines failed script.now) (stop_of failed script.now) result
+        (answered_lines false script.now) (stop_of false script.now) result
         (player counter.old seat.old hand) (seated counter.new seat.new)
         (W.contents writer.old) (W.contents writer.new) }
     ensures write { W.has_failed writer.new ≡ is_write_fault result }
 {
     let mut hand = hand;
-    let (lines, stop) = answered(script, failed);
+    let (lines, stop) = answered(script);
     match answer_lines(tools, counter, seat, &mut hand, 0, lines, writer) {
         Ok(_) => {
             give_back(counter, seat, hand, None);
@@ -239,16 +238,13 @@ pub(crate) fn answer_script<C: Counter, V: Surveyor, W: TextOut>(
 }
 
 /// The text of a script whose lines are answered, and why no more are.
-fn answered(script: &[u8], failed: bool) -> (&[u8], Option<PlayFault>)
-    ensures lines { lines_of result.0.now ≡ answered_lines failed script.now }
-    ensures stop { result.1 ≡ stop_of failed script.now }
+fn answered(script: &[u8]) -> (&[u8], Option<PlayFault>)
+    ensures lines { lines_of result.0.now ≡ answered_lines false script.now }
+    ensures stop { result.1 ≡ stop_of false script.now }
 {
     if script.len() > MAX_SCRIPT_BYTES {
         let first = front(script, MAX_SCRIPT_BYTES);
         return (whole_lines(first), Some(PlayFault::TooLong));
-    }
-    if failed {
-        return (whole_lines(script), Some(PlayFault::ReadFault));
     }
     (script, None)
 }

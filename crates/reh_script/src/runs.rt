@@ -1,7 +1,7 @@
 // From a picture and a script, each of its own reader, to the bytes of the transcript.
-ghost use Rattle.std.specs.Prelude.{◌≡◌, ◌+◌, ◌≤◌, false};
+ghost use Rattle.std.specs.Prelude.{◌≡◌, ◌⊎◌, ◌+◌, ◌≤◌, false, OnOk};
 ghost use Rattle.reh_script.specs.Pipes.{loses_output};
-ghost use Rattle.reh_script.specs.Runs.{Runs};
+ghost use Rattle.reh_script.specs.Runs.{Runs, RunsOut};
 
 use crate::book_plays::play_book;
 use crate::faults::PipeFault;
@@ -13,7 +13,8 @@ use std::alloc::Global;
 
 /// Reads a picture, and then a script, and writes the transcript.
 ///
-/// Where the picture is not accepted, the script's reader is left as it was.
+/// Where the picture is not accepted, the script's reader is left as it was. All lines of the script that are complete
+/// are answered, and their answers handed on, before more is read.
 pub fn run<V: Surveyor, P: TextIn, R: TextIn, W: TextOut>(
     alloc: Global,
     surveyor: &V,
@@ -29,6 +30,10 @@ pub fn run<V: Surveyor, P: TextIn, R: TextIn, W: TextOut>(
         (P.has_failed picture.new) (P.remaining picture.old) (P.remaining picture.new)
         (R.has_failed script.new) (R.remaining script.old) (R.remaining script.new)
         (W.contents writer.old) (W.contents writer.new) }
+    ensures prompt { (script.new ≡ script.old) ⊎ RunsOut
+        (P.has_failed picture.new) (P.remaining picture.old) (P.remaining picture.new)
+        (R.remaining script.old) (R.before script.new) (W.contents writer.old) (W.seen writer.new) }
+    ensures seen { OnOk result (W.seen writer.new ≡ W.contents writer.new) }
     ensures write { W.has_failed writer.new ≡ loses_output result }
     ensures picture_calls { P.calls picture.new ≤ P.calls picture.old + (MAX_PICTURE_BYTES + 1) }
     ensures script_calls { R.calls script.new ≤ R.calls script.old + (MAX_SCRIPT_BYTES + 1) }

@@ -1,10 +1,10 @@
 // Runs whose surveys may be made by several workers.
-ghost use Rattle.std.specs.Prelude.{◌≡◌, ◌+◌, ◌<◌, ◌≤◌, false, IfOk};
+ghost use Rattle.std.specs.Prelude.{◌≡◌, ◌⊎◌, ◌+◌, ◌<◌, ◌≤◌, false, IfOk, OnOk};
 ghost use Rattle.reh_model.specs.Survey as model;
 ghost use Rattle.reh_crew.specs.Surveys.{FindsSurvey};
 ghost use Rattle.reh_crew.specs.declared.threads.TheConstants.{MAX_WORKERS};
 ghost use Rattle.reh_script.specs.Pipes.{loses_output};
-ghost use Rattle.reh_script.specs.Runs.{Runs};
+ghost use Rattle.reh_script.specs.Runs.{Runs, RunsOut};
 
 use reh_cluster::State;
 use reh_crew::{BySurvey, MAX_WORKERS, OpenGate, Plain, SurveyFault, SurveyLine, Threads};
@@ -37,6 +37,10 @@ pub(crate) fn run_by<T: thread::Threads + Wait + Sync, P: TextIn, R: TextIn, W: 
         (P.has_failed picture.new) (P.remaining picture.old) (P.remaining picture.new)
         (R.has_failed script.new) (R.remaining script.old) (R.remaining script.new)
         (W.contents writer.old) (W.contents writer.new) }
+    ensures prompt { (script.new ≡ script.old) ⊎ RunsOut
+        (P.has_failed picture.new) (P.remaining picture.old) (P.remaining picture.new)
+        (R.remaining script.old) (R.before script.new) (W.contents writer.old) (W.seen writer.new) }
+    ensures seen { OnOk result (W.seen writer.new ≡ W.contents writer.new) }
     ensures write { W.has_failed writer.new ≡ loses_output result }
 {
     if crew.workers == 1 {

@@ -1,6 +1,6 @@
-use Rattle.std.proofs.Common.{◌≡◌, ◌+◌, ◌-◌, ◌≤◌, length, take, drop, vec_len, false}
+use Rattle.std.proofs.Common.{◌≡◌, ◌⊎◌, ◌+◌, ◌-◌, ◌≤◌, length, take, drop, vec_len, false}
 use Rattle.std.specs.Io.KnownBytes.{Consumes}
-use Rattle.reh_script.specs.Heads.{IsPicture}
+use Rattle.reh_script.specs.Heads.{IsPicture, IsUntoldUntil}
 use Rattle.reh_script.specs.Readings.{IsQuiet}
 use Rattle.reh_script.specs.declared.heads.TheConstants.{MAX_HEAD}
 use Rattle.reh_script.proofs.heads.read_head.Given as goal
@@ -14,6 +14,8 @@ invariant-loop-block g l = record {
   within : l.line ≤ length l.input.items;
   quiet : IsQuiet (drop l.line l.input.items);
   few : length l.input.items ≤ MAX_HEAD;
+  until : (l.reader ≡ l.fn.reader)
+      ⊎ IsUntoldUntil (g.R.TextIn.remaining l.fn.reader) (g.R.TextIn.before l.reader);
   calls : g.R.TextIn.calls l.reader ≤ g.R.TextIn.calls l.fn.reader + length l.input.items;
 }
 

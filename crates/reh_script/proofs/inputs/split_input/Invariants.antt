@@ -1,6 +1,6 @@
 use Rattle.std.proofs.Common.{◌≡◌, drop, take}
 use Rattle.reh_script.specs.Lines.{cut_inside}
-use Rattle.reh_script.proofs.Cuts.{with_fronts}
+use Rattle.reh_script.specs.Heads.{with_fronts}
 use Rattle.reh_script.proofs.inputs.split_input.Given as goal
 
 -- the cut of all is what was passed and the cut of what is left

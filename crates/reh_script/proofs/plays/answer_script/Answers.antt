@@ -1,4 +1,4 @@
-use Rattle.std.proofs.Common.{List, sym, subst, ◌∙◌, append-nil}
+use Rattle.std.proofs.Common.{List, false, sym, subst, ◌∙◌, append-nil}
 use Rattle.reh_desk.specs.Numbered.{Numbered}
 use Rattle.reh_script.specs.Players.{setting, seated, GivesBack}
 use Rattle.reh_script.specs.Turns.{player, with_ticket}
@@ -26,7 +26,7 @@ returns-in-None-clause-played g c =
 pub returns-in-Some-clause-played : goal.returns-in-Some-clause-played
 returns-in-Some-clause-played g c =
     let place = setting g.C.Counter.goes g.C.Counter.scene c.args.tools.now.names.now in
-    ends_stopped place c.args.failed c.args.script.now _ c.in-Some.fault _
+    ends_stopped place false c.args.script.now _ c.in-Some.fault _
     (player c.answer_lines.new.counter c.answer_lines.new.seat c.answer_lines.new.hand)
     (seated c.give_back.new.counter c.give_back.new.seat) _ _ c.answered-stop.ensures.lines
     (sym c.in-Some.is ∙ c.answered-stop.ensures.stop) (goes_to_end place _ _ _ _ _ _ c.in-Ok.ensures.ok)

@@ -1,6 +1,6 @@
 use Rattle.std.proofs.Common.{refl, Ok}
 use Rattle.reh_script.proofs.Ends.{keeps_writer, handed_on}
-use Rattle.reh_script.proofs.RunLaws.{runs_unopened, text_writes, runs_played, runs_early}
+use Rattle.reh_script.proofs.RunLaws.{runs_unopened, text_writes, runs_played, runs_early, runs_out}
 use Rattle.reh_script.proofs.runs.run.Goals as goal
 
 pub returns-in_err-rehearsal-clause-runs : goal.returns-in_err-rehearsal-clause-runs
@@ -28,3 +28,11 @@ pub returns-clause-runs : goal.returns-clause-runs
 returns-clause-runs g c =
     runs_played _ _ _ _ _ _ _ _ _ _ c.in_ok-rehearsal.rehearsal (Ok tt) c.play_book.new.book.book
     c.in_ok-rehearsal.ensures.opens refl c.in_ok-play_book.ensures.transcribes
+
+pub returns-in_err-play_book-clause-prompt : goal.returns-in_err-play_book-clause-prompt
+returns-in_err-play_book-clause-prompt g c =
+    runs_out _ _ _ _ _ _ _ _ c.in_ok-rehearsal.rehearsal c.in_ok-rehearsal.ensures.opens c.play_book.ensures.prompt
+
+pub returns-clause-prompt : goal.returns-clause-prompt
+returns-clause-prompt g c =
+    runs_out _ _ _ _ _ _ _ _ c.in_ok-rehearsal.rehearsal c.in_ok-rehearsal.ensures.opens c.play_book.ensures.prompt
