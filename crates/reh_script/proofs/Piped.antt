@@ -15,18 +15,21 @@ use Rattle.reh_model.specs.Session.{opened_session}
 use Rattle.reh_picture.specs.declared.faults.PictureFault.{PictureFault}
 use Rattle.reh_picture.specs.declared.faults.PictureFault.TheVariants as picture_fault
 use Rattle.reh_picture.specs.Pictures.{picture_of}
-use Rattle.reh_script.specs.Heads.{IsHead, IsUntold, IsUntoldUntil}
+use Rattle.reh_script.specs.Heads.{IsHead, IsUntold, IsUntoldUntil, ReadsHead}
 use Rattle.reh_script.specs.Lines.{Cut, cut_of, ended, is_told, lines_of}
 use Rattle.reh_script.specs.Pipes.{Rehearsal, rehearsal_by, rehearsal_of, IsPiped, Pipes, AnswersGoOut, PlaysBehind}
 use Rattle.reh_script.specs.Pipes.{GoesOutFrom, GoesOutBehind}
 use Rattle.reh_script.specs.Readings.{Gives}
 use Rattle.reh_script.specs.Streams.{Reaches}
 use Rattle.reh_script.specs.Transcript.{starting, transcript}
+use Rattle.reh_script.specs.declared.heads.Head.{Head}
+use Rattle.reh_script.specs.declared.heads.Head.TheVariants.{Ended, Whole, TooLong, Failed}
+use Rattle.reh_script.specs.declared.heads.Percent.{Percent}
 use Rattle.reh_script.specs.declared.faults.PipeFault.{PipeFault}
 use Rattle.reh_script.specs.declared.faults.PipeFault.TheVariants.{Picture, Play}
 use Rattle.reh_script.specs.declared.faults.PlayFault.TheVariants.{NoMemory, ReadFault}
 use Rattle.reh_script.proofs.EndedLaws.{has_lf, ended_none}
-use Rattle.reh_script.proofs.HeadLaws.{stays_long, lines_untold}
+use Rattle.reh_script.proofs.HeadLaws.{has_none, stays_long, lines_untold}
 use Rattle.reh_script.proofs.OpeningLaws.{picture_of-long}
 use Rattle.reh_script.proofs.Parts.{ended-loud, ended-quiet}
 
@@ -76,7 +79,7 @@ tells_picture true head picture text is shorter =
     omega (arith, front, ap length lines, length-append head (ended text), shorter) in
     grind (arith, nat_tests)
 
-pub rehearsal_behind : (failed : Bool) (head picture text : List ℕ) → IsHead head picture
+rehearsal_behind : (failed : Bool) (head picture text : List ℕ) → IsHead head picture
     → length picture < length head → rehearsal_of failed (head ++ text) ≡ rehearsal_by failed (picture_of picture) text
 rehearsal_behind failed head picture text is shorter =
     ap (λ (t : Bool). cond t (rehearsal_by failed (picture_of (cut_of (head ++ text)).picture) (cut_of (head ++ text)).script)
@@ -100,7 +103,7 @@ shorter_front : (input : List ℕ) (p n : ℕ) → p < n → n ≤ length input 
 shorter_front input p n order within =
     omega (arith, length-take-le p input (omega arith), length-take-le n input within)
 
-pub pipes_behind : (p n : ℕ) (input : List ℕ) (left_old left_mid left_new : Option (List ℕ)) (failed : Bool)
+pipes_behind : (p n : ℕ) (input : List ℕ) (left_old left_mid left_new : Option (List ℕ)) (failed : Bool)
     (result : Result (Unit {0}) PipeFault) (old new : Option (List ℕ)) → Consumes left_old left_mid input
     → IsHead (take n input) (take p input) → p < n → n ≤ length input
     → PlaysBehind (picture_of (take p input)) result failed (prepend_known (drop n input) left_mid) left_new old new
@@ -119,7 +122,7 @@ pipes_behind p n input left_old left_mid left_new failed result old new given is
 
 -- Inputs without one
 
-pub pipes_whole : (input : List ℕ) (left_old left_new : Option (List ℕ)) (failed : Bool)
+pipes_whole : (input : List ℕ) (left_old left_new : Option (List ℕ)) (failed : Bool)
     (result : Result (Unit {0}) PipeFault) (held : Option (List ℕ)) → Consumes left_old left_new input → failed ≡ false
     → IsAtEnd left_new → IsPiped false (rehearsal_of false input) result held held
     → Pipes result failed left_old left_new held held
@@ -164,7 +167,7 @@ all_long input (Some all) (Some rest) result held given untold long ends = recor
       (untold_long input rest result held untold long ends);
 }
 
-pub pipes_long : (input : List ℕ) (left_old left_new : Option (List ℕ)) (failed : Bool)
+pipes_long : (input : List ℕ) (left_old left_new : Option (List ℕ)) (failed : Bool)
     (result : Result (Unit {0}) PipeFault) (held : Option (List ℕ)) → Consumes left_old left_new input → failed ≡ false
     → IsUntold input → MAX_PICTURE_BYTES + 4 ≤ length input → IsPiped false (rehearsal_of false input) result held held
     → Pipes result failed left_old left_new held held
@@ -182,7 +185,7 @@ untold input is short =
     ap (λ (t : Bool). cond t (rehearsal_by true (picture_of (cut_of input).picture) (cut_of input).script)
     (Err (Play ReadFault))) none
 
-pub pipes_failed : (input : List ℕ) (left_old left_new : Option (List ℕ)) (failed : Bool) (held : Option (List ℕ))
+pipes_failed : (input : List ℕ) (left_old left_new : Option (List ℕ)) (failed : Bool) (held : Option (List ℕ))
     → Consumes left_old left_new input → failed ≡ true → IsUntold input → length input < MAX_PICTURE_BYTES + 4
     → Pipes (Err (Play ReadFault)) failed left_old left_new held held
 pipes_failed input left_old left_new failed held given fails is short =
@@ -241,7 +244,7 @@ out_at (Ok state) failed left left_before old shown out = (out.earlier, out.give
 out_at (Err fault) failed left left_before old shown out = absurd out
 
 -- behind a head
-pub out_behind : (p n : ℕ) (input : List ℕ) (left_old left_mid left_before old shown : Option (List ℕ))
+out_behind : (p n : ℕ) (input : List ℕ) (left_old left_mid left_before old shown : Option (List ℕ))
     → Consumes left_old left_mid input → IsHead (take n input) (take p input) → p < n → n ≤ length input
     → GoesOutBehind (picture_of (take p input)) (prepend_known (drop n input) left_mid) left_before old shown
     → AnswersGoOut left_old left_before old shown
@@ -257,3 +260,59 @@ out_behind p n input left_old left_mid left_before old shown given is order with
           (sym (rehearsal_behind true (take n input) (take p input) at.0 is (shorter_front input p n order within)))
           (at.2 (cut_of (take n input ++ at.0)).script (ap (λ (c : Cut). c.script) (is.1 at.0)));
     }
+
+-- A whole pipe, by what came of reading its head
+
+pub pipes_ended : (head : Head) (percent : Percent) (input : List ℕ) (left_old left_mid left_new : Option (List ℕ))
+    (fine failed : Bool) (result : Result (Unit {0}) PipeFault) (old new : Option (List ℕ)) → head ≡ Ended percent
+    → ReadsHead head input left_old left_mid fine
+    → PlaysBehind (picture_of (take percent.picture input)) result failed
+    (prepend_known (drop percent.script input) left_mid) left_new old new
+    → Pipes result failed left_old left_new old new
+pipes_ended head percent input left_old left_mid left_new fine failed result old new is reads plays =
+    let read = subst (λ (h : Head). ReadsHead h input left_old left_mid fine) is reads in
+    pipes_behind percent.picture percent.script input left_old left_mid left_new failed result old new read.0 read.2
+    read.3 read.4 plays
+
+pub out_ended : {A : Type 0} (first mid last : A) (before : A → Option (List ℕ)) (head : Head) (percent : Percent)
+    (input : List ℕ) (left_old left_mid : Option (List ℕ)) (fine : Bool) (old shown : Option (List ℕ))
+    → head ≡ Ended percent → ReadsHead head input left_old left_mid fine
+    → (mid ≡ first) ⊎ IsUntoldUntil left_old (before mid)
+    → (last ≡ mid) ⊎ GoesOutBehind (picture_of (take percent.picture input))
+    (prepend_known (drop percent.script input) left_mid) (before last) old shown
+    → (last ≡ first) ⊎ AnswersGoOut left_old (before last) old shown
+out_ended {A} first mid last before head percent input left_old left_mid fine old shown is reads until (inl same) =
+    subst (λ (reader : A). (reader ≡ first) ⊎ AnswersGoOut left_old (before reader) old shown) (sym same)
+    (out_of_head (mid ≡ first) left_old (before mid) old shown until)
+out_ended {A} first mid last before head percent input left_old left_mid fine old shown is reads until (inr out) =
+    let read = subst (λ (h : Head). ReadsHead h input left_old left_mid fine) is reads in
+    inr (out_behind percent.picture percent.script input left_old left_mid (before last) old shown read.0 read.2 read.3
+    read.4 out)
+
+-- where the head is all that there is, or too long
+pub alone_has_none : (head : Head) (input : List ℕ) (left_old left_new : Option (List ℕ)) (fine : Bool)
+    → (head ≡ Whole) ⊎ (head ≡ TooLong) → ReadsHead head input left_old left_new fine → (cut_of input).script ≡ []
+alone_has_none head input left_old left_new fine (inl is) reads =
+    let read = subst (λ (h : Head). ReadsHead h input left_old left_new fine) is reads in
+    has_none input read.2
+alone_has_none head input left_old left_new fine (inr is) reads =
+    let read = subst (λ (h : Head). ReadsHead h input left_old left_new fine) is reads in
+    has_none input read.2
+
+pub pipes_alone : (head : Head) (input : List ℕ) (left_old left_new : Option (List ℕ)) (failed : Bool)
+    (result : Result (Unit {0}) PipeFault) (held : Option (List ℕ)) → (head ≡ Whole) ⊎ (head ≡ TooLong)
+    → ReadsHead head input left_old left_new failed → IsPiped false (rehearsal_of false input) result held held
+    → Pipes result failed left_old left_new held held
+pipes_alone head input left_old left_new failed result held (inl is) reads ends =
+    let read = subst (λ (h : Head). ReadsHead h input left_old left_new failed) is reads in
+    pipes_whole input left_old left_new failed result held read.0 read.1 read.3 ends
+pipes_alone head input left_old left_new failed result held (inr is) reads ends =
+    let read = subst (λ (h : Head). ReadsHead h input left_old left_new failed) is reads in
+    pipes_long input left_old left_new failed result held read.0 read.1 read.2 read.3 ends
+
+pub pipes_unread : (head : Head) (input : List ℕ) (left_old left_new : Option (List ℕ)) (failed : Bool)
+    (held : Option (List ℕ)) → head ≡ Failed → ReadsHead head input left_old left_new failed
+    → Pipes (Err (Play ReadFault)) failed left_old left_new held held
+pipes_unread head input left_old left_new failed held is reads =
+    let read = subst (λ (h : Head). ReadsHead h input left_old left_new failed) is reads in
+    pipes_failed input left_old left_new failed held read.0 read.1 read.2 read.3
