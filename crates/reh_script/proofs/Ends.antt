@@ -1,11 +1,10 @@
 -- How a pipe ends.
-use Rattle.std.proofs.Common.{◌≡◌, ℕ, ◌+◌, ◌<◌, ◌≤◌, ◌⊎◌, Bool, true, false, cond, List, [], ◌++◌, length, Option, None}
-use Rattle.std.proofs.Common.{Some, Result, Ok, Err, inl, inr, refl, sym, ap, ◌∙◌, subst, arith, append-nil}
+use Rattle.std.proofs.Common.{◌≡◌, ℕ, ◌<◌, ◌≤◌, ◌⊎◌, Bool, false, List, [], length, Option}
+use Rattle.std.proofs.Common.{Result, Ok, Err, inl, inr, refl, sym, ap, ◌∙◌, subst, arith}
 use Rattle.std.proofs.Common.{take, drop}
 use Rattle.std.proofs.lemmas.List.{take-append-le, take-append-drop, length-take-le}
-use Rattle.std.specs.Prelude.{IsErrAnd, IfOk}
+use Rattle.std.specs.Prelude.{IsErrAnd}
 use Rattle.std.proofs.KnownBytes.{Appends-nil, Keeps-refl}
-use Rattle.std.specs.Io.KnownBytes.{Appends, Consumes, Keeps, prepend_known}
 use Rattle.reh_model.specs.Cluster.{Cluster}
 use Rattle.reh_model.specs.Session.{opened_session}
 use Rattle.reh_model.specs.Book.{Book, new_book}
@@ -16,7 +15,7 @@ use Rattle.reh_picture.specs.Pictures.{picture_of}
 use Rattle.reh_script.specs.BookPlays.{Transcribes, at_book}
 use Rattle.reh_script.specs.Lines.{lines_of, ended, cut_of, answered_lines}
 use Rattle.reh_script.specs.Openings.{Opens, IsOpened}
-use Rattle.reh_script.specs.Pipes.{piped, loses_output, IsUnplayed, PlaysBehind, GoesOutBehind}
+use Rattle.reh_script.specs.Pipes.{piped, loses_output, PlaysBehind, GoesOutBehind}
 use Rattle.reh_script.specs.Pipes.{rehearsal_by, rehearsal_of, IsPiped}
 use Rattle.reh_script.specs.Players.{seated}
 use Rattle.reh_script.specs.Plays.{GoesOut, is_write_fault}
@@ -25,7 +24,7 @@ use Rattle.reh_script.specs.Transcript.{starting, transcript}
 use Rattle.reh_script.specs.declared.faults.PlayFault.{PlayFault}
 use Rattle.reh_script.specs.declared.faults.PlayFault.TheVariants.{NoMemory}
 use Rattle.reh_script.specs.declared.faults.PipeFault.{PipeFault}
-use Rattle.reh_script.specs.declared.faults.PipeFault.TheVariants.{Picture, Play}
+use Rattle.reh_script.specs.declared.faults.PipeFault.TheVariants.{Play}
 use Rattle.reh_script.specs.declared.openings.Opened.{Opened}
 use Rattle.reh_script.proofs.Transcripts.{lines_follow}
 

@@ -1,11 +1,10 @@
 -- A play that finds no memory for its hand.
 use Rattle.std.proofs.Common.{◌≡◌, ℕ, Bool, false, inl, inr, List, [], Option, None, Some, Result, Ok, Err, refl, sym}
-use Rattle.std.proofs.Common.{ap, subst}
+use Rattle.std.proofs.Common.{subst}
 use Rattle.std.specs.Prelude.{IsErrAnd}
 use Rattle.std.proofs.KnownBytes.{Appends-nil}
-use Rattle.reh_script.specs.Lines.{answered_lines}
-use Rattle.reh_script.specs.Players.{Setting, Player, seated}
-use Rattle.reh_script.specs.Plays.{stop_of, StopsBetween, Plays}
+use Rattle.reh_script.specs.Players.{Setting, seated}
+use Rattle.reh_script.specs.Plays.{StopsBetween, Plays}
 use Rattle.reh_script.specs.declared.faults.PlayFault.{PlayFault}
 use Rattle.reh_script.specs.declared.faults.PlayFault.TheVariants.{NoMemory}
 use Rattle.reh_desk.specs.Seats.{SeatView}

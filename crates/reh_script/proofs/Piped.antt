@@ -5,7 +5,7 @@ use Rattle.std.proofs.Common.{length-append}
 use Rattle.std.proofs.lemmas.List.{take-append-drop, length-take-le}
 use Rattle.std.proofs.lemmas.Bool.Decides.{nat_tests}
 use Rattle.std.proofs.KnownBytes.{Consumes-trans, Consumes-all, Keeps-refl}
-use Rattle.std.specs.Prelude.{IsErrAnd, IfOk, ◌||◌, nat_le, nat_lt}
+use Rattle.std.specs.Prelude.{IsErrAnd, IfOk}
 use Rattle.std.specs.Io.KnownBytes.{Consumes, IsAtEnd, prepend_known}
 use mathlib.Core.List.{append_assoc}
 use Rattle.reh_types.specs.declared.limits.TheConstants.{MAX_PICTURE_BYTES}
@@ -18,7 +18,7 @@ use Rattle.reh_picture.specs.Pictures.{picture_of}
 use Rattle.reh_script.specs.Heads.{IsHead, IsUntold, IsUntoldUntil, ReadsHead}
 use Rattle.reh_script.specs.Lines.{Cut, cut_of, ended, is_told, lines_of}
 use Rattle.reh_script.specs.Pipes.{Rehearsal, rehearsal_by, rehearsal_of, IsPiped, Pipes, AnswersGoOut, PlaysBehind}
-use Rattle.reh_script.specs.Pipes.{GoesOutFrom, GoesOutBehind}
+use Rattle.reh_script.specs.Pipes.{GoesOutBehind}
 use Rattle.reh_script.specs.Readings.{Gives}
 use Rattle.reh_script.specs.Streams.{Reaches}
 use Rattle.reh_script.specs.Transcript.{starting, transcript}
@@ -26,7 +26,7 @@ use Rattle.reh_script.specs.declared.heads.Head.{Head}
 use Rattle.reh_script.specs.declared.heads.Head.TheVariants.{Ended, Whole, TooLong, Failed}
 use Rattle.reh_script.specs.declared.heads.Percent.{Percent}
 use Rattle.reh_script.specs.declared.faults.PipeFault.{PipeFault}
-use Rattle.reh_script.specs.declared.faults.PipeFault.TheVariants.{Picture, Play}
+use Rattle.reh_script.specs.declared.faults.PipeFault.TheVariants.{Play}
 use Rattle.reh_script.specs.declared.faults.PlayFault.TheVariants.{NoMemory, ReadFault}
 use Rattle.reh_script.proofs.EndedLaws.{has_lf, ended_none}
 use Rattle.reh_script.proofs.HeadLaws.{has_none, stays_long, lines_untold}

@@ -10,8 +10,8 @@ use Rattle.std.proofs.KnownBytes.{Appends-trans, Consumes-trans, Consumes-whole}
 use Rattle.std.specs.Io.KnownBytes.{Appends, Consumes, Keeps, IsAtEnd, prepend_known}
 use Rattle.reh_types.specs.declared.limits.TheConstants.{MAX_SCRIPT_BYTES}
 use Rattle.reh_script.specs.Lines.{lines_of, ended, answered_lines}
-use Rattle.reh_script.specs.Players.{Setting, Player, TakesAll, Ends}
-use Rattle.reh_script.specs.Plays.{stop_of, Plays, StopsBetween, GoesOut}
+use Rattle.reh_script.specs.Players.{Setting, Player, TakesAll}
+use Rattle.reh_script.specs.Plays.{stop_of, StopsBetween, GoesOut}
 use Rattle.reh_script.specs.Readings.{IsQuiet, ReadsOn, reads_past}
 use Rattle.reh_script.specs.Streams.{Grows}
 use Rattle.reh_script.specs.Turns.{player, with_ticket, IsAt, GoesOn, Halts, LeadsTo, PlaysTo}

@@ -5,7 +5,7 @@ use mathlib.Core.List.{append_assoc}
 use Rattle.std.proofs.Math.Seq.{take-append_seam}
 use Rattle.std.proofs.lemmas.List.{take-append-le}
 use Rattle.std.proofs.KnownBytes.{Consumes-trans}
-use Rattle.std.specs.Io.KnownBytes.{Consumes, IsAtEnd}
+use Rattle.std.specs.Io.KnownBytes.{Consumes}
 use Rattle.reh_types.specs.declared.limits.TheConstants.{MAX_SCRIPT_BYTES}
 use Rattle.reh_script.specs.Lines.{ended}
 use Rattle.reh_script.specs.Readings.{IsQuiet, ReadsOn, ReadsPast}

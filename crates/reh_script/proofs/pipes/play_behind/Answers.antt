@@ -1,6 +1,4 @@
-use Rattle.std.proofs.Common.{Ok, refl, List, ℕ, subst}
-use Rattle.reh_picture.specs.Pictures.{picture_of}
-use Rattle.reh_script.specs.Openings.{Opens}
+use Rattle.std.proofs.Common.{Ok, refl}
 use Rattle.reh_script.specs.declared.faults.PlayFault.TheVariants.{NoMemory}
 use Rattle.reh_script.proofs.Ends.{behind_lacking, behind_unopened, behind_played, behind_early, behind_out, front_of}
 use Rattle.reh_script.proofs.Ends.{handed_on}

@@ -1,8 +1,7 @@
 use Rattle.std.proofs.Common.{[], arith, rules, ap, subst, refl, inl, inr, None}
 use Rattle.std.specs.Io.KnownBytes.{prepend_known}
 use Rattle.reh_script.specs.Players.{setting}
-use Rattle.reh_script.specs.Turns.{player, with_ticket, PlaysTo}
-use Rattle.reh_script.specs.declared.faults.PlayFault.TheVariants.{ReadFault, TooLong, WriteFault, NoMemory}
+use Rattle.reh_script.specs.declared.faults.PlayFault.TheVariants.{WriteFault, NoMemory}
 use Rattle.reh_script.proofs.ReadLaws.{lines_stand, answered_to, stops_among, keeps_back, lacks_memory, holds_none}
 use Rattle.reh_script.proofs.ReadLaws.{goes_out, out_grown, stands_on, still_at, still_whole, still_within}
 use Rattle.reh_script.proofs.ReadLaws.{Stands, count_within, ends_failed, ends_long, stops_at_last, answered_last}

@@ -4,8 +4,8 @@ use Rattle.reh_script.specs.Lines.{lines_of, ended}
 use Rattle.reh_script.proofs.Answered.{not_script, answered_lines-long, answered_lines-whole}
 use Rattle.reh_script.proofs.plays.answered.Goals as goal
 
-pub returns-then-clause-lines : goal.returns-then-clause-lines
-returns-then-clause-lines c =
+pub returns-then-script-gt-MAX_SCRIPT_BYTES-clause-lines : goal.returns-then-script-gt-MAX_SCRIPT_BYTES-clause-lines
+returns-then-script-gt-MAX_SCRIPT_BYTES-clause-lines c =
     let long : MAX_SCRIPT_BYTES < length c.args.script.now = omega arith in
     ap lines_of c.whole_lines.ensures ∙ ap (λ (text : List ℕ). lines_of (ended text)) c.front-first.ensures
     ∙ sym (answered_lines-long false c.args.script.now (not_script c.args.script.now long))

@@ -1,4 +1,4 @@
-use Rattle.std.proofs.Common.{rules, arith, take}
+use Rattle.std.proofs.Common.{rules, arith}
 use Rattle.reh_script.proofs.ReadingOn.{reads_lines, reads_quiet, reads_past, given_front}
 use Rattle.reh_script.proofs.readings.read_on.Goals as goal
 

@@ -1,6 +1,5 @@
-use Rattle.std.proofs.Common.{rules, subst, sym, List, ℕ}
+use Rattle.std.proofs.Common.{rules}
 use Rattle.std.proofs.KnownBytes.{Keeps-trans}
-use Rattle.std.specs.Io.KnownBytes.{Keeps, append_known}
 use Rattle.reh_script.proofs.Gathering.{grows_on, gathered_sent}
 use Rattle.reh_script.proofs.gathered.Gathered.send.Goals as goal
 
