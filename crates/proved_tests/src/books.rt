@@ -11,10 +11,10 @@ use std::alloc::{AllocError, Global};
 use std::process::Abort;
 use std::test::Fail;
 
-const SEAT: u32 = 0;
+pub(crate) const SEAT: u32 = 0;
 
 /// The place of the lost bookie, for the fourth one.
-const AIM: Aim = Aim {
+pub(crate) const AIM: Aim = Aim {
     worker: BookieIx(3),
     ledger: LedgerId(7),
     fragment: 0,
@@ -22,7 +22,7 @@ const AIM: Aim = Aim {
 };
 
 /// The loss of the second bookie, and the fourth one's lock.
-const LOSS: &[&str] = &["lose b2:3181", "audit", "acquire b4:3181 7"];
+pub(crate) const LOSS: &[&str] = &["lose b2:3181", "audit", "acquire b4:3181 7"];
 
 /// Lines of a script, then a scan of an aim, and lines that come before what was found is spent.
 #[derive(Clone, Copy)]
@@ -47,7 +47,7 @@ fn opened(rt: &impl Abort, alloc: Global, picture: &str) -> Book {
 }
 
 /// The reply to a line of a script that asks for a move.
-fn ask(rt: &impl Abort, book: &mut Book, line: &str) -> Reply {
+pub(crate) fn ask(rt: &impl Abort, book: &mut Book, line: &str) -> Reply {
     let asked = match book.whole() {
         Some(state) => parse_line(state.names(), line.as_bytes()),
         None => None,
@@ -59,7 +59,7 @@ fn ask(rt: &impl Abort, book: &mut Book, line: &str) -> Reply {
 }
 
 /// Makes the moves of some lines, and adds their replies.
-fn ask_all(rt: &impl Abort, book: &mut Book, text: &mut String, lines: &[&str]) {
+pub(crate) fn ask_all(rt: &impl Abort, book: &mut Book, text: &mut String, lines: &[&str]) {
     for line in lines {
         let reply = ask(rt, book, line);
         push(rt, text, reply);
@@ -91,14 +91,14 @@ fn push_content(text: &mut String, content: &Content) -> Result<(), AllocError> 
 }
 
 /// Gives a ticket, or what was found with it, back to the book.
-fn give_back(book: &mut Book, unspent: Unspent) {
+pub(crate) fn give_back(book: &mut Book, unspent: Unspent) {
     if let Err(stray) = book.discard(SEAT, unspent) {
         stray.forfeit();
     }
 }
 
 /// What a scan with a new ticket finds.
-fn found(rt: &impl Abort, alloc: Global, book: &mut Book, aim: Aim) -> Finding {
+pub(crate) fn found(rt: &impl Abort, alloc: Global, book: &mut Book, aim: Aim) -> Finding {
     let ticket = match book.checkout(SEAT, aim) {
         Ok(ticket) => ticket,
         Err(refusal) => panic!(rt; "{refusal}"),
@@ -291,7 +291,7 @@ fn refused(rt: &impl Abort, book: &mut Book, finding: Finding) -> Finding {
 }
 
 /// What the fourth bookie's worker finds, with these sources.
-fn content(alloc: Global, sources: [Option<BookieIx>; 4]) -> Result<BoxedContent, AllocError> {
+pub(crate) fn content(alloc: Global, sources: [Option<BookieIx>; 4]) -> Result<BoxedContent, AllocError> {
     let ensemble = vec![in alloc; BookieIx(0), BookieIx(1), BookieIx(2)]?;
     let content = Content {
         aim: AIM,

@@ -4,7 +4,11 @@
 #[cfg(test)]
 mod books;
 #[cfg(test)]
+mod growths;
+#[cfg(test)]
 mod memory;
+#[cfg(test)]
+mod requests;
 #[cfg(test)]
 mod streams;
 #[cfg(test)]

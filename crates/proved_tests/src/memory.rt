@@ -1,9 +1,10 @@
 // Sessions where there is no memory.
+use crate::books::{LOSS, content};
 use desk_tests::pictures::FIVE_BOOKIES;
 use reh_picture::{PictureFault, read_picture};
 use reh_script::{Command, parse_line, report_text};
 use reh_session::Session;
-use reh_types::{Move, Refusal, Reply};
+use reh_types::{BookieIx, Move, Refusal, Reply};
 use std::alloc::{AllocError, Global};
 use std::process::Abort;
 
@@ -27,11 +28,20 @@ const LINES: [(&str, &str); 14] = [
 ];
 
 /// A session on five bookies, of which the worker's holds one entry of the ledger; none where there is no memory.
-fn opened(rt: &impl Abort, alloc: Global) -> Result<Session, AllocError> {
+fn opened_with_one(rt: &impl Abort, alloc: Global) -> Result<Session, AllocError> {
     let open = FIVE_BOOKIES.strip_suffix("]}").unwrap_or(FIVE_BOOKIES);
     let picture = format!(in alloc;
         "{open},{{\"bookie\":\"b4:3181\",\"ledger\":7,\"entries\":[[3,3]]}}]}}"
     )?;
+    opened(rt, alloc, &picture)
+}
+
+/// A session on a picture; none where there is no memory.
+pub(crate) fn opened(
+    rt: &impl Abort,
+    alloc: Global,
+    picture: &str,
+) -> Result<Session, AllocError> {
     match read_picture(alloc, picture.as_bytes()) {
         Ok(state) => Session::open(alloc, state),
         Err(PictureFault::NoMemory) => Err(AllocError),
@@ -52,29 +62,28 @@ fn shown(alloc: Global, session: &Session) -> Result<String, AllocError> {
 }
 
 /// The move that a line asks for.
-fn step_of(rt: &impl Abort, session: &Session, line: &str) -> Move {
+pub(crate) fn step_of(rt: &impl Abort, session: &Session, line: &str) -> Move {
     match parse_line(session.state().names(), line.as_bytes()) {
         Some(Ok(Command::Make(step))) => step,
         _ => panic!(rt; "{line}"),
     }
 }
 
-/// The reply to a line. Where there is no memory for its move nothing has changed, and it is asked for once more.
+/// The reply to a move. Where there is no memory for it nothing has changed, and it is asked for once more.
 fn asked_again(
     rt: &impl Abort,
     alloc: Global,
     session: &mut Session,
-    line: &str,
+    step: &Move,
 ) -> Result<Reply, AllocError> {
-    let step = step_of(rt, session, line);
     let before = shown(alloc, session)?;
-    let reply = session.perform(&step);
+    let reply = session.perform(step);
     if reply != Reply::Refused(Refusal::NoMemory) {
         return Ok(reply);
     }
     let after = shown(alloc, session)?;
     assert_eq!(rt; after.as_str(), before.as_str());
-    Ok(session.perform(&step))
+    Ok(session.perform(step))
 }
 
 /// A line is replied to as expected.
@@ -85,7 +94,8 @@ fn plays(
     line: &str,
     expected: &str,
 ) -> Result<(), AllocError> {
-    let reply = asked_again(rt, alloc, session, line)?;
+    let step = step_of(rt, session, line);
+    let reply = asked_again(rt, alloc, session, &step)?;
     let text = format!(in alloc; "{reply}")?;
     assert_eq!(rt; text.as_str(), expected);
     Ok(())
@@ -123,9 +133,79 @@ fn goes_there_and_back(
 /// redo make none.
 #[test]
 fn want_of_memory_changes_nothing(rt: HostRuntime) {
-    if let Ok(mut session) = opened(&rt, rt.alloc()) {
+    if let Ok(mut session) = opened_with_one(&rt, rt.alloc()) {
         if goes_there_and_back(&rt, rt.alloc(), &mut session).is_ok() {
             assert_eq!(rt; session.done().len(), 11);
         }
+    }
+}
+
+/// What a worker found is posted, once a source is lost, and once it has joined again.
+fn posts(rt: &impl Abort, alloc: Global) -> Result<(), AllocError> {
+    let mut session = opened(rt, alloc, FIVE_BOOKIES)?;
+    let (b1, b3) = (Some(BookieIx(0)), Some(BookieIx(2)));
+    let posted = Move::Post(content(alloc, [b1, b3, b1, b3])?);
+    for line in LOSS {
+        plays(rt, alloc, &mut session, line, "ok")?;
+    }
+    plays(rt, alloc, &mut session, "lose b3:3181", "ok")?;
+    let gone = asked_again(rt, alloc, &mut session, &posted)?;
+    assert_eq!(rt; gone, Reply::Refused(Refusal::SourceGone(1)));
+    plays(rt, alloc, &mut session, "join b3:3181", "ok")?;
+    assert_eq!(rt; asked_again(rt, alloc, &mut session, &posted)?, Reply::Done);
+    plays(rt, alloc, &mut session, "undo", "ok")?;
+    plays(rt, alloc, &mut session, "redo", "ok")?;
+    assert_eq!(rt; session.state().count(BookieIx(3)), 4);
+    Ok(())
+}
+
+#[test]
+fn want_of_memory_changes_nothing_at_a_post(rt: HostRuntime) {
+    if posts(&rt, rt.alloc()).is_err() {
+        return;
+    }
+}
+
+/// Moves that are made in one call: the worker's swap is refused until it has copied.
+const RUN: [&str; 9] = [
+    "lose b2:3181",
+    "audit",
+    "acquire b4:3181 7",
+    "swap b4:3181 7 0 1 0",
+    "finish b4:3181 7",
+    "copy b4:3181 7 0 1 0",
+    "swap b4:3181 7 0 1 0",
+    "finish b4:3181 7",
+    "undo",
+];
+
+/// A run's moves: either none of them is made, or all but one that finds no memory, with the replies that they have one
+/// by one.
+fn runs(rt: &impl Abort, alloc: Global) -> Result<(), AllocError> {
+    let mut session = opened(rt, alloc, FIVE_BOOKIES)?;
+    let mut other = session.clone_in()?;
+    let mut moves = Vec::new(alloc);
+    for line in RUN {
+        moves.push(step_of(rt, &session, line))?;
+    }
+    let Ok(replies) = session.run(&moves) else {
+        assert!(rt; session.same(&other));
+        return Ok(());
+    };
+    assert_eq!(rt; replies.len(), moves.len());
+    for (step, reply) in moves.iter().zip(&replies) {
+        if *reply != Reply::Refused(Refusal::NoMemory) {
+            let again = asked_again(rt, alloc, &mut other, step)?;
+            assert_eq!(rt; again, *reply);
+        }
+    }
+    assert!(rt; session.same(&other));
+    Ok(())
+}
+
+#[test]
+fn want_of_memory_costs_a_run_one_move(rt: HostRuntime) {
+    if runs(&rt, rt.alloc()).is_err() {
+        return;
     }
 }
