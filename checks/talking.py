@@ -13,8 +13,8 @@ class Talk:
     """A command whose standard input and output are at hand."""
 
     def __init__(self, command: List[str], **places) -> None:
-        places.setdefault("stderr", subprocess.PIPE)
-        self.program = subprocess.Popen(command, stdin=subprocess.PIPE, stdout=subprocess.PIPE, bufsize=0, **places)
+        pipes = {"stdin": subprocess.PIPE, "stdout": subprocess.PIPE, "stderr": subprocess.PIPE}
+        self.program = subprocess.Popen(command, bufsize=0, **{**pipes, **places})
 
     def say(self, text: str) -> None:
         self.program.stdin.write(text.encode())

@@ -4,10 +4,11 @@ ghost use Rattle.std.specs.Prelude.{◌≡◌, false};
 use desk_tests::pictures::{FIVE_BOOKIES, state_of};
 use reh_crew::Plain;
 use reh_desk::Book;
-use reh_script::{PiecesIn, PiecesOut, PipeFault, TextOut, ToWrite, pipe, play_book};
+use reh_script::{PiecesIn, PiecesOut, PipeFault, StreamFault, TextOut, ToWrite, pipe, play_book};
 use reh_session::Session;
 use std::alloc::Global;
 use std::io::{self, Write};
+use std::process::Abort;
 use std::test::Fail;
 
 /// One bookie and no ledger.
@@ -113,7 +114,9 @@ fn a_picture_is_too_long_before_a_failed_read(rt: HostRuntime) -> Result<(), Fai
 fn reads_in_any_pieces(rt: HostRuntime) -> Result<(), Fail> {
     let long = "a".repeat(rt.alloc(), 1025)?;
     let faulty = "\nlsoe b1:3181\ntick x\nlose b9:3181\n";
-    let input = format!(in rt.alloc(); "{PICTURE}\n%\n# rehearsal\r\nlose b1:3181\r\n{faulty}{long}\nclock")?;
+    let input = format!(in rt.alloc();
+        "{PICTURE}\n%\n# rehearsal\r\nlose b1:3181\r\n{faulty}{long}\nclock"
+    )?;
     let output =
         "line 2: ok\nline 4: unknown command\nline 5: bad words\nline 6: unknown name\nline 7: too long\nline 8: clock 0\n";
     for cut in 0..input.len() {
@@ -241,13 +244,24 @@ fn reads_nothing_behind_a_lost_answer(rt: HostRuntime) -> Result<(), Fail> {
     Ok(())
 }
 
+/// How many of some bytes a writer takes, without a fault.
+fn taken<W: TextOut>(rt: &impl Abort, writer: &mut W, bytes: &[u8]) -> usize
+    requires { W.has_failed writer.old ≡ false }
+    ensures { W.has_failed writer.new ≡ false }
+{
+    match writer.put(bytes) {
+        Ok(count) => count,
+        Err(StreamFault) => panic!(rt; "a fault"),
+    }
+}
+
 #[test]
 fn pieces_of_any_length_are_no_fault(rt: HostRuntime) -> Result<(), Fail> {
     let long = vec![in rt.alloc(); b'x'; 100_000]?;
     let mut written = Vec::new(rt.alloc());
     let mut writer = ToWrite::new(&mut written);
-    assert_eq!(rt; writer.put(b""), Ok(0));
-    assert_eq!(rt; writer.put(b"ok"), Ok(2));
-    assert_eq!(rt; writer.put(&long), Ok(100_000));
+    assert_eq!(rt; taken(&rt, &mut writer, b""), 0);
+    assert_eq!(rt; taken(&rt, &mut writer, b"ok"), 2);
+    assert_eq!(rt; taken(&rt, &mut writer, &long), 100_000);
     Ok(())
 }

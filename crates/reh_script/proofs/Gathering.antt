@@ -6,9 +6,6 @@ use Rattle.std.proofs.KnownBytes.{Appends-nil, Appends-trans, append_known-moved
 use Rattle.std.specs.Io.KnownBytes.{Appends, Keeps, append_known}
 use Rattle.reh_script.specs.Streams.{Grows}
 
-pub grows_not : (a : Option (List ℕ)) → Grows a a
-grows_not a = ([], Appends-nil a)
-
 pub grows_on : (a b c : Option (List ℕ)) → Grows a b → Grows b c → Grows a c
 grows_on a b c first next = (first.0 ++ next.0, Appends-trans a b c first.0 next.0 first.1 next.1)
 

@@ -112,18 +112,32 @@ ends_line lines line =
 pub at_percent : (lines line : List ℕ) → IsPicture lines → has_lf line ≡ false → is_percent line ≡ true
     → (picture : List ℕ) × ((lines ≡ [] × picture ≡ []) ⊎ (lines ≡ picture ++ 10 ∷ []))
     × IsHead (lines ++ (line ++ 10 ∷ [])) picture
-at_percent lines line (inl first) none is = ([], inl (first, refl), (ends_line lines line, λ script.
-    ap (λ (t : List ℕ). cut_of ((t ++ (line ++ 10 ∷ [])) ++ script)) first
-    ∙ ap cut_of (append_assoc line (10 ∷ []) script)
-    ∙ ap (λ (o : Option (List ℕ)). cut_or o (cut_inside (line ++ 10 ∷ script))) (ends_percent line script is)))
-at_percent lines line (inr (front, split, passed)) none is = (front, inr split, (ends_line lines line, λ script.
-    ap (λ (t : List ℕ). cut_of ((t ++ (line ++ 10 ∷ [])) ++ script)) split
-    ∙ ap cut_of (append_assoc (front ++ 10 ∷ []) (line ++ 10 ∷ []) script ∙ append_assoc front (10 ∷ []) ((line ++ 10 ∷ []) ++ script))
-    ∙ passed ((line ++ 10 ∷ []) ++ script)
-    ∙ ap (λ (t : List ℕ). with_fronts front (cut_inside (10 ∷ t))) (append_assoc line (10 ∷ []) script)
-    ∙ ap (λ (o : Option (List ℕ)). with_fronts front (cut_or o (with_front 10 (cut_inside (line ++ 10 ∷ script)))))
-    (ends_percent line script is)
-    ∙ ap (λ (picture : List ℕ). record { picture = picture; script = script }) (append-nil front)))
+at_percent lines line (inl first) none is = (
+  [],
+  inl (first, refl),
+  (
+    ends_line lines line,
+    λ script.
+        ap (λ (t : List ℕ). cut_of ((t ++ (line ++ 10 ∷ [])) ++ script)) first
+        ∙ ap cut_of (append_assoc line (10 ∷ []) script)
+        ∙ ap (λ (o : Option (List ℕ)). cut_or o (cut_inside (line ++ 10 ∷ script))) (ends_percent line script is),
+  ),
+)
+at_percent lines line (inr (front, split, passed)) none is = (
+  front,
+  inr split,
+  (
+    ends_line lines line,
+    λ script.
+        ap (λ (t : List ℕ). cut_of ((t ++ (line ++ 10 ∷ [])) ++ script)) split
+        ∙ ap cut_of (append_assoc (front ++ 10 ∷ []) (line ++ 10 ∷ []) script ∙ append_assoc front (10 ∷ []) ((line ++ 10 ∷ []) ++ script))
+        ∙ passed ((line ++ 10 ∷ []) ++ script)
+        ∙ ap (λ (t : List ℕ). with_fronts front (cut_inside (10 ∷ t))) (append_assoc line (10 ∷ []) script)
+        ∙ ap (λ (o : Option (List ℕ)). with_fronts front (cut_or o (with_front 10 (cut_inside (line ++ 10 ∷ script)))))
+        (ends_percent line script is)
+        ∙ ap (λ (picture : List ℕ). record { picture = picture; script = script }) (append-nil front),
+  ),
+)
 
 -- a line more of the picture
 pub past_line : (lines line : List ℕ) → IsPicture lines → has_lf line ≡ false → is_percent line ≡ false
@@ -291,8 +305,11 @@ long_at tail more cut none is =
 
 long_inside : (tail more : List ℕ) → has_lf tail ≡ false → length tail ≤ length (cut_inside (tail ++ more)).picture
 long_inside tail more none =
-    omega (arith, ap (λ (c : Cut). length c.picture) (passes tail more none),
-    length-append tail (cut_inside more).picture)
+    omega (
+      arith,
+      ap (λ (c : Cut). length c.picture) (passes tail more none),
+      length-append tail (cut_inside more).picture,
+    )
 
 pub stays_long : (input more : List ℕ) → IsUntold input → length input ≤ length (cut_of (input ++ more)).picture + 3
 stays_long input more (line, within, inl first, quiet) =
@@ -305,9 +322,14 @@ stays_long input more (line, within, inr (front, split, passed), quiet) =
     ap (λ (t : List ℕ). cut_of (t ++ more)) (behind_lines input front line split)
     ∙ ap cut_of (append_assoc front (10 ∷ tail) more) ∙ passed (tail ++ more) in
     let long : length tail ≤ length next.picture = omega (arith, long_inside tail more quiet) in
-    omega (arith, ap (λ (c : Cut). length c.picture) here, long_at tail more next quiet long,
-    length-append front (cut_or (after_percent (tail ++ more)) next).picture,
-    ap length (behind_lines input front line split), length-append front (10 ∷ tail))
+    omega (
+      arith,
+      ap (λ (c : Cut). length c.picture) here,
+      long_at tail more next quiet long,
+      length-append front (cut_or (after_percent (tail ++ more)) next).picture,
+      ap length (behind_lines input front line split),
+      length-append front (10 ∷ tail),
+    )
 
 -- its lines that end are of the picture
 pub lines_untold : (input : List ℕ) → IsUntold input → length (ended input) ≤ length (cut_of (ended input)).picture

@@ -100,8 +100,8 @@ ended-stays xs ys =
           let back = ended-front xs in (
             back.0 ++ ended ys,
             ended-loud xs ys some
-            ∙ ap (λ (text : List ℕ). text ++ ended ys) back.1
-            ∙ append_assoc (ended xs) back.0 (ended ys),
+                ∙ ap (λ (text : List ℕ). text ++ ended ys) back.1
+                ∙ append_assoc (ended xs) back.0 (ended ys),
           )
       | false ↦ λ none. ([], ended-quiet xs ys none ∙ sym (append-nil (ended xs)))
     ] refl

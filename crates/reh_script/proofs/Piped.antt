@@ -17,7 +17,7 @@ use Rattle.reh_picture.specs.declared.faults.PictureFault.TheVariants as picture
 use Rattle.reh_picture.specs.Pictures.{picture_of}
 use Rattle.reh_script.specs.Heads.{IsHead, IsUntold, IsUntoldUntil, ReadsHead}
 use Rattle.reh_script.specs.Lines.{Cut, cut_of, ended, is_told, lines_of}
-use Rattle.reh_script.specs.Pipes.{Rehearsal, rehearsal_by, rehearsal_of, IsPiped, Pipes, AnswersGoOut, PlaysBehind}
+use Rattle.reh_script.specs.Pipes.{Rehearsal, rehearsal_by, rehearsal_of, IsPiped, Pipes, IsOut, AnswersGoOut, PlaysBehind}
 use Rattle.reh_script.specs.Pipes.{GoesOutBehind}
 use Rattle.reh_script.specs.Readings.{Gives}
 use Rattle.reh_script.specs.Streams.{Reaches}
@@ -223,9 +223,8 @@ out_untold : (left_old left_before old shown : Option (List ℕ)) → IsUntoldUn
 out_untold left_old left_before old shown (earlier, given, is, short) = record {
   earlier = earlier;
   given = given;
-  reaches = subst (λ (r : Result Rehearsal PipeFault). IfOk r (λ r.
-      Reaches old shown (transcript r.state.names 0 (starting (new_book (opened_session r.state))) 1
-      (lines_of (ended (cut_of earlier).script))))) (sym (untold earlier is short)) tt;
+  out = subst (λ (r : Result Rehearsal PipeFault). IsOut r (lines_of (ended (cut_of earlier).script)) old shown)
+      (sym (untold earlier is short)) tt;
 }
 
 pub out_of_head : (unread : Type 0) (left_old left_before old shown : Option (List ℕ))
@@ -236,11 +235,14 @@ out_of_head unread left_old left_before old shown (inr until) =
 
 out_at : (read : Result Cluster PictureFault) (failed : Bool) (left left_before old shown : Option (List ℕ))
     → GoesOutBehind read left left_before old shown → (earlier : List ℕ) × Consumes left left_before earlier × ((script : List ℕ) → script ≡ earlier
-    → IfOk (rehearsal_by failed read earlier) (λ r. Reaches old shown
-    (transcript r.state.names 0 (starting (new_book (opened_session r.state))) 1 (lines_of (ended script)))))
-out_at (Ok state) failed left left_before old shown out = (out.earlier, out.given, λ script is.
-    subst (λ (t : List ℕ). Reaches old shown
-    (transcript state.names 0 (starting (new_book (opened_session state))) 1 (lines_of (ended t)))) (sym is) out.reaches)
+    → IsOut (rehearsal_by failed read earlier) (lines_of (ended script)) old shown)
+out_at (Ok state) failed left left_before old shown out = (
+  out.earlier,
+  out.given,
+  λ script is.
+      subst (λ (t : List ℕ). Reaches old shown
+      (transcript state.names 0 (starting (new_book (opened_session state))) 1 (lines_of (ended t)))) (sym is) out.reaches,
+)
 out_at (Err fault) failed left left_before old shown out = absurd out
 
 -- behind a head
@@ -254,9 +256,8 @@ out_behind p n input left_old left_mid left_before old shown given is order with
       earlier = take n input ++ at.0;
       given = Consumes-trans left_old (prepend_known (drop n input) left_mid) left_before (take n input) at.0
           (front_given n left_old left_mid input given) at.1;
-      reaches = subst (λ (r : Result Rehearsal PipeFault). IfOk r (λ r.
-          Reaches old shown (transcript r.state.names 0 (starting (new_book (opened_session r.state))) 1
-          (lines_of (ended (cut_of (take n input ++ at.0)).script)))))
+      out = subst (λ (r : Result Rehearsal PipeFault).
+          IsOut r (lines_of (ended (cut_of (take n input ++ at.0)).script)) old shown)
           (sym (rehearsal_behind true (take n input) (take p input) at.0 is (shorter_front input p n order within)))
           (at.2 (cut_of (take n input ++ at.0)).script (ap (λ (c : Cut). c.script) (is.1 at.0)));
     }

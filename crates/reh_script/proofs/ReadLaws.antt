@@ -322,16 +322,20 @@ keeps_last place script left_old left failed k x y old new given end within fine
     subst (λ (f : Bool). PlaysTo place (Err WriteFault) f left_old left x y old new) (sym fine) (λ z ends. record {
       text = script;
       given = Consumes-whole left_old left script (λ all. script ≡ all) given end refl;
-      played = inr (inr refl, refl, record {
-        done = at.done;
-        rest = [];
-        text = at.text;
-        y = y;
-        split = answered_lines-whole script within ∙ at.split;
-        taken = at.taken;
-        ends = ends;
-        written = at.written;
-      });
+      played = inr (
+        inr refl,
+        refl,
+        record {
+          done = at.done;
+          rest = [];
+          text = at.text;
+          y = y;
+          split = answered_lines-whole script within ∙ at.split;
+          taken = at.taken;
+          ends = ends;
+          written = at.written;
+        },
+      );
     })
 
 -- The last line, which no LF ends
@@ -387,8 +391,11 @@ goes_out place script quiet left_old left before k x y old mid shown given none 
   given = Consumes-trans left_old left before script quiet given next;
   taken = subst (λ (ls : List (List ℕ)). TakesAll place x 1 ls at.text y)
       (sym (append-nil at.done) ∙ sym at.split ∙ ap lines_of (sym (ended-quiet script quiet none))) at.taken;
-  reaches = ([], subst (λ (bytes : List ℕ). Appends old shown bytes) (sym (append-nil at.text))
-      (subst (λ (held : Option (List ℕ)). Appends old held at.text) (sym same) at.written));
+  reaches = (
+    [],
+    subst (λ (bytes : List ℕ). Appends old shown bytes) (sym (append-nil at.text))
+        (subst (λ (held : Option (List ℕ)). Appends old held at.text) (sym same) at.written),
+  );
 }
 
 -- and still can

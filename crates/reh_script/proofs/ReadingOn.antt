@@ -50,8 +50,7 @@ reads_lines old text bytes fresh new part before a b c failed is more ends at so
     let some_lines : 0 < length (ended fresh) = subst (λ (t : List ℕ). 0 < length t) ends some in
     let place : before + length part ≡ length text + length (ended fresh) =
     (λ i. at i + length (ends i)) in
-    let back = ended-front fresh in
-    (
+    let back = ended-front fresh in (
       bytes ++ fresh,
       whole,
       Consumes-trans a b c bytes fresh first next,

@@ -328,7 +328,11 @@ plays_book names result failed left_old left_new counter seat last end old new p
         (played_book names (answered_lines failed plays.text) (stop_of failed plays.text) result
         (seated counter seat) (seated last end) old new played)
     | inr breaks ↦
-        inr (breaks.0, breaks.1, transcribes_between names (answered_lines failed plays.text)
-        (seated counter seat) (seated last end) old new breaks.2)
+        inr (
+          breaks.0,
+          breaks.1,
+          transcribes_between names (answered_lines failed plays.text)
+              (seated counter seat) (seated last end) old new breaks.2,
+        )
   ];
 }

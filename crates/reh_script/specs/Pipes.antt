@@ -1,5 +1,5 @@
 -- How a pipe goes: what its input is, and what becomes of it.
-use Rattle.std.specs.Prelude.{◌≡◌, ℕ, ◌⊎◌, Bool, true, false, List, Option, Result, Ok, Err, IfOk, if◌then◌else◌}
+use Rattle.std.specs.Prelude.{◌≡◌, ℕ, ◌⊎◌, Bool, true, false, List, Option, Result, Ok, Err, ⊤, if◌then◌else◌}
 use Rattle.std.specs.Io.KnownBytes.{Consumes, Keeps}
 use Rattle.reh_model.specs.Cluster.{Cluster}
 use Rattle.reh_model.specs.Session.{opened_session}
@@ -70,14 +70,20 @@ pub record Pipes (result : Result (Unit {0}) PipeFault) (failed : Bool)
   pub given : Gives left_old left_new failed input
   pub ends : IsPiped failed (rehearsal_of failed input) result old new
 
+-- These lines of a rehearsal were answered, and the other end could see it. Where the picture was told and is refused
+-- nothing more is read.
+abbrev pub IsOut : Result Rehearsal PipeFault → List (List ℕ) → Option (List ℕ) → Option (List ℕ) → Type 0
+IsOut (Ok r) lines old shown =
+    Reaches old shown (transcript r.state.names 0 (starting (new_book (opened_session r.state))) 1 lines)
+IsOut (Err (Picture fault)) lines old shown = ⊥
+IsOut (Err (Play fault)) lines old shown = ⊤
+
 -- When the reader was last read, the other end could see the answers to all lines of the script that were complete by
--- then, where what was given before tells a picture that is accepted. So an answer never waits for a read.
+-- then. So an answer never waits for a read, nor does the refusal of a picture.
 pub record AnswersGoOut (left_old left_before old shown : Option (List ℕ)) : Type 0 where
   pub earlier : List ℕ
   pub given : Consumes left_old left_before earlier
-  pub reaches : IfOk (rehearsal_of true earlier) (λ r.
-      Reaches old shown (transcript r.state.names 0 (starting (new_book (opened_session r.state))) 1
-      (lines_of (ended (cut_of earlier).script))))
+  pub out : IsOut (rehearsal_of true earlier) (lines_of (ended (cut_of earlier).script)) old shown
 
 -- The play of a script behind a picture of this state, of which left_old was to come.
 pub record PlayedBehind (state : Cluster) (result : Result (Unit {0}) PipeFault) (failed : Bool)

@@ -11,9 +11,9 @@ pub enum PlayFault {
     ReadFault,
     /// The script is longer than 1,048,576 bytes. The lines that end among these were answered.
     TooLong,
-    /// A write failed, or took no byte.
+    /// A write failed or took no byte, or what was written could not be handed on.
     WriteFault,
-    /// There is no memory for an answer.
+    /// There is no memory for an answer, for the hand, or to read on.
     NoMemory,
     /// There is no thread for a survey, or for an operator.
     NoThread,

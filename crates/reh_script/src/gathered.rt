@@ -1,5 +1,6 @@
 // A writer that gathers.
-ghost use Rattle.std.specs.Prelude.{◌≡◌, ◌+◌, ◌<◌, ◌≤◌, ◌||◌, ◌++◌, [], drop, length, vec_len, vec_capacity, IfOk, IsOk, OnOk, is_err};
+ghost use Rattle.std.specs.Prelude.{◌≡◌, ◌+◌, ◌<◌, ◌≤◌, ◌||◌, ◌++◌, [], false, drop, length, vec_len, vec_capacity};
+ghost use Rattle.std.specs.Prelude.{IfOk, IsOk, OnOk, is_err};
 ghost use Rattle.std.specs.Io.KnownBytes.{Keeps, append_known};
 ghost use Rattle.reh_script.specs.Streams.{Grows};
 
@@ -30,6 +31,7 @@ impl<W: TextOut + Drop> Gathered<W> {
 
     /// Hands on the bytes that are kept.
     fn send(&mut self) -> Result<(), StreamFault>
+        requires { W.has_failed self.old.inner ≡ false }
         ensures bytes { Keeps (append_known (W.contents self.old.inner) self.old.kept.items)
             (append_known (W.contents self.new.inner) self.new.kept.items) }
         ensures seen { Grows (W.seen self.old.inner) (W.seen self.new.inner) }
@@ -44,8 +46,9 @@ impl<W: TextOut + Drop> Gathered<W> {
     }
 
     /// Hands on the bytes that are kept, where there is no room for so many more.
-    #[tactic(auto, using(crate::proofs::Gathering::grows_not))]
+    #[tactic(auto, using(crate::specs::Streams::grows_not))]
     fn make_room(&mut self, count: usize) -> Result<(), StreamFault>
+        requires { W.has_failed self.old.inner ≡ false }
         ensures bytes { Keeps (append_known (W.contents self.old.inner) self.old.kept.items)
             (append_known (W.contents self.new.inner) self.new.kept.items) }
         ensures seen { Grows (W.seen self.old.inner) (W.seen self.new.inner) }
@@ -63,6 +66,8 @@ impl<W: TextOut + Drop> Gathered<W> {
 }
 
 impl<W: TextOut + Drop> TextOut for Gathered<W> {
+    ghost use Rattle.reh_script.specs.Streams.{grows_kept};
+
     ghost contents = { λ g. append_known (W.contents g.inner) g.kept.items };
 
     ghost seen = { λ g. W.seen g.inner };
@@ -79,9 +84,18 @@ impl<W: TextOut + Drop> TextOut for Gathered<W> {
     }
 
     fn flush(&mut self) -> Result<(), StreamFault> {
+        if self.inner.failed() {
+            return Err(StreamFault);
+        }
         self.send()?;
         self.inner.flush()
     }
+
+    fn failed(&self) -> bool {
+        self.inner.failed()
+    }
+
+    ghost within = { λ g. grows_kept (W.seen g.inner) (W.contents g.inner) g.kept.items (W.within g.inner) };
 }
 
 /// Removes the first bytes, so many.

@@ -105,6 +105,8 @@ impl<'a> PiecesOut<'a> {
 }
 
 impl TextOut for PiecesOut<'_> {
+    ghost use Rattle.reh_script.specs.Streams.{grows_not};
+
     ghost contents = { λ s. Some s.written.items };
 
     ghost seen = { λ s. Some s.written.items };
@@ -128,4 +130,10 @@ impl TextOut for PiecesOut<'_> {
     fn flush(&mut self) -> Result<(), StreamFault> {
         Ok(())
     }
+
+    fn failed(&self) -> bool {
+        self.has_failed
+    }
+
+    ghost within = { λ s. grows_not (Some s.written.items) };
 }

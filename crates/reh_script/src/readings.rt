@@ -33,7 +33,8 @@ pub(crate) fn read_text<R: TextIn>(
     let mut bytes = Vec::new(alloc);
     let mut block = [0u8; 8192];
     while bytes.len() < enough {
-        let Ok(count) = reader.take(&mut block) else {
+        let room = block.len().min(enough - bytes.len());
+        let Ok(count) = reader.take(&mut block[..room]) else {
             return Ok(TextRead {
                 bytes,
                 failed: true,

@@ -8,7 +8,7 @@ ghost use Rattle.reh_script.specs.Streams.{Grows};
 use std::io::{Read, Write};
 use std::snapshot::Snapshot;
 
-/// A call that failed. It moved no byte.
+/// A call that failed: a read or a write that moved no byte, or a flush that may have handed on a part.
 #[derive(Clone, Copy, PartialEq, Eq, Debug)]
 pub struct StreamFault;
 
@@ -46,8 +46,9 @@ pub trait TextOut {
     // Whether a call has failed so far.
     ghost has_failed: { Self → Bool };
 
-    /// Writes the first of some bytes and says how many: at least one, if there is one.
+    /// Writes the first of some bytes and says how many: at least one, if there is one. No call may have failed before.
     fn put(&mut self, bytes: &[u8]) -> Result<usize, StreamFault>
+        requires fine { has_failed self.old ≡ false }
         ensures bound { IfOk result (λ count. (count ≤ length bytes.now) × (0 < length bytes.now → 0 < count)) }
         ensures empty { length bytes.now ≡ 0 → result ≡ Ok 0 }
         ensures bytes { WriteAppends (contents self.old) (contents self.new) result bytes.now }
@@ -60,6 +61,13 @@ pub trait TextOut {
         ensures grows { Grows (seen self.old) (seen self.new) }
         ensures seen { OnOk result (seen self.new ≡ contents self.new) }
         ensures failed { has_failed self.new ≡ (has_failed self.old || is_err result) };
+
+    /// Whether a call has failed.
+    fn failed(&self) -> bool
+        ensures { result ≡ has_failed self.now };
+
+    // What the other end can see was written.
+    ghost within: { (writer : Self) → Grows (seen writer) (contents writer) };
 }
 
 /// std's reader as a `TextIn`.
@@ -130,6 +138,8 @@ impl<W: Write> ToWrite<W> {
 }
 
 impl<W: Write> TextOut for ToWrite<W> {
+    ghost use Rattle.reh_script.specs.Streams.{grows_not};
+
     ghost contents = { λ s. W.contents s.inner };
 
     ghost seen = { λ s. W.contents s.inner };
@@ -156,4 +166,10 @@ impl<W: Write> TextOut for ToWrite<W> {
         }
         Ok(())
     }
+
+    fn failed(&self) -> bool {
+        self.has_failed
+    }
+
+    ghost within = { λ s. grows_not (W.contents s.inner) };
 }

@@ -18,6 +18,8 @@ pub(crate) struct Transcript {
 }
 
 impl TextOut for Transcript {
+    ghost use Rattle.reh_script.specs.Streams.{grows_not};
+
     ghost contents = { λ t. Some t.text.items };
 
     ghost seen = { λ t. Some t.text.items };
@@ -40,6 +42,12 @@ impl TextOut for Transcript {
     fn flush(&mut self) -> Result<(), StreamFault> {
         Ok(())
     }
+
+    fn failed(&self) -> bool {
+        self.want.is_some()
+    }
+
+    ghost within = { λ t. grows_not (Some t.text.items) };
 }
 
 /// The seat after a play, what was printed, and why the play ended early, if it did.

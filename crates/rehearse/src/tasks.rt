@@ -35,7 +35,9 @@ pub enum Input<'a> {
     /// On standard input: a picture, a line `%` and a script.
     Pipe,
     /// The picture in a file, and the script on standard input.
-    Talk { picture: &'a str },
+    Talk {
+        picture: &'a str,
+    },
     /// Each in a file; and who makes the surveys.
     Files {
         picture: &'a str,
@@ -139,7 +141,7 @@ fn command<'a>(alloc: Global, ways: &'a str) -> Result<Command<'a>, Error> {
         .arg(script)?
         .arg(workers)?;
     let talk = Command::new(alloc, "talk")
-        .about("Plays what is typed on a picture: each line is answered before the next is read")
+        .about("Plays what is typed on a picture: each line is answered before more is read")
         .arg(picture_arg(alloc))?;
     let check = Command::new(alloc, "check")
         .about("Says how much a picture shows, or where it is wrong")

@@ -13,9 +13,16 @@ loop-block-preserved g c =
       quiet = grind (arith, common_steps);
       few = grind (arith, common_steps);
       until = inr (subst (λ (left : Option (List ℕ)). IsUntoldUntil (g.R.TextIn.remaining c.args.reader.now) left)
-          (sym c.take.ensures.last)
-          (c.loop-block.input.items, c.loop-block.invariant.given,
-          (c.loop-block.line, c.loop-block.invariant.within, c.loop-block.invariant.picture,
-          c.loop-block.invariant.quiet), omega (arith, c.loop-block-test.true)));
+          (sym c.take.ensures.last) (
+            c.loop-block.input.items,
+            c.loop-block.invariant.given,
+            (
+              c.loop-block.line,
+              c.loop-block.invariant.within,
+              c.loop-block.invariant.picture,
+              c.loop-block.invariant.quiet,
+            ),
+            omega (arith, c.loop-block-test.true),
+          ));
       calls = grind (arith, common_steps);
     }

@@ -145,8 +145,12 @@ returns-in_err-answer_lines-clause-prompt g c =
 
 pub returns-in_err-answer_lines-clause-calls : goal.returns-in_err-answer_lines-clause-calls
 returns-in_err-answer_lines-clause-calls g c =
-    omega (arith, c.loop-read.invariant.calls, c.loop-read.invariant.few,
-    end_calls c.loop-read.read c.in_default.not-Lines c.in-Lines-read.is)
+    omega (
+      arith,
+      c.loop-read.invariant.calls,
+      c.loop-read.invariant.few,
+      end_calls c.loop-read.read c.in_default.not-Lines c.in-Lines-read.is,
+    )
 
 pub returns-in_err-flush-2-clause-err : goal.returns-in_err-flush-2-clause-err
 returns-in_err-flush-2-clause-err g c =
@@ -166,8 +170,12 @@ returns-in_err-flush-2-clause-prompt g c =
 
 pub returns-in_err-flush-2-clause-calls : goal.returns-in_err-flush-2-clause-calls
 returns-in_err-flush-2-clause-calls g c =
-    omega (arith, c.loop-read.invariant.calls, c.loop-read.invariant.few,
-    end_calls c.loop-read.read c.in_default.not-Lines c.in-Lines-read.is)
+    omega (
+      arith,
+      c.loop-read.invariant.calls,
+      c.loop-read.invariant.few,
+      end_calls c.loop-read.read c.in_default.not-Lines c.in-Lines-read.is,
+    )
 
 pub returns-clause-ok : goal.returns-clause-ok
 returns-clause-ok g c =
@@ -186,5 +194,9 @@ returns-clause-prompt g c =
 
 pub returns-clause-calls : goal.returns-clause-calls
 returns-clause-calls g c =
-    omega (arith, c.loop-read.invariant.calls, c.loop-read.invariant.few,
-    end_calls c.loop-read.read c.in_default.not-Lines c.in-Lines-read.is)
+    omega (
+      arith,
+      c.loop-read.invariant.calls,
+      c.loop-read.invariant.few,
+      end_calls c.loop-read.read c.in_default.not-Lines c.in-Lines-read.is,
+    )
