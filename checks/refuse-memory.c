@@ -1,8 +1,10 @@
 /* Refuses requests for memory of a program that this library is loaded into: from the one on whose number, counted from
    1, the environment's REFUSE names, to the one that UNTIL names, or to the last, where there is no UNTIL. The file that
-   REFUSED names is made then. When the program ends, the file that COUNTED names has the number of all requests. What
-   the C library asks for by itself counts too, as for a thread. */
+   REFUSED names is made then. When the program ends, the file that COUNTED names has the number of all requests. The
+   file that LOG names gets a line `request` for each, between what the program prints. What the C library asks for by
+   itself counts too, as for a thread. */
 typedef __SIZE_TYPE__ size_t;
+typedef long ssize_t;
 extern void *dlsym(void *library, const char *name);
 extern char *getenv(const char *name);
 extern int atoi(const char *text);
@@ -15,8 +17,30 @@ static const int ENOMEM = 12;
 
 static int count;
 
+/* The C library's own function of that name. */
+static void *next(const char *name) {
+    return dlsym((void *) -1L, name);
+}
+
+/* Adds a text to the log, if there is one. */
+static void add_to_log(const void *text, size_t size) {
+    static int log;
+    const char *file = getenv("LOG");
+    if (file && !log)
+        log = creat(file, 0600);
+    if (log > 0)
+        ((ssize_t (*)(int, const void *, size_t)) next("write"))(log, text, size);
+}
+
+ssize_t write(int file, const void *bytes, size_t size) {
+    if (file == 1)
+        add_to_log(bytes, size);
+    return ((ssize_t (*)(int, const void *, size_t)) next("write"))(file, bytes, size);
+}
+
 static int is_refused(void) {
     int this = __atomic_add_fetch(&count, 1, __ATOMIC_SEQ_CST);
+    add_to_log("request\n", 8);
     const char *number = getenv("REFUSE");
     const char *last = getenv("UNTIL");
     if (!number || this < atoi(number) || (last && this > atoi(last)))
@@ -26,11 +50,6 @@ static int is_refused(void) {
         creat(file, 0600);
     *__errno_location() = ENOMEM;
     return 1;
-}
-
-/* The C library's own function of that name. */
-static void *next(const char *name) {
-    return dlsym((void *) -1L, name);
 }
 
 void *malloc(size_t size) {

@@ -1,9 +1,9 @@
 // Several workers: those of a survey, and replication workers at a desk.
-use crate::desks::{AIM, opened};
-use crate::pictures::{FIVE_BOOKIES, LOSS, TWO_BOOKIES, state_of};
+use crate::desks::opened;
 use reh_crew::{Gate, OpenGate, Threads, drive};
 use reh_desk::Closed;
 use reh_types::{BookieIx, LedgerId, Line, Reply};
+use session_tests::pictures::{AIM, FIVE_BOOKIES, LOSS, TWO_BOOKIES, state_of};
 use std::alloc::Global;
 use std::process::Abort;
 use std::sync::Wait;

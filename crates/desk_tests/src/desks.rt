@@ -1,24 +1,16 @@
 // Desks: seats that share a session, and what a desk says that doesn't close.
 ghost use Rattle.std.specs.Prelude.{◌<◌, ◌≤◌};
 
-use crate::pictures::{FIVE_BOOKIES, LOSS, TWO_BOOKIES, state_of};
 use reh_desk::{
     AtDesk, CloseCause, CloseFault, Closed, Counter, Desk, Finding, Seat, SpendFault, Unspent, scan,
 };
 use reh_session::Session;
-use reh_types::{Aim, BookieIx, Call, Event, LedgerId, Line, Move, Refusal, Reply};
+use reh_types::{BookieIx, Call, Event, Line, Move, Refusal, Reply};
+use session_tests::pictures::{AIM, FIVE_BOOKIES, LOSS, TWO_BOOKIES, state_of};
 use std::alloc::Global;
 use std::process::Abort;
 use std::sync::Wait;
 use std::test::Fail;
-
-/// The place of the lost bookie, for the fourth one.
-pub(crate) const AIM: Aim = Aim {
-    worker: BookieIx(3),
-    ledger: LedgerId(7),
-    fragment: 0,
-    index: 1,
-};
 
 /// A desk with so many seats, on a session that has made the events.
 pub(crate) fn opened(

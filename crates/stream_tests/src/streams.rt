@@ -1,11 +1,13 @@
 // The whole path over memory: what is written for a text, and how its play ends.
 ghost use Rattle.std.specs.Prelude.{◌≡◌, false};
 
-use desk_tests::pictures::{FIVE_BOOKIES, state_of};
 use reh_crew::Plain;
 use reh_desk::Book;
-use reh_script::{PiecesIn, PiecesOut, PipeFault, StreamFault, TextOut, ToWrite, pipe, play_book};
+use reh_script::{
+    Gathered, PiecesIn, PiecesOut, PipeFault, StreamFault, TextOut, ToWrite, pipe, play_book,
+};
 use reh_session::Session;
+use session_tests::pictures::{FIVE_BOOKIES, TWO_BOOKIES, state_of};
 use std::alloc::Global;
 use std::io::{self, Write};
 use std::process::Abort;
@@ -239,7 +241,11 @@ impl Write for TakesNone {
 fn reads_nothing_behind_a_lost_answer(rt: HostRuntime) -> Result<(), Fail> {
     let script = b"lose b1:3181\ntick 1\n";
     let mut writer = ToWrite::new(TakesNone);
-    let end = played_by(rt.alloc(), PICTURE, script, &[13, 7], &mut writer)?;
+    let end = played_by(rt.alloc(), TWO_BOOKIES, script, &[13, 7], &mut writer)?;
+    assert_eq!(rt; end.as_str(), "Err(WriteFault) 1 lines, 0 out, 1 reads");
+    // A writer that keeps the answer back finds it lost as it hands it on.
+    let mut writer = Gathered::new(rt.alloc(), ToWrite::new(TakesNone))?;
+    let end = played_by(rt.alloc(), TWO_BOOKIES, script, &[13, 7], &mut writer)?;
     assert_eq!(rt; end.as_str(), "Err(WriteFault) 1 lines, 0 out, 1 reads");
     Ok(())
 }

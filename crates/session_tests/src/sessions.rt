@@ -1,5 +1,5 @@
 // Sessions by their own calls, and a long run, on two bookies.
-use crate::pictures::{FIVE_BOOKIES, LOSS, TWO_BOOKIES, state_of};
+use crate::pictures::{COPY, FIVE_BOOKIES, LOSS, TWO_BOOKIES, WORKER, content, state_of};
 use reh_session::Session;
 use reh_types::{BookieIx, Change, Event, Move, Refusal, Reply, Scalar};
 use std::alloc::{AllocError, Global};
@@ -137,5 +137,29 @@ fn a_copy_is_the_same_session(rt: HostRuntime) -> Result<(), Fail> {
     assert!(rt; copy.same(&session));
     copy.undo()?;
     assert!(rt; !copy.same(&session));
+    Ok(())
+}
+
+/// An accepted post survives as the copy that it stands for, and is undone as that.
+#[test]
+fn a_post_is_a_copy(rt: HostRuntime) -> Result<(), Fail> {
+    let mut session = opened(rt.alloc(), FIVE_BOOKIES)?;
+    for event in &LOSS {
+        session.act(event)?;
+    }
+    let (b1, b3) = (Some(BookieIx(0)), Some(BookieIx(2)));
+    let moves = [
+        Move::Post(content(rt.alloc(), [b1, b1, b1, b3])?),
+        Move::Post(content(rt.alloc(), [b1, b3, b1, b3])?),
+        Move::Undo,
+        Move::Redo,
+    ];
+    let mut text = String::new(rt.alloc());
+    for reply in &session.run(&moves)? {
+        write!(text, "{reply}\n")?;
+    }
+    assert_eq!(rt; text.as_str(), "refused 36 SourceGone 1\nok\nok\nok\n");
+    assert!(rt; session.done().last() == Some(&COPY));
+    assert_eq!(rt; session.state().count(WORKER), 4);
     Ok(())
 }

@@ -1,7 +1,7 @@
 // The texts of a report and of a reply, where there is memory.
-use desk_tests::pictures::{TWO_BOOKIES, state_of};
 use reh_script::{reply_text, report_text};
 use reh_types::{BookieIx, Refusal, Reply};
+use session_tests::pictures::{TWO_BOOKIES, state_of};
 use std::test::Fail;
 
 const REPORT: &str = "clock 0 grace 3\nbookie b1:3181 up 0\nbookie b2:3181 up 0\n";

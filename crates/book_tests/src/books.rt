@@ -1,43 +1,16 @@
 // Workers that scan outside the book: rehearsals by a book's own calls, and by posts of a session.
-use desk_tests::pictures::{FIVE_BOOKIES, state_of};
 use reh_desk::{Book, Finding, SpendCause, SpendFault, Unspent, scan};
-use reh_picture::read_picture;
-use reh_script::{Command, parse_line};
-use reh_session::Session;
-use reh_types::{
-    Aim, BookieIx, BoxedContent, Content, Event, LedgerId, Members, Move, Refusal, Reply, Sources,
-};
+use reh_types::{BookieIx, Content, Event, Move, Refusal, Reply};
+use session_tests::pictures::{AIM, COPY, FIVE_BOOKIES, LOSS, WORKER, session_of};
 use std::alloc::{AllocError, Global};
 use std::process::Abort;
 use std::test::Fail;
 
 const SEAT: u32 = 0;
 
-/// The place of the lost bookie, for the fourth one.
-const AIM: Aim = Aim {
-    worker: BookieIx(3),
-    ledger: LedgerId(7),
-    fragment: 0,
-    index: 1,
-};
-
-/// The loss of the second bookie, and the fourth one's lock.
-const LOSS: &[&str] = &["lose b2:3181", "audit", "acquire b4:3181 7"];
-
-/// Lines of a script, then a scan of an aim, and lines that come before what was found is spent.
-#[derive(Clone, Copy)]
-struct Round {
-    before: &'static [&'static str],
-    aim: Aim,
-    meanwhile: &'static [&'static str],
-}
-
 /// A book on a picture.
 fn opened(rt: &impl Abort, alloc: Global, picture: &str) -> Book {
-    let Ok(state) = read_picture(alloc, picture.as_bytes()) else {
-        panic!(rt; "no picture")
-    };
-    let Ok(session) = Session::open(alloc, state) else {
+    let Ok(session) = session_of(alloc, picture) else {
         panic!(rt; "no session")
     };
     let Ok((book, _seat)) = Book::open(session) else {
@@ -46,22 +19,10 @@ fn opened(rt: &impl Abort, alloc: Global, picture: &str) -> Book {
     book
 }
 
-/// The reply to a line of a script that asks for a move.
-fn ask(rt: &impl Abort, book: &mut Book, line: &str) -> Reply {
-    let asked = match book.whole() {
-        Some(state) => parse_line(state.names(), line.as_bytes()),
-        None => None,
-    };
-    match asked {
-        Some(Ok(Command::Make(step))) => book.call(SEAT, step),
-        _ => panic!(rt; "{line}"),
-    }
-}
-
-/// Makes the moves of some lines, and adds their replies.
-fn ask_all(rt: &impl Abort, book: &mut Book, text: &mut String, lines: &[&str]) {
-    for line in lines {
-        let reply = ask(rt, book, line);
+/// Makes events, and adds the replies.
+fn make_all(rt: &impl Abort, book: &mut Book, text: &mut String, events: &[Event]) {
+    for event in events {
+        let reply = book.call(SEAT, Move::Do(*event));
         push(rt, text, reply);
     }
 }
@@ -98,8 +59,8 @@ fn give_back(book: &mut Book, unspent: Unspent) {
 }
 
 /// What a scan with a new ticket finds.
-fn found(rt: &impl Abort, alloc: Global, book: &mut Book, aim: Aim) -> Finding {
-    let ticket = match book.checkout(SEAT, aim) {
+fn found(rt: &impl Abort, alloc: Global, book: &mut Book) -> Finding {
+    let ticket = match book.checkout(SEAT, AIM) {
         Ok(ticket) => ticket,
         Err(refusal) => panic!(rt; "{refusal}"),
     };
@@ -124,61 +85,44 @@ fn spend(rt: &impl Abort, book: &mut Book, finding: Finding) -> Reply {
     }
 }
 
-/// Plays a round, and adds what is replied and found.
-fn play_round(rt: &impl Abort, alloc: Global, book: &mut Book, text: &mut String, round: &Round) {
-    ask_all(rt, book, text, round.before);
-    let finding = found(rt, alloc, book, round.aim);
+/// Makes events, scans the lost bookie's place, and makes events before what was found is spent. Adds what is replied
+/// and found.
+fn play_round(
+    rt: &impl Abort,
+    alloc: Global,
+    book: &mut Book,
+    text: &mut String,
+    before: &[Event],
+    meanwhile: &[Event],
+) {
+    make_all(rt, book, text, before);
+    let finding = found(rt, alloc, book);
     push(rt, text, Reply::Issued(finding.number()));
     assert!(rt; push_content(text, finding.content()).is_ok());
-    ask_all(rt, book, text, round.meanwhile);
+    make_all(rt, book, text, meanwhile);
     let reply = spend(rt, book, finding);
     push(rt, text, reply);
 }
 
-/// What rounds at a new book reply and find, how many entries the fourth bookie holds then, and how many lines and
-/// tickets there are.
-fn played(
-    rt: &impl Abort,
-    alloc: Global,
-    picture: &str,
-    rounds: &[Round],
-    after: &[&str],
-) -> String {
-    let mut book = opened(rt, alloc, picture);
-    let mut text = String::new(alloc);
-    for round in rounds {
-        play_round(rt, alloc, &mut book, &mut text, round);
-    }
-    ask_all(rt, &mut book, &mut text, after);
+/// Adds how many entries the fourth bookie holds, and how many lines and tickets there are.
+fn push_end(rt: &impl Abort, book: &Book, text: &mut String) {
     let held = match book.whole() {
-        Some(state) => state.count(AIM.worker),
+        Some(state) => state.count(WORKER),
         None => 0,
     };
-    let ended = write!(
-        text,
-        "{held} held, {} lines, {} out\n",
-        book.tape().len(),
-        book.out()
-    );
-    assert!(rt; ended.is_ok());
-    text
+    let (lines, out) = (book.tape().len(), book.out());
+    assert!(rt; write!(text, "{held} held, {lines} lines, {out} out\n").is_ok());
 }
 
 /// Entry 1 was written to the second and third bookie, and the third lacks it.
 #[test]
 fn a_post_without_a_source_is_refused(rt: HostRuntime) -> Result<(), Fail> {
     let picture = FIVE_BOOKIES.replacen(rt.alloc(), "[[1,2],[4,5]]", "[[2,2],[4,5]]", 1)?;
-    let round = Round {
-        before: &[
-            "lose b2:3181",
-            "audit",
-            "acquire b4:3181 7",
-            "copy b4:3181 7 0 1 0",
-        ],
-        aim: AIM,
-        meanwhile: &[],
-    };
-    let text = played(&rt, rt.alloc(), &picture, &[round], &[]);
+    let mut text = String::new(rt.alloc());
+    let mut book = opened(&rt, rt.alloc(), &picture);
+    make_all(&rt, &mut book, &mut text, &LOSS);
+    play_round(&rt, rt.alloc(), &mut book, &mut text, &[COPY], &[]);
+    push_end(&rt, &book, &mut text);
     assert_eq!(rt;
         text.as_str(),
         "ok\nok\nok\nrefused 25 NoSource 1\nticket 1\nversion 0 first 0 stop 6 members 0 1 2 sources 0 - 0 2\n\
@@ -190,19 +134,31 @@ fn a_post_without_a_source_is_refused(rt: HostRuntime) -> Result<(), Fail> {
 /// The third bookie, which is the source of entry 1, is lost and joins again.
 #[test]
 fn a_lost_source_is_told_by_its_entry(rt: HostRuntime) {
-    let rounds = [
-        Round {
-            before: LOSS,
-            aim: AIM,
-            meanwhile: &["lose b3:3181"],
-        },
-        Round {
-            before: &["join b3:3181"],
-            aim: AIM,
-            meanwhile: &[],
-        },
-    ];
-    let text = played(&rt, rt.alloc(), FIVE_BOOKIES, &rounds, &["undo", "redo"]);
+    let bookie = BookieIx(2);
+    let mut text = String::new(rt.alloc());
+    let mut book = opened(&rt, rt.alloc(), FIVE_BOOKIES);
+    make_all(&rt, &mut book, &mut text, &LOSS);
+    play_round(
+        &rt,
+        rt.alloc(),
+        &mut book,
+        &mut text,
+        &[],
+        &[Event::Lose { bookie }],
+    );
+    play_round(
+        &rt,
+        rt.alloc(),
+        &mut book,
+        &mut text,
+        &[Event::Join { bookie }],
+        &[],
+    );
+    for step in [Move::Undo, Move::Redo] {
+        let reply = book.call(SEAT, step);
+        push(&rt, &mut text, reply);
+    }
+    push_end(&rt, &book, &mut text);
     assert_eq!(rt;
         text.as_str(),
         "ok\nok\nok\nticket 1\nversion 0 first 0 stop 6 members 0 1 2 sources 0 2 0 2\nok\nrefused 36 SourceGone 1\n\
@@ -216,8 +172,8 @@ fn a_lost_source_is_told_by_its_entry(rt: HostRuntime) {
 fn a_full_tape_takes_what_is_out(rt: HostRuntime) {
     let mut text = String::new(rt.alloc());
     let mut book = opened(&rt, rt.alloc(), FIVE_BOOKIES);
-    ask_all(&rt, &mut book, &mut text, LOSS);
-    let finding = found(&rt, rt.alloc(), &mut book, AIM);
+    make_all(&rt, &mut book, &mut text, &LOSS);
+    let finding = found(&rt, rt.alloc(), &mut book);
     for _ in 0..199_995 {
         assert_eq!(rt; book.call(SEAT, Move::Look), Reply::Clock(0));
     }
@@ -234,7 +190,7 @@ fn a_full_tape_takes_what_is_out(rt: HostRuntime) {
 fn a_checkout_needs_two_lines(rt: HostRuntime) {
     let mut text = String::new(rt.alloc());
     let mut book = opened(&rt, rt.alloc(), FIVE_BOOKIES);
-    ask_all(&rt, &mut book, &mut text, LOSS);
+    make_all(&rt, &mut book, &mut text, &LOSS);
     for _ in 0..199_996 {
         assert_eq!(rt; book.call(SEAT, Move::Look), Reply::Clock(0));
     }
@@ -254,11 +210,11 @@ fn a_finding_of_another_book_is_handed_back(rt: HostRuntime) {
     let mut text = String::new(rt.alloc());
     let mut first = opened(&rt, rt.alloc(), FIVE_BOOKIES);
     let mut second = opened(&rt, rt.alloc(), FIVE_BOOKIES);
-    ask_all(&rt, &mut first, &mut text, LOSS);
-    ask_all(&rt, &mut second, &mut text, LOSS);
-    let one = found(&rt, rt.alloc(), &mut first, AIM);
-    let two = found(&rt, rt.alloc(), &mut first, AIM);
-    let other = found(&rt, rt.alloc(), &mut second, AIM);
+    make_all(&rt, &mut first, &mut text, &LOSS);
+    make_all(&rt, &mut second, &mut text, &LOSS);
+    let one = found(&rt, rt.alloc(), &mut first);
+    let two = found(&rt, rt.alloc(), &mut first);
+    let other = found(&rt, rt.alloc(), &mut second);
     let two = refused(&rt, &mut second, two);
     assert_eq!(rt; second.tape().len(), 4);
     assert_eq!(rt; spend(&rt, &mut first, two), Reply::Done);
@@ -288,58 +244,4 @@ fn refused(rt: &impl Abort, book: &mut Book, finding: Finding) -> Finding {
             panic!(rt; "a ticket")
         }
     }
-}
-
-/// What the fourth bookie's worker finds, with these sources.
-fn content(alloc: Global, sources: [Option<BookieIx>; 4]) -> Result<BoxedContent, AllocError> {
-    let ensemble = vec![in alloc; BookieIx(0), BookieIx(1), BookieIx(2)]?;
-    let content = Content {
-        aim: AIM,
-        version: 0,
-        first: 0,
-        stop: 6,
-        ensemble: Members::of(ensemble),
-        sources: Sources::of(Vec::from_array(alloc, sources)?),
-    };
-    BoxedContent::of(alloc, content)
-}
-
-/// An accepted post survives as the copy that it stands for, and is undone as that.
-#[test]
-fn a_post_is_a_copy(rt: HostRuntime) -> Result<(), Fail> {
-    let mut session = Session::open(rt.alloc(), state_of(rt.alloc(), FIVE_BOOKIES)?)?;
-    let (b1, b3) = (Some(BookieIx(0)), Some(BookieIx(2)));
-    let lock = Event::Acquire {
-        worker: AIM.worker,
-        ledger: AIM.ledger,
-    };
-    let moves = [
-        Move::Do(Event::Lose {
-            bookie: BookieIx(1),
-        }),
-        Move::Do(Event::Audit),
-        Move::Do(lock),
-        Move::Post(content(rt.alloc(), [b1, b1, b1, b3])?),
-        Move::Post(content(rt.alloc(), [b1, b3, b1, b3])?),
-        Move::Undo,
-        Move::Redo,
-    ];
-    let mut text = String::new(rt.alloc());
-    for reply in &session.run(&moves)? {
-        write!(text, "{reply}\n")?;
-    }
-    assert_eq!(rt;
-        text.as_str(),
-        "ok\nok\nok\nrefused 36 SourceGone 1\nok\nok\nok\n"
-    );
-    let copied = Event::Copy {
-        worker: AIM.worker,
-        ledger: AIM.ledger,
-        fragment: 0,
-        index: 1,
-        version: 0,
-    };
-    assert!(rt; session.done().last() == Some(&copied));
-    assert_eq!(rt; session.state().count(AIM.worker), 4);
-    Ok(())
 }

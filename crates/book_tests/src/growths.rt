@@ -1,0 +1,251 @@
+// Tickets, desks and workers where there is no memory: what is out, what comes back, and what stands. The tests are run
+// with each request for memory refused in turn.
+use reh_crew::{OpenGate, drive};
+use reh_desk::{Book, Closed, Desk, Finding, Seat, SpendCause, SpendFault, Ticket, Unspent, scan};
+use reh_picture::PictureFault;
+use reh_session::Session;
+use reh_types::{BookieIx, Event, Line, Move, Refusal, Reply};
+use session_tests::pictures::{AIM, COPY, FIVE_BOOKIES, LOSS, SWAP, WORKER, session_of};
+use std::alloc::{AllocError, Global};
+use std::process::Abort;
+use std::sync::Wait;
+use std::thread::Threads;
+
+pub(crate) const SEAT: u32 = 0;
+
+/// The third bookie, which is the one source of entry 1.
+const THIRD: BookieIx = BookieIx(2);
+
+/// How many lines the tape has, and how many tickets are out.
+fn shown(book: &Book) -> (usize, u32) {
+    (book.tape().len(), book.out())
+}
+
+/// A move is done. Where there is no memory for it nothing has changed, and it is asked for once more.
+fn does(rt: &impl Abort, book: &mut Book, step: Move, again: Move) {
+    let before = shown(book);
+    let reply = book.call(SEAT, step);
+    if reply == Reply::Refused(Refusal::NoMemory) {
+        assert_eq!(rt; shown(book), before);
+        assert_eq!(rt; book.call(SEAT, again), Reply::Done);
+    } else {
+        assert_eq!(rt; reply, Reply::Done);
+    }
+}
+
+/// Events are done.
+pub(crate) fn makes(rt: &impl Abort, book: &mut Book, events: &[Event]) {
+    for event in events {
+        does(rt, book, Move::Do(*event), Move::Do(*event));
+    }
+}
+
+/// A ticket, or what was found with it, goes back: that succeeds, and its line alone comes to the tape.
+fn discarded(rt: &impl Abort, book: &mut Book, unspent: Unspent) {
+    let (lines, out) = shown(book);
+    let is_stray = match book.discard(SEAT, unspent) {
+        Ok(()) => false,
+        Err(stray) => {
+            stray.forfeit();
+            true
+        }
+    };
+    assert!(rt; !is_stray);
+    assert_eq!(rt; book.out(), out.saturating_sub(1));
+    assert_eq!(rt; book.tape().len(), lines.saturating_add(1));
+}
+
+/// A ticket for the place. Where there is no memory for it none is out, and nothing else has changed.
+fn issued(rt: &impl Abort, book: &mut Book) -> Option<Ticket> {
+    let before = shown(book);
+    match book.checkout(SEAT, AIM) {
+        Ok(ticket) => Some(ticket),
+        Err(refusal) => {
+            assert_eq!(rt; refusal, Refusal::NoMemory);
+            assert_eq!(rt; shown(book), before);
+            None
+        }
+    }
+}
+
+/// What is found at the place. Where there is no memory for the scan its ticket comes back, and is discarded.
+fn found(rt: &impl Abort, alloc: Global, book: &mut Book) -> Option<Finding> {
+    match scan(alloc, issued(rt, book)?) {
+        Ok(finding) => Some(finding),
+        Err((ticket, AllocError)) => {
+            discarded(rt, book, Unspent::Unscanned(ticket));
+            None
+        }
+    }
+}
+
+/// What is found at the place, at the second try at the latest.
+pub(crate) fn found_again(rt: &impl Abort, alloc: Global, book: &mut Book) -> Finding {
+    if let Some(finding) = found(rt, alloc, book) {
+        return finding;
+    }
+    match found(rt, alloc, book) {
+        Some(finding) => finding,
+        None => panic!(rt; "nothing is found again"),
+    }
+}
+
+/// The reply to a post. Where there is no memory for it nothing has changed, the finding comes back, and is discarded.
+fn spent(rt: &impl Abort, book: &mut Book, finding: Finding) -> Option<Reply> {
+    let before = shown(book);
+    match book.spend(SEAT, finding) {
+        Ok(reply) => Some(reply),
+        Err(SpendFault { finding, cause }) => {
+            assert_eq!(rt; cause, SpendCause::NoMemory);
+            assert_eq!(rt; shown(book), before);
+            discarded(rt, book, Unspent::Scanned(finding));
+            None
+        }
+    }
+}
+
+/// A source is lost while the worker scans, so its post is refused; that takes no memory. Then it joins again.
+fn is_gone(rt: &impl Abort, alloc: Global, book: &mut Book) {
+    let finding = found_again(rt, alloc, book);
+    makes(rt, book, &[Event::Lose { bookie: THIRD }]);
+    let gone = Reply::Refused(Refusal::SourceGone(1));
+    assert_eq!(rt; spent(rt, book, finding), Some(gone));
+    makes(rt, book, &[Event::Join { bookie: THIRD }]);
+}
+
+/// What is found is posted, at the second try at the latest.
+fn posts(rt: &impl Abort, alloc: Global, book: &mut Book) {
+    for _ in 0..2 {
+        let finding = found_again(rt, alloc, book);
+        if let Some(reply) = spent(rt, book, finding) {
+            assert_eq!(rt; reply, Reply::Done);
+            return;
+        }
+    }
+    panic!(rt; "no memory again");
+}
+
+/// The place is taken while the worker scans, so its post is refused.
+fn is_stale(rt: &impl Abort, alloc: Global, book: &mut Book) {
+    let finding = found_again(rt, alloc, book);
+    makes(rt, book, &[COPY, SWAP]);
+    let stale = Reply::Refused(Refusal::Stale(1));
+    assert_eq!(rt; spent(rt, book, finding), Some(stale));
+}
+
+/// A book on five bookies; none where there is no memory. An open that fails hands the session back.
+pub(crate) fn opened(rt: &impl Abort, alloc: Global) -> Option<Book> {
+    let session = opening(rt, alloc)?;
+    match Book::open(session) {
+        Ok((book, _seat)) => Some(book),
+        Err((session, AllocError)) => {
+            assert_eq!(rt; session.state().count(WORKER), 0);
+            None
+        }
+    }
+}
+
+/// A session on five bookies; none where there is no memory.
+pub(crate) fn opening(rt: &impl Abort, alloc: Global) -> Option<Session> {
+    match session_of(alloc, FIVE_BOOKIES) {
+        Ok(session) => Some(session),
+        Err(PictureFault::NoMemory) => None,
+        Err(fault) => panic!(rt; "{fault}"),
+    }
+}
+
+#[test]
+fn want_of_memory_loses_no_ticket(rt: HostRuntime) {
+    let Some(mut book) = opened(&rt, rt.alloc()) else {
+        return;
+    };
+    makes(&rt, &mut book, &LOSS);
+    is_gone(&rt, rt.alloc(), &mut book);
+    posts(&rt, rt.alloc(), &mut book);
+    does(&rt, &mut book, Move::Undo, Move::Undo);
+    does(&rt, &mut book, Move::Redo, Move::Redo);
+    is_stale(&rt, rt.alloc(), &mut book);
+    assert_eq!(rt; book.out(), 0);
+}
+
+/// A desk with so many seats. Where there is no memory for it the session comes back as it was, and it is opened once
+/// more.
+fn desk_on(rt: &impl Abort, session: Session, same: &Session, seats: u32) -> (Desk, Vec<Seat>)
+    requires some { 0 < seats }
+    requires few { seats ≤ 8 }
+{
+    let session = match Desk::open(session, seats) {
+        Ok(opened) => return opened,
+        Err((session, AllocError)) => session,
+    };
+    assert!(rt; session.same(same));
+    match Desk::open(session, seats) {
+        Ok(opened) => opened,
+        Err(_) => panic!(rt; "no desk again"),
+    }
+}
+
+/// A session on which the bookie is lost, and the place is locked; none where there is no memory.
+fn locked(rt: &impl Abort, alloc: Global) -> Option<Session> {
+    let mut session = opening(rt, alloc)?;
+    for event in LOSS {
+        if let Err(refusal) = session.act(&event) {
+            assert_eq!(rt; refusal, Refusal::NoMemory);
+            return None;
+        }
+    }
+    Some(session)
+}
+
+/// How many lines of the tape have this reply.
+fn count_of(tape: &[Line], reply: Reply) -> usize {
+    tape.iter().filter(|line| line.reply == reply).count()
+}
+
+/// How many lines of the tape are a ticket's.
+fn tickets_of(tape: &[Line]) -> usize {
+    tape.iter()
+        .filter(|line| matches!(line.reply, Reply::Issued(_)))
+        .count()
+}
+
+/// Two workers are driven to the place: where one request is refused, one of the aims alone isn't posted.
+fn drives<R: Threads + Wait + Abort + Sync>(
+    rt: &R,
+    alloc: Global,
+    desk: Desk,
+    mut seats: Vec<Seat>,
+) -> Vec<Line> {
+    if seats.is_empty() || seats.len() > 8 {
+        panic!(rt; "not two seats")
+    }
+    drive(
+        rt,
+        alloc,
+        &desk,
+        seats.as_mut_slice(),
+        &[AIM, AIM],
+        &OpenGate,
+    );
+    match desk.close(seats) {
+        Ok(Closed { session: _, tape }) => tape,
+        Err(_) => panic!(rt; "not closed"),
+    }
+}
+
+/// As many tickets as there are were posted or given back, and one at least was posted.
+#[test]
+fn want_of_memory_costs_an_aim(rt: HostRuntime) {
+    let Some(session) = locked(&rt, rt.alloc()) else {
+        return;
+    };
+    let Ok(same) = session.clone_in() else {
+        return;
+    };
+    let (desk, seats) = desk_on(&rt, session, &same, 2);
+    let tape = drives(&rt, rt.alloc(), desk, seats);
+    let posts = count_of(&tape, Reply::Done);
+    let ended = posts.saturating_add(count_of(&tape, Reply::Discarded));
+    assert_eq!(rt; tickets_of(&tape), ended);
+    assert!(rt; posts >= 1);
+}

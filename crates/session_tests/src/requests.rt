@@ -1,0 +1,227 @@
+// Calls that take no memory. Each stands between two marks, of which the first names it.
+use crate::marks::{begin, end};
+use crate::pictures::{
+    AIM, CLOSED, COPY, FIVE_BOOKIES, LOSS, OPEN, SWAP, WORKER, content, session_of,
+};
+use reh_audit::{missing, under};
+use reh_cluster::State;
+use reh_scan::{aimed, check, survey_line};
+use reh_session::Session;
+use reh_step::decide;
+use reh_types::{BookieIx, Event, Refusal, SurveyLine};
+use std::alloc::Global;
+use std::test::Fail;
+
+/// A session on which the lost bookie's place is taken.
+fn swapped(alloc: Global) -> Result<Session, Fail> {
+    let mut session = session_of(alloc, FIVE_BOOKIES)?;
+    for event in LOSS {
+        session.act(&event)?;
+    }
+    session.act(&COPY)?;
+    session.act(&SWAP)?;
+    Ok(session)
+}
+
+/// Undoes all five events; the sixth undo is refused.
+fn undo_all(session: &mut Session) -> Result<Result<(), Refusal>, Refusal> {
+    for _ in 0..5 {
+        session.undo()?;
+    }
+    Ok(session.undo())
+}
+
+/// Makes all five events again; the sixth redo is refused.
+fn redo_all(session: &mut Session) -> Result<Result<(), Refusal>, Refusal> {
+    for _ in 0..5 {
+        session.redo()?;
+    }
+    Ok(session.redo())
+}
+
+#[test]
+fn steps_back_make_no_request(rt: HostRuntime) -> Result<(), Fail> {
+    let mut session = swapped(rt.alloc())?;
+    let same = session.clone_in()?;
+    begin(&rt, "undo");
+    let last = undo_all(&mut session);
+    end(&rt);
+    assert_eq!(rt; last, Ok(Err(Refusal::NothingToUndo)));
+    begin(&rt, "redo");
+    let last = redo_all(&mut session);
+    end(&rt);
+    assert_eq!(rt; last, Ok(Err(Refusal::NothingToRedo)));
+    begin(&rt, "same");
+    let is_same = session.same(&same) && session.state().same(same.state());
+    end(&rt);
+    assert!(rt; is_same);
+    Ok(())
+}
+
+/// How many events are done and undone, and how many records there are.
+fn counts(session: &Session) -> (usize, usize, usize) {
+    (
+        session.done().len(),
+        session.undone().len(),
+        session.records().len(),
+    )
+}
+
+/// A swap, a copy and a finish that are refused, and the clock.
+fn refused(session: &mut Session) -> [Option<Refusal>; 3] {
+    let finish = Event::Finish {
+        worker: WORKER,
+        ledger: OPEN,
+    };
+    [
+        session.act(&SWAP).err(),
+        session.act(&COPY).err(),
+        session.act(&finish).err(),
+    ]
+}
+
+#[test]
+fn refusals_make_no_request(rt: HostRuntime) -> Result<(), Fail> {
+    let mut session = swapped(rt.alloc())?;
+    begin(&rt, "done, undone and records");
+    let told = counts(&session);
+    end(&rt);
+    assert_eq!(rt; told, (5, 0, 5));
+    begin(&rt, "refused events");
+    let told = refused(&mut session);
+    end(&rt);
+    let stale = Some(Refusal::Stale(1));
+    assert_eq!(rt; told, [stale, stale, Some(Refusal::NotOwner)]);
+    Ok(())
+}
+
+/// What the readers of a state say: of the names, the register and the clock.
+fn read_names(state: &State) -> (Option<BookieIx>, bool, bool, u64) {
+    (
+        state.names().find(b"b4:3181"),
+        state.names().name(BookieIx(5)).is_some(),
+        state.is_up(BookieIx(1)) || state.up().contains(BookieIx(1)),
+        state.clock() + state.grace(),
+    )
+}
+
+/// Of contents.
+fn read_contents(state: &State) -> (usize, Option<u32>, bool, usize) {
+    (
+        state.count(WORKER),
+        state.greatest(OPEN),
+        state.holds(WORKER, CLOSED, 4),
+        state.row(WORKER, CLOSED).len(),
+    )
+}
+
+/// Of a ledger: its place, its version, its write quorum, the stop of its fragment, and whether it has a task and a lock.
+fn read_ledger(state: &State) -> Option<(usize, u64, u32, Option<u32>, bool)> {
+    let place = state.place(CLOSED)?;
+    let ledger = state.ledger(CLOSED)?;
+    let metadata = ledger.metadata();
+    let stop = metadata.end_of(0);
+    let is_locked = ledger.task().is_some() && ledger.lock().is_some();
+    Some((
+        place,
+        metadata.version(),
+        metadata.write_quorum(),
+        stop,
+        is_locked,
+    ))
+}
+
+#[test]
+fn readers_make_no_request(rt: HostRuntime) -> Result<(), Fail> {
+    let session = swapped(rt.alloc())?;
+    let state = session.state();
+    begin(&rt, "names, register and clock");
+    let told = read_names(state);
+    end(&rt);
+    assert_eq!(rt; told, (Some(WORKER), false, false, 3));
+    begin(&rt, "contents");
+    let told = read_contents(state);
+    end(&rt);
+    assert_eq!(rt; told, (4, Some(4), true, 1));
+    begin(&rt, "a ledger");
+    let told = read_ledger(state);
+    end(&rt);
+    assert_eq!(rt; told, Some((0, 1, 2, Some(6), true)));
+    Ok(())
+}
+
+/// The line of the closed ledger's fragment.
+fn line_of(state: &State) -> Option<SurveyLine> {
+    let ledger = state.ledger(CLOSED)?;
+    if ledger.metadata().fragments().is_empty() {
+        return None;
+    }
+    Some(survey_line(state, CLOSED, 0))
+}
+
+#[test]
+fn survey_lines_make_no_request(rt: HostRuntime) -> Result<(), Fail> {
+    let session = swapped(rt.alloc())?;
+    begin(&rt, "survey_line");
+    let told = line_of(session.state());
+    end(&rt);
+    let line = SurveyLine {
+        ledger: CLOSED,
+        fragment: 0,
+        down: 0,
+        lost: Some(0),
+    };
+    assert_eq!(rt; told, Some(line));
+    Ok(())
+}
+
+/// The record of an event is exchanged with the state, and exchanged back.
+#[test]
+fn exchanges_make_no_request(rt: HostRuntime) -> Result<(), Fail> {
+    let session = swapped(rt.alloc())?;
+    let mut state = session.state().clone_in()?;
+    let lose = Event::Lose {
+        bookie: BookieIx(2),
+    };
+    let mut record = decide(rt.alloc(), &state, &lose)?;
+    begin(&rt, "exchange");
+    state.exchange(&mut record);
+    state.exchange(&mut record);
+    end(&rt);
+    assert!(rt; state.same(session.state()));
+    Ok(())
+}
+
+/// The open ledger's missing members are the second bookie alone, and its first fragment has it.
+fn is_missing(state: &State) -> Option<(bool, bool, Option<u64>)> {
+    if state.ledger(OPEN).is_none() {
+        return None;
+    }
+    let bookies = missing(state, OPEN);
+    Some((
+        bookies.contains(BookieIx(1)),
+        bookies.contains(BookieIx(0)),
+        under(state, OPEN),
+    ))
+}
+
+#[test]
+fn scans_of_a_state_make_no_request(rt: HostRuntime) -> Result<(), Fail> {
+    let session = swapped(rt.alloc())?;
+    let state = session.state();
+    let (b1, b3) = (Some(BookieIx(0)), Some(BookieIx(2)));
+    let stale = content(rt.alloc(), [b1, b3, b1, b3])?;
+    begin(&rt, "missing and under");
+    let told = is_missing(state);
+    end(&rt);
+    assert_eq!(rt; told, Some((true, false, Some(0))));
+    begin(&rt, "aimed");
+    let refused = aimed(state, &AIM);
+    end(&rt);
+    assert_eq!(rt; refused, Err(Refusal::MemberUp));
+    begin(&rt, "check");
+    let refused = check(state, stale.as_content());
+    end(&rt);
+    assert_eq!(rt; refused, Err(Refusal::Stale(1)));
+    Ok(())
+}
