@@ -1,8 +1,8 @@
 /* Refuses requests for memory of a program that this library is loaded into: from the one on whose number, counted from
    1, the environment's REFUSE names, to the one that UNTIL names, or to the last, where there is no UNTIL. The file that
-   REFUSED names is made then. When the program ends, the file that COUNTED names has the number of all requests. The
-   file that LOG names gets a line `request` for each, between what the program prints. What the C library asks for by
-   itself counts too, as for a thread. */
+   REFUSED names is made then. When the program ends, the file that COUNTED names has the number of all requests, and the
+   file that KEPT names the number of blocks that were not given back. The file that LOG names gets a line `request` for
+   each request, between what the program prints. What the C library asks for by itself counts too, as for a thread. */
 typedef __SIZE_TYPE__ size_t;
 typedef long ssize_t;
 extern void *dlsym(void *library, const char *name);
@@ -16,6 +16,7 @@ extern int *__errno_location(void);
 static const int ENOMEM = 12;
 
 static int count;
+static int kept;
 
 /* The C library's own function of that name. */
 static void *next(const char *name) {
@@ -52,22 +53,46 @@ static int is_refused(void) {
     return 1;
 }
 
+/* One block more is out, if there is one. */
+static void *out(void *block) {
+    if (block)
+        __atomic_add_fetch(&kept, 1, __ATOMIC_SEQ_CST);
+    return block;
+}
+
 void *malloc(size_t size) {
-    return is_refused() ? 0 : ((void *(*)(size_t)) next("malloc"))(size);
+    return is_refused() ? 0 : out(((void *(*)(size_t)) next("malloc"))(size));
 }
 
 void *calloc(size_t number, size_t size) {
-    return is_refused() ? 0 : ((void *(*)(size_t, size_t)) next("calloc"))(number, size);
+    return is_refused() ? 0 : out(((void *(*)(size_t, size_t)) next("calloc"))(number, size));
 }
 
+/* A block that grows is the same one. */
 void *realloc(void *block, size_t size) {
-    return is_refused() ? 0 : ((void *(*)(void *, size_t)) next("realloc"))(block, size);
+    if (is_refused())
+        return 0;
+    void *moved = ((void *(*)(void *, size_t)) next("realloc"))(block, size);
+    return block ? moved : out(moved);
+}
+
+void free(void *block) {
+    if (block)
+        __atomic_sub_fetch(&kept, 1, __ATOMIC_SEQ_CST);
+    ((void (*)(void *)) next("free"))(block);
+}
+
+/* Writes a number to the file that this variable of the environment names, if it names one. */
+static void tell_of(const char *name, int number) {
+    const char *file = getenv(name);
+    if (file)
+        dprintf(creat(file, 0600), "%d\n", number);
 }
 
 __attribute__((destructor)) static void tell(void) {
-    const char *file = getenv("COUNTED");
-    if (file)
-        dprintf(creat(file, 0600), "%d\n", count);
+    int blocks = kept;
+    tell_of("COUNTED", count);
+    tell_of("KEPT", blocks);
 }
 
 /* A program with threads ends so, and calls no destructor. */
