@@ -1,8 +1,10 @@
-// Tests over the public calls of several crates, of what no script can show: books, memory, streams and texts.
+// Tests over the public calls of several crates, of what no script can show: books, failures of streams, memory, streams and texts.
 #![tactic(auto)]
 
 #[cfg(test)]
 mod books;
+#[cfg(test)]
+mod failures;
 #[cfg(test)]
 mod memory;
 #[cfg(test)]
