@@ -36,11 +36,12 @@ pub fn make_again<R: Wait + Abort>(
 
 /// Whether two tapes have the same lines.
 pub fn same_tape(tape: &[Line], other: &[Line]) -> bool {
+    for (line, second) in tape.iter().zip(other) {
+        if !same_line(line, second) {
+            return false;
+        }
+    }
     tape.len() == other.len()
-        && tape
-            .iter()
-            .zip(other)
-            .all(|(line, second)| same_line(line, second))
 }
 
 /// Whether two lines have the same seat, call and reply.
