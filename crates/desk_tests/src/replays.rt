@@ -5,7 +5,7 @@ use reh_desk::{
     AtDesk, CloseFault, Closed, Counter, Desk, Finding, Seat, SpendFault, Unspent, scan,
 };
 use reh_types::{Aim, Call, Line, Move};
-use std::alloc::{AllocFailed, Global};
+use std::alloc::Global;
 use std::process::Abort;
 use std::sync::Wait;
 
@@ -107,9 +107,9 @@ fn keep<R: Wait>(
     findings: &mut Vec<Finding>,
     finding: Finding,
 ) {
-    if let Err(failed) = findings.push(finding) {
-        let AllocFailed { value } = failed;
-        give_back(rt, desk, seat, Unspent::Scanned(value));
+    match findings.reserve(1) {
+        Ok(()) => findings.push_reserved(finding),
+        Err(_) => give_back(rt, desk, seat, Unspent::Scanned(finding)),
     }
 }
 
