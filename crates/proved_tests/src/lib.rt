@@ -1,5 +1,5 @@
-// Tests over the public calls of several crates, of what no script can show: books, failures of streams, memory, streams
-// and texts.
+// Tests over the public calls of several crates, of what no script can show: books, failures of streams, memory,
+// streams and texts.
 #![tactic(auto)]
 
 #[cfg(test)]
