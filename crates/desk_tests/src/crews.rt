@@ -14,7 +14,7 @@ use std::thread::yield_now;
 
 /// At this gate each worker waits, for so many turns, until this many have come.
 #[derive(Drop)]
-struct Meeting {
+pub(crate) struct Meeting {
     size: u64,
     come: AtomicU64,
     numbers: AtomicU64,
@@ -25,7 +25,7 @@ struct Meeting {
 const MOST_TURNS: u64 = 10000000;
 
 impl Meeting {
-    fn of(size: u64) -> Meeting {
+    pub(crate) fn of(size: u64) -> Meeting {
         Meeting {
             size,
             come: AtomicU64::new(0),
@@ -35,7 +35,7 @@ impl Meeting {
     }
 
     /// Whether as many workers met as were to, each once; of their numbers each is a bit.
-    fn was_of(&self, numbers: u64) -> bool {
+    pub(crate) fn was_of(&self, numbers: u64) -> bool {
         !self.is_late.load(Ordering::SeqCst)
             && self.come.load(Ordering::SeqCst) == self.size
             && self.numbers.load(Ordering::SeqCst) == numbers

@@ -1,8 +1,10 @@
 // Desks: seats that share a session, and what a desk says that doesn't close.
 ghost use Rattle.std.specs.Prelude.{◌<◌, ◌≤◌};
 
+use crate::replays::give_back;
 use reh_desk::{
-    AtDesk, CloseCause, CloseFault, Closed, Counter, Desk, Finding, Seat, SpendFault, Unspent, scan,
+    AtDesk, CloseCause, CloseFault, Closed, Counter, Desk, Finding, Seat, SpendCause, SpendFault,
+    Unspent, scan,
 };
 use reh_session::Session;
 use reh_types::{BookieIx, Call, Event, Line, Move, Refusal, Reply};
@@ -143,6 +145,57 @@ fn a_finding_is_spent_at_a_desk(rt: HostRuntime) -> Result<(), Fail> {
     Ok(())
 }
 
+/// What is found with a seat's new ticket, the first of the desk.
+fn found<R: Wait + Abort>(rt: &R, alloc: Global, desk: &Desk, seats: &mut [Seat]) -> Finding {
+    let Some(seat) = seats.get_mut(0) else {
+        panic!(rt; "no seat")
+    };
+    let Ok(ticket) = (AtDesk { desk, rt }.checkout(seat, AIM)) else {
+        panic!(rt; "no ticket")
+    };
+    assert_eq!(rt; ticket.number(), 1);
+    match scan(alloc, ticket) {
+        Ok(finding) => finding,
+        Err((ticket, _)) => {
+            give_back(rt, desk, seat, Unspent::Unscanned(ticket));
+            panic!(rt; "no memory")
+        }
+    }
+}
+
+/// A finding that another seat, which makes no other call, can't spend: it is handed back, and leaves no line.
+fn refused<R: Wait + Abort>(rt: &R, desk: &Desk, seats: &mut [Seat], finding: Finding) -> Finding {
+    let Some(seat) = seats.get_mut(1) else {
+        panic!(rt; "no other seat")
+    };
+    match (AtDesk { desk, rt }.spend(seat, finding)) {
+        Ok(reply) => panic!(rt; "{reply}"),
+        Err(fault) => {
+            let SpendFault { finding, cause } = fault;
+            assert_eq!(rt; cause, SpendCause::NotOut);
+            assert_eq!(rt; seat.lines().len(), 0);
+            finding
+        }
+    }
+}
+
+/// What was found with one seat's ticket is no other seat's to spend.
+#[test]
+fn a_finding_is_of_its_seat(rt: HostRuntime) -> Result<(), Fail> {
+    let (desk, mut seats) = opened(&rt, rt.alloc(), FIVE_BOOKIES, &LOSS, 2)?;
+    let finding = found(&rt, rt.alloc(), &desk, &mut seats);
+    let finding = refused(&rt, &desk, &mut seats, finding);
+    let Some(seat) = seats.get_mut(0) else {
+        panic!(rt; "no seat")
+    };
+    assert_eq!(rt; spend(&rt, &desk, seat, finding), Some(Reply::Done));
+    let Ok(Closed { session: _, tape }) = desk.close(seats) else {
+        panic!(rt; "not closed")
+    };
+    assert_eq!(rt; tape.len(), 2);
+    Ok(())
+}
+
 /// The reply to a spend at a desk. A finding that comes back is given back.
 fn spend<R: Wait>(rt: &R, desk: &Desk, seat: &mut Seat, finding: Finding) -> Option<Reply> {
     match (AtDesk { desk, rt }.spend(seat, finding)) {
@@ -152,13 +205,6 @@ fn spend<R: Wait>(rt: &R, desk: &Desk, seat: &mut Seat, finding: Finding) -> Opt
             give_back(rt, desk, seat, Unspent::Scanned(finding));
             None
         }
-    }
-}
-
-/// Gives a ticket, or what was found with it, back to a desk.
-fn give_back<R: Wait>(rt: &R, desk: &Desk, seat: &mut Seat, unspent: Unspent) {
-    if let Err(stray) = (AtDesk { desk, rt }.discard(seat, unspent)) {
-        stray.forfeit();
     }
 }
 

@@ -1,6 +1,8 @@
-// Tests over the public calls of plays, of what no script shows: streams, texts and lines.
+// Tests over the public calls of plays, of what no script shows: streams and their failures, texts and lines.
 #![tactic(auto)]
 
+#[cfg(test)]
+mod failures;
 #[cfg(test)]
 mod requests;
 #[cfg(test)]

@@ -8,29 +8,54 @@ use reh_script::{
 };
 use reh_session::Session;
 use session_tests::pictures::{FIVE_BOOKIES, TWO_BOOKIES, state_of};
-use std::alloc::Global;
+use std::alloc::{AllocError, Global};
 use std::io::{self, Write};
 use std::process::Abort;
 use std::test::Fail;
 
 /// One bookie and no ledger.
-const PICTURE: &str =
+pub(crate) const PICTURE: &str =
     "{\"format\":1,\"grace\":0,\"bookies\":[{\"name\":\"b1:3181\",\"up\":true}],\"ledgers\":[],\"contents\":[]}";
 
-/// What a pipe writes of an input that comes in these pieces and whose read of this number fails, and how it ends.
-fn piped(
+/// What is written of `mixed_input`.
+pub(crate) const TRANSCRIPT: &str =
+    "line 2: ok\nline 4: unknown command\nline 5: bad words\nline 6: unknown name\nline 7: too long\nline 8: clock 0\n";
+
+/// A script behind the picture, with a line of each kind: two end in CR LF, one is empty, one is too long, and the last
+/// one doesn't end.
+pub(crate) fn mixed_input(alloc: Global) -> Result<String, AllocError> {
+    let long = "a".repeat(alloc, 1025)?;
+    let faulty = "\nlsoe b1:3181\ntick x\nlose b9:3181\n";
+    format!(in alloc; "{PICTURE}\n%\n# rehearsal\r\nlose b1:3181\r\n{faulty}{long}\nclock")
+}
+
+/// How a pipe ends that reads an input in these pieces, of which the read of this number fails.
+pub(crate) fn piped_by<W: TextOut>(
     alloc: Global,
     input: &[u8],
     pieces: &[usize],
     fails_at: Option<u64>,
-) -> Result<(Vec<u8>, String), Fail> {
+    writer: &mut W,
+) -> Result<String, AllocError>
+    requires { W.has_failed writer.old ≡ false }
+{
     let mut reader = PiecesIn::new(input, pieces, fails_at);
+    match pipe(alloc, &Plain, &mut reader, writer) {
+        Ok(()) => format!(in alloc; "done"),
+        Err(PipeFault::Picture(fault)) => format!(in alloc; "picture: {fault}"),
+        Err(PipeFault::Play(fault)) => format!(in alloc; "{fault:?}"),
+    }
+}
+
+/// What a pipe writes of an input that comes in these pieces and whose read of this number fails, and how it ends.
+pub(crate) fn piped(
+    alloc: Global,
+    input: &[u8],
+    pieces: &[usize],
+    fails_at: Option<u64>,
+) -> Result<(Vec<u8>, String), AllocError> {
     let mut writer = PiecesOut::new(alloc, &[], None);
-    let end = match pipe(alloc, &Plain, &mut reader, &mut writer) {
-        Ok(()) => format!(in alloc; "done")?,
-        Err(PipeFault::Picture(fault)) => format!(in alloc; "picture: {fault}")?,
-        Err(PipeFault::Play(fault)) => format!(in alloc; "{fault:?}")?,
-    };
+    let end = piped_by(alloc, input, pieces, fails_at, &mut writer)?;
     Ok((writer.written, end))
 }
 
@@ -114,22 +139,16 @@ fn a_picture_is_too_long_before_a_failed_read(rt: HostRuntime) -> Result<(), Fai
 /// The same answers, where two reads bring the input, cut at any byte, and where each read brings a byte.
 #[test]
 fn reads_in_any_pieces(rt: HostRuntime) -> Result<(), Fail> {
-    let long = "a".repeat(rt.alloc(), 1025)?;
-    let faulty = "\nlsoe b1:3181\ntick x\nlose b9:3181\n";
-    let input = format!(in rt.alloc();
-        "{PICTURE}\n%\n# rehearsal\r\nlose b1:3181\r\n{faulty}{long}\nclock"
-    )?;
-    let output =
-        "line 2: ok\nline 4: unknown command\nline 5: bad words\nline 6: unknown name\nline 7: too long\nline 8: clock 0\n";
+    let input = mixed_input(rt.alloc())?;
     for cut in 0..input.len() {
         let (written, end) = piped(rt.alloc(), input.as_bytes(), &[cut], None)?;
         assert_eq!(rt; end.as_str(), "done");
-        assert_eq!(rt; written.as_slice(), output.as_bytes(), "cut at {cut}");
+        assert_eq!(rt; written.as_slice(), TRANSCRIPT.as_bytes(), "cut at {cut}");
     }
     let bytes = vec![in rt.alloc(); 1usize; input.len()]?;
     let (written, end) = piped(rt.alloc(), input.as_bytes(), &bytes, None)?;
     assert_eq!(rt; end.as_str(), "done");
-    assert_eq!(rt; written.as_slice(), output.as_bytes());
+    assert_eq!(rt; written.as_slice(), TRANSCRIPT.as_bytes());
     Ok(())
 }
 
