@@ -4,7 +4,7 @@ use Rattle.std.specs.Prelude.{IsTrue}
 use Rattle.reh_types.specs.declared.moves.Event.{Event}
 use Rattle.reh_types.specs.declared.moves.Event.TheVariants.{Lose, Join, Audit, Acquire, Release, Finish, Expire, Grace, Tick, Roll, Fence, Seal, Copy, Swap}
 use Rattle.reh_types.specs.declared.names.LedgerState.TheVariants.{InRecovery, Closed}
-use Rattle.reh_types.specs.Sets.{insert, remove, union, contains-union}
+use Rattle.reh_types.specs.Sets.{union, contains-union}
 use Rattle.reh_model.specs.Contents.{has}
 use Rattle.reh_model.specs.Metadata.{is_open}
 use Rattle.reh_model.specs.Cluster.{Cluster, change_ledger, due_of, stripe_at, with_held}
@@ -15,8 +15,8 @@ use Rattle.reh_model.specs.WellFormed.{IsWellFormed}
 use Rattle.reh_model.proofs.ContentsLaws.{has-union-copies_of}
 use Rattle.reh_model.proofs.RecoveryLaws.{IsRecovered-at}
 use Rattle.reh_model.proofs.FragmentLaws.{no_end-open, no_end-recovering}
-use Rattle.reh_model.proofs.AcceptedLaws.{accepted_join, accepted_acquire, accepted_grace, accepted_tick, accepted_roll, accepted_fence, accepted_seal, accepted_copy, accepted_swap, accepted_roll_open, accepted_fence_open, accepted_seal_recovering}
-use Rattle.reh_model.proofs.WellFormedLaws.{IsLedger-audited_ledger, IsLedger-expired_ledger, IsLedger-fenced_ledger, IsLedger-finished_ledger, IsLedger-locked_ledger, IsLedger-rolled_ledger, IsLedger-sealed_ledger, IsLedger-swapped_ledger, IsLedger-unlocked_ledger, IsLedger-with_due, IsWellFormed-change_ledger, IsWellFormed-clock, IsWellFormed-copied_all, IsWellFormed-ledgers, IsWellFormed-united, IsWellFormed-up, KeepsId-audited_ledger, KeepsId-expired_ledger, KeepsWords-audited_ledger, KeepsWords-expired_ledger, named-insert, named-remove, next_entry-within, recovered_end-within}
+use Rattle.reh_model.proofs.AcceptedLaws.{accepted_acquire, accepted_grace, accepted_tick, accepted_roll, accepted_fence, accepted_seal, accepted_copy, accepted_swap, accepted_roll_open, accepted_fence_open, accepted_seal_recovering}
+use Rattle.reh_model.proofs.WellFormedLaws.{IsLedger-audited_ledger, IsLedger-expired_ledger, IsLedger-fenced_ledger, IsLedger-finished_ledger, IsLedger-locked_ledger, IsLedger-rolled_ledger, IsLedger-sealed_ledger, IsLedger-swapped_ledger, IsLedger-unlocked_ledger, IsLedger-with_due, IsWellFormed-change_ledger, IsWellFormed-clock, IsWellFormed-copied_all, IsWellFormed-ledgers, IsWellFormed-registration, IsWellFormed-united, KeepsId-audited_ledger, KeepsId-expired_ledger, KeepsWords-audited_ledger, KeepsWords-expired_ledger, next_entry-within, recovered_end-within, up_named}
 use Rattle.reh_types.specs.declared.refusals.Refusal.TheVariants.{NoBookie, AlreadyDown, AlreadyUp, NothingToPublish, NoTask, Locked, StillUnder, NoLocks, NotOpen, NotNeeded, GraceSet, NoGrace, BadTick, ClockEnd, NoIndex, MemberUp, TargetDown, TargetIsMember, Stale, MissingEntry, Undecided, TooFew, NotRecovering, FragmentsFull, EntryEnd}
 use Rattle.reh_model.specs.Refusals.{no_bookie, already_down, already_up, no_locks, bad_tick, clock_end}
 use Rattle.reh_model.proofs.PromiseLaws.{KeepsPromises, KeepsPromises-apart, KeepsPromises-change_ledger, KeepsPromises-ledgers, KeepsStripes-apart, KeepsStripes-rolled_ledger, KeepsStripes-with_member, KeepsStripes-with_state, metadata-audited_ledger, metadata-expired_ledger, or_before}
@@ -26,8 +26,8 @@ use Rattle.reh_model.proofs.WrittenLaws.{IsWritten, first_written, found_written
 
 -- Each accepted event keeps a cluster well-formed.
 pub IsWellFormed-after : (s : Cluster) (event : Event) → IsWellFormed s → refusal_of s event ≡ None → IsWellFormed (after s event)
-IsWellFormed-after s (Lose b) was none = IsWellFormed-up s (remove s.parts.up b) was (named-remove s.parts.up b (length s.names) was.up)
-IsWellFormed-after s (Join b) was none = IsWellFormed-up s (insert s.parts.up b) was (named-insert s.parts.up b (length s.names) (accepted_join s b none).0 was.up)
+IsWellFormed-after s (Lose b) was none = IsWellFormed-registration s b (Some s.parts.scalars.clock) was (λ tick is. let same : s.parts.scalars.clock ≡ tick = cc in omega (arith, same))
+IsWellFormed-after s (Join b) was none = IsWellFormed-registration s b None was (λ tick is. cc)
 IsWellFormed-after s Audit was none = IsWellFormed-ledgers s (audited_ledger s) was (KeepsId-audited_ledger s) (KeepsWords-audited_ledger s) (λ g _ is. IsLedger-audited_ledger s g is)
 IsWellFormed-after s (Acquire w l) was none = IsWellFormed-change_ledger s l (locked_ledger w) was (λ g. refl) (λ g. refl) (λ g found is.
     let may = accepted_acquire s w l g found none in
@@ -45,7 +45,7 @@ IsWellFormed-after s (Fence w l) was none = IsWellFormed-change_ledger s l fence
     IsLedger-fenced_ledger s g (accepted_fence s w l g found is.metadata.version none).version is)
 IsWellFormed-after s (Seal w l) was none =
     let t : Cluster = with_held s (union s.parts.held (recovered_at s l)) in
-    let copied : IsWellFormed t = IsWellFormed-united s (recovered_at s l) was (λ b k e is. let shows = IsRecovered-at s l b k e is in (was.up b shows.up, shows.held)) in
+    let copied : IsWellFormed t = IsWellFormed-united s (recovered_at s l) was (λ b k e is. let shows = IsRecovered-at s l b k e is in (up_named s b was shows.up, shows.held)) in
     IsWellFormed-change_ledger t l (sealed_ledger s) copied (λ g. refl) (λ g. refl) (λ g found is.
     let may = accepted_seal s w l g found is.metadata.version none in
     IsLedger-sealed_ledger s g may.state may.version (recovered_end-within s l g was found) is)

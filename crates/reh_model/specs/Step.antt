@@ -12,7 +12,7 @@ use Rattle.reh_model.specs.Contents.{copies_of}
 use Rattle.reh_model.specs.Metadata.{Metadata, last_fragment, with_member_at, with_fragment_at, with_state}
 use Rattle.reh_model.specs.Metadata.{next_version}
 use Rattle.reh_model.specs.Cluster.{Cluster, Ledger, change_ledger, is_locked_by, stripe_at, with_clock, with_held}
-use Rattle.reh_model.specs.Cluster.{with_ledgers, with_up}
+use Rattle.reh_model.specs.Cluster.{with_ledgers, with_registration}
 use Rattle.reh_model.specs.Audit.{audited_ledger}
 use Rattle.reh_model.specs.Recovery.{next_entry, is_rolling_over, recovered_end, recovered_at}
 use Rattle.reh_model.specs.Checks.{first_reason}
@@ -127,8 +127,8 @@ swapped_ledger f i w g = record g { metadata = next_version (with_member_at g.me
 
 -- the cluster that an accepted event leaves
 abbrev pub after : Cluster → Event → Cluster
-after s (Lose b) = with_up s (set.remove s.parts.up b)
-after s (Join b) = with_up s (set.insert s.parts.up b)
+after s (Lose b) = with_registration s b (Some s.parts.scalars.clock)
+after s (Join b) = with_registration s b None
 after s Audit = with_ledgers s (map (audited_ledger s) s.parts.ledgers)
 after s (Acquire w l) = change_ledger s l (locked_ledger w)
 after s (Release w l) = change_ledger s l unlocked_ledger

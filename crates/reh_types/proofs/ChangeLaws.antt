@@ -1,6 +1,6 @@
 -- The derived `==` of changes tells whether they are equal, where that of the metadata does.
 use Rattle.std.proofs.Common.{◌≡◌, ℕ, Bool, true, ◌&&◌, refl, sym, ap, subst, true≢false}
-use Rattle.std.specs.Cmp.{first_so, second_so, booleans_Decides}
+use Rattle.std.specs.Cmp.{first_so, second_so}
 use Rattle.std.specs.declared.cmp.PartialEq.{Ghosts}
 use denote.RattleType.{RattleType}
 use mir.Syntax.{Dict}
@@ -37,7 +37,7 @@ module _ (M : RattleType) (g : Ghosts M.Denot) (dict : Dict) (tells : Tells g.eq
   told : (a b : Change M.Denot) → same_change a b ≡ true → a ≡ b
   told (change.Registration b x) (change.Registration c y) e =
       let p = both _ _ e in
-      λ i. change.Registration ((tells_numbers b c).0 p.0 i) ((booleans_Decides x y).0 p.1 i)
+      λ i. change.Registration ((tells_numbers b c).0 p.0 i) ((tells_options tells_numbers x y).0 p.1 i)
   told (change.Metadata j x) (change.Metadata k y) e =
       let p = both _ _ e in
       λ i. change.Metadata ((tells_numbers j k).0 p.0 i) ((tells x y).0 p.1 i)
@@ -57,7 +57,7 @@ module _ (M : RattleType) (g : Ghosts M.Denot) (dict : Dict) (tells : Tells g.eq
   told a b e = absurd (true≢false (sym e))
 
   itself : (a : Change M.Denot) → same_change a a ≡ true
-  itself (change.Registration b x) = λ i. (tells_numbers b b).1 refl i && (booleans_Decides x x).1 refl i
+  itself (change.Registration b x) = λ i. (tells_numbers b b).1 refl i && (tells_options tells_numbers x x).1 refl i
   itself (change.Metadata j x) = λ i. (tells_numbers j j).1 refl i && (tells x x).1 refl i
   itself (change.Task j x) = λ i. (tells_numbers j j).1 refl i && (tells_options tells_sets x x).1 refl i
   itself (change.Lock j x) = λ i. (tells_numbers j j).1 refl i && (tells_options locks_tell x x).1 refl i
