@@ -1,17 +1,19 @@
 -- What an audit publishes: bookies of the cluster, and at least one.
-use Rattle.std.proofs.Common.{◌+◌, ◌≡◌, ◌≢◌, ap, Option, ℕ, ◌<◌, Bool, true, false, not, ◌||◌, List, [], ◌∷◌, None, Some, refl, sym, ◌∙◌, true≢false, arith, length, subst}
-use Rattle.std.specs.Prelude.{if◌then◌else◌, unwrap_or}
+use Rattle.std.proofs.Common.{get_or, ◌+◌, ◌≡◌, ◌≢◌, ap, Option, ℕ, ◌<◌, Bool, true, false, not, ◌||◌, List, [], ◌∷◌, None, Some, refl, sym, ◌∙◌, true≢false, arith, length, subst}
+use Rattle.std.specs.Prelude.{◌≤◌, is_none, nat_le, if◌then◌else◌, unwrap_or, slice_get}
+use Rattle.std.specs.Option.{option_and_then, option_map_or}
 use Rattle.std.specs.List.{All, filter, flat_map, list_any}
 use Rattle.std.specs.Ordering.{nat_cmp, eq_by_cmp}
 use Rattle.std.specs.Cmp.{unsigned_tied}
 use Rattle.std.proofs.lemmas.Bool.Decides.{nat_tests}
-use Rattle.std.proofs.lemmas.List.Elements.{All-nil, All-append, All-filter, All-head, All-tail}
-use Rattle.reh_types.specs.Sets.{Set, numbers, contains, items, empty, union, is_subset, is_empty, len, contains-empty, contains-items, contains-from_list, contains-union, is_subset-contains, contains-is_subset, same_set}
+use Rattle.std.proofs.lemmas.List.Elements.{All-nil, All-append, All-filter, All-head, All-tail, All-weaker}
+use Rattle.std.proofs.lemmas.Option.{get_or_from_slice_get, slice_get-get_or}
+use Rattle.reh_types.specs.Sets.{Set, numbers, contains, items, empty, union, from_list, is_subset, is_empty, len, contains-empty, contains-items, contains-from_list, contains-union, is_subset-contains, contains-is_subset, same_set}
 use Rattle.reh_types.proofs.SetLaws.{is_empty-empty, is_empty-union, empty-from_is_empty, All-items}
 use Rattle.reh_model.specs.Metadata.{Fragment}
-use Rattle.reh_model.specs.Cluster.{Cluster, Ledger, task_set}
-use Rattle.reh_model.specs.Audit.{members_of, is_long_lost, long_lost_members, is_news, published_members, audited_ledger}
-use Rattle.reh_model.specs.WellFormed.{IsLedger}
+use Rattle.reh_model.specs.Cluster.{Cluster, Ledger, is_up, task_set}
+use Rattle.reh_model.specs.Audit.{members_of, missing_members, is_long_lost, long_lost_members, is_news, published_members, audited_ledger}
+use Rattle.reh_model.specs.WellFormed.{IsLedger, IsWellFormed}
 
 -- what holds of each number of a list holds of one that is found there
 pub All-found : (P : ℕ → Type 0) (bs : List ℕ) → All P bs → (b : ℕ) → list_any (eq_by_cmp nat_cmp b) bs ≡ true → P b
@@ -121,3 +123,36 @@ news_differs s g news same =
     true≢false (sym (contains-is_subset (long_lost_members s g) (task_set g) (λ q one.
     ap (λ (s : Set numbers). contains s q) told ∙ contains-union (task_set g) (long_lost_members s g) q ∙ or_second (contains (task_set g) q) (contains (long_lost_members s g) q) one))
     ∙ not_true (is_subset (long_lost_members s g) (task_set g)) news)
+
+-- Without a delay
+
+-- a bookie that has a registration is long lost where it is not registered,
+long_lost_now : (s : Cluster) (b : ℕ) → IsWellFormed s → s.delay ≡ 0 → b < length s.names → is_long_lost s b ≡ not (is_up s b)
+long_lost_now s b was none named = told (slice_get s.parts.lost_at b) refl where
+  told : (o : Option (Option ℕ)) → slice_get s.parts.lost_at b ≡ o
+      → option_map_or (λ tick. nat_le (tick + s.delay) s.parts.scalars.clock) (option_and_then (λ lost. lost) o) false ≡ not (option_map_or is_none o false)
+  told None is =
+      let there : slice_get s.parts.lost_at b ≡ Some (get_or s.parts.lost_at b None) =
+      slice_get-get_or s.parts.lost_at b None (omega (arith, named, was.registrations.each)) in
+      cc
+  told (Some None) is = refl
+  told (Some (Some tick)) is =
+      let within : b < length s.parts.lost_at = omega (arith, named, was.registrations.each) in
+      let past : tick ≤ s.parts.scalars.clock =
+      was.registrations.ticks b None within tick (get_or_from_slice_get s.parts.lost_at b (Some tick) None is) in
+      grind (arith, nat_tests, past, none)
+
+filter-same : (p q : ℕ → Bool) (bs : List ℕ) → All (λ b. p b ≡ q b) bs → filter p bs ≡ filter q bs
+filter-same p q [] each = refl
+filter-same p q (b ∷ bs) each =
+    (λ i. if All-head (λ b. p b ≡ q b) b bs each i then b ∷ filter p bs else filter p bs)
+    ∙ ap (λ (more : List ℕ). if q b then b ∷ more else more) (filter-same p q bs (All-tail (λ b. p b ≡ q b) b bs each))
+
+-- so the long-lost members of a ledger are the missing ones
+pub long_lost-missing : (s : Cluster) (g : Ledger) → IsWellFormed s → IsLedger (length s.names) (s.parts.scalars.clock + s.grace) g → s.delay ≡ 0
+    → long_lost_members s g ≡ missing_members s g
+long_lost-missing s g was is none =
+    ap (λ (bs : List ℕ). from_list {o = numbers} bs)
+    (filter-same (is_long_lost s) (λ b. not (is_up s b)) (members_of g.metadata)
+    (All-weaker (λ b. b < length s.names) (λ b. is_long_lost s b ≡ not (is_up s b)) (λ b named. long_lost_now s b was none named) (members_of g.metadata)
+    (All-flat_map (λ b. b < length s.names) (λ (fragment : Fragment). fragment.ensemble) g.metadata.fragments is.members)))

@@ -1,5 +1,5 @@
 -- What each accepted event keeps: that a cluster is well-formed, and what swaps promise; and that its refusals are answered by lines.
-use Rattle.std.proofs.Common.{[], ◌≡◌, ◌+◌, ◌∷◌, length, None, Some, refl, ◌∙◌, arith}
+use Rattle.std.proofs.Common.{[], ◌≡◌, ◌+◌, ◌∷◌, None, Some, refl, ◌∙◌, arith}
 use Rattle.std.specs.Prelude.{IsTrue}
 use Rattle.reh_types.specs.declared.moves.Event.{Event}
 use Rattle.reh_types.specs.declared.moves.Event.TheVariants.{Lose, Join, Audit, Acquire, Release, Finish, Expire, Grace, Tick, Roll, Fence, Seal, Copy, Swap}

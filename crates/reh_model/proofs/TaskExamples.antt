@@ -2,8 +2,9 @@
 use Rattle.std.specs.Prelude.{◌≡◌, refl, ℕ, List, [], ◌∷◌, ◌++◌, codes, map, Option, None, Some}
 use Rattle.std.specs.Option.{option_map}
 use Rattle.reh_types.specs.declared.moves.Event.{Event}
-use Rattle.reh_types.specs.declared.moves.Event.TheVariants.{Lose, Join, Audit, Acquire, Release, Finish, Expire}
-use Rattle.reh_types.specs.declared.moves.Move.TheVariants.{Do}
+use Rattle.reh_types.specs.declared.moves.Event.TheVariants.{Lose, Join, Audit, Acquire, Release, Finish, Expire, Tick}
+use Rattle.reh_types.specs.declared.moves.Move.{Move}
+use Rattle.reh_types.specs.declared.moves.Move.TheVariants.{Do, Undo}
 use Rattle.reh_types.specs.declared.moves.Reply.{Reply}
 use Rattle.reh_types.specs.declared.moves.Reply.TheVariants.{Done, Refused}
 use Rattle.reh_types.specs.declared.names.LedgerState.TheVariants.{Open, Closed}
@@ -87,3 +88,41 @@ pub workers_before_ledgers : answers (Acquire 5 8 ∷ Acquire 4 8 ∷ Acquire 4 
     ≡ Refused NoBookie ∷ Refused NoLedger ∷ Refused NoTask ∷ Refused NoBookie ∷ Refused NoLedger ∷ Refused NoBookie ∷ Refused NothingToPublish ∷ []
 unfolding contains insert retain remove empty from_list union items is_subset is_empty len
 workers_before_ledgers = refl
+
+-- The delay for lost bookies
+
+-- five bookies, where an audit waits for two ticks after a loss
+abbrev pub patient : Cluster
+patient = record five_bookies { delay = 2 }
+
+-- the second bookie is lost, and a tick later the third; the second joins again before the delay of the third is over
+abbrev losses_in_turn : List Event
+losses_in_turn = Lose 1 ∷ Audit ∷ Tick 1 ∷ Lose 2 ∷ Tick 1 ∷ Audit ∷ Join 1 ∷ Audit ∷ Tick 1 ∷ Audit ∷ []
+
+-- an audit waits for each bookie by itself
+pub audits_wait : replies (opened_session patient) (map Do losses_in_turn)
+    ≡ Done ∷ Refused NothingToPublish ∷ Done ∷ Done ∷ Done ∷ Done ∷ Done ∷ Refused NothingToPublish ∷ Done ∷ Done ∷ []
+unfolding contains insert retain remove empty from_list union items is_subset is_empty len
+audits_wait = refl
+
+-- the tasks and the registrations after moves
+abbrev tasks_of : Cluster → List (Option (List ℕ))
+tasks_of s = map (λ g. option_map items g.task) s.parts.ledgers
+
+abbrev patient_after : List Move → Cluster
+patient_after moves = state_of (played_session (opened_session patient) moves)
+
+-- the first audit that publishes something publishes the bookie that is lost long enough, and not the other one
+pub long_lost_alone : tasks_of (patient_after (map Do (Lose 1 ∷ Tick 1 ∷ Lose 2 ∷ Tick 1 ∷ Audit ∷ []))) ≡ Some (1 ∷ []) ∷ Some (1 ∷ []) ∷ []
+unfolding contains insert retain remove empty from_list union items is_subset is_empty len
+long_lost_alone = refl
+
+-- the last one the other one, too
+pub both_in_the_end : tasks_of (patient_after (map Do losses_in_turn)) ≡ Some (1 ∷ 2 ∷ []) ∷ Some (1 ∷ 2 ∷ []) ∷ []
+unfolding contains insert retain remove empty from_list union items is_subset is_empty len
+both_in_the_end = refl
+
+-- an undo of the join brings back the tick of the loss
+pub loss_comes_back : (patient_after (map Do losses_in_turn ++ Undo ∷ Undo ∷ Undo ∷ [])).parts.lost_at ≡ None ∷ Some 0 ∷ Some 1 ∷ None ∷ None ∷ []
+unfolding contains insert retain remove empty from_list union items is_subset is_empty len
+loss_comes_back = refl

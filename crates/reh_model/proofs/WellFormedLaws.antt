@@ -3,8 +3,6 @@ use Rattle.std.proofs.Common.{◌≡◌, ℕ, Bool, true, false, cond, not, ◌&
 use Rattle.std.specs.Prelude.{is_none, ◌==◌, if◌then◌else◌, slice_get, max, unwrap_or, IsTrue, All}
 use Rattle.std.specs.List.{IsDistinct, find, list_any}
 use Rattle.std.specs.Option.{ForSome, option_map, option_map_or, option_and_then}
-use Rattle.std.specs.Ordering.{nat_cmp, eq_by_cmp}
-use Rattle.std.specs.Cmp.{unsigned_tied}
 use Rattle.std.proofs.lemmas.Bool.Decides.{nat_tests}
 use Rattle.std.proofs.lemmas.List.{length-map}
 use Rattle.std.proofs.lemmas.List.Elements.{All-append, All-cons, All-head, All-map, All-nil, All-set, All-tail, All-weaker}
