@@ -8,8 +8,8 @@ use Rattle.std.proofs.lemmas.List.Elements.{All-nil, All-cons, All-map}
 use Rattle.std.proofs.lemmas.Option.{slice_get_within, get_or_from_slice_get}
 use Rattle.reh_types.specs.declared.locks.Lock as locks
 use Rattle.reh_types.specs.declared.changes.Change.TheVariants.{Registration, Metadata, Task, Lock, Scalar}
-use Rattle.reh_types.specs.declared.scalars.Scalar.TheVariants.{Clock}
-use Rattle.reh_types.specs.declared.moves.Event.TheVariants.{Lose, Join, Audit, Acquire, Release, Finish, Expire, Grace, Tick, Roll, Fence, Seal, Swap}
+use Rattle.reh_types.specs.declared.scalars.Scalar.TheVariants.{Clock, Enabled}
+use Rattle.reh_types.specs.declared.moves.Event.TheVariants.{Lose, Join, Audit, Acquire, Release, Finish, Expire, Grace, Tick, Roll, Fence, Seal, Swap, Disable, Enable}
 use Rattle.reh_types.specs.declared.names.LedgerState.TheVariants.{InRecovery}
 use Rattle.reh_model.specs.Metadata as meta
 use Rattle.reh_model.specs.Metadata.{next_version, with_member_at, with_fragment_at, with_state}
@@ -24,7 +24,7 @@ use Rattle.reh_model.specs.Records.{due_gone}
 use Rattle.reh_model.proofs.LedgerLaws.{change_ledger-set, found_there, ledger_at-position}
 use Rattle.reh_model.proofs.ListLaws.{set-read, change_at-then, change_at-here, change_at-front, slice_get-here, slice_get-front, slice_get-put}
 use Rattle.reh_model.proofs.AuditLaws.{audited_news, audited_same, news_differs}
-use Rattle.reh_model.proofs.AcceptedLaws.{IsRollable, IsFenceable, IsSealable, IsSwappable, accepted_lose, accepted_join, accepted_tick, accepted_free, accepted_owner, accepted_grace, accepted_roll, accepted_fence, accepted_seal}
+use Rattle.reh_model.proofs.AcceptedLaws.{IsRollable, IsFenceable, IsSealable, IsSwappable, accepted_lose, accepted_join, accepted_tick, accepted_disable, accepted_enable, accepted_free, accepted_owner, accepted_grace, accepted_roll, accepted_fence, accepted_seal}
 use Rattle.reh_model.proofs.WellFormedLaws.{IsLedgerOf, IsLedger-found, next_entry-within, swappable-found, up_named}
 use Rattle.reh_model.proofs.EventLaws.{IsWellFormed-after}
 use Rattle.reh_model.proofs.ExchangeLaws.{Differs, delta_of_changes}
@@ -61,6 +61,24 @@ tick_delta s n was none =
     let told : Clock s.parts.scalars.clock ≡ Clock (s.parts.scalars.clock + n) = same (Clock 0) refl in
     let stays : s.parts.scalars.clock ≡ s.parts.scalars.clock + n = cc in
     absurd (omega (arith, stays, (accepted_tick s n none).0)))
+
+-- AutoRecovery is disabled,
+pub disable_delta : (s : Cluster) → IsWellFormed s → refusal_of s Disable ≡ None → IsDelta s (after s Disable) (Scalar (Enabled false) ∷ [])
+disable_delta s was none =
+    one_change s (after s Disable) (Scalar (Enabled false)) (IsWellFormed-after s Disable was none) tt refl
+    (λ same.
+    let told : Enabled s.parts.scalars.enabled ≡ Enabled false = same (Enabled false) refl in
+    let stays : s.parts.scalars.enabled ≡ false = cc in
+    true≢false (sym (accepted_disable s none) ∙ stays))
+
+-- and enabled
+pub enable_delta : (s : Cluster) → IsWellFormed s → refusal_of s Enable ≡ None → IsDelta s (after s Enable) (Scalar (Enabled true) ∷ [])
+enable_delta s was none =
+    one_change s (after s Enable) (Scalar (Enabled true)) (IsWellFormed-after s Enable was none) tt refl
+    (λ same.
+    let told : Enabled s.parts.scalars.enabled ≡ Enabled true = same (Enabled true) refl in
+    let stays : s.parts.scalars.enabled ≡ true = cc in
+    true≢false (sym stays ∙ accepted_enable s none))
 
 -- One ledger
 

@@ -16,7 +16,7 @@ use Rattle.reh_types.specs.Sets.{Set, numbers, contains, union, is_empty, len, i
 use Rattle.reh_types.proofs.SetLaws.{All-items}
 use Rattle.reh_model.specs.Contents.{Contents, IsHeld, has, copies_of, greatest_held}
 use Rattle.reh_model.specs.Metadata.{Metadata, Fragment, IsMetadata, is_open, is_in_recovery, end_of_state, last_fragment, with_member, with_member_at, with_fragment_at, with_state, next_version}
-use Rattle.reh_model.specs.Cluster.{Cluster, Ledger, ledger_at, change_ledger, is_locked_by, due_of, with_clock, with_held, with_ledgers, with_registration, is_up}
+use Rattle.reh_model.specs.Cluster.{Cluster, Ledger, ledger_at, change_ledger, is_locked_by, due_of, with_clock, with_enabled, with_held, with_ledgers, with_registration, is_up}
 use Rattle.reh_model.specs.Audit.{long_lost_members, published_members, audited_ledger}
 use Rattle.reh_model.specs.Recovery.{next_entry, is_rolling_over, recovered_end}
 use Rattle.reh_model.specs.Step.{refusal_of, locked_ledger, unlocked_ledger, finished_ledger, expired_ledger, timed_lock, with_due, rolled_ledger, fenced_ledger, sealed_ledger, swapped_ledger}
@@ -125,6 +125,18 @@ IsWellFormed-clock s clock was later in_time = record {
     different = was.ledgers.different;
     each = λ k g k_in. IsLedger-later (length s.names) (s.parts.scalars.clock + s.grace) (clock + s.grace) _ (omega arith) (was.ledgers.each k g k_in);
   };
+  contents = was.contents;
+}
+
+-- AutoRecovery is disabled or enabled
+pub IsWellFormed-enabled : (s : Cluster) (enabled : Bool) → IsWellFormed s → IsWellFormed (with_enabled s enabled)
+IsWellFormed-enabled s enabled was = record {
+  names = was.names;
+  grace = was.grace;
+  delay = was.delay;
+  clock = was.clock;
+  registrations = was.registrations;
+  ledgers = was.ledgers;
   contents = was.contents;
 }
 

@@ -1,4 +1,5 @@
--- The cluster: who is registered, the ledgers, which entries each bookie holds, tasks, locks and the clock.
+-- The cluster: who is registered, the ledgers, which entries each bookie holds, tasks, locks, the clock, and whether
+-- AutoRecovery is enabled.
 use Rattle.std.specs.Prelude.{ℕ, zero, suc, Bool, false, ◌&&◌, ◌==◌, if◌then◌else◌, List, [], ◌∷◌, map, Option}
 use Rattle.std.specs.Prelude.{is_none, unwrap_or, position, slice_get}
 use Rattle.std.specs.List.{find, list_any}
@@ -39,13 +40,13 @@ pub record Cluster : Type 0 where
   pub delay : ℕ
   pub parts : Parts
 
--- a cluster as its rehearsal begins
-abbrev pub cluster_of : List (List ℕ) → List (Option ℕ) → ℕ → ℕ → List Ledger → Contents → Cluster
-cluster_of names lost_at grace delay ledgers held = record {
+-- a cluster as its rehearsal begins, with AutoRecovery enabled or not
+abbrev pub cluster_of : List (List ℕ) → List (Option ℕ) → ℕ → ℕ → Bool → List Ledger → Contents → Cluster
+cluster_of names lost_at grace delay enabled ledgers held = record {
   names = names;
   grace = grace;
   delay = delay;
-  parts = record { lost_at = lost_at; ledgers = ledgers; held = held; scalars = first_scalars };
+  parts = record { lost_at = lost_at; ledgers = ledgers; held = held; scalars = first_scalars enabled };
 }
 
 -- the list with its element at that place changed, if there is one
@@ -72,6 +73,10 @@ with_held s held = record s { parts = record s.parts { held = held } }
 
 abbrev pub with_clock : Cluster → ℕ → Cluster
 with_clock s clock = record s { parts = record s.parts { scalars = record s.parts.scalars { clock = clock } } }
+
+abbrev pub with_enabled : Cluster → Bool → Cluster
+with_enabled s enabled =
+    record s { parts = record s.parts { scalars = record s.parts.scalars { enabled = enabled } } }
 
 -- whether the bookie is registered
 abbrev pub is_up : Cluster → ℕ → Bool

@@ -1,5 +1,5 @@
 -- The derived `==` of changes tells whether they are equal, where that of the metadata does.
-use Rattle.std.proofs.Common.{◌≡◌, ℕ, Bool, true, ◌&&◌, refl, sym, ap, subst, true≢false}
+use Rattle.std.proofs.Common.{◌≡◌, Bool, true, ◌&&◌, refl, sym, ap, subst, true≢false}
 use Rattle.std.specs.Cmp.{first_so, second_so, booleans_Decides}
 use Rattle.std.specs.declared.cmp.PartialEq.{Ghosts}
 use denote.RattleType.{RattleType}
