@@ -1,7 +1,7 @@
 // The state of a cluster.
 ghost use Rattle.std.specs.Prelude.{◌≡◌, ℕ, ◌*◌, ◌<◌, ◌≤◌, ◌==◌, ◌↔◌, length, map, position, All, IfOk};
-ghost use Rattle.std.specs.Prelude.{IsTrue};
-ghost use Rattle.std.specs.Option.{option_copied, ForSome};
+ghost use Rattle.std.specs.Prelude.{IfSome, IsTrue};
+ghost use Rattle.std.specs.Option.{option_copied};
 ghost use Rattle.reh_types.specs.declared.limits.TheConstants.{CLOCK_END, MAX_DELAY};
 ghost use Rattle.reh_types.specs.Sets as set;
 ghost use Rattle.reh_held.specs.Rows.{is_set};
@@ -129,7 +129,7 @@ impl State {
     /// The tick at which the bookie was lost, if it isn't registered.
     pub fn lost_tick(&self, bookie: BookieIx) -> Option<u64>
         ensures tick { result ≡ model.lost_tick self.now bookie }
-        ensures past { ForSome result (λ tick. tick ≤ self.now.parts.scalars.clock) }
+        ensures past { IfSome result (λ tick. tick ≤ self.now.parts.scalars.clock) }
     {
         let parts = &self.parts;
         match parts.lost_at.get(bookie.0 as usize) {
