@@ -1,6 +1,7 @@
 -- States with equal parts, row by row, are equal.
 use Rattle.std.proofs.Common.{◌≡◌, ◌<◌, ◌∙◌, ℕ, Bool, true, false, List, [], ◌∷◌, length, refl, sym, ap, subst, arith, IsSome, Some, cond, get_or}
 use Rattle.std.specs.Prelude.{◌==◌, ◌↔◌, All, IsTrue}
+use Rattle.std.specs.Cmp.{booleans_Decides}
 use Rattle.std.specs.List.{find}
 use Rattle.std.proofs.lemmas.Bool.Decides.{nat_tests}
 use Rattle.std.proofs.lemmas.List.Elements.{All-head, All-tail}
@@ -44,7 +45,9 @@ module _ (bookies : ℕ) (s t : Contents) where
 
 tells_scalars : Tells same_scalars
 tells_scalars x y =
-    told_by (tells_numbers x.clock y.clock) (λ e i. record { clock = e i }) (λ e. ap (λ (z : Scalars). z.clock) e)
+    told_by (told_both (tells_numbers x.clock y.clock) (booleans_Decides x.enabled y.enabled))
+    (λ e i. record { clock = e.0 i; enabled = e.1 i })
+    (λ e. (ap (λ (z : Scalars). z.clock) e, ap (λ (z : Scalars). z.enabled) e))
 
 -- parts that are the same but for the contents
 pub same_parts : (p q : Parts) → IsTrue (same_but_contents p q) ↔ (record p { held = q.held } ≡ q)

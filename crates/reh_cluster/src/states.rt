@@ -25,7 +25,7 @@ use std::alloc::{AllocError, Global};
 use std::marker::Model;
 
 /// The cluster as it stands: names, registrations, ledgers in picture order with their tasks and locks, contents,
-/// clock, grace, and the delay for lost bookies.
+/// clock, grace, the delay for lost bookies, and whether AutoRecovery is enabled.
 ///
 /// Each value is well-formed by its type; contracts see it as `Cluster` of the definitions.
 #[derive(Drop)]
@@ -52,23 +52,24 @@ impl Model for State {
 
 impl State {
     /// The state at clock 0 with these names, the tick at which each bookie was lost (none while it is registered),
-    /// grace and delay in ticks, ledgers in picture order with their ids, and contents.
+    /// grace and delay in ticks, AutoRecovery enabled or not, ledgers in picture order with their ids, and contents.
     pub fn build(
         names: Names,
         lost_at: Vec<Option<u64>>,
         grace: u64,
         delay: u64,
+        enabled: bool,
         ids: IndexSet<u64>,
         ledgers: Vec<Ledger>,
         held: Held,
     ) -> State
         requires cluster { IsWellFormed
-            (cluster_of names lost_at.items grace delay ledgers.items held.contents) }
+            (cluster_of names lost_at.items grace delay enabled ledgers.items held.contents) }
         requires ids { ids.keys ≡ map (λ g. g.id) ledgers.items }
         requires rows { HasRows (length names) ledgers.items held }
-        ensures { result ≡ cluster_of names lost_at.items grace delay ledgers.items held.contents }
+        ensures { result ≡ cluster_of names lost_at.items grace delay enabled ledgers.items held.contents }
     {
-        let scalars = Scalars::new();
+        let scalars = Scalars::new(enabled);
         State {
             names,
             grace,
@@ -202,6 +203,14 @@ impl State {
     {
         let parts = &self.parts;
         parts.scalars.clock
+    }
+
+    /// Whether AutoRecovery is enabled.
+    pub fn is_enabled(&self) -> bool
+        ensures { result ≡ self.now.parts.scalars.enabled }
+    {
+        let parts = &self.parts;
+        parts.scalars.enabled
     }
 
     /// The grace of an open ledger, in ticks.
