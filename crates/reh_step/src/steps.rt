@@ -61,6 +61,8 @@ pub fn decide(alloc: Global, state: &State, event: &Event) -> Result<Changes, Re
             &aim_of(*worker, *ledger, *fragment, *index),
             *version,
         ),
+        Event::Disable => records::disable(alloc, state),
+        Event::Enable => records::enable(alloc, state),
     }
 }
 
@@ -73,6 +75,8 @@ pub fn decide(alloc: Global, state: &State, event: &Event) -> Result<Changes, Re
 /// fragment's entries to its own bookie, and then puts that bookie into the fragment's ensemble. Where an open
 /// ledger misses a member of its last ensemble, a worker grants its writer a grace, in which the writer may go on
 /// with another bookie; when the grace is over, the worker fences the ledger, and a recovery closes it at its end.
+/// Before a maintenance its operator disables it: nothing is published or locked then, and workers go on with the
+/// tasks that they have locked.
 pub fn step(alloc: Global, state: &State, event: &Event) -> Result<State, Refusal>
     ensures accepted { IfOk result (λ _. refusal_of state.now event.now ≡ None) }
     ensures made { IfOk result (λ next. next ≡ after state.now event.now) }
