@@ -26,13 +26,14 @@ use reh_stripe::Striped;
 use reh_types::{Aim, BookieIx, Change, LedgerId, Lock, Refusal, Scalar};
 use std::alloc::{AllocError, Global};
 
-/// The bookie's registration goes.
+/// The bookie's registration goes, at the tick of the clock.
 pub(crate) fn lose(alloc: Global, state: &State, bookie: BookieIx) -> Result<Changes, Refusal>
     ensures { IsDecision state.now (Lose bookie) result }
 {
     check_lose(state, bookie)?;
     let _well_formed = state.names();
-    let changes = Changes::one(alloc, Change::Registration { bookie, up: false })?;
+    let lost_at = Some(state.clock());
+    let changes = Changes::one(alloc, Change::Registration { bookie, lost_at })?;
     Ok(changes)
 }
 
@@ -42,11 +43,12 @@ pub(crate) fn join(alloc: Global, state: &State, bookie: BookieIx) -> Result<Cha
 {
     check_join(state, bookie)?;
     let _well_formed = state.names();
-    let changes = Changes::one(alloc, Change::Registration { bookie, up: true })?;
+    let lost_at = None;
+    let changes = Changes::one(alloc, Change::Registration { bookie, lost_at })?;
     Ok(changes)
 }
 
-/// Each task that an audit changes names the missing members too.
+/// Each task that an audit changes names the long-lost members too.
 pub(crate) fn audit(alloc: Global, state: &State) -> Result<Changes, Refusal>
     ensures { IsDecision state.now Audit result }
 {
