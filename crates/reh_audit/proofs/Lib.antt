@@ -1,2 +1,2 @@
-pub mod MissingLaws
+pub mod LostLaws
 pub mod MemberLaws

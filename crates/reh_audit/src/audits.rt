@@ -7,21 +7,24 @@ ghost use Rattle.reh_model.specs.Refusals.{or_no_memory};
 ghost use Rattle.reh_model.specs.Step.{refusal_of};
 ghost use Rattle.reh_audit.specs.Members.{HasBookies};
 
-use crate::members::{missing_of, published_of};
+use crate::members::{long_lost_of, published_of};
 use reh_cluster::{Ledger, State};
 use reh_types::{BookieSet, LedgerId, Refusal};
 use std::alloc::{AllocError, Global};
 
 /// The ledgers whose tasks an audit changes, in picture order, each with the bookies that its task names then.
 ///
-/// Refused with `NothingToPublish` where no task would change, and for want of memory only where one would.
-/// BookKeeper's auditor publishes a ledger's under-replication in the same way: to a task that is there
-/// already it adds the missing bookies.
+/// Refused with `Disabled` where AutoRecovery is disabled, else with `NothingToPublish` where no task would change, and
+/// for want of memory only where neither applies. BookKeeper's auditor publishes a ledger's under-replication in the same way: to a task that is there
+/// already it adds the lost bookies.
 pub fn audit(alloc: Global, state: &State) -> Result<Vec<(LedgerId, BookieSet)>, Refusal>
     ensures news { IfOk result (λ _. refusal_of state.now Audit ≡ None) }
     ensures tasks { IfOk result (λ tasks. tasks.items ≡ model.published_tasks state.now) }
     ensures err { IfErr result (λ refusal. refusal ≡ or_no_memory (refusal_of state.now Audit)) }
 {
+    if !state.is_enabled() {
+        return Err(Refusal::Disabled);
+    }
     if !has_news(state) {
         return Err(Refusal::NothingToPublish);
     }
@@ -64,11 +67,11 @@ fn any_news(state: &State, ledgers: &[Ledger]) -> bool
     ledgers.iter().any(|ledger| is_news(state, ledger))
 }
 
-/// Whether an audit changes the ledger's task: not all missing members are in it, of which each has to be one of the
+/// Whether an audit changes the ledger's task: not all long-lost members are in it, of which each has to be one of the
 /// 64 bookies that there can be.
 pub fn is_news(state: &State, ledger: &Ledger) -> bool
     requires { HasBookies ledger.now }
     ensures { result ≡ model.is_news state.now ledger.now }
 {
-    !missing_of(state, ledger).is_subset(&ledger.task_set())
+    !long_lost_of(state, ledger).is_subset(&ledger.task_set())
 }

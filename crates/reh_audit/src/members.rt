@@ -1,12 +1,12 @@
 // Members that aren't registered.
-ghost use Rattle.std.specs.Prelude.{◌≡◌, ◌<◌, not, position, All};
+ghost use Rattle.std.specs.Prelude.{◌≡◌, ◌<◌, position, All};
 ghost use Rattle.std.specs.List.{filter, flat_map};
 ghost use Rattle.std.specs.Option.{ForSome, IsSome};
 ghost use Rattle.reh_types.specs.declared.limits.TheConstants.{MAX_BOOKIES};
 ghost use Rattle.reh_types.specs.Sets as set;
-ghost use Rattle.reh_model.specs.Cluster.{is_up, ledger_at};
+ghost use Rattle.reh_model.specs.Cluster.{ledger_at};
 ghost use Rattle.reh_model.specs.Audit as model;
-ghost use Rattle.reh_audit.specs.Members.{HasBookies};
+ghost use Rattle.reh_audit.specs.Members.{HasBookies, is_lost};
 
 use reh_cluster::{Ledger, State};
 use reh_meta::Fragment;
@@ -26,49 +26,102 @@ pub fn missing(state: &State, ledger: LedgerId) -> BookieSet
     missing_of(state, found)
 }
 
-/// The members of the ledger's ensembles that aren't registered: what BookKeeper's
-/// auditor finds where a bookie is lost. Each member has to be one of the 64 bookies that there can be.
-pub fn missing_of(state: &State, ledger: &Ledger) -> BookieSet
+/// The missing members after whose loss the delay is over. The ledger has to be in the picture.
+///
+/// BookKeeper's auditor waits in the same way, for `lostBookieRecoveryDelay`, before it publishes the ledgers of lost
+/// bookies; here it waits for each bookie by itself.
+pub fn long_lost(state: &State, ledger: LedgerId) -> BookieSet
+    requires { IsSome (ledger_at state.now ledger) }
+    ensures { ForSome (ledger_at state.now ledger)
+        (λ g. result ≡ model.long_lost_members state.now g) }
+{
+    let _well_formed = state.ledgers();
+    let found = state.ledger(ledger).unwrap();
+    long_lost_of(state, found)
+}
+
+/// The members of the ledger's ensembles that aren't registered, of a ledger that was found. Each member has to be
+/// one of the 64 bookies that there can be.
+fn missing_of(state: &State, ledger: &Ledger) -> BookieSet
     requires { HasBookies ledger.now }
     ensures { result ≡ model.missing_members state.now ledger.now }
 {
-    missing_from(state, ledger.metadata().fragments())
+    lost_from(state, Loss::Any, ledger.metadata().fragments())
 }
 
-/// The bookies that the ledger's task names after an audit: those that it named, and the missing members,
+/// The missing members after whose loss the delay is over, of a ledger that was found. Each member has to be one of
+/// the 64 bookies that there can be.
+pub fn long_lost_of(state: &State, ledger: &Ledger) -> BookieSet
+    requires { HasBookies ledger.now }
+    ensures { result ≡ model.long_lost_members state.now ledger.now }
+{
+    lost_from(state, Loss::Long, ledger.metadata().fragments())
+}
+
+/// The bookies that the ledger's task names after an audit: those that it named, and the long-lost members,
 /// of which each has to be one of the 64 bookies that there can be.
 pub fn published_of(state: &State, ledger: &Ledger) -> BookieSet
     requires { HasBookies ledger.now }
     ensures { result ≡ model.published_members state.now ledger.now }
 {
-    ledger.task_set().union(&missing_of(state, ledger))
+    ledger.task_set().union(&long_lost_of(state, ledger))
 }
 
-/// The members of all ensembles that aren't registered.
-fn missing_from(state: &State, fragments: &[Fragment]) -> BookieSet
+/// Which bookies are asked for.
+#[derive(Clone, Copy)]
+enum Loss {
+    /// Those that aren't registered.
+    Any,
+    /// Those of them after whose loss the delay is over.
+    Long,
+}
+
+/// The members of all ensembles that are lost so.
+fn lost_from(state: &State, loss: Loss, fragments: &[Fragment]) -> BookieSet
     requires { All (λ fragment. All (λ b. b < MAX_BOOKIES) fragment.ensemble) fragments.now }
-    ensures { result ≡ set.from_list (filter (λ b. not (is_up state.now b))
+    ensures { result ≡ set.from_list (filter (is_lost loss state.now)
         (flat_map (λ fragment. fragment.ensemble) fragments.now)) }
 {
-    let mut missing = BookieSet::new();
+    let mut lost = BookieSet::new();
     for fragment in fragments {
-        missing = missing.union(&missing_among(state, &fragment.ensemble));
+        lost = lost.union(&lost_among(state, loss, &fragment.ensemble));
     }
-    missing
+    lost
 }
 
-/// The members of one ensemble that aren't registered.
-fn missing_among(state: &State, ensemble: &[BookieIx]) -> BookieSet
+/// The members of one ensemble that are lost so.
+fn lost_among(state: &State, loss: Loss, ensemble: &[BookieIx]) -> BookieSet
     requires { All (λ b. b < MAX_BOOKIES) ensemble.now }
-    ensures { result ≡ set.from_list (filter (λ b. not (is_up state.now b)) ensemble.now) }
+    ensures { result ≡ set.from_list (filter (is_lost loss state.now) ensemble.now) }
 {
-    let mut missing = BookieSet::new();
+    let mut lost = BookieSet::new();
     for member in ensemble {
-        if !state.is_up(*member) {
-            missing.insert(*member);
+        if is_lost(state, loss, *member) {
+            lost.insert(*member);
         }
     }
-    missing
+    lost
+}
+
+/// Whether the bookie is lost so.
+fn is_lost(state: &State, loss: Loss, bookie: BookieIx) -> bool
+    ensures { result ≡ is_lost loss state.now bookie }
+{
+    match loss {
+        Loss::Any => !state.is_up(bookie),
+        Loss::Long => is_long_lost(state, bookie),
+    }
+}
+
+/// Whether the bookie isn't registered, and the delay after its loss is over.
+fn is_long_lost(state: &State, bookie: BookieIx) -> bool
+    ensures { result ≡ model.is_long_lost state.now bookie }
+{
+    let clock = state.clock();
+    match state.lost_tick(bookie) {
+        Some(tick) => tick + state.delay() <= clock,
+        None => false,
+    }
 }
 
 /// The least fragment of the ledger with a member that isn't registered, if there is one: the ledger is

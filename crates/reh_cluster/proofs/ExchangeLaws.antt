@@ -3,9 +3,9 @@ use Rattle.std.proofs.Common.{◌≡◌, ◌<◌, ◌+◌, ℕ, List, [], ◌∷
 use Rattle.std.specs.Prelude.{All}
 use Rattle.std.proofs.lemmas.List.{drop_more, take_more_set, drop-set-lt, drop-drop, append_assoc}
 use Rattle.std.proofs.lemmas.List.Elements.{All-drop, All-head, All-same}
-use Rattle.reh_model.specs.Cluster.{Parts, Cluster, Ledger, words_among}
+use Rattle.reh_model.specs.Cluster.{Parts, Cluster, Ledger, change_at, words_among}
 use Rattle.reh_model.specs.WellFormed.{IsWellFormed}
-use Rattle.reh_model.specs.Places.{Change, place_of, change_at, put, back, put_all, back_all, exchanged, left, AreRising, IsPlaced, Fits}
+use Rattle.reh_model.specs.Places.{Change, place_of, put, back, put_all, back_all, exchanged, left, AreRising, IsPlaced, Fits}
 use Rattle.reh_model.proofs.ListLaws.{set-read}
 use Rattle.reh_model.proofs.PlaceLaws.{IsPlaced-put, words_among-put}
 use Rattle.reh_model.proofs.ExchangeLaws.{places-back_all, exchanged-left, back_all-back_all, Fits-left}

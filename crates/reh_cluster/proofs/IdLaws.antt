@@ -6,8 +6,8 @@ use Rattle.std.proofs.lemmas.List.Folds.{find_at}
 use Rattle.std.proofs.lemmas.Option.{slice_get_past}
 use Rattle.std.specs.List.{find, position_or_len}
 use Rattle.reh_types.specs.declared.changes.Change.TheVariants.{Metadata, Task, Lock}
-use Rattle.reh_model.specs.Cluster.{Parts, Ledger}
-use Rattle.reh_model.specs.Places.{Change, change_at, put, put_all}
+use Rattle.reh_model.specs.Cluster.{Parts, Ledger, change_at}
+use Rattle.reh_model.specs.Places.{Change, put, put_all}
 use Rattle.reh_model.proofs.LedgerLaws.{KeepsId}
 use Rattle.reh_cluster.proofs.NamesLemmas.{position-map}
 

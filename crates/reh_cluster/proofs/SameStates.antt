@@ -1,11 +1,12 @@
 -- States with equal parts, row by row, are equal.
 use Rattle.std.proofs.Common.{◌≡◌, ◌<◌, ◌∙◌, ℕ, Bool, true, false, List, [], ◌∷◌, length, refl, sym, ap, subst, arith, IsSome, Some, cond, get_or}
 use Rattle.std.specs.Prelude.{◌==◌, ◌↔◌, All, IsTrue}
+use Rattle.std.specs.Cmp.{booleans_Decides}
 use Rattle.std.specs.List.{find}
 use Rattle.std.proofs.lemmas.Bool.Decides.{nat_tests}
 use Rattle.std.proofs.lemmas.List.Elements.{All-head, All-tail}
 use Rattle.reh_types.specs.declared.scalars.Scalars.{Scalars}
-use Rattle.reh_types.specs.Same.{Tells, told_by, told_both, tells_numbers, tells_lists, tells_sets, two_ways}
+use Rattle.reh_types.specs.Same.{Tells, told_by, told_both, tells_numbers, tells_lists, tells_options, two_ways}
 use Rattle.reh_types.specs.Sets.{contains, same_set}
 use Rattle.reh_model.specs.Contents.{Contents, has}
 use Rattle.reh_model.specs.Cluster.{Cluster, Ledger, Parts, ledger_among}
@@ -44,17 +45,19 @@ module _ (bookies : ℕ) (s t : Contents) where
 
 tells_scalars : Tells same_scalars
 tells_scalars x y =
-    told_by (tells_numbers x.clock y.clock) (λ e i. record { clock = e i }) (λ e. ap (λ (z : Scalars). z.clock) e)
+    told_by (told_both (tells_numbers x.clock y.clock) (booleans_Decides x.enabled y.enabled))
+    (λ e i. record { clock = e.0 i; enabled = e.1 i })
+    (λ e. (ap (λ (z : Scalars). z.clock) e, ap (λ (z : Scalars). z.enabled) e))
 
 -- parts that are the same but for the contents
 pub same_parts : (p q : Parts) → IsTrue (same_but_contents p q) ↔ (record p { held = q.held } ≡ q)
 same_parts p q =
     told_by
-    (told_both (tells_sets p.up q.up)
+    (told_both (tells_lists (tells_options tells_numbers) p.lost_at q.lost_at)
     (told_both (tells_lists tells_ledgers p.ledgers q.ledgers) (tells_scalars p.scalars q.scalars)))
-    (λ e i. record { up = e.0 i; ledgers = e.1.0 i; held = q.held; scalars = e.1.1 i })
+    (λ e i. record { lost_at = e.0 i; ledgers = e.1.0 i; held = q.held; scalars = e.1.1 i })
     (λ e. (
-      ap (λ (r : Parts). r.up) e,
+      ap (λ (r : Parts). r.lost_at) e,
       (ap (λ (r : Parts). r.ledgers) e, ap (λ (r : Parts). r.scalars) e),
     ))
 
@@ -62,10 +65,10 @@ same_parts p q =
 pub same_rows : (bookies : ℕ) (gs : List Ledger) (s t : Contents) → s ≡ t → HaveSameRows bookies gs s t
 same_rows bookies gs s t same k g within b e there = ap (λ (c : Contents). has c b (get_or gs k g).id e) same
 
-pub same_state : (s t : Cluster) → IsWellFormed s → IsWellFormed t → s.names ≡ t.names → s.grace ≡ t.grace
+pub same_state : (s t : Cluster) → IsWellFormed s → IsWellFormed t → s.names ≡ t.names → s.grace ≡ t.grace → s.delay ≡ t.delay
     → record s.parts { held = t.parts.held } ≡ t.parts
     → HaveSameRows (length s.names) s.parts.ledgers s.parts.held t.parts.held → s ≡ t
-same_state s t of_s of_t names grace but rows =
+same_state s t of_s of_t names grace delay but rows =
     let ledgers : s.parts.ledgers ≡ t.parts.ledgers = ap (λ (p : Parts). p.ledgers) but in
     let there : AreContents (length s.names) s.parts.ledgers t.parts.held =
     subst (λ (n : List (List ℕ)). AreContents (length n) s.parts.ledgers t.parts.held) (sym names)
@@ -73,16 +76,16 @@ same_state s t of_s of_t names grace but rows =
     let held : s.parts.held ≡ t.parts.held =
     same_contents (length s.names) s.parts.held t.parts.held s.parts.ledgers of_s.contents there rows in
     let parts : s.parts ≡ t.parts = ap (λ (c : Contents). record s.parts { held = c }) held ∙ but in
-    λ i. record { names = names i; grace = grace i; parts = parts i }
+    λ i. record { names = names i; grace = grace i; delay = delay i; parts = parts i }
 
 -- where all else is the same, the rows tell whether two states are
 pub told_by_rows : (s t : Cluster) (bookies : ℕ) (answer : Bool) → IsWellFormed s → IsWellFormed t
-    → bookies ≡ length s.names → s.names ≡ t.names → s.grace ≡ t.grace
+    → bookies ≡ length s.names → s.names ≡ t.names → s.grace ≡ t.grace → s.delay ≡ t.delay
     → IsTrue (same_but_contents s.parts t.parts)
     → IsTrue answer ↔ HaveSameRows bookies s.parts.ledgers s.parts.held t.parts.held → IsTrue answer ↔ (s ≡ t)
-told_by_rows s t bookies answer of_s of_t count names grace but rows =
+told_by_rows s t bookies answer of_s of_t count names grace delay but rows =
     told_by rows
     (λ are.
-    same_state s t of_s of_t names grace ((same_parts s.parts t.parts).0 but)
+    same_state s t of_s of_t names grace delay ((same_parts s.parts t.parts).0 but)
     (subst (λ (n : ℕ). HaveSameRows n s.parts.ledgers s.parts.held t.parts.held) count are))
     (λ same. same_rows bookies s.parts.ledgers s.parts.held t.parts.held (ap (λ (x : Cluster). x.parts.held) same))

@@ -7,7 +7,7 @@ use Rattle.reh_cluster.specs.declared.parts.Parts.TheInside.{Inside}
 abbrev pub parts_in : Inside → PartsValue
 parts_in p = record {
   bookies = p.held.bookies;
-  parts = record { up = p.up; ledgers = p.ledgers.items; held = p.held.contents; scalars = p.scalars };
+  parts = record { lost_at = p.lost_at.items; ledgers = p.ledgers.items; held = p.held.contents; scalars = p.scalars };
 }
 
 -- the bookies are no more than there can be, and the rows go with the ledgers

@@ -51,7 +51,8 @@ same_scalars = (scalars.eq-value).it
 -- whether the parts are equal, but for the contents
 abbrev pub same_but_contents : Parts → Parts → Bool
 same_but_contents p q =
-    same_members p.up q.up && (pointwise same_ledger p.ledgers q.ledgers && same_scalars p.scalars q.scalars)
+    pointwise (option_eq nat_eq) p.lost_at q.lost_at
+    && (pointwise same_ledger p.ledgers q.ledgers && same_scalars p.scalars q.scalars)
 
 -- each of so many bookies holds the same entries of each ledger
 abbrev pub HaveSameRows : ℕ → List Ledger → Contents → Contents → Type 0

@@ -75,9 +75,9 @@ fn clone_change(change: &Change<LedgerMeta>) -> Result<Change<LedgerMeta>, Alloc
     ensures { IfOk result (λ copy. copy ≡ change.now) }
 {
     Ok(match change {
-        Change::Registration { bookie, up } => Change::Registration {
+        Change::Registration { bookie, lost_at } => Change::Registration {
             bookie: *bookie,
-            up: *up,
+            lost_at: *lost_at,
         },
         Change::Metadata { place, metadata } => Change::Metadata {
             place: *place,

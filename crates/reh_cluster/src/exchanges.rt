@@ -5,6 +5,7 @@ ghost use Rattle.reh_model.specs.Places.{put, back, put_all, back_all, IsPlaced}
 use crate::parts::Parts;
 use reh_meta::LedgerMeta;
 use reh_types::Change;
+use std::mem;
 
 /// Swaps what the change holds with what stands at its place among the parts. It takes no memory.
 fn exchange_one(parts: &mut Parts, change: &mut Change<LedgerMeta>)
@@ -13,14 +14,8 @@ fn exchange_one(parts: &mut Parts, change: &mut Change<LedgerMeta>)
     ensures left { change.new ≡ back parts.old.parts change.old }
 {
     match change {
-        Change::Registration { bookie, up } => {
-            let was = parts.up.contains(*bookie);
-            if *up {
-                parts.up.insert(*bookie);
-            } else {
-                parts.up.remove(*bookie);
-            }
-            *up = was;
+        Change::Registration { bookie, lost_at } => {
+            mem::swap(&mut parts.lost_at[bookie.0 as usize], lost_at)
         }
         Change::Metadata { place, metadata } => parts.ledgers[*place].swap_metadata(metadata),
         Change::Task { place, task } => parts.ledgers[*place].swap_task(task),

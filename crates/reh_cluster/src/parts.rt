@@ -4,16 +4,17 @@ ghost use Rattle.reh_cluster.specs.Same.{same_but_contents, HaveSameRows};
 
 use crate::ledgers::Ledger;
 use reh_held::Held;
-use reh_types::{BookieSet, Scalars};
+use reh_types::Scalars;
 use std::alloc::AllocError;
 use std::marker::Model;
 
-/// Which bookies are registered, the ledgers in picture order, the contents, and the parts that are single values.
+/// The bookies' registrations, the ledgers in picture order, the contents, and the parts that are single values.
 ///
 /// Contracts see them as `Parts` of the definitions, beside the number of bookies that have rows.
 #[derive(Drop)]
 pub(crate) struct Parts {
-    pub(crate) up: BookieSet,
+    /// For each bookie the tick at which it was lost, none while it is registered.
+    pub(crate) lost_at: Vec<Option<u64>>,
     pub(crate) ledgers: Vec<Ledger>,
     pub(crate) held: Held,
     pub(crate) scalars: Scalars,
@@ -37,7 +38,7 @@ impl Parts {
         ensures { IfOk result (λ copy. copy ≡ self.now) }
     {
         Ok(Parts {
-            up: self.up.copied(),
+            lost_at: self.lost_at.clone()?,
             ledgers: self.ledgers.clone()?,
             held: self.held.clone_in()?,
             scalars: self.scalars,
@@ -48,7 +49,9 @@ impl Parts {
     pub(crate) fn are_same_but_contents(&self, other: &Parts) -> bool
         ensures { result ≡ same_but_contents self.now.parts other.now.parts }
     {
-        self.up == other.up && self.ledgers == other.ledgers && self.scalars == other.scalars
+        self.lost_at == other.lost_at
+            && self.ledgers == other.ledgers
+            && self.scalars == other.scalars
     }
 
     /// Whether each bookie holds the same entries of each ledger, where bookies and ledgers are the same.

@@ -1,8 +1,8 @@
 // The state of a cluster.
 ghost use Rattle.std.specs.Prelude.{◌≡◌, ℕ, ◌*◌, ◌<◌, ◌≤◌, ◌==◌, ◌↔◌, length, map, position, All, IfOk};
-ghost use Rattle.std.specs.Prelude.{IsTrue};
+ghost use Rattle.std.specs.Prelude.{IfSome, IsTrue};
 ghost use Rattle.std.specs.Option.{option_copied};
-ghost use Rattle.reh_types.specs.declared.limits.TheConstants.{CLOCK_END};
+ghost use Rattle.reh_types.specs.declared.limits.TheConstants.{CLOCK_END, MAX_DELAY};
 ghost use Rattle.reh_types.specs.Sets as set;
 ghost use Rattle.reh_held.specs.Rows.{is_set};
 ghost use Rattle.reh_held.specs.Turns.{IsTurning};
@@ -20,18 +20,19 @@ use crate::names::Names;
 use crate::parts::Parts;
 use indexmap::IndexSet;
 use reh_held::{Held, Turn};
-use reh_types::{BookieIx, BookieSet, LedgerId, Scalars};
+use reh_types::{BookieIx, LedgerId, Scalars};
 use std::alloc::{AllocError, Global};
 use std::marker::Model;
 
-/// The cluster as it stands: names, registered bookies, ledgers in picture order with their tasks and locks,
-/// contents, clock and grace.
+/// The cluster as it stands: names, registrations, ledgers in picture order with their tasks and locks, contents,
+/// clock, grace, the delay for lost bookies, and whether AutoRecovery is enabled.
 ///
 /// Each value is well-formed by its type; contracts see it as `Cluster` of the definitions.
 #[derive(Drop)]
 pub struct State {
     names: Names,
     grace: u64,
+    delay: u64,
     /// The ids of the ledgers, by which one is found.
     ids: IndexSet<u64>,
     parts: Parts,
@@ -50,28 +51,32 @@ impl Model for State {
 }
 
 impl State {
-    /// The state at clock 0 with these names, registered bookies, grace in ticks, ledgers in picture order with their
-    /// ids, and contents.
+    /// The state at clock 0 with these names, the tick at which each bookie was lost (none while it is registered),
+    /// grace and delay in ticks, AutoRecovery enabled or not, ledgers in picture order with their ids, and contents.
     pub fn build(
         names: Names,
-        up: BookieSet,
+        lost_at: Vec<Option<u64>>,
         grace: u64,
+        delay: u64,
+        enabled: bool,
         ids: IndexSet<u64>,
         ledgers: Vec<Ledger>,
         held: Held,
     ) -> State
-        requires cluster { IsWellFormed (cluster_of names up grace ledgers.items held.contents) }
+        requires cluster { IsWellFormed
+            (cluster_of names lost_at.items grace delay enabled ledgers.items held.contents) }
         requires ids { ids.keys ≡ map (λ g. g.id) ledgers.items }
         requires rows { HasRows (length names) ledgers.items held }
-        ensures { result ≡ cluster_of names up grace ledgers.items held.contents }
+        ensures { result ≡ cluster_of names lost_at.items grace delay enabled ledgers.items held.contents }
     {
-        let scalars = Scalars::new();
+        let scalars = Scalars::new(enabled);
         State {
             names,
             grace,
+            delay,
             ids,
             parts: Parts {
-                up,
+                lost_at,
                 ledgers,
                 held,
                 scalars,
@@ -86,6 +91,7 @@ impl State {
         Ok(State {
             names: self.names.clone_in()?,
             grace: self.grace,
+            delay: self.delay,
             ids: self.ids.clone()?,
             parts: self.parts.clone_in()?,
         })
@@ -97,6 +103,7 @@ impl State {
     {
         self.names.same(&other.names)
             && self.grace == other.grace
+            && self.delay == other.delay
             && self.parts.are_same_but_contents(&other.parts)
             && self.parts.have_same_rows(&other.parts)
     }
@@ -114,16 +121,22 @@ impl State {
         ensures { result ≡ model.is_up self.now bookie }
     {
         let parts = &self.parts;
-        parts.up.contains(bookie)
+        match parts.lost_at.get(bookie.0 as usize) {
+            Some(lost) => lost.is_none(),
+            None => false,
+        }
     }
 
-    /// The registered bookies.
-    pub fn up(&self) -> &BookieSet
-        ensures up { result.now ≡ self.now.parts.up }
-        ensures well_formed { IsWellFormed self.now }
+    /// The tick at which the bookie was lost, if it isn't registered.
+    pub fn lost_tick(&self, bookie: BookieIx) -> Option<u64>
+        ensures tick { result ≡ model.lost_tick self.now bookie }
+        ensures past { IfSome result (λ tick. tick ≤ self.now.parts.scalars.clock) }
     {
         let parts = &self.parts;
-        &parts.up
+        match parts.lost_at.get(bookie.0 as usize) {
+            Some(lost) => *lost,
+            None => None,
+        }
     }
 
     /// The ledgers, in picture order.
@@ -192,11 +205,27 @@ impl State {
         parts.scalars.clock
     }
 
+    /// Whether AutoRecovery is enabled.
+    pub fn is_enabled(&self) -> bool
+        ensures { result ≡ self.now.parts.scalars.enabled }
+    {
+        let parts = &self.parts;
+        parts.scalars.enabled
+    }
+
     /// The grace of an open ledger, in ticks.
     pub fn grace(&self) -> u64
         ensures { result ≡ self.now.grace }
     {
         self.grace
+    }
+
+    /// For how many ticks after a bookie's loss an audit waits (BookKeeper's `lostBookieRecoveryDelay`).
+    pub fn delay(&self) -> u64
+        ensures delay { result ≡ self.now.delay }
+        ensures limit { self.now.delay ≤ MAX_DELAY }
+    {
+        self.delay
     }
 
     /// The turns after which the bookie holds these entries of the ledger too: for each word of 64 entries in which

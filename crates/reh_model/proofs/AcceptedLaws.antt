@@ -8,7 +8,7 @@ use Rattle.std.proofs.lemmas.List.Elements.{All-weaker}
 use Rattle.std.proofs.lemmas.Option.{slice_get_within}
 use Rattle.reh_types.specs.declared.limits.TheConstants.{CLOCK_END, ENTRY_END, MAX_EVENTS, MAX_FRAGMENTS, MAX_VERSION, MAX_TICKS}
 use Rattle.reh_types.specs.declared.moves.Event.{Event}
-use Rattle.reh_types.specs.declared.moves.Event.TheVariants.{Join, Acquire, Grace, Tick, Roll, Fence, Seal, Copy, Swap, Lose}
+use Rattle.reh_types.specs.declared.moves.Event.TheVariants.{Join, Acquire, Grace, Tick, Roll, Fence, Seal, Copy, Swap, Lose, Disable, Enable}
 use Rattle.reh_types.specs.declared.moves.Move.TheVariants.{Do}
 use Rattle.reh_types.specs.declared.moves.Reply.TheVariants.{Done, Refused}
 use Rattle.reh_types.specs.declared.refusals.Refusal.{Refusal}
@@ -19,12 +19,12 @@ use Rattle.reh_model.specs.Metadata.{Fragment, is_open, is_in_recovery, last_fra
 use Rattle.reh_model.specs.Cluster.{Cluster, Ledger, holds, is_readable, is_locked_by, due_of, ledger_at, stripe_at, is_up}
 use Rattle.reh_model.specs.Recovery.{next_entry, is_rolling_over, up_writes, recovered_end, recovered_entries}
 use Rattle.reh_model.specs.Checks.{first_reason, reason_if}
-use Rattle.reh_model.specs.Refusals.{with_ledger, at_ledger, with_fragment, no_bookie, already_up, no_task, lock_held, bad_tick, clock_end, not_open, not_recovering, not_needed, grace_set, no_grace, grace_runs, too_few, undecided, fragments_full, entry_end, stale_version, not_owner, no_index, member_up, target_down, target_is_member, no_endpoint, no_place, no_source, missing_entry, version_end, already_down}
+use Rattle.reh_model.specs.Refusals.{with_ledger, at_ledger, with_fragment, no_bookie, already_up, disabled, no_task, lock_held, bad_tick, clock_end, not_open, not_recovering, not_needed, grace_set, no_grace, grace_runs, too_few, undecided, fragments_full, entry_end, stale_version, not_owner, no_index, member_up, target_down, target_is_member, no_endpoint, no_place, no_source, missing_entry, version_end, already_down}
 use Rattle.reh_model.specs.Step.{refusal_of, grace_checks, roll_checks, fence_checks, seal_checks, place_checks, copy_checks, swap_checks}
 use Rattle.reh_types.specs.declared.locks.Lock.{Lock}
 use Rattle.reh_model.specs.Session.{Session, state_of, reply_unless, no_room, reply_to}
 use Rattle.reh_model.specs.Swaps.{HoldsStripe}
-use Rattle.reh_model.proofs.CheckLaws.{reason_if-none, find-none, check-none, first_reason-only, first_reason-found, first_reason-passed}
+use Rattle.reh_model.proofs.CheckLaws.{reason_if-none, find-none, both-none, check-none, first_reason-only, first_reason-found, first_reason-passed}
 use Rattle.reh_model.proofs.RecoveryLaws.{IsHeld-readable}
 use Rattle.reh_model.proofs.LedgerLaws.{id_found, stop_at-found, stripe_at-found}
 
@@ -131,10 +131,21 @@ accepted_join s b none = (
 pub accepted_ledger : (s : Cluster) (w l : ℕ) (checks : Ledger → List (Option Refusal)) → first_reason (no_bookie s w ∷ at_ledger s l checks ∷ []) ≡ None → FoundLedger (ledger_at s l) checks
 accepted_ledger s w l checks none = with_ledger-none (ledger_at s l) checks (check-none (no_bookie s w ∷ []) (at_ledger s l checks) [] none)
 
+-- AutoRecovery was enabled where it is disabled, and the other way round
+pub accepted_disable : (s : Cluster) → refusal_of s Disable ≡ None → s.parts.scalars.enabled ≡ true
+accepted_disable s none = not_not s.parts.scalars.enabled (reason_if-none _ _ none)
+
+pub accepted_enable : (s : Cluster) → refusal_of s Enable ≡ None → s.parts.scalars.enabled ≡ false
+accepted_enable s none = reason_if-none _ _ none
+
+-- behind the check whether AutoRecovery is enabled, those of the worker and of the ledger accept a lock
+locking_passes : (s : Cluster) (w l : ℕ) → refusal_of s (Acquire w l) ≡ None → first_reason (no_bookie s w ∷ at_ledger s l (λ g. no_task g ∷ lock_held g ∷ []) ∷ []) ≡ None
+locking_passes s w l none = (both-none (disabled s) (first_reason (no_bookie s w ∷ at_ledger s l (λ g. no_task g ∷ lock_held g ∷ []) ∷ [])) none).1
+
 -- a ledger whose task a worker locks has no lock
 pub accepted_free : (s : Cluster) (w l : ℕ) → refusal_of s (Acquire w l) ≡ None → (g : Ledger) × (ledger_at s l ≡ Some g) × (g.lock ≡ None)
 accepted_free s w l none =
-    let found = accepted_ledger s w l (λ g. no_task g ∷ lock_held g ∷ []) none in
+    let found = accepted_ledger s w l (λ g. no_task g ∷ lock_held g ∷ []) (locking_passes s w l none) in
     (found.ledger, found.is, lock_held-none found.ledger (check-none (no_task found.ledger ∷ []) (lock_held found.ledger) [] found.passes))
 
 -- one whose owner is asked for is locked by the worker
@@ -148,8 +159,9 @@ accepted_owner s w l more none =
 pub accepted_acquire : (s : Cluster) (w l : ℕ) (g : Ledger) → ledger_at s l ≡ Some g → refusal_of s (Acquire w l) ≡ None → (w < length s.names) × IsSome g.task
 accepted_acquire s w l g found none =
     let checks : Ledger → List (Option Refusal) = λ g. no_task g ∷ lock_held g ∷ [] in
-    let free : first_reason (checks g) ≡ None = ledger_passes s w l checks g found none in (
-      no_bookie-none s w (check-none [] (no_bookie s w) (at_ledger s l checks ∷ []) none),
+    let passes : first_reason (no_bookie s w ∷ at_ledger s l checks ∷ []) ≡ None = locking_passes s w l none in
+    let free : first_reason (checks g) ≡ None = ledger_passes s w l checks g found passes in (
+      no_bookie-none s w (check-none [] (no_bookie s w) (at_ledger s l checks ∷ []) passes),
       no_task-none g (check-none [] (no_task g) (lock_held g ∷ []) free),
     )
 

@@ -1,5 +1,6 @@
 -- Worked runs of books: tickets of seats, what is spent when the fragment has changed, and full tapes.
-use Rattle.std.specs.Prelude.{◌≡◌, refl, ℕ, codes, List, [], ◌∷◌, ◌++◌, map, Some, None}
+use Rattle.std.specs.Prelude.{◌≡◌, refl, ℕ, codes, List, [], ◌∷◌, ◌++◌, map, get_or, drop, Some, None}
+use Rattle.std.proofs.Common.{sym, ap, ◌∙◌}
 use Rattle.std.specs.Option.{option_map}
 use Rattle.reh_types.specs.declared.calls.Call.{Call}
 use Rattle.reh_types.specs.declared.calls.Call.TheVariants.{Ask, Checkout, Spend, Discard}
@@ -140,9 +141,15 @@ unfolding contains insert retain remove empty from_list union items is_subset is
 not_out_elsewhere = refl
 
 -- and nothing changes by what is not out
+unchanged : (b : Book) (calls : List (ℕ × Call)) → answers b calls ≡ map (λ call. Refused NotOut) calls → played b calls ≡ b
+unchanged b [] are = refl
+unchanged b ((seat, call) ∷ calls) are =
+    let first : answer_to b seat call ≡ Refused NotOut = ap (λ (rs : List Reply). get_or rs 0 Done) are in
+    ap (λ (r : Reply). played (book_after b seat call r) calls) first
+    ∙ unchanged b calls (sym (ap (λ (r : Reply). answers (book_after b seat call r) calls) first) ∙ ap (λ (rs : List Reply). drop 1 rs) are)
+
 pub unchanged_elsewhere : played (played book (checkout ∷ [])) strange ≡ played book (checkout ∷ [])
-unfolding contains insert retain remove empty from_list union items is_subset is_empty len
-unchanged_elsewhere = refl
+unchanged_elsewhere = unchanged (played book (checkout ∷ [])) strange not_out_elsewhere
 
 -- a ticket is given back once, and not spent then
 pub given_back : answers book (checkout ∷ (0, Discard 1 aim) ∷ (0, Discard 1 aim) ∷ spend 1 ∷ checkout ∷ []) ≡ Issued 1 ∷ Discarded ∷ Refused NotOut ∷ Refused NotOut ∷ Issued 2 ∷ []

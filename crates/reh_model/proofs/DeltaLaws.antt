@@ -1,6 +1,6 @@
 -- The record of each accepted event but a copy and a seal is the difference of the cluster before and after it.
 use Rattle.std.proofs.Common.{◌≡◌, ◌≢◌, ◌<◌, ◌+◌, ◌-◌, ℕ, Bool, true, false, true≢false, List, [], ◌∷◌, ◌++◌, length, map, get_or, Option, None, Some, refl, sym, ap, subst, ◌∙◌, arith, inl, inr, is_some, ◌≤◌}
-use Rattle.std.specs.Prelude.{All, position, ◌==◌, slice_get, if◌then◌else◌}
+use Rattle.std.specs.Prelude.{All, is_none, position, ◌==◌, slice_get, if◌then◌else◌}
 use Rattle.std.specs.Option.{option_and_then, option_map, option_map_or}
 use Rattle.std.proofs.lemmas.Bool.Decides.{nat_tests}
 use Rattle.std.proofs.lemmas.List.{append_assoc, length-append}
@@ -8,25 +8,24 @@ use Rattle.std.proofs.lemmas.List.Elements.{All-nil, All-cons, All-map}
 use Rattle.std.proofs.lemmas.Option.{slice_get_within, get_or_from_slice_get}
 use Rattle.reh_types.specs.declared.locks.Lock as locks
 use Rattle.reh_types.specs.declared.changes.Change.TheVariants.{Registration, Metadata, Task, Lock, Scalar}
-use Rattle.reh_types.specs.declared.scalars.Scalar.TheVariants.{Clock}
-use Rattle.reh_types.specs.declared.moves.Event.TheVariants.{Lose, Join, Audit, Acquire, Release, Finish, Expire, Grace, Tick, Roll, Fence, Seal, Swap}
+use Rattle.reh_types.specs.declared.scalars.Scalar.TheVariants.{Clock, Enabled}
+use Rattle.reh_types.specs.declared.moves.Event.TheVariants.{Lose, Join, Audit, Acquire, Release, Finish, Expire, Grace, Tick, Roll, Fence, Seal, Swap, Disable, Enable}
 use Rattle.reh_types.specs.declared.names.LedgerState.TheVariants.{InRecovery}
 use Rattle.reh_model.specs.Metadata as meta
 use Rattle.reh_model.specs.Metadata.{next_version, with_member_at, with_fragment_at, with_state}
-use Rattle.reh_model.specs.Cluster.{Cluster, Ledger, ledger_at, change_ledger, is_up, is_locked_by, due_of, with_ledgers}
+use Rattle.reh_model.specs.Cluster.{Cluster, Ledger, change_at, ledger_at, change_ledger, is_up, is_locked_by, due_of, with_ledgers}
 use Rattle.reh_model.specs.Recovery.{next_entry, is_rolling_over}
 use Rattle.reh_model.specs.Audit.{is_news, published_members, audited_ledger}
 use Rattle.reh_model.specs.WellFormed.{IsWellFormed}
 use Rattle.reh_model.specs.Step.{refusal_of, after, locked_ledger, unlocked_ledger, finished_ledger, expired_ledger, swapped_ledger, timed_lock, with_due, graced_ledger, rolled_metadata, rolled_ledger, fenced_ledger}
 use Rattle.reh_model.specs.Refusals.{still_under, not_open, not_needed, grace_set}
-use Rattle.reh_model.specs.Places.{Change, Place, at_metadata, at_task, at_lock, place_of, IsBefore, AreRising, change_at, exchanged, IsThere, IsDelta}
+use Rattle.reh_model.specs.Places.{Change, Place, at_metadata, at_task, at_lock, place_of, IsBefore, AreRising, exchanged, IsThere, IsDelta}
 use Rattle.reh_model.specs.Records.{due_gone}
 use Rattle.reh_model.proofs.LedgerLaws.{change_ledger-set, found_there, ledger_at-position}
-use Rattle.reh_model.proofs.PlaceLaws.{contains-with_member-here}
-use Rattle.reh_model.proofs.ListLaws.{set-read, change_at-then, change_at-here, change_at-front, slice_get-here, slice_get-front}
+use Rattle.reh_model.proofs.ListLaws.{set-read, change_at-then, change_at-here, change_at-front, slice_get-here, slice_get-front, slice_get-put}
 use Rattle.reh_model.proofs.AuditLaws.{audited_news, audited_same, news_differs}
-use Rattle.reh_model.proofs.AcceptedLaws.{IsRollable, IsFenceable, IsSealable, IsSwappable, accepted_lose, accepted_join, accepted_tick, accepted_free, accepted_owner, accepted_grace, accepted_roll, accepted_fence, accepted_seal}
-use Rattle.reh_model.proofs.WellFormedLaws.{IsLedgerOf, IsLedger-found, next_entry-within, swappable-found}
+use Rattle.reh_model.proofs.AcceptedLaws.{IsRollable, IsFenceable, IsSealable, IsSwappable, accepted_lose, accepted_join, accepted_tick, accepted_disable, accepted_enable, accepted_free, accepted_owner, accepted_grace, accepted_roll, accepted_fence, accepted_seal}
+use Rattle.reh_model.proofs.WellFormedLaws.{IsLedgerOf, IsLedger-found, next_entry-within, swappable-found, up_named}
 use Rattle.reh_model.proofs.EventLaws.{IsWellFormed-after}
 use Rattle.reh_model.proofs.ExchangeLaws.{Differs, delta_of_changes}
 
@@ -39,18 +38,20 @@ one_change s t c well there makes differs =
     (All-cons (Differs s.parts) c [] differs (All-nil (Differs s.parts)))
 
 -- a bookie that is lost
-pub lose_delta : (s : Cluster) (b : ℕ) → IsWellFormed s → refusal_of s (Lose b) ≡ None → IsDelta s (after s (Lose b)) (Registration b false ∷ [])
+pub lose_delta : (s : Cluster) (b : ℕ) → IsWellFormed s → refusal_of s (Lose b) ≡ None → IsDelta s (after s (Lose b)) (Registration b (Some s.parts.scalars.clock) ∷ [])
 lose_delta s b was none =
     let up : is_up s b ≡ true = accepted_lose s b none in
-    one_change s (after s (Lose b)) (Registration b false) (IsWellFormed-after s (Lose b) was none) (was.up b up) refl
-    (λ same. true≢false (sym up ∙ same ∙ contains-with_member-here s.parts.up b false))
+    let there : b < length s.parts.lost_at = omega (arith, up_named s b was up, was.registrations.each) in
+    one_change s (after s (Lose b)) (Registration b (Some s.parts.scalars.clock)) (IsWellFormed-after s (Lose b) was none) there refl
+    (λ same. true≢false (sym up ∙ ap (λ (o : Option (Option ℕ)). option_map_or is_none o false) (same ∙ slice_get-put (Some s.parts.scalars.clock) s.parts.lost_at b there)))
 
 -- a bookie that joins
-pub join_delta : (s : Cluster) (b : ℕ) → IsWellFormed s → refusal_of s (Join b) ≡ None → IsDelta s (after s (Join b)) (Registration b true ∷ [])
+pub join_delta : (s : Cluster) (b : ℕ) → IsWellFormed s → refusal_of s (Join b) ≡ None → IsDelta s (after s (Join b)) (Registration b None ∷ [])
 join_delta s b was none =
     let may : (b < length s.names) × (is_up s b ≡ false) = accepted_join s b none in
-    one_change s (after s (Join b)) (Registration b true) (IsWellFormed-after s (Join b) was none) may.0 refl
-    (λ same. true≢false (sym (contains-with_member-here s.parts.up b true) ∙ sym same ∙ may.1))
+    let there : b < length s.parts.lost_at = omega (arith, may.0, was.registrations.each) in
+    one_change s (after s (Join b)) (Registration b None) (IsWellFormed-after s (Join b) was none) there refl
+    (λ same. true≢false (sym (ap (λ (o : Option (Option ℕ)). option_map_or is_none o false) (same ∙ slice_get-put None s.parts.lost_at b there)) ∙ may.1))
 
 -- ticks
 pub tick_delta : (s : Cluster) (n : ℕ) → IsWellFormed s → refusal_of s (Tick n) ≡ None → IsDelta s (after s (Tick n)) (Scalar (Clock (s.parts.scalars.clock + n)) ∷ [])
@@ -60,6 +61,24 @@ tick_delta s n was none =
     let told : Clock s.parts.scalars.clock ≡ Clock (s.parts.scalars.clock + n) = same (Clock 0) refl in
     let stays : s.parts.scalars.clock ≡ s.parts.scalars.clock + n = cc in
     absurd (omega (arith, stays, (accepted_tick s n none).0)))
+
+-- AutoRecovery is disabled,
+pub disable_delta : (s : Cluster) → IsWellFormed s → refusal_of s Disable ≡ None → IsDelta s (after s Disable) (Scalar (Enabled false) ∷ [])
+disable_delta s was none =
+    one_change s (after s Disable) (Scalar (Enabled false)) (IsWellFormed-after s Disable was none) tt refl
+    (λ same.
+    let told : Enabled s.parts.scalars.enabled ≡ Enabled false = same (Enabled false) refl in
+    let stays : s.parts.scalars.enabled ≡ false = cc in
+    true≢false (sym (accepted_disable s none) ∙ stays))
+
+-- and enabled
+pub enable_delta : (s : Cluster) → IsWellFormed s → refusal_of s Enable ≡ None → IsDelta s (after s Enable) (Scalar (Enabled true) ∷ [])
+enable_delta s was none =
+    one_change s (after s Enable) (Scalar (Enabled true)) (IsWellFormed-after s Enable was none) tt refl
+    (λ same.
+    let told : Enabled s.parts.scalars.enabled ≡ Enabled true = same (Enabled true) refl in
+    let stays : s.parts.scalars.enabled ≡ true = cc in
+    true≢false (sym stays ∙ accepted_enable s none))
 
 -- One ledger
 

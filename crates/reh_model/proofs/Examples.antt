@@ -1,6 +1,5 @@
 -- Worked runs on two bookies and no ledger: the definitions, computed.
-use Rattle.std.specs.Prelude.{◌≡◌, refl, ℕ, List, [], ◌∷◌, length, codes}
-use Rattle.std.specs.List.{range_with_len}
+use Rattle.std.specs.Prelude.{◌≡◌, refl, ℕ, true, List, [], ◌∷◌, map, None, codes}
 use Rattle.reh_types.specs.declared.moves.Event.TheVariants.{Lose, Tick}
 use Rattle.reh_types.specs.declared.moves.Move.{Move}
 use Rattle.reh_types.specs.declared.moves.Move.TheVariants.{Do, Undo, Redo, Look}
@@ -11,9 +10,9 @@ use Rattle.reh_types.specs.Sets.{contains, insert, retain, remove, empty, from_l
 use Rattle.reh_model.specs.Cluster.{Cluster, cluster_of, with_clock}
 use Rattle.reh_model.specs.Session.{Session, opened_session, reply_to, session_after}
 
--- registered bookies of these names, with no ledgers and a grace of 3 ticks
+-- registered bookies of these names, with no ledgers, a grace of 3 ticks and no delay, and AutoRecovery enabled
 abbrev pub clear_cluster : List (List ℕ) → Cluster
-clear_cluster names = cluster_of names (from_list (range_with_len 0 (length names))) 3 [] empty
+clear_cluster names = cluster_of names (map (λ name. None) names) 3 0 true [] empty
 
 -- two registered bookies, and no ledger
 abbrev pub two_bookies : Cluster

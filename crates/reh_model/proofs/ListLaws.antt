@@ -1,8 +1,10 @@
 -- Lists with one element changed.
 use Rattle.std.proofs.Common.{◌≡◌, ◌≢◌, ◌<◌, ℕ, zero, suc, List, [], ◌∷◌, ◌++◌, length, get_or, set, refl, sym, ap, ◌∙◌, arith}
-use Rattle.std.specs.Prelude.{Some, slice_get}
+use Rattle.std.specs.Prelude.{Some, slice_get, All}
 use Rattle.std.specs.Option.{option_map}
-use Rattle.reh_model.specs.Places.{change_at, read_at}
+use Rattle.std.proofs.lemmas.List.Elements.{All-cons, All-head, All-tail}
+use Rattle.reh_model.specs.Cluster.{change_at}
+use Rattle.reh_model.specs.Places.{read_at}
 
 module _ {X : Type 0} where
   pub change_at-length : (xs : List X) (i : ℕ) (f : X → X) → length (change_at xs i f) ≡ length xs
@@ -121,3 +123,24 @@ module _ {X : Type 0} where
   slice_get-here f [] i = refl
   slice_get-here f (x ∷ xs) zero = refl
   slice_get-here f (x ∷ xs) (suc i) = slice_get-here f xs i
+
+  -- an element that is put there stands there,
+  pub slice_get-put : (c : X) (xs : List X) (i : ℕ) → i < length xs → slice_get (change_at xs i (λ _. c)) i ≡ Some c
+  slice_get-put c [] i within = absurd (omega (arith, within))
+  slice_get-put c (x ∷ xs) zero within = refl
+  slice_get-put c (x ∷ xs) (suc i) within = slice_get-put c xs i (omega (arith, within))
+
+  -- and leaves the others
+  pub slice_get-others : (f : X → X) (xs : List X) (i j : ℕ) → i ≢ j → slice_get (change_at xs i f) j ≡ slice_get xs j
+  slice_get-others f [] i j h = refl
+  slice_get-others f (x ∷ xs) zero zero h = absurd (h refl)
+  slice_get-others f (x ∷ xs) zero (suc j) h = refl
+  slice_get-others f (x ∷ xs) (suc i) zero h = refl
+  slice_get-others f (x ∷ xs) (suc i) (suc j) h = slice_get-others f xs i j (λ e. h (ap suc e))
+
+  -- what holds of all elements and of the one that is put there holds of all then
+  pub All-put : (P : X → Type 0) (c : X) → P c → (xs : List X) (i : ℕ) → All P xs → All P (change_at xs i (λ _. c))
+  All-put P c is [] i each = each
+  All-put P c is (x ∷ xs) zero each = All-cons P c xs is (All-tail P x xs each)
+  All-put P c is (x ∷ xs) (suc i) each =
+      All-cons P x (change_at xs i (λ _. c)) (All-head P x xs each) (All-put P c is xs i (All-tail P x xs each))

@@ -10,7 +10,7 @@ use Rattle.reh_types.specs.declared.names.LedgerState.TheVariants.{Open, Closed}
 use Rattle.reh_types.specs.declared.refusals.Refusal.TheVariants.{NoBookie, NoLedger, NotOwner, NothingToRedo, NoFragment, NoIndex, MemberUp, TargetDown, TargetIsMember, NoEndpoint, Stale, NoSource, MissingEntry, VersionEnd}
 use Rattle.reh_types.specs.Sets.{contains, insert, retain, remove, empty, from_list, union, items, is_subset, is_empty, len}
 use Rattle.reh_model.specs.Metadata.{Metadata}
-use Rattle.reh_model.specs.Cluster.{Cluster, Ledger, with_ledgers, with_held, with_up}
+use Rattle.reh_model.specs.Cluster.{Cluster, Ledger, with_ledgers, with_held, with_registration}
 use Rattle.reh_model.specs.Session.{Session, opened_session, state_of}
 use Rattle.reh_model.proofs.Examples.{clear_cluster, replies, played_session}
 use Rattle.reh_model.proofs.TaskExamples.{row}
@@ -182,7 +182,7 @@ metadata_after_swaps = refl
 
 -- a swap leaves who is registered, the contents, the tasks, the locks and the clock
 pub state_after_swap : state_after (1 ∷ []) 4 7 (both 4 7 1 2 4)
-    ≡ with_held (with_ledgers (with_up six_bookies (from_list (0 ∷ 2 ∷ 3 ∷ 4 ∷ 5 ∷ []))) (record {
+    ≡ with_held (with_ledgers (with_registration six_bookies 1 (Some 0)) (record {
       id = 7;
       metadata = swapped_metadata;
       words = 1;

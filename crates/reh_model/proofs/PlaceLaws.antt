@@ -1,25 +1,23 @@
 -- What two changes of a cluster's parts make of each other.
-use Rattle.std.proofs.Common.{◌≡◌, ◌≢◌, ◌<◌, ◌+◌, ◌*◌, ◌/◌, ◌%◌, ℕ, zero, suc, Bool, true, false, cond, ◌&&◌, ◌||◌, List, [], ◌∷◌, length, Option, Some, refl, sym, ap, subst, ◌∙◌, arith, inl, inr, nat_eq}
-use Rattle.std.specs.Prelude.{not, ◌==◌, ◌^◌, slice_get, slice_index}
+use Rattle.std.proofs.Common.{◌≡◌, ◌≢◌, ◌<◌, ◌+◌, ◌*◌, ◌/◌, ◌%◌, ℕ, zero, suc, Bool, true, false, cond, ◌&&◌, List, [], ◌∷◌, length, Option, Some, refl, sym, ap, subst, ◌∙◌, arith, inl, inr, nat_eq}
+use Rattle.std.specs.Prelude.{◌==◌, ◌^◌, slice_get, slice_index}
 use Rattle.std.specs.Option.{option_map, option_map_or}
 use Rattle.std.specs.Int.{bit_at}
 use Rattle.std.proofs.lemmas.Bool.{and_parts}
 use Rattle.std.proofs.lemmas.Bool.Decides.{nat_tests}
-use Rattle.std.specs.Cmp.{nat_cmp_total, eq_by_cmp_equiv, unsigned_tied}
 use Rattle.reh_types.specs.declared.locks.Lock as locks
 use Rattle.reh_types.specs.declared.changes.Change.TheVariants.{Registration, Metadata, Task, Lock, Word, Scalar}
 use Rattle.reh_types.specs.declared.scalars.Scalars.{Scalars}
 use Rattle.reh_types.specs.Scalars.{number_of, scalar_at}
 use Rattle.reh_types.proofs.ScalarLaws.{number_of-scalar_at, with_scalar-back, with_scalar-comm, scalar_at-here, scalar_at-apart}
-use Rattle.reh_types.specs.Sets as set
-use Rattle.reh_types.specs.Sets.{Set, numbers, contains-insert, contains-remove, same_set}
+use Rattle.reh_types.specs.Sets.{Set, numbers}
 use Rattle.reh_model.specs.Metadata as meta
 use Rattle.reh_model.specs.Contents.{Contents, has, is_in_word, one_of, turned}
-use Rattle.reh_model.specs.Cluster.{Parts, Ledger, ledger_among, words_among}
-use Rattle.reh_model.specs.Places.{Change, Place, at_registration, at_metadata, at_task, at_lock, at_word, at_scalar, place_of, order_of, IsLess, IsBefore, change_at, with_member, put, back, IsPlaced, SameAt}
+use Rattle.reh_model.specs.Cluster.{Parts, Ledger, change_at, register, ledger_among, words_among}
+use Rattle.reh_model.specs.Places.{Change, Place, at_registration, at_metadata, at_task, at_lock, at_word, at_scalar, place_of, order_of, IsLess, IsBefore, put, back, IsPlaced, SameAt}
 use Rattle.reh_model.proofs.LedgerLaws.{KeepsId, KeepsWords}
 use Rattle.reh_model.proofs.TurnedLaws.{one_of-false, has-turned, turned-twice, turned-comm, some_bit, same_turn}
-use Rattle.reh_model.proofs.ListLaws.{change_at-length, change_at-comm, change_at-apart, read_at-apart, read_at-part, slice_get-apart, slice_get-part, change_at-read, change_at-twice, read_at-put}
+use Rattle.reh_model.proofs.ListLaws.{change_at-length, change_at-comm, change_at-apart, read_at-apart, read_at-part, slice_get-apart, slice_get-part, change_at-read, change_at-twice, read_at-put, slice_get-put, slice_get-others}
 
 -- no list of numbers is less than itself
 not_less : (ms : List ℕ) → IsLess ms ms → ⊥
@@ -44,7 +42,12 @@ order_of-same (at_word b l k) (at_word c m n) h =
 order_of-same (at_scalar m) (at_scalar n) h = let same : m ≡ n = cc in ap at_scalar same
 order_of-same p q h = absurd (omega (arith, ap (λ (ns : List ℕ). slice_index ns 0) h))
 
--- a change keeps as many ledgers
+-- a change keeps as many registrations,
+pub put-registrations : (s : Parts) (c : Change) → length (put s c).lost_at ≡ length s.lost_at
+put-registrations s (Registration b lost) = change_at-length s.lost_at b _
+put-registrations s c = refl
+
+-- as many ledgers,
 pub put-count : (s : Parts) (c : Change) → length (put s c).ledgers ≡ length s.ledgers
 put-count s (Metadata i metadata) = change_at-length s.ledgers i _
 put-count s (Task i task) = change_at-length s.ledgers i _
@@ -74,7 +77,7 @@ words_among-put s c l = refl
 
 -- so the places stay that there are
 pub IsPlaced-put : (n : ℕ) (s : Parts) (c d : Change) → IsPlaced n s d → IsPlaced n (put s c) d
-IsPlaced-put n s c (Registration b up) h = h
+IsPlaced-put n s c (Registration b lost) h = subst (λ n. b < n) (sym (put-registrations s c)) h
 IsPlaced-put n s c (Metadata i metadata) h = subst (λ n. i < n) (sym (put-count s c)) h
 IsPlaced-put n s c (Task i task) h = subst (λ n. i < n) (sym (put-count s c)) h
 IsPlaced-put n s c (Lock i lock) h = subst (λ n. i < n) (sym (put-count s c)) h
@@ -83,7 +86,7 @@ IsPlaced-put n s c (Scalar scalar) h = h
 
 -- whether a change's place is there is no matter of its contents
 pub IsPlaced-back : (n : ℕ) (t s : Parts) (c : Change) → IsPlaced n t c → IsPlaced n t (back s c)
-IsPlaced-back n t s (Registration b up) h = h
+IsPlaced-back n t s (Registration b lost) h = h
 IsPlaced-back n t s (Metadata i metadata) h = h
 IsPlaced-back n t s (Task i task) h = h
 IsPlaced-back n t s (Lock i lock) h = h
@@ -92,69 +95,21 @@ IsPlaced-back n t s (Scalar scalar) h = h
 
 -- a change leaves its own place
 pub place_of-back : (s : Parts) (c : Change) → place_of (back s c) ≡ place_of c
-place_of-back s (Registration b up) = refl
+place_of-back s (Registration b lost) = refl
 place_of-back s (Metadata i metadata) = refl
 place_of-back s (Task i task) = refl
 place_of-back s (Lock i lock) = refl
 place_of-back s (Word b l k bits) = refl
 place_of-back s (Scalar scalar) = ap at_scalar (number_of-scalar_at s.scalars scalar)
 
--- Registrations
-
-remove_cond : (t c : Bool) → (not t && c) ≡ cond t false c
-remove_cond true c = refl
-remove_cond false c = refl
-
-insert_cond : (t c : Bool) → (t || c) ≡ cond t true c
-insert_cond true c = refl
-insert_cond false c = refl
-
-contains-with_member : (s : Set numbers) (b q : ℕ) (up : Bool) → set.contains (with_member s b up) q ≡ cond (nat_eq q b) up (set.contains s q)
-contains-with_member s b q true = contains-insert s b q ∙ insert_cond _ (set.contains s q) ∙ ap (λ t. cond t true (set.contains s q)) (unsigned_tied q b)
-contains-with_member s b q false =
-    contains-remove s b q ∙ remove_cond _ (set.contains s q)
-    ∙ ap (λ t. cond t false (set.contains s q)) ((eq_by_cmp_equiv nat_cmp_total).symm b q ∙ unsigned_tied q b)
-
-with_member-back : (s : Set numbers) (b : ℕ) (up : Bool) → with_member (with_member s b up) b (set.contains s b) ≡ s
-with_member-back s b up =
-    same_set _ _ (λ q. contains-with_member (with_member s b up) b q (set.contains s b) ∙ ap (λ c. cond (nat_eq q b) (set.contains s b) c) (contains-with_member s b q up) ∙ again q)
-  where
-    again : (q : ℕ) → cond (nat_eq q b) (set.contains s b) (cond (nat_eq q b) up (set.contains s q)) ≡ set.contains s q
-    again q = elim (nat_eq q b) as (λ t. nat_eq q b ≡ t → cond t (set.contains s b) (cond t up (set.contains s q)) ≡ set.contains s q) [
-      | true ↦ λ here. let same : b ≡ q = grind (arith, nat_tests, here) in ap (set.contains s) same
-      | false ↦ λ _. refl
-    ] refl
-
-with_member-comm : (s : Set numbers) (b d : ℕ) (up down : Bool) → b ≢ d → with_member (with_member s b up) d down ≡ with_member (with_member s d down) b up
-with_member-comm s b d up down apart =
-    same_set _ _ (λ q.
-    contains-with_member (with_member s b up) d q down ∙ ap (λ c. cond (nat_eq q d) down c) (contains-with_member s b q up)
-    ∙ either_first q
-    ∙ ap (λ c. cond (nat_eq q b) up c) (sym (contains-with_member s d q down)) ∙ sym (contains-with_member (with_member s d down) b q up))
-  where
-    either_first : (q : ℕ) → cond (nat_eq q d) down (cond (nat_eq q b) up (set.contains s q)) ≡ cond (nat_eq q b) up (cond (nat_eq q d) down (set.contains s q))
-    either_first q =
-        elim (nat_eq q d) as (λ t. nat_eq q d ≡ t → cond t down (cond (nat_eq q b) up (set.contains s q)) ≡ cond (nat_eq q b) up (cond t down (set.contains s q))) [
-          | true ↦ λ here. let other : nat_eq q b ≡ false = grind (arith, nat_tests, here, apart) in ap (λ t. cond t up down) (sym other)
-          | false ↦ λ _. refl
-        ] refl
-
--- the member is in the set as it was put
-pub contains-with_member-here : (s : Set numbers) (b : ℕ) (up : Bool) → set.contains (with_member s b up) b ≡ up
-contains-with_member-here s b up =
-    let here : nat_eq b b ≡ true = grind (arith, nat_tests) in
-    contains-with_member s b b up ∙ ap (λ t. cond t up (set.contains s b)) here
-
-contains-with_member-apart : (s : Set numbers) (b d : ℕ) (up : Bool) → b ≢ d → set.contains (with_member s b up) d ≡ set.contains s d
-contains-with_member-apart s b d up apart =
-    let other : nat_eq d b ≡ false = grind (arith, nat_tests, apart) in
-    contains-with_member s b d up ∙ ap (λ t. cond t up (set.contains s d)) other
-
 -- Two changes
 
 -- what a change leaves takes it back
 pub put-back : (s : Parts) (c : Change) → put (put s c) (back s c) ≡ s
-put-back s (Registration b up) = ap (λ (u : Set numbers). record s { up = u }) (with_member-back s.up b up)
+put-back s (Registration b lost) =
+    ap (λ (ls : List (Option ℕ)). record s { lost_at = ls })
+    (change_at-twice (λ (l : Option ℕ). l) (λ (l _ : Option ℕ). l) (λ l o k. refl) _ lost s.lost_at b
+    ∙ change_at-read (λ (l : Option ℕ). l) (λ (l _ : Option ℕ). l) (λ l. refl) s.lost_at b lost)
 put-back s (Metadata i metadata) =
     ap (λ (gs : List Ledger). record s { ledgers = gs })
     (change_at-twice (λ (g : Ledger). g.metadata) (λ (m : meta.Metadata) (g : Ledger). record g { metadata = m }) (λ m n g. refl) _ metadata s.ledgers i
@@ -172,7 +127,7 @@ put-back s (Scalar scalar) = ap (λ (v : Scalars). record s { scalars = v }) (wi
 
 -- and then leaves the change again
 pub back-back : (s : Parts) (c : Change) → back (put s c) (back s c) ≡ c
-back-back s (Registration b up) = ap (Registration b) (contains-with_member-here s.up b up)
+back-back s (Registration b lost) = ap (Registration b) (read_at-put (λ (l : Option ℕ). l) (λ (l _ : Option ℕ). l) (λ l k. refl) lost s.lost_at b)
 back-back s (Metadata i metadata) =
     ap (Metadata i) (read_at-put (λ (g : Ledger). g.metadata) (λ (m : meta.Metadata) (g : Ledger). record g { metadata = m }) (λ m g. refl) metadata s.ledgers i)
 back-back s (Task i task) = ap (Task i) (read_at-put (λ (g : Ledger). g.task) (λ (t : Option (Set numbers)) (g : Ledger). record g { task = t }) (λ t g. refl) task s.ledgers i)
@@ -182,7 +137,7 @@ back-back s (Scalar scalar) = ap Scalar (scalar_at-here s.scalars scalar (scalar
 
 -- changes of different places commute
 pub put-comm : (s : Parts) (c d : Change) → place_of c ≢ place_of d → put (put s c) d ≡ put (put s d) c
-put-comm s (Registration b up) (Registration d down) h = ap (λ (u : Set numbers). record s { up = u }) (with_member-comm s.up b d up down (λ e. h (ap at_registration e)))
+put-comm s (Registration b lost) (Registration d other) h = ap (λ (ls : List (Option ℕ)). record s { lost_at = ls }) (change_at-apart _ _ s.lost_at b d (λ e. h (ap at_registration e)))
 put-comm s (Metadata i m) (Metadata j n) h = ap (λ (gs : List Ledger). record s { ledgers = gs }) (change_at-apart _ _ s.ledgers i j (λ e. h (ap at_metadata e)))
 put-comm s (Metadata i m) (Task j t) h = ap (λ (gs : List Ledger). record s { ledgers = gs }) (change_at-comm _ _ (λ g. refl) s.ledgers i j)
 put-comm s (Metadata i m) (Lock j k) h = ap (λ (gs : List Ledger). record s { ledgers = gs }) (change_at-comm _ _ (λ g. refl) s.ledgers i j)
@@ -198,7 +153,7 @@ put-comm s c d h = refl
 
 -- a change leaves what another one leaves
 pub back-put : (s : Parts) (c d : Change) → place_of c ≢ place_of d → back (put s c) d ≡ back s d
-back-put s (Registration b up) (Registration d down) h = ap (Registration d) (contains-with_member-apart s.up b d up (λ e. h (ap at_registration e)))
+back-put s (Registration b lost) (Registration d other) h = ap (Registration d) (read_at-apart (λ (l : Option ℕ). l) _ s.lost_at b d other (λ e. h (ap at_registration e)))
 back-put s (Metadata i m) (Metadata j n) h = ap (Metadata j) (read_at-apart (λ (g : Ledger). g.metadata) _ s.ledgers i j n (λ e. h (ap at_metadata e)))
 back-put s (Task i t) (Task j u) h = ap (Task j) (read_at-apart (λ (g : Ledger). g.task) _ s.ledgers i j u (λ e. h (ap at_task e)))
 back-put s (Lock i k) (Lock j o) h = ap (Lock j) (read_at-apart (λ (g : Ledger). g.lock) _ s.ledgers i j o (λ e. h (ap at_lock e)))
@@ -257,7 +212,7 @@ turned-apart s b l k bits c m n e apart within =
 
 -- a change leaves what stands at other places
 pub SameAt-put : (s : Parts) (c : Change) (p : Place) → place_of c ≢ p → SameAt s (put s c) p
-SameAt-put s (Registration b up) (at_registration d) h = sym (contains-with_member-apart s.up b d up (λ e. h (ap at_registration e)))
+SameAt-put s (Registration b lost) (at_registration d) h = sym (slice_get-others _ s.lost_at b d (λ e. h (ap at_registration e)))
 SameAt-put s (Metadata i m) (at_metadata j) h = sym (slice_get-apart (λ (g : Ledger). g.metadata) _ s.ledgers i j (λ e. h (ap at_metadata e)))
 SameAt-put s (Task i t) (at_task j) h = sym (slice_get-apart (λ (g : Ledger). g.task) _ s.ledgers i j (λ e. h (ap at_task e)))
 SameAt-put s (Lock i k) (at_lock j) h = sym (slice_get-apart (λ (g : Ledger). g.lock) _ s.ledgers i j (λ e. h (ap at_lock e)))
@@ -309,9 +264,10 @@ pub same_change : (n : ℕ) (p : Parts) (c d : Change) → place_of c ≡ place_
     → SameAt (put p c) (put p d) (place_of c) → c ≡ d
 same_change n p (Registration b x) (Registration d y) at here there same =
     let bookie : b ≡ d = cc in
-    let told : x ≡ y =
-    sym (contains-with_member-here p.up b x) ∙ same ∙ ap (λ k. set.contains (with_member p.up d y) k) bookie
-    ∙ contains-with_member-here p.up d y in
+    let parts : ◌≡◌ {A = Option (Option ℕ)} (Some x) (Some y) =
+    sym (slice_get-put x p.lost_at b here) ∙ same ∙ ap (λ k. slice_get (register p.lost_at d y) k) bookie
+    ∙ slice_get-put y p.lost_at d there in
+    let told : x ≡ y = cc in
     λ i. Registration (bookie i) (told i)
 same_change n p (Metadata i x) (Metadata j y) at here there same =
     let place : i ≡ j = cc in

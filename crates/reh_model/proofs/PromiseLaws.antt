@@ -13,7 +13,7 @@ use Rattle.reh_model.specs.Striping.{striped_entries}
 use Rattle.reh_model.specs.Contents.{Contents, has}
 use Rattle.reh_model.specs.Metadata.{Metadata, Fragment, end_of_state, stop_of, stripe_of, is_open, with_member, with_member_at, with_fragment_at, with_state, next_version}
 use Rattle.reh_model.specs.Cluster.{Cluster, Ledger, holds, is_locked_by, ledger_at, change_ledger, stop_at, stripe_at, with_ledgers}
-use Rattle.reh_model.specs.Audit.{missing_members, published_members, audited_ledger}
+use Rattle.reh_model.specs.Audit.{long_lost_members, published_members, audited_ledger}
 use Rattle.reh_model.specs.Recovery.{next_entry, is_rolling_over}
 use Rattle.reh_model.specs.Step.{unlocked_ledger, expired_ledger, with_due, rolled_ledger}
 use Rattle.reh_model.proofs.LedgerLaws.{KeepsId, changed_ledger, KeepsId-changed_ledger, find-map, id_found}
@@ -70,7 +70,7 @@ KeepsStripes-apart g h same = record {
 }
 
 pub metadata-audited_ledger : (s : Cluster) (g : Ledger) → (audited_ledger s g).metadata ≡ g.metadata
-metadata-audited_ledger s g = elim (is_empty (missing_members s g)) as (λ b. (if b then g else record g { task = Some (published_members s g) }).metadata ≡ g.metadata) [ true ↦ refl | false ↦ refl ]
+metadata-audited_ledger s g = elim (is_empty (long_lost_members s g)) as (λ b. (if b then g else record g { task = Some (published_members s g) }).metadata ≡ g.metadata) [ true ↦ refl | false ↦ refl ]
 
 pub metadata-expired_ledger : (w : ℕ) (g : Ledger) → (expired_ledger w g).metadata ≡ g.metadata
 metadata-expired_ledger w g = elim (is_locked_by w g) as (λ b. (if b then unlocked_ledger g else g).metadata ≡ g.metadata) [ true ↦ refl | false ↦ refl ]

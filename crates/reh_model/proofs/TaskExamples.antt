@@ -1,13 +1,14 @@
 -- Worked runs of the auditor, tasks and locks, on five bookies, a closed and an open ledger.
-use Rattle.std.specs.Prelude.{◌≡◌, refl, ℕ, List, [], ◌∷◌, ◌++◌, codes, map, Option, None, Some}
+use Rattle.std.specs.Prelude.{◌≡◌, refl, ℕ, true, List, [], ◌∷◌, ◌++◌, codes, map, Option, None, Some}
 use Rattle.std.specs.Option.{option_map}
 use Rattle.reh_types.specs.declared.moves.Event.{Event}
-use Rattle.reh_types.specs.declared.moves.Event.TheVariants.{Lose, Join, Audit, Acquire, Release, Finish, Expire}
-use Rattle.reh_types.specs.declared.moves.Move.TheVariants.{Do}
+use Rattle.reh_types.specs.declared.moves.Event.TheVariants.{Lose, Join, Audit, Acquire, Release, Finish, Expire, Tick, Copy, Swap, Disable, Enable}
+use Rattle.reh_types.specs.declared.moves.Move.{Move}
+use Rattle.reh_types.specs.declared.moves.Move.TheVariants.{Do, Undo}
 use Rattle.reh_types.specs.declared.moves.Reply.{Reply}
 use Rattle.reh_types.specs.declared.moves.Reply.TheVariants.{Done, Refused}
 use Rattle.reh_types.specs.declared.names.LedgerState.TheVariants.{Open, Closed}
-use Rattle.reh_types.specs.declared.refusals.Refusal.TheVariants.{NoBookie, NoLedger, NothingToPublish, NoTask, Locked, NotOwner, StillUnder, NoLocks}
+use Rattle.reh_types.specs.declared.refusals.Refusal.TheVariants.{NoBookie, NoLedger, NothingToPublish, NoTask, Locked, NotOwner, StillUnder, NoLocks, Disabled, AlreadyDisabled, AlreadyEnabled}
 use Rattle.reh_types.specs.Sets.{contains, insert, retain, remove, empty, from_list, union, items, is_subset, is_empty, len}
 use Rattle.reh_model.specs.Metadata.{Fragment}
 use Rattle.reh_model.specs.Cluster.{Cluster, Ledger, with_held, with_ledgers}
@@ -87,3 +88,72 @@ pub workers_before_ledgers : answers (Acquire 5 8 ∷ Acquire 4 8 ∷ Acquire 4 
     ≡ Refused NoBookie ∷ Refused NoLedger ∷ Refused NoTask ∷ Refused NoBookie ∷ Refused NoLedger ∷ Refused NoBookie ∷ Refused NothingToPublish ∷ []
 unfolding contains insert retain remove empty from_list union items is_subset is_empty len
 workers_before_ledgers = refl
+
+-- The delay for lost bookies
+
+-- five bookies, where an audit waits for two ticks after a loss
+abbrev pub patient : Cluster
+patient = record five_bookies { delay = 2 }
+
+-- the second bookie is lost, and a tick later the third; the second joins again before the delay of the third is over
+abbrev losses_in_turn : List Event
+losses_in_turn = Lose 1 ∷ Audit ∷ Tick 1 ∷ Lose 2 ∷ Tick 1 ∷ Audit ∷ Join 1 ∷ Audit ∷ Tick 1 ∷ Audit ∷ []
+
+-- an audit waits for each bookie by itself
+pub audits_wait : replies (opened_session patient) (map Do losses_in_turn)
+    ≡ Done ∷ Refused NothingToPublish ∷ Done ∷ Done ∷ Done ∷ Done ∷ Done ∷ Refused NothingToPublish ∷ Done ∷ Done ∷ []
+unfolding contains insert retain remove empty from_list union items is_subset is_empty len
+audits_wait = refl
+
+-- the tasks and the registrations after moves
+abbrev tasks_of : Cluster → List (Option (List ℕ))
+tasks_of s = map (λ g. option_map items g.task) s.parts.ledgers
+
+abbrev patient_after : List Move → Cluster
+patient_after moves = state_of (played_session (opened_session patient) moves)
+
+-- the first audit that publishes something publishes the bookie that is lost long enough, and not the other one
+pub long_lost_alone : tasks_of (patient_after (map Do (Lose 1 ∷ Tick 1 ∷ Lose 2 ∷ Tick 1 ∷ Audit ∷ []))) ≡ Some (1 ∷ []) ∷ Some (1 ∷ []) ∷ []
+unfolding contains insert retain remove empty from_list union items is_subset is_empty len
+long_lost_alone = refl
+
+-- the last one the other one, too
+pub both_in_the_end : tasks_of (patient_after (map Do losses_in_turn)) ≡ Some (1 ∷ 2 ∷ []) ∷ Some (1 ∷ 2 ∷ []) ∷ []
+unfolding contains insert retain remove empty from_list union items is_subset is_empty len
+both_in_the_end = refl
+
+-- an undo of the join brings back the tick of the loss
+pub loss_comes_back : (patient_after (map Do losses_in_turn ++ Undo ∷ Undo ∷ Undo ∷ [])).parts.lost_at ≡ None ∷ Some 0 ∷ Some 1 ∷ None ∷ None ∷ []
+unfolding contains insert retain remove empty from_list union items is_subset is_empty len
+loss_comes_back = refl
+
+-- AutoRecovery disabled and enabled
+
+-- AutoRecovery is disabled while a worker has its task: it goes on, copies and swaps, and ends the task
+abbrev maintenance : List Event
+maintenance = Enable ∷ Lose 1 ∷ Audit ∷ Acquire 3 7 ∷ Disable ∷ Disable ∷ Audit ∷ Acquire 4 9 ∷ Copy 3 7 0 1 0 ∷ Swap 3 7 0 1 0 ∷ Finish 3 7 ∷ []
+
+-- what a worker holds is its own, and nothing new is published or locked
+pub held_locks_go_on : answers maintenance
+    ≡ Refused AlreadyEnabled ∷ Done ∷ Done ∷ Done ∷ Done ∷ Refused AlreadyDisabled ∷ Refused Disabled ∷ Refused Disabled ∷ Done ∷ Done ∷ Done ∷ []
+unfolding contains insert retain remove empty from_list union items is_subset is_empty len
+held_locks_go_on = refl
+
+-- it goes before all that refuses an audit or a lock
+pub disabled_goes_first : answers (Disable ∷ Audit ∷ Acquire 5 8 ∷ Enable ∷ Audit ∷ Acquire 5 8 ∷ [])
+    ≡ Done ∷ Refused Disabled ∷ Refused Disabled ∷ Done ∷ Refused NothingToPublish ∷ Refused NoBookie ∷ []
+unfolding contains insert retain remove empty from_list union items is_subset is_empty len
+disabled_goes_first = refl
+
+-- the state behind the maintenance and its four newest events undone, when another worker has locked the other ledger's task
+abbrev undone_maintenance : Cluster
+undone_maintenance = state_of (played_session (opened_session five_bookies) (map Do maintenance ++ Undo ∷ Undo ∷ Undo ∷ Undo ∷ Do (Acquire 4 9) ∷ []))
+
+-- it is enabled again, and both tasks are locked
+pub enabled_by_undo : undone_maintenance.parts.scalars.enabled ≡ true
+unfolding contains insert retain remove empty from_list union items is_subset is_empty len
+enabled_by_undo = refl
+
+pub locked_after_undo : map (λ g. option_map (λ lock. lock.owner) g.lock) undone_maintenance.parts.ledgers ≡ Some 3 ∷ Some 4 ∷ []
+unfolding contains insert retain remove empty from_list union items is_subset is_empty len
+locked_after_undo = refl

@@ -1,28 +1,27 @@
 -- What changes of a cluster keep it well-formed, and that a ledger that is found in one keeps its rules.
 use Rattle.std.proofs.Common.{◌≡◌, ℕ, Bool, true, false, cond, not, ◌&&◌, ◌||◌, ◌+◌, ◌-◌, ◌*◌, ◌<◌, ◌≤◌, List, [], ◌∷◌, map, length, get_or, set, Option, None, Some, IsSome, refl, sym, ap, ◌∙◌, subst, arith, nat_eq}
-use Rattle.std.specs.Prelude.{◌==◌, if◌then◌else◌, slice_get, max, unwrap_or, IsTrue, All}
+use Rattle.std.specs.Prelude.{is_none, ◌==◌, if◌then◌else◌, slice_get, max, unwrap_or, IsTrue, All}
 use Rattle.std.specs.List.{IsDistinct, find, list_any}
 use Rattle.std.specs.Option.{ForSome, option_map, option_map_or, option_and_then}
-use Rattle.std.specs.Ordering.{nat_cmp, eq_by_cmp}
-use Rattle.std.specs.Cmp.{unsigned_tied}
 use Rattle.std.proofs.lemmas.Bool.Decides.{nat_tests}
 use Rattle.std.proofs.lemmas.List.{length-map}
 use Rattle.std.proofs.lemmas.List.Elements.{All-append, All-cons, All-head, All-map, All-nil, All-set, All-tail, All-weaker}
-use Rattle.std.proofs.lemmas.Option.{slice_get-get_or, get_or_from_slice_get, unwrap_or-slice_get}
+use Rattle.std.proofs.lemmas.Option.{slice_get-get_or, slice_get_within, get_or_from_slice_get, unwrap_or-slice_get}
 use Rattle.reh_types.specs.declared.limits.TheConstants.{CLOCK_END, ENTRIES_IN_WORD, ENTRY_END, MAX_VERSION, MAX_WORDS}
 use Rattle.reh_types.specs.declared.locks.Lock.{Lock}
 use Rattle.reh_types.specs.declared.moves.Event.TheVariants.{Swap}
 use Rattle.reh_types.specs.declared.names.LedgerState.{LedgerState}
 use Rattle.reh_types.specs.declared.names.LedgerState.TheVariants.{Open, InRecovery, Closed}
-use Rattle.reh_types.specs.Sets.{Set, numbers, contains, insert, remove, union, is_empty, len, items, contains-insert, contains-remove, contains-union}
+use Rattle.reh_types.specs.Sets.{Set, numbers, contains, union, is_empty, len, items, contains-union}
 use Rattle.reh_types.proofs.SetLaws.{All-items}
 use Rattle.reh_model.specs.Contents.{Contents, IsHeld, has, copies_of, greatest_held}
 use Rattle.reh_model.specs.Metadata.{Metadata, Fragment, IsMetadata, is_open, is_in_recovery, end_of_state, last_fragment, with_member, with_member_at, with_fragment_at, with_state, next_version}
-use Rattle.reh_model.specs.Cluster.{Cluster, Ledger, ledger_at, change_ledger, is_locked_by, due_of, with_clock, with_held, with_ledgers, with_up}
-use Rattle.reh_model.specs.Audit.{missing_members, published_members, audited_ledger}
+use Rattle.reh_model.specs.Cluster.{Cluster, Ledger, ledger_at, change_ledger, is_locked_by, due_of, with_clock, with_enabled, with_held, with_ledgers, with_registration, is_up}
+use Rattle.reh_model.specs.Audit.{long_lost_members, published_members, audited_ledger}
 use Rattle.reh_model.specs.Recovery.{next_entry, is_rolling_over, recovered_end}
 use Rattle.reh_model.specs.Step.{refusal_of, locked_ledger, unlocked_ledger, finished_ledger, expired_ledger, timed_lock, with_due, rolled_ledger, fenced_ledger, sealed_ledger, swapped_ledger}
 use Rattle.reh_model.specs.WellFormed.{IsLedger, IsCopy, IsWellFormed}
+use Rattle.reh_model.proofs.ListLaws.{change_at-length, All-put}
 use Rattle.reh_model.proofs.LedgerLaws.{KeepsId, KeepsWords, changed_ledger, KeepsId-changed_ledger, KeepsWords-changed_ledger, ids-map, sum_by-words, words_among-map, is_found-map, found_itself}
 use Rattle.reh_model.proofs.ContentsLaws.{All-copy, has-copies_of, greatest_held-held}
 use Rattle.reh_model.proofs.RecoveryLaws.{first_before_next, next_entry-unreadable, first_before_end, recovered_end-least}
@@ -36,6 +35,13 @@ use Rattle.reh_model.proofs.AcceptedLaws.{IsRollable, IsSwappable, accepted_swap
 -- a ledger of the cluster
 abbrev pub IsLedgerOf : Cluster → Ledger → Type 0
 IsLedgerOf s g = IsLedger (length s.names) (s.parts.scalars.clock + s.grace) g
+
+-- A registered bookie has a name.
+pub up_named : (s : Cluster) (b : ℕ) → IsWellFormed s → is_up s b ≡ true → b < length s.names
+up_named s b was = there (slice_get s.parts.lost_at b) refl where
+  there : (o : Option (Option ℕ)) → slice_get s.parts.lost_at b ≡ o → option_map_or is_none o false ≡ true → b < length s.names
+  there None is up = cc
+  there (Some lost) is up = omega (arith, slice_get_within s.parts.lost_at b lost is, was.registrations.each)
 
 -- A ledger that is found is one of the cluster.
 pub IsLedger-found : (s : Cluster) (l : ℕ) (g : Ledger) → IsWellFormed s → ledger_at s l ≡ Some g → IsLedgerOf s g
@@ -76,9 +82,20 @@ recovered_end-within s l g was found =
 
 -- Changes
 
--- other bookies are registered
-pub IsWellFormed-up : (s : Cluster) (up : Set numbers) → IsWellFormed s → ((b : ℕ) → contains up b ≡ true → b < length s.names) → IsWellFormed (with_up s up)
-IsWellFormed-up s up was named = record { names = was.names; grace = was.grace; clock = was.clock; up = named; ledgers = was.ledgers; contents = was.contents }
+-- a bookie is registered, or lost at a tick that was
+pub IsWellFormed-registration : (s : Cluster) (b : ℕ) (lost : Option ℕ) → IsWellFormed s → ForSome lost (λ tick. tick ≤ s.parts.scalars.clock) → IsWellFormed (with_registration s b lost)
+IsWellFormed-registration s b lost was past = record {
+  names = was.names;
+  grace = was.grace;
+  delay = was.delay;
+  clock = was.clock;
+  registrations = record {
+    each = change_at-length s.parts.lost_at b _ ∙ was.registrations.each;
+    ticks = All-put (λ lost. ForSome lost (λ tick. tick ≤ s.parts.scalars.clock)) lost past s.parts.lost_at b was.registrations.ticks;
+  };
+  ledgers = was.ledgers;
+  contents = was.contents;
+}
 
 -- later due ticks can stand
 IsLedger-later : (bookies latest later : ℕ) (g : Ledger) → latest ≤ later → IsLedger bookies latest g → IsLedger bookies later g
@@ -97,8 +114,12 @@ pub IsWellFormed-clock : (s : Cluster) (clock : ℕ) → IsWellFormed s → s.pa
 IsWellFormed-clock s clock was later in_time = record {
   names = was.names;
   grace = was.grace;
+  delay = was.delay;
   clock = in_time;
-  up = was.up;
+  registrations = record {
+    each = was.registrations.each;
+    ticks = λ k lost k_in tick is. let past = was.registrations.ticks k lost k_in tick is in omega (arith, past, later);
+  };
   ledgers = record {
     few = was.ledgers.few;
     different = was.ledgers.different;
@@ -107,13 +128,26 @@ IsWellFormed-clock s clock was later in_time = record {
   contents = was.contents;
 }
 
+-- AutoRecovery is disabled or enabled
+pub IsWellFormed-enabled : (s : Cluster) (enabled : Bool) → IsWellFormed s → IsWellFormed (with_enabled s enabled)
+IsWellFormed-enabled s enabled was = record {
+  names = was.names;
+  grace = was.grace;
+  delay = was.delay;
+  clock = was.clock;
+  registrations = was.registrations;
+  ledgers = was.ledgers;
+  contents = was.contents;
+}
+
 -- ledgers are changed, and keep their ids and their words
 pub IsWellFormed-ledgers : (s : Cluster) (change : Ledger → Ledger) → IsWellFormed s → KeepsId change → KeepsWords change → ((g : Ledger) → ledger_at s g.id ≡ Some g → IsLedgerOf s g → IsLedgerOf s (change g)) → IsWellFormed (with_ledgers s (map change s.parts.ledgers))
 IsWellFormed-ledgers s change was keeps as_many each = record {
   names = was.names;
   grace = was.grace;
+  delay = was.delay;
   clock = was.clock;
-  up = was.up;
+  registrations = was.registrations;
   ledgers = record {
     few = omega (arith, length-map s.parts.ledgers change, was.ledgers.few);
     different = subst (λ (ids : List ℕ). IsDistinct nat_eq ids) (sym (ids-map change keeps s.parts.ledgers)) was.ledgers.different;
@@ -158,8 +192,9 @@ IsWellFormed-united s more was each =
     record {
       names = was.names;
       grace = was.grace;
+      delay = was.delay;
       clock = was.clock;
-      up = was.up;
+      registrations = was.registrations;
       ledgers = was.ledgers;
       contents = record {
         copies = All-items can_be (union s.parts.held more) (λ q one.
@@ -353,14 +388,14 @@ IsLedger-sealed_ledger s g recovering version within was =
 
 -- with the missing members in its task
 pub KeepsId-audited_ledger : (s : Cluster) → KeepsId (audited_ledger s)
-KeepsId-audited_ledger s g = elim (is_empty (missing_members s g)) as (λ b. (if b then g else record g { task = Some (published_members s g) }).id ≡ g.id) [ true ↦ refl | false ↦ refl ]
+KeepsId-audited_ledger s g = elim (is_empty (long_lost_members s g)) as (λ b. (if b then g else record g { task = Some (published_members s g) }).id ≡ g.id) [ true ↦ refl | false ↦ refl ]
 
 pub KeepsWords-audited_ledger : (s : Cluster) → KeepsWords (audited_ledger s)
-KeepsWords-audited_ledger s g = elim (is_empty (missing_members s g)) as (λ b. (if b then g else record g { task = Some (published_members s g) }).words ≡ g.words) [ true ↦ refl | false ↦ refl ]
+KeepsWords-audited_ledger s g = elim (is_empty (long_lost_members s g)) as (λ b. (if b then g else record g { task = Some (published_members s g) }).words ≡ g.words) [ true ↦ refl | false ↦ refl ]
 
 pub IsLedger-audited_ledger : (s : Cluster) (g : Ledger) → IsLedgerOf s g → IsLedgerOf s (audited_ledger s g)
 IsLedger-audited_ledger s g was =
-    elim (is_empty (missing_members s g)) as (λ b. is_empty (missing_members s g) ≡ b → IsLedgerOf s (if b then g else record g { task = Some (published_members s g) })) [
+    elim (is_empty (long_lost_members s g)) as (λ b. is_empty (long_lost_members s g) ≡ b → IsLedgerOf s (if b then g else record g { task = Some (published_members s g) })) [
       | true ↦ λ _. was
       | false ↦ λ some. record {
         id = was.id;
@@ -372,22 +407,6 @@ IsLedger-audited_ledger s g was =
         due = was.due;
       }
     ] refl
-
--- Bookies that have names
-
-and_second : (a b : Bool) → (a && b) ≡ true → b ≡ true
-and_second true b is = is
-and_second false b is = cc
-
-pub named-insert : (up : Set numbers) (k n : ℕ) → k < n → ((b : ℕ) → contains up b ≡ true → b < n) → (b : ℕ) → contains (insert up k) b ≡ true → b < n
-named-insert up k n within named b is =
-    either (eq_by_cmp nat_cmp b k) (contains up b) (b < n)
-    (λ tied. let same : b ≡ k = grind (arith, nat_tests, unsigned_tied b k, tied) in omega arith)
-    (named b)
-    (sym (contains-insert up k b) ∙ is)
-
-pub named-remove : (up : Set numbers) (k n : ℕ) → ((b : ℕ) → contains up b ≡ true → b < n) → (b : ℕ) → contains (remove up k) b ≡ true → b < n
-named-remove up k n named b is = named b (and_second (not (eq_by_cmp nat_cmp k b)) (contains up b) (sym (contains-remove up k b) ∙ is))
 
 -- An accepted swap of a ledger that is found.
 pub swappable-found : (s : Cluster) (w l f i v : ℕ) (g : Ledger) → IsWellFormed s → ledger_at s l ≡ Some g → refusal_of s (Swap w l f i v) ≡ None → IsSwappable s g w f i

@@ -1,5 +1,7 @@
--- The cluster: who is registered, the ledgers, which entries each bookie holds, tasks, locks and the clock.
-use Rattle.std.specs.Prelude.{ℕ, Bool, false, ◌&&◌, ◌==◌, if◌then◌else◌, List, [], map, Option, unwrap_or, position}
+-- The cluster: who is registered, the ledgers, which entries each bookie holds, tasks, locks, the clock, and whether
+-- AutoRecovery is enabled.
+use Rattle.std.specs.Prelude.{ℕ, zero, suc, Bool, false, ◌&&◌, ◌==◌, if◌then◌else◌, List, [], ◌∷◌, map, Option}
+use Rattle.std.specs.Prelude.{is_none, unwrap_or, position, slice_get}
 use Rattle.std.specs.List.{find, list_any}
 use Rattle.std.specs.Option.{option_and_then, option_map_or}
 use Rattle.std.specs.Str.{bytes_eq}
@@ -22,8 +24,9 @@ pub record Ledger : Type 0 where
 
 -- what events change; ledgers go by their ids, in the picture's order
 pub record Parts : Type 0 where
-  -- the registered bookies
-  pub up : Set numbers
+  -- the bookies' registrations, in the order of their names: the tick at which one was lost, none while it is
+  -- registered
+  pub lost_at : List (Option ℕ)
   pub ledgers : List Ledger
   -- what the bookies hold, registered or not
   pub held : Contents
@@ -33,19 +36,34 @@ pub record Parts : Type 0 where
 pub record Cluster : Type 0 where
   pub names : List (List ℕ)
   pub grace : ℕ
+  -- for how many ticks after a loss an audit waits
+  pub delay : ℕ
   pub parts : Parts
 
--- a cluster as its rehearsal begins
-abbrev pub cluster_of : List (List ℕ) → Set numbers → ℕ → List Ledger → Contents → Cluster
-cluster_of names up grace ledgers held = record {
+-- a cluster as its rehearsal begins, with AutoRecovery enabled or not
+abbrev pub cluster_of : List (List ℕ) → List (Option ℕ) → ℕ → ℕ → Bool → List Ledger → Contents → Cluster
+cluster_of names lost_at grace delay enabled ledgers held = record {
   names = names;
   grace = grace;
-  parts = record { up = up; ledgers = ledgers; held = held; scalars = first_scalars };
+  delay = delay;
+  parts = record { lost_at = lost_at; ledgers = ledgers; held = held; scalars = first_scalars enabled };
 }
 
+-- the list with its element at that place changed, if there is one
+abbrev pub change_at : {X : Type 0} → List X → ℕ → (X → X) → List X
+change_at [] i f = []
+change_at (x ∷ xs) zero f = f x ∷ xs
+change_at (x ∷ xs) (suc i) f = x ∷ change_at xs i f
+
+-- the registrations with that bookie's
+abbrev pub register : List (Option ℕ) → ℕ → Option ℕ → List (Option ℕ)
+register lost_at bookie lost = change_at lost_at bookie (λ _. lost)
+
 -- the cluster with one part changed
-abbrev pub with_up : Cluster → Set numbers → Cluster
-with_up s up = record s { parts = record s.parts { up = up } }
+abbrev pub with_registration : Cluster → ℕ → Option ℕ → Cluster
+with_registration s bookie lost = record s {
+  parts = record s.parts { lost_at = register s.parts.lost_at bookie lost };
+}
 
 abbrev pub with_ledgers : Cluster → List Ledger → Cluster
 with_ledgers s ledgers = record s { parts = record s.parts { ledgers = ledgers } }
@@ -56,9 +74,17 @@ with_held s held = record s { parts = record s.parts { held = held } }
 abbrev pub with_clock : Cluster → ℕ → Cluster
 with_clock s clock = record s { parts = record s.parts { scalars = record s.parts.scalars { clock = clock } } }
 
+abbrev pub with_enabled : Cluster → Bool → Cluster
+with_enabled s enabled =
+    record s { parts = record s.parts { scalars = record s.parts.scalars { enabled = enabled } } }
+
 -- whether the bookie is registered
 abbrev pub is_up : Cluster → ℕ → Bool
-is_up s bookie = set.contains s.parts.up bookie
+is_up s bookie = option_map_or is_none (slice_get s.parts.lost_at bookie) false
+
+-- the tick at which the bookie was lost, if it is not registered
+abbrev pub lost_tick : Cluster → ℕ → Option ℕ
+lost_tick s bookie = option_and_then (λ lost. lost) (slice_get s.parts.lost_at bookie)
 
 -- the bookie of that name
 abbrev pub bookie_named : List (List ℕ) → List ℕ → Option ℕ

@@ -1,16 +1,14 @@
 -- The places of a cluster's parts; records of changes, and what exchanging a record makes of the parts and of it.
-use Rattle.std.specs.Prelude.{◌≡◌, ◌≢◌, ℕ, zero, suc, ◌<◌, ◌/◌, ◌^◌, Bool, true, false, List, [], ◌∷◌, All, map}
+use Rattle.std.specs.Prelude.{◌≡◌, ◌≢◌, ℕ, zero, suc, ◌<◌, ◌/◌, ◌^◌, List, [], ◌∷◌, All, map}
 use Rattle.std.specs.Prelude.{length, slice_get, Option, ◌⊎◌}
 use Rattle.std.specs.Option.{option_map}
 use Rattle.reh_types.specs.declared.changes.Change as change
 use Rattle.reh_types.specs.declared.changes.Change.TheVariants.{Registration, Metadata, Task, Lock, Word, Scalar}
 use Rattle.reh_types.specs.declared.scalars.Scalar as scalars
 use Rattle.reh_types.specs.Scalars.{number_of, scalar_at, with_scalar}
-use Rattle.reh_types.specs.Sets as set
-use Rattle.reh_types.specs.Sets.{Set, numbers}
 use Rattle.reh_model.specs.Metadata as meta
 use Rattle.reh_model.specs.Contents.{has, turned}
-use Rattle.reh_model.specs.Cluster.{Parts, Cluster, Ledger, words_among}
+use Rattle.reh_model.specs.Cluster.{Parts, Cluster, Ledger, change_at, register, words_among}
 use Rattle.reh_model.specs.WellFormed.{IsWellFormed}
 
 abbrev pub Change : Type 0
@@ -29,7 +27,7 @@ pub data Place : Type 0 where
   at_scalar : ℕ → Place
 
 abbrev pub place_of : Change → Place
-place_of (Registration b up) = at_registration b
+place_of (Registration b lost) = at_registration b
 place_of (Metadata i metadata) = at_metadata i
 place_of (Task i task) = at_task i
 place_of (Lock i lock) = at_lock i
@@ -60,26 +58,15 @@ AreRising (p ∷ ps) = All (IsBefore p) ps × AreRising ps
 
 -- One change
 
--- the list with its element at that place changed, if there is one
-abbrev pub change_at : {X : Type 0} → List X → ℕ → (X → X) → List X
-change_at [] i f = []
-change_at (x ∷ xs) zero f = f x ∷ xs
-change_at (x ∷ xs) (suc i) f = x ∷ change_at xs i f
-
 -- what is read of the element at that place, or else d
 abbrev pub read_at : {X C : Type 0} → (X → C) → List X → ℕ → C → C
 read_at get [] i d = d
 read_at get (x ∷ xs) zero d = get x
 read_at get (x ∷ xs) (suc i) d = read_at get xs i d
 
--- the set with that member, or without it
-abbrev pub with_member : Set numbers → ℕ → Bool → Set numbers
-with_member s b true = set.insert s b
-with_member s b false = set.remove s b
-
 -- the parts with that place changed; a ledger's place that is not there changes nothing
 abbrev pub put : Parts → Change → Parts
-put p (Registration b up) = record p { up = with_member p.up b up }
+put p (Registration b lost) = record p { lost_at = register p.lost_at b lost }
 put p (Metadata i metadata) = record p { ledgers = change_at p.ledgers i (λ g. record g { metadata = metadata }) }
 put p (Task i task) = record p { ledgers = change_at p.ledgers i (λ g. record g { task = task }) }
 put p (Lock i lock) = record p { ledgers = change_at p.ledgers i (λ g. record g { lock = lock }) }
@@ -88,7 +75,7 @@ put p (Scalar scalar) = record p { scalars = with_scalar p.scalars scalar }
 
 -- what such a change leaves in its place: the contents from before, or the same bits
 abbrev pub back : Parts → Change → Change
-back p (Registration b up) = Registration b (set.contains p.up b)
+back p (Registration b lost) = Registration b (read_at (λ lost. lost) p.lost_at b lost)
 back p (Metadata i metadata) = Metadata i (read_at (λ g. g.metadata) p.ledgers i metadata)
 back p (Task i task) = Task i (read_at (λ g. g.task) p.ledgers i task)
 back p (Lock i lock) = Lock i (read_at (λ g. g.lock) p.ledgers i lock)
@@ -97,7 +84,7 @@ back p (Scalar scalar) = Scalar (scalar_at p.scalars scalar)
 
 -- the change's place is one of the parts, where there are so many bookies, and a word's bits are 64
 abbrev pub IsPlaced : ℕ → Parts → Change → Type 0
-IsPlaced bookies p (Registration b up) = b < bookies
+IsPlaced bookies p (Registration b lost) = b < length p.lost_at
 IsPlaced bookies p (Metadata i metadata) = i < length p.ledgers
 IsPlaced bookies p (Task i task) = i < length p.ledgers
 IsPlaced bookies p (Lock i lock) = i < length p.ledgers
@@ -141,7 +128,7 @@ part_at get p i = option_map get (slice_get p.ledgers i)
 
 -- whether the parts are the same at a place
 abbrev pub SameAt : Parts → Parts → Place → Type 0
-SameAt p q (at_registration b) = set.contains p.up b ≡ set.contains q.up b
+SameAt p q (at_registration b) = slice_get p.lost_at b ≡ slice_get q.lost_at b
 SameAt p q (at_metadata i) = part_at (λ g. g.metadata) p i ≡ part_at (λ g. g.metadata) q i
 SameAt p q (at_task i) = part_at (λ g. g.task) p i ≡ part_at (λ g. g.task) q i
 SameAt p q (at_lock i) = part_at (λ g. g.lock) p i ≡ part_at (λ g. g.lock) q i

@@ -12,7 +12,8 @@ use Rattle.reh_types.specs.declared.refusals.Refusal.TheVariants.{GraceRuns, NoG
 use Rattle.reh_types.specs.declared.refusals.Refusal.TheVariants.{NoIndex, MemberUp, TargetDown, TargetIsMember}
 use Rattle.reh_types.specs.declared.refusals.Refusal.TheVariants.{NoEndpoint, Stale, NoSource, MissingEntry}
 use Rattle.reh_types.specs.declared.refusals.Refusal.TheVariants.{Undecided, TooFew, NotRecovering, FragmentsFull}
-use Rattle.reh_types.specs.declared.refusals.Refusal.TheVariants.{EntryEnd, VersionEnd, NoMemory}
+use Rattle.reh_types.specs.declared.refusals.Refusal.TheVariants.{EntryEnd, VersionEnd, NoMemory, Disabled, AlreadyDisabled}
+use Rattle.reh_types.specs.declared.refusals.Refusal.TheVariants.{AlreadyEnabled}
 use Rattle.reh_model.specs.Metadata.{Fragment, is_open, is_in_recovery, stop_of, stripe_of}
 use Rattle.reh_model.specs.Cluster.{Cluster, Ledger, is_up, holds, is_readable, ledger_at, is_locked_by, due_of}
 use Rattle.reh_model.specs.Audit.{is_news, first_under, is_needed}
@@ -66,6 +67,17 @@ bad_tick n = reason_if (n == 0 || nat_lt MAX_TICKS n) BadTick
 
 abbrev pub clock_end : Cluster → ℕ → Option Refusal
 clock_end s n = reason_if (nat_lt CLOCK_END (s.parts.scalars.clock + n)) ClockEnd
+
+-- Whether AutoRecovery is enabled
+
+abbrev pub disabled : Cluster → Option Refusal
+disabled s = reason_if (not s.parts.scalars.enabled) Disabled
+
+abbrev pub already_disabled : Cluster → Option Refusal
+already_disabled s = reason_if (not s.parts.scalars.enabled) AlreadyDisabled
+
+abbrev pub already_enabled : Cluster → Option Refusal
+already_enabled s = reason_if s.parts.scalars.enabled AlreadyEnabled
 
 -- The auditor, tasks and locks
 

@@ -1,10 +1,10 @@
 -- One event: when it is refused, and what it changes.
-use Rattle.std.specs.Prelude.{ℕ, ◌+◌, ◌-◌, if◌then◌else◌, List, [], ◌∷◌, ◌++◌, map, length, Option, None, Some}
+use Rattle.std.specs.Prelude.{ℕ, ◌+◌, ◌-◌, true, false, if◌then◌else◌, List, [], ◌∷◌, ◌++◌, map, length, Option, None, Some}
 use Rattle.std.specs.Option.{option_map}
 use Rattle.reh_types.specs.declared.locks.Lock.{Lock}
 use Rattle.reh_types.specs.declared.moves.Event.{Event}
 use Rattle.reh_types.specs.declared.moves.Event.TheVariants.{Lose, Join, Audit, Acquire, Release, Finish, Expire}
-use Rattle.reh_types.specs.declared.moves.Event.TheVariants.{Grace, Tick, Roll, Fence, Seal, Copy, Swap}
+use Rattle.reh_types.specs.declared.moves.Event.TheVariants.{Grace, Tick, Roll, Fence, Seal, Copy, Swap, Disable, Enable}
 use Rattle.reh_types.specs.declared.names.LedgerState.TheVariants.{InRecovery, Closed}
 use Rattle.reh_types.specs.declared.refusals.Refusal.{Refusal}
 use Rattle.reh_types.specs.Sets as set
@@ -12,11 +12,12 @@ use Rattle.reh_model.specs.Contents.{copies_of}
 use Rattle.reh_model.specs.Metadata.{Metadata, last_fragment, with_member_at, with_fragment_at, with_state}
 use Rattle.reh_model.specs.Metadata.{next_version}
 use Rattle.reh_model.specs.Cluster.{Cluster, Ledger, change_ledger, is_locked_by, stripe_at, with_clock, with_held}
-use Rattle.reh_model.specs.Cluster.{with_ledgers, with_up}
+use Rattle.reh_model.specs.Cluster.{with_enabled, with_ledgers, with_registration}
 use Rattle.reh_model.specs.Audit.{audited_ledger}
 use Rattle.reh_model.specs.Recovery.{next_entry, is_rolling_over, recovered_end, recovered_at}
 use Rattle.reh_model.specs.Checks.{first_reason}
-use Rattle.reh_model.specs.Refusals.{at_ledger, no_bookie, already_down, already_up, nothing_to_publish, no_task}
+use Rattle.reh_model.specs.Refusals.{at_ledger, no_bookie, already_down, already_up, disabled, already_disabled}
+use Rattle.reh_model.specs.Refusals.{already_enabled, nothing_to_publish, no_task}
 use Rattle.reh_model.specs.Refusals.{lock_held, not_owner, still_under, no_locks, bad_tick, clock_end, not_open}
 use Rattle.reh_model.specs.Refusals.{not_recovering, not_needed, grace_set, no_grace, grace_runs, too_few, undecided}
 use Rattle.reh_model.specs.Refusals.{no_index, member_up, target_down, target_is_member, fragments_full, entry_end}
@@ -59,8 +60,9 @@ seal_checks s w g = not_owner w g ∷ not_recovering g ∷ too_few s g ∷ undec
 abbrev pub refusal_of : Cluster → Event → Option Refusal
 refusal_of s (Lose b) = first_reason (no_bookie s b ∷ already_down s b ∷ [])
 refusal_of s (Join b) = first_reason (no_bookie s b ∷ already_up s b ∷ [])
-refusal_of s Audit = nothing_to_publish s
-refusal_of s (Acquire w l) = first_reason (no_bookie s w ∷ at_ledger s l (λ g. no_task g ∷ lock_held g ∷ []) ∷ [])
+refusal_of s Audit = first_reason (disabled s ∷ nothing_to_publish s ∷ [])
+refusal_of s (Acquire w l) =
+    first_reason (disabled s ∷ no_bookie s w ∷ at_ledger s l (λ g. no_task g ∷ lock_held g ∷ []) ∷ [])
 refusal_of s (Release w l) = first_reason (no_bookie s w ∷ at_ledger s l (λ g. not_owner w g ∷ []) ∷ [])
 refusal_of s (Finish w l) =
     first_reason (no_bookie s w ∷ at_ledger s l (λ g. not_owner w g ∷ still_under s g ∷ []) ∷ [])
@@ -72,6 +74,8 @@ refusal_of s (Fence w l) = first_reason (no_bookie s w ∷ at_ledger s l (fence_
 refusal_of s (Seal w l) = first_reason (no_bookie s w ∷ at_ledger s l (seal_checks s w) ∷ [])
 refusal_of s (Copy w l f i v) = first_reason (no_bookie s w ∷ at_ledger s l (copy_checks s w f i v) ∷ [])
 refusal_of s (Swap w l f i v) = first_reason (no_bookie s w ∷ at_ledger s l (swap_checks s w f i v) ∷ [])
+refusal_of s Disable = already_disabled s
+refusal_of s Enable = already_enabled s
 
 -- a ledger whose task this worker locks, with no due tick
 abbrev pub locked_ledger : ℕ → Ledger → Ledger
@@ -127,8 +131,8 @@ swapped_ledger f i w g = record g { metadata = next_version (with_member_at g.me
 
 -- the cluster that an accepted event leaves
 abbrev pub after : Cluster → Event → Cluster
-after s (Lose b) = with_up s (set.remove s.parts.up b)
-after s (Join b) = with_up s (set.insert s.parts.up b)
+after s (Lose b) = with_registration s b (Some s.parts.scalars.clock)
+after s (Join b) = with_registration s b None
 after s Audit = with_ledgers s (map (audited_ledger s) s.parts.ledgers)
 after s (Acquire w l) = change_ledger s l (locked_ledger w)
 after s (Release w l) = change_ledger s l unlocked_ledger
@@ -141,3 +145,5 @@ after s (Fence w l) = change_ledger s l fenced_ledger
 after s (Seal w l) = with_held (change_ledger s l (sealed_ledger s)) (set.union s.parts.held (recovered_at s l))
 after s (Copy w l f i v) = with_held s (set.union s.parts.held (copies_of w l (stripe_at s l f i)))
 after s (Swap w l f i v) = change_ledger s l (swapped_ledger f i w)
+after s Disable = with_enabled s false
+after s Enable = with_enabled s true

@@ -1,21 +1,26 @@
 -- Which clusters there can be: the limits, the rules of ledgers, and what tasks, locks and due ticks stand on.
-use Rattle.std.specs.Prelude.{◌≡◌, ℕ, true, ◌+◌, ◌*◌, ◌<◌, ◌≤◌, List, map, length, sum_by, IsTrue, nat_eq, All}
+use Rattle.std.specs.Prelude.{◌≡◌, ℕ, ◌+◌, ◌*◌, ◌<◌, ◌≤◌, List, map, length, sum_by, IsTrue, nat_eq, All, Option}
 use Rattle.std.specs.List.{IsDistinct}
 use Rattle.std.specs.Option.{ForSome, IsSome}
 use Rattle.std.specs.Str.{bytes_eq}
-use Rattle.reh_types.specs.declared.limits.TheConstants.{CLOCK_END, ENTRIES_IN_WORD, ENTRY_END, MAX_BOOKIES}
+use Rattle.reh_types.specs.declared.limits.TheConstants.{CLOCK_END, ENTRIES_IN_WORD, ENTRY_END, MAX_BOOKIES, MAX_DELAY}
 use Rattle.reh_types.specs.declared.limits.TheConstants.{MAX_GRACE, MAX_LEDGERS, MAX_LEDGER_ID, MAX_WORDS}
 use Rattle.reh_types.specs.Sets as set
 use Rattle.reh_types.specs.Sets.{Set, numbers}
 use Rattle.reh_model.specs.Contents.{Contents}
 use Rattle.reh_model.specs.Metadata.{IsMetadata, is_open}
-use Rattle.reh_model.specs.Cluster.{Cluster, Ledger, is_up, due_of, ledger_among, words_among}
+use Rattle.reh_model.specs.Cluster.{Cluster, Ledger, due_of, ledger_among, words_among}
 
 -- the names of the bookies: at least one, and none twice
 pub record AreNames (names : List (List ℕ)) : Type 0 where
   pub some : 1 ≤ length names
   pub few : length names ≤ MAX_BOOKIES
   pub different : IsDistinct bytes_eq names
+
+-- a registration of each bookie, and none was lost at a tick to come
+pub record AreRegistrations (bookies clock : ℕ) (lost_at : List (Option ℕ)) : Type 0 where
+  pub each : length lost_at ≡ bookies
+  pub ticks : All (λ lost. ForSome lost (λ tick. tick ≤ clock)) lost_at
 
 -- a ledger among so many bookies, where no due tick is past the latest one: its metadata, which names these bookies,
 -- its words, its task and its lock
@@ -45,8 +50,8 @@ pub record AreContents (bookies : ℕ) (ledgers : List Ledger) (held : Contents)
 pub record IsWellFormed (s : Cluster) : Type 0 where
   pub names : AreNames s.names
   pub grace : s.grace ≤ MAX_GRACE
+  pub delay : s.delay ≤ MAX_DELAY
   pub clock : s.parts.scalars.clock ≤ CLOCK_END
-  -- each registered bookie has a name
-  pub up : (b : ℕ) → is_up s b ≡ true → b < length s.names
+  pub registrations : AreRegistrations (length s.names) s.parts.scalars.clock s.parts.lost_at
   pub ledgers : AreLedgers (length s.names) (s.parts.scalars.clock + s.grace) s.parts.ledgers
   pub contents : AreContents (length s.names) s.parts.ledgers s.parts.held

@@ -1,6 +1,6 @@
 -- Worked lines and texts: the definitions, computed.
-use Rattle.std.specs.Prelude.{◌≡◌, refl, ℕ, List, [], ◌∷◌, ◌++◌, codes, map, replicate, Option, Some, None, Result, Ok, Err}
-use Rattle.reh_types.specs.declared.moves.Event.TheVariants.{Lose, Acquire, Grace, Tick, Roll, Fence, Seal, Copy}
+use Rattle.std.specs.Prelude.{◌≡◌, refl, ℕ, false, List, [], ◌∷◌, ◌++◌, codes, map, replicate, Option, Some, None, Result, Ok, Err}
+use Rattle.reh_types.specs.declared.moves.Event.TheVariants.{Lose, Acquire, Grace, Tick, Roll, Fence, Seal, Copy, Disable, Enable}
 use Rattle.reh_types.specs.declared.moves.Move.TheVariants.{Do, Look}
 use Rattle.reh_script.specs.declared.commands.Command.{Command}
 use Rattle.reh_script.specs.declared.commands.Command.TheVariants.{Make, Checkout, Spend, Discard, Report, Survey}
@@ -9,12 +9,12 @@ use Rattle.reh_script.specs.declared.commands.LineFault.TheVariants.{TooLong, Un
 use Rattle.reh_script.specs.Script.{command_of_line, verbs}
 use Rattle.std.specs.Fmt.{digits}
 use Rattle.reh_types.specs.declared.moves.Reply.TheVariants.{Done, Clock, Issued, Discarded, Refused}
-use Rattle.reh_types.specs.declared.refusals.Refusal.TheVariants.{Locked, NoTask, StillUnder, Stale, NotOut, HandFull, HandEmpty}
+use Rattle.reh_types.specs.declared.refusals.Refusal.TheVariants.{Locked, NoTask, StillUnder, Stale, NotOut, HandFull, HandEmpty, Disabled, AlreadyDisabled, AlreadyEnabled}
 use Rattle.reh_types.specs.declared.names.LedgerState.{LedgerState}
 use Rattle.reh_types.specs.declared.names.LedgerState.TheVariants.{Open, InRecovery, Closed}
 use Rattle.reh_types.specs.Sets.{contains, insert, empty, from_list, items}
 use Rattle.reh_model.specs.Metadata.{Metadata, Fragment}
-use Rattle.reh_model.specs.Cluster.{Cluster, with_clock, with_held, with_ledgers, with_up}
+use Rattle.reh_model.specs.Cluster.{Cluster, with_clock, with_enabled, with_held, with_ledgers, with_up}
 use Rattle.reh_model.proofs.Examples.{clear_cluster}
 use Rattle.reh_script.specs.Texts.{reply_text, report}
 
@@ -55,6 +55,11 @@ pub open_ledgers : asked (codes "grace b1:3181 9" ∷ codes "roll 9 1 b2:3181" �
 unfolding verbs
 open_ledgers = refl
 
+-- AutoRecovery is disabled and enabled without further words
+pub autorecovery_commands : asked (codes "disable" ∷ codes "enable" ∷ codes "disable 1" ∷ codes "disabled" ∷ []) ≡ made (Make (Do Disable)) ∷ made (Make (Do Enable)) ∷ faulty BadWords ∷ faulty UnknownCommand ∷ []
+unfolding verbs
+autorecovery_commands = refl
+
 -- a player's own commands; a checkout names a worker, and the place that it aims at
 pub hands : asked (codes "checkout b2:3181 7 0 1" ∷ codes "spend" ∷ codes "discard" ∷ codes "survey" ∷ codes "checkout b2:3181 7 0" ∷ codes "checkout b2:3181 7 0 1 0" ∷ codes "checkout nobody 7 0 1" ∷ codes "spend 1" ∷ [])
     ≡ made (Checkout (record { worker = 1; ledger = 7; fragment = 0; index = 1 })) ∷ made Spend ∷ made Discard ∷ made Survey ∷ faulty BadWords ∷ faulty BadWords ∷ faulty UnknownName ∷ faulty BadWords ∷ []
@@ -82,8 +87,8 @@ length_of_lines = refl
 -- Texts
 
 -- a lock's owner goes by name, or by number where there is no name for it
-pub replies_printed : map (reply_text names) (Done ∷ Clock 12 ∷ Refused (Locked 1) ∷ Refused (Locked 5) ∷ Refused NoTask ∷ Refused (StillUnder 3) ∷ Refused (Stale 1_000_000_000_000) ∷ Issued 200_000 ∷ Discarded ∷ Refused NotOut ∷ Refused HandFull ∷ Refused HandEmpty ∷ [])
-    ≡ codes "ok" ∷ codes "clock 12" ∷ codes "refused 7 Locked b2:3181" ∷ codes "refused 7 Locked 5" ∷ codes "refused 6 NoTask" ∷ codes "refused 9 StillUnder 3" ∷ codes "refused 24 Stale 1000000000000" ∷ codes "ticket 200000" ∷ codes "discarded" ∷ codes "refused 37 NotOut" ∷ codes "refused 39 HandFull" ∷ codes "refused 40 HandEmpty" ∷ []
+pub replies_printed : map (reply_text names) (Done ∷ Clock 12 ∷ Refused (Locked 1) ∷ Refused (Locked 5) ∷ Refused NoTask ∷ Refused (StillUnder 3) ∷ Refused (Stale 1_000_000_000_000) ∷ Issued 200_000 ∷ Discarded ∷ Refused NotOut ∷ Refused HandFull ∷ Refused HandEmpty ∷ Refused Disabled ∷ Refused AlreadyDisabled ∷ Refused AlreadyEnabled ∷ [])
+    ≡ codes "ok" ∷ codes "clock 12" ∷ codes "refused 7 Locked b2:3181" ∷ codes "refused 7 Locked 5" ∷ codes "refused 6 NoTask" ∷ codes "refused 9 StillUnder 3" ∷ codes "refused 24 Stale 1000000000000" ∷ codes "ticket 200000" ∷ codes "discarded" ∷ codes "refused 37 NotOut" ∷ codes "refused 39 HandFull" ∷ codes "refused 40 HandEmpty" ∷ codes "refused 42 Disabled" ∷ codes "refused 43 AlreadyDisabled" ∷ codes "refused 44 AlreadyEnabled" ∷ []
 unfolding digits
 replies_printed = refl
 
@@ -113,3 +118,8 @@ pub report_printed : report worked
     ∷ codes "ledger 3 IN_RECOVERY version 1 last - quorum 2 2 1" ∷ codes "fragment 0 first 0 stop - b1 b2" ∷ codes "task b2" ∷ []
 unfolding digits contains insert empty from_list items
 report_printed = refl
+
+-- a report says that AutoRecovery is disabled, behind its first line
+pub disabled_report : report (with_enabled (clear_cluster names) false) ≡ codes "clock 0 grace 3" ∷ codes "autorecovery disabled" ∷ codes "bookie b1:3181 up 0" ∷ codes "bookie b2:3181 up 0" ∷ []
+unfolding digits contains insert empty from_list items
+disabled_report = refl

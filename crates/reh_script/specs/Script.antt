@@ -8,7 +8,7 @@ use Rattle.std.specs.Str.Lines.{strip_carriage_return}
 use Rattle.reh_types.specs.declared.limits.TheConstants.{MAX_LINE_BYTES}
 use Rattle.reh_types.specs.declared.moves.Event.{Event}
 use Rattle.reh_types.specs.declared.moves.Event.TheVariants.{Lose, Join, Audit, Acquire, Release, Finish, Expire}
-use Rattle.reh_types.specs.declared.moves.Event.TheVariants.{Grace, Tick, Roll, Fence, Seal, Copy, Swap}
+use Rattle.reh_types.specs.declared.moves.Event.TheVariants.{Grace, Tick, Roll, Fence, Seal, Copy, Swap, Disable, Enable}
 use Rattle.reh_types.specs.declared.moves.Move.TheVariants.{Do, Undo, Redo, Look}
 use Rattle.reh_types.specs.declared.names.Aim.{Aim}
 use Rattle.reh_model.specs.Cluster.{bookie_named}
@@ -146,6 +146,8 @@ form_of verb.Fence = form (codes "fence") task (λ a. event (Fence a.bookie a.fi
 form_of verb.Seal = form (codes "seal") task (λ a. event (Seal a.bookie a.first))
 form_of verb.Copy = form (codes "copy") member (λ a. event (Copy a.bookie a.first a.second a.third a.fourth))
 form_of verb.Swap = form (codes "swap") member (λ a. event (Swap a.bookie a.first a.second a.third a.fourth))
+form_of verb.Disable = form (codes "disable") [] (λ a. event Disable)
+form_of verb.Enable = form (codes "enable") [] (λ a. event Enable)
 form_of verb.Undo = form (codes "undo") [] (λ a. Make Undo)
 form_of verb.Redo = form (codes "redo") [] (λ a. Make Redo)
 form_of verb.Clock = form (codes "clock") [] (λ a. Make Look)
@@ -159,8 +161,8 @@ form_of verb.Survey = form (codes "survey") [] (λ a. Survey)
 unfoldable pub verbs : List Verb
 verbs =
     verb.Lose ∷ verb.Join ∷ verb.Audit ∷ verb.Acquire ∷ verb.Release ∷ verb.Finish ∷ verb.Expire ∷ verb.Grace
-    ∷ verb.Tick ∷ verb.Roll ∷ verb.Fence ∷ verb.Seal ∷ verb.Copy ∷ verb.Swap ∷ verb.Undo ∷ verb.Redo ∷ verb.Clock
-    ∷ verb.Checkout ∷ verb.Spend ∷ verb.Discard ∷ verb.Report ∷ verb.Survey ∷ []
+    ∷ verb.Tick ∷ verb.Roll ∷ verb.Fence ∷ verb.Seal ∷ verb.Copy ∷ verb.Swap ∷ verb.Disable ∷ verb.Enable ∷ verb.Undo
+    ∷ verb.Redo ∷ verb.Clock ∷ verb.Checkout ∷ verb.Spend ∷ verb.Discard ∷ verb.Report ∷ verb.Survey ∷ []
 
 -- the verb that a word names
 abbrev pub verb_of : List ℕ → Option Verb

@@ -48,6 +48,10 @@ reply_text names reply = types.reply_text reply
 abbrev pub clock_line : Cluster → List ℕ
 clock_line s = spaced (codes "clock" ∷ decimal s.parts.scalars.clock ∷ codes "grace" ∷ decimal s.grace ∷ [])
 
+-- that AutoRecovery is disabled, while it is
+abbrev pub autorecovery_lines : Bool → List (List ℕ)
+autorecovery_lines enabled = if enabled then [] else codes "autorecovery disabled" ∷ []
+
 abbrev pub registration : Bool → List ℕ
 registration up = if up then codes "up" else codes "down"
 
@@ -113,11 +117,12 @@ ledger_lines names g =
     ledger_line g.id g.metadata
     ∷ (fragment_lines names g.metadata ++ (task_lines names g.task ++ lock_lines names g.lock))
 
--- the clock, the bookies and the ledgers, in picture order
+-- the clock, whether AutoRecovery is disabled, the bookies and the ledgers, in picture order
 abbrev pub report : Cluster → List (List ℕ)
 report s =
-    clock_line s ∷ (map (λ place. bookie_line s place.0 place.1) (enumerate_from 0 s.names)
-    ++ flat_map (ledger_lines s.names) s.parts.ledgers)
+    clock_line s ∷ (autorecovery_lines s.parts.scalars.enabled
+    ++ (map (λ place. bookie_line s place.0 place.1) (enumerate_from 0 s.names)
+    ++ flat_map (ledger_lines s.names) s.parts.ledgers))
 
 -- The survey
 

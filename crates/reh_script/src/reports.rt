@@ -14,7 +14,8 @@ use reh_meta::{Fragment, LedgerMeta};
 use reh_types::{BookieIx, BookieSet, LedgerId, LedgerState, Lock, MAX_BOOKIES};
 use std::alloc::{AllocError, Global};
 
-/// The report of a state: its clock and grace, its bookies, and its ledgers with their fragments, tasks and locks.
+/// The report of a state: its clock and grace, whether AutoRecovery is disabled, its bookies, and its ledgers with their
+/// fragments, tasks and locks.
 pub fn report_text(alloc: Global, state: &State) -> Result<String, AllocError>
     ensures { IfOk result (λ text. string_bytes text ≡ texts.text_of (texts.report state.now)) }
 {
@@ -28,8 +29,20 @@ pub(crate) fn push_report(text: &mut String, state: &State) -> Result<(), AllocE
     ensures { OnOk result (string_bytes text.new ≡ string_bytes text.old ++ texts.text_of (texts.report state.now)) }
 {
     write!(text, "clock {} grace {}\n", state.clock(), state.grace())?;
+    push_autorecovery(text, state.is_enabled())?;
     push_bookies(text, state)?;
     push_ledgers(text, state.names(), state.ledgers())
+}
+
+/// Adds the line of a disabled AutoRecovery, while it is disabled.
+fn push_autorecovery(text: &mut String, enabled: bool) -> Result<(), AllocError>
+    ensures { OnOk result (string_bytes text.new ≡ string_bytes text.old
+        ++ texts.text_of (texts.autorecovery_lines enabled)) }
+{
+    if enabled {
+        return Ok(());
+    }
+    text.push_str("autorecovery disabled\n")
 }
 
 /// Adds the lines of all bookies.

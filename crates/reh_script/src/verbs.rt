@@ -52,6 +52,8 @@ pub enum Verb {
     Seal,
     Copy,
     Swap,
+    Disable,
+    Enable,
     Undo,
     Redo,
     Clock,
@@ -87,7 +89,7 @@ impl Row {
 impl Verb {
     /// All verbs. Each is the one that its name finds among them.
     #[tactic(auto, unfolding(crate::specs::Script::verbs))]
-    pub fn all() -> [Verb; 22]
+    pub fn all() -> [Verb; 24]
         ensures all { result ≡ script.verbs }
         ensures each { (verb : Self) → script.verb_of (script.form_of verb).name ≡ Some verb }
     {
@@ -106,6 +108,8 @@ impl Verb {
             Verb::Seal,
             Verb::Copy,
             Verb::Swap,
+            Verb::Disable,
+            Verb::Enable,
             Verb::Undo,
             Verb::Redo,
             Verb::Clock,
@@ -138,6 +142,8 @@ impl Verb {
             _ if Verb::Seal.is(word) => Some(Verb::Seal),
             _ if Verb::Copy.is(word) => Some(Verb::Copy),
             _ if Verb::Swap.is(word) => Some(Verb::Swap),
+            _ if Verb::Disable.is(word) => Some(Verb::Disable),
+            _ if Verb::Enable.is(word) => Some(Verb::Enable),
             _ if Verb::Undo.is(word) => Some(Verb::Undo),
             _ if Verb::Redo.is(word) => Some(Verb::Redo),
             _ if Verb::Clock.is(word) => Some(Verb::Clock),
@@ -200,6 +206,8 @@ impl Verb {
             Verb::Seal => Row::new("seal", TASK, "the worker recovers and closes the ledger"),
             Verb::Copy => Row::new("copy", MEMBER, "the worker's bookie takes the copies"),
             Verb::Swap => Row::new("swap", MEMBER, "the worker's bookie takes the place"),
+            Verb::Disable => Row::new("disable", &[], "AutoRecovery is disabled"),
+            Verb::Enable => Row::new("enable", &[], "AutoRecovery is enabled again"),
             Verb::Undo => Row::new("undo", &[], "the newest event is undone"),
             Verb::Redo => Row::new("redo", &[], "the event undone last is made again"),
             Verb::Clock => Row::new("clock", &[], "the clock is read"),
@@ -233,6 +241,8 @@ impl Verb {
             Verb::Seal => event(Event::Seal { worker, ledger }),
             Verb::Copy => event(copy(a)),
             Verb::Swap => event(swap(a)),
+            Verb::Disable => event(Event::Disable),
+            Verb::Enable => event(Event::Enable),
             Verb::Undo => Command::Make(Move::Undo),
             Verb::Redo => Command::Make(Move::Redo),
             Verb::Clock => Command::Make(Move::Look),

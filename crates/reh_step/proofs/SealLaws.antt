@@ -44,6 +44,7 @@ use Rattle.reh_model.proofs.ListLaws.{change_at-here}
 use Rattle.reh_model.proofs.RecoveryLaws.{IsHeld-readable, readable_before_end, has-recovered_copies, any-up_writes}
 use Rattle.reh_model.proofs.RecoveryLaws.{IsRecovered-at}
 use Rattle.reh_model.proofs.TurnedLaws.{one_of-false}
+use Rattle.reh_model.proofs.WellFormedLaws.{up_named}
 use Rattle.reh_model.proofs.EventLaws.{IsWellFormed-after}
 use Rattle.reh_model.proofs.ExchangeLaws.{Differs, delta_of_changes}
 use Rattle.reh_model.proofs.DeltaLaws.{Stands, stands, part_differs}
@@ -150,7 +151,7 @@ all_below s l g n was found past =
       all : (b k e : ℕ) (r : Bool) → has (recovered_copies s g) b k e ≡ r → (nat_lt b n && r) ≡ r
       all b k e true is =
           let named : b < length s.names =
-          was.up b (IsRecovered-at s l b k e (ap (λ (c : Contents). has c b k e) copied ∙ is)).up in
+          up_named s b was (IsRecovered-at s l b k e (ap (λ (c : Contents). has c b k e) copied ∙ is)).up in
           let below : nat_lt b n ≡ true = grind (arith, nat_tests, named, past) in
           ap (λ x. x && true) below
       all b k e false is = and-false (nat_lt b n)

@@ -1,7 +1,7 @@
 // When an event is refused, and what is found where it isn't: one function for each event, over checks that they share.
 ghost use Rattle.std.specs.Prelude.{◌≡◌, [], ◌∷◌, None, Some, MatchResult, not};
 ghost use Rattle.reh_types.specs.declared.moves.Event.TheVariants.{Lose, Join, Audit, Acquire, Release, Finish, Expire};
-ghost use Rattle.reh_types.specs.declared.moves.Event.TheVariants.{Grace, Tick, Roll, Fence, Seal, Copy, Swap};
+ghost use Rattle.reh_types.specs.declared.moves.Event.TheVariants.{Grace, Tick, Roll, Fence, Seal, Copy, Swap, Disable, Enable};
 ghost use Rattle.std.specs.List.{find, list_any};
 ghost use Rattle.reh_model.specs.Cluster as cluster;
 ghost use Rattle.reh_model.specs.Cluster.{is_locked_by, stripe_at};
@@ -72,6 +72,8 @@ pub fn check_event(state: &State, event: &Event) -> Result<(), Refusal>
             *version,
         )
         .map(|_| ()),
+        Event::Disable => check_disable(state),
+        Event::Enable => check_enable(state),
     }
 }
 
@@ -100,6 +102,7 @@ pub(crate) fn check_join(state: &State, bookie: BookieIx) -> Result<(), Refusal>
 pub(crate) fn check_audit(state: &State) -> Result<(), Refusal>
     ensures { Decides result (refusal_of state.now Audit) }
 {
+    check_enabled(state)?;
     if !has_news(state) {
         return Err(Refusal::NothingToPublish);
     }
@@ -113,6 +116,7 @@ pub(crate) fn check_acquire(
 ) -> Result<Found<'_>, Refusal>
     ensures { Finds result (refusal_of state.now (Acquire worker ledger)) (IsFound state.now ledger) }
 {
+    check_enabled(state)?;
     check_bookie(state, worker)?;
     let found = find_ledger(state, ledger)?;
     if found.ledger.task().is_none() {
@@ -281,7 +285,36 @@ pub(crate) fn check_swap<'a>(
     Ok(found)
 }
 
+pub(crate) fn check_disable(state: &State) -> Result<(), Refusal>
+    ensures { Decides result (refusal_of state.now Disable) }
+{
+    if !state.is_enabled() {
+        return Err(Refusal::AlreadyDisabled);
+    }
+    Ok(())
+}
+
+pub(crate) fn check_enable(state: &State) -> Result<(), Refusal>
+    ensures { Decides result (refusal_of state.now Enable) }
+{
+    if state.is_enabled() {
+        return Err(Refusal::AlreadyEnabled);
+    }
+    Ok(())
+}
+
 // Checks that events share
+
+/// Whether AutoRecovery is enabled.
+fn check_enabled(state: &State) -> Result<(), Refusal>
+    ensures { Decides result (model.disabled state.now) }
+{
+    if state.is_enabled() {
+        Ok(())
+    } else {
+        Err(Refusal::Disabled)
+    }
+}
 
 /// Whether the ledger's metadata can go to a next version.
 fn check_next_version(ledger: &Ledger) -> Result<(), Refusal>

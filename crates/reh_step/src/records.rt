@@ -3,7 +3,7 @@
 ghost use Rattle.std.specs.Prelude.{◌≡◌, ◌==◌, [], ◌∷◌, ◌++◌, position, None, IfOk};
 ghost use Rattle.reh_types.specs.declared.changes.Change.TheVariants.{Metadata};
 ghost use Rattle.reh_types.specs.declared.moves.Event.TheVariants.{Lose, Join, Audit, Acquire, Release, Finish, Expire};
-ghost use Rattle.reh_types.specs.declared.moves.Event.TheVariants.{Grace, Tick, Roll, Fence, Seal, Copy, Swap};
+ghost use Rattle.reh_types.specs.declared.moves.Event.TheVariants.{Grace, Tick, Roll, Fence, Seal, Copy, Swap, Disable, Enable};
 ghost use Rattle.reh_model.specs.Cluster.{stripe_at};
 ghost use Rattle.reh_model.specs.Recovery.{recovered_end};
 ghost use Rattle.reh_model.specs.Records.{due_gone};
@@ -12,8 +12,9 @@ ghost use Rattle.reh_step.specs.Records as records;
 ghost use Rattle.reh_step.specs.Records.{IsDecision, IsRecordOf, word_changes};
 
 use crate::decisions::{
-    check_acquire, check_audit, check_copy, check_expire, check_fence, check_finish, check_grace,
-    check_join, check_lose, check_release, check_roll, check_seal, check_swap, check_tick,
+    check_acquire, check_audit, check_copy, check_disable, check_enable, check_expire, check_fence,
+    check_finish, check_grace, check_join, check_lose, check_release, check_roll, check_seal,
+    check_swap, check_tick,
 };
 use crate::recoveries::last_fragment;
 use reh_audit::{is_news, published_of};
@@ -25,13 +26,14 @@ use reh_stripe::Striped;
 use reh_types::{Aim, BookieIx, Change, LedgerId, Lock, Refusal, Scalar};
 use std::alloc::{AllocError, Global};
 
-/// The bookie's registration goes.
+/// The bookie's registration goes, at the tick of the clock.
 pub(crate) fn lose(alloc: Global, state: &State, bookie: BookieIx) -> Result<Changes, Refusal>
     ensures { IsDecision state.now (Lose bookie) result }
 {
     check_lose(state, bookie)?;
     let _well_formed = state.names();
-    let changes = Changes::one(alloc, Change::Registration { bookie, up: false })?;
+    let lost_at = Some(state.clock());
+    let changes = Changes::one(alloc, Change::Registration { bookie, lost_at })?;
     Ok(changes)
 }
 
@@ -41,11 +43,12 @@ pub(crate) fn join(alloc: Global, state: &State, bookie: BookieIx) -> Result<Cha
 {
     check_join(state, bookie)?;
     let _well_formed = state.names();
-    let changes = Changes::one(alloc, Change::Registration { bookie, up: true })?;
+    let lost_at = None;
+    let changes = Changes::one(alloc, Change::Registration { bookie, lost_at })?;
     Ok(changes)
 }
 
-/// Each task that an audit changes names the missing members too.
+/// Each task that an audit changes names the long-lost members too.
 pub(crate) fn audit(alloc: Global, state: &State) -> Result<Changes, Refusal>
     ensures { IsDecision state.now Audit result }
 {
@@ -252,6 +255,26 @@ pub(crate) fn swap(
     let metadata = stored.with_member(aim.fragment as usize, aim.index as usize, aim.worker)?;
     let place = found.place;
     let changes = Changes::one(alloc, Change::Metadata { place, metadata })?;
+    Ok(changes)
+}
+
+/// AutoRecovery is disabled.
+pub(crate) fn disable(alloc: Global, state: &State) -> Result<Changes, Refusal>
+    ensures { IsDecision state.now Disable result }
+{
+    check_disable(state)?;
+    let _well_formed = state.names();
+    let changes = Changes::one(alloc, Change::Scalar(Scalar::Enabled(false)))?;
+    Ok(changes)
+}
+
+/// AutoRecovery is enabled.
+pub(crate) fn enable(alloc: Global, state: &State) -> Result<Changes, Refusal>
+    ensures { IsDecision state.now Enable result }
+{
+    check_enable(state)?;
+    let _well_formed = state.names();
+    let changes = Changes::one(alloc, Change::Scalar(Scalar::Enabled(true)))?;
     Ok(changes)
 }
 

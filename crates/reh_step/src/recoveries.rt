@@ -30,7 +30,7 @@ pub(crate) fn last_fragment(ledger: &Ledger) -> &Fragment
 pub(crate) fn next_entry(state: &State, ledger: &Ledger) -> u32
     ensures { result ≡ recovery.next_entry state.now ledger.now }
 {
-    let _well_formed = state.up();
+    let _well_formed = state.ledgers();
     let first = last_fragment(ledger).first;
     match state.greatest(ledger.id()) {
         Some(greatest) => first.max(greatest + 1),
@@ -51,7 +51,7 @@ pub(crate) fn find_end(state: &State, ledger: &Ledger) -> Result<u32, Refusal>
         (model.too_few state.now ledger.now ∷ model.undecided state.now ledger.now ∷ []))
         (λ end. end ≡ recovery.recovered_end state.now ledger.now) }
 {
-    let _well_formed = state.up();
+    let _well_formed = state.ledgers();
     let metadata = ledger.metadata();
     let last = last_fragment(ledger);
     let rows = source_rows(state, ledger, last);

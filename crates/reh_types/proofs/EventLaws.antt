@@ -2,7 +2,7 @@
 use Rattle.std.proofs.Common.{◌≡◌, ℕ, Bool, true, ◌&&◌, refl, sym, ap, subst, nat_eq, true≢false}
 use Rattle.std.specs.Cmp.{first_so, second_so}
 use Rattle.reh_types.specs.declared.moves.Event.{Event}
-use Rattle.reh_types.specs.declared.moves.Event.TheVariants.{Lose, Join, Audit, Acquire, Release, Finish, Expire, Grace, Tick, Roll, Fence, Seal, Copy, Swap}
+use Rattle.reh_types.specs.declared.moves.Event.TheVariants.{Lose, Join, Audit, Acquire, Release, Finish, Expire, Grace, Tick, Roll, Fence, Seal, Copy, Swap, Disable, Enable}
 use Rattle.reh_types.specs.contracts.moves.EventPartialEq.TheImpl as derived
 use Rattle.reh_types.specs.contracts.moves.EventEq.TheImpl.Laws.{laws-law}
 use Rattle.reh_types.specs.Same.{Tells, tells_numbers}
@@ -44,6 +44,8 @@ told (Swap w l f x n) (Swap v k g y m) e =
     let r = both _ _ q.1 in
     let s = both _ _ r.1 in
     λ i. Swap (same w v p.0 i) (same l k q.0 i) (same f g r.0 i) (same x y s.0 i) (same n m s.1 i)
+told Disable Disable e = refl
+told Enable Enable e = refl
 told a b e = absurd (true≢false (sym e))
 
 pub events_tell : Tells same_event

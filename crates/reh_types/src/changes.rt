@@ -10,10 +10,10 @@ use crate::scalars::Scalar;
 /// A ledger's parts go by its place in the picture, from 0; what a bookie holds of it goes by its id.
 #[derive(PartialEq, Drop)]
 pub enum Change<M> {
-    /// Whether the bookie is registered.
+    /// The bookie's registration: the tick at which it was lost, none while the bookie is registered.
     Registration {
         bookie: BookieIx,
-        up: bool,
+        lost_at: Option<u64>,
     },
     /// The ledger's metadata.
     Metadata {

@@ -5,6 +5,7 @@ ghost use Rattle.reh_types.specs.declared.limits.TheConstants.{
   ENTRIES_IN_WORD,
   ENTRY_END,
   MAX_BOOKIES,
+  MAX_DELAY,
   MAX_ENSEMBLE_SIZE,
   MAX_ENTRY_ID,
   MAX_EVENTS,
@@ -37,6 +38,7 @@ pub fn limits_are()
     ensures entries_in_word { ENTRIES_IN_WORD ≡ 64 }
     ensures words { MAX_WORDS ≡ 4194304 }
     ensures grace { MAX_GRACE ≡ 1000000 }
+    ensures delay { MAX_DELAY ≡ 1000000 }
     ensures ticks { MAX_TICKS ≡ 1000000 }
     ensures clock_end { CLOCK_END ≡ 1000000000 }
     ensures events { MAX_EVENTS ≡ 100000 }

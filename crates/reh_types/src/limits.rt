@@ -36,6 +36,9 @@ pub const MAX_WORDS: u64 = 4_194_304;
 /// The longest grace of an open ledger, in ticks (BookKeeper's `openLedgerRereplicationGracePeriod`).
 pub const MAX_GRACE: u64 = 1_000_000;
 
+/// The longest delay for lost bookies, in ticks (BookKeeper's `lostBookieRecoveryDelay`).
+pub const MAX_DELAY: u64 = 1_000_000;
+
 /// How many ticks one event may let pass.
 pub const MAX_TICKS: u64 = 1_000_000;
 

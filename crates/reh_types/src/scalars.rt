@@ -9,6 +9,8 @@ use std::mem;
 pub struct Scalars {
     /// The clock, in ticks.
     pub clock: u64,
+    /// Whether AutoRecovery is enabled.
+    pub enabled: bool,
 }
 
 /// One of these parts, with the value that it is to have.
@@ -16,14 +18,16 @@ pub struct Scalars {
 pub enum Scalar {
     /// The clock, in ticks.
     Clock(u64),
+    /// Whether AutoRecovery is enabled.
+    Enabled(bool),
 }
 
 impl Scalars {
-    /// As a rehearsal begins.
-    pub fn new() -> Scalars
-        ensures { result ≡ first_scalars }
+    /// As a rehearsal begins, with AutoRecovery enabled or not.
+    pub fn new(enabled: bool) -> Scalars
+        ensures { result ≡ first_scalars enabled }
     {
-        Scalars { clock: 0 }
+        Scalars { clock: 0, enabled }
     }
 
     /// Swaps the value with what stands at its place.
@@ -33,6 +37,7 @@ impl Scalars {
     {
         match scalar {
             Scalar::Clock(clock) => mem::swap(&mut self.clock, clock),
+            Scalar::Enabled(enabled) => mem::swap(&mut self.enabled, enabled),
         }
     }
 }

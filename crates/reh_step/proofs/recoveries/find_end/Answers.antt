@@ -42,7 +42,7 @@ overflow_add-entry c =
     c.source_rows-rows.ensures.well_formed c.source_rows-rows.ensures.rows c.loop-rows.entry
     ∙ sym c.is_readable.ensures ∙ c.loop-rows-test.true in
     let below : c.loop-rows.entry < ENTRY_END =
-    readable_below s g (last_fragment g.metadata) c.loop-rows.entry c.up-well_formed.ensures.well_formed here in
+    readable_below s g (last_fragment g.metadata) c.loop-rows.entry c.ledgers-well_formed.ensures.well_formed here in
     omega (arith, below)
 
 pub loop-rows-smaller : goal.loop-rows-smaller
@@ -55,7 +55,7 @@ loop-rows-smaller c =
     c.source_rows-rows.ensures.well_formed c.source_rows-rows.ensures.rows c.loop-rows.entry
     ∙ sym c.is_readable.ensures ∙ c.loop-rows-test.true in
     let below : c.loop-rows.entry < ENTRY_END =
-    readable_below s g (last_fragment g.metadata) c.loop-rows.entry c.up-well_formed.ensures.well_formed here in
+    readable_below s g (last_fragment g.metadata) c.loop-rows.entry c.ledgers-well_formed.ensures.well_formed here in
     omega (arith, below)
 
 pub loop-rows-preserved : goal.loop-rows-preserved

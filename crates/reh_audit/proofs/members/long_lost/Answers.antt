@@ -1,0 +1,8 @@
+-- The ledger that was found in a well-formed state names only bookies that fit a set.
+use Rattle.std.proofs.Common.{◌∙◌, ap, sym}
+use Rattle.std.specs.Option.{option_copied}
+use Rattle.reh_audit.proofs.MemberLaws.{HasBookies-found}
+use Rattle.reh_audit.proofs.members.long_lost.Goals as goal
+
+pub long_lost_of-requires : goal.long_lost_of-requires
+long_lost_of-requires c = HasBookies-found c.args.state.now c.args.ledger c.unwrap-found.result.now c.ledgers-well_formed.ensures.well_formed (sym c.ledger.ensures ∙ ap option_copied c.unwrap-found.ensures)

@@ -1,0 +1,10 @@
+-- AutoRecovery is disabled: that is the only difference.
+use Rattle.reh_types.specs.declared.moves.Event.TheVariants.{Disable}
+use Rattle.reh_model.proofs.DeltaLaws.{disable_delta}
+use Rattle.reh_step.proofs.RecordLaws.{decided}
+use Rattle.reh_step.proofs.records.disable.Goals as goal
+
+pub returns : goal.returns
+returns c =
+    decided c.args.state.now Disable _ c.in_ok-changes.changes c.in_ok-check_disable.ensures c.in_ok-changes.ensures
+    (disable_delta c.args.state.now c.names-well_formed.ensures.well_formed c.in_ok-check_disable.ensures)
