@@ -12,8 +12,8 @@ use Rattle.reh_types.specs.declared.refusals.Refusal.TheVariants.{GraceRuns, NoG
 use Rattle.reh_types.specs.declared.refusals.Refusal.TheVariants.{NoIndex, MemberUp, TargetDown, TargetIsMember}
 use Rattle.reh_types.specs.declared.refusals.Refusal.TheVariants.{NoEndpoint, Stale, NoSource, MissingEntry}
 use Rattle.reh_types.specs.declared.refusals.Refusal.TheVariants.{Undecided, TooFew, NotRecovering, FragmentsFull}
-use Rattle.reh_types.specs.declared.refusals.Refusal.TheVariants.{EntryEnd, VersionEnd, NoMemory, Disabled, AlreadyDisabled}
-use Rattle.reh_types.specs.declared.refusals.Refusal.TheVariants.{AlreadyEnabled}
+use Rattle.reh_types.specs.declared.refusals.Refusal.TheVariants.{EntryEnd, VersionEnd, NoMemory}
+use Rattle.reh_types.specs.declared.refusals.Refusal.TheVariants.{Disabled, AlreadyDisabled, AlreadyEnabled}
 use Rattle.reh_model.specs.Metadata.{Fragment, is_open, is_in_recovery, stop_of, stripe_of}
 use Rattle.reh_model.specs.Cluster.{Cluster, Ledger, is_up, holds, is_readable, ledger_at, is_locked_by, due_of}
 use Rattle.reh_model.specs.Audit.{is_news, first_under, is_needed}

@@ -1,7 +1,8 @@
 // When an event is refused, and what is found where it isn't: one function for each event, over checks that they share.
 ghost use Rattle.std.specs.Prelude.{◌≡◌, [], ◌∷◌, None, Some, MatchResult, not};
 ghost use Rattle.reh_types.specs.declared.moves.Event.TheVariants.{Lose, Join, Audit, Acquire, Release, Finish, Expire};
-ghost use Rattle.reh_types.specs.declared.moves.Event.TheVariants.{Grace, Tick, Roll, Fence, Seal, Copy, Swap, Disable, Enable};
+ghost use Rattle.reh_types.specs.declared.moves.Event.TheVariants.{Grace, Tick, Roll, Fence, Seal, Copy, Swap};
+ghost use Rattle.reh_types.specs.declared.moves.Event.TheVariants.{Disable, Enable};
 ghost use Rattle.std.specs.List.{find, list_any};
 ghost use Rattle.reh_model.specs.Cluster as cluster;
 ghost use Rattle.reh_model.specs.Cluster.{is_locked_by, stripe_at};

@@ -3,7 +3,8 @@
 ghost use Rattle.std.specs.Prelude.{◌≡◌, ◌==◌, [], ◌∷◌, ◌++◌, position, None, IfOk};
 ghost use Rattle.reh_types.specs.declared.changes.Change.TheVariants.{Metadata};
 ghost use Rattle.reh_types.specs.declared.moves.Event.TheVariants.{Lose, Join, Audit, Acquire, Release, Finish, Expire};
-ghost use Rattle.reh_types.specs.declared.moves.Event.TheVariants.{Grace, Tick, Roll, Fence, Seal, Copy, Swap, Disable, Enable};
+ghost use Rattle.reh_types.specs.declared.moves.Event.TheVariants.{Grace, Tick, Roll, Fence, Seal, Copy, Swap};
+ghost use Rattle.reh_types.specs.declared.moves.Event.TheVariants.{Disable, Enable};
 ghost use Rattle.reh_model.specs.Cluster.{stripe_at};
 ghost use Rattle.reh_model.specs.Recovery.{recovered_end};
 ghost use Rattle.reh_model.specs.Records.{due_gone};

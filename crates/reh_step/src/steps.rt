@@ -71,12 +71,12 @@ pub fn decide(alloc: Global, state: &State, event: &Event) -> Result<Changes, Re
 /// Want of memory comes after all other refusals: it is answered only where the event is accepted. The new
 /// state is a copy, on the old one's allocator, with which the event's record is exchanged.
 /// The events are those of BookKeeper's AutoRecovery: its auditor publishes tasks, once the delay after a loss is over,
-/// and its replication workers lock them, give their locks back, end them, or lose them with their sessions. A worker copies a
-/// fragment's entries to its own bookie, and then puts that bookie into the fragment's ensemble. Where an open
+/// and its replication workers lock them, give their locks back, end them, or lose them with their sessions. A worker
+/// copies a fragment's entries to its own bookie, and then puts that bookie into the fragment's ensemble. Where an open
 /// ledger misses a member of its last ensemble, a worker grants its writer a grace, in which the writer may go on
 /// with another bookie; when the grace is over, the worker fences the ledger, and a recovery closes it at its end.
-/// Before a maintenance its operator disables it: nothing is published or locked then, and workers go on with the
-/// tasks that they have locked.
+/// Before a maintenance the operator disables AutoRecovery: nothing is published or locked then, and workers go on with
+/// the tasks that they have locked.
 pub fn step(alloc: Global, state: &State, event: &Event) -> Result<State, Refusal>
     ensures accepted { IfOk result (λ _. refusal_of state.now event.now ≡ None) }
     ensures made { IfOk result (λ next. next ≡ after state.now event.now) }

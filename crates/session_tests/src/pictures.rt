@@ -1,5 +1,5 @@
-// Pictures: five bookies with a closed and an open ledger, and two bookies; how one of the five is lost, and how a worker
-// takes its place.
+// Pictures: five bookies with a closed and an open ledger, and two bookies; how one of the five is lost, and how a
+// worker takes its place.
 use reh_cluster::State;
 use reh_picture::{PictureFault, read_picture};
 use reh_session::Session;

@@ -95,13 +95,23 @@ fn refusals_make_no_request(rt: HostRuntime) -> Result<(), Fail> {
     Ok(())
 }
 
-/// What the readers of a state say: of the names, the register and the clock.
-fn read_names(state: &State) -> (Option<BookieIx>, bool, bool, u64) {
+/// What the readers of a state say: of names and registrations.
+fn read_names(state: &State) -> (Option<BookieIx>, bool, bool, Option<u64>) {
     (
         state.names().find(b"b4:3181"),
         state.names().name(BookieIx(5)).is_some(),
-        state.is_up(BookieIx(1)) || state.up().contains(BookieIx(1)),
-        state.clock() + state.grace(),
+        state.is_up(BookieIx(1)),
+        state.lost_tick(BookieIx(1)),
+    )
+}
+
+/// Of the clock, the grace, the delay, and whether AutoRecovery is enabled.
+fn read_clock(state: &State) -> (u64, u64, u64, bool) {
+    (
+        state.clock(),
+        state.grace(),
+        state.delay(),
+        state.is_enabled(),
     )
 }
 
@@ -115,7 +125,7 @@ fn read_contents(state: &State) -> (usize, Option<u32>, bool, usize) {
     )
 }
 
-/// Of a ledger: its place, its version, its write quorum, the stop of its fragment, and whether it has a task and a lock.
+/// Of a ledger: its place, its version, its write quorum, its fragment's stop, and whether it has a task and a lock.
 fn read_ledger(state: &State) -> Option<(usize, u64, u32, Option<u32>, bool)> {
     let place = state.place(CLOSED)?;
     let ledger = state.ledger(CLOSED)?;
@@ -135,10 +145,14 @@ fn read_ledger(state: &State) -> Option<(usize, u64, u32, Option<u32>, bool)> {
 fn readers_make_no_request(rt: HostRuntime) -> Result<(), Fail> {
     let session = swapped(rt.alloc())?;
     let state = session.state();
-    begin(&rt, "names, register and clock");
+    begin(&rt, "names and registrations");
     let told = read_names(state);
     end(&rt);
-    assert_eq!(rt; told, (Some(WORKER), false, false, 3));
+    assert_eq!(rt; told, (Some(WORKER), false, false, Some(0)));
+    begin(&rt, "clock, grace and delay");
+    let told = read_clock(state);
+    end(&rt);
+    assert_eq!(rt; told, (0, 3, 0, true));
     begin(&rt, "contents");
     let told = read_contents(state);
     end(&rt);
