@@ -14,13 +14,14 @@ use Rattle.std.specs.Str.{bytes_eq}
 use Rattle.std.proofs.lemmas.Bool.Decides.{nat_tests}
 use Rattle.std.proofs.lemmas.Cmp.{nat_eq_equiv}
 use Rattle.std.proofs.lemmas.List.{map-append, length-map}
+use Rattle.std.proofs.lemmas.List.Elements.{All-map}
 use Rattle.std.proofs.lemmas.List.Folds.{list_any-append}
 use Rattle.std.proofs.lemmas.List.FromFn.{get_or-map-range_with_len, length-map-range_with_len}
 use Rattle.std.proofs.lemmas.Map.Keys.{IsDistinct-push}
 use Rattle.std.proofs.lemmas.Slice.Eq.{bytes_eq-Decides}
 use Rattle.serde_json.specs.Data.{Data}
 use Rattle.reh_types.specs.declared.limits.TheConstants.{ENTRIES_IN_WORD, ENTRY_END, MAX_BOOKIES, MAX_ENTRY_ID}
-use Rattle.reh_types.specs.declared.limits.TheConstants.{MAX_FRAGMENTS, MAX_GRACE, MAX_LEDGERS, MAX_LEDGER_ID}
+use Rattle.reh_types.specs.declared.limits.TheConstants.{MAX_DELAY, MAX_FRAGMENTS, MAX_GRACE, MAX_LEDGERS, MAX_LEDGER_ID}
 use Rattle.reh_types.specs.declared.limits.TheConstants.{MAX_VERSION, MAX_WORDS}
 use Rattle.reh_types.specs.declared.names.LedgerState.TheVariants.{Open, InRecovery, Closed}
 use Rattle.reh_types.specs.Sets as set
@@ -41,7 +42,7 @@ use Rattle.reh_picture.specs.declared.faults.PictureFault.TheVariants.{Limit}
 use Rattle.reh_model.specs.Checks.{reason_unless}
 use Rattle.reh_picture.specs.Faults.{fault_along}
 use Rattle.reh_picture.specs.Members.{integer_in, number_of, text_of, flag_of, list_of, number_fault, list_fault}
-use Rattle.reh_picture.specs.Bookies.{bookie_fault, each_bookie_fault, bookies_fault, names_in, registered_in}
+use Rattle.reh_picture.specs.Bookies.{bookie_fault, each_bookie_fault, bookies_fault, names_in, registration_in}
 use Rattle.reh_picture.specs.Bookies.{bookie_in, known_fault}
 use Rattle.reh_picture.specs.Ledgers.{member_name, member_fault, members_fault, fragment_fault, fragment_in}
 use Rattle.reh_picture.specs.Ledgers.{fragments_fault, is_closed, end_after, end_in, state_in, pictured_metadata}
@@ -53,7 +54,7 @@ use Rattle.reh_picture.specs.Contents.{held_in, words_to, IsGreatest, HasEnds}
 use Rattle.reh_model.specs.Contents as model
 use Rattle.reh_picture.proofs.Greatest.{greatest_held-low}
 use Rattle.reh_picture.specs.Pictures.{names_of, ids_of, contents_of, pictured_cluster, words_in_all, head_fault}
-use Rattle.reh_picture.specs.Pictures.{parts_fault, fields_fault, IsShown}
+use Rattle.reh_picture.specs.Pictures.{parts_fault, fields_fault, has_delay, delay_of, delay_fault, IsShown}
 
 -- Tests
 
@@ -141,45 +142,6 @@ unfolding each_bookie_fault
 names_differ bookies none =
     differ bytes_eq bytes_eq_equiv (λ d. text_of d field.Name) (λ before d. bookie_fault (names_in before) d)
     bookie_differs bookies none
-
--- a place at which a test passes is within the list
-place_within : (test : Data → Bool) (b n : ℕ) (ds : List Data)
-    → list_any (eq_by_cmp nat_cmp b)
-    (map {A = ℕ × Data} {B = ℕ} (λ p. p.0) (filter (λ p. test p.1) (enumerate_from n ds)))
-    ≡ true → b < n + length ds
-place_within test b n [] any = cc
-place_within test b n (d ∷ ds) any =
-    elim (test d) as (λ t.
-    list_any (eq_by_cmp nat_cmp b)
-    (map {A = ℕ × Data} {B = ℕ} (λ p. p.0)
-    (cond t ((n, d) ∷ filter (λ p. test p.1) (enumerate_from (n + 1) ds))
-    (filter (λ p. test p.1) (enumerate_from (n + 1) ds))))
-    ≡ true → b < n + suc (length ds)) [
-      | true ↦
-          λ any.
-          elim (eq_by_cmp nat_cmp b n) as (λ t. eq_by_cmp nat_cmp b n ≡ t
-          → (t
-          || list_any (eq_by_cmp nat_cmp b)
-          (map {A = ℕ × Data} {B = ℕ} (λ p. p.0) (filter (λ p. test p.1) (enumerate_from (n + 1) ds))))
-          ≡ true → b < n + suc (length ds)) [
-            | true ↦ λ tied any. let same : b ≡ n = grind (arith, nat_tests, unsigned_tied b n, tied) in omega arith
-            | false ↦ λ tied any. omega (arith, place_within test b (n + 1) ds any)
-          ] refl any
-      | false ↦ λ any. omega (arith, place_within test b (n + 1) ds any)
-    ] any
-
-registered_named : (bookies : List Data) (b : ℕ) → set.contains (registered_in bookies) b ≡ true
-    → b < length (names_in bookies)
-registered_named bookies b is =
-    omega (
-      arith,
-      place_within (λ d. flag_of d field.Up) b 0 bookies
-          (sym (contains-from_list numbers
-          (map (λ p. p.0) (filter (λ p. flag_of p.1 field.Up) (enumerate_from 0 bookies)))
-          b)
-          ∙ is),
-      length-map bookies (λ d. text_of d field.Name),
-    )
 
 -- a place, where there is one
 abbrev place_if : ℕ → Bool → Option ℕ
@@ -539,9 +501,26 @@ all_items P held each = λ k d within.
 
 -- The cluster
 
+-- a bookie of a picture is lost at its start, if it is lost
+lost_at_the_start : (d : Data) → ForSome (registration_in d) (λ tick. tick ≤ 0)
+lost_at_the_start d = at_the_start (flag_of d field.Up) where
+  at_the_start : (up : Bool) → ForSome (if up then None else Some 0) (λ tick. tick ≤ 0)
+  at_the_start true tick is = cc
+  at_the_start false tick is = let same : 0 ≡ tick = cc in omega (arith, same)
+
+-- the delay is within its limit
+delay_within : (d : Data) → delay_fault d ≡ None → delay_of d ≤ MAX_DELAY
+delay_within d =
+    elim (has_delay d) as (λ t. (if t then number_fault d field.LostDelayTicks 0 MAX_DELAY else None) ≡ None
+    → (if t then number_of d field.LostDelayTicks else 0) ≤ MAX_DELAY) [
+      | true ↦ λ none. (number_within d field.LostDelayTicks 0 MAX_DELAY none).1
+      | false ↦ λ _. lit≤ tt
+    ]
+
 -- the parts of a picture in which nothing is wrong
 pub record IsFaultless (d : Data) : Type 0 where
   pub grace : number_of d field.Grace ≤ MAX_GRACE
+  pub delay : delay_of d ≤ MAX_DELAY
   pub some_bookie : 1 ≤ length (list_of d field.Bookies)
   pub bookies : length (list_of d field.Bookies) ≤ MAX_BOOKIES
   pub each_bookie : each_bookie_fault (list_of d field.Bookies) ≡ None
@@ -562,6 +541,7 @@ IsFaultless-none d none =
     let within = list_within d field.Bookies 1 MAX_BOOKIES each_bookie.0 in
     record {
       grace = (number_within d field.Grace 0 MAX_GRACE grace.0).1;
+      delay = delay_within d (both-none _ _ grace.1).0;
       some_bookie = within.0;
       bookies = within.1;
       each_bookie = (both-none _ _ each_bookie.1).0;
@@ -669,8 +649,13 @@ IsWellFormed-pictured_cluster d good words =
         different = names_differ (list_of d field.Bookies) good.each_bookie;
       };
       grace = good.grace;
+      delay = good.delay;
       clock = lit≤ tt;
-      up = registered_named (list_of d field.Bookies);
+      registrations = record {
+        each = length-map (list_of d field.Bookies) registration_in ∙ sym count;
+        ticks = All-map (λ lost. ForSome lost (λ tick. tick ≤ 0)) registration_in (list_of d field.Bookies)
+            (λ k d within. lost_at_the_start (get_or (list_of d field.Bookies) k d));
+      };
       ledgers = record {
         few = omega (arith, length-map (list_of d field.Ledgers) (ledger_in (names_of d) s.parts.held), good.ledgers);
         different = pictured_ids d good;
@@ -696,25 +681,26 @@ ledgers_made names ends held is (d ∷ ds) = λ i. record {
     ∷ ledgers_made names ends held is ds i
 
 -- the ledgers that were read are those of the cluster
-pub ledgers-shown : (d : Data) (names : List (List ℕ)) (up : Set numbers) (grace : ℕ) (listed : List ListedLedger)
+pub ledgers-shown : (d : Data) (names : List (List ℕ)) (lost_at : List (Option ℕ)) (grace delay : ℕ) (listed : List ListedLedger)
     (holdings lent : List Holding) (ends : ℕ → Option ℕ) (ledgers : List Ledger)
-    → IsShown d names up grace listed holdings → lent ≡ holdings
+    → IsShown d names lost_at grace delay listed holdings → lent ≡ holdings
     → IsGreatest ends (held_in lent) → ledgers ≡ map (ledger_of ends) listed
     → ledgers ≡ (pictured_cluster d).parts.ledgers
-ledgers-shown d names up grace listed holdings lent ends ledgers shown same is made =
+ledgers-shown d names lost_at grace delay listed holdings lent ends ledgers shown same is made =
     made ∙ ap (map (ledger_of ends)) shown.listed_are
     ∙ ledgers_made (names_of d) ends (contents_of d)
     (subst (λ (hs : List Holding). IsGreatest ends (held_in hs)) (same ∙ shown.holdings_are) is)
     (list_of d field.Ledgers)
 
 -- and so are the other parts
-pub cluster_of-shown : (d : Data) (names : List (List ℕ)) (up : Set numbers) (grace : ℕ) (listed : List ListedLedger)
-    (holdings : List Holding) (ledgers : List Ledger) (held : model.Contents) → IsShown d names up grace listed holdings
+pub cluster_of-shown : (d : Data) (names : List (List ℕ)) (lost_at : List (Option ℕ)) (grace delay : ℕ) (listed : List ListedLedger)
+    (holdings : List Holding) (ledgers : List Ledger) (held : model.Contents) → IsShown d names lost_at grace delay listed holdings
     → ledgers ≡ (pictured_cluster d).parts.ledgers → held ≡ held_in holdings
-    → cluster_of names up grace ledgers held ≡ pictured_cluster d
-cluster_of-shown d names up grace listed holdings ledgers held shown made is =
+    → cluster_of names lost_at grace delay ledgers held ≡ pictured_cluster d
+cluster_of-shown d names lost_at grace delay listed holdings ledgers held shown made is =
     λ i.
-    cluster_of (shown.names_are i) (shown.up_is i) (shown.grace_is i) (made i) ((is ∙ ap held_in shown.holdings_are) i)
+    cluster_of (shown.names_are i) (shown.lost_are i) (shown.grace_is i) (shown.delay_is i) (made i)
+    ((is ∙ ap held_in shown.holdings_are) i)
 
 -- and take as many words
 pub words_in_all-shown : (d : Data) (names : List (List ℕ)) (ledgers : List Ledger) (bookies words : ℕ)

@@ -1,14 +1,13 @@
 -- The bookies of a picture.
-use Rattle.std.specs.Prelude.{ℕ, Bool, not, nat_le, ◌&&◌, List, [], ◌∷◌, map, length, Option, unwrap_or}
+use Rattle.std.specs.Prelude.{ℕ, Bool, not, nat_le, ◌&&◌, List, [], ◌∷◌, map, length, if◌then◌else◌, Option}
+use Rattle.std.specs.Prelude.{None, Some, unwrap_or}
 use Rattle.std.specs.Char.{is_ascii_graphic}
-use Rattle.std.specs.List.{filter, list_any, list_all, enumerate_from}
+use Rattle.std.specs.List.{list_any, list_all}
 use Rattle.std.specs.Option.{is_some}
 use Rattle.std.specs.Result.{result_err}
 use Rattle.std.specs.Str.{bytes_eq}
 use Rattle.serde_json.specs.Data.{Data}
 use Rattle.reh_types.specs.declared.limits.TheConstants.{MAX_BOOKIES, MAX_NAME_BYTES}
-use Rattle.reh_types.specs.Sets as set
-use Rattle.reh_types.specs.Sets.{Set, numbers}
 use Rattle.reh_model.specs.Cluster.{bookie_named}
 use Rattle.reh_picture.specs.declared.fields.Field.TheVariants as field
 use Rattle.reh_picture.specs.declared.faults.Repeated.TheVariants as repeated
@@ -53,9 +52,12 @@ unfoldable pub bookies_fault : Data → Option PictureFault
 bookies_fault d =
     first_reason (list_fault d field.Bookies 1 MAX_BOOKIES ∷ each_bookie_fault (list_of d field.Bookies) ∷ [])
 
--- the places of the bookies that are registered
-abbrev pub registered_in : List Data → Set numbers
-registered_in bookies = set.from_list (map (λ p. p.0) (filter (λ p. flag_of p.1 field.Up) (enumerate_from 0 bookies)))
+-- a bookie's registration; one that isn't registered was lost at tick 0
+abbrev pub registration_in : Data → Option ℕ
+registration_in d = if flag_of d field.Up then None else Some 0
+
+abbrev pub registrations_in : List Data → List (Option ℕ)
+registrations_in bookies = map registration_in bookies
 
 -- the bookie of that name; a picture without a fault names only bookies that there are
 abbrev pub bookie_in : List (List ℕ) → List ℕ → ℕ

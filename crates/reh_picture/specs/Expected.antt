@@ -103,8 +103,9 @@ entries_wanted here = codes "a list of ranges of entries"
 -- what a field must be
 abbrev pub wanted_text : Field → Place → List ℕ
 wanted_text field.Picture here = codes "an object"
-wanted_text field.Format here = codes "1"
+wanted_text field.Format here = codes "1 or 2"
 wanted_text field.Grace here = codes "a whole number from 0 to 1000000"
+wanted_text field.LostDelayTicks here = codes "a whole number from 0 to 1000000"
 wanted_text field.Bookies here = codes "a list of 1 to 64 bookies"
 wanted_text field.Bookie here = bookie_wanted here
 wanted_text field.Name here = codes "a text of 1 to 300 bytes, each 0x21 to 0x7E"

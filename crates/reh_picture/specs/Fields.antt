@@ -7,6 +7,7 @@ abbrev pub field_name : Field → List ℕ
 field_name field.Picture = codes "picture"
 field_name field.Format = codes "format"
 field_name field.Grace = codes "grace"
+field_name field.LostDelayTicks = codes "lostDelayTicks"
 field_name field.Bookies = codes "bookies"
 field_name field.Bookie = codes "bookie"
 field_name field.Name = codes "name"

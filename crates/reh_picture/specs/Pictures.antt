@@ -1,11 +1,11 @@
 -- The cluster that a picture shows, or the picture's first fault.
-use Rattle.std.specs.Prelude.{ℕ, ◌*◌, nat_lt, nat_le, List, [], ◌∷◌, map, length, sum_by, ◌≡◌, if◌then◌else◌, Option}
+use Rattle.std.specs.Prelude.{ℕ, ◌*◌, Bool, ◌==◌, nat_lt, nat_le, List, [], ◌∷◌, map, length, sum_by, ◌≡◌, if◌then◌else◌, Option}
 use Rattle.std.specs.Prelude.{None, Some, Result, Ok, Err}
 use Rattle.std.specs.Str.{is_utf8}
 use Rattle.serde_json.specs.Data.{Data}
-use Rattle.reh_types.specs.declared.limits.TheConstants.{MAX_GRACE, MAX_PICTURE_BYTES, MAX_WORDS}
+use Rattle.reh_types.specs.declared.limits.TheConstants.{MAX_DELAY, MAX_GRACE, MAX_PICTURE_BYTES, MAX_WORDS}
+use Rattle.reh_picture.specs.declared.pictures.TheConstants.{DELAY_FORMAT, FIRST_FORMAT}
 use Rattle.serde_json.specs.Read.{read}
-use Rattle.reh_types.specs.Sets.{Set, numbers}
 use Rattle.reh_model.specs.Contents.{Contents}
 use Rattle.reh_model.specs.Cluster.{Cluster, cluster_of}
 use Rattle.reh_picture.specs.declared.fields.Field.TheVariants as field
@@ -13,7 +13,7 @@ use Rattle.reh_picture.specs.declared.faults.PictureFault.{PictureFault}
 use Rattle.reh_picture.specs.declared.faults.PictureFault.TheVariants.{TooLong, NotJson, WrongKind, Limit}
 use Rattle.reh_model.specs.Checks.{first_reason, reason_unless}
 use Rattle.reh_picture.specs.Members.{is_object, number_fault, number_of, list_of}
-use Rattle.reh_picture.specs.Bookies.{bookies_fault, names_in, registered_in}
+use Rattle.reh_picture.specs.Bookies.{bookies_fault, names_in, registrations_in}
 use Rattle.reh_picture.specs.Ledgers.{ledgers_fault, ListedLedger, listed_in, ledger_in, ids_in}
 use Rattle.reh_picture.specs.Contents.{Holding, contents_fault, holding_in, held_in}
 
@@ -29,23 +29,37 @@ ids_of d = ids_in (list_of d field.Ledgers)
 abbrev pub contents_of : Data → Contents
 contents_of d = held_in (map (holding_in (names_of d)) (list_of d field.Contents))
 
+-- whether the picture has a delay for lost bookies: that of format 2 has
+abbrev pub has_delay : Data → Bool
+has_delay d = number_of d field.Format == DELAY_FORMAT
+
+-- the delay, none in a picture of format 1
+abbrev pub delay_of : Data → ℕ
+delay_of d = if has_delay d then number_of d field.LostDelayTicks else 0
+
 -- the cluster that the fields name, with no task and no lock, at clock 0
 abbrev pub pictured_cluster : Data → Cluster
 pictured_cluster d =
     let ledgers = map (ledger_in (names_of d) (contents_of d)) (list_of d field.Ledgers) in
-    cluster_of (names_of d) (registered_in (list_of d field.Bookies)) (number_of d field.Grace) ledgers (contents_of d)
+    cluster_of (names_of d) (registrations_in (list_of d field.Bookies)) (number_of d field.Grace) (delay_of d) ledgers
+    (contents_of d)
 
 -- words of entries that all bookies together take, each as many for a ledger as it has
 abbrev pub words_in_all : Cluster → ℕ
 words_in_all s = length s.names * sum_by (λ g. g.words) s.parts.ledgers
+
+-- what is wrong with the delay, where there is one
+abbrev pub delay_fault : Data → Option PictureFault
+delay_fault d = if has_delay d then number_fault d field.LostDelayTicks 0 MAX_DELAY else None
 
 -- what is wrong before the lists
 unfoldable pub head_fault : Data → Option PictureFault
 head_fault d =
     first_reason (
     reason_unless (is_object d) (WrongKind field.Picture)
-    ∷ number_fault d field.Format 1 1
+    ∷ number_fault d field.Format FIRST_FORMAT DELAY_FORMAT
     ∷ number_fault d field.Grace 0 MAX_GRACE
+    ∷ delay_fault d
     ∷ [])
 
 -- the first fault of a picture's fields, in their order
@@ -86,10 +100,11 @@ abbrev pub picture_of : List ℕ → Result Cluster PictureFault
 picture_of bytes = if nat_lt MAX_PICTURE_BYTES (length bytes) then Err TooLong else shown_by (json_of bytes)
 
 -- What was read of a picture without a fault of its fields: the parts of the cluster that it shows.
-pub record IsShown (d : Data) (names : List (List ℕ)) (up : Set numbers) (grace : ℕ) (listed : List ListedLedger)
-    (holdings : List Holding) : Type 0 where
+pub record IsShown (d : Data) (names : List (List ℕ)) (lost_at : List (Option ℕ)) (grace delay : ℕ)
+    (listed : List ListedLedger) (holdings : List Holding) : Type 0 where
   pub names_are : names ≡ names_of d
-  pub up_is : up ≡ registered_in (list_of d field.Bookies)
+  pub lost_are : lost_at ≡ registrations_in (list_of d field.Bookies)
   pub grace_is : grace ≡ number_of d field.Grace
+  pub delay_is : delay ≡ delay_of d
   pub listed_are : listed ≡ map (listed_in (names_of d)) (list_of d field.Ledgers)
   pub holdings_are : holdings ≡ map (holding_in (names_of d)) (list_of d field.Contents)

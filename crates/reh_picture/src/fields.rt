@@ -12,6 +12,8 @@ pub enum Field {
     Format,
     /// The grace of an open ledger, in ticks.
     Grace,
+    /// For how many ticks after a bookie's loss an audit waits.
+    LostDelayTicks,
     /// The list of bookies.
     Bookies,
     /// One bookie, or the name of the bookie that holds entries.
@@ -65,6 +67,7 @@ impl Field {
             Field::Picture => "picture",
             Field::Format => "format",
             Field::Grace => "grace",
+            Field::LostDelayTicks => "lostDelayTicks",
             Field::Bookies => "bookies",
             Field::Bookie => "bookie",
             Field::Name => "name",

@@ -3,12 +3,12 @@ ghost use Rattle.std.specs.Prelude.{◌≡◌, ◌≢◌, ◌*◌, ◌≤◌, Al
 ghost use Rattle.std.specs.Prelude.{IfErr};
 ghost use Rattle.std.specs.Result.{result_err};
 ghost use Rattle.serde_json.specs.View.{view};
-ghost use Rattle.reh_types.specs.declared.limits.TheConstants.{ENTRIES_IN_WORD, ENTRY_END, MAX_BOOKIES, MAX_GRACE};
+ghost use Rattle.reh_types.specs.declared.limits.TheConstants.{ENTRIES_IN_WORD, ENTRY_END, MAX_BOOKIES};
 ghost use Rattle.reh_types.specs.declared.limits.TheConstants.{MAX_LEDGERS};
 ghost use Rattle.reh_picture.specs.Members.{number_of};
 ghost use Rattle.reh_picture.specs.Faults.{FailsWith};
 ghost use Rattle.reh_picture.specs.Pictures.{picture_of, head_fault, parts_fault, fields_fault, pictured_cluster};
-ghost use Rattle.reh_picture.specs.Pictures.{IsShown, ids_of, json_of};
+ghost use Rattle.reh_picture.specs.Pictures.{IsShown, delay_fault, delay_of, ids_of, json_of};
 
 use crate::bookies::read_bookies;
 use crate::contents::{Holding, greatest_ends, hold, read_contents};
@@ -18,12 +18,15 @@ use crate::ledgers::{Ledgers, ListedLedger, read_ledgers, with_words};
 use crate::members::number_within;
 use indexmap::IndexSet;
 use reh_cluster::{Ledger, Names, State};
-use reh_types::{BookieSet, MAX_GRACE, MAX_PICTURE_BYTES, MAX_WORDS};
+use reh_types::{MAX_DELAY, MAX_GRACE, MAX_PICTURE_BYTES, MAX_WORDS};
 use serde_json::Value;
 use std::alloc::Global;
 
-/// The number of the format.
-const FORMAT: u64 = 1;
+/// The number of the first format.
+const FIRST_FORMAT: u64 = 1;
+
+/// The number of the format that has a delay for lost bookies, which is the last one.
+const DELAY_FORMAT: u64 = 2;
 
 /// The state that a picture shows, or the picture's first fault.
 ///
@@ -55,8 +58,8 @@ pub(crate) fn read_cluster(alloc: Global, picture: &Value) -> Result<State, Pict
 {
     let Parts {
         names,
-        up,
-        grace,
+        lost_at,
+        ticks,
         ids,
         listed,
         holdings,
@@ -67,7 +70,8 @@ pub(crate) fn read_cluster(alloc: Global, picture: &Value) -> Result<State, Pict
         return Err(PictureFault::Limit(Field::Contents));
     }
     let held = hold(alloc, names.len(), &ledgers, &holdings)?;
-    Ok(State::build(names, up, grace, ids, ledgers, held))
+    let Ticks { grace, delay } = ticks;
+    Ok(State::build(names, lost_at, grace, delay, ids, ledgers, held))
 }
 
 /// How many words of entries so many bookies take, each as many for a ledger as it has.
@@ -88,42 +92,65 @@ pub(crate) fn words_in_all(bookies: usize, ledgers: &[Ledger]) -> u64
 #[derive(Drop)]
 struct Parts {
     names: Names,
-    up: BookieSet,
-    grace: u64,
+    lost_at: Vec<Option<u64>>,
+    ticks: Ticks,
     ids: IndexSet<u64>,
     listed: Vec<ListedLedger>,
     holdings: Vec<Holding>,
 }
 
-/// The grace of a picture, in ticks.
+/// The numbers of ticks that stand before a picture's lists.
+#[derive(Clone, Copy)]
+pub(crate) struct Ticks {
+    grace: u64,
+    delay: u64,
+}
+
+/// The grace and the delay of a picture, in ticks.
 #[tactic(auto, unfolding(crate::specs::Pictures::head_fault))]
-pub(crate) fn read_grace(picture: &Value) -> Result<u64, PictureFault>
+pub(crate) fn read_ticks(picture: &Value) -> Result<Ticks, PictureFault>
     ensures fault { result_err result ≡ head_fault (view picture.now) }
-    ensures grace { IfOk result (λ grace. grace ≡ number_of (view picture.now) Field.Grace) }
-    ensures limit { IfOk result (λ grace. grace ≤ MAX_GRACE) }
+    ensures grace { IfOk result
+        (λ ticks. ticks.grace ≡ number_of (view picture.now) Field.Grace) }
+    ensures delay { IfOk result (λ ticks. ticks.delay ≡ delay_of (view picture.now)) }
 {
     if !picture.is_object() {
         return Err(PictureFault::WrongKind(Field::Picture));
     }
-    number_within(picture, Field::Format, FORMAT, FORMAT)?;
-    number_within(picture, Field::Grace, 0, MAX_GRACE)
+    let format = number_within(picture, Field::Format, FIRST_FORMAT, DELAY_FORMAT)?;
+    let grace = number_within(picture, Field::Grace, 0, MAX_GRACE)?;
+    let delay = read_delay(picture, format)?;
+    Ok(Ticks { grace, delay })
+}
+
+/// The delay for lost bookies, none in a picture of format 1.
+fn read_delay(picture: &Value, format: u64) -> Result<u64, PictureFault>
+    requires { number_of (view picture.now) Field.Format ≡ format }
+    ensures fault { result_err result ≡ delay_fault (view picture.now) }
+    ensures delay { IfOk result (λ delay. delay ≡ delay_of (view picture.now)) }
+{
+    if format == DELAY_FORMAT {
+        number_within(picture, Field::LostDelayTicks, 0, MAX_DELAY)
+    } else {
+        Ok(0)
+    }
 }
 
 /// The parts that a picture's fields name.
 fn read_parts(alloc: Global, picture: &Value) -> Result<Parts, PictureFault>
     ensures fault { FailsWith result (parts_fault (view picture.now)) }
     ensures shown { IfOk result (λ p. IsShown (view picture.now)
-        p.names p.up p.grace p.listed.items p.holdings.items) }
+        p.names p.lost_at.items p.ticks.grace p.ticks.delay p.listed.items p.holdings.items) }
     ensures ids { IfOk result (λ p. p.ids.keys ≡ ids_of (view picture.now)) }
 {
-    let grace = read_grace(picture)?;
-    let (names, up) = read_bookies(alloc, picture)?;
+    let ticks = read_ticks(picture)?;
+    let (names, lost_at) = read_bookies(alloc, picture)?;
     let Ledgers { ids, listed } = read_ledgers(alloc, &names, picture)?;
     let holdings = read_contents(alloc, &names, &ids, picture)?;
     Ok(Parts {
         names,
-        up,
-        grace,
+        lost_at,
+        ticks,
         ids,
         listed,
         holdings,

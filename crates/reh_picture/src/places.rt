@@ -5,8 +5,8 @@ ghost use Rattle.reh_picture.specs.Expected.{element_field, faulty_field, wanted
 use crate::faults::{LedgerFlaw, PictureFault, Repeated};
 use crate::fields::Field;
 use reh_types::{
-    MAX_BOOKIES, MAX_ENSEMBLE_SIZE, MAX_ENTRY_ID, MAX_FRAGMENTS, MAX_GRACE, MAX_LEDGER_ID,
-    MAX_LEDGERS, MAX_NAME_BYTES, MAX_PICTURE_BYTES, MAX_VERSION, MAX_WORDS,
+    MAX_BOOKIES, MAX_DELAY, MAX_ENSEMBLE_SIZE, MAX_ENTRY_ID, MAX_FRAGMENTS, MAX_GRACE,
+    MAX_LEDGER_ID, MAX_LEDGERS, MAX_NAME_BYTES, MAX_PICTURE_BYTES, MAX_VERSION, MAX_WORDS,
 };
 use std::error::Error;
 use std::fmt;
@@ -229,8 +229,8 @@ fn wanted(field: Field, place: Place) -> &'static str
     ensures { result.now ≡ wanted_text field place }
 {
     match field {
-        Field::Format => "1",
-        Field::Grace => "a whole number from 0 to 1000000",
+        Field::Format => "1 or 2",
+        Field::Grace | Field::LostDelayTicks => "a whole number from 0 to 1000000",
         Field::Bookies => "a list of 1 to 64 bookies",
         Field::Name => "a text of 1 to 300 bytes, each 0x21 to 0x7E",
         Field::Up => "true or false",
@@ -273,6 +273,8 @@ const _: () = prove!(MAX_PICTURE_BYTES == 8_388_608);
 const _: () = prove!(MAX_WORDS == 4_194_304);
 
 const _: () = prove!(MAX_GRACE == 1_000_000);
+
+const _: () = prove!(MAX_DELAY == 1_000_000);
 
 const _: () = prove!(MAX_BOOKIES == 64);
 

@@ -22,7 +22,7 @@ use crate::faults::{PictureFault, Repeated};
 use crate::fields::Field;
 use crate::ledgers::{read_member, read_metadata, read_sizes, read_state};
 use crate::members::{list, list_within, number_within};
-use crate::pictures::{read_cluster, read_grace};
+use crate::pictures::{read_cluster, read_ticks};
 use crate::places::{LocatedFault, Place};
 use indexmap::IndexSet;
 use reh_cluster::{Names, State};
@@ -101,7 +101,7 @@ fn locate_parts(alloc: Global, picture: &Value) -> Result<(), LocatedFault>
 fn read_head(picture: &Value) -> Result<(), LocatedFault>
     ensures { FailsAt result (fault_at Place.Picture (head_fault (view picture.now))) }
 {
-    match read_grace(picture) {
+    match read_ticks(picture) {
         Ok(_) => Ok(()),
         Err(fault) => Err(fault.at(Place::Picture)),
     }

@@ -67,3 +67,15 @@ fn an_audit_tells_its_tasks(rt: HostRuntime) -> Result<(), Fail> {
     );
     Ok(())
 }
+
+#[test]
+fn that_autorecovery_is_disabled_is_told_first(rt: HostRuntime) -> Result<(), Fail> {
+    let state = state_of(rt.alloc(), FIVE_BOOKIES)?;
+    let disabled = step(rt.alloc(), &state, &Event::Disable)?;
+    let text = audit_text(rt.alloc(), &disabled)?;
+    assert_eq!(rt;
+        text.as_str(),
+        "missing under None\nmissing under None\n42 Disabled\n"
+    );
+    Ok(())
+}

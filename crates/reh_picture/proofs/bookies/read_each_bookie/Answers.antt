@@ -1,30 +1,17 @@
--- One bookie more is read, with its name and its register; the first that has a fault ends the reading with it.
-use Rattle.std.proofs.Common.{true, false, ◌∙◌, rules}
-use Rattle.reh_picture.specs.Bookies.{each_bookie_fault}
-use Rattle.reh_picture.proofs.BookiesLemmas.{HasRead-none, HasRead-next, bookie_fault_here}
+-- One bookie more is read, with its name and its registration.
+use Rattle.std.proofs.Common.{List, Option, None, Some, ℕ, Bool, ◌≡◌, ◌∙◌, ◌++◌, ◌∷◌, [], ap, if◌then◌else◌, sym}
+use Rattle.serde_json.specs.View.{view}
+use Rattle.reh_picture.proofs.BookiesLemmas.{HasRead-none, HasRead-next}
 use Rattle.reh_picture.proofs.bookies.read_each_bookie.Goals as goal
-use Rattle.reh_picture.proofs.bookies.read_each_bookie.Goals.{then-registered, else-registered}
 
-pub loop-i-init : goal.loop-i-init
-loop-i-init c = rw (c.new-names.ensures, c.new-up.ensures) (HasRead-none c.args.bookies.now)
+pub loop-bookie-init : goal.loop-bookie-init
+loop-bookie-init c = rw (c.new-names.ensures, c.in_ok-lost_at.ensures.items) (HasRead-none c.args.bookies.now)
 
-pub returns-in_err-registered-clause-fault : goal.returns-in_err-registered-clause-fault
-unfolding each_bookie_fault
-returns-in_err-registered-clause-fault c =
-    search (
-      rules,
-      bookie_fault_here c.args.bookies.now c.loop-i.i c.loop-i.names c.loop-i.up c.index-bookies-i.result
-          c.loop-i.invariant c.loop-i-test.true c.index-bookies-i.is,
-    )
-
-pub loop-i-preserved : goal.loop-i-preserved
-loop-i-preserved c =
-    let next =
-    HasRead-next c.args.bookies.now c.loop-i.i c.loop-i.names c.loop-i.up c.index-bookies-i.result c.loop-i.invariant
-    c.loop-i-test.true c.index-bookies-i.is in
-    let read = c.in_ok-registered.ensures in
-    elim c.if-registered.branch [
-      | then-registered w ↦
-          next true _ _ read.fault read.named (read.registered ∙ w.if-registered.true) (w.up-is ∙ w.insert.ensures)
-      | else-registered w ↦ next false _ _ read.fault read.named (read.registered ∙ w.if-registered.false) w.up-is
-    ]
+pub loop-bookie-preserved : goal.loop-bookie-preserved
+loop-bookie-preserved c =
+    let read = c.in_ok-read_bookie.ensures in
+    HasRead-next c.args.bookies.now c.loop-bookie.bookie-index c.loop-bookie.names c.loop-bookie.lost_at.items
+    c.bookie-item.result c.loop-bookie.invariant c.loop-bookie-test.true c.bookie-item.is _ _ read.fault read.named
+    (c.in_ok-push.ensures.items
+    ∙ ap (λ (lost : Option ℕ). c.loop-bookie.lost_at.items ++ lost ∷ [])
+    (c.registration_of-lost.ensures ∙ ap (λ (up : Bool). if up then None else Some 0) (sym read.registered)))

@@ -33,7 +33,7 @@ words_in_all-requires-clause-ledgers c =
     let read = c.in_ok-names.ensures in
     let made =
     c.deref-2.ensures.value
-    ∙ ledgers-shown d _ _ _ _ _ c.deref.result.now (get nat_cmp c.in_ok-greatest.greatest) _ read.shown
+    ∙ ledgers-shown d _ _ _ _ _ _ c.deref.result.now (get nat_cmp c.in_ok-greatest.greatest) _ read.shown
     c.deref.ensures.value c.in_ok-greatest.ensures c.in_ok-ledgers.ensures in
     omega (
       arith,
@@ -48,7 +48,7 @@ words_in_all-requires-clause-words c =
     let read = c.in_ok-names.ensures in
     let made =
     c.deref-2.ensures.value
-    ∙ ledgers-shown d _ _ _ _ _ c.deref.result.now (get nat_cmp c.in_ok-greatest.greatest) _ read.shown
+    ∙ ledgers-shown d _ _ _ _ _ _ c.deref.result.now (get nat_cmp c.in_ok-greatest.greatest) _ read.shown
     c.deref.ensures.value c.in_ok-greatest.ensures c.in_ok-ledgers.ensures in
     subst (λ (ledgers : List Ledger). All (λ g. ENTRIES_IN_WORD * g.words ≤ ENTRY_END) ledgers) (sym made)
     (pictured_words d (IsFaultless-none d read.fault))
@@ -59,7 +59,7 @@ returns-then-words_in_all-gt-MAX_WORDS-clause-fault c = λ known.
     let read = c.in_ok-names.ensures in
     let made =
     c.deref-2.ensures.value
-    ∙ ledgers-shown d _ _ _ _ _ c.deref.result.now (get nat_cmp c.in_ok-greatest.greatest) _ read.shown
+    ∙ ledgers-shown d _ _ _ _ _ _ c.deref.result.now (get nat_cmp c.in_ok-greatest.greatest) _ read.shown
     c.deref.ensures.value c.in_ok-greatest.ensures c.in_ok-ledgers.ensures in
     let words : c.words_in_all.result ≡ words_in_all (pictured_cluster d) =
     words_in_all-shown d _ _ _ _ read.shown.names_are made c.len.ensures.count c.words_in_all.ensures in
@@ -71,7 +71,7 @@ hold-requires-clause-few c =
     let read = c.in_ok-names.ensures in
     let made =
     c.deref-3.ensures.value
-    ∙ ledgers-shown d _ _ _ _ _ c.deref.result.now (get nat_cmp c.in_ok-greatest.greatest) _ read.shown
+    ∙ ledgers-shown d _ _ _ _ _ _ c.deref.result.now (get nat_cmp c.in_ok-greatest.greatest) _ read.shown
     c.deref.ensures.value c.in_ok-greatest.ensures c.in_ok-ledgers.ensures in
     omega (
       arith,
@@ -86,7 +86,7 @@ hold-requires-clause-different c =
     let read = c.in_ok-names.ensures in
     let made =
     c.deref-3.ensures.value
-    ∙ ledgers-shown d _ _ _ _ _ c.deref.result.now (get nat_cmp c.in_ok-greatest.greatest) _ read.shown
+    ∙ ledgers-shown d _ _ _ _ _ _ c.deref.result.now (get nat_cmp c.in_ok-greatest.greatest) _ read.shown
     c.deref.ensures.value c.in_ok-greatest.ensures c.in_ok-ledgers.ensures in
     subst (λ (ledgers : List Ledger). IsDistinct nat_eq (map (λ g. g.id) ledgers)) (sym made)
     (pictured_ids d (IsFaultless-none d read.fault))
@@ -97,7 +97,7 @@ hold-requires-clause-words c =
     let read = c.in_ok-names.ensures in
     let made =
     c.deref-3.ensures.value
-    ∙ ledgers-shown d _ _ _ _ _ c.deref.result.now (get nat_cmp c.in_ok-greatest.greatest) _ read.shown
+    ∙ ledgers-shown d _ _ _ _ _ _ c.deref.result.now (get nat_cmp c.in_ok-greatest.greatest) _ read.shown
     c.deref.ensures.value c.in_ok-greatest.ensures c.in_ok-ledgers.ensures in
     subst (λ (ledgers : List Ledger). All (λ g. ENTRIES_IN_WORD * g.words ≤ ENTRY_END) ledgers) (sym made)
     (pictured_words d (IsFaultless-none d read.fault))
@@ -108,7 +108,7 @@ hold-requires-clause-ends c =
     let read = c.in_ok-names.ensures in
     let made =
     c.deref-3.ensures.value
-    ∙ ledgers-shown d _ _ _ _ _ c.deref.result.now (get nat_cmp c.in_ok-greatest.greatest) _ read.shown
+    ∙ ledgers-shown d _ _ _ _ _ _ c.deref.result.now (get nat_cmp c.in_ok-greatest.greatest) _ read.shown
     c.deref.ensures.value c.in_ok-greatest.ensures c.in_ok-ledgers.ensures in
     ends-shown d _ _ _ (IsFaultless-none d read.fault)
     (c.len-2.ensures.count ∙ ap (λ (names : List (List ℕ)). length names) read.shown.names_are) made
@@ -120,12 +120,12 @@ build-requires-clause-cluster c =
     let read = c.in_ok-names.ensures in
     let made =
     c.deref-2.ensures.value
-    ∙ ledgers-shown d _ _ _ _ _ c.deref.result.now (get nat_cmp c.in_ok-greatest.greatest) _ read.shown
+    ∙ ledgers-shown d _ _ _ _ _ _ c.deref.result.now (get nat_cmp c.in_ok-greatest.greatest) _ read.shown
     c.deref.ensures.value c.in_ok-greatest.ensures c.in_ok-ledgers.ensures in
     let words : c.words_in_all.result ≡ words_in_all (pictured_cluster d) =
     words_in_all-shown d _ _ _ _ read.shown.names_are made c.len.ensures.count c.words_in_all.ensures in
     let whole =
-    cluster_of-shown d _ _ _ _ _ _ _ read.shown (sym c.deref-2.ensures.value ∙ made)
+    cluster_of-shown d _ _ _ _ _ _ _ _ read.shown (sym c.deref-2.ensures.value ∙ made)
     (c.in_ok-held.ensures.contents ∙ ap (λ (holdings : List Holding). held_in holdings) c.deref-4.ensures.value) in
     subst (λ (s : Cluster). IsWellFormed s) (sym whole)
     (IsWellFormed-pictured_cluster d (IsFaultless-none d read.fault) (omega (arith, words)))
@@ -136,7 +136,7 @@ build-requires-clause-ids c =
     let read = c.in_ok-names.ensures in
     let made =
     c.deref-2.ensures.value
-    ∙ ledgers-shown d _ _ _ _ _ c.deref.result.now (get nat_cmp c.in_ok-greatest.greatest) _ read.shown
+    ∙ ledgers-shown d _ _ _ _ _ _ c.deref.result.now (get nat_cmp c.in_ok-greatest.greatest) _ read.shown
     c.deref.ensures.value c.in_ok-greatest.ensures c.in_ok-ledgers.ensures in
     read.ids
     ∙ sym (ap (λ (ledgers : List Ledger). map (λ g. g.id) ledgers) (sym c.deref-2.ensures.value ∙ made)
@@ -152,7 +152,7 @@ returns-clause-fault c =
     let read = c.in_ok-names.ensures in
     let made =
     c.deref-2.ensures.value
-    ∙ ledgers-shown d _ _ _ _ _ c.deref.result.now (get nat_cmp c.in_ok-greatest.greatest) _ read.shown
+    ∙ ledgers-shown d _ _ _ _ _ _ c.deref.result.now (get nat_cmp c.in_ok-greatest.greatest) _ read.shown
     c.deref.ensures.value c.in_ok-greatest.ensures c.in_ok-ledgers.ensures in
     let words : c.words_in_all.result ≡ words_in_all (pictured_cluster d) =
     words_in_all-shown d _ _ _ _ read.shown.names_are made c.len.ensures.count c.words_in_all.ensures in
@@ -164,9 +164,9 @@ returns-clause-state c =
     let read = c.in_ok-names.ensures in
     let made =
     c.deref-2.ensures.value
-    ∙ ledgers-shown d _ _ _ _ _ c.deref.result.now (get nat_cmp c.in_ok-greatest.greatest) _ read.shown
+    ∙ ledgers-shown d _ _ _ _ _ _ c.deref.result.now (get nat_cmp c.in_ok-greatest.greatest) _ read.shown
     c.deref.ensures.value c.in_ok-greatest.ensures c.in_ok-ledgers.ensures in
     let whole =
-    cluster_of-shown d _ _ _ _ _ _ _ read.shown (sym c.deref-2.ensures.value ∙ made)
+    cluster_of-shown d _ _ _ _ _ _ _ _ read.shown (sym c.deref-2.ensures.value ∙ made)
     (c.in_ok-held.ensures.contents ∙ ap (λ (holdings : List Holding). held_in holdings) c.deref-4.ensures.value) in
     c.build.ensures ∙ whole

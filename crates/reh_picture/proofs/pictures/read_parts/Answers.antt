@@ -14,6 +14,6 @@ returns-in_err-holdings-clause-fault c =
     let first : fault ≢ NoMemory → parts_fault (view c.args.picture.now) ≡ Some fault =
     λ known.
     contents_fault_first (view c.args.picture.now) c.in_ok-names.names c.in_ok-ids.field-0.ids.keys
-    (sym c.in_ok-grace.ensures.fault) names.fault names.names ledgers.fault ledgers.ids fault
+    (sym c.in_ok-ticks.ensures.fault) names.fault names.names ledgers.fault ledgers.ids fault
     (c.in_err-holdings.ensures.fault known) in
     search (rules, first, c.from_residual-in_err-holdings.ensures)
