@@ -654,7 +654,7 @@ IsWellFormed-pictured_cluster d good words =
       registrations = record {
         each = length-map (list_of d field.Bookies) registration_in ∙ sym count;
         ticks = All-map (λ lost. ForSome lost (λ tick. tick ≤ 0)) registration_in (list_of d field.Bookies)
-            (λ k d within. lost_at_the_start (get_or (list_of d field.Bookies) k d));
+            (λ k other within. lost_at_the_start (get_or (list_of d field.Bookies) k other));
       };
       ledgers = record {
         few = omega (arith, length-map (list_of d field.Ledgers) (ledger_in (names_of d) s.parts.held), good.ledgers);

@@ -31,7 +31,7 @@ returns-in-Err-clause-called g c few =
 
 pub returns-in-Err-clause-caller : goal.returns-in-Err-clause-caller
 returns-in-Err-clause-caller g c =
-    aim_refused _ _ _ _ _ _ _ c.in-Err.ensures c.make_room.ensures.shown c.write.ensures.own_line
+    aim_refused _ _ _ _ c.state.result.now _ _ c.in-Err.ensures c.make_room.ensures.shown c.write.ensures.own_line
 
 pub invariant_of-self-2 : goal.invariant_of-self-2
 invariant_of-self-2 g c =
