@@ -2,7 +2,7 @@
 use Rattle.std.proofs.Common.{◌≡◌, ℕ, Bool, true, false, refl, sym, ap, subst, nat_eq, true≢false}
 use Rattle.std.specs.Prelude.{◌↔◌, IsTrue}
 use Rattle.reh_types.specs.declared.refusals.Refusal.{Refusal}
-use Rattle.reh_types.specs.declared.refusals.Refusal.TheVariants.{NoBookie, NoLedger, AlreadyDown, AlreadyUp, NothingToPublish, NoTask, Locked, NotOwner, StillUnder, NoLocks, NotOpen, NotNeeded, GraceSet, GraceRuns, NoGrace, BadTick, ClockEnd, NoFragment, NoIndex, MemberUp, TargetDown, TargetIsMember, NoEndpoint, Stale, NoSource, MissingEntry, Undecided, TooFew, NotRecovering, FragmentsFull, EntryEnd, VersionEnd, NothingToUndo, NothingToRedo, Full, SourceGone, NotOut, TapeFull, HandFull, HandEmpty, NoMemory}
+use Rattle.reh_types.specs.declared.refusals.Refusal.TheVariants.{NoBookie, NoLedger, AlreadyDown, AlreadyUp, NothingToPublish, NoTask, Locked, NotOwner, StillUnder, NoLocks, NotOpen, NotNeeded, GraceSet, GraceRuns, NoGrace, BadTick, ClockEnd, NoFragment, NoIndex, MemberUp, TargetDown, TargetIsMember, NoEndpoint, Stale, NoSource, MissingEntry, Undecided, TooFew, NotRecovering, FragmentsFull, EntryEnd, VersionEnd, NothingToUndo, NothingToRedo, Full, SourceGone, NotOut, TapeFull, HandFull, HandEmpty, NoMemory, Disabled, AlreadyDisabled, AlreadyEnabled}
 use Rattle.reh_types.specs.declared.moves.Reply.{Reply}
 use Rattle.reh_types.specs.declared.moves.Reply.TheVariants.{Done, Clock, Issued, Discarded, Refused}
 use Rattle.reh_types.specs.contracts.refusals.RefusalPartialEq.TheImpl as refusals
@@ -62,6 +62,9 @@ refusal_told TapeFull TapeFull e = refl
 refusal_told HandFull HandFull e = refl
 refusal_told HandEmpty HandEmpty e = refl
 refusal_told NoMemory NoMemory e = refl
+refusal_told Disabled Disabled e = refl
+refusal_told AlreadyDisabled AlreadyDisabled e = refl
+refusal_told AlreadyEnabled AlreadyEnabled e = refl
 refusal_told a b e = absurd (true≢false (sym e))
 
 reply_told : (a b : Reply) → same_reply a b ≡ true → a ≡ b

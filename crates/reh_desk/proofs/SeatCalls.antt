@@ -1,20 +1,24 @@
--- Calls that end a ticket: what they leave of their caller, and how many tickets are out after them.
+-- What calls leave of their caller: a checkout that is refused, and those that end a ticket; and how many tickets are out after them.
 use Rattle.std.proofs.Common.{◌≡◌, ℕ, ◌+◌, ◌-◌, Bool, true, false, List, length, Option, None, Some, refl, sym, ap, ◌∙◌, inl, inr, arith, true≢false, remove}
 use Rattle.std.specs.Prelude.{◌⊎◌, IsTrue, is_none}
 use Rattle.std.specs.Option.{option_map_or}
 use Rattle.std.proofs.lemmas.List.Edits.{length-remove}
 use Rattle.std.proofs.lemmas.List.Quantifiers.{position-Some}
 use Rattle.reh_types.specs.declared.calls.Call.{Call}
-use Rattle.reh_types.specs.declared.calls.Call.TheVariants.{Spend, Discard}
+use Rattle.reh_types.specs.declared.calls.Call.TheVariants.{Checkout, Spend, Discard}
 use Rattle.reh_types.specs.declared.calls.TicketOut.{TicketOut}
 use Rattle.reh_types.specs.declared.contents.Content.{Content}
 use Rattle.reh_types.specs.declared.moves.Move.TheVariants.{Post}
 use Rattle.reh_types.specs.declared.moves.Reply.{Reply}
 use Rattle.reh_types.specs.declared.moves.Reply.TheVariants.{Discarded, Refused}
 use Rattle.reh_types.specs.declared.names.Aim.{Aim}
+use Rattle.reh_types.specs.declared.refusals.Refusal.{Refusal}
 use Rattle.reh_types.specs.declared.refusals.Refusal.TheVariants.{NotOut, NoMemory}
+use Rattle.reh_model.specs.Cluster.{Cluster}
 use Rattle.reh_model.specs.Checks.{reason_if}
-use Rattle.reh_model.specs.Session.{reply_to}
+use Rattle.reh_model.specs.Scan.{aim_refusal}
+use Rattle.reh_model.specs.Session.{reply_to, reply_unless}
+use Rattle.reh_model.proofs.BookLaws.{aim_written}
 use Rattle.reh_model.specs.Book.{ticket, same_ticket, ticket_place, without, or_refused, answer_to, MayWantMemory, is_written, changed}
 use Rattle.reh_desk.specs.Kept.{Kept, Called}
 use Rattle.reh_desk.specs.Callers.{none_out, with_line, with_out, caller_after}
@@ -26,6 +30,17 @@ pub ended : (keeps : Bool) (s t u : SeatView) (call : Call) (reply : Reply) → 
     → u ≡ with_line keeps t (own_line call reply) → u ≡ caller_after keeps s call reply
 ended true s t u call reply written fewer t_is u_is = rw (u_is, t_is, written, fewer) refl
 ended false s t u call reply written fewer t_is u_is = rw (u_is, t_is) refl
+
+-- a caller with the line of a checkout that is refused for its aim
+pub aim_refused : (keeps : Bool) (s t u : SeatView) (state : Cluster) (aim : Aim) (refusal : Refusal)
+    → aim_refusal state aim ≡ Some refusal → t ≡ s
+    → u ≡ with_line keeps t (own_line (Checkout aim) (Refused refusal))
+    → u ≡ caller_after keeps s (Checkout aim) (Refused refusal)
+aim_refused true s t u state aim refusal is t_is u_is =
+    let written : IsTrue (is_written (Refused refusal)) =
+    ap (λ x. is_written (reply_unless x)) (sym is) ∙ aim_written state aim in
+    rw (u_is, t_is, written) refl
+aim_refused false s t u state aim refusal is t_is u_is = rw (u_is, t_is) refl
 
 -- a spend that adds a line was of a ticket that was out
 found : (t : TicketOut) (out : List TicketOut) (reply other : Reply) (o : Option ℕ) → ticket_place t out ≡ o → reply ≡ or_refused (reason_if (is_none o) NotOut) other → IsTrue (is_written reply)

@@ -654,7 +654,7 @@ IsWellFormed-pictured_cluster d good words =
       registrations = record {
         each = length-map (list_of d field.Bookies) registration_in ∙ sym count;
         ticks = All-map (λ lost. ForSome lost (λ tick. tick ≤ 0)) registration_in (list_of d field.Bookies)
-            (λ k d within. lost_at_the_start (get_or (list_of d field.Bookies) k d));
+            (λ k other within. lost_at_the_start (get_or (list_of d field.Bookies) k other));
       };
       ledgers = record {
         few = omega (arith, length-map (list_of d field.Ledgers) (ledger_in (names_of d) s.parts.held), good.ledgers);
@@ -696,10 +696,10 @@ ledgers-shown d names lost_at grace delay listed holdings lent ends ledgers show
 pub cluster_of-shown : (d : Data) (names : List (List ℕ)) (lost_at : List (Option ℕ)) (grace delay : ℕ) (listed : List ListedLedger)
     (holdings : List Holding) (ledgers : List Ledger) (held : model.Contents) → IsShown d names lost_at grace delay listed holdings
     → ledgers ≡ (pictured_cluster d).parts.ledgers → held ≡ held_in holdings
-    → cluster_of names lost_at grace delay ledgers held ≡ pictured_cluster d
+    → cluster_of names lost_at grace delay true ledgers held ≡ pictured_cluster d
 cluster_of-shown d names lost_at grace delay listed holdings ledgers held shown made is =
     λ i.
-    cluster_of (shown.names_are i) (shown.lost_are i) (shown.grace_is i) (shown.delay_is i) (made i)
+    cluster_of (shown.names_are i) (shown.lost_are i) (shown.grace_is i) (shown.delay_is i) true (made i)
     ((is ∙ ap held_in shown.holdings_are) i)
 
 -- and take as many words

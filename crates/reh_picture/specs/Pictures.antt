@@ -1,6 +1,6 @@
 -- The cluster that a picture shows, or the picture's first fault.
 use Rattle.std.specs.Prelude.{ℕ, ◌*◌, Bool, ◌==◌, nat_lt, nat_le, List, [], ◌∷◌, map, length, sum_by, ◌≡◌, if◌then◌else◌, Option}
-use Rattle.std.specs.Prelude.{None, Some, Result, Ok, Err}
+use Rattle.std.specs.Prelude.{true, None, Some, Result, Ok, Err}
 use Rattle.std.specs.Str.{is_utf8}
 use Rattle.serde_json.specs.Data.{Data}
 use Rattle.reh_types.specs.declared.limits.TheConstants.{MAX_DELAY, MAX_GRACE, MAX_PICTURE_BYTES, MAX_WORDS}
@@ -37,12 +37,12 @@ has_delay d = number_of d field.Format == DELAY_FORMAT
 abbrev pub delay_of : Data → ℕ
 delay_of d = if has_delay d then number_of d field.LostDelayTicks else 0
 
--- the cluster that the fields name, with no task and no lock, at clock 0
+-- the cluster that the fields name, with no task and no lock, at clock 0, with AutoRecovery enabled
 abbrev pub pictured_cluster : Data → Cluster
 pictured_cluster d =
     let ledgers = map (ledger_in (names_of d) (contents_of d)) (list_of d field.Ledgers) in
-    cluster_of (names_of d) (registrations_in (list_of d field.Bookies)) (number_of d field.Grace) (delay_of d) ledgers
-    (contents_of d)
+    cluster_of (names_of d) (registrations_in (list_of d field.Bookies)) (number_of d field.Grace) (delay_of d) true
+    ledgers (contents_of d)
 
 -- words of entries that all bookies together take, each as many for a ledger as it has
 abbrev pub words_in_all : Cluster → ℕ

@@ -71,7 +71,7 @@ pub(crate) fn read_cluster(alloc: Global, picture: &Value) -> Result<State, Pict
     }
     let held = hold(alloc, names.len(), &ledgers, &holdings)?;
     let Ticks { grace, delay } = ticks;
-    Ok(State::build(names, lost_at, grace, delay, ids, ledgers, held))
+    Ok(State::build(names, lost_at, grace, delay, true, ids, ledgers, held))
 }
 
 /// How many words of entries so many bookies take, each as many for a ledger as it has.

@@ -1,5 +1,5 @@
 -- Worked lines and texts: the definitions, computed.
-use Rattle.std.specs.Prelude.{◌≡◌, refl, ℕ, false, List, [], ◌∷◌, ◌++◌, codes, map, replicate, Option, Some, None, Result, Ok, Err}
+use Rattle.std.specs.Prelude.{◌≡◌, refl, ℕ, false, List, [], ◌∷◌, ◌++◌, codes, map, replicate, take, Option, Some, None, Result, Ok, Err}
 use Rattle.reh_types.specs.declared.moves.Event.TheVariants.{Lose, Acquire, Grace, Tick, Roll, Fence, Seal, Copy, Disable, Enable}
 use Rattle.reh_types.specs.declared.moves.Move.TheVariants.{Do, Look}
 use Rattle.reh_script.specs.declared.commands.Command.{Command}
@@ -14,7 +14,7 @@ use Rattle.reh_types.specs.declared.names.LedgerState.{LedgerState}
 use Rattle.reh_types.specs.declared.names.LedgerState.TheVariants.{Open, InRecovery, Closed}
 use Rattle.reh_types.specs.Sets.{contains, insert, empty, from_list, items}
 use Rattle.reh_model.specs.Metadata.{Metadata, Fragment}
-use Rattle.reh_model.specs.Cluster.{Cluster, with_clock, with_enabled, with_held, with_ledgers, with_up}
+use Rattle.reh_model.specs.Cluster.{Cluster, with_clock, with_enabled, with_held, with_ledgers, with_registration}
 use Rattle.reh_model.proofs.Examples.{clear_cluster}
 use Rattle.reh_script.specs.Texts.{reply_text, report}
 
@@ -101,7 +101,7 @@ fragment first ensemble = record { first = first; ensemble = ensemble }
 -- ledgers in each state; one with a task that is locked, one with a task and a grace that runs
 abbrev worked : Cluster
 worked =
-    let second_lost = with_up (clear_cluster (codes "b1" ∷ codes "b2" ∷ codes "b3" ∷ [])) (from_list (0 ∷ 2 ∷ [])) in
+    let second_lost = with_registration (clear_cluster (codes "b1" ∷ codes "b2" ∷ codes "b3" ∷ [])) 1 (Some 4) in
     with_clock (with_held (with_ledgers second_lost
     (record { id = 7; metadata = metadata_of (Closed 6) 2 (fragment 0 (0 ∷ 1 ∷ []) ∷ fragment 4 (1 ∷ 2 ∷ []) ∷ []); words = 1; task = Some (from_list (1 ∷ [])); lock = Some (record { owner = 2; due = None }) }
     ∷ record { id = 0; metadata = metadata_of (Closed 0) 0 (fragment 0 (2 ∷ 0 ∷ []) ∷ []); words = 0; task = None; lock = None }
@@ -123,3 +123,9 @@ report_printed = refl
 pub disabled_report : report (with_enabled (clear_cluster names) false) ≡ codes "clock 0 grace 3" ∷ codes "autorecovery disabled" ∷ codes "bookie b1:3181 up 0" ∷ codes "bookie b2:3181 up 0" ∷ []
 unfolding digits contains insert empty from_list items
 disabled_report = refl
+
+-- with a delay, the report tells it, and when a bookie was lost
+pub delay_printed : take 4 (report (record worked { delay = 2 }))
+    ≡ codes "clock 5 grace 3 delay 2" ∷ codes "bookie b1 up 1" ∷ codes "bookie b2 down 3 since 4" ∷ codes "bookie b3 up 0" ∷ []
+unfolding digits contains insert empty from_list items
+delay_printed = refl

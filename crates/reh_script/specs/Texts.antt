@@ -16,7 +16,7 @@ use Rattle.reh_types.specs.Sets.{Set, numbers}
 use Rattle.reh_types.specs.Texts as types
 use Rattle.reh_model.specs.Contents.{count_held}
 use Rattle.reh_model.specs.Metadata.{Metadata, Fragment, stop_of}
-use Rattle.reh_model.specs.Cluster.{Cluster, Ledger, is_up}
+use Rattle.reh_model.specs.Cluster.{Cluster, Ledger, is_up, lost_tick}
 
 -- each word behind a space
 abbrev pub behind_spaces : List (List ℕ) → List ℕ
@@ -44,9 +44,14 @@ reply_text names reply = types.reply_text reply
 
 -- The report
 
--- the clock and the grace
+-- the delay for lost bookies, where there is one
+abbrev pub delay_words : ℕ → List (List ℕ)
+delay_words delay = if delay == 0 then [] else codes "delay" ∷ decimal delay ∷ []
+
+-- the clock, the grace and the delay
 abbrev pub clock_line : Cluster → List ℕ
-clock_line s = spaced (codes "clock" ∷ decimal s.parts.scalars.clock ∷ codes "grace" ∷ decimal s.grace ∷ [])
+clock_line s =
+    spaced (codes "clock" ∷ decimal s.parts.scalars.clock ∷ codes "grace" ∷ decimal s.grace ∷ delay_words s.delay)
 
 -- that AutoRecovery is disabled, while it is
 abbrev pub autorecovery_lines : Bool → List (List ℕ)
@@ -55,10 +60,16 @@ autorecovery_lines enabled = if enabled then [] else codes "autorecovery disable
 abbrev pub registration : Bool → List ℕ
 registration up = if up then codes "up" else codes "down"
 
--- a bookie's name, whether it is registered, and how many entries it holds
+-- when a bookie was lost, where there is a delay
+abbrev pub since_words : ℕ → Option ℕ → List (List ℕ)
+since_words delay lost =
+    if delay == 0 then [] else option_map_or (λ tick. codes "since" ∷ decimal tick ∷ []) lost []
+
+-- a bookie's name, whether it is registered, how many entries it holds, and when it was lost
 abbrev pub bookie_line : Cluster → ℕ → List ℕ → List ℕ
 bookie_line s bookie name =
-    spaced (codes "bookie" ∷ name ∷ registration (is_up s bookie) ∷ decimal (count_held s.parts.held bookie) ∷ [])
+    spaced (codes "bookie" ∷ name ∷ registration (is_up s bookie) ∷ decimal (count_held s.parts.held bookie)
+    ∷ since_words s.delay (lost_tick s bookie))
 
 -- the state of a ledger
 abbrev pub state_word : LedgerState → List ℕ

@@ -14,8 +14,8 @@ use reh_meta::{Fragment, LedgerMeta};
 use reh_types::{BookieIx, BookieSet, LedgerId, LedgerState, Lock, MAX_BOOKIES};
 use std::alloc::{AllocError, Global};
 
-/// The report of a state: its clock and grace, whether AutoRecovery is disabled, its bookies, and its ledgers with their
-/// fragments, tasks and locks.
+/// The report of a state: its clock, grace and delay, whether AutoRecovery is disabled, its bookies, and its ledgers with
+/// their fragments, tasks and locks.
 pub fn report_text(alloc: Global, state: &State) -> Result<String, AllocError>
     ensures { IfOk result (λ text. string_bytes text ≡ texts.text_of (texts.report state.now)) }
 {
@@ -28,10 +28,31 @@ pub fn report_text(alloc: Global, state: &State) -> Result<String, AllocError>
 pub(crate) fn push_report(text: &mut String, state: &State) -> Result<(), AllocError>
     ensures { OnOk result (string_bytes text.new ≡ string_bytes text.old ++ texts.text_of (texts.report state.now)) }
 {
-    write!(text, "clock {} grace {}\n", state.clock(), state.grace())?;
+    push_clock(text, state)?;
     push_autorecovery(text, state.is_enabled())?;
     push_bookies(text, state)?;
     push_ledgers(text, state.names(), state.ledgers())
+}
+
+/// Adds the line of the clock.
+fn push_clock(text: &mut String, state: &State) -> Result<(), AllocError>
+    ensures { OnOk result (string_bytes text.new ≡ string_bytes text.old
+        ++ (texts.clock_line state.now ++ codes "\n")) }
+{
+    write!(text, "clock {} grace {}", state.clock(), state.grace())?;
+    push_delay(text, state.delay())?;
+    text.push('\n')
+}
+
+/// Adds the delay, where there is one.
+fn push_delay(text: &mut String, delay: u64) -> Result<(), AllocError>
+    ensures { OnOk result (string_bytes text.new ≡ string_bytes text.old
+        ++ texts.behind_spaces (texts.delay_words delay)) }
+{
+    if delay == 0 {
+        return Ok(());
+    }
+    write!(text, " delay {delay}")
 }
 
 /// Adds the line of a disabled AutoRecovery, while it is disabled.
@@ -69,7 +90,23 @@ fn push_bookie(text: &mut String, state: &State, i: usize) -> Result<(), AllocEr
     };
     let registration = if state.is_up(bookie) { "up" } else { "down" };
     let count = state.count(bookie);
-    write!(text, "bookie {name} {registration} {count}\n")
+    write!(text, "bookie {name} {registration} {count}")?;
+    push_since(text, state.delay(), state.lost_tick(bookie))?;
+    text.push('\n')
+}
+
+/// Adds the tick at which a bookie was lost, if it was, where there is a delay.
+fn push_since(text: &mut String, delay: u64, lost: Option<u64>) -> Result<(), AllocError>
+    ensures { OnOk result (string_bytes text.new ≡ string_bytes text.old
+        ++ texts.behind_spaces (texts.since_words delay lost)) }
+{
+    if delay == 0 {
+        return Ok(());
+    }
+    match lost {
+        Some(tick) => write!(text, " since {tick}"),
+        None => Ok(()),
+    }
 }
 
 /// Adds the lines of ledgers.

@@ -4,6 +4,7 @@ use Rattle.reh_types.specs.declared.calls.Call.TheVariants.{Checkout}
 use Rattle.reh_types.specs.declared.moves.Reply.TheVariants.{Issued, Refused}
 use Rattle.reh_desk.specs.Kept.{Kept, kept_of, Called}
 use Rattle.reh_desk.proofs.Lines.{called_line, refused, issued, refused_kept, issued_kept}
+use Rattle.reh_desk.proofs.SeatCalls.{aim_refused}
 use Rattle.reh_desk.proofs.books.Book.checkout_by.Goals as goal
 
 pub invariant_of-self-in-Err : goal.invariant_of-self-in-Err
@@ -27,6 +28,10 @@ returns-in-Err-clause-called g c few =
     (rw (c.write.ensures.lines, c.make_room.ensures.items)
     (called_line (refused _ _ _ _ _ _ _ _ _ (rw reserved at c.in_ok-make_room.ensures.full)
     c.state.ensures.replays c.in-Err.ensures))))
+
+pub returns-in-Err-clause-caller : goal.returns-in-Err-clause-caller
+returns-in-Err-clause-caller g c =
+    aim_refused _ _ _ _ c.state.result.now _ _ c.in-Err.ensures c.make_room.ensures.shown c.write.ensures.own_line
 
 pub invariant_of-self-2 : goal.invariant_of-self-2
 invariant_of-self-2 g c =
