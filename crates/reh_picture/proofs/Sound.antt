@@ -4,11 +4,11 @@ use Rattle.std.proofs.Common.{List, [], ◌∷◌, ◌++◌, map, length, get_or
 use Rattle.std.proofs.Common.{ap, ◌∙◌, subst, arith, nat_lt, nat_eq, unwrap_or, append-nil, append_assoc, if◌then◌else◌}
 use Rattle.std.proofs.Common.{lit≤}
 use Rattle.std.specs.Prelude.{◌==◌, codes, nat_le, ℤ, pos, negsuc, All, sum_by}
-use Rattle.std.specs.List.{list_any, find, flat_map, filter, enumerate_from, range_with_len, IsDistinct}
+use Rattle.std.specs.List.{list_any, find, flat_map, range_with_len, IsDistinct}
 use Rattle.std.specs.List.{position_or_len}
 use Rattle.std.specs.Option.{option_or, option_map, option_map_or, option_and_then, ForSome}
-use Rattle.std.specs.Ordering.{nat_cmp, eq_by_cmp, is_eq}
-use Rattle.std.specs.Cmp.{IsEquivalence, tied_itself, Equal-is, unsigned_tied}
+use Rattle.std.specs.Ordering.{eq_by_cmp, is_eq}
+use Rattle.std.specs.Cmp.{IsEquivalence, tied_itself, Equal-is}
 use Rattle.std.specs.Result.{result_ok}
 use Rattle.std.specs.Str.{bytes_eq}
 use Rattle.std.proofs.lemmas.Bool.Decides.{nat_tests}

@@ -1,6 +1,5 @@
 -- One bookie more is read, with its name and its registration.
-use Rattle.std.proofs.Common.{List, Option, None, Some, ℕ, Bool, ◌≡◌, ◌∙◌, ◌++◌, ◌∷◌, [], ap, if◌then◌else◌, sym}
-use Rattle.serde_json.specs.View.{view}
+use Rattle.std.proofs.Common.{Option, None, Some, ℕ, Bool, ◌∙◌, ◌++◌, ◌∷◌, [], ap, if◌then◌else◌, sym}
 use Rattle.reh_picture.proofs.BookiesLemmas.{HasRead-none, HasRead-next}
 use Rattle.reh_picture.proofs.bookies.read_each_bookie.Goals as goal
 
