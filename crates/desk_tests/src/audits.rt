@@ -78,7 +78,7 @@ fn that_autorecovery_is_disabled_is_told_first(rt: HostRuntime) -> Result<(), Fa
     let text = audit_text(rt.alloc(), &disabled)?;
     assert_eq!(rt;
         text.as_str(),
-        "missing under None\nmissing under None\n42 Disabled\n"
+        "missing long lost under None\nmissing long lost under None\n42 Disabled\n"
     );
     Ok(())
 }
