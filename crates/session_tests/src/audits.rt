@@ -1,6 +1,6 @@
 // What the auditor reads of the five bookies, before and after a loss.
 use crate::pictures::{FIVE_BOOKIES, state_of};
-use reh_audit::{audit, missing, under};
+use reh_audit::{audit, long_lost, missing, under};
 use reh_cluster::State;
 use reh_step::step;
 use reh_types::{BookieIx, BookieSet, Event, LedgerId};
@@ -17,15 +17,18 @@ fn push_set(text: &mut String, bookies: &BookieSet) -> Result<(), AllocError> {
     Ok(())
 }
 
-/// The ledger's missing members, and its least fragment with one.
+/// The ledger's missing members, those of them that are lost for long, and its least fragment with one.
 fn push_missing(text: &mut String, state: &State, ledger: LedgerId) -> Result<(), AllocError> {
     if state.ledger(ledger).is_none() {
         return Ok(());
     }
     let fragment = under(state, ledger);
     let bookies = missing(state, ledger);
+    let lost = long_lost(state, ledger);
     write!(text, "missing")?;
     push_set(text, &bookies)?;
+    write!(text, " long lost")?;
+    push_set(text, &lost)?;
     write!(text, " under {fragment:?}\n")
 }
 
@@ -58,12 +61,12 @@ fn an_audit_tells_its_tasks(rt: HostRuntime) -> Result<(), Fail> {
     let before = audit_text(rt.alloc(), &state)?;
     assert_eq!(rt;
         before.as_str(),
-        "missing under None\nmissing under None\n5 NothingToPublish\n"
+        "missing long lost under None\nmissing long lost under None\n5 NothingToPublish\n"
     );
     let after = audit_text(rt.alloc(), &lost)?;
     assert_eq!(rt;
         after.as_str(),
-        "missing 1 under Some(0)\nmissing 1 under Some(0)\ntask 7: 1\ntask 9: 1\n"
+        "missing 1 long lost 1 under Some(0)\nmissing 1 long lost 1 under Some(0)\ntask 7: 1\ntask 9: 1\n"
     );
     Ok(())
 }
@@ -75,7 +78,7 @@ fn that_autorecovery_is_disabled_is_told_first(rt: HostRuntime) -> Result<(), Fa
     let text = audit_text(rt.alloc(), &disabled)?;
     assert_eq!(rt;
         text.as_str(),
-        "missing under None\nmissing under None\n42 Disabled\n"
+        "missing long lost under None\nmissing long lost under None\n42 Disabled\n"
     );
     Ok(())
 }
