@@ -133,13 +133,17 @@ fn is_stale(rt: &impl Abort, alloc: Global, book: &mut Book) {
     assert_eq!(rt; spent(rt, book, finding), Some(stale));
 }
 
-/// A book on five bookies; none where there is no memory. An open that fails hands the session back.
+/// A book on a session on which the bookie is lost, and the place is locked; none where there is no memory. An open that
+/// fails hands the session back.
 pub(crate) fn opened(rt: &impl Abort, alloc: Global) -> Option<Book> {
-    let session = opening(rt, alloc)?;
+    let session = locked(rt, alloc)?;
+    let Ok(same) = session.clone_in() else {
+        return None;
+    };
     match Book::open(session) {
         Ok((book, _seat)) => Some(book),
         Err((session, AllocError)) => {
-            assert_eq!(rt; session.state().count(WORKER), 0);
+            assert!(rt; session.same(&same));
             None
         }
     }
@@ -159,13 +163,13 @@ fn want_of_memory_loses_no_ticket(rt: HostRuntime) {
     let Some(mut book) = opened(&rt, rt.alloc()) else {
         return;
     };
-    makes(&rt, &mut book, &LOSS);
     is_gone(&rt, rt.alloc(), &mut book);
     posts(&rt, rt.alloc(), &mut book);
     does(&rt, &mut book, Move::Undo, Move::Undo);
     does(&rt, &mut book, Move::Redo, Move::Redo);
     is_stale(&rt, rt.alloc(), &mut book);
     assert_eq!(rt; book.out(), 0);
+    assert!(rt; are_numbered(book.tape()));
 }
 
 /// A desk with so many seats. Where there is no memory for it the session comes back as it was, and it is opened once
@@ -209,7 +213,21 @@ fn tickets_of(tape: &[Line]) -> usize {
         .count()
 }
 
-/// Two workers are driven to the place: where one request is refused, one of the aims alone isn't posted.
+/// Whether the tickets of a tape are numbered 1, 2, 3 and so on.
+fn are_numbered(tape: &[Line]) -> bool {
+    let mut last = 0u32;
+    for line in tape {
+        if let Reply::Issued(number) = line.reply {
+            last = last.saturating_add(1);
+            if number != last {
+                return false;
+            }
+        }
+    }
+    true
+}
+
+/// Two workers are driven to the place, twice each. No seat counts a ticket out then, and the desk closes.
 fn drives<R: Threads + Wait + Abort + Sync>(
     rt: &R,
     alloc: Global,
@@ -224,16 +242,20 @@ fn drives<R: Threads + Wait + Abort + Sync>(
         alloc,
         &desk,
         seats.as_mut_slice(),
-        &[AIM, AIM],
+        &[AIM, AIM, AIM, AIM],
         &OpenGate,
     );
+    for seat in &seats {
+        assert_eq!(rt; seat.out(), 0);
+    }
     match desk.close(seats) {
         Ok(Closed { session: _, tape }) => tape,
         Err(_) => panic!(rt; "not closed"),
     }
 }
 
-/// As many tickets as there are were posted or given back, and one at least was posted.
+/// As many tickets as there are were posted or given back. Where one request is refused, one of the aims alone isn't
+/// posted.
 #[test]
 fn want_of_memory_costs_an_aim(rt: HostRuntime) {
     let Some(session) = locked(&rt, rt.alloc()) else {
@@ -247,5 +269,6 @@ fn want_of_memory_costs_an_aim(rt: HostRuntime) {
     let posts = count_of(&tape, Reply::Done);
     let ended = posts.saturating_add(count_of(&tape, Reply::Discarded));
     assert_eq!(rt; tickets_of(&tape), ended);
-    assert!(rt; posts >= 1);
+    assert!(rt; are_numbered(&tape));
+    assert!(rt; posts >= 3);
 }

@@ -65,13 +65,28 @@ const OPEN_LEDGER: [(Event, Reply); 6] = [
     ),
 ];
 
-/// A session on a picture; none where there is no memory.
-fn opened(rt: &impl Abort, alloc: Global, picture: &str) -> Result<Session, AllocError> {
+/// A session on a picture of the five bookies, of which the worker's holds so many entries; none where there is no
+/// memory.
+fn opened(
+    rt: &impl Abort,
+    alloc: Global,
+    picture: &str,
+    held: usize,
+) -> Result<Session, AllocError> {
     match session_of(alloc, picture) {
-        Ok(session) => Ok(session),
+        Ok(session) => {
+            assert_eq!(rt; counts(&session), [9, 8, 8, held, 0]);
+            Ok(session)
+        }
         Err(PictureFault::NoMemory) => Err(AllocError),
         Err(fault) => panic!(rt; "{fault}"),
     }
+}
+
+/// How many entries each of the five bookies holds.
+fn counts(session: &Session) -> [usize; 5] {
+    let state = session.state();
+    [0, 1, 2, 3, 4].map(|bookie| state.count(BookieIx(bookie)))
 }
 
 /// A session on five bookies, of which the worker's holds one entry of the closed ledger.
@@ -80,27 +95,44 @@ fn opened_with_one(rt: &impl Abort, alloc: Global) -> Result<Session, AllocError
     let picture = format!(in alloc;
         "{open},{{\"bookie\":\"b4:3181\",\"ledger\":7,\"entries\":[[3,3]]}}]}}"
     )?;
-    opened(rt, alloc, &picture)
+    opened(rt, alloc, &picture, 1)
 }
 
-/// The reply to a move. Where there is no memory for it nothing has changed, and it is asked for once more.
+/// The reply to a move. Where there is no memory for it nothing has changed, and what was undone can be redone; then it
+/// is asked for once more.
 fn asked_again(rt: &impl Abort, session: &mut Session, step: &Move) -> Result<Reply, AllocError> {
-    let before = session.clone_in()?;
+    let mut before = session.clone_in()?;
     let reply = session.perform(step);
     if reply != Reply::Refused(Refusal::NoMemory) {
         return Ok(reply);
     }
     assert!(rt; session.same(&before));
+    if session.redo().is_ok() {
+        assert_eq!(rt; before.redo(), Ok(()));
+        assert!(rt; session.same(&before));
+        assert_eq!(rt; session.undo(), Ok(()));
+    }
     Ok(session.perform(step))
 }
 
-/// Events are replied to as expected.
+/// An event is undone, so that there is one to redo; an error where there is no memory for it.
+fn undoes_one(rt: &impl Abort, session: &mut Session) -> Result<(), AllocError> {
+    if let Err(refusal) = session.act(&Event::Tick { ticks: 1 }) {
+        assert_eq!(rt; refusal, Refusal::NoMemory);
+        return Err(AllocError);
+    }
+    assert_eq!(rt; session.undo(), Ok(()));
+    Ok(())
+}
+
+/// Events are replied to as expected; before each another one was undone.
 fn plays(
     rt: &impl Abort,
     session: &mut Session,
     steps: &[(Event, Reply)],
 ) -> Result<(), AllocError> {
     for (event, expected) in steps {
+        undoes_one(rt, session)?;
         let reply = asked_again(rt, session, &Move::Do(*event))?;
         assert_eq!(rt; reply, *expected);
     }
@@ -140,20 +172,14 @@ fn want_of_memory_changes_nothing(rt: HostRuntime) {
     }
 }
 
-/// The bookie is lost, and the place is locked.
-fn loses(rt: &impl Abort, session: &mut Session) -> Result<(), AllocError> {
-    for event in LOSS {
-        assert_eq!(rt; asked_again(rt, session, &Move::Do(event))?, Reply::Done);
-    }
-    Ok(())
-}
-
 /// What a worker found is posted, once a source is lost, and once it has joined again.
 fn posts(rt: &impl Abort, alloc: Global) -> Result<(), AllocError> {
-    let mut session = opened(rt, alloc, FIVE_BOOKIES)?;
+    let mut session = opened(rt, alloc, FIVE_BOOKIES, 0)?;
     let (b1, b3) = (BookieIx(0), BookieIx(2));
     let posted = Move::Post(content(alloc, [Some(b1), Some(b3), Some(b1), Some(b3)])?);
-    loses(rt, &mut session)?;
+    for event in LOSS {
+        plays(rt, &mut session, &[(event, Reply::Done)])?;
+    }
     plays(
         rt,
         &mut session,
@@ -166,6 +192,7 @@ fn posts(rt: &impl Abort, alloc: Global) -> Result<(), AllocError> {
         &mut session,
         &[(Event::Join { bookie: b3 }, Reply::Done)],
     )?;
+    undoes_one(rt, &mut session)?;
     assert_eq!(rt; asked_again(rt, &mut session, &posted)?, Reply::Done);
     assert_eq!(rt; asked_again(rt, &mut session, &Move::Undo)?, Reply::Done);
     assert_eq!(rt; asked_again(rt, &mut session, &Move::Redo)?, Reply::Done);
@@ -183,7 +210,7 @@ fn want_of_memory_changes_nothing_at_a_post(rt: HostRuntime) {
 /// Moves in one call: either none of them is made, or all but one that finds no memory, with the replies that they have
 /// one by one.
 fn runs(rt: &impl Abort, alloc: Global) -> Result<(), AllocError> {
-    let mut session = opened(rt, alloc, FIVE_BOOKIES)?;
+    let mut session = opened(rt, alloc, FIVE_BOOKIES, 0)?;
     let mut other = session.clone_in()?;
     let mut moves = Vec::new(alloc);
     for (event, _) in CLOSED_LEDGER {

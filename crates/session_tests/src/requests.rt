@@ -3,7 +3,7 @@ use crate::marks::{begin, end};
 use crate::pictures::{
     AIM, CLOSED, COPY, FIVE_BOOKIES, LOSS, OPEN, SWAP, WORKER, content, session_of,
 };
-use reh_audit::{missing, under};
+use reh_audit::{long_lost, missing, under};
 use reh_cluster::State;
 use reh_scan::{aimed, check, survey_line};
 use reh_session::Session;
@@ -23,17 +23,74 @@ fn swapped(alloc: Global) -> Result<Session, Fail> {
     Ok(session)
 }
 
-/// Undoes all five events; the sixth undo is refused.
+/// Events of all kinds.
+const ALL_KINDS: [Event; 19] = [
+    Event::Lose {
+        bookie: BookieIx(1),
+    },
+    Event::Audit,
+    Event::Acquire {
+        worker: WORKER,
+        ledger: CLOSED,
+    },
+    COPY,
+    SWAP,
+    Event::Finish {
+        worker: WORKER,
+        ledger: CLOSED,
+    },
+    Event::Roll {
+        ledger: OPEN,
+        index: 1,
+        bookie: BookieIx(4),
+    },
+    Event::Lose {
+        bookie: BookieIx(4),
+    },
+    Event::Acquire {
+        worker: WORKER,
+        ledger: OPEN,
+    },
+    Event::Release {
+        worker: WORKER,
+        ledger: OPEN,
+    },
+    Event::Acquire {
+        worker: WORKER,
+        ledger: OPEN,
+    },
+    Event::Grace {
+        worker: WORKER,
+        ledger: OPEN,
+    },
+    Event::Tick { ticks: 3 },
+    Event::Fence {
+        worker: WORKER,
+        ledger: OPEN,
+    },
+    Event::Seal {
+        worker: WORKER,
+        ledger: OPEN,
+    },
+    Event::Expire { worker: WORKER },
+    Event::Disable,
+    Event::Enable,
+    Event::Join {
+        bookie: BookieIx(1),
+    },
+];
+
+/// Undoes all of these events; one undo more is refused.
 fn undo_all(session: &mut Session) -> Result<Result<(), Refusal>, Refusal> {
-    for _ in 0..5 {
+    for _ in 0..19 {
         session.undo()?;
     }
     Ok(session.undo())
 }
 
-/// Makes all five events again; the sixth redo is refused.
+/// Makes all of them again; one redo more is refused.
 fn redo_all(session: &mut Session) -> Result<Result<(), Refusal>, Refusal> {
-    for _ in 0..5 {
+    for _ in 0..19 {
         session.redo()?;
     }
     Ok(session.redo())
@@ -41,7 +98,10 @@ fn redo_all(session: &mut Session) -> Result<Result<(), Refusal>, Refusal> {
 
 #[test]
 fn steps_back_make_no_request(rt: HostRuntime) -> Result<(), Fail> {
-    let mut session = swapped(rt.alloc())?;
+    let mut session = session_of(rt.alloc(), FIVE_BOOKIES)?;
+    for event in ALL_KINDS {
+        session.act(&event)?;
+    }
     let same = session.clone_in()?;
     begin(&rt, "undo");
     let last = undo_all(&mut session);
@@ -206,36 +266,50 @@ fn exchanges_make_no_request(rt: HostRuntime) -> Result<(), Fail> {
     Ok(())
 }
 
-/// The open ledger's missing members are the second bookie alone, and its first fragment has it.
+/// Whether the second bookie is among the open ledger's long-lost members, and the first among the missing; and the
+/// least fragment with a missing member.
 fn is_missing(state: &State) -> Option<(bool, bool, Option<u64>)> {
     if state.ledger(OPEN).is_none() {
         return None;
     }
     let bookies = missing(state, OPEN);
     Some((
-        bookies.contains(BookieIx(1)),
+        long_lost(state, OPEN).contains(BookieIx(1)),
         bookies.contains(BookieIx(0)),
         under(state, OPEN),
     ))
 }
 
 #[test]
-fn scans_of_a_state_make_no_request(rt: HostRuntime) -> Result<(), Fail> {
+fn missing_members_make_no_request(rt: HostRuntime) -> Result<(), Fail> {
     let session = swapped(rt.alloc())?;
-    let state = session.state();
-    let (b1, b3) = (Some(BookieIx(0)), Some(BookieIx(2)));
-    let stale = content(rt.alloc(), [b1, b3, b1, b3])?;
-    begin(&rt, "missing and under");
-    let told = is_missing(state);
+    begin(&rt, "missing, long_lost and under");
+    let told = is_missing(session.state());
     end(&rt);
     assert_eq!(rt; told, Some((true, false, Some(0))));
+    Ok(())
+}
+
+/// Where the place is locked an aim and what was found there are accepted, and once it is taken both are refused.
+#[test]
+fn scans_of_a_state_make_no_request(rt: HostRuntime) -> Result<(), Fail> {
+    let mut session = session_of(rt.alloc(), FIVE_BOOKIES)?;
+    for event in LOSS {
+        session.act(&event)?;
+    }
+    let taken = swapped(rt.alloc())?;
+    let (b1, b3) = (Some(BookieIx(0)), Some(BookieIx(2)));
+    let found = content(rt.alloc(), [b1, b3, b1, b3])?;
     begin(&rt, "aimed");
-    let refused = aimed(state, &AIM);
+    let told = (aimed(session.state(), &AIM), aimed(taken.state(), &AIM));
     end(&rt);
-    assert_eq!(rt; refused, Err(Refusal::MemberUp));
+    assert_eq!(rt; told, (Ok(()), Err(Refusal::MemberUp)));
     begin(&rt, "check");
-    let refused = check(state, stale.as_content());
+    let told = (
+        check(session.state(), found.as_content()),
+        check(taken.state(), found.as_content()),
+    );
     end(&rt);
-    assert_eq!(rt; refused, Err(Refusal::Stale(1)));
+    assert_eq!(rt; told, (Ok(()), Err(Refusal::Stale(1))));
     Ok(())
 }
