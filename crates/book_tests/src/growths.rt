@@ -1,5 +1,7 @@
 // Tickets, desks and workers where there is no memory: what is out, what comes back, and what stands. The tests are run
 // with each request for memory refused in turn.
+ghost use Rattle.std.specs.Prelude.{◌<◌, ◌≤◌};
+
 use reh_crew::{OpenGate, drive};
 use reh_desk::{Book, Closed, Desk, Finding, Seat, SpendCause, SpendFault, Ticket, Unspent, scan};
 use reh_picture::PictureFault;
