@@ -272,11 +272,13 @@ fn is_missing(state: &State) -> Option<(bool, bool, Option<u64>)> {
     if state.ledger(OPEN).is_none() {
         return None;
     }
+    let fragment = under(state, OPEN);
     let bookies = missing(state, OPEN);
+    let lost = long_lost(state, OPEN);
     Some((
-        long_lost(state, OPEN).contains(BookieIx(1)),
+        lost.contains(BookieIx(1)),
         bookies.contains(BookieIx(0)),
-        under(state, OPEN),
+        fragment,
     ))
 }
 
