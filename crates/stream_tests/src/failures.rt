@@ -1,8 +1,7 @@
 // Each read and each write fails once: what has been written by then, and how the play ends.
 use crate::streams::{PICTURE, TRANSCRIPT, mixed_input, piped, piped_by};
-use reh_script::{Gathered, PiecesOut, ToWrite};
+use reh_script::PiecesOut;
 use std::alloc::{AllocError, Global};
-use std::io::{self, Write};
 use std::test::Fail;
 
 /// The lines of `mixed_input` that are ended by LF and have an answer: how many bytes of the script end with the line,
@@ -53,52 +52,6 @@ fn any_write_may_fail(rt: HostRuntime) -> Result<(), Fail> {
         assert_eq!(rt; end.as_str(), "WriteFault", "behind {taken} bytes");
         let first = TRANSCRIPT.as_bytes().get(..taken).unwrap_or(b"none");
         assert_eq!(rt; writer.written.as_slice(), first, "behind {taken} bytes");
-    }
-    Ok(())
-}
-
-/// A writer into memory that fails once, behind so many bytes, and takes all that comes after.
-#[derive(Drop)]
-struct FailsOnce {
-    written: Vec<u8>,
-    left: usize,
-    has_failed: bool,
-}
-
-impl Write for FailsOnce {
-    fn write(&mut self, bytes: &[u8]) -> io::Result<usize> {
-        let left = if self.has_failed {
-            bytes.len()
-        } else {
-            self.left
-        };
-        let size = left.min(bytes.len());
-        self.has_failed = self.has_failed || size == 0;
-        self.left = self.left.saturating_sub(size);
-        self.written.extend_from_slice(&bytes[..size])?;
-        Ok(size)
-    }
-
-    fn flush(&mut self) -> io::Result<()> {
-        Ok(())
-    }
-}
-
-/// The same by a writer that gathers, as standard output has one before it.
-#[test]
-fn any_write_may_fail_behind_a_gathering_one(rt: HostRuntime) -> Result<(), Fail> {
-    let input = mixed_input(rt.alloc())?;
-    for taken in 0..TRANSCRIPT.len() {
-        let mut inner = FailsOnce {
-            written: Vec::new(rt.alloc()),
-            left: taken,
-            has_failed: false,
-        };
-        let mut writer = Gathered::new(rt.alloc(), ToWrite::new(&mut inner))?;
-        let end = piped_by(rt.alloc(), input.as_bytes(), &[], None, &mut writer)?;
-        assert_eq!(rt; end.as_str(), "WriteFault", "behind {taken} bytes");
-        let first = TRANSCRIPT.as_bytes().get(..taken).unwrap_or(b"none");
-        assert_eq!(rt; inner.written.as_slice(), first, "behind {taken} bytes");
     }
     Ok(())
 }
