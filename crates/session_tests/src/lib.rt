@@ -6,10 +6,6 @@ mod audits;
 #[cfg(test)]
 mod limits;
 pub mod marks;
-#[cfg(test)]
-mod memory;
 pub mod pictures;
-#[cfg(test)]
-mod requests;
 #[cfg(test)]
 mod sessions;
