@@ -3,7 +3,10 @@
 ghost use Rattle.std.specs.Prelude.{◌<◌, ◌≤◌};
 
 use reh_crew::{OpenGate, drive};
-use reh_desk::{Book, Closed, Desk, Finding, Seat, SpendCause, SpendFault, Ticket, Unspent, scan};
+use reh_desk::{
+    AtDesk, Book, Closed, Counter, Desk, Finding, Seat, SpendCause, SpendFault, Ticket, Unspent,
+    scan,
+};
 use reh_picture::PictureFault;
 use reh_session::Session;
 use reh_types::{BookieIx, Event, Line, Move, Refusal, Reply};
@@ -201,6 +204,94 @@ fn locked(rt: &impl Abort, alloc: Global) -> Option<Session> {
         }
     }
     Some(session)
+}
+
+/// How many calls a seat has in its list, and how many of its tickets are out.
+fn listed(seat: &Seat) -> (usize, u32) {
+    (seat.lines().len(), seat.out())
+}
+
+/// An event is made by a seat. Where there is no memory for it the seat is as it was, and it is asked for once more.
+fn seat_makes<R: Wait + Abort>(rt: &R, desk: &Desk, seat: &mut Seat, event: Event) {
+    let before = listed(seat);
+    let reply = AtDesk { desk, rt }.call(seat, Move::Do(event));
+    if reply == Reply::Refused(Refusal::NoMemory) {
+        assert_eq!(rt; listed(seat), before);
+        let again = AtDesk { desk, rt }.call(seat, Move::Do(event));
+        assert_eq!(rt; again, Reply::Done);
+    } else {
+        assert_eq!(rt; reply, Reply::Done);
+    }
+}
+
+/// A ticket of a seat. Where there is no memory for it the seat is as it was, and it is asked for once more.
+fn seat_issued<R: Wait + Abort>(rt: &R, desk: &Desk, seat: &mut Seat) -> Option<Ticket> {
+    let before = listed(seat);
+    match (AtDesk { desk, rt }.checkout(seat, AIM)) {
+        Ok(ticket) => Some(ticket),
+        Err(refusal) => {
+            assert_eq!(rt; refusal, Refusal::NoMemory);
+            assert_eq!(rt; listed(seat), before);
+            AtDesk { desk, rt }.checkout(seat, AIM).ok()
+        }
+    }
+}
+
+/// A seat gives a ticket back, or what was found with it.
+fn seat_gives_back<R: Wait + Abort>(rt: &R, desk: &Desk, seat: &mut Seat, unspent: Unspent) {
+    let is_stray = match (AtDesk { desk, rt }.discard(seat, unspent)) {
+        Ok(()) => false,
+        Err(stray) => {
+            stray.forfeit();
+            true
+        }
+    };
+    assert!(rt; !is_stray);
+}
+
+/// A seat posts what it found. Where there is no memory for the post the seat is as it was, and gives the finding back.
+fn seat_posts<R: Wait + Abort>(rt: &R, desk: &Desk, seat: &mut Seat, finding: Finding) {
+    let before = listed(seat);
+    match (AtDesk { desk, rt }.spend(seat, finding)) {
+        Ok(reply) => assert_eq!(rt; reply, Reply::Done),
+        Err(SpendFault { finding, cause }) => {
+            assert_eq!(rt; cause, SpendCause::NoMemory);
+            assert_eq!(rt; listed(seat), before);
+            seat_gives_back(rt, desk, seat, Unspent::Scanned(finding));
+        }
+    }
+}
+
+/// A seat's calls that find no memory leave its list and its count as they were, so the desk closes.
+#[test]
+fn want_of_memory_changes_no_seat(rt: HostRuntime) {
+    let Some(session) = opening(&rt, rt.alloc()) else {
+        return;
+    };
+    let Ok(same) = session.clone_in() else {
+        return;
+    };
+    let (desk, mut seats) = desk_on(&rt, session, &same, 1);
+    let Some(seat) = seats.first_mut() else {
+        panic!(rt; "no seat")
+    };
+    for event in LOSS {
+        seat_makes(&rt, &desk, seat, event);
+    }
+    let Some(ticket) = seat_issued(&rt, &desk, seat) else {
+        panic!(rt; "no ticket again")
+    };
+    match scan(rt.alloc(), ticket) {
+        Ok(finding) => seat_posts(&rt, &desk, seat, finding),
+        Err((ticket, AllocError)) => {
+            seat_gives_back(&rt, &desk, seat, Unspent::Unscanned(ticket));
+        }
+    }
+    assert_eq!(rt; listed(seat), (5, 0));
+    match desk.close(seats) {
+        Ok(Closed { session: _, tape }) => assert_eq!(rt; tape.len(), 5),
+        Err(_) => panic!(rt; "not closed"),
+    }
 }
 
 /// How many lines of the tape have this reply.

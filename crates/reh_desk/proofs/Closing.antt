@@ -1,5 +1,5 @@
 -- A desk whose book settles with its seats is closed.
-use Rattle.std.proofs.Common.{◌≡◌, ℕ, List, length, Ok, refl, subst, arith}
+use Rattle.std.proofs.Common.{◌≡◌, ℕ, List, Ok, refl, subst, arith}
 use Rattle.std.specs.Prelude.{◌↔◌}
 use Rattle.reh_types.specs.declared.calls.Line.{Line}
 use Rattle.reh_model.specs.Session.{Session}

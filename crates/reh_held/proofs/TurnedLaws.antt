@@ -6,7 +6,7 @@ use Rattle.std.proofs.lemmas.List.Elements.{All-nil, All-head}
 use Rattle.std.specs.List.{list_any}
 use Rattle.std.proofs.lemmas.Bool.Decides.{nat_tests}
 use Rattle.reh_types.specs.Sets as set
-use Rattle.reh_types.specs.Sets.{contains-retain, contains-union, same_set}
+use Rattle.reh_types.specs.Sets.{same_set}
 use Rattle.reh_model.specs.Contents.{Contents, has, copies_of, is_in_word, turned, one_of}
 use Rattle.reh_model.proofs.ContentsLaws.{has-union-copies_of, union-copies_of-none}
 use Rattle.reh_model.proofs.TurnedLaws.{has-turned}

@@ -2,7 +2,7 @@
 use Rattle.std.proofs.Common.{◌≡◌, ℕ, List, [], ◌++◌, take, drop, Option, None, Some, refl, sym}
 use Rattle.std.proofs.Common.{ap, append-nil}
 use Rattle.std.proofs.lemmas.List.{take-append-drop}
-use Rattle.std.proofs.KnownBytes.{Appends-nil, Appends-trans, append_known-moved}
+use Rattle.std.proofs.KnownBytes.{Appends-trans, append_known-moved}
 use Rattle.std.specs.Io.KnownBytes.{Appends, Keeps, append_known}
 use Rattle.reh_script.specs.Streams.{Grows}
 

@@ -194,7 +194,11 @@ impl Verb {
         match self {
             Verb::Lose => Row::new("lose", BOOKIE, "the bookie's registration is lost"),
             Verb::Join => Row::new("join", BOOKIE, "the bookie registers again"),
-            Verb::Audit => Row::new("audit", &[], "the auditor publishes the missing members"),
+            Verb::Audit => Row::new(
+                "audit",
+                &[],
+                "missing members are published after the delay",
+            ),
             Verb::Acquire => Row::new("acquire", TASK, "the worker locks the ledger's task"),
             Verb::Release => Row::new("release", TASK, "the worker gives the lock back"),
             Verb::Finish => Row::new("finish", TASK, "the ledger's task ends, with its lock"),

@@ -1,6 +1,6 @@
 -- How a drill ends.
 use Rattle.std.proofs.Common.{◌≡◌, ◌⊎◌, inl, inr, ℕ, suc, ◌+◌, List, [], ◌∷◌, ◌++◌, map, length, refl, sym, ap, ◌∙◌, subst}
-use Rattle.std.proofs.Common.{Option, None, Some, Result, Ok, Err, Bool, true, false, append-nil}
+use Rattle.std.proofs.Common.{Option, None, Some, Result, Ok, Err, Bool, true, false}
 use Rattle.std.specs.Prelude.{◌≢◌, IsErrAnd, is_some, is_err}
 use Rattle.std.specs.List.{flat_map}
 use Rattle.std.specs.Io.KnownBytes.{Appends, Keeps}
@@ -9,7 +9,7 @@ use Rattle.std.proofs.KnownBytes.{Keeps-refl, Appends-trans}
 use Rattle.std.proofs.lemmas.Bool.{false≢true}
 use Rattle.reh_types.specs.declared.calls.Line.{Line}
 use Rattle.reh_model.specs.Cluster.{Cluster}
-use Rattle.reh_model.specs.Session.{Session, state_of, opened_session}
+use Rattle.reh_model.specs.Session.{Session, state_of}
 use Rattle.reh_desk.specs.Desks.{DeskView, AreNewFrom, AreSeated, AllAgree, IsClosed, IsHistory, own_lines}
 use Rattle.reh_desk.specs.Seats.{SeatView, new_seat}
 use Rattle.reh_picture.specs.declared.faults.PictureFault.{PictureFault}
@@ -23,7 +23,7 @@ use Rattle.reh_script.specs.declared.faults.PlayFault.TheVariants as play_fault
 use Rattle.reh_script.specs.declared.faults.PipeFault.TheVariants.{Play}
 use Rattle.reh_script.specs.declared.streams.StreamFault.{StreamFault}
 use Rattle.reh_script.proofs.Sitting.{number_at_desk}
-use Rattle.rehearse.specs.Drills.{transcripts_from, end_text, Writes, IsRoom, OpensDesk, fault_in_memory, IsOutcome}
+use Rattle.rehearse.specs.Drills.{end_text, Writes, IsRoom, OpensDesk, fault_in_memory, IsOutcome}
 use Rattle.rehearse.specs.Drills.{OnePlayed, AllPlayed, transcript_of, fault_of, or_else, first_fault, seat_of}
 use Rattle.rehearse.specs.Drills.{IsOperated, AreOperated, IsDrilled, AreOutcomes, transcripts_of, ClosesWith, Closes}
 use Rattle.rehearse.specs.Drills.{IsUnclosed, EndsWith, Ends, Drills, is_lost, is_lost_play}

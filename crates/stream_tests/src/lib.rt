@@ -4,8 +4,6 @@
 #[cfg(test)]
 mod failures;
 #[cfg(test)]
-mod memory;
-#[cfg(test)]
 mod requests;
 #[cfg(test)]
 mod streams;
