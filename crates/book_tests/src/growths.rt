@@ -212,12 +212,12 @@ fn listed(seat: &Seat) -> (usize, u32) {
 }
 
 /// An event is made by a seat. Where there is no memory for it the seat is as it was, and it is asked for once more.
-fn seat_makes<R: Wait + Abort>(rt: &R, desk: &Desk, seat: &mut Seat, event: Event) {
+fn seat_makes<'d, R: Wait + Abort>(rt: &'d R, desk: &'d Desk, seat: &mut Seat, event: &Event) {
     let before = listed(seat);
-    let reply = AtDesk { desk, rt }.call(seat, Move::Do(event));
+    let reply = AtDesk { desk, rt }.call(seat, Move::Do(*event));
     if reply == Reply::Refused(Refusal::NoMemory) {
         assert_eq!(rt; listed(seat), before);
-        let again = AtDesk { desk, rt }.call(seat, Move::Do(event));
+        let again = AtDesk { desk, rt }.call(seat, Move::Do(*event));
         assert_eq!(rt; again, Reply::Done);
     } else {
         assert_eq!(rt; reply, Reply::Done);
@@ -275,7 +275,7 @@ fn want_of_memory_changes_no_seat(rt: HostRuntime) {
     let Some(seat) = seats.first_mut() else {
         panic!(rt; "no seat")
     };
-    for event in LOSS {
+    for event in &LOSS {
         seat_makes(&rt, &desk, seat, event);
     }
     let Some(ticket) = seat_issued(&rt, &desk, seat) else {
