@@ -1,8 +1,5 @@
-// Tests over the public calls of the crates up to the session: what is left where there is no memory, and which calls
-// take none.
+// Tests over the public calls of a session where there is no memory.
 #![tactic(auto)]
 
 #[cfg(test)]
 mod memory;
-#[cfg(test)]
-mod requests;

@@ -100,6 +100,15 @@ fn opened_with_one(rt: &impl Abort, alloc: Global) -> Result<Session, AllocError
     opened(rt, alloc, &picture, 1)
 }
 
+/// What was undone can be redone in a session as in its copy, and undone again.
+fn redoes_alike(rt: &impl Abort, session: &mut Session, copy: &mut Session) {
+    if session.redo().is_ok() {
+        assert_eq!(rt; copy.redo(), Ok(()));
+        assert!(rt; session.same(copy));
+        assert_eq!(rt; session.undo(), Ok(()));
+    }
+}
+
 /// The reply to a move. Where there is no memory for it nothing has changed, and what was undone can be redone; then it
 /// is asked for once more.
 fn asked_again(rt: &impl Abort, session: &mut Session, step: &Move) -> Result<Reply, AllocError> {
@@ -109,11 +118,7 @@ fn asked_again(rt: &impl Abort, session: &mut Session, step: &Move) -> Result<Re
         return Ok(reply);
     }
     assert!(rt; session.same(&before));
-    if session.redo().is_ok() {
-        assert_eq!(rt; before.redo(), Ok(()));
-        assert!(rt; session.same(&before));
-        assert_eq!(rt; session.undo(), Ok(()));
-    }
+    redoes_alike(rt, session, &mut before);
     Ok(session.perform(step))
 }
 
@@ -205,40 +210,6 @@ fn posts(rt: &impl Abort, alloc: Global) -> Result<(), AllocError> {
 #[test]
 fn want_of_memory_changes_nothing_at_a_post(rt: HostRuntime) {
     if posts(&rt, rt.alloc()).is_err() {
-        return;
-    }
-}
-
-/// Moves in one call: either none of them is made, or all but one that finds no memory, with the replies that they have
-/// one by one.
-fn runs(rt: &impl Abort, alloc: Global) -> Result<(), AllocError> {
-    let mut session = opened(rt, alloc, FIVE_BOOKIES, 0)?;
-    let mut other = session.clone_in()?;
-    let mut moves = Vec::new(alloc);
-    for (event, _) in CLOSED_LEDGER {
-        moves.push(Move::Do(event))?;
-    }
-    // What was undone can be redone where there is no memory for the event behind it.
-    moves.push(Move::Undo)?;
-    moves.push(Move::Do(Event::Tick { ticks: 1 }))?;
-    moves.push(Move::Redo)?;
-    let Ok(replies) = session.run(&moves) else {
-        assert!(rt; session.same(&other));
-        return Ok(());
-    };
-    assert_eq!(rt; replies.len(), moves.len());
-    for (step, reply) in moves.iter().zip(&replies) {
-        if *reply != Reply::Refused(Refusal::NoMemory) {
-            assert_eq!(rt; asked_again(rt, &mut other, step)?, *reply);
-        }
-    }
-    assert!(rt; session.same(&other));
-    Ok(())
-}
-
-#[test]
-fn want_of_memory_costs_a_run_one_move(rt: HostRuntime) {
-    if runs(&rt, rt.alloc()).is_err() {
         return;
     }
 }
