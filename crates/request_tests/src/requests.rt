@@ -12,12 +12,18 @@ use session_tests::pictures::{
 use std::alloc::Global;
 use std::test::Fail;
 
-/// A session on which the lost bookie's place is taken.
-fn swapped(alloc: Global) -> Result<Session, Fail> {
+/// A session on which the lost bookie's place is locked.
+fn locked(alloc: Global) -> Result<Session, Fail> {
     let mut session = session_of(alloc, FIVE_BOOKIES)?;
     for event in LOSS {
         session.act(&event)?;
     }
+    Ok(session)
+}
+
+/// A session on which it is taken.
+fn swapped(alloc: Global) -> Result<Session, Fail> {
+    let mut session = locked(alloc)?;
     session.act(&COPY)?;
     session.act(&SWAP)?;
     Ok(session)
@@ -290,26 +296,32 @@ fn missing_members_make_no_request(rt: HostRuntime) -> Result<(), Fail> {
     Ok(())
 }
 
-/// Where the place is locked an aim and what was found there are accepted, and once it is taken both are refused.
+/// An aim at the place is accepted where it is locked, and refused once it is taken.
 #[test]
-fn scans_of_a_state_make_no_request(rt: HostRuntime) -> Result<(), Fail> {
-    let mut session = session_of(rt.alloc(), FIVE_BOOKIES)?;
-    for event in LOSS {
-        session.act(&event)?;
-    }
+fn aims_make_no_request(rt: HostRuntime) -> Result<(), Fail> {
+    let session = locked(rt.alloc())?;
     let taken = swapped(rt.alloc())?;
-    let (b1, b3) = (Some(BookieIx(0)), Some(BookieIx(2)));
-    let found = content(rt.alloc(), [b1, b3, b1, b3])?;
     begin(&rt, "aimed");
-    let told = (aimed(session.state(), &AIM), aimed(taken.state(), &AIM));
+    let accepted = aimed(session.state(), &AIM);
+    let refused = aimed(taken.state(), &AIM);
     end(&rt);
-    assert_eq!(rt; told, (Ok(()), Err(Refusal::MemberUp)));
+    assert_eq!(rt; accepted, Ok(()));
+    assert_eq!(rt; refused, Err(Refusal::MemberUp));
+    Ok(())
+}
+
+/// So is what was found for it.
+#[test]
+fn checks_make_no_request(rt: HostRuntime) -> Result<(), Fail> {
+    let session = locked(rt.alloc())?;
+    let taken = swapped(rt.alloc())?;
+    let (b1, b3) = (BookieIx(0), BookieIx(2));
+    let found = content(rt.alloc(), [Some(b1), Some(b3), Some(b1), Some(b3)])?;
     begin(&rt, "check");
-    let told = (
-        check(session.state(), found.as_content()),
-        check(taken.state(), found.as_content()),
-    );
+    let accepted = check(session.state(), found.as_content());
+    let refused = check(taken.state(), found.as_content());
     end(&rt);
-    assert_eq!(rt; told, (Ok(()), Err(Refusal::Stale(1))));
+    assert_eq!(rt; accepted, Ok(()));
+    assert_eq!(rt; refused, Err(Refusal::Stale(1)));
     Ok(())
 }
