@@ -1,22 +1,22 @@
 -- Bits of words, and the entries that they stand for.
 use Rattle.std.proofs.Common.{◌≡◌, ◌≢◌, ◌∙◌, ◌+◌, ◌-◌, ◌*◌, ◌/◌, ◌%◌, ◌^◌, ◌<◌, ◌≤◌, ◌&&◌, ◌||◌, not, Bool, true, false}
-use Rattle.std.proofs.Common.{cond, List, [], ◌∷◌, ◌++◌, map, ℕ, zero, suc, refl, ap, sym, subst, arith, inl, inr}
-use Rattle.std.proofs.Common.{nat_eq, nat_le, nat_lt, None, Some, Option}
-use Rattle.std.specs.Prelude.{◌==◌, bit_and, bit_or, max, min, slice_get, All}
+use Rattle.std.proofs.Common.{cond, List, [], ◌∷◌, ◌++◌, map, ℕ, zero, suc, refl, ap, sym, arith, inl, inr}
+use Rattle.std.proofs.Common.{nat_le, nat_lt, None, Some}
+use Rattle.std.specs.Prelude.{◌==◌, bit_and, bit_or, max, min, slice_get}
 use Rattle.std.specs.Int.{bit_at, bit_not, w64, trailing_zeros}
-use Rattle.std.specs.List.{filter, find, flat_map, list_any, range_with_len}
+use Rattle.std.specs.List.{filter, find, range_with_len}
 use Rattle.std.proofs.lemmas.Bool.{cases_lt}
 use Rattle.std.proofs.lemmas.Bool.Decides.{nat_tests}
 use Rattle.std.proofs.lemmas.List.Elements.{filter-append}
-use Rattle.std.proofs.lemmas.List.Folds.{list_any-append}
 use Rattle.std.proofs.lemmas.Nat.Bits.{bit_at-lt, bit_at-zero, bit_at_lowest, bit_at-suc, bit_at_and, bit_at_or, bit_at_not}
 use Rattle.std.proofs.lemmas.Nat.Bits.{ones_shl, ones_shr, bit_at_mask_inside, bit_at_mask_below, bit_at_ones}
-use Rattle.std.proofs.lemmas.Nat.Bits.{bit_at_ones_above, bit_at-trailing_zeros}
-use Rattle.reh_model.specs.Contents.{is_in_word, word_entries}
-use Rattle.reh_model.specs.Striping.{range}
-use Rattle.reh_model.proofs.Ranges.{IsFirst, find_first, find_none}
+use Rattle.std.proofs.lemmas.Nat.Bits.{bit_at_ones_above, bit_at-trailing_zeros, same_from_bits_below}
+use Rattle.reh_model.specs.Contents.{is_in_word}
+use Rattle.reh_model.specs.Striping.{range, is_striped, striped_entries}
+use Rattle.reh_model.proofs.Ranges.{find_first, find_none}
+use Rattle.reh_model.proofs.StripingLaws.{striped_entries-nil, striped_entries-outside}
 use Rattle.reh_stripe.specs.declared.words.Word.{Word}
-use Rattle.reh_stripe.specs.Words.{has_bit, is_between, bits_from, word_of, entries_in, entries_of, AreRising}
+use Rattle.reh_stripe.specs.Words.{has_bit, is_between, bits_from, word_of, entries_in, entries_of, AreRising, end_word}
 
 -- Bits
 
@@ -321,3 +321,59 @@ filter-between p first last low high from order to =
 pub rising-words : (test : ℕ → Bool) (k a n : ℕ) → k ≤ a → a + n ≤ 2 ^ 26 → AreRising k (map (word_of test) (range_with_len a n))
 rising-words test k a zero from to = tt
 rising-words test k a (suc n) from to = (from, omega (arith, to), rising-words test (a + 1) (a + 1) n (omega arith) (omega (arith, to)))
+
+-- Striped entries
+
+-- the words in which a range's entries lie have those that the index carries
+pub entries-striped : (first stop index size quorum number end last : ℕ) → number ≡ first / 64
+    → end ≡ end_word first stop → last ≡ stop - 1
+    → entries_of
+    (map (word_of (λ e. is_between first last e && is_striped e index size quorum)) (range number end))
+    ≡ striped_entries first stop index size quorum
+entries-striped first stop index size quorum number end last begins ends lasts =
+    let test : ℕ → Bool = λ e. is_between first last e && is_striped e index size quorum in
+    elim (cases_lt first stop) [
+      | inl some ↦
+          let yes : nat_lt first stop ≡ true = grind (arith, nat_tests) in
+          let at_end : end ≡ (stop - 1) / 64 + 1 = ends ∙ ap (λ b. cond b ((stop - 1) / 64 + 1) (first / 64)) yes in
+          let past : last + 1 ≡ stop = omega (arith, some, lasts) in
+          entries-words test number (end - number)
+          ∙ filter-between (λ e. is_striped e index size quorum) first last (64 * number) (64 * (end - number))
+          (omega (arith, begins)) (omega (arith, some, lasts)) (omega (arith, some, lasts, at_end, begins))
+          ∙ ap (λ n. striped_entries first n index size quorum) past
+      | inr none ↦
+          let no : nat_lt first stop ≡ false = grind (arith, nat_tests) in
+          let at_end : end ≡ first / 64 = ends ∙ ap (λ b. cond b ((stop - 1) / 64 + 1) (first / 64)) no in
+          let nothing : end - number ≡ 0 = omega (arith, at_end, begins) in
+          ap (λ n. entries_of (map (word_of test) (range_with_len number n))) nothing
+          ∙ sym (striped_entries-nil first stop index size quorum none)
+    ]
+
+-- and none where the index is beside the ensemble
+pub entries-outside : (test : ℕ → Bool) (first stop index size quorum number end : ℕ) → quorum ≤ size → size ≤ index
+    → end ≡ number
+    → entries_of (map (word_of test) (range number end)) ≡ striped_entries first stop index size quorum
+entries-outside test first stop index size quorum number end within outside ends =
+    let nothing : end - number ≡ 0 = omega (arith, ends) in
+    ap (λ n. entries_of (map (word_of test) (range_with_len number n))) nothing
+    ∙ sym (striped_entries-outside (stop - first) first index size quorum within outside)
+
+pub end_word-within : (first stop : ℕ) → first < 2 ^ 32 → stop < 2 ^ 32 → end_word first stop ≤ 2 ^ 26
+end_word-within first stop first_in stop_in =
+    elim (nat_lt first stop) as (λ b. cond b ((stop - 1) / 64 + 1) (first / 64) ≤ 2 ^ 26) [
+      | true ↦ omega (arith, first_in, stop_in)
+      | false ↦ omega (arith, first_in, stop_in)
+    ]
+
+same_bit : (a b : ℕ) → a < 2 → b < 2 → (a == 1) ≡ (b == 1) → a ≡ b
+same_bit a b a_in b_in alike = grind (arith, nat_tests)
+
+-- a word with the bits of a test
+pub word_of-bits : (test : ℕ → Bool) (number bits : ℕ) → bits < 2 ^ 64
+    → ((i : ℕ) → i < 64 → has_bit bits i ≡ test (64 * number + i))
+    → word_of test number ≡ record { number = number; bits = bits }
+word_of-bits test number bits small are =
+    ap (λ n. record { number = number; bits = n })
+    (same_from_bits_below 64 (bits_from test (64 * number) 64) bits (from-small test (64 * number) 64) small (λ i inside.
+    same_bit (bit_at (bits_from test (64 * number) 64) i) (bit_at bits i) (bit_at-lt _ _) (bit_at-lt _ _)
+    (has_bit-from test (64 * number) 64 i inside ∙ sym (are i inside))))

@@ -1,5 +1,6 @@
 -- The words of striped entries that are left.
 use Rattle.std.specs.Prelude.{◌≡◌, ℕ, ◌+◌, ◌*◌, ◌%◌, ◌<◌, ◌≤◌, Bool, ◌&&◌, List, map}
+use Rattle.reh_types.specs.declared.limits.TheConstants.{MAX_ENSEMBLE_SIZE}
 use Rattle.reh_model.specs.Striping.{is_striped, range}
 use Rattle.reh_stripe.specs.Words.{is_between, word_of}
 use Rattle.reh_stripe.specs.declared.words.Word.{Word}
@@ -22,3 +23,4 @@ pub record IsWithin (a : Inside) : Type 0 where
   pub step : a.step ≡ 64 % a.masks.size
   pub size : a.size ≡ a.masks.size
   pub some : 1 ≤ a.size
+  pub small : a.size ≤ MAX_ENSEMBLE_SIZE

@@ -1,5 +1,6 @@
 -- Words: bit i of word n stands for entry 64 n + i.
-use Rattle.std.specs.Prelude.{◌≡◌, ℕ, zero, suc, ◌+◌, ◌*◌, ◌^◌, ◌<◌, ◌≤◌, Bool, cond, ◌&&◌, ◌==◌, nat_le, List, [], ◌∷◌}
+use Rattle.std.specs.Prelude.{ℕ, zero, suc, ◌+◌, ◌*◌, ◌^◌, ◌<◌, ◌≤◌, Bool, cond, ◌&&◌, ◌==◌, nat_le, List, [], ◌∷◌, ◌-◌, ◌/◌, nat_lt}
+use Rattle.std.specs.Prelude.{if◌then◌else◌}
 use Rattle.std.specs.Int.{bit_at}
 use Rattle.std.specs.List.{flat_map}
 use Rattle.reh_model.specs.Contents.{word_entries}
@@ -34,3 +35,7 @@ entries_of words = flat_map entries_in words
 abbrev pub AreRising : ℕ → List Word → Type 0
 AreRising k [] = Unit {0}
 AreRising k (w ∷ ws) = (k ≤ w.number) × (w.number < 2 ^ 26) × AreRising (w.number + 1) ws
+
+-- one past the last word of the entries from the first up to, not including, the stop
+abbrev pub end_word : ℕ → ℕ → ℕ
+end_word first stop = if nat_lt first stop then (stop - 1) / 64 + 1 else first / 64

@@ -6,7 +6,7 @@ ghost use Rattle.reh_model.specs.Striping as stripe;
 ghost use Rattle.reh_stripe.specs.Words.{AreRising, entries_of};
 
 use crate::masks::Masks;
-use crate::striped_words::StripedWords;
+use crate::striped_words::{StripedWords, end_word};
 use crate::writes::wrapped;
 use std::marker::Model;
 
@@ -107,8 +107,11 @@ impl Striped {
         ensures rising { AreRising 0 result }
     {
         let number = self.at / 64;
-        let some = self.index < self.size && self.at < self.stop;
-        let end = if some { (self.stop - 1) / 64 + 1 } else { number };
+        let end = if self.index < self.size {
+            end_word(self.at, self.stop)
+        } else {
+            number
+        };
         StripedWords {
             number,
             end,

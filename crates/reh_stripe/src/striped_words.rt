@@ -1,6 +1,7 @@
 // The entries that an index of an ensemble carries, word by word.
 ghost use Rattle.std.specs.Prelude.{◌≡◌, ◌<◌, ◌≤◌};
 ghost use Rattle.std.specs.Iterator.{YieldsFirst, item_count};
+ghost use Rattle.reh_stripe.specs.Words as words;
 
 use crate::masks::Masks;
 use crate::words::{Word, bits_between};
@@ -53,5 +54,17 @@ impl Iterator for StripedWords {
         self.number = number + 1;
         self.start = wrapped(self.start + self.step, self.size);
         Some(Word { number, bits })
+    }
+}
+
+/// One past the number of the last word in which entries from the first up to, not including, the stop lie; the number
+/// of the first one's where there are none.
+pub(crate) fn end_word(first: u32, stop: u32) -> u32
+    ensures { result ≡ words.end_word first stop }
+{
+    if first < stop {
+        (stop - 1) / 64 + 1
+    } else {
+        first / 64
     }
 }

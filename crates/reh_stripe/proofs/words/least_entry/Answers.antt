@@ -1,5 +1,5 @@
 -- A word without bits has no entry, and else its least bit is that of its least entry.
-use Rattle.std.proofs.Common.{◌≡◌, ◌≢◌, ◌∙◌, ℕ, arith, sym, ap}
+use Rattle.std.proofs.Common.{◌≡◌, ◌∙◌, ℕ, arith, sym, ap}
 use Rattle.std.specs.Prelude.{slice_get}
 use Rattle.std.specs.Int.{w64, trailing_zeros}
 use Rattle.reh_stripe.specs.Words.{entries_in}
