@@ -1,11 +1,14 @@
 -- Bits of words, and the entries that they stand for.
 use Rattle.std.proofs.Common.{◌≡◌, ◌≢◌, ◌∙◌, ◌+◌, ◌-◌, ◌*◌, ◌/◌, ◌%◌, ◌^◌, ◌<◌, ◌≤◌, ◌&&◌, ◌||◌, not, Bool, true, false}
 use Rattle.std.proofs.Common.{cond, List, [], ◌∷◌, ◌++◌, map, ℕ, zero, suc, refl, ap, sym, arith, inl, inr}
-use Rattle.std.proofs.Common.{nat_le, nat_lt, None, Some}
+use Rattle.std.proofs.Common.{nat_eq, nat_le, nat_lt, None, Some}
 use Rattle.std.specs.Prelude.{◌==◌, bit_and, bit_or, max, min, slice_get}
 use Rattle.std.specs.Int.{bit_at, bit_not, w64, trailing_zeros}
-use Rattle.std.specs.List.{filter, find, range_with_len}
+use Rattle.std.specs.List.{filter, find, list_any, range_with_len}
+use Rattle.std.specs.Cmp.{unsigned_tied}
+use Rattle.std.specs.Ordering.{nat_cmp, eq_by_cmp}
 use Rattle.std.proofs.lemmas.Bool.{cases_lt}
+use Rattle.reh_types.proofs.BitLaws.{any_filtered, in_range}
 use Rattle.std.proofs.lemmas.Bool.Decides.{nat_tests}
 use Rattle.std.proofs.lemmas.List.Elements.{filter-append}
 use Rattle.std.proofs.lemmas.Nat.Bits.{bit_at-lt, bit_at-zero, bit_at_lowest, bit_at-suc, bit_at_and, bit_at_or, bit_at_not}
@@ -13,7 +16,7 @@ use Rattle.std.proofs.lemmas.Nat.Bits.{ones_shl, ones_shr, bit_at_mask_inside, b
 use Rattle.std.proofs.lemmas.Nat.Bits.{bit_at_ones_above, bit_at-trailing_zeros, same_from_bits_below}
 use Rattle.reh_model.specs.Contents.{is_in_word}
 use Rattle.reh_model.specs.Striping.{range, is_striped, striped_entries}
-use Rattle.reh_model.proofs.Ranges.{find_first, find_none}
+use Rattle.reh_model.proofs.Ranges.{find_first, find_none, list_any-same}
 use Rattle.reh_model.proofs.StripingLaws.{striped_entries-nil, striped_entries-outside}
 use Rattle.reh_stripe.specs.declared.words.Word.{Word}
 use Rattle.reh_stripe.specs.Words.{has_bit, is_between, bits_from, word_of, entries_in, entries_of, AreRising, end_word}
@@ -377,3 +380,20 @@ word_of-bits test number bits small are =
     (same_from_bits_below 64 (bits_from test (64 * number) 64) bits (from-small test (64 * number) 64) small (λ i inside.
     same_bit (bit_at (bits_from test (64 * number) 64) i) (bit_at bits i) (bit_at-lt _ _) (bit_at-lt _ _)
     (has_bit-from test (64 * number) 64 i inside ∙ sym (are i inside))))
+
+-- which entries a word has
+pub any-in_word : (w : Word) (e : ℕ) → list_any (nat_eq e) (entries_in w) ≡ is_in_word w.number w.bits e
+unfolding entries_in
+any-in_word w e =
+    let there : Bool = list_any (eq_by_cmp nat_cmp e) (range_with_len (64 * w.number) 64) in
+    list_any-same (nat_eq e) (eq_by_cmp nat_cmp e) (λ x. sym (unsigned_tied e x)) (entries_in w)
+    ∙ any_filtered (is_in_word w.number w.bits) e (64 * w.number) 64
+    ∙ elim (is_in_word w.number w.bits e) as (λ b. is_in_word w.number w.bits e ≡ b → (b && there) ≡ b) [
+      | true ↦ λ is.
+          let same : e / 64 ≡ w.number = grind (arith, nat_tests, first_of (e / 64 == w.number) _ is) in
+          in_range e (64 * w.number) 64 (omega (arith, same)) (omega (arith, same))
+      | false ↦ λ _. refl
+    ] refl where
+      first_of : (a b : Bool) → (a && b) ≡ true → a ≡ true
+      first_of true b is = refl
+      first_of false b is = is
