@@ -197,6 +197,10 @@ turning-more row entries turns w rest held fits read small some was =
           let below : u.number < k = All-head (λ u. u.number < k) u turns before in
           All-cons (λ u. u.number < w.number + 1) u turns (omega (arith, below, from)) (later turns k from (All-tail (λ u. u.number < k) u turns before))
 
+      never : (a : Bool) → (a && false) ≡ false
+      never true = refl
+      never false = refl
+
       apart : (e : ℕ) → was.behind.0 ≤ w.number → (is_turned turns e && is_in_word w.number w.bits e) ≡ false
       apart e from =
           elim (e / 64 == w.number) as (λ b. (e / 64 == w.number) ≡ b → (is_turned turns e && (b && has_bit w.bits (e % 64))) ≡ false) [
@@ -205,10 +209,6 @@ turning-more row entries turns w rest held fits read small some was =
                 ap (λ t. t && has_bit w.bits (e % 64)) (turned-later turns was.behind.0 e was.behind.1 (omega (arith, from, number)))
             | false ↦ λ _. never (is_turned turns e)
           ] refl
-
-      never : (a : Bool) → (a && false) ≡ false
-      never true = refl
-      never false = refl
 
       joined : (t w r n : Bool) → (t && w) ≡ false → (one_of t (w && n) || (r && n)) ≡ (t || ((w || r) && n))
       joined true true r n none = cc
