@@ -346,7 +346,10 @@ mod tests {
             assert_eq!(rt; held.row(bookie, ledger), [8].as_slice());
             return;
         }
-        if held.delta_of(rt.alloc(), bookie, ledger, &Striped::new(65, 66, 0, 1, 1)).is_err() {
+        if held
+            .delta_of(rt.alloc(), bookie, ledger, &Striped::new(65, 66, 0, 1, 1))
+            .is_err()
+        {
             assert_eq!(rt; held.row(bookie, ledger), [8, 1].as_slice());
         }
     }
