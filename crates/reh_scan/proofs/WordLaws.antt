@@ -1,8 +1,8 @@
 -- Words of the entries that some row has, and the first entry of words that passes a test.
 use Rattle.std.proofs.Common.{◌≡◌, ◌∙◌, ◌+◌, ◌*◌, ◌/◌, ◌%◌, ◌-◌, ◌<◌, ◌≤◌, ◌&&◌, ◌||◌, Bool, true, false, List, [], ◌∷◌}
 use Rattle.std.proofs.Common.{◌++◌, ℕ, refl, ap, sym, length, get_or, slice_index, Bor, arith, nat_eq}
-use Rattle.std.specs.Prelude.{◌==◌, bit_and, bit_or, slice_get}
-use Rattle.std.specs.Int.{bit_at}
+use Rattle.std.specs.Prelude.{◌==◌, ◌^◌, bit_and, bit_or, not, slice_get, None, Some}
+use Rattle.std.specs.Int.{bit_at, bit_not, w64}
 use Rattle.std.specs.List.{find, list_any, range_with_len}
 use Rattle.std.specs.Option.{option_or}
 use Rattle.std.proofs.Math.Bool.{or-false}
@@ -10,13 +10,14 @@ use Rattle.std.proofs.lemmas.Bool.Decides.{nat_tests}
 use Rattle.std.proofs.lemmas.Nat.{mod_below}
 use Rattle.std.proofs.lemmas.List.Elements.{All-nil, All-cons}
 use Rattle.std.proofs.lemmas.List.Folds.{find-append, list_any-append}
+use Rattle.reh_held.specs.Rows.{is_set}
 use Rattle.reh_held.proofs.CountLaws.{range-append}
 use Rattle.reh_model.specs.Striping.{range, index_at, is_striped, write_set}
 use Rattle.reh_model.proofs.Ranges.{list_any-map, passes_any, any_passes, same_answer}
 use Rattle.reh_model.proofs.StripingLaws.{is_striped-ranks}
 use Rattle.reh_stripe.specs.declared.words.Word.{Word}
 use Rattle.reh_stripe.specs.Words.{has_bit, entries_in, entries_of}
-use Rattle.reh_stripe.proofs.WordLaws.{has_bit-none, has_bit-and, has_bit-or, find-in_word}
+use Rattle.reh_stripe.proofs.WordLaws.{has_bit-none, has_bit-and, has_bit-or, has_bit-not, find-in_word}
 use Rattle.reh_scan.specs.Sources.{is_set_at}
 use Rattle.reh_scan.proofs.ReadingLaws.{is_set_there}
 
@@ -101,3 +102,35 @@ pub find-words : (p : ℕ → Bool) (w : Word) (rest : List Word) (bits : ℕ)
 find-words p w rest bits left =
     find-append p (entries_in w) (entries_of rest)
     ∙ ap (λ found. option_or found (find p (entries_of rest))) (find-in_word w bits p left)
+
+-- the bits of a row's word are those of its entries
+pub has_bit-word : (row : List ℕ) (number i : ℕ) → i < 64
+    → has_bit (slice_index row number) i ≡ is_set row (64 * number + i)
+has_bit-word row number i inside =
+    let word : number ≡ (64 * number + i) / 64 = omega (arith, inside) in
+    let bit : i ≡ (64 * number + i) % 64 = omega (arith, inside) in
+    λ j. has_bit (slice_index row (word j)) (bit j)
+
+-- what is left of a word without the entries that pass a test
+pub left-bits : (p : ℕ → Bool) (bits passing number : ℕ) → passing < 2 ^ 64
+    → ((i : ℕ) → i < 64 → has_bit passing i ≡ p (64 * number + i)) → (i : ℕ) → i < 64
+    → has_bit (bit_and bits (bit_not w64 passing)) i ≡ (has_bit bits i && not (p (64 * number + i)))
+left-bits p bits passing number small are i inside =
+    has_bit-and bits (bit_not w64 passing) i
+    ∙ ap (λ b. has_bit bits i && b) (has_bit-not passing i small inside ∙ ap not (are i inside))
+
+-- an entry is left in the first word
+pub found-here : (p : ℕ → Bool) (w : Word) (rest : List Word) (bits entry : ℕ)
+    → ((i : ℕ) → i < 64 → has_bit bits i ≡ (has_bit w.bits i && p (64 * w.number + i)))
+    → slice_get (entries_in (record { number = w.number; bits = bits })) 0 ≡ Some entry
+    → find p (entries_of (w ∷ rest)) ≡ Some entry
+found-here p w rest bits entry left is =
+    find-words p w rest bits left ∙ ap (λ found. option_or found (find p (entries_of rest))) is
+
+-- or none
+pub found-later : (p : ℕ → Bool) (w : Word) (rest : List Word) (bits : ℕ)
+    → ((i : ℕ) → i < 64 → has_bit bits i ≡ (has_bit w.bits i && p (64 * w.number + i)))
+    → slice_get (entries_in (record { number = w.number; bits = bits })) 0 ≡ None
+    → find p (entries_of (w ∷ rest)) ≡ find p (entries_of rest)
+found-later p w rest bits left is =
+    find-words p w rest bits left ∙ ap (λ found. option_or found (find p (entries_of rest))) is
