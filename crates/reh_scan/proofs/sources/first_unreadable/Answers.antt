@@ -25,9 +25,11 @@ pub loop-word-preserved : goal.loop-word-preserved
 loop-word-preserved c =
     let reads : ℕ → Bool = is_readable c.args.state.now c.args.ledger.now c.args.fragment.now in
     let w : Word = c.in-Some.word in
-    let rising = subst (λ (ws : List Word). AreRising c.loop-word.invariant.rising.0 ws) c.in-Some.ensures.steps
+    let rising =
+    subst (λ (ws : List Word). AreRising c.loop-word.invariant.rising.0 ws) c.in-Some.ensures.steps
     c.loop-word.invariant.rising.1 in
-    let left = left-bits reads w.bits c.readable_word.result w.number c.readable_word.type_inv
+    let left =
+    left-bits reads w.bits c.readable_word.result w.number c.readable_word.type_inv
     (λ i inside. c.readable_word.ensures i inside
     ∙ sym (is_readable-rows c.args.state.now c.args.ledger.now c.args.fragment.now c.source_rows-rows.result
     c.metadata-metadata.result.now c.metadata-metadata.ensures
@@ -37,9 +39,28 @@ loop-word-preserved c =
           c.loop-word.invariant.first
           ∙ ap (λ (ws : List Word). find (λ e. not (reads e)) (entries_of ws)) c.in-Some.ensures.steps
           ∙ found-later (λ e. not (reads e)) w c.next.new.self (bit_and w.bits (bit_not w64 c.readable_word.result)) left
-          ?;
-      rising = (w.number + 1, rising.2.2);
+          (sym c.least_entry.ensures ∙ c.in_default.is);
+      rising = (w.number + 1, rising.2);
     }
 
+pub returns-in-Some-least_entry : goal.returns-in-Some-least_entry
+returns-in-Some-least_entry c =
+    let reads : ℕ → Bool = is_readable c.args.state.now c.args.ledger.now c.args.fragment.now in
+    let w : Word = c.in-Some.word in
+    let left =
+    left-bits reads w.bits c.readable_word.result w.number c.readable_word.type_inv
+    (λ i inside. c.readable_word.ensures i inside
+    ∙ sym (is_readable-rows c.args.state.now c.args.ledger.now c.args.fragment.now c.source_rows-rows.result
+    c.metadata-metadata.result.now c.metadata-metadata.ensures
+    c.source_rows-rows.ensures.well_formed c.source_rows-rows.ensures.rows (64 * w.number + i))) in
+    sym (c.loop-word.invariant.first
+    ∙ ap (λ (ws : List Word). find (λ e. not (reads e)) (entries_of ws)) c.in-Some.ensures.steps
+    ∙ found-here (λ e. not (reads e)) w c.next.new.self (bit_and w.bits (bit_not w64 c.readable_word.result))
+    c.in-Some-least_entry.entry left
+    (sym c.least_entry.ensures ∙ c.in-Some-least_entry.is))
+
 pub returns : goal.returns
-returns c = ?
+returns c =
+    let reads : ℕ → Bool = is_readable c.args.state.now c.args.ledger.now c.args.fragment.now in
+    sym (c.loop-word.invariant.first
+    ∙ ap (λ (ws : List Word). find (λ e. not (reads e)) (entries_of ws)) c.in-None.ensures.steps.0)

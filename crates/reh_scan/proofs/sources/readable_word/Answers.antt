@@ -7,8 +7,8 @@ use Rattle.reh_stripe.specs.Masks.{Sizes}
 use Rattle.reh_scan.proofs.WordLaws.{IsRead, read-more, read-all}
 use Rattle.reh_scan.proofs.sources.readable_word.Goals as goal
 
-pub carried-requires-clause-start : goal.carried-requires-clause-start
-carried-requires-clause-start c =
+pub carried-carried-requires-clause-start : goal.carried-carried-requires-clause-start
+carried-carried-requires-clause-start c =
     let rules_of : IsMetadata c.args.metadata.now = c.size-size.ensures.well_formed in
     let size : c.size-size.result ≡ c.args.masks.now.size =
     c.size-size.ensures.size ∙ ap (λ (v : Sizes). v.size) (sym c.requires.masks) in
@@ -16,8 +16,8 @@ carried-requires-clause-start c =
     (arith, size, mod_below (64 * c.args.number) c.size-size.result
     (omega (arith, c.size-size.ensures.size, rules_of.some_acks, rules_of.acks_within, rules_of.writes_within)))
 
-pub carried-requires-clause-index : goal.carried-requires-clause-index
-carried-requires-clause-index c =
+pub carried-carried-requires-clause-index : goal.carried-carried-requires-clause-index
+carried-carried-requires-clause-index c =
     let size : c.size-size.result ≡ c.args.masks.now.size =
     c.size-size.ensures.size ∙ ap (λ (v : Sizes). v.size) (sym c.requires.masks) in
     omega (arith, size)
