@@ -12,9 +12,12 @@ carried-carried-requires-clause-start c =
     let rules_of : IsMetadata c.args.metadata.now = c.size-size.ensures.well_formed in
     let size : c.size-size.result ≡ c.args.masks.now.size =
     c.size-size.ensures.size ∙ ap (λ (v : Sizes). v.size) (sym c.requires.masks) in
-    omega
-    (arith, size, mod_below (64 * c.args.number) c.size-size.result
-    (omega (arith, c.size-size.ensures.size, rules_of.some_acks, rules_of.acks_within, rules_of.writes_within)))
+    omega (
+      arith,
+      size,
+      mod_below (64 * c.args.number) c.size-size.result
+          (omega (arith, c.size-size.ensures.size, rules_of.some_acks, rules_of.acks_within, rules_of.writes_within)),
+    )
 
 pub carried-carried-requires-clause-index : goal.carried-carried-requires-clause-index
 carried-carried-requires-clause-index c =
