@@ -1,0 +1,66 @@
+-- Counts and sums of lists.
+use Rattle.std.proofs.Common.{◌≡◌, ◌∙◌, ◌+◌, ◌<◌, ◌≤◌, ◌&&◌, ◌||◌, not, cond, ℕ, Bool, true, false, List, [], ◌∷◌, refl}
+use Rattle.std.proofs.Common.{ap, sym, map, All, nat_eq, nat_lt, arith}
+use Rattle.std.specs.Prelude.{count_by, sum_by}
+use Rattle.std.specs.List.{list_all, list_any}
+use Rattle.std.proofs.lemmas.Bool.Decides.{nat_tests}
+use Rattle.std.proofs.lemmas.List.Elements.{All-head, All-tail}
+use Rattle.std.proofs.lemmas.List.Sums.{sum_by-cons, sum_by-le-sum_by}
+
+pub sum_by-map : {X Y : Type 0} (f : Y → ℕ) (h : X → Y) (xs : List X) → sum_by f (map h xs) ≡ sum_by (λ x. f (h x)) xs
+sum_by-map f h [] = refl
+sum_by-map f h (x ∷ xs) =
+    sum_by-cons f (h x) (map h xs) ∙ ap (λ n. f (h x) + n) (sum_by-map f h xs)
+    ∙ sym (sum_by-cons (λ x. f (h x)) x xs)
+
+pub count_by-map : {X Y : Type 0} (p : Y → Bool) (h : X → Y) (xs : List X)
+    → count_by p (map h xs) ≡ count_by (λ x. p (h x)) xs
+count_by-map p h xs = sum_by-map (λ y. cond (p y) 1 0) h xs
+
+-- tests that give the same answers below a size
+pub count_same_below : (p q : ℕ → Bool) (size : ℕ) → ((i : ℕ) → i < size → p i ≡ q i) → (is : List ℕ)
+    → All (λ i. i < size) is → count_by p is ≡ count_by q is
+count_same_below p q size same [] within = refl
+count_same_below p q size same (i ∷ is) within =
+    sum_by-cons (λ i. cond (p i) 1 0) i is
+    ∙ (λ j. cond (same i (All-head (λ j. j < size) i is within) j) 1 0
+    + count_same_below p q size same is (All-tail (λ j. j < size) i is within) j)
+    ∙ sym (sum_by-cons (λ i. cond (q i) 1 0) i is)
+
+one_or_none : (a b : Bool) → (a ≡ true → b ≡ true) → cond a 1 0 ≤ cond b 1 0
+one_or_none true true implies = omega arith
+one_or_none true false implies = cc (implies refl)
+one_or_none false true implies = omega arith
+one_or_none false false implies = omega arith
+
+-- what passes a test passes a wider one
+pub count_by-le : {X : Type 0} (p q : X → Bool) (xs : List X) → ((x : X) → p x ≡ true → q x ≡ true)
+    → count_by p xs ≤ count_by q xs
+count_by-le p q xs implies =
+    sum_by-le-sum_by (λ x. cond (p x) 1 0) (λ x. cond (q x) 1 0) xs (λ x. one_or_none (p x) (q x) (implies x))
+
+-- some element passes where not fewer than one do
+pub any-count : {X : Type 0} (p : X → Bool) (xs : List X) → list_any p xs ≡ not (nat_lt (count_by p xs) 1)
+any-count p [] = refl
+any-count p (x ∷ xs) =
+    any-here (p x) (list_any p xs) (count_by p xs) (any-count p xs)
+    ∙ ap (λ n. not (nat_lt n 1)) (sym (sum_by-cons (λ x. cond (p x) 1 0) x xs)) where
+      any-here : (here later : Bool) (n : ℕ) → later ≡ not (nat_lt n 1)
+          → (here || later) ≡ not (nat_lt (cond here 1 0 + n) 1)
+      any-here true later n was = grind (arith, nat_tests)
+      any-here false later n was = was ∙ (let none : n ≡ 0 + n = omega arith in ap (λ n. not (nat_lt n 1)) none)
+
+tied : (a b m n : ℕ) → a ≤ b → m ≤ n → nat_eq (a + m) (b + n) ≡ (nat_eq a b && nat_eq m n)
+tied a b m n first rest = grind (arith, nat_tests)
+
+-- a sum of smaller terms is the same only where each term is
+pub sums-same : {X : Type 0} (f h : X → ℕ) (xs : List X) → ((x : X) → f x ≤ h x)
+    → nat_eq (sum_by f xs) (sum_by h xs) ≡ list_all (λ x. nat_eq (f x) (h x)) xs
+sums-same f h [] each = refl
+sums-same f h (x ∷ xs) each =
+    (λ i. nat_eq (sum_by-cons f x xs i) (sum_by-cons h x xs i))
+    ∙ tied (f x) (h x) (sum_by f xs) (sum_by h xs) (each x) (sum_by-le-sum_by f h xs each)
+    ∙ ap (λ rest. nat_eq (f x) (h x) && rest) (sums-same f h xs each)
+
+pub list_all-alike : {X : Type 0} (p q : X → Bool) (xs : List X) → ((x : X) → p x ≡ q x) → list_all p xs ≡ list_all q xs
+list_all-alike p q xs alike = λ i. list_all (λ x. alike x i) xs

@@ -1,0 +1,3 @@
+pub mod CountLaws
+pub mod LossLaws
+pub mod VerdictLaws

@@ -1,0 +1,157 @@
+-- What losses do to copies and counts, and what the counts say of a verdict.
+use Rattle.std.proofs.Common.{◌≡◌, ◌∙◌, ◌≤◌, ◌&&◌, ◌||◌, not, cond, ℕ, Bool, true, false, List, refl}
+use Rattle.std.proofs.Common.{ap, sym, nat_eq, nat_le, nat_lt, arith}
+use Rattle.std.specs.Prelude.{count_by, sum_by}
+use Rattle.std.specs.List.{enumerate_from, list_all}
+use Rattle.std.proofs.lemmas.Bool.Decides.{nat_tests}
+use Rattle.std.proofs.lemmas.List.Sums.{sum_by-le-sum_by}
+use Rattle.reh_types.specs.Sets as set
+use Rattle.reh_types.specs.Sets.{Set, numbers}
+use Rattle.reh_model.specs.Metadata.{Fragment, writes}
+use Rattle.reh_model.specs.Cluster.{Cluster, Ledger, is_readable, is_source}
+use Rattle.reh_redundancy.specs.Losses.{losing}
+use Rattle.reh_redundancy.specs.Redundancy.{copies, count_under, entries_of, fragment_redundancy, ledger_redundancy}
+use Rattle.reh_redundancy.specs.Redundancy.{redundancy}
+use Rattle.reh_redundancy.specs.Verdicts.{every_entry, has_acks, keeps, ok_to_stop}
+use Rattle.reh_redundancy.proofs.LossLaws.{is_source-kept}
+use Rattle.reh_redundancy.proofs.CountLaws.{any-count, count_by-le, list_all-alike, sum_by-map, sums-same}
+
+both : (a b : Bool) → (a && b) ≡ true → a ≡ true
+both true b is = refl
+both false b is = cc
+
+-- losses never raise the copies of an entry,
+pub copies-losing : (s : Cluster) (bookies : Set numbers) (g : Ledger) (fragment : Fragment) (e : ℕ)
+    → copies (losing s bookies) g fragment e ≤ copies s g fragment e
+copies-losing s bookies g fragment e =
+    count_by-le (is_source (losing s bookies) g.id e) (is_source s g.id e) (writes g.metadata fragment e) (λ b is.
+    both (is_source s g.id e b) (not (set.contains bookies b)) (sym (is_source-kept s bookies g.id e b) ∙ is))
+
+-- nor do they lower the number of entries with too few
+under-more : (few many wanted : ℕ) → few ≤ many → nat_lt many wanted ≡ true → nat_lt few wanted ≡ true
+under-more few many wanted less is = grind (arith, nat_tests)
+
+pub count_under-losing : (s : Cluster) (bookies : Set numbers) (g : Ledger) (f : ℕ) (fragment : Fragment) (wanted : ℕ)
+    → count_under s g f fragment wanted ≤ count_under (losing s bookies) g f fragment wanted
+count_under-losing s bookies g f fragment wanted =
+    count_by-le (λ e. nat_lt (copies s g fragment e) wanted)
+    (λ e. nat_lt (copies (losing s bookies) g fragment e) wanted) (entries_of s g f fragment) (λ e is.
+    under-more (copies (losing s bookies) g fragment e) (copies s g fragment e) wanted
+    (copies-losing s bookies g fragment e) is)
+
+-- Tests of entries that ask for a number of copies
+
+-- an entry passes the test where its copies are as many as are wanted of its ledger
+abbrev pub AsksCopies : (Cluster → Ledger → Fragment → ℕ → Bool) → (Ledger → ℕ) → Type 0
+AsksCopies test wanted =
+    (s : Cluster) (g : Ledger) (fragment : Fragment) (e : ℕ)
+    → test s g fragment e ≡ not (nat_lt (copies s g fragment e) (wanted g))
+
+pub is_readable-copies : AsksCopies is_readable (λ _. 1)
+is_readable-copies s g fragment e = any-count (is_source s g.id e) (writes g.metadata fragment e)
+
+pub has_acks-copies : AsksCopies has_acks (λ g. g.metadata.ack_quorum)
+has_acks-copies s g fragment e = turned (copies s g fragment e) g.metadata.ack_quorum where
+  turned : (n wanted : ℕ) → nat_le wanted n ≡ not (nat_lt n wanted)
+  turned n wanted = grind (arith, nat_tests)
+
+-- how many entries of a ledger, and of all ledgers, have fewer copies than are wanted
+abbrev pub ledger_under : (Ledger → ℕ) → Cluster → Ledger → ℕ
+ledger_under wanted s g =
+    sum_by (λ p. count_under s g p.0 p.1 (wanted g)) (enumerate_from 0 g.metadata.fragments)
+
+abbrev pub all_under : (Ledger → ℕ) → Cluster → ℕ
+all_under wanted s = sum_by (ledger_under wanted s) s.parts.ledgers
+
+-- what is kept, by the counts of one entry
+kept-le : (few many wanted : ℕ) → few ≤ many → cond (nat_lt many wanted) 1 0 ≤ cond (nat_lt few wanted) 1 0
+kept-le few many wanted less = grind (arith, nat_tests)
+
+kept-tied : (few many wanted : ℕ) → few ≤ many
+    → nat_eq (cond (nat_lt many wanted) 1 0) (cond (nat_lt few wanted) 1 0)
+    ≡ (not (not (nat_lt many wanted)) || not (nat_lt few wanted))
+kept-tied few many wanted less = grind (arith, nat_tests)
+
+module _ (test : Cluster → Ledger → Fragment → ℕ → Bool) (wanted : Ledger → ℕ) (asks : AsksCopies test wanted)
+    (s : Cluster) (bookies : Set numbers) where
+  kept-entry : (g : Ledger) (fragment : Fragment) (e : ℕ)
+      → nat_eq (cond (nat_lt (copies s g fragment e) (wanted g)) 1 0)
+      (cond (nat_lt (copies (losing s bookies) g fragment e) (wanted g)) 1 0)
+      ≡ keeps test s (losing s bookies) g fragment e
+  kept-entry g fragment e =
+      kept-tied (copies (losing s bookies) g fragment e) (copies s g fragment e) (wanted g)
+      (copies-losing s bookies g fragment e)
+      ∙ (λ i. not (sym (asks s g fragment e) i) || sym (asks (losing s bookies) g fragment e) i)
+
+  kept-fragment : (g : Ledger) (f : ℕ) (fragment : Fragment)
+      → nat_eq (count_under s g f fragment (wanted g)) (count_under (losing s bookies) g f fragment (wanted g))
+      ≡ list_all (keeps test s (losing s bookies) g fragment) (entries_of s g f fragment)
+  kept-fragment g f fragment =
+      sums-same (λ e. cond (nat_lt (copies s g fragment e) (wanted g)) 1 0)
+      (λ e. cond (nat_lt (copies (losing s bookies) g fragment e) (wanted g)) 1 0) (entries_of s g f fragment)
+      (λ e.
+      kept-le (copies (losing s bookies) g fragment e) (copies s g fragment e) (wanted g)
+      (copies-losing s bookies g fragment e))
+      ∙ list_all-alike _ (keeps test s (losing s bookies) g fragment) (entries_of s g f fragment)
+      (kept-entry g fragment)
+
+  kept-ledger : (g : Ledger)
+      → nat_eq (ledger_under wanted s g) (ledger_under wanted (losing s bookies) g)
+      ≡ list_all (λ p. list_all (keeps test s (losing s bookies) g p.1) (entries_of s g p.0 p.1))
+      (enumerate_from 0 g.metadata.fragments)
+  kept-ledger g =
+      sums-same (λ p. count_under s g p.0 p.1 (wanted g)) (λ p. count_under (losing s bookies) g p.0 p.1 (wanted g))
+      (enumerate_from 0 g.metadata.fragments) (λ p. count_under-losing s bookies g p.0 p.1 (wanted g))
+      ∙ list_all-alike _ (λ p. list_all (keeps test s (losing s bookies) g p.1) (entries_of s g p.0 p.1))
+      (enumerate_from 0 g.metadata.fragments) (λ p. kept-fragment g p.0 p.1)
+
+  pub ledger_under-losing : (g : Ledger) → ledger_under wanted s g ≤ ledger_under wanted (losing s bookies) g
+  ledger_under-losing g =
+      sum_by-le-sum_by (λ p. count_under s g p.0 p.1 (wanted g))
+      (λ p. count_under (losing s bookies) g p.0 p.1 (wanted g)) (enumerate_from 0 g.metadata.fragments)
+      (λ p. count_under-losing s bookies g p.0 p.1 (wanted g))
+
+  -- every entry keeps what the test asks where no more entries have too few copies
+  pub kept-all : nat_eq (all_under wanted s) (all_under wanted (losing s bookies))
+      ≡ every_entry s (keeps test s (losing s bookies))
+  kept-all =
+      sums-same (ledger_under wanted s) (ledger_under wanted (losing s bookies)) s.parts.ledgers ledger_under-losing
+      ∙ list_all-alike _
+      (λ g.
+      list_all (λ p. list_all (keeps test s (losing s bookies) g p.1) (entries_of s g p.0 p.1))
+      (enumerate_from 0 g.metadata.fragments)) s.parts.ledgers kept-ledger
+
+-- the sums of a cluster
+lost-all : (s : Cluster) → (redundancy s).lost ≡ all_under (λ _. 1) s
+lost-all s =
+    sum_by-map (λ c. c.lost) (ledger_redundancy s) s.parts.ledgers
+    ∙ (λ i.
+    sum_by
+    (λ g.
+    sum_by-map (λ c. c.lost) (λ p. fragment_redundancy s g p.0 p.1) (enumerate_from 0 g.metadata.fragments) i)
+    s.parts.ledgers)
+
+under_ack-all : (s : Cluster) → (redundancy s).under_ack ≡ all_under (λ g. g.metadata.ack_quorum) s
+under_ack-all s =
+    sum_by-map (λ c. c.under_ack) (ledger_redundancy s) s.parts.ledgers
+    ∙ (λ i.
+    sum_by
+    (λ g.
+    sum_by-map (λ c. c.under_ack) (λ p. fragment_redundancy s g p.0 p.1) (enumerate_from 0 g.metadata.fragments) i)
+    s.parts.ledgers)
+
+-- bookies may be stopped where no more entries are lost without them, and no more have too few acks
+pub ok_to_stop-counts : (s : Cluster) (bookies : Set numbers) (allow_under_ack : Bool)
+    → (nat_eq (redundancy s).lost (redundancy (losing s bookies)).lost
+    && (allow_under_ack || nat_eq (redundancy s).under_ack (redundancy (losing s bookies)).under_ack))
+    ≡ ok_to_stop s bookies allow_under_ack
+ok_to_stop-counts s bookies allow_under_ack =
+    let lost : nat_eq (redundancy s).lost (redundancy (losing s bookies)).lost
+    ≡ every_entry s (keeps is_readable s (losing s bookies)) =
+    (λ i. nat_eq (lost-all s i) (lost-all (losing s bookies) i))
+    ∙ kept-all is_readable (λ _. 1) is_readable-copies s bookies in
+    let acks : nat_eq (redundancy s).under_ack (redundancy (losing s bookies)).under_ack
+    ≡ every_entry s (keeps has_acks s (losing s bookies)) =
+    (λ i. nat_eq (under_ack-all s i) (under_ack-all (losing s bookies) i))
+    ∙ kept-all has_acks (λ g. g.metadata.ack_quorum) has_acks-copies s bookies in
+    λ i. lost i && (allow_under_ack || acks i)

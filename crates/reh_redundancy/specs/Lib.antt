@@ -1,0 +1,4 @@
+pub mod Bounds
+pub mod Losses
+pub mod Redundancy
+pub mod Verdicts
