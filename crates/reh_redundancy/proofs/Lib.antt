@@ -1,3 +1,6 @@
 pub mod CountLaws
 pub mod LossLaws
+pub mod EventLaws
+pub mod RowLaws
 pub mod VerdictLaws
+pub mod Examples

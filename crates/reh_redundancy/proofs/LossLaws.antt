@@ -34,7 +34,7 @@ by_map None = refl
 by_map (Some lost) = refl
 
 -- a loss takes one bookie
-is_up_among-register : (lost_at : List (Option ℕ)) (b tick k : ℕ)
+pub is_up_among-register : (lost_at : List (Option ℕ)) (b tick k : ℕ)
     → is_up_among (register lost_at b (Some tick)) k ≡ (is_up_among lost_at k && not (nat_eq k b))
 is_up_among-register lost_at b tick k =
     elim (nat_eq k b) as (λ t. nat_eq k b ≡ t

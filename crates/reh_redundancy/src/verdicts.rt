@@ -1,0 +1,20 @@
+// Whether bookies may be stopped.
+ghost use Rattle.std.specs.Prelude.{◌≡◌};
+ghost use Rattle.reh_redundancy.specs.Verdicts as model;
+
+use crate::fragments::redundancy;
+use reh_cluster::State;
+use reh_types::BookieSet;
+
+/// Whether these bookies may be stopped: every entry that can be read stays so, and every entry with the copies that
+/// its ack quorum asks keeps so many, unless they may go below it. It takes no memory.
+///
+/// Losses never raise the copies of an entry, so the counts of all entries tell whether any one of them lost what it
+/// had.
+pub fn ok_to_stop(state: &State, bookies: &BookieSet, allow_under_ack: bool) -> bool
+    ensures { result ≡ model.ok_to_stop state.now bookies.now allow_under_ack }
+{
+    let before = redundancy(state, &BookieSet::new());
+    let after = redundancy(state, bookies);
+    before.lost == after.lost && (allow_under_ack || before.under_ack == after.under_ack)
+}
