@@ -1,11 +1,15 @@
 -- Counts and sums of lists.
-use Rattle.std.proofs.Common.{◌≡◌, ◌∙◌, ◌+◌, ◌<◌, ◌≤◌, ◌&&◌, ◌||◌, not, cond, ℕ, Bool, true, false, List, [], ◌∷◌, refl}
-use Rattle.std.proofs.Common.{ap, sym, map, All, nat_eq, nat_lt, arith}
+use Rattle.std.proofs.Common.{◌≡◌, ◌∙◌, ◌+◌, ◌-◌, ◌<◌, ◌≤◌, ◌&&◌, ◌||◌, not, cond, ℕ, Bool, true, false, List, [], ◌∷◌, refl}
+use Rattle.std.proofs.Common.{ap, sym, map, get_or, length, All, nat_eq, nat_lt, arith}
 use Rattle.std.specs.Prelude.{count_by, sum_by}
-use Rattle.std.specs.List.{list_all, list_any}
+use Rattle.std.proofs.lemmas.List.{get_or-map, length-map}
+use Rattle.std.proofs.lemmas.List.FromFn.{length-enumerate_from, get_or-enumerate_from}
+use Rattle.std.specs.List.{enumerate_from, list_all, list_any, range_with_len}
 use Rattle.std.proofs.lemmas.Bool.Decides.{nat_tests}
 use Rattle.std.proofs.lemmas.List.Elements.{All-head, All-tail}
 use Rattle.std.proofs.lemmas.List.Sums.{sum_by-cons, sum_by-le-sum_by}
+use Rattle.reh_held.proofs.CountLaws.{count-append}
+use Rattle.reh_model.specs.Striping.{range}
 
 pub sum_by-map : {X Y : Type 0} (f : Y → ℕ) (h : X → Y) (xs : List X) → sum_by f (map h xs) ≡ sum_by (λ x. f (h x)) xs
 sum_by-map f h [] = refl
@@ -64,3 +68,41 @@ sums-same f h (x ∷ xs) each =
 
 pub list_all-alike : {X : Type 0} (p q : X → Bool) (xs : List X) → ((x : X) → p x ≡ q x) → list_all p xs ≡ list_all q xs
 list_all-alike p q xs alike = λ i. list_all (λ x. alike x i) xs
+
+-- one number more of a range
+count-range_more : (p : ℕ → Bool) (first n : ℕ) → first ≤ n
+    → count_by p (range first (n + 1)) ≡ count_by p (range first n) + cond (p n) 1 0
+count-range_more p first n from =
+    let long : n + 1 - first ≡ (n - first) + 1 = omega arith in
+    let at : first + (n - first) ≡ n = omega arith in
+    let last : count_by p (range_with_len n 1) ≡ cond (p n) 1 0 =
+    sum_by-cons (λ k. cond (p k) 1 0) n []
+    ∙ (let none : cond (p n) 1 0 + 0 ≡ cond (p n) 1 0 = omega arith in none) in
+    ap (λ k. count_by p (range_with_len first k)) long
+    ∙ count-append p first (n - first) 1
+    ∙ ap (λ k. count_by p (range_with_len first (n - first)) + count_by p (range_with_len k 1)) at
+    ∙ ap (λ k. count_by p (range first n) + k) last
+
+pub count-range_yes : (p : ℕ → Bool) (first n count : ℕ) → first ≤ n → count ≡ count_by p (range first n)
+    → p n ≡ true → count + 1 ≡ count_by p (range first (n + 1))
+count-range_yes p first n count from was is =
+    (λ i. was i + cond (sym is i) 1 0) ∙ sym (count-range_more p first n from)
+
+pub count-range_no : (p : ℕ → Bool) (first n count : ℕ) → first ≤ n → count ≡ count_by p (range first n)
+    → p n ≡ false → count ≡ count_by p (range first (n + 1))
+count-range_no p first n count from was is =
+    (let none : count ≡ count + 0 = omega arith in none)
+    ∙ (λ i. was i + cond (sym is i) 1 0) ∙ sym (count-range_more p first n from)
+
+-- what is made of the element at a place of a list whose elements are numbered
+pub get_or-numbered : {X Y : Type 0} (f : ℕ × X → Y) (xs : List X) (i : ℕ) (x : X) (y : Y) → i < length xs
+    → x ≡ get_or xs i x → get_or (map f (enumerate_from 0 xs)) i y ≡ f (i, x)
+get_or-numbered f xs i x y within is =
+    let inside : i < length (enumerate_from 0 xs) = omega (arith, length-enumerate_from 0 xs) in
+    let number : 0 + i ≡ i = omega arith in
+    get_or-map f (enumerate_from 0 xs) i (i, x) y inside
+    ∙ ap f (get_or-enumerate_from 0 xs i (i, x) within ∙ (λ j. (number j, sym is j)))
+
+-- and how many there are of such a list
+pub length-numbered : {X Y : Type 0} (f : ℕ × X → Y) (xs : List X) → length (map f (enumerate_from 0 xs)) ≡ length xs
+length-numbered f xs = length-map (enumerate_from 0 xs) f ∙ length-enumerate_from 0 xs

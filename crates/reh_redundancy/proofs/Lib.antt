@@ -2,5 +2,6 @@ pub mod CountLaws
 pub mod LossLaws
 pub mod EventLaws
 pub mod RowLaws
+pub mod SumLaws
 pub mod VerdictLaws
 pub mod Examples

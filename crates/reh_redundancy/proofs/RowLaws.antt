@@ -22,6 +22,13 @@ write_set_long entry size quorum =
 abbrev pub row_copies : List (Bor (List ℕ)) → Metadata → ℕ → ℕ
 row_copies rows m entry = count_by (is_set_at rows entry) (write_set entry m.size m.write_quorum)
 
+-- whether they are fewer than are wanted, and of how many entries they are
+abbrev pub is_row_under : List (Bor (List ℕ)) → Metadata → ℕ → ℕ → Bool
+is_row_under rows m wanted entry = nat_lt (row_copies rows m entry) wanted
+
+abbrev pub rows_under : List (Bor (List ℕ)) → Metadata → ℕ → List ℕ → ℕ
+rows_under rows m wanted entries = count_by (is_row_under rows m wanted) entries
+
 -- they are its copies, where the rows are those of the registered members
 pub copies-rows : (s : Cluster) (g : Ledger) (fragment : Fragment) (rows : List (Bor (List ℕ))) (m : Metadata)
     → m ≡ g.metadata → IsMetadata g.metadata
@@ -34,3 +41,12 @@ copies-rows s g fragment rows m same_metadata rules_of same entry =
     (λ index below. same index entry below)
     (write_set entry g.metadata.size g.metadata.write_quorum) (write_set_within g.metadata entry rules_of))
     ∙ ap (λ (m : Metadata). row_copies rows m entry) (sym same_metadata)
+
+pub count_under-rows : (s : Cluster) (g : Ledger) (fragment : Fragment) (rows : List (Bor (List ℕ))) (m : Metadata)
+    → m ≡ g.metadata → IsMetadata g.metadata
+    → ((index entry : ℕ) → index < g.metadata.size → is_set_at rows entry index ≡ is_source_at s g fragment entry index)
+    → (wanted : ℕ) (entries : List ℕ)
+    → rows_under rows m wanted entries ≡ count_by (λ e. nat_lt (copies s g fragment e) wanted) entries
+count_under-rows s g fragment rows m same_metadata rules_of same wanted entries =
+    λ i.
+    count_by (λ e. nat_lt (sym (copies-rows s g fragment rows m same_metadata rules_of same e) i) wanted) entries
