@@ -38,7 +38,7 @@ pub is_up_among-register : (lost_at : List (Option ℕ)) (b tick k : ℕ)
     → is_up_among (register lost_at b (Some tick)) k ≡ (is_up_among lost_at k && not (nat_eq k b))
 is_up_among-register lost_at b tick k =
     elim (nat_eq k b) as (λ t. nat_eq k b ≡ t
-        → is_up_among (register lost_at b (Some tick)) k ≡ (is_up_among lost_at k && not t)) [
+    → is_up_among (register lost_at b (Some tick)) k ≡ (is_up_among lost_at k && not t)) [
       | true ↦ λ yes.
           let same : k ≡ b = grind (arith, nat_tests, yes) in
           ap (λ n. is_up_among (register lost_at b (Some tick)) n) same
@@ -91,3 +91,8 @@ pub is_source-kept : (s : Cluster) (bookies : Set numbers) (l e b : ℕ)
     → is_source (losing s bookies) l e b ≡ (is_source s l e b && not (set.contains bookies b))
 is_source-kept s bookies l e b =
     is_source-losing s bookies l e b ∙ shuffled (is_up s b) (not (set.contains bookies b)) (holds s b l e)
+
+-- where no bookie is lost nothing changes
+pub losing-none : (s : Cluster) → losing s set.empty ≡ s
+unfolding set.items set.empty
+losing-none s = refl

@@ -1,7 +1,8 @@
 -- Counts, added up.
-use Rattle.std.proofs.Common.{◌≡◌, ◌∙◌, ◌+◌, ◌<◌, ℕ, List, ap, sym, get_or, length, take}
+use Rattle.std.proofs.Common.{◌≡◌, ◌∙◌, ◌+◌, ◌<◌, ◌≤◌, ℕ, List, ap, sym, get_or, length, take, arith}
 use Rattle.std.proofs.lemmas.List.Sums.{sum_by_more}
 use Rattle.reh_redundancy.specs.declared.counts.Redundancy.{Redundancy}
+use Rattle.reh_redundancy.specs.Bounds.{AreAtMost}
 use Rattle.reh_redundancy.specs.Redundancy.{sum_of}
 
 -- the counts of both
@@ -22,3 +23,12 @@ sum_of-more counts i one within is =
       under_ack = sym (sum_by_more (λ c. c.under_ack) counts i one within) j;
       under_write = sym (sum_by_more (λ c. c.under_write) counts i one within) j;
     })
+
+-- a limit of both
+pub AreAtMost-with : (m k n : ℕ) (counts more : Redundancy) → m + k ≤ n → AreAtMost m counts → AreAtMost k more
+    → AreAtMost n (sum_with counts more)
+AreAtMost-with m k n counts more within left right = record {
+  lost = omega (arith, within, left.lost, right.lost);
+  under_ack = omega (arith, within, left.under_ack, right.under_ack);
+  under_write = omega (arith, within, left.under_write, right.under_write);
+}

@@ -30,9 +30,9 @@ impl Redundancy {
         requires left { AreAtMost (2 ^ 63) self.now }
         requires right { AreAtMost (2 ^ 62) other.now }
         ensures { result ≡ record {
-            lost = self.now.lost + other.now.lost;
-            under_ack = self.now.under_ack + other.now.under_ack;
-            under_write = self.now.under_write + other.now.under_write;
+          lost = self.now.lost + other.now.lost;
+          under_ack = self.now.under_ack + other.now.under_ack;
+          under_write = self.now.under_write + other.now.under_write;
         } }
     {
         Redundancy {

@@ -31,8 +31,8 @@ returns-clause-counts c =
           w.stop-is ∙ w.next_entry-stop.ensures ∙ ap (λ (o : Option ℕ). unwrap_or o (next_entry s g)) (sym is)
     ] in
     let under : (wanted : ℕ)
-        → rows_under c.rows_without-rows.result m wanted (range c.fragment.inside.first c.match-end_of.stop)
-        ≡ count_under s g c.args.number c.args.fragment.now wanted =
+    → rows_under c.rows_without-rows.result m wanted (range c.fragment.inside.first c.match-end_of.stop)
+    ≡ count_under s g c.args.number c.args.fragment.now wanted =
     λ wanted.
     (λ i. rows_under c.rows_without-rows.result m wanted (range (first i) (stop i)))
     ∙ count_under-rows s g c.args.fragment.now c.rows_without-rows.result m same
