@@ -1,4 +1,6 @@
 pub mod Bounds
+pub mod Levels
 pub mod Losses
 pub mod Redundancy
+pub mod Rows
 pub mod Verdicts

@@ -1,13 +1,16 @@
 // Entries with too few copies: of a fragment, a ledger, a cluster.
-ghost use Rattle.std.specs.Prelude.{◌≡◌, ◌*◌, ◌^◌, ◌<◌, ◌≤◌, length, slice_get, Some};
+ghost use Rattle.std.specs.Prelude.{◌≡◌, ◌*◌, ◌^◌, ◌<◌, ◌≤◌, length, unwrap_or, Some};
 ghost use Rattle.reh_model.specs.Metadata as meta;
 ghost use Rattle.reh_model.specs.Recovery as recovery;
+ghost use Rattle.reh_scan.specs.Masks.{AreMasks};
 ghost use Rattle.reh_redundancy.specs.Bounds.{AreAtMost};
 ghost use Rattle.reh_redundancy.specs.Losses.{losing};
 ghost use Rattle.reh_redundancy.specs.Redundancy as model;
 
 use crate::counts::Redundancy;
-use crate::rows::{count_under, rows_without};
+use crate::masks::{Masks, stripe_masks};
+use crate::rows::rows_without;
+use crate::words::count_words;
 use reh_cluster::{Ledger, State};
 use reh_meta::Fragment;
 use reh_types::BookieSet;
@@ -31,9 +34,17 @@ pub fn ledger_redundancy(state: &State, lost: &BookieSet, ledger: &Ledger) -> Re
     ensures limit { AreAtMost (2 ^ 40) result }
 {
     let fragments = ledger.metadata().fragments();
+    let masks = stripe_masks(ledger.metadata());
     let mut sum = Redundancy::none();
     for number in 0..fragments.len() {
-        sum = sum.plus(&counts_of(state, lost, ledger, number, &fragments[number]));
+        sum = sum.plus(&counts_of(
+            state,
+            lost,
+            ledger,
+            &masks,
+            number,
+            &fragments[number],
+        ));
     }
     sum
 }
@@ -49,41 +60,44 @@ pub fn fragment_redundancy(
     requires { number < length ledger.now.metadata.fragments }
     ensures { model.fragment_at (losing state.now lost.now) ledger.now number ≡ Some result }
 {
-    counts_of(
-        state,
-        lost,
-        ledger,
-        number,
-        &ledger.metadata().fragments()[number],
-    )
+    let metadata = ledger.metadata();
+    let masks = stripe_masks(metadata);
+    let fragment = &metadata.fragments()[number];
+    counts_of(state, lost, ledger, &masks, number, fragment)
 }
 
-/// The counts of the ledger's fragment, of that number.
+/// The counts of the ledger's fragment, of that number, by the masks of its ensembles.
 fn counts_of(
     state: &State,
     lost: &BookieSet,
     ledger: &Ledger,
+    masks: &Masks,
     number: usize,
     fragment: &Fragment,
 ) -> Redundancy
-    requires { length fragment.now.ensemble ≡ ledger.now.metadata.size }
+    requires ensemble { length fragment.now.ensemble ≡ ledger.now.metadata.size }
+    requires masks { AreMasks ledger.now.metadata.size ledger.now.metadata.write_quorum masks.now }
     ensures counts { result
         ≡ model.fragment_redundancy (losing state.now lost.now) ledger.now number fragment.now }
     ensures limit { AreAtMost (2 ^ 32) result }
 {
-    let metadata = ledger.metadata();
+    let stop = entries_end(state, ledger, number);
+    if stop <= fragment.first {
+        return Redundancy::none();
+    }
     let rows = rows_without(state, lost, ledger, fragment);
-    let first = fragment.first;
-    let stop = match metadata.end_of(number) {
+    count_words(&rows, masks, ledger.metadata(), fragment.first, stop - 1)
+}
+
+/// Where the entries of the ledger's fragment of that number end: at its stop, or without one at the writer's next
+/// entry.
+fn entries_end(state: &State, ledger: &Ledger, number: usize) -> u32
+    ensures { result
+        ≡ unwrap_or (meta.stop_of ledger.now.metadata number) (recovery.next_entry state.now ledger.now) }
+{
+    match ledger.metadata().end_of(number) {
         Some(stop) => stop,
         None => next_entry(state, ledger),
-    };
-    let acks = metadata.ack_quorum();
-    let writes = metadata.write_quorum();
-    Redundancy {
-        lost: count_under(&rows, metadata, first, stop, 1) as u64,
-        under_ack: count_under(&rows, metadata, first, stop, acks) as u64,
-        under_write: count_under(&rows, metadata, first, stop, writes) as u64,
     }
 }
 

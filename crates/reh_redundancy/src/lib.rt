@@ -4,8 +4,10 @@
 mod counts;
 mod fragments;
 mod laws;
+mod masks;
 mod rows;
 mod verdicts;
+mod words;
 
 pub use counts::Redundancy;
 pub use fragments::{fragment_redundancy, ledger_redundancy, redundancy};

@@ -1,18 +1,14 @@
-// How many members of an entry's write set have it.
-ghost use Rattle.std.specs.Prelude.{◌≡◌, ℕ, ◌<◌, length, nat_lt, count_by};
+// The rows of words of an ensemble's members.
+ghost use Rattle.std.specs.Prelude.{◌≡◌, ℕ, ◌<◌, length};
 ghost use Rattle.reh_model.specs.Metadata.{IsMetadata};
 ghost use Rattle.reh_model.specs.Cluster.{is_source};
-ghost use Rattle.reh_model.specs.Striping as stripe;
-ghost use Rattle.reh_model.specs.Striping.{range};
 ghost use Rattle.reh_held.specs.Rows.{is_set};
 ghost use Rattle.reh_scan.specs.Sources.{is_set_at, is_source_at};
 ghost use Rattle.reh_redundancy.specs.Losses.{losing};
 
 use reh_cluster::{Ledger, State};
-use reh_held::is_set;
-use reh_meta::{Fragment, LedgerMeta};
+use reh_meta::Fragment;
 use reh_scan::Rows;
-use reh_stripe::write_set;
 use reh_types::{BookieIx, BookieSet, MAX_ENSEMBLE_SIZE};
 
 /// The rows of the fragment's members, by their indexes; without words where a member isn't registered, or is lost.
@@ -50,41 +46,4 @@ fn row_without<'a>(
     } else {
         &[]
     }
-}
-
-/// How many of the entries from the first up to, not including, the stop are in fewer rows at the indexes of their
-/// write sets than are wanted.
-pub(crate) fn count_under(
-    rows: &Rows<'_>,
-    metadata: &LedgerMeta,
-    first: u32,
-    stop: u32,
-    wanted: u32,
-) -> u32
-    ensures { result ≡ count_by
-        (λ e. nat_lt
-        (count_by (is_set_at rows.now e) (stripe.write_set e metadata.now.size metadata.now.write_quorum)) wanted)
-        (range first stop) }
-{
-    let mut under = 0;
-    for entry in first..stop {
-        if count_copies(rows, metadata, entry) < wanted {
-            under += 1;
-        }
-    }
-    under
-}
-
-/// How many of the rows at the indexes of the entry's write set have it.
-fn count_copies(rows: &Rows<'_>, metadata: &LedgerMeta, entry: u32) -> u32
-    ensures { result ≡ count_by (is_set_at rows.now entry)
-        (stripe.write_set entry metadata.now.size metadata.now.write_quorum) }
-{
-    let mut copies = 0;
-    for index in write_set(entry, metadata.size(), metadata.write_quorum()) {
-        if is_set(rows[index as usize], entry) {
-            copies += 1;
-        }
-    }
-    copies
 }
