@@ -106,3 +106,15 @@ get_or-numbered f xs i x y within is =
 -- and how many there are of such a list
 pub length-numbered : {X Y : Type 0} (f : ℕ × X → Y) (xs : List X) → length (map f (enumerate_from 0 xs)) ≡ length xs
 length-numbered f xs = length-map (enumerate_from 0 xs) f ∙ length-enumerate_from 0 xs
+
+-- a sum of sums
+pub sum_by-plus : {X : Type 0} (f d h : X → ℕ) (xs : List X) → ((x : X) → h x ≡ f x + d x)
+    → sum_by h xs ≡ sum_by f xs + sum_by d xs
+sum_by-plus f d h [] each = refl
+sum_by-plus f d h (x ∷ xs) each =
+    sum_by-cons h x xs
+    ∙ (λ i. each x i + sum_by-plus f d h xs each i)
+    ∙ grouped (f x) (d x) (sum_by f xs) (sum_by d xs)
+    ∙ (λ i. sym (sum_by-cons f x xs) i + sym (sum_by-cons d x xs) i) where
+      grouped : (a b m n : ℕ) → (a + b) + (m + n) ≡ (a + m) + (b + n)
+      grouped a b m n = omega arith

@@ -4,22 +4,26 @@ use Rattle.std.proofs.Common.{Bool, true, false, List, [], ◌∷◌, ◌++◌, 
 use Rattle.std.proofs.Common.{length, nat_eq, nat_le, nat_lt, arith}
 use Rattle.std.specs.Prelude.{◌==◌, bit_and, bit_or, count_by}
 use Rattle.std.specs.Int.{bit_at, bit_not, w64}
+use Rattle.std.specs.Int.Count.{ones}
+use Rattle.reh_held.specs.Rows.{is_between}
 use Rattle.std.specs.List.{list_any, range_with_len}
 use Rattle.std.proofs.Math.Bool.{or-false}
 use Rattle.std.proofs.Math.Nat.{add-mod-mod}
 use Rattle.std.proofs.lemmas.Bool.{cases_lt}
 use Rattle.std.proofs.lemmas.Bool.Decides.{nat_tests}
-use Rattle.std.proofs.lemmas.Nat.{mod_below}
-use Rattle.std.proofs.lemmas.Nat.Bits.{bit_at_not, bit_at-zero}
+use Rattle.std.proofs.lemmas.Nat.{and_le_l, mod_below}
+use Rattle.std.proofs.lemmas.Nat.Bits.{bit_at-lt, bit_at_not, bit_at-zero}
+use Rattle.std.proofs.lemmas.List.{map-append}
 use Rattle.std.proofs.lemmas.List.Elements.{All-nil, All-cons}
 use Rattle.std.proofs.lemmas.List.Folds.{list_any-append}
 use Rattle.std.proofs.lemmas.List.Sums.{sum_by-cons, sum_by-append}
-use Rattle.reh_held.proofs.CountLaws.{count-append, count-cons, count-range, range-append}
+use Rattle.reh_held.proofs.CountLaws.{count-append, count-cons, count-ones, count-range, range-append}
 use Rattle.reh_model.specs.Striping.{range, index_at, rank_of, is_striped, write_set}
 use Rattle.reh_model.proofs.StripingLaws.{index_at-rank_of, rank_of-index_at, is_striped-rank_of, is_striped-ranks}
 use Rattle.reh_scan.specs.Sources.{is_set_at}
 use Rattle.reh_scan.specs.Masks.{has_bit, AreMasks}
 use Rattle.reh_scan.proofs.ReadingLaws.{is_set_there}
+use Rattle.reh_scan.proofs.SurveyLaws.{counted_below, counted-all, is_counted}
 use Rattle.reh_scan.proofs.MaskLaws.{has_bit-and, has_bit-none, has_bit-or, is_read_at}
 use Rattle.reh_redundancy.specs.Levels.{AreLevels, AreRaised}
 use Rattle.reh_redundancy.proofs.CountLaws.{count_by-map, count_same_below}
@@ -40,7 +44,7 @@ count_more p n =
 
 module _ (a p : ℕ → Bool) (t : ℕ) where
   or_off : (i : ℕ) → nat_eq t i ≡ false → ((a i || nat_eq t i) && p i) ≡ (a i && p i)
-  or_off i no = ap (λ b. (a i || b) && p i) no ∙ ap (λ b. b && p i) (or-false (a i))
+  or_off i off = ap (λ b. (a i || b) && p i) off ∙ ap (λ b. b && p i) (or-false (a i))
 
   -- a test with one number more is the same where that number isn't
   count_past : (b n : ℕ) → t < b
@@ -219,27 +223,42 @@ has_bit-all i inside =
     let none : 1 - bit_at 0 i ≡ 1 = (λ j. 1 - bit_at-zero i j) in
     ap (λ (b : ℕ). b == 1) (bit_at_not w64 0 i (omega arith) inside ∙ none)
 
-pub counted-none : (rows : List (Bor (List ℕ))) (masks : List ℕ) (size top number : ℕ) (levels : List ℕ)
-    → slice_index levels 0 ≡ bit_not w64 0 → ((k : ℕ) → k < top → slice_index levels (k + 1) ≡ 0)
-    → AreCounted rows masks size top number 0 levels
-counted-none rows masks size top number levels all none zero i within inside =
-    ap (λ w. has_bit w i) all ∙ has_bit-all i inside
-counted-none rows masks size top number levels all none (suc k) i within inside =
-    let at : suc k ≡ k + 1 = omega arith in
-    ap (λ n. has_bit (slice_index levels n) i) at ∙ ap (λ w. has_bit w i) (none k (omega arith)) ∙ has_bit-none i
+-- so many zeros
+abbrev pub zeros : ℕ → List ℕ
+zeros zero = []
+zeros (suc n) = 0 ∷ zeros n
+
+zeros-at : (n k : ℕ) → slice_index (zeros n) k ≡ 0
+zeros-at zero k = refl
+zeros-at (suc n) zero = refl
+zeros-at (suc n) (suc k) = zeros-at n k
+
+none_over : (k : ℕ) → false ≡ nat_le (suc k) 0
+none_over k = grind (arith, nat_tests)
+
+all_over : (n : ℕ) → nat_le 0 n ≡ true
+all_over n = grind (arith, nat_tests)
+
+pub levels-none : (rows : List (Bor (List ℕ))) (masks : List ℕ) (size top number n : ℕ)
+    → AreCounted rows masks size top number 0 (bit_not w64 0 ∷ zeros n)
+levels-none rows masks size top number n zero i within inside = has_bit-all i inside ∙ sym (all_over 0)
+levels-none rows masks size top number n (suc k) i within inside =
+    ap (λ w. has_bit w i) (zeros-at n k) ∙ has_bit-none i ∙ none_over k
 
 one_higher : (k n : ℕ) (one : Bool) → (nat_le (k + 1) n || (nat_le k n && one)) ≡ nat_le (k + 1) (n + cond one 1 0)
 one_higher k n true = grind (arith, nat_tests)
 one_higher k n false = grind (arith, nat_tests)
 
-pub counted-more : (rows : List (Bor (List ℕ))) (masks : List ℕ) (size top number index read mask : ℕ) (old new : List ℕ)
+pub levels-more : (rows : List (Bor (List ℕ))) (masks : List ℕ) (size top number index read mask : ℕ) (old new : List ℕ)
     → (d : Bor (List ℕ)) → index < length rows
     → read ≡ slice_index (get_or rows index d).now number → mask ≡ slice_index masks (rank_of (64 * number) index size)
     → AreCounted rows masks size top number index old → AreRaised old new (bit_and read mask) top
     → AreCounted rows masks size top number (index + 1) new
-counted-more rows masks size top number index read mask old new d within is_read is_mask was raised zero i low inside =
+levels-more rows masks size top number index read mask old new d within is_read is_mask was raised zero i low inside =
     ap (λ w. has_bit w i) raised.all ∙ was 0 i low inside
-counted-more rows masks size top number index read mask old new d within is_read is_mask was raised (suc k) i low inside =
+    ∙ all_over (count_by (is_read_at rows masks size number i) (range_with_len 0 index))
+    ∙ sym (all_over (count_by (is_read_at rows masks size number i) (range_with_len 0 (index + 1))))
+levels-more rows masks size top number index read mask old new d within is_read is_mask was raised (suc k) i low inside =
     let at : suc k ≡ k + 1 = omega arith in
     let reads : ℕ → Bool = is_read_at rows masks size number i in
     let n : ℕ = count_by reads (range_with_len 0 index) in
@@ -262,11 +281,11 @@ below_range a zero stop within = All-nil (λ e. e < stop)
 below_range a (suc n) stop within =
     All-cons (λ e. e < stop) a (range_with_len (a + 1) n) (omega arith) (below_range (a + 1) n stop (omega arith))
 
-pub counted-all : (rows : List (Bor (List ℕ))) (masks : List ℕ) (size quorum number : ℕ) (levels : List ℕ)
+pub levels-all : (rows : List (Bor (List ℕ))) (masks : List ℕ) (size quorum number : ℕ) (levels : List ℕ)
     → 1 ≤ quorum → quorum ≤ size → AreMasks size quorum masks
     → AreCounted rows masks size quorum number size levels
     → AreLevels levels quorum number (λ e. count_by (is_set_at rows e) (write_set e size quorum))
-counted-all rows masks size quorum number levels some within are was k i low inside =
+levels-all rows masks size quorum number levels some within are was k i low inside =
     was k i low inside
     ∙ ap (nat_le k)
     (count_same_below (is_read_at rows masks size number i)
@@ -276,3 +295,62 @@ counted-all rows masks size quorum number levels some within are was k i low ins
     (has_bit-mask masks size quorum number i index some within below inside are))
     (range_with_len 0 size) (below_range 0 size size (omega arith))
     ∙ count-carried (is_set_at rows (64 * number + i)) (64 * number + i) size quorum within)
+
+-- Words
+
+not_one : (b : ℕ) → b < 2 → (1 - b == 1) ≡ not (b == 1)
+not_one zero within = refl
+not_one (suc zero) within = refl
+not_one (suc (suc b)) within = absurd (omega arith)
+
+has_bit-not : (w i : ℕ) → w < 2 ^ 64 → i < 64 → has_bit (bit_not w64 w) i ≡ not (has_bit w i)
+has_bit-not w i within inside =
+    ap (λ (b : ℕ). b == 1) (bit_at_not w64 w i within inside) ∙ not_one (bit_at w i) (bit_at-lt w i)
+
+-- the bits of one word that another lacks
+pub ones-without : (bits others : ℕ) → bits < 2 ^ 64 → others < 2 ^ 64
+    → ones (bit_and bits (bit_not w64 others))
+    ≡ count_by (λ i. has_bit bits i && not (has_bit others i)) (range_with_len 0 64)
+ones-without bits others within others_within =
+    let fits : bit_and bits (bit_not w64 others) < 2 ^ 64 =
+    omega (arith, within, and_le_l bits (bit_not w64 others)) in
+    sym (count-ones 64 (bit_and bits (bit_not w64 others)) fits)
+    ∙ count-range (has_bit (bit_and bits (bit_not w64 others))) (λ i. has_bit bits i && not (has_bit others i)) 0 0 64
+    (λ i inside.
+    let at : 0 + i ≡ i = omega arith in
+    ap (has_bit (bit_and bits (bit_not w64 others))) at
+    ∙ has_bit-and bits (bit_not w64 others) i
+    ∙ ap (λ b. has_bit bits i && b) (has_bit-not others i others_within inside)
+    ∙ ap (λ k. has_bit bits k && not (has_bit others k)) (sym at))
+
+-- the entries with fewer copies than are wanted, of a word more
+pub word-more : (copies : ℕ → ℕ) (top wanted first last number count found between : ℕ) (levels : List ℕ)
+    → wanted ≤ top
+    → found ≡ count_by (λ i. has_bit between i && not (has_bit (slice_index levels wanted) i)) (range_with_len 0 64)
+    → ((i : ℕ) → i < 64 → has_bit between i ≡ is_between first last (64 * number + i))
+    → AreLevels levels top number copies
+    → count ≡ counted_below (λ e. not (nat_le wanted (copies e))) first last number
+    → count + found ≡ counted_below (λ e. not (nat_le wanted (copies e))) first last (number + 1)
+word-more copies top wanted first last number count found between levels low is are_between are_levels was =
+    let q : ℕ → Bool = is_counted (λ e. not (nat_le wanted (copies e))) first last in
+    let bits : ℕ → Bool = λ i. has_bit between i && not (has_bit (slice_index levels wanted) i) in
+    let more : 64 * number + 64 ≡ 64 * (number + 1) = omega arith in
+    let none : 0 + 64 * number ≡ 64 * number = omega arith in
+    let word : count_by q (range_with_len (0 + 64 * number) 64) ≡ found =
+    count-range q bits (0 + 64 * number) 0 64 (λ i inside.
+    let first_bit : 0 + i ≡ i = omega arith in
+    ap (λ n. q (n + i)) none
+    ∙ (λ j. sym (are_between i inside) j && not (sym (are_levels wanted i low inside) j))
+    ∙ ap bits (sym first_bit))
+    ∙ sym is in
+    (λ j. was j + sym word j) ∙ sym (count-append q 0 (64 * number) 64) ∙ ap (λ n. count_by q (range_with_len 0 n)) more
+
+-- and of all words
+pub words-all : (copies : ℕ → ℕ) (wanted first last number : ℕ) → first ≤ last → last / 64 + 1 ≤ number
+    → counted_below (λ e. not (nat_le wanted (copies e))) first last number
+    ≡ count_by (λ e. nat_lt (copies e) wanted) (range first (last + 1))
+words-all copies wanted first last number order end =
+    counted-all (λ e. not (nat_le wanted (copies e))) first last number order end
+    ∙ (λ i. count_by (λ e. turned (copies e) i) (range first (last + 1))) where
+      turned : (n : ℕ) → not (nat_le wanted n) ≡ nat_lt n wanted
+      turned n = grind (arith, nat_tests)

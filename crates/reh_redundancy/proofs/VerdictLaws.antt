@@ -1,7 +1,7 @@
 -- What losses do to copies and counts, and what the counts say of a verdict.
-use Rattle.std.proofs.Common.{◌≡◌, ◌∙◌, ◌≤◌, ◌&&◌, ◌||◌, not, cond, ℕ, Bool, true, false, List, refl}
+use Rattle.std.proofs.Common.{◌≡◌, ◌∙◌, ◌+◌, ◌-◌, ◌≤◌, ◌&&◌, ◌||◌, not, cond, ℕ, Bool, true, false, List, refl}
 use Rattle.std.proofs.Common.{ap, sym, nat_eq, nat_le, nat_lt, arith}
-use Rattle.std.specs.Prelude.{count_by, sum_by}
+use Rattle.std.specs.Prelude.{count_by, sum_by, if◌then◌else◌}
 use Rattle.std.specs.List.{enumerate_from, list_all}
 use Rattle.std.proofs.lemmas.Bool.Decides.{nat_tests}
 use Rattle.std.proofs.lemmas.List.Sums.{sum_by-le-sum_by}
@@ -12,9 +12,11 @@ use Rattle.reh_model.specs.Cluster.{Cluster, Ledger, is_readable, is_source}
 use Rattle.reh_redundancy.specs.Losses.{losing}
 use Rattle.reh_redundancy.specs.Redundancy.{copies, count_under, entries_of, fragment_redundancy, ledger_redundancy}
 use Rattle.reh_redundancy.specs.Redundancy.{redundancy}
-use Rattle.reh_redundancy.specs.Verdicts.{every_entry, has_acks, keeps, ok_to_stop}
+use Rattle.reh_redundancy.specs.Verdicts.{count_entries, every_entry, has_acks, is_yes, keeps, loses}
+use Rattle.reh_redundancy.specs.Verdicts.{ok_to_stop, verdict_of, verdict_on}
+use Rattle.reh_redundancy.specs.declared.counts.Verdict.TheVariants.{Yes, Loses, FallsUnder}
 use Rattle.reh_redundancy.proofs.LossLaws.{is_source-kept}
-use Rattle.reh_redundancy.proofs.CountLaws.{any-count, count_by-le, list_all-alike, sum_by-map, sums-same}
+use Rattle.reh_redundancy.proofs.CountLaws.{any-count, count_by-le, list_all-alike, sum_by-map, sum_by-plus, sums-same}
 
 both : (a b : Bool) → (a && b) ≡ true → a ≡ true
 both true b is = refl
@@ -72,6 +74,11 @@ kept-tied : (few many wanted : ℕ) → few ≤ many
     ≡ (not (not (nat_lt many wanted)) || not (nat_lt few wanted))
 kept-tied few many wanted less = grind (arith, nat_tests)
 
+lost-tied : (few many wanted : ℕ) → few ≤ many
+    → cond (nat_lt few wanted) 1 0
+    ≡ cond (nat_lt many wanted) 1 0 + cond (not (nat_lt many wanted) && not (not (nat_lt few wanted))) 1 0
+lost-tied few many wanted less = grind (arith, nat_tests)
+
 module _ (test : Cluster → Ledger → Fragment → ℕ → Bool) (wanted : Ledger → ℕ) (asks : AsksCopies test wanted)
     (s : Cluster) (bookies : Set numbers) where
   kept-entry : (g : Ledger) (fragment : Fragment) (e : ℕ)
@@ -121,6 +128,47 @@ module _ (test : Cluster → Ledger → Fragment → ℕ → Bool) (wanted : Led
       list_all (λ p. list_all (keeps test s (losing s bookies) g p.1) (entries_of s g p.0 p.1))
       (enumerate_from 0 g.metadata.fragments)) s.parts.ledgers kept-ledger
 
+  -- what is lost of one entry, and of all
+  lost-entry : (g : Ledger) (fragment : Fragment) (e : ℕ)
+      → cond (nat_lt (copies (losing s bookies) g fragment e) (wanted g)) 1 0
+      ≡ cond (nat_lt (copies s g fragment e) (wanted g)) 1 0
+      + cond (loses test s (losing s bookies) g fragment e) 1 0
+  lost-entry g fragment e =
+      lost-tied (copies (losing s bookies) g fragment e) (copies s g fragment e) (wanted g)
+      (copies-losing s bookies g fragment e)
+      ∙ (λ i.
+      cond (nat_lt (copies s g fragment e) (wanted g)) 1 0
+      + cond (sym (asks s g fragment e) i && not (sym (asks (losing s bookies) g fragment e) i)) 1 0)
+
+  lost-fragment : (g : Ledger) (f : ℕ) (fragment : Fragment)
+      → count_under (losing s bookies) g f fragment (wanted g)
+      ≡ count_under s g f fragment (wanted g)
+      + count_by (loses test s (losing s bookies) g fragment) (entries_of s g f fragment)
+  lost-fragment g f fragment =
+      sum_by-plus (λ e. cond (nat_lt (copies s g fragment e) (wanted g)) 1 0)
+      (λ e. cond (loses test s (losing s bookies) g fragment e) 1 0)
+      (λ e. cond (nat_lt (copies (losing s bookies) g fragment e) (wanted g)) 1 0) (entries_of s g f fragment)
+      (lost-entry g fragment)
+
+  lost-ledger : (g : Ledger)
+      → ledger_under wanted (losing s bookies) g
+      ≡ ledger_under wanted s g
+      + sum_by (λ p. count_by (loses test s (losing s bookies) g p.1) (entries_of s g p.0 p.1))
+      (enumerate_from 0 g.metadata.fragments)
+  lost-ledger g =
+      sum_by-plus (λ p. count_under s g p.0 p.1 (wanted g))
+      (λ p. count_by (loses test s (losing s bookies) g p.1) (entries_of s g p.0 p.1))
+      (λ p. count_under (losing s bookies) g p.0 p.1 (wanted g)) (enumerate_from 0 g.metadata.fragments)
+      (λ p. lost-fragment g p.0 p.1)
+
+  pub lost-entries : all_under wanted (losing s bookies)
+      ≡ all_under wanted s + count_entries s (loses test s (losing s bookies))
+  lost-entries =
+      sum_by-plus (ledger_under wanted s)
+      (λ g.
+      sum_by (λ p. count_by (loses test s (losing s bookies) g p.1) (entries_of s g p.0 p.1))
+      (enumerate_from 0 g.metadata.fragments)) (ledger_under wanted (losing s bookies)) s.parts.ledgers lost-ledger
+
 -- the sums of a cluster
 lost-all : (s : Cluster) → (redundancy s).lost ≡ all_under (λ _. 1) s
 lost-all s =
@@ -155,3 +203,68 @@ ok_to_stop-counts s bookies allow_under_ack =
     (λ i. nat_eq (under_ack-all s i) (under_ack-all (losing s bookies) i))
     ∙ kept-all has_acks (λ g. g.metadata.ack_quorum) has_acks-copies s bookies in
     λ i. lost i && (allow_under_ack || acks i)
+
+-- Verdicts with their reasons
+
+more-lost : (s : Cluster) (bookies : Set numbers)
+    → (redundancy (losing s bookies)).lost
+    ≡ (redundancy s).lost + count_entries s (loses is_readable s (losing s bookies))
+more-lost s bookies =
+    lost-all (losing s bookies)
+    ∙ lost-entries is_readable (λ _. 1) is_readable-copies s bookies
+    ∙ ap (λ n. n + count_entries s (loses is_readable s (losing s bookies))) (sym (lost-all s))
+
+more-under : (s : Cluster) (bookies : Set numbers)
+    → (redundancy (losing s bookies)).under_ack
+    ≡ (redundancy s).under_ack + count_entries s (loses has_acks s (losing s bookies))
+more-under s bookies =
+    under_ack-all (losing s bookies)
+    ∙ lost-entries has_acks (λ g. g.metadata.ack_quorum) has_acks-copies s bookies
+    ∙ ap (λ n. n + count_entries s (loses has_acks s (losing s bookies))) (sym (under_ack-all s))
+
+-- the counts tell how many entries are lost, and how many fall under their acks
+pub verdict-counts : (s : Cluster) (bookies : Set numbers) (allow : Bool)
+    → verdict_of (redundancy s) (redundancy (losing s bookies)) allow ≡ verdict_on s bookies allow
+verdict-counts s bookies allow =
+    judged (redundancy s).lost (redundancy (losing s bookies)).lost (redundancy s).under_ack
+    (redundancy (losing s bookies)).under_ack (count_entries s (loses is_readable s (losing s bookies)))
+    (count_entries s (loses has_acks s (losing s bookies))) (more-lost s bookies) (more-under s bookies) where
+      some_more : (before after more : ℕ) → after ≡ before + more → nat_lt before after ≡ nat_lt 0 more
+      some_more before after more is = grind (arith, nat_tests)
+
+      judged : (lost_before lost_after under_before under_after lost under : ℕ) → lost_after ≡ lost_before + lost
+          → under_after ≡ under_before + under
+          → (if nat_lt lost_before lost_after then Loses (lost_after - lost_before)
+          else (if nat_lt under_before under_after && not allow then FallsUnder (under_after - under_before) else Yes))
+          ≡ (if nat_lt 0 lost then Loses lost else (if nat_lt 0 under && not allow then FallsUnder under else Yes))
+      judged lost_before lost_after under_before under_after lost under more more_under =
+          let loss : lost_after - lost_before ≡ lost = omega (arith, more) in
+          let falls : under_after - under_before ≡ under = omega (arith, more_under) in
+          λ i.
+          if some_more lost_before lost_after lost more i then Loses (loss i)
+          else (if some_more under_before under_after under more_under i && not allow then FallsUnder (falls i) else Yes)
+
+-- and the verdict is yes by the rule
+pub verdict-rule : (s : Cluster) (bookies : Set numbers) (allow : Bool)
+    → is_yes (verdict_of (redundancy s) (redundancy (losing s bookies)) allow) ≡ ok_to_stop s bookies allow
+verdict-rule s bookies allow =
+    ruled (nat_lt (redundancy s).lost (redundancy (losing s bookies)).lost)
+    (nat_lt (redundancy s).under_ack (redundancy (losing s bookies)).under_ack) allow
+    ((redundancy (losing s bookies)).lost - (redundancy s).lost)
+    ((redundancy (losing s bookies)).under_ack - (redundancy s).under_ack)
+    ∙ (λ i.
+    same_test (redundancy s).lost (redundancy (losing s bookies)).lost _ (more-lost s bookies) i
+    && (allow
+    || same_test (redundancy s).under_ack (redundancy (losing s bookies)).under_ack _ (more-under s bookies) i))
+    ∙ ok_to_stop-counts s bookies allow where
+      same_test : (before after more : ℕ) → after ≡ before + more → not (nat_lt before after) ≡ nat_eq before after
+      same_test before after more is = grind (arith, nat_tests)
+
+      ruled : (lost under allow : Bool) (m n : ℕ)
+          → is_yes (if lost then Loses m else (if under && not allow then FallsUnder n else Yes))
+          ≡ (not lost && (allow || not under))
+      ruled true under allow m n = refl
+      ruled false true true m n = refl
+      ruled false true false m n = refl
+      ruled false false true m n = refl
+      ruled false false false m n = refl

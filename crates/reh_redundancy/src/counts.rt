@@ -42,3 +42,13 @@ impl Redundancy {
         }
     }
 }
+
+/// Whether bookies may be stopped, and if not, why.
+#[derive(Clone, Copy, PartialEq, Eq, Debug)]
+pub enum Verdict {
+    Yes,
+    /// So many entries that can be read now can't be read without them.
+    Loses(u64),
+    /// So many entries that have the copies of their ack quorum now don't have them without them.
+    FallsUnder(u64),
+}

@@ -9,10 +9,10 @@ mod rows;
 mod verdicts;
 mod words;
 
-pub use counts::Redundancy;
+pub use counts::{Redundancy, Verdict};
 pub use fragments::{fragment_redundancy, ledger_redundancy, redundancy};
 pub use laws::{
     joined_again_all_counts_are_as_before, losses_are_events, losses_never_raise_copies,
     surveys_count_those_without_copies, without_copies_is_unreadable,
 };
-pub use verdicts::ok_to_stop;
+pub use verdicts::{ok_to_stop, verdict_of, verdict_on};

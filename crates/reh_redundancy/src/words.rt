@@ -1,8 +1,9 @@
 // Copies of the entries of a fragment, counted by words of 64 entries each.
-ghost use Rattle.std.specs.Prelude.{◌≡◌, ◌+◌, ◌*◌, ◌^◌, ◌<◌, ◌≤◌, slice_index};
+ghost use Rattle.std.specs.Prelude.{◌≡◌, ◌+◌, ◌*◌, ◌^◌, ◌<◌, ◌≤◌, ◌&&◌, count_by, not, slice_index};
+ghost use Rattle.std.specs.List.{range_with_len};
 ghost use Rattle.reh_types.specs.declared.limits.TheConstants.{MAX_ENSEMBLE_SIZE};
 ghost use Rattle.reh_model.specs.Striping.{range};
-ghost use Rattle.reh_scan.specs.Masks.{AreMasks};
+ghost use Rattle.reh_scan.specs.Masks.{has_bit, AreMasks};
 ghost use Rattle.reh_redundancy.specs.Levels.{AreLevels, AreRaised};
 ghost use Rattle.reh_redundancy.specs.Rows.{row_copies, rows_under};
 
@@ -40,9 +41,9 @@ pub(crate) fn count_words(
     for number in first / 64..last / 64 + 1 {
         let levels = levels_of(rows, masks, metadata, number);
         let inside = bits_between(number, first, last);
-        lost += (inside & !levels[1]).count_ones() as u64;
-        under_ack += (inside & !levels[acks]).count_ones() as u64;
-        under_write += (inside & !levels[writes]).count_ones() as u64;
+        lost += count_without(inside, levels[1]);
+        under_ack += count_without(inside, levels[acks]);
+        under_write += count_without(inside, levels[writes]);
     }
     Redundancy {
         lost,
@@ -83,6 +84,14 @@ fn raise(levels: &mut Levels, word: u64, top: u32)
         let level = (top - step) as usize;
         levels[level] |= levels[level - 1] & word;
     }
+}
+
+/// How many bits of a word are not in another.
+fn count_without(bits: u64, others: u64) -> u64
+    ensures { result
+        ≡ count_by (λ i. has_bit bits i && not (has_bit others i)) (range_with_len 0 64) }
+{
+    (bits & !others).count_ones() as u64
 }
 
 /// A word of a row, which has no entry past its words.

@@ -5,6 +5,7 @@ use Rattle.reh_redundancy.proofs.words.raise.Given as goal
 
 abbrev pub invariant-loop-step : goal.invariant-loop-step
 invariant-loop-step l = record {
+  whole : length l.levels ≡ 17;
   rest : (k : ℕ) → k + l.step ≤ l.top → slice_index l.levels k ≡ slice_index l.fn.levels k;
   raised : (k : ℕ) → l.top ≤ k + l.step → k < l.top
       → slice_index l.levels (k + 1)
