@@ -10,7 +10,7 @@ use Rattle.reh_types.specs.declared.moves.Event.TheVariants.{Lose, Join}
 use Rattle.reh_types.specs.Sets as set
 use Rattle.reh_types.specs.Sets.{Set, numbers}
 use Rattle.reh_model.specs.Metadata.{Fragment, stop_of, writes}
-use Rattle.reh_model.specs.Cluster.{Cluster, Ledger, change_at, holds, is_readable, is_source, is_up, register}
+use Rattle.reh_model.specs.Cluster.{Cluster, Ledger, holds, is_readable, is_source, is_up, register}
 use Rattle.reh_model.specs.Step.{after}
 use Rattle.reh_model.specs.Striping.{range}
 use Rattle.reh_model.specs.Survey.{lost_of}

@@ -1,7 +1,7 @@
 -- Worked runs of counts and verdicts: of the five bookies, with an empty disk, a lost source and an open last fragment, and of quorums from 1 to 5.
-use Rattle.std.specs.Prelude.{◌≡◌, refl, ℕ, ◌+◌, ◌-◌, Bool, true, false, List, [], ◌∷◌, ◌++◌, map, None}
+use Rattle.std.specs.Prelude.{◌≡◌, refl, ℕ, ◌-◌, true, false, List, [], ◌∷◌, ◌++◌, map}
 use Rattle.std.specs.List.{flat_map}
-use Rattle.reh_types.specs.declared.names.LedgerState.TheVariants.{Open, InRecovery, Closed}
+use Rattle.reh_types.specs.declared.names.LedgerState.TheVariants.{InRecovery, Closed}
 use Rattle.reh_types.specs.Sets.{Set, numbers, contains, insert, retain, remove, empty, from_list, union, items, is_subset, is_empty, len}
 use Rattle.reh_model.specs.Cluster.{Cluster, Ledger, with_held, with_ledgers}
 use Rattle.reh_model.specs.Striping.{range}

@@ -2,7 +2,7 @@
 use Rattle.std.proofs.Common.{◌≡◌, ◌≢◌, ◌∙◌, ◌+◌, ◌-◌, ◌*◌, ◌/◌, ◌%◌, ◌^◌, ◌<◌, ◌≤◌, ◌&&◌, ◌||◌, not, cond, ℕ, zero, suc}
 use Rattle.std.proofs.Common.{Bool, true, false, List, [], ◌∷◌, ◌++◌, inl, inr, Bor, All, refl, ap, sym, map, get_or, slice_index}
 use Rattle.std.proofs.Common.{length, nat_eq, nat_le, nat_lt, arith}
-use Rattle.std.specs.Prelude.{◌==◌, bit_and, bit_or, count_by}
+use Rattle.std.specs.Prelude.{◌==◌, bit_and, count_by}
 use Rattle.std.specs.Int.{bit_at, bit_not, w64}
 use Rattle.std.specs.Int.Count.{ones}
 use Rattle.reh_held.specs.Rows.{is_between}
@@ -19,14 +19,14 @@ use Rattle.std.proofs.lemmas.List.Folds.{list_any-append}
 use Rattle.std.proofs.lemmas.List.Sums.{sum_by-cons, sum_by-append}
 use Rattle.reh_held.proofs.CountLaws.{count-append, count-cons, count-ones, count-range, range-append}
 use Rattle.reh_model.specs.Striping.{range, index_at, rank_of, is_striped, write_set}
-use Rattle.reh_model.proofs.StripingLaws.{index_at-rank_of, rank_of-index_at, is_striped-rank_of, is_striped-ranks}
+use Rattle.reh_model.proofs.StripingLaws.{index_at-rank_of, rank_of-index_at, is_striped-rank_of}
 use Rattle.reh_scan.specs.Sources.{is_set_at}
 use Rattle.reh_scan.specs.Masks.{has_bit, AreMasks}
 use Rattle.reh_scan.proofs.ReadingLaws.{is_set_there}
 use Rattle.reh_scan.proofs.SurveyLaws.{counted_below, counted-all, is_counted}
 use Rattle.reh_scan.proofs.MaskLaws.{has_bit-and, has_bit-none, has_bit-or, is_read_at}
 use Rattle.reh_redundancy.specs.Levels.{AreLevels, AreRaised}
-use Rattle.reh_redundancy.proofs.CountLaws.{count_by-map, count_same_below}
+use Rattle.reh_redundancy.proofs.CountLaws.{count_same_below}
 
 -- The write set of an entry and the indexes that carry it
 
@@ -97,7 +97,7 @@ abbrev first_ranks : ℕ → ℕ → ℕ → List ℕ
 first_ranks e n q = map (index_at e n) (range_with_len 0 q)
 
 first_ranks-more : (e n q : ℕ) → first_ranks e n (q + 1) ≡ first_ranks e n q ++ index_at e n q ∷ []
-first_ranks-more e n q = 
+first_ranks-more e n q =
     ap (map (index_at e n)) (range-append 0 q 1) ∙ map-append (index_at e n) (range_with_len 0 q) ((0 + q) ∷ [])
     ∙ (let at : 0 + q ≡ q = omega arith in ap (λ k. first_ranks e n q ++ index_at e n k ∷ []) at)
 

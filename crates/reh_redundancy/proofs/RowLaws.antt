@@ -1,9 +1,7 @@
 -- Copies, by the rows at the indexes of write sets.
-use Rattle.std.proofs.Common.{◌≡◌, ◌∙◌, ◌-◌, ◌<◌, Bool, List, ℕ, Bor, ap, sym, map, length, slice_index, arith, nat_lt}
+use Rattle.std.proofs.Common.{◌≡◌, ◌∙◌, ◌<◌, List, ℕ, Bor, ap, sym, slice_index, nat_lt}
 use Rattle.std.specs.Prelude.{count_by}
-use Rattle.std.specs.List.{range_with_len}
-use Rattle.std.proofs.lemmas.List.FromFn.{length-map-range_with_len}
-use Rattle.reh_model.specs.Striping.{index_at, write_set}
+use Rattle.reh_model.specs.Striping.{write_set}
 use Rattle.reh_model.specs.Metadata.{Fragment, Metadata, IsMetadata}
 use Rattle.reh_model.specs.Cluster.{Cluster, Ledger, is_source}
 use Rattle.reh_scan.specs.Sources.{is_source_at, is_set_at}

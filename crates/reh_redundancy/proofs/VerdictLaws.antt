@@ -1,5 +1,5 @@
 -- What losses do to copies and counts, and what the counts say of a verdict.
-use Rattle.std.proofs.Common.{◌≡◌, ◌∙◌, ◌+◌, ◌-◌, ◌≤◌, ◌&&◌, ◌||◌, not, cond, ℕ, Bool, true, false, List, refl}
+use Rattle.std.proofs.Common.{◌≡◌, ◌∙◌, ◌+◌, ◌-◌, ◌≤◌, ◌&&◌, ◌||◌, not, cond, ℕ, Bool, true, false, refl}
 use Rattle.std.proofs.Common.{ap, sym, nat_eq, nat_le, nat_lt, arith}
 use Rattle.std.specs.Prelude.{count_by, sum_by, if◌then◌else◌}
 use Rattle.std.specs.List.{enumerate_from, list_all}

@@ -1,5 +1,5 @@
 -- Copies, by the rows of words of an ensemble's members.
-use Rattle.std.specs.Prelude.{ℕ, Bool, nat_lt, List, count_by}
+use Rattle.std.specs.Prelude.{ℕ, nat_lt, List, count_by}
 use Rattle.std.specs.Borrow.{Bor}
 use Rattle.reh_model.specs.Metadata.{Metadata}
 use Rattle.reh_model.specs.Striping.{write_set}

@@ -37,14 +37,7 @@ pub fn ledger_redundancy(state: &State, lost: &BookieSet, ledger: &Ledger) -> Re
     let masks = stripe_masks(ledger.metadata());
     let mut sum = Redundancy::none();
     for number in 0..fragments.len() {
-        sum = sum.plus(&counts_of(
-            state,
-            lost,
-            ledger,
-            &masks,
-            number,
-            &fragments[number],
-        ));
+        sum = sum.plus(&counts_of(state, lost, ledger, &masks, number, &fragments[number]));
     }
     sum
 }

@@ -27,9 +27,9 @@ pub(crate) fn count_words(
     requires order { first ≤ last }
     requires last { last + 1 < 2 ^ 32 }
     ensures { result ≡ record {
-        lost = rows_under rows.now metadata.now 1 (range first (last + 1));
-        under_ack = rows_under rows.now metadata.now metadata.now.ack_quorum (range first (last + 1));
-        under_write = rows_under rows.now metadata.now metadata.now.write_quorum (range first (last + 1));
+      lost = rows_under rows.now metadata.now 1 (range first (last + 1));
+      under_ack = rows_under rows.now metadata.now metadata.now.ack_quorum (range first (last + 1));
+      under_write = rows_under rows.now metadata.now metadata.now.write_quorum (range first (last + 1));
     } }
 {
     let acks = metadata.ack_quorum() as usize;

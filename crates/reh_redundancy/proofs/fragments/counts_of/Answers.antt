@@ -1,5 +1,5 @@
 -- The counts, by the rows.
-use Rattle.std.proofs.Common.{◌≡◌, ◌∙◌, ◌+◌, ◌-◌, ◌<◌, ◌≤◌, ap, sym, subst, arith, ℕ, List, nat_lt}
+use Rattle.std.proofs.Common.{◌≡◌, ◌∙◌, ◌+◌, ◌-◌, ◌≤◌, ap, sym, subst, arith, ℕ, nat_lt}
 use Rattle.reh_model.specs.Cluster.{Cluster, Ledger}
 use Rattle.reh_model.specs.Metadata.{Fragment, Metadata}
 use Rattle.reh_model.specs.Striping.{range}
@@ -22,9 +22,9 @@ returns-clause-counts c =
     ap (λ (f : Fragment). f.first) c.fragment.view_is in
     let last : c.entries_end-stop.result - 1 + 1 ≡ c.entries_end-stop.result = omega arith in
     let under : (wanted : ℕ)
-        → rows_under c.rows_without-rows.result m wanted
-        (range c.fragment.inside.first (c.entries_end-stop.result - 1 + 1))
-        ≡ count_under s g c.args.number c.args.fragment.now wanted =
+    → rows_under c.rows_without-rows.result m wanted
+    (range c.fragment.inside.first (c.entries_end-stop.result - 1 + 1))
+    ≡ count_under s g c.args.number c.args.fragment.now wanted =
     λ wanted.
     (λ i. rows_under c.rows_without-rows.result m wanted (range (first i) ((last ∙ c.entries_end-stop.ensures) i)))
     ∙ count_under-rows s g c.args.fragment.now c.rows_without-rows.result m same
@@ -48,7 +48,7 @@ returns-clause-limit c =
     let n : ℕ = c.entries_end-stop.result - 1 + 1 - first in
     let few : n ≤ 4294967296 = omega (arith, c.entries_end-stop.type_inv) in
     let under : (wanted : ℕ)
-        → rows_under c.rows_without-rows.result m wanted (range first (c.entries_end-stop.result - 1 + 1)) ≤ 4294967296 =
+    → rows_under c.rows_without-rows.result m wanted (range first (c.entries_end-stop.result - 1 + 1)) ≤ 4294967296 =
     λ wanted.
     omega (arith, few, count-le (λ e. nat_lt (row_copies c.rows_without-rows.result m e) wanted) first n) in
     subst (λ (counts : Redundancy). AreAtMost 4294967296 counts) (sym c.count_words.ensures)

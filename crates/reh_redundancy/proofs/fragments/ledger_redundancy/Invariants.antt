@@ -1,5 +1,5 @@
 -- The counts of the fragments that are passed.
-use Rattle.std.proofs.Common.{◌≡◌, ◌*◌, ◌^◌, ◌<◌, ◌≤◌, map, take}
+use Rattle.std.proofs.Common.{◌≡◌, ◌*◌, ◌^◌, map, take}
 use Rattle.std.specs.List.{enumerate_from}
 use Rattle.reh_redundancy.specs.Bounds.{AreAtMost}
 use Rattle.reh_redundancy.specs.Losses.{losing}

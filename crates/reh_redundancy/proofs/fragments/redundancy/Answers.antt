@@ -1,11 +1,11 @@
 -- The counts of a ledger more.
-use Rattle.std.proofs.Common.{◌≡◌, ◌∙◌, ◌+◌, ◌*◌, ◌^◌, ◌<◌, ◌≤◌, ℕ, List, map, take, length, get_or, ap, sym, subst, arith}
-use Rattle.std.proofs.lemmas.List.{get_or-map, length-map, take_all}
+use Rattle.std.proofs.Common.{◌≡◌, ◌∙◌, ◌+◌, ◌*◌, ◌<◌, ◌≤◌, ℕ, List, map, length, get_or, ap, sym, subst, arith}
+use Rattle.std.proofs.lemmas.List.{get_or-map, length-map}
 use Rattle.reh_model.specs.Cluster.{Cluster, Ledger}
 use Rattle.reh_redundancy.specs.declared.counts.Redundancy.{Redundancy}
 use Rattle.reh_redundancy.specs.Bounds.{AreAtMost}
 use Rattle.reh_redundancy.specs.Losses.{losing}
-use Rattle.reh_redundancy.specs.Redundancy.{ledger_redundancy, sum_of}
+use Rattle.reh_redundancy.specs.Redundancy.{ledger_redundancy}
 use Rattle.reh_redundancy.proofs.SumLaws.{AreAtMost-with, sum_of-more, sum_with}
 use Rattle.reh_redundancy.proofs.fragments.redundancy.Goals as goal
 

@@ -1,5 +1,5 @@
 -- The counts of the ledgers that are passed.
-use Rattle.std.proofs.Common.{◌≡◌, ◌*◌, ◌^◌, ◌≤◌, map, take}
+use Rattle.std.proofs.Common.{◌≡◌, ◌*◌, ◌^◌, map, take}
 use Rattle.reh_redundancy.specs.Bounds.{AreAtMost}
 use Rattle.reh_redundancy.specs.Losses.{losing}
 use Rattle.reh_redundancy.specs.Redundancy.{ledger_redundancy, sum_of}

@@ -1,11 +1,10 @@
 -- A row counts where its bookie is registered and is not lost.
-use Rattle.std.proofs.Common.{◌≡◌, ◌∙◌, ◌&&◌, ◌/◌, ◌%◌, not, ap, sym, ℕ, Bool, true, false, List, [], refl}
+use Rattle.std.proofs.Common.{◌≡◌, ◌∙◌, ◌&&◌, ◌%◌, not, ap, sym, ℕ, Bool, true, false, [], refl}
 use Rattle.std.specs.Prelude.{◌==◌}
 use Rattle.std.proofs.lemmas.Nat.Bits.{bit_at-zero}
 use Rattle.reh_types.specs.Sets as set
 use Rattle.reh_held.specs.Rows.{is_set}
-use Rattle.reh_model.specs.Cluster.{holds, is_source, is_up}
-use Rattle.reh_redundancy.specs.Losses.{losing}
+use Rattle.reh_model.specs.Cluster.{holds, is_up}
 use Rattle.reh_redundancy.proofs.LossLaws.{is_source-losing}
 use Rattle.reh_redundancy.proofs.rows.row_without.Goals as goal
 use Rattle.reh_redundancy.proofs.rows.row_without.Goals.{else-is_up-via-then-is_up+else-not-contains, else-is_up-via-else-is_up}

@@ -4,7 +4,6 @@ use Rattle.reh_types.specs.Sets as set
 use Rattle.reh_types.specs.Sets.{Set, numbers}
 use Rattle.reh_model.specs.Cluster.{Cluster}
 use Rattle.reh_redundancy.specs.declared.counts.Redundancy.{Redundancy}
-use Rattle.reh_redundancy.specs.declared.counts.Verdict.{Verdict}
 use Rattle.reh_redundancy.specs.Losses.{losing}
 use Rattle.reh_redundancy.specs.Redundancy.{redundancy}
 use Rattle.reh_redundancy.specs.Verdicts.{is_yes, verdict_of}

@@ -1,4 +1,3 @@
-use Rattle.std.proofs.Common.{◌∙◌}
 use Rattle.reh_redundancy.proofs.LevelLaws.{ones-without}
 use Rattle.reh_redundancy.proofs.words.count_without.Goals as goal
 

@@ -1,5 +1,5 @@
 -- A word more.
-use Rattle.std.proofs.Common.{◌≡◌, ◌∙◌, ◌+◌, ◌*◌, ◌/◌, ◌<◌, ◌≤◌, ℕ, Bool, List, not, nat_le, ap, subst, arith, slice_index}
+use Rattle.std.proofs.Common.{◌≡◌, ◌∙◌, ◌+◌, ◌*◌, ◌/◌, ◌<◌, ◌≤◌, ℕ, Bool, List, not, nat_le, ap, arith, slice_index}
 use Rattle.std.specs.Prelude.{◌&&◌, ◌^◌, count_by}
 use Rattle.std.specs.List.{range_with_len}
 use Rattle.reh_model.specs.Metadata.{Metadata, IsMetadata}

@@ -1,5 +1,5 @@
 -- The levels of an index more.
-use Rattle.std.proofs.Common.{◌≡◌, ◌∙◌, ◌+◌, ◌-◌, ◌*◌, ◌%◌, ◌<◌, ℕ, List, length, get_or, slice_index, ap, subst, arith}
+use Rattle.std.proofs.Common.{◌≡◌, ◌∙◌, ◌+◌, ◌-◌, ◌*◌, ◌%◌, ◌<◌, ℕ, length, get_or, slice_index, ap, subst, arith}
 use Rattle.std.specs.Prelude.{bit_and}
 use Rattle.reh_model.specs.Metadata.{Metadata, IsMetadata}
 use Rattle.reh_model.specs.Striping.{rank_of}
