@@ -96,3 +96,13 @@ is_source-kept s bookies l e b =
 pub losing-none : (s : Cluster) → losing s set.empty ≡ s
 unfolding set.items set.empty
 losing-none s = refl
+
+-- a bookie is missing if it was, or is lost
+pub is_down-losing : (s : Cluster) (bookies : Set numbers) (b : ℕ)
+    → (not (is_up s b) || set.contains bookies b) ≡ not (is_up (losing s bookies) b)
+is_down-losing s bookies b =
+    turned (is_up s b) (set.contains bookies b) ∙ ap not (sym (is_up-losing s bookies b)) where
+      turned : (up lost : Bool) → (not up || lost) ≡ not (up && not lost)
+      turned true true = refl
+      turned true false = refl
+      turned false lost = refl

@@ -1,6 +1,6 @@
 -- What losses do to copies and counts, and what the counts say of a verdict.
-use Rattle.std.proofs.Common.{◌≡◌, ◌∙◌, ◌+◌, ◌-◌, ◌≤◌, ◌&&◌, ◌||◌, not, cond, ℕ, Bool, true, false, refl}
-use Rattle.std.proofs.Common.{ap, sym, nat_eq, nat_le, nat_lt, arith}
+use Rattle.std.proofs.Common.{◌≡◌, ◌∙◌, ◌+◌, ◌-◌, ◌≤◌, ◌&&◌, ◌||◌, not, cond, ℕ, Bool, true, false, List, [], ◌∷◌, refl}
+use Rattle.std.proofs.Common.{ap, sym, map, nat_eq, nat_le, nat_lt, arith}
 use Rattle.std.specs.Prelude.{count_by, sum_by, if◌then◌else◌}
 use Rattle.std.specs.List.{enumerate_from, list_all}
 use Rattle.std.proofs.lemmas.Bool.Decides.{nat_tests}
@@ -11,7 +11,8 @@ use Rattle.reh_model.specs.Metadata.{Fragment, writes}
 use Rattle.reh_model.specs.Cluster.{Cluster, Ledger, is_readable, is_source}
 use Rattle.reh_redundancy.specs.Losses.{losing}
 use Rattle.reh_redundancy.specs.Redundancy.{copies, count_under, entries_of, fragment_redundancy, ledger_redundancy}
-use Rattle.reh_redundancy.specs.Redundancy.{redundancy}
+use Rattle.reh_redundancy.specs.Redundancy.{redundancy, sum_of}
+use Rattle.reh_redundancy.specs.declared.counts.Redundancy.{Redundancy}
 use Rattle.reh_redundancy.specs.Verdicts.{count_entries, every_entry, has_acks, is_yes, keeps, loses}
 use Rattle.reh_redundancy.specs.Verdicts.{ok_to_stop, verdict_of, verdict_on}
 use Rattle.reh_redundancy.specs.declared.counts.Verdict.TheVariants.{Yes, Loses, FallsUnder}
@@ -244,6 +245,16 @@ verdict-counts s bookies allow =
           if some_more lost_before lost_after lost more i then Loses (loss i)
           else (if some_more under_before under_after under more_under i && not allow then FallsUnder (falls i) else Yes)
 
+-- a verdict is yes where nothing is lost, and nothing falls under its acks, or that may be
+ruled : (lost under allow : Bool) (m n : ℕ)
+    → is_yes (if lost then Loses m else (if under && not allow then FallsUnder n else Yes))
+    ≡ (not lost && (allow || not under))
+ruled true under allow m n = refl
+ruled false true true m n = refl
+ruled false true false m n = refl
+ruled false false true m n = refl
+ruled false false false m n = refl
+
 -- and the verdict is yes by the rule
 pub verdict-rule : (s : Cluster) (bookies : Set numbers) (allow : Bool)
     → is_yes (verdict_of (redundancy s) (redundancy (losing s bookies)) allow) ≡ ok_to_stop s bookies allow
@@ -260,11 +271,65 @@ verdict-rule s bookies allow =
       same_test : (before after more : ℕ) → after ≡ before + more → not (nat_lt before after) ≡ nat_eq before after
       same_test before after more is = grind (arith, nat_tests)
 
-      ruled : (lost under allow : Bool) (m n : ℕ)
-          → is_yes (if lost then Loses m else (if under && not allow then FallsUnder n else Yes))
-          ≡ (not lost && (allow || not under))
-      ruled true under allow m n = refl
-      ruled false true true m n = refl
-      ruled false true false m n = refl
-      ruled false false true m n = refl
-      ruled false false false m n = refl
+-- Several clusters
+
+joined : {X : Type 0} (p q : X → Bool) (allow : Bool) (xs : List X)
+    → (list_all p xs && (allow || list_all q xs)) ≡ list_all (λ x. p x && (allow || q x)) xs
+joined p q true [] = refl
+joined p q false [] = refl
+joined p q allow (x ∷ xs) =
+    regroup (p x) (list_all p xs) allow (q x) (list_all q xs)
+    ∙ ap (λ rest. (p x && (allow || q x)) && rest) (joined p q allow xs) where
+      regroup : (a later allow b last : Bool)
+          → ((a && later) && (allow || (b && last))) ≡ ((a && (allow || b)) && (later && (allow || last)))
+      regroup false later allow b last = refl
+      regroup true later true b last = refl
+      regroup true true false true last = refl
+      regroup true true false false last = refl
+      regroup true false false true last = refl
+      regroup true false false false last = refl
+
+lost-more : (s : Cluster) (bookies : Set numbers) → (redundancy s).lost ≤ (redundancy (losing s bookies)).lost
+lost-more s bookies = omega (arith, more-lost s bookies)
+
+under-ack-more : (s : Cluster) (bookies : Set numbers)
+    → (redundancy s).under_ack ≤ (redundancy (losing s bookies)).under_ack
+under-ack-more s bookies = omega (arith, more-under s bookies)
+
+-- the verdict by the sums of their counts is yes exactly where it is yes for each
+pub verdicts-added : (clusters : List (Cluster × Set numbers)) (allow : Bool)
+    → is_yes
+    (verdict_of (sum_of (map (λ c. redundancy c.0) clusters))
+    (sum_of (map (λ c. redundancy (losing c.0 c.1)) clusters)) allow)
+    ≡ list_all (λ c. ok_to_stop c.0 c.1 allow) clusters
+verdicts-added clusters allow =
+    let before : Redundancy = sum_of (map (λ c. redundancy c.0) clusters) in
+    let after : Redundancy = sum_of (map (λ c. redundancy (losing c.0 c.1)) clusters) in
+    let lost_before : before.lost ≡ sum_by (λ (c : Cluster × Set numbers). (redundancy c.0).lost) clusters =
+    sum_by-map (λ (c : Redundancy). c.lost) (λ (c : Cluster × Set numbers). redundancy c.0) clusters in
+    let lost_after : after.lost ≡ sum_by (λ (c : Cluster × Set numbers). (redundancy (losing c.0 c.1)).lost) clusters =
+    sum_by-map (λ (c : Redundancy). c.lost) (λ (c : Cluster × Set numbers). redundancy (losing c.0 c.1)) clusters in
+    let under_before : before.under_ack ≡ sum_by (λ (c : Cluster × Set numbers). (redundancy c.0).under_ack) clusters =
+    sum_by-map (λ (c : Redundancy). c.under_ack) (λ (c : Cluster × Set numbers). redundancy c.0) clusters in
+    let under_after : after.under_ack
+    ≡ sum_by (λ (c : Cluster × Set numbers). (redundancy (losing c.0 c.1)).under_ack) clusters =
+    sum_by-map (λ (c : Redundancy). c.under_ack) (λ (c : Cluster × Set numbers). redundancy (losing c.0 c.1)) clusters in
+    ruled (nat_lt before.lost after.lost) (nat_lt before.under_ack after.under_ack) allow (after.lost - before.lost)
+    (after.under_ack - before.under_ack)
+    ∙ (λ i. not (nat_lt (lost_before i) (lost_after i)) && (allow || not (nat_lt (under_before i) (under_after i))))
+    ∙ (λ i.
+    summed (λ c. (redundancy c.0).lost) (λ c. (redundancy (losing c.0 c.1)).lost) (λ c. lost-more c.0 c.1) i
+    && (allow
+    || summed (λ c. (redundancy c.0).under_ack) (λ c. (redundancy (losing c.0 c.1)).under_ack)
+    (λ c. under-ack-more c.0 c.1) i))
+    ∙ joined (λ (c : Cluster × Set numbers). nat_eq (redundancy c.0).lost (redundancy (losing c.0 c.1)).lost)
+    (λ c. nat_eq (redundancy c.0).under_ack (redundancy (losing c.0 c.1)).under_ack) allow clusters
+    ∙ list_all-alike _ (λ c. ok_to_stop c.0 c.1 allow) clusters (λ c. ok_to_stop-counts c.0 c.1 allow) where
+      same_test : (before after : ℕ) → before ≤ after → not (nat_lt before after) ≡ nat_eq before after
+      same_test before after more = grind (arith, nat_tests)
+
+      summed : (f h : Cluster × Set numbers → ℕ) → ((c : Cluster × Set numbers) → f c ≤ h c)
+          → not (nat_lt (sum_by f clusters) (sum_by h clusters)) ≡ list_all (λ c. nat_eq (f c) (h c)) clusters
+      summed f h each =
+          same_test (sum_by f clusters) (sum_by h clusters) (sum_by-le-sum_by f h clusters each)
+          ∙ sums-same f h clusters each

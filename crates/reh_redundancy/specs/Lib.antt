@@ -1,4 +1,5 @@
 pub mod Bounds
+pub mod Changes
 pub mod Levels
 pub mod Losses
 pub mod Redundancy

@@ -108,7 +108,7 @@ fn next_entry(state: &State, ledger: &Ledger) -> u32
 }
 
 /// The last fragment, to which the ledger's writer appends.
-fn last_fragment(ledger: &Ledger) -> &Fragment
+pub(crate) fn last_fragment(ledger: &Ledger) -> &Fragment
     ensures { result.now ≡ meta.last_fragment ledger.now.metadata }
 {
     let fragments = ledger.metadata().fragments();

@@ -1,6 +1,6 @@
 // What holds of counts, losses and verdicts.
-ghost use Rattle.std.specs.Prelude.{◌≡◌, ◌↔◌, ◌≤◌, ℕ, Bool, false, true, None, Some};
-ghost use Rattle.std.specs.List.{fold};
+ghost use Rattle.std.specs.Prelude.{◌≡◌, ◌↔◌, ◌≤◌, ℕ, Bool, List, false, true, map};
+ghost use Rattle.std.specs.List.{fold, list_all};
 ghost use Rattle.std.specs.Option.{option_map};
 ghost use Rattle.reh_types.specs.declared.moves.Event.TheVariants.{Lose, Join};
 ghost use Rattle.reh_types.specs.Sets as set;
@@ -10,7 +10,8 @@ ghost use Rattle.reh_model.specs.Cluster.{Cluster, Ledger, is_readable, is_up};
 ghost use Rattle.reh_model.specs.Step.{after};
 ghost use Rattle.reh_model.specs.Survey.{lost_of};
 ghost use Rattle.reh_redundancy.specs.Losses.{losing};
-ghost use Rattle.reh_redundancy.specs.Redundancy.{copies, fragment_redundancy, redundancy};
+ghost use Rattle.reh_redundancy.specs.Redundancy.{copies, fragment_redundancy, redundancy, sum_of};
+ghost use Rattle.reh_redundancy.specs.Verdicts.{is_yes, ok_to_stop, verdict_of};
 
 /// An entry has no copy exactly where it can't be read.
 pub fn without_copies_is_unreadable()
@@ -40,4 +41,14 @@ pub fn joined_again_all_counts_are_as_before()
 pub fn losses_are_events()
     ensures { (s : Cluster) (bookies : Set numbers)
         → losing s bookies ≡ fold (λ s b. after s (Lose b)) s (set.items bookies) }
+{}
+
+/// The verdict by the counts of several clusters, added up, is yes exactly where the verdict on each of them is. So a
+/// cluster whose ledgers stand in several pictures is judged as one.
+pub fn verdicts_add_up()
+    ensures { (clusters : List (Cluster × Set numbers)) (allow : Bool)
+        → is_yes (verdict_of
+        (sum_of (map (λ c. redundancy c.0) clusters))
+        (sum_of (map (λ c. redundancy (losing c.0 c.1)) clusters)) allow)
+        ≡ list_all (λ c. ok_to_stop c.0 c.1 allow) clusters }
 {}

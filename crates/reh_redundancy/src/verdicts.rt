@@ -7,20 +7,12 @@ use crate::fragments::redundancy;
 use reh_cluster::State;
 use reh_types::BookieSet;
 
-/// Whether these bookies may be stopped: every entry that can be read stays so, and every entry with the copies that
-/// its ack quorum asks keeps so many, unless they may go below it. It takes no memory.
+/// Whether these bookies may be stopped, and if not, how many entries speak against it: those that can be read and
+/// couldn't be without them, or else, unless that is allowed, those with the copies of their ack quorum that wouldn't
+/// have them. It takes no memory.
 ///
-/// Losses never raise the copies of an entry, so the counts of all entries tell whether any one of them lost what it
-/// had.
-pub fn ok_to_stop(state: &State, bookies: &BookieSet, allow_under_ack: bool) -> bool
-    ensures { result ≡ model.ok_to_stop state.now bookies.now allow_under_ack }
-{
-    let before = redundancy(state, &BookieSet::new());
-    let after = redundancy(state, bookies);
-    before.lost == after.lost && (allow_under_ack || before.under_ack == after.under_ack)
-}
-
-/// The verdict on these bookies, with the number of entries that speak against it. It takes no memory.
+/// Losses never raise the copies of an entry, so the counts of all entries tell whether any one of them loses what it
+/// has.
 pub fn verdict_on(state: &State, bookies: &BookieSet, allow_under_ack: bool) -> Verdict
     ensures verdict { result ≡ model.verdict_on state.now bookies.now allow_under_ack }
     ensures rule { model.is_yes result ≡ model.ok_to_stop state.now bookies.now allow_under_ack }
