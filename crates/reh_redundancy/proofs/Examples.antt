@@ -9,7 +9,9 @@ use Rattle.reh_model.proofs.TaskExamples.{closed_ledger, open_ledger, row, five_
 use Rattle.reh_redundancy.specs.declared.counts.Redundancy.{Redundancy}
 use Rattle.reh_redundancy.specs.Losses.{losing}
 use Rattle.reh_redundancy.specs.Redundancy.{redundancy, ledger_redundancy}
-use Rattle.reh_redundancy.specs.Verdicts.{ok_to_stop}
+use Rattle.reh_redundancy.specs.declared.counts.Verdict.TheVariants.{Yes, Loses, FallsUnder}
+use Rattle.reh_redundancy.specs.Changes.{needs_change}
+use Rattle.reh_redundancy.specs.Verdicts.{ok_to_stop, verdict_on}
 
 abbrev counts : ℕ → ℕ → ℕ → Redundancy
 counts lost under_ack under_write = record { lost = lost; under_ack = under_ack; under_write = under_write }
@@ -123,3 +125,24 @@ counts_of_fragments = refl
 pub stop_in_an_open_fragment : map (λ b. ok_to_stop (fragments_of two_fragments) (these (b ∷ [])) false) (0 ∷ 1 ∷ 2 ∷ 3 ∷ []) ≡ true ∷ true ∷ false ∷ true ∷ []
 unfolding contains insert retain remove empty from_list union items is_subset is_empty len
 stop_in_an_open_fragment = refl
+
+-- Reasons
+
+-- four entries of the closed ledger would fall under their acks, which may be allowed,
+pub verdict_on_a_bookie : map (verdict_on five_bookies (these (1 ∷ []))) (false ∷ true ∷ []) ≡ FallsUnder 4 ∷ Yes ∷ []
+unfolding contains insert retain remove empty from_list union items is_subset is_empty len
+verdict_on_a_bookie = refl
+
+-- and three entries would be lost, which may not
+pub verdict_on_a_source : map (verdict_on empty_disk (these (0 ∷ []))) (false ∷ true ∷ []) ≡ Loses 3 ∷ Loses 3 ∷ []
+unfolding contains insert retain remove empty from_list union items is_subset is_empty len
+verdict_on_a_source = refl
+
+-- the writer of the open ledger would need another member, and the closed ledger has no writer
+pub change_of_an_ensemble : map (needs_change (losing five_bookies (these (1 ∷ [])))) (closed_ledger ∷ open_ledger ∷ []) ≡ false ∷ true ∷ []
+unfolding contains insert retain remove empty from_list union items is_subset is_empty len
+change_of_an_ensemble = refl
+
+pub no_change_of_an_ensemble : needs_change (losing five_bookies (these (3 ∷ []))) open_ledger ≡ false
+unfolding contains insert retain remove empty from_list union items is_subset is_empty len
+no_change_of_an_ensemble = refl
