@@ -10,8 +10,8 @@ mod rows;
 mod verdicts;
 mod words;
 
-pub use counts::{Redundancy, Verdict};
 pub use changes::needs_change;
+pub use counts::{Redundancy, Verdict};
 pub use fragments::{fragment_redundancy, ledger_redundancy, redundancy};
 pub use laws::{
     joined_again_all_counts_are_as_before, losses_are_events, losses_never_raise_copies,
