@@ -20,6 +20,7 @@ use crate::names::Names;
 use crate::parts::Parts;
 use indexmap::IndexSet;
 use reh_held::{Held, Turn};
+use reh_stripe::Striped;
 use reh_types::{BookieIx, LedgerId, Scalars};
 use std::alloc::{AllocError, Global};
 use std::marker::Model;
@@ -236,7 +237,7 @@ impl State {
         alloc: Global,
         bookie: BookieIx,
         ledger: LedgerId,
-        entries: &[u32],
+        entries: &Striped,
     ) -> Result<Vec<Turn>, AllocError>
         requires bookie { bookie < length self.now.names }
         requires entries { All (λ e. e < 64 * words_among self.now.parts.ledgers ledger) entries.now }

@@ -8,73 +8,10 @@ use Rattle.std.proofs.lemmas.Bool.Decides.{nat_tests}
 use Rattle.std.proofs.lemmas.Nat.Bits.{bit_at_or, bit_at_and, bit_at-lt, ones_shl, ones_shr, bit_at_mask_inside}
 use Rattle.std.proofs.lemmas.Nat.Bits.{bit_at_mask_below, bit_at_ones, bit_at_ones_above}
 use Rattle.std.proofs.lemmas.List.{get_or_read, length-set}
-use Rattle.reh_held.specs.Rows.{is_set, is_between}
+use Rattle.reh_stripe.specs.Words.{is_between}
+use Rattle.reh_stripe.proofs.WordLaws.{has_bit-or}
+use Rattle.reh_held.specs.Rows.{is_set}
 use Rattle.reh_held.proofs.RowLaws.{read_written}
-
--- The mask
-
-pub one_min : (a b : ℕ) → a < 2 → b < 2 → (min a b == 1) ≡ ((a == 1) && (b == 1))
-one_min a b a_in b_in = grind (arith, nat_tests)
-
-pub one_max : (a b : ℕ) → a < 2 → b < 2 → (max a b == 1) ≡ ((a == 1) || (b == 1))
-one_max a b a_in b_in = grind (arith, nat_tests)
-
-bits_from : (low i : ℕ) → low < 64 → i < 64 → (bit_at ((2 ^ 64 - 1) * 2 ^ low % 2 ^ 64) i == 1) ≡ nat_le low i
-bits_from low i within inside =
-    ap (λ (n : ℕ). bit_at n i == 1) (ones_shl 64 low (omega arith))
-    ∙ elim (cases_lt i low) [
-      | inl below ↦
-          let no : nat_le low i ≡ false = grind (arith, nat_tests) in
-          ap (λ (b : ℕ). b == 1) (bit_at_mask_below low 64 i below) ∙ sym no
-      | inr from ↦
-          let yes : nat_le low i ≡ true = grind (arith, nat_tests) in
-          ap (λ (b : ℕ). b == 1) (bit_at_mask_inside low 64 i from inside) ∙ sym yes
-    ]
-
-bits_to : (high i : ℕ) → high < 64 → i < 64 → (bit_at ((2 ^ 64 - 1) / 2 ^ (63 - high)) i == 1) ≡ nat_le i high
-bits_to high i within inside =
-    let left : 64 - (63 - high) ≡ high + 1 = omega arith in
-    ap (λ (n : ℕ). bit_at n i == 1) (ones_shr 64 (63 - high) (omega arith) ∙ ap (λ n. 2 ^ n - 1) left)
-    ∙ elim (cases_lt high i) [
-      | inl past ↦
-          let no : nat_le i high ≡ false = grind (arith, nat_tests) in
-          ap (λ (b : ℕ). b == 1) (bit_at_ones_above (high + 1) i (omega arith)) ∙ sym no
-      | inr reached ↦
-          let yes : nat_le i high ≡ true = grind (arith, nat_tests) in
-          ap (λ (b : ℕ). b == 1) (bit_at_ones (high + 1) i (omega arith)) ∙ sym yes
-    ]
-
-same_le : (a b c d : ℕ) → (a ≤ b → c ≤ d) → (c ≤ d → a ≤ b) → nat_le a b ≡ nat_le c d
-same_le a b c d there back = elim (cases_lt b a) [
-  | inl past ↦ elim (cases_lt d c) [
-    | inl off ↦
-        let no : nat_le a b ≡ false = grind (arith, nat_tests) in
-        let none : nat_le c d ≡ false = grind (arith, nat_tests) in no ∙ sym none
-    | inr on ↦ let is : a ≤ b = back on in absurd (omega arith)
-  ]
-  | inr reached ↦
-      let is : c ≤ d = there reached in
-      let yes : nat_le a b ≡ true = grind (arith, nat_tests) in
-      let one : nat_le c d ≡ true = grind (arith, nat_tests) in yes ∙ sym one
-]
-
-pub mask-bits : (number first last i : ℕ) → first < 64 * number + 64 → 64 * number ≤ last → i < 64
-    → (bit_at
-    (bit_and ((2 ^ 64 - 1) * 2 ^ (first - 64 * number) % 2 ^ 64)
-    ((2 ^ 64 - 1) / 2 ^ (63 - min (last - 64 * number) 63)))
-    i
-    == 1)
-    ≡ is_between first last (64 * number + i)
-mask-bits number first last i from to inside =
-    let low : ℕ = first - 64 * number in
-    let high : ℕ = min (last - 64 * number) 63 in
-    let below : low < 64 = omega arith in
-    let within : high < 64 = omega arith in
-    ap (λ (b : ℕ). b == 1) (bit_at_and ((2 ^ 64 - 1) * 2 ^ low % 2 ^ 64) ((2 ^ 64 - 1) / 2 ^ (63 - high)) i)
-    ∙ one_min _ _ (bit_at-lt ((2 ^ 64 - 1) * 2 ^ low % 2 ^ 64) i) (bit_at-lt ((2 ^ 64 - 1) / 2 ^ (63 - high)) i)
-    ∙ (λ j.
-    (bits_from low i below inside ∙ same_le low i first (64 * number + i) (λ h. omega arith) (λ h. omega arith)) j
-    && (bits_to high i within inside ∙ same_le i high (64 * number + i) last (λ h. omega arith) (λ h. omega arith)) j)
 
 -- One word
 
@@ -88,8 +25,7 @@ is_set-or words k m w within read q =
     ≡ ((b && (bit_at m (q % 64) == 1)) || is_set words q)) [
       | true ↦ λ here.
           let word : q / 64 ≡ k = grind (arith, nat_tests, here) in
-          ap (λ (b : ℕ). b == 1) (bit_at_or w m (q % 64))
-          ∙ one_max (bit_at w (q % 64)) (bit_at m (q % 64)) (bit_at-lt _ _) (bit_at-lt _ _)
+          has_bit-or w m (q % 64)
           ∙ round (bit_at w (q % 64) == 1) (bit_at m (q % 64) == 1)
           ∙ ap (λ (n : ℕ). (bit_at m (q % 64) == 1) || (bit_at n (q % 64) == 1))
           (is ∙ ap (λ n. get_or words n 0) (sym word))

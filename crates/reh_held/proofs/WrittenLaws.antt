@@ -19,7 +19,8 @@ use Rattle.reh_types.specs.Sets as set
 use Rattle.reh_model.specs.Contents.{Contents, has, copies_of, is_in_word, turned, one_of}
 use Rattle.reh_model.proofs.ContentsLaws.{has-insert, has-union-copies_of}
 use Rattle.reh_model.proofs.TurnedLaws.{has-turned}
-use Rattle.reh_held.specs.Rows.{is_set, is_between}
+use Rattle.reh_stripe.specs.Words.{is_between}
+use Rattle.reh_held.specs.Rows.{is_set}
 use Rattle.reh_held.specs.Tables.{TableValue, row_at, IsTable}
 use Rattle.reh_held.specs.Kept.{table_at, rows_in, contents_of, words_of}
 use Rattle.reh_held.proofs.HeldLaws.{contents_is, words_is, has-contents, get-words}

@@ -1,6 +1,6 @@
 -- Lists of words of one row with bits to turn.
-use Rattle.std.specs.Prelude.{◌≡◌, ◌≢◌, ℕ, ◌+◌, ◌^◌, ◌<◌, ◌≤◌, ◌==◌, if◌then◌else◌, Bool, false, List, [], ◌∷◌, length}
-use Rattle.std.specs.Prelude.{All, bit_xor}
+use Rattle.std.specs.Prelude.{◌≡◌, ◌≢◌, ℕ, ◌+◌, ◌^◌, ◌<◌, ◌≤◌, Bool, false, List, [], ◌∷◌, length}
+use Rattle.std.specs.Prelude.{All}
 use Rattle.reh_model.specs.Contents.{is_in_word, one_of}
 use Rattle.reh_held.specs.declared.turns.Turn.{Turn}
 use Rattle.reh_held.specs.Rows.{is_set}
@@ -25,11 +25,3 @@ pub record ArePlaces (words : ℕ) (turns : List Turn) : Type 0 where
 pub record IsRowTurning (words : List ℕ) (after : ℕ → Bool) (turns : List Turn) : Type 0 where
   pub places : ArePlaces (length words) turns
   pub makes : (entry : ℕ) → one_of (is_set words entry) (is_turned turns entry) ≡ after entry
-
--- the turns from these words, numbered from k, to those
-abbrev pub turns_between : ℕ → List ℕ → List ℕ → List Turn
-turns_between k [] others = []
-turns_between k (w ∷ words) [] = []
-turns_between k (w ∷ words) (o ∷ others) =
-    if w == o then turns_between (k + 1) words others
-    else record { number = k; bits = bit_xor o w } ∷ turns_between (k + 1) words others

@@ -1,5 +1,5 @@
 -- A row of words: the entries that its bits stand for, 64 to a word.
-use Rattle.std.specs.Prelude.{◌≡◌, ℕ, ◌*◌, ◌/◌, ◌%◌, ◌≤◌, Bool, true, false, ◌&&◌, ◌==◌, nat_le, List, length}
+use Rattle.std.specs.Prelude.{◌≡◌, ℕ, ◌*◌, ◌/◌, ◌%◌, ◌≤◌, Bool, true, false, ◌==◌, List, length}
 use Rattle.std.specs.Prelude.{slice_index, Option, MatchOption}
 use Rattle.std.specs.List.{filter, range_with_len}
 use Rattle.std.specs.Int.{bit_at}
@@ -7,10 +7,6 @@ use Rattle.std.specs.Int.{bit_at}
 -- whether the entry's bit is set; past the words none is
 abbrev pub is_set : List ℕ → ℕ → Bool
 is_set words entry = bit_at (slice_index words (entry / 64)) (entry % 64) == 1
-
--- whether the entry is one from the first to the last
-abbrev pub is_between : ℕ → ℕ → ℕ → Bool
-is_between first last entry = nat_le first entry && nat_le entry last
 
 -- the entries whose bits are set
 abbrev pub entries_in : List ℕ → List ℕ

@@ -15,6 +15,7 @@ ghost use Rattle.reh_held.specs.declared.rows.TheConstants.{MAX_WIDTH};
 use crate::rows::have_same_entries;
 use crate::tables::Table;
 use crate::turns::Turn;
+use reh_stripe::Striped;
 use reh_types::{BookieIx, LedgerId};
 use std::alloc::{AllocError, Global};
 use std::collections::BTreeMap;
@@ -180,7 +181,7 @@ impl Held {
         alloc: Global,
         bookie: BookieIx,
         ledger: LedgerId,
-        entries: &[u32],
+        entries: &Striped,
     ) -> Result<Vec<Turn>, AllocError>
         requires bookie { bookie < self.now.bookies }
         requires entries { All (λ e. e < 64 * words_in self.now ledger) entries.now }
@@ -311,7 +312,7 @@ mod tests {
         let mut held = Held::new(rt.alloc(), 4);
         held.reserve(ledger, 4)?;
         held.add_range(bookie, ledger, 3, 3);
-        let turns = held.delta_of(rt.alloc(), bookie, ledger, &[0, 1, 3, 4])?;
+        let turns = held.delta_of(rt.alloc(), bookie, ledger, &Striped::new(0, 5, 1, 3, 2))?;
         assert_eq!(rt;
             turns.as_slice(),
             [Turn {
@@ -345,7 +346,10 @@ mod tests {
             assert_eq!(rt; held.row(bookie, ledger), [8].as_slice());
             return;
         }
-        if held.delta_of(rt.alloc(), bookie, ledger, &[65]).is_err() {
+        if held
+            .delta_of(rt.alloc(), bookie, ledger, &Striped::new(65, 66, 0, 1, 1))
+            .is_err()
+        {
             assert_eq!(rt; held.row(bookie, ledger), [8, 1].as_slice());
         }
     }

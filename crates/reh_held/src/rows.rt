@@ -1,14 +1,16 @@
 // Rows of words.
 ghost use Rattle.std.specs.Prelude.{◌≡◌, ℕ, ◌+◌, ◌*◌, ◌^◌, ◌<◌, ◌≤◌, false, ◌==◌, ◌||◌, ◌↔◌, length, All, IfOk, IsTrue};
+ghost use Rattle.std.specs.Prelude.{slice_index};
 ghost use Rattle.std.specs.List.{list_any};
-ghost use Rattle.std.specs.Int.{bit_at};
 ghost use Rattle.reh_model.specs.Contents.{is_in_word, one_of};
 ghost use Rattle.reh_held.specs.Rows as rows;
-ghost use Rattle.reh_held.specs.Rows.{is_set, is_between, entries_in, IsGreatest};
-ghost use Rattle.reh_held.specs.RowTurns.{IsRowTurning, turns_between};
+ghost use Rattle.reh_stripe.specs.Words.{is_between};
+ghost use Rattle.reh_held.specs.Rows.{is_set, entries_in, IsGreatest};
+ghost use Rattle.reh_held.specs.RowTurns.{IsRowTurning};
 ghost use Rattle.reh_held.specs.declared.rows.TheConstants.{MAX_WIDTH};
 
 use crate::turns::Turn;
+use reh_stripe::{Striped, bits_between};
 use std::alloc::{AllocError, Global};
 use std::marker::Model;
 
@@ -121,17 +123,6 @@ impl Row {
         None
     }
 
-    /// Puts the entries into the row.
-    pub(crate) fn insert_all(&mut self, entries: &[u32])
-        requires { All (λ e. e < 64 * length self.old) entries.now }
-        ensures width { length self.new ≡ length self.old }
-        ensures bits { (e : ℕ) → is_set self.new e ≡ (is_set self.old e || list_any (λ x. e == x) entries.now) }
-    {
-        for entry in entries {
-            self.insert(*entry);
-        }
-    }
-
     /// Puts the entries from the first to the last into the row.
     pub(crate) fn insert_range(&mut self, first: u32, last: u32)
         requires { last < 64 * length self.old }
@@ -142,15 +133,30 @@ impl Row {
     }
 
     /// The turns after which the row has these entries too.
-    pub(crate) fn delta_of(&self, alloc: Global, entries: &[u32]) -> Result<Vec<Turn>, AllocError>
+    pub(crate) fn delta_of(&self, alloc: Global, entries: &Striped) -> Result<Vec<Turn>, AllocError>
         requires { All (λ e. e < 64 * length self.now) entries.now }
         ensures { IfOk result (λ turns. IsRowTurning self.now
             (λ e. is_set self.now e || list_any (λ x. e == x) entries.now) turns.items) }
     {
-        let mut after = self.clone()?;
-        after.insert_all(entries);
-        let turns = find_turns(alloc, self.as_slice(), after.as_slice())?;
+        let mut turns = Vec::new(alloc);
+        for word in entries.words() {
+            let number = word.number as usize;
+            let bits = word.bits & !word_at(&self.words, number);
+            if bits != 0 {
+                turns.push(Turn { number, bits })?;
+            }
+        }
         Ok(turns)
+    }
+}
+
+/// A word of a row, which has no entry past its words.
+pub fn word_at(words: &[u64], number: usize) -> u64
+    ensures { result ≡ slice_index words.now number }
+{
+    match words.get(number) {
+        Some(word) => *word,
+        None => 0,
     }
 }
 
@@ -178,24 +184,6 @@ pub(crate) fn have_same_entries(words: &[u64], others: &[u64]) -> bool
     true
 }
 
-/// The turns from some words to others.
-fn find_turns(alloc: Global, words: &[u64], others: &[u64]) -> Result<Vec<Turn>, AllocError>
-    requires { length words.now ≡ length others.now }
-    ensures turns { IfOk result (λ turns. turns.items ≡ turns_between 0 words.now others.now) }
-    ensures bits { IfOk result (λ turns. All (λ u. u.bits < 2 ^ 64) turns.items) }
-{
-    let mut turns = Vec::new(alloc);
-    for number in 0..words.len() {
-        let word = words[number];
-        let other = others[number];
-        if word != other {
-            let bits = other ^ word;
-            turns.push(Turn { number, bits })?;
-        }
-    }
-    Ok(turns)
-}
-
 /// Sets the bits of the entries from the first to the last, word by word.
 fn set_range(words: &mut Vec<u64>, first: u32, last: u32)
     requires { last < 64 * length words.old.items }
@@ -206,15 +194,4 @@ fn set_range(words: &mut Vec<u64>, first: u32, last: u32)
     for number in (first / 64) as usize..(last / 64) as usize + 1 {
         words[number] |= bits_between(number as u32, first, last);
     }
-}
-
-/// The bits of a word whose entries are from the first to the last.
-pub fn bits_between(number: u32, first: u32, last: u32) -> u64
-    requires first { first < 64 * number + 64 }
-    requires last { 64 * number ≤ last }
-    ensures { (i : ℕ) → i < 64 → (bit_at result i == 1) ≡ is_between first last (64 * number + i) }
-{
-    let low = first.saturating_sub(64 * number);
-    let high = (last - 64 * number).min(63);
-    (u64::MAX << low) & (u64::MAX >> (63 - high))
 }

@@ -2,13 +2,15 @@
 ghost use Rattle.std.specs.Prelude.{◌≡◌, ℕ, ◌*◌, ◌^◌, ◌<◌, ◌≤◌, ◌==◌, ◌&&◌, ◌||◌, Bool, false, length, All, IfOk};
 ghost use Rattle.std.specs.List.{list_any};
 ghost use Rattle.reh_model.specs.Contents.{is_in_word, one_of};
-ghost use Rattle.reh_held.specs.Rows.{is_set, is_between, entries_in, IsGreatest};
+ghost use Rattle.reh_stripe.specs.Words.{is_between};
+ghost use Rattle.reh_held.specs.Rows.{is_set, entries_in, IsGreatest};
 ghost use Rattle.reh_held.specs.RowTurns.{IsRowTurning};
 ghost use Rattle.reh_held.specs.Tables.{row_at, IsTable};
 ghost use Rattle.reh_held.specs.declared.rows.TheConstants.{MAX_WIDTH};
 
 use crate::rows::{MAX_WIDTH, Row};
 use crate::turns::Turn;
+use reh_stripe::Striped;
 use reh_types::BookieIx;
 use std::alloc::{AllocError, Global};
 use std::marker::Model;
@@ -133,7 +135,7 @@ impl Table {
         &self,
         alloc: Global,
         bookie: BookieIx,
-        entries: &[u32],
+        entries: &Striped,
     ) -> Result<Vec<Turn>, AllocError>
         requires table { IsTable (length self.now.rows) self.now }
         requires bookie { bookie < length self.now.rows }

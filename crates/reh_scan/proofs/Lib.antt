@@ -3,4 +3,4 @@ pub mod PlaceLaws
 pub mod PostLaws
 pub mod ReadingLaws
 pub mod SurveyLaws
-pub mod MaskLaws
+pub mod WordLaws

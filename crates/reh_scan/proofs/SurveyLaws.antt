@@ -7,27 +7,14 @@ use Rattle.std.specs.Int.{bit_at, bit_not, w64}
 use Rattle.std.specs.Int.Count.{ones}
 use Rattle.std.specs.List.{enumerate_from, flat_map, range_with_len}
 use Rattle.std.proofs.lemmas.Bool.Decides.{nat_tests}
-use Rattle.std.proofs.lemmas.Nat.Bits.{bit_at-lt, bit_at_not}
 use Rattle.std.proofs.lemmas.List.Sums.{count_by-le-length}
 use Rattle.std.proofs.lemmas.Grind.{flat_map-append}
 use Rattle.std.proofs.lemmas.List.FromFn.{length-range_with_len, length-enumerate_from, get_or-enumerate_from}
 use Rattle.std.proofs.lemmas.List.{append-nil, drop_min, drop_more, get_or-drop, get_or-map, length-map, take_all, take_min, take_more}
-use Rattle.reh_held.specs.Rows.{is_between}
+use Rattle.reh_stripe.specs.Words.{has_bit, is_between}
+use Rattle.reh_stripe.proofs.WordLaws.{has_bit-and, has_bit-not}
 use Rattle.reh_held.proofs.CountLaws.{count-cons, count-range, count-append, count-ones}
 use Rattle.reh_model.specs.Striping.{range}
-use Rattle.reh_scan.specs.Masks.{has_bit}
-use Rattle.reh_scan.proofs.MaskLaws.{has_bit-and}
-
--- Bits
-
-not_one : (b : ℕ) → b < 2 → (1 - b == 1) ≡ not (b == 1)
-not_one zero within = refl
-not_one (suc zero) within = refl
-not_one (suc (suc b)) within = absurd (omega arith)
-
-has_bit-not : (w i : ℕ) → w < 2 ^ 64 → i < 64 → has_bit (bit_not w64 w) i ≡ not (has_bit w i)
-has_bit-not w i within inside =
-    ap (λ (b : ℕ). b == 1) (bit_at_not w64 w i within inside) ∙ not_one (bit_at w i) (bit_at-lt w i)
 
 -- Counts
 

@@ -1,6 +1,5 @@
 pub mod Costs
 pub mod Jobs
-pub mod Masks
 pub mod Places
 pub mod Posts
 pub mod Sources

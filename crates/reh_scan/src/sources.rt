@@ -1,17 +1,18 @@
 // From which members of an ensemble an entry can be copied.
-ghost use Rattle.std.specs.Prelude.{◌≡◌, ℕ, ◌<◌, length, not};
+ghost use Rattle.std.specs.Prelude.{◌≡◌, ℕ, ◌+◌, ◌*◌, ◌^◌, ◌<◌, length, not};
 ghost use Rattle.std.specs.List.{find, list_any};
 ghost use Rattle.reh_model.specs.Metadata.{IsMetadata};
 ghost use Rattle.reh_model.specs.Cluster as cluster;
 ghost use Rattle.reh_model.specs.Cluster.{is_source};
 ghost use Rattle.reh_model.specs.Striping as stripe;
 ghost use Rattle.reh_held.specs.Rows.{is_set};
-ghost use Rattle.reh_scan.specs.Sources.{is_set_at, is_source_at};
+ghost use Rattle.reh_stripe.specs.Words.{has_bit};
+ghost use Rattle.reh_scan.specs.Sources.{is_set_at, is_source_at, sizes_of};
 
 use reh_cluster::{Ledger, State};
-use reh_held::is_set;
+use reh_held::{is_set, word_at};
 use reh_meta::{Fragment, LedgerMeta};
-use reh_stripe::{Striped, write_set};
+use reh_stripe::{Masks, Striped, Word, least_entry, write_set};
 use reh_types::{BookieIx, MAX_ENSEMBLE_SIZE};
 
 /// The least of the entries that can't be read.
@@ -27,8 +28,11 @@ pub fn first_unreadable(
 {
     let metadata = ledger.metadata();
     let rows = source_rows(state, ledger, fragment);
-    for entry in entries {
-        if !is_readable(&rows, metadata, entry) {
+    let masks = masks_of(metadata);
+    for word in entries.words() {
+        let number = word.number;
+        let bits = word.bits & !readable_word(&rows, &masks, metadata, number);
+        if let Some(entry) = least_entry(Word { number, bits }) {
             return Some(entry);
         }
     }
@@ -63,6 +67,30 @@ pub fn source_row<'a>(state: &'a State, ledger: &Ledger, bookie: BookieIx) -> &'
     } else {
         &[]
     }
+}
+
+/// Which entries of a word the indexes of the ledger's ensembles carry.
+pub fn masks_of(metadata: &LedgerMeta) -> Masks
+    ensures { result ≡ sizes_of metadata.now }
+{
+    Masks::new(metadata.size(), metadata.write_quorum())
+}
+
+/// The entries of a word that are in some row at an index of their write sets.
+pub fn readable_word(rows: &Rows<'_>, masks: &Masks, metadata: &LedgerMeta, number: u32) -> u64
+    requires masks { masks.now ≡ sizes_of metadata.now }
+    requires number { 64 * number < 2 ^ 32 }
+    ensures { (i : ℕ) → i < 64 → has_bit result i ≡ list_any (is_set_at rows.now (64 * number + i))
+        (stripe.write_set (64 * number + i) metadata.now.size metadata.now.write_quorum) }
+{
+    let size = metadata.size();
+    let start = 64 * number % size;
+    let mut readable = 0;
+    for index in 0..size {
+        let carried = masks.carried(start, index);
+        readable |= word_at(rows[index as usize], number as usize) & carried;
+    }
+    readable
 }
 
 /// Whether the entry is in one of the rows at the indexes of its write set.

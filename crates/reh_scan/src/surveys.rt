@@ -1,23 +1,19 @@
 // What can't be read any more.
-ghost use Rattle.std.specs.Prelude.{◌≡◌, ℕ, ◌+◌, ◌-◌, ◌*◌, ◌%◌, ◌^◌, ◌<◌, ◌≤◌, ◌++◌, length, not, Some, count_by};
-ghost use Rattle.std.specs.Prelude.{drop, slice_index, take, IfOk, OnOk};
+ghost use Rattle.std.specs.Prelude.{◌≡◌, ◌+◌, ◌^◌, ◌<◌, ◌≤◌, ◌++◌, length, not, Some, count_by};
+ghost use Rattle.std.specs.Prelude.{drop, take, IfOk, OnOk};
 ghost use Rattle.std.specs.List.{list_any};
 ghost use Rattle.std.specs.Option.{IsSome};
-ghost use Rattle.reh_types.specs.declared.limits.TheConstants.{MAX_ENSEMBLE_SIZE};
 ghost use Rattle.reh_model.specs.Striping as stripe;
 ghost use Rattle.reh_model.specs.Striping.{range};
-ghost use Rattle.reh_model.specs.Metadata.{IsMetadata};
 ghost use Rattle.reh_model.specs.Cluster as cluster;
 ghost use Rattle.reh_model.specs.Survey as model;
-ghost use Rattle.reh_scan.specs.Sources.{is_set_at};
-ghost use Rattle.reh_scan.specs.Masks.{has_bit, IsMask, AreMasks};
+ghost use Rattle.reh_scan.specs.Sources.{is_set_at, sizes_of};
 
-use crate::sources::{Rows, source_rows};
+use crate::sources::{Rows, masks_of, readable_word, source_rows};
 use reh_cluster::{Ledger, State};
-use reh_held::bits_between;
 use reh_meta::{Fragment, LedgerMeta};
-use reh_stripe::{Striped, rank_from};
-use reh_types::{LedgerId, MAX_ENSEMBLE_SIZE, SurveyLine};
+use reh_stripe::{Masks, bits_between};
+use reh_types::{LedgerId, SurveyLine};
 use std::alloc::{AllocError, Global};
 
 /// The lines of all fragments, in picture order.
@@ -78,7 +74,7 @@ fn push_run(
     }
     let metadata = ledger.metadata();
     let fragments = metadata.fragments();
-    let masks = stripe_masks(metadata);
+    let masks = masks_of(metadata);
     for number in first..first + count {
         lines.push(fragment_line(state, ledger, &masks, number, &fragments[number]))?;
     }
@@ -93,7 +89,7 @@ pub fn survey_line(state: &State, ledger: LedgerId, fragment: u64) -> SurveyLine
     let found = state.ledger(ledger).unwrap();
     let number = fragment as usize;
     let metadata = found.metadata();
-    let masks = stripe_masks(metadata);
+    let masks = masks_of(metadata);
     fragment_line(state, found, &masks, number, &metadata.fragments()[number])
 }
 
@@ -106,7 +102,7 @@ fn fragment_line(
     fragment: &Fragment,
 ) -> SurveyLine
     requires ensemble { length fragment.now.ensemble ≡ ledger.now.metadata.size }
-    requires masks { AreMasks ledger.now.metadata.size ledger.now.metadata.write_quorum masks.now }
+    requires masks { masks.now ≡ sizes_of ledger.now.metadata }
     ensures { result ≡ model.line_of state.now ledger.now number fragment.now }
 {
     SurveyLine {
@@ -140,7 +136,7 @@ fn lost_of(
     fragment: &Fragment,
 ) -> Option<u32>
     requires ensemble { length fragment.now.ensemble ≡ ledger.now.metadata.size }
-    requires masks { AreMasks ledger.now.metadata.size ledger.now.metadata.write_quorum masks.now }
+    requires masks { masks.now ≡ sizes_of ledger.now.metadata }
     ensures { result ≡ model.lost_of state.now ledger.now number fragment.now }
 {
     let stop = ledger.metadata().end_of(number)?;
@@ -150,7 +146,7 @@ fn lost_of(
 /// How many entries from the fragment's first one up to, not including, the stop can't be read.
 fn count_lost(state: &State, ledger: &Ledger, masks: &Masks, fragment: &Fragment, stop: u32) -> u32
     requires ensemble { length fragment.now.ensemble ≡ ledger.now.metadata.size }
-    requires masks { AreMasks ledger.now.metadata.size ledger.now.metadata.write_quorum masks.now }
+    requires masks { masks.now ≡ sizes_of ledger.now.metadata }
     ensures { result ≡ count_by
         (λ e. not (cluster.is_readable state.now ledger.now fragment.now e))
         (range fragment.now.first stop) }
@@ -172,7 +168,7 @@ fn count_lacking(
     first: u32,
     last: u32,
 ) -> u32
-    requires masks { AreMasks metadata.now.size metadata.now.write_quorum masks.now }
+    requires masks { masks.now ≡ sizes_of metadata.now }
     requires order { first ≤ last }
     requires last { last + 1 < 2 ^ 32 }
     ensures { result ≡ count_by
@@ -186,74 +182,4 @@ fn count_lacking(
         count += lacking.count_ones() as usize;
     }
     count as u32
-}
-
-/// The entries of a word that are in some row at an index of their write sets.
-fn readable_word(rows: &Rows<'_>, masks: &Masks, metadata: &LedgerMeta, number: u32) -> u64
-    requires masks { AreMasks metadata.now.size metadata.now.write_quorum masks.now }
-    requires number { 64 * number < 2 ^ 32 }
-    ensures { (i : ℕ) → i < 64 → has_bit result i ≡ list_any (is_set_at rows.now (64 * number + i))
-        (stripe.write_set (64 * number + i) metadata.now.size metadata.now.write_quorum) }
-{
-    let size = metadata.size();
-    let start = 64 * number % size;
-    let mut readable = 0;
-    for index in 0..size {
-        let mask = masks[rank_from(start, index, size) as usize];
-        readable |= word_at(rows[index as usize], number as usize) & mask;
-    }
-    readable
-}
-
-/// A word of a row, which has no entry past its words.
-fn word_at(row: &[u64], number: usize) -> u64
-    ensures { result ≡ slice_index row.now number }
-{
-    match row.get(number) {
-        Some(word) => *word,
-        None => 0,
-    }
-}
-
-/// A mask for each index of an ensemble: which of the entries from 0 to 63 it carries.
-type Masks = [u64; MAX_ENSEMBLE_SIZE as usize];
-
-/// The masks of the ledger's ensembles.
-fn stripe_masks(metadata: &LedgerMeta) -> Masks
-    ensures { AreMasks metadata.now.size metadata.now.write_quorum result }
-{
-    let mut masks = [0; MAX_ENSEMBLE_SIZE as usize];
-    masks[0] = first_mask(metadata);
-    for index in 1..metadata.size() {
-        let place = index as usize;
-        masks[place] = next_mask(metadata, index, masks[place - 1]);
-    }
-    masks
-}
-
-/// The mask of index 0 of the ledger's ensembles.
-fn first_mask(metadata: &LedgerMeta) -> u64
-    ensures { IsMask metadata.now.size metadata.now.write_quorum 0 result }
-{
-    let mut mask = 0;
-    for entry in Striped::new(0, 64, 0, metadata.size(), metadata.write_quorum()) {
-        mask |= 1 << entry;
-    }
-    mask
-}
-
-/// The mask of a further index: what the index before it carries, one entry later.
-fn next_mask(metadata: &LedgerMeta, index: u32, before: u64) -> u64
-    requires well_formed { IsMetadata metadata.now }
-    requires some { 1 ≤ index }
-    requires inside { index < metadata.now.size }
-    requires mask { IsMask metadata.now.size metadata.now.write_quorum (index - 1) before }
-    ensures { IsMask metadata.now.size metadata.now.write_quorum index result }
-{
-    let later = before << 1;
-    if index < metadata.write_quorum() {
-        later | 1
-    } else {
-        later
-    }
 }

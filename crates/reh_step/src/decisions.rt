@@ -17,12 +17,12 @@ ghost use Rattle.reh_step.specs.Places.{IsPlace};
 use crate::recoveries::{find_end, last_fragment, next_entry};
 use reh_audit::{has_news, is_under, under_of};
 use reh_cluster::{Ledger, State};
-use reh_held::is_set;
+use reh_held::word_at;
 use reh_meta::Fragment;
 use reh_scan::{
     Found, check_bookie, check_member, check_place, find_ledger, find_owned, first_unreadable,
 };
-use reh_stripe::Striped;
+use reh_stripe::{Striped, Word, least_entry};
 use reh_types::{
     Aim, BookieIx, CLOCK_END, ENTRY_END, Event, LedgerId, LedgerState, MAX_FRAGMENTS, MAX_TICKS,
     MAX_VERSION, Refusal,
@@ -447,8 +447,10 @@ fn first_lacked(state: &State, bookie: BookieIx, ledger: &Ledger, entries: Strip
     ensures { result ≡ find (λ e. not (cluster.holds state.now bookie ledger.now.id e)) entries }
 {
     let row = state.row(bookie, ledger.id());
-    for entry in entries {
-        if !is_set(row, entry) {
+    for word in entries.words() {
+        let number = word.number;
+        let bits = word.bits & !word_at(row, number as usize);
+        if let Some(entry) = least_entry(Word { number, bits }) {
             return Some(entry);
         }
     }

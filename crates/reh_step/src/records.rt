@@ -218,7 +218,7 @@ pub(crate) fn seal(
     push(&mut list, Change::Metadata { place, metadata })?;
     for bookie in 0..state.names().len() {
         let bookie = BookieIx(bookie as u8);
-        let entries = recovered_by(alloc, state, found.ledger, end, bookie)?;
+        let entries = recovered_by(state, found.ledger, end, bookie);
         let turns = state.delta_of(alloc, bookie, ledger, &entries)?;
         push_words(&mut list, bookie, ledger, &turns)?;
     }
@@ -296,7 +296,6 @@ pub fn copy_record(
         (Copy aim.now.worker aim.now.ledger aim.now.fragment aim.now.index version)) }
 {
     let _well_formed = state.names();
-    let entries = listed(alloc, entries)?;
     let turns = state.delta_of(alloc, aim.worker, aim.ledger, &entries)?;
     let mut list = Vec::with_capacity(alloc, turns.len())?;
     push_words(&mut list, aim.worker, aim.ledger, &turns)?;
@@ -327,30 +326,19 @@ fn without_due(alloc: Global, found: Found<'_>, metadata: LedgerMeta) -> Result<
     Ok(Changes::of(list))
 }
 
-/// The entries that a recovery of the ledger up to this end writes back to the bookie, as a list; none for one that
-/// isn't
+/// The entries that a recovery of the ledger up to this end writes back to the bookie; none for one that isn't
 /// registered, or is no member of the last ensemble.
-fn recovered_by(
-    alloc: Global,
-    state: &State,
-    ledger: &Ledger,
-    end: u32,
-    bookie: BookieIx,
-) -> Result<Vec<u32>, AllocError>
+fn recovered_by(state: &State, ledger: &Ledger, end: u32, bookie: BookieIx) -> Striped
     requires { end ≡ recovered_end state.now ledger.now }
-    ensures { IfOk result
-        (λ entries. entries.items ≡ records.recovered_by state.now ledger.now bookie) }
+    ensures { result ≡ records.recovered_by state.now ledger.now bookie }
 {
     let metadata = ledger.metadata();
     let (size, quorum) = (metadata.size(), metadata.write_quorum());
     let last = last_fragment(ledger);
     let Some(index) = registered_index(state, last, bookie) else {
-        return Ok(Vec::new(alloc));
+        return Striped::new(last.first, last.first, 0, size, quorum);
     };
-    listed(
-        alloc,
-        Striped::new(last.first, end, index as u32, size, quorum),
-    )
+    Striped::new(last.first, end, index as u32, size, quorum)
 }
 
 /// The index of the bookie in the fragment's ensemble, if it is there and registered.
@@ -374,14 +362,7 @@ fn member_index(fragment: &Fragment, bookie: BookieIx) -> Option<usize>
         .position(|member| *member == bookie)
 }
 
-// Entries and words
-
-/// The entries as a list.
-fn listed(alloc: Global, entries: Striped) -> Result<Vec<u32>, AllocError>
-    ensures { IfOk result (λ listed. listed.items ≡ entries) }
-{
-    entries.collect(alloc)
-}
+// Changes
 
 /// Adds a change.
 fn push(list: &mut Vec<Change<LedgerMeta>>, change: Change<LedgerMeta>) -> Result<(), AllocError>

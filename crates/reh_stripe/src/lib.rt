@@ -1,10 +1,16 @@
 // Which members of an ensemble carry an entry: BookKeeper's round-robin distribution.
 #![tactic(auto)]
 
+mod masks;
 mod striped;
+mod striped_words;
+mod words;
 mod writes;
 
+pub use masks::Masks;
 pub use striped::{Striped, is_striped, rank_from};
+pub use striped_words::StripedWords;
+pub use words::{Word, bits_between, least_entry};
 pub use writes::{WriteSet, write_set};
 
 #[cfg(test)]

@@ -3,7 +3,10 @@ ghost use Rattle.std.specs.Prelude.{◌≡◌, ◌+◌, ◌-◌, ◌%◌, ◌<�
 ghost use Rattle.std.specs.Iterator.{YieldsFirst, item_count};
 ghost use Rattle.reh_types.specs.declared.limits.TheConstants.{MAX_ENSEMBLE_SIZE};
 ghost use Rattle.reh_model.specs.Striping as stripe;
+ghost use Rattle.reh_stripe.specs.Words.{AreRising, entries_of};
 
+use crate::masks::Masks;
+use crate::striped_words::{StripedWords, end_word};
 use crate::writes::wrapped;
 use std::marker::Model;
 
@@ -95,6 +98,30 @@ impl Striped {
             index: self.index,
             size: self.size,
             quorum: self.quorum,
+        }
+    }
+
+    /// The entries that are left, word by word.
+    pub fn words(&self) -> StripedWords
+        ensures entries { entries_of result ≡ self.now }
+        ensures rising { AreRising 0 result }
+    {
+        let number = self.at / 64;
+        let end = if self.index < self.size {
+            end_word(self.at, self.stop)
+        } else {
+            number
+        };
+        StripedWords {
+            number,
+            end,
+            first: self.at,
+            last: self.stop.saturating_sub(1),
+            index: self.index,
+            start: 64 * number % self.size,
+            step: 64 % self.size,
+            size: self.size,
+            masks: Masks::new(self.size, self.quorum),
         }
     }
 }

@@ -1,5 +1,5 @@
 // Striping as BookKeeper's documentation shows it, and of a small ledger.
-use crate::{Striped, is_striped, write_set};
+use crate::{Striped, Word, is_striped, least_entry, write_set};
 
 /// Five bookies and a write quorum of three: an entry goes round the ensemble, one bookie further each time.
 #[test]
@@ -31,4 +31,33 @@ fn stripes_the_entries_of_a_ledger(rt: HostRuntime) {
     ] {
         assert_eq!(rt; is_striped(entry, 1, 3, 2), carried, "entry {entry}");
     }
+}
+
+/// Stripes that begin about the end of a word, and the last entry that there can be.
+#[test]
+fn goes_word_by_word(rt: HostRuntime) {
+    let around = [
+        Word {
+            number: 0,
+            bits: 1 << 63,
+        },
+        Word { number: 1, bits: 3 },
+    ];
+    assert!(rt; Striped::new(63, 66, 0, 1, 1).words().eq(around));
+    assert!(rt;
+        Striped::new(64, 66, 1, 3, 2)
+            .words()
+            .eq([Word { number: 1, bits: 1 }])
+    );
+    assert!(rt;
+        Striped::new(65, 70, 15, 16, 1)
+            .words()
+            .eq([Word { number: 1, bits: 0 }])
+    );
+    let last = Word {
+        number: 1023,
+        bits: 1 << 63,
+    };
+    assert!(rt; Striped::new(65535, 65536, 15, 16, 1).words().eq([last]));
+    assert_eq!(rt; least_entry(last), Some(65535));
 }

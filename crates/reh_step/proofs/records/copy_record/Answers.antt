@@ -15,7 +15,7 @@ delta_of-requires-clause-entries c =
     let s : Cluster = c.args.state.now in
     let aim : Aim = c.args.aim.now in
     subst (λ (es : List ℕ). All (λ e. e < 64 * words_among s.parts.ledgers aim.ledger) es)
-    (sym (c.deref.ensures.value ∙ c.in_ok-entries.ensures ∙ c.requires.entries))
+    (sym c.requires.entries)
     (copied_within s aim.worker aim.ledger aim.fragment aim.index c.args.version c.names-well_formed.ensures.well_formed
     c.requires.accepted)
 
@@ -24,13 +24,13 @@ of-requires c =
     let s : Cluster = c.args.state.now in
     let aim : Aim = c.args.aim.now in
     let turning : IsTurning (words_among s.parts.ledgers aim.ledger) aim.worker aim.ledger s.parts.held
-    (union s.parts.held (copies_of aim.worker aim.ledger c.deref.result.now)) c.deref-2.result.now = rw
-    c.deref-2.ensures.value c.in_ok-turns.ensures in
-    (copy_listed s aim.worker aim.ledger aim.fragment aim.index c.args.version c.deref.result.now c.deref-2.result.now
+    (union s.parts.held (copies_of aim.worker aim.ledger c.args.entries)) c.deref.result.now = rw
+    c.deref.ensures.value c.in_ok-turns.ensures in
+    (copy_listed s aim.worker aim.ledger aim.fragment aim.index c.args.version c.args.entries c.deref.result.now
     c.push_words.new.list.items c.names-well_formed.ensures.well_formed c.requires.accepted
-    (c.deref.ensures.value ∙ c.in_ok-entries.ensures ∙ c.requires.entries) turning
+    c.requires.entries turning
     (c.in_ok-push_words.ensures
-    ∙ ap (λ (cs : List Change). cs ++ word_changes aim.worker aim.ledger c.deref-2.result.now)
+    ∙ ap (λ (cs : List Change). cs ++ word_changes aim.worker aim.ledger c.deref.result.now)
     c.in_ok-list.ensures.items)).rising
 
 pub returns : goal.returns
@@ -38,12 +38,12 @@ returns c =
     let s : Cluster = c.args.state.now in
     let aim : Aim = c.args.aim.now in
     let turning : IsTurning (words_among s.parts.ledgers aim.ledger) aim.worker aim.ledger s.parts.held
-    (union s.parts.held (copies_of aim.worker aim.ledger c.deref.result.now)) c.deref-2.result.now = rw
-    c.deref-2.ensures.value c.in_ok-turns.ensures in
+    (union s.parts.held (copies_of aim.worker aim.ledger c.args.entries)) c.deref.result.now = rw
+    c.deref.ensures.value c.in_ok-turns.ensures in
     rw c.of.ensures
-    (copy_listed s aim.worker aim.ledger aim.fragment aim.index c.args.version c.deref.result.now c.deref-2.result.now
+    (copy_listed s aim.worker aim.ledger aim.fragment aim.index c.args.version c.args.entries c.deref.result.now
     c.push_words.new.list.items c.names-well_formed.ensures.well_formed c.requires.accepted
-    (c.deref.ensures.value ∙ c.in_ok-entries.ensures ∙ c.requires.entries) turning
+    c.requires.entries turning
     (c.in_ok-push_words.ensures
-    ∙ ap (λ (cs : List Change). cs ++ word_changes aim.worker aim.ledger c.deref-2.result.now)
+    ∙ ap (λ (cs : List Change). cs ++ word_changes aim.worker aim.ledger c.deref.result.now)
     c.in_ok-list.ensures.items))

@@ -1,9 +1,9 @@
 -- A registered member gets what is striped onto its index; others get nothing.
 use Rattle.std.proofs.Common.{◌≡◌, ◌∙◌, None, Some, ap, sym, subst, arith}
-use Rattle.std.proofs.lemmas.Result.{IfOk-weaker}
 use Rattle.reh_model.specs.Metadata.{Metadata, Fragment, IsMetadata, last_fragment}
 use Rattle.reh_model.specs.Striping.{striped_entries}
 use Rattle.reh_model.specs.Cluster.{Cluster, Ledger}
+use Rattle.reh_model.proofs.StripingLaws.{striped_entries-nil}
 use Rattle.reh_model.specs.Recovery.{recovered_end}
 use Rattle.reh_step.specs.Records.{registered_index, recovered_by}
 use Rattle.reh_step.proofs.SealLaws.{recovered_none, registered_within, recovered_member}
@@ -16,7 +16,9 @@ returns-in_default c =
     let nowhere : registered_index s (last_fragment g.metadata).ensemble c.args.bookie ≡ None =
     ap (λ (fragment : Fragment). registered_index s fragment.ensemble c.args.bookie)
     (sym c.last_fragment-last.ensures.last) ∙ sym c.registered_index.ensures ∙ c.in_default.is in
-    c.new.ensures.items
+    c.new.ensures
+    ∙ striped_entries-nil c.last.inside.first c.last.inside.first 0 c.size-size.result c.write_quorum-quorum.result
+    (omega arith)
     ∙ sym
     (recovered_none s g c.args.bookie (subst IsMetadata c.metadata-metadata.ensures c.size-size.ensures.well_formed)
     nowhere)
@@ -51,5 +53,6 @@ returns c =
     c.in-Some.index m.size m.write_quorum =
     recovered_member s g c.args.bookie c.in-Some.index
     (subst IsMetadata c.metadata-metadata.ensures c.size-size.ensures.well_formed) somewhere in
-    IfOk-weaker c.listed.result _ (λ entries. entries.items ≡ recovered_by s g c.args.bookie)
-    (λ entries is. is ∙ c.new-2.ensures ∙ (λ i. striped_entries (first i) (c.requires i) c.in-Some.index (size i) (quorum i)) ∙ sym striped) c.listed.ensures
+    c.new-2.ensures
+    ∙ (λ i. striped_entries (first i) (c.requires i) c.in-Some.index (size i) (quorum i))
+    ∙ sym striped

@@ -45,8 +45,8 @@ delta_of-requires-clause-entries c =
     let s : Cluster = c.args.state.now in
     let g : Ledger = c.in_ok-found.found.ledger.now in
     let found = c.in_ok-found.ensures in
-    recovered_within s c.args.ledger g c.loop-bookie.bookie c.deref.result.now found.1.0.well_formed
-    (id_found c.args.ledger s.parts.ledgers g found.1.0.ledger) (c.deref.ensures.value ∙ c.in_ok-entries.ensures)
+    recovered_within s c.args.ledger g c.loop-bookie.bookie c.recovered_by-entries.result found.1.0.well_formed
+    (id_found c.args.ledger s.parts.ledgers g found.1.0.ledger) c.recovered_by-entries.ensures
 
 pub loop-bookie-preserved : goal.loop-bookie-preserved
 loop-bookie-preserved c =
@@ -62,12 +62,12 @@ loop-bookie-preserved c =
           c.names.ensures.names,
     ) in
     let turning : IsTurning (words_among s.parts.ledgers l) c.loop-bookie.bookie l s.parts.held
-    (union s.parts.held (copies_of c.loop-bookie.bookie l c.deref.result.now)) c.deref-in-loop-bookie.result.now = rw
-    c.deref-in-loop-bookie.ensures.value c.in_ok-turns.ensures in
-    sealed_more s l c.in_ok-found.found.place g c.loop-bookie.bookie c.loop-bookie.list.items c.deref.result.now
-    c.deref-in-loop-bookie.result.now c.push_words.new.list.items
+    (union s.parts.held (copies_of c.loop-bookie.bookie l c.recovered_by-entries.result)) c.deref.result.now = rw
+    c.deref.ensures.value c.in_ok-turns.ensures in
+    sealed_more s l c.in_ok-found.found.place g c.loop-bookie.bookie c.loop-bookie.list.items c.recovered_by-entries.result
+    c.deref.result.now c.push_words.new.list.items
     (id_found l s.parts.ledgers g c.in_ok-found.ensures.1.0.ledger) named
-    (c.deref.ensures.value ∙ c.in_ok-entries.ensures) turning c.loop-bookie.invariant c.in_ok-push_words.ensures
+    c.recovered_by-entries.ensures turning c.loop-bookie.invariant c.in_ok-push_words.ensures
 
 pub returns : goal.returns
 returns c =

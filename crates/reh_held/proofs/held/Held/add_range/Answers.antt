@@ -5,7 +5,7 @@ use Rattle.std.specs.FinMap as finite
 use Rattle.std.specs.List.{range_with_len}
 use Rattle.reh_types.specs.Sets as set
 use Rattle.reh_model.specs.Contents.{copies_of}
-use Rattle.reh_held.specs.Rows.{is_between}
+use Rattle.reh_stripe.specs.Words.{is_between}
 use Rattle.reh_held.specs.Tables.{TableValue, IsTable}
 use Rattle.reh_held.specs.Values.{HeldValue}
 use Rattle.reh_held.specs.Kept.{held_of, IsKept}

@@ -1,25 +1,51 @@
--- The turns from the row to one that has the entries too.
-use Rattle.std.proofs.Common.{◌≡◌, ◌<◌, ◌^◌, ◌||◌, ◌==◌, ◌∙◌, ap, subst, List, ℕ, length}
-use Rattle.std.specs.Prelude.{All}
-use Rattle.std.specs.List.{list_any}
+-- Of each word the entries turn that the row lacks.
+use Rattle.std.proofs.Common.{◌≡◌, ◌∙◌, List, [], ◌∷◌, ℕ, slice_index, ap, subst, sym, arith}
+use Rattle.std.specs.Prelude.{bit_and}
+use Rattle.std.specs.Int.{bit_not, w64}
+use Rattle.reh_stripe.specs.declared.words.Word.{Word}
+use Rattle.reh_stripe.specs.Words.{AreRising, entries_of}
 use Rattle.reh_held.specs.declared.turns.Turn.{Turn}
-use Rattle.reh_held.specs.Rows.{is_set}
-use Rattle.reh_held.specs.RowTurns.{turns_between}
-use Rattle.reh_held.proofs.TurnLaws.{turning}
+use Rattle.reh_held.proofs.DeltaLaws.{IsTurningOn, turning-none, turning-same, turning-more, turning-all}
 use Rattle.reh_held.proofs.rows.Row.delta_of.Goals as goal
+
+pub loop-word-init : goal.loop-word-init
+loop-word-init c =
+    let row : List ℕ = c.args.self.now in
+    let entries : List ℕ = c.args.entries.now in
+    let words : c.into_iter-word-iterator.result ≡ c.words-word-items.result =
+    c.into_iter-word-iterator.ensures.into_iter_gives in
+    subst (λ (us : List Turn). IsTurningOn row entries us c.into_iter-word-iterator.result)
+    (sym c.new-turns.ensures.items)
+    (turning-none row entries c.into_iter-word-iterator.result
+    (ap (λ (ws : List Word). entries_of ws) words ∙ c.words-word-items.ensures.entries)
+    (subst (λ (ws : List Word). AreRising 0 ws) (sym words) c.words-word-items.ensures.rising) c.requires)
+
+pub loop-word-preserved : goal.loop-word-preserved
+loop-word-preserved c =
+    let row : List ℕ = c.args.self.now in
+    let entries : List ℕ = c.args.entries.now in
+    let w : Word = c.in-Some.word in
+    let read : c.word_at.result ≡ slice_index row w.number =
+    c.word_at.ensures ∙ ap (λ (ws : List ℕ). slice_index ws w.number) (c.deref.ensures.value ∙ c.self.view_is) in
+    turning-same row entries c.loop-word.turns.items w c.next.new.self c.word_at.result read c.word_at.type_inv
+    c.if-bits-ne0.false
+    (subst (λ (ws : List Word). IsTurningOn row entries c.loop-word.turns.items ws) c.in-Some.ensures.steps
+    c.loop-word.invariant)
+
+pub loop-word-preserved-in-Continue-1 : goal.loop-word-preserved-in-Continue-1
+loop-word-preserved-in-Continue-1 c =
+    let row : List ℕ = c.args.self.now in
+    let entries : List ℕ = c.args.entries.now in
+    let w : Word = c.in-Some.word in
+    let read : c.word_at.result ≡ slice_index row w.number =
+    c.word_at.ensures ∙ ap (λ (ws : List ℕ). slice_index ws w.number) (c.deref.ensures.value ∙ c.self.view_is) in
+    subst (λ (us : List Turn). IsTurningOn row entries us c.next.new.self) (sym c.in_ok-push.ensures.items)
+    (turning-more row entries c.loop-word.turns.items w c.next.new.self c.word_at.result (omega arith) read
+    c.word_at.type_inv c.if-bits-ne0.true
+    (subst (λ (ws : List Word). IsTurningOn row entries c.loop-word.turns.items ws) c.in-Some.ensures.steps
+    c.loop-word.invariant))
 
 pub returns : goal.returns
 returns c =
-    let words : List ℕ = c.args.self.now in
-    let entries : List ℕ = c.args.entries.now in
-    let after : List ℕ = c.insert_all.new.self in
-    let copied : c.in_ok-after.after ≡ words = c.in_ok-after.ensures.cases in
-    let size : length after ≡ length words = c.insert_all.ensures.width ∙ ap (length {A = ℕ}) copied in
-    let turns = c.in_ok-turns.turns.items in
-    let are : turns ≡ turns_between 0 words after =
-    c.in_ok-turns.ensures.turns ∙ (λ i. turns_between 0 (c.as_slice.ensures i) (c.as_slice-2.ensures i)) in
-    let small : All (λ u. u.bits < 2 ^ 64) (turns_between 0 words after) =
-    subst (λ (us : List Turn). All (λ u. u.bits < 2 ^ 64) us) are c.in_ok-turns.ensures.bits in
-    let makes = turning words after (λ e. is_set words e || list_any (λ x. e == x) entries) size small (λ e.
-    c.insert_all.ensures.bits e ∙ ap (λ (ws : List ℕ). is_set ws e || list_any (λ x. e == x) entries) copied) in
-    rw are makes
+    turning-all c.args.self.now c.args.entries.now c.loop-word.turns.items c.loop-word.word-iterator
+    c.in-None.ensures.steps.0 c.loop-word.invariant

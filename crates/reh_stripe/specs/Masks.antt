@@ -1,11 +1,12 @@
 -- Which entries of a word the indexes of an ensemble carry.
-use Rattle.std.specs.Prelude.{◌≡◌, ℕ, ◌<◌, ◌==◌, Bool, List, slice_index}
-use Rattle.std.specs.Int.{bit_at}
+use Rattle.std.specs.Prelude.{◌≡◌, ℕ, ◌<◌, List, slice_index}
 use Rattle.reh_model.specs.Striping.{is_striped}
+use Rattle.reh_stripe.specs.Words.{has_bit}
 
--- whether the bit of the word is set
-abbrev pub has_bit : ℕ → ℕ → Bool
-has_bit word bit = bit_at word bit == 1
+-- an ensemble's size, and its write quorum
+pub record Sizes : Type 0 where
+  pub size : ℕ
+  pub quorum : ℕ
 
 -- the mask has a bit for each of the first 64 entries that the index carries
 abbrev pub IsMask : ℕ → ℕ → ℕ → ℕ → Type 0

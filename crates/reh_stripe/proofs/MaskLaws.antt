@@ -1,40 +1,22 @@
--- Masks of the entries that indexes carry, and words of the entries that some row has.
+-- Masks of the entries that indexes carry.
 use Rattle.std.proofs.Common.{◌≡◌, ◌≢◌, ◌∙◌, ◌+◌, ◌-◌, ◌*◌, ◌/◌, ◌%◌, ◌^◌, ◌<◌, ◌≤◌, ◌&&◌, ◌||◌, Bool, true, false}
-use Rattle.std.proofs.Common.{List, [], ◌∷◌, ℕ, zero, suc, refl, ap, sym, length, get_or, slice_index, Bor, arith}
-use Rattle.std.proofs.Common.{nat_eq, nat_le, nat_lt}
-use Rattle.std.specs.Prelude.{◌==◌, bit_and, bit_or, All}
+use Rattle.std.proofs.Common.{List, [], ◌∷◌, ℕ, zero, suc, refl, ap, sym, slice_index, arith, nat_eq, nat_le, nat_lt}
+use Rattle.std.specs.Prelude.{◌==◌, bit_or, All}
 use Rattle.std.specs.Int.{bit_at, w64}
 use Rattle.std.specs.List.{list_any, range_with_len}
 use Rattle.std.proofs.Math.Bool.{or-false}
 use Rattle.std.proofs.Math.Nat.{add-mod-mod, mod-add-mod, mod-eq_of_lt}
 use Rattle.std.proofs.lemmas.Bool.Decides.{nat_tests}
 use Rattle.std.proofs.lemmas.Nat.{mod_below, div-add-mod'}
-use Rattle.std.proofs.lemmas.Nat.Bits.{bit_at-lt, bit_at-zero, bit_at_lowest, bit_at-suc, bit_at_cat_low, bit_at_and}
-use Rattle.std.proofs.lemmas.Nat.Bits.{bit_at_or, bit_at_set_same, bit_at_set_other}
+use Rattle.std.proofs.lemmas.Nat.Bits.{bit_at-zero, bit_at_lowest, bit_at-suc, bit_at_cat_low}
+use Rattle.std.proofs.lemmas.Nat.Bits.{bit_at_set_same, bit_at_set_other}
 use Rattle.std.proofs.lemmas.List.Elements.{All-filter, All-nil, All-cons}
-use Rattle.std.proofs.lemmas.List.Folds.{list_any-append}
-use Rattle.reh_held.proofs.CountLaws.{range-append}
-use Rattle.reh_held.proofs.RangeLaws.{one_min, one_max}
-use Rattle.reh_model.specs.Striping.{range, index_at, rank_of, is_striped, write_set, striped_entries}
-use Rattle.reh_model.proofs.Ranges.{list_any-map, passes_any, any_passes, same_answer}
-use Rattle.reh_model.proofs.StripingLaws.{index_at-rank_of, rank_of-index_at, is_striped-rank_of, is_striped-ranks}
+use Rattle.reh_model.specs.Striping.{range, index_at, rank_of, is_striped, striped_entries}
+use Rattle.reh_model.proofs.StripingLaws.{index_at-rank_of, rank_of-index_at, is_striped-rank_of}
 use Rattle.reh_model.proofs.StripedLaws.{list_any-striped_entries}
-use Rattle.reh_scan.specs.Sources.{is_set_at}
-use Rattle.reh_scan.specs.Masks.{has_bit, IsMask, AreMasks}
-use Rattle.reh_scan.proofs.ReadingLaws.{is_set_there, any_same_below}
-
--- Bits
-
-pub has_bit-none : (i : ℕ) → has_bit 0 i ≡ false
-has_bit-none i = ap (λ (b : ℕ). b == 1) (bit_at-zero i)
-
-pub has_bit-and : (v w i : ℕ) → has_bit (bit_and v w) i ≡ (has_bit v i && has_bit w i)
-has_bit-and v w i =
-    ap (λ (b : ℕ). b == 1) (bit_at_and v w i) ∙ one_min (bit_at v i) (bit_at w i) (bit_at-lt v i) (bit_at-lt w i)
-
-pub has_bit-or : (v w i : ℕ) → has_bit (bit_or v w) i ≡ (has_bit v i || has_bit w i)
-has_bit-or v w i =
-    ap (λ (b : ℕ). b == 1) (bit_at_or v w i) ∙ one_max (bit_at v i) (bit_at w i) (bit_at-lt v i) (bit_at-lt w i)
+use Rattle.reh_stripe.specs.Masks.{IsMask, AreMasks}
+use Rattle.reh_stripe.specs.Words.{has_bit}
+use Rattle.reh_stripe.proofs.WordLaws.{has_bit-none, has_bit-or}
 
 or_true : (b : Bool) → true ≡ (b || true)
 or_true true = refl
@@ -171,48 +153,7 @@ mask-next_without size quorum before index mask some within is inside was missed
     mask-next size quorum before index mask (mask * 2 % 2 ^ 64) some within is inside was (has_bit-first mask ∙ sym no)
     (λ i in_word. refl)
 
--- A word
-
--- one number more
-any-range-more : (p : ℕ → Bool) (n : ℕ)
-    → list_any p (range_with_len 0 (n + 1)) ≡ (list_any p (range_with_len 0 n) || p n)
-any-range-more p n =
-    let none : 0 + n ≡ n = omega arith in
-    ap (λ (xs : List ℕ). list_any p xs) (range-append 0 n 1)
-    ∙ list_any-append p (range_with_len 0 n) ((0 + n) ∷ [])
-    ∙ ap (λ b. list_any p (range_with_len 0 n) || b) (or-false (p (0 + n)) ∙ ap p none)
-
--- whether the row at the index has the entry of that bit of a word, by the mask of the index's rank
-abbrev pub is_read_at : List (Bor (List ℕ)) → List ℕ → ℕ → ℕ → ℕ → ℕ → Bool
-is_read_at rows masks size number bit index =
-    is_set_at rows (64 * number + bit) index && has_bit (slice_index masks (rank_of (64 * number) index size)) bit
-
--- the word has the bits that the indexes below this one give
-abbrev pub IsRead : List (Bor (List ℕ)) → List ℕ → ℕ → ℕ → ℕ → ℕ → Type 0
-IsRead rows masks size number index word =
-    (i : ℕ) → i < 64 → has_bit word i ≡ list_any (is_read_at rows masks size number i) (range_with_len 0 index)
-
-pub read-none : (rows : List (Bor (List ℕ))) (masks : List ℕ) (size number : ℕ) → IsRead rows masks size number 0 0
-read-none rows masks size number = λ i inside. has_bit-none i
-
-pub read-more : (rows : List (Bor (List ℕ))) (masks : List ℕ) (size number index word read mask : ℕ) (d : Bor (List ℕ))
-    → index < length rows
-    → read ≡ slice_index (get_or rows index d).now number → mask ≡ slice_index masks (rank_of (64 * number) index size)
-    → IsRead rows masks size number index word
-    → IsRead rows masks size number (index + 1) (bit_or word (bit_and read mask))
-read-more rows masks size number index word read mask d within is_read is_mask was = λ i inside.
-    let place : (64 * number + i) / 64 ≡ number = omega arith in
-    let bit : (64 * number + i) % 64 ≡ i = omega arith in
-    let set_there : is_set_at rows (64 * number + i) index ≡ has_bit read i =
-    is_set_there rows index (64 * number + i) d within
-    ∙ ap (λ n. bit_at (slice_index (get_or rows index d).now n) ((64 * number + i) % 64) == 1) place
-    ∙ ap (λ n. bit_at (slice_index (get_or rows index d).now number) n == 1) bit
-    ∙ ap (λ n. has_bit n i) (sym is_read) in
-    has_bit-or word (bit_and read mask) i
-    ∙ (λ j. was i inside j || (has_bit-and read mask i ∙ (λ k. sym set_there k && has_bit (is_mask k) i)) j)
-    ∙ sym (any-range-more (is_read_at rows masks size number i) index)
-
--- The entries of a word
+-- Words
 
 -- ranks go on from word to word
 rank_of-more : (a t i n : ℕ) → i < n → rank_of t (rank_of a i n) n ≡ rank_of (a + t) i n
@@ -230,7 +171,7 @@ rank_of-more a t i n inside =
     sym (rank_of-index_at (a + t) i n j j_in at)
 
 -- a mask of a rank tells which entries of the word the index carries
-has_bit-mask : (masks : List ℕ) (size quorum number i index : ℕ) → 1 ≤ quorum → quorum ≤ size → index < size → i < 64
+pub has_bit-mask : (masks : List ℕ) (size quorum number i index : ℕ) → 1 ≤ quorum → quorum ≤ size → index < size → i < 64
     → AreMasks size quorum masks
     → has_bit (slice_index masks (rank_of (64 * number) index size)) i ≡ is_striped (64 * number + i) index size quorum
 has_bit-mask masks size quorum number i index some within inside bit are =
@@ -240,40 +181,3 @@ has_bit-mask masks size quorum number i index some within inside bit are =
     ∙ is_striped-rank_of i r size quorum some within r_in
     ∙ ap (λ n. nat_lt n quorum) (rank_of-more (64 * number) i index size inside)
     ∙ sym (is_striped-rank_of (64 * number + i) index size quorum some within inside)
-
--- what holds of a member of the write set holds of an index that carries the entry
-any-carried : (p : ℕ → Bool) (e n q : ℕ) → 1 ≤ n
-    → list_any (λ i. p i && is_striped e i n q) (range_with_len 0 n) ≡ list_any p (write_set e n q)
-any-carried p e n q some = same_answer _ _
-    (λ any.
-    let w = any_passes (λ i. p i && is_striped e i n q) 0 n any in
-    let both = both_of (p w.at) (is_striped e w.at n q) w.passes in
-    let v = any_passes (λ j. index_at e n j == w.at) 0 (q - 0) (sym (is_striped-ranks e w.at n q) ∙ both.1) in
-    let same : index_at e n v.at ≡ w.at = grind (arith, nat_tests, v.passes) in
-    list_any-map p (index_at e n) (range 0 q)
-    ∙ passes_any (λ j. p (index_at e n j)) 0 (q - 0) v.at v.from v.below (ap p same ∙ both.0))
-    (λ any.
-    let w = any_passes (λ j. p (index_at e n j)) 0 (q - 0) (sym (list_any-map p (index_at e n) (range 0 q)) ∙ any) in
-    let i : ℕ = index_at e n w.at in
-    let inside : i < n = mod_below (e + w.at) n some in
-    let itself : (index_at e n w.at == i) ≡ true = grind (arith, nat_tests) in
-    let carried : is_striped e i n q ≡ true =
-    is_striped-ranks e i n q ∙ passes_any (λ j. index_at e n j == i) 0 (q - 0) w.at w.from w.below itself in
-    passes_any (λ i. p i && is_striped e i n q) 0 n i (omega arith) (omega arith) (λ j. w.passes j && carried j)) where
-      both_of : (a b : Bool) → (a && b) ≡ true → (a ≡ true) × (b ≡ true)
-      both_of true b is = (refl, is)
-      both_of false b is = cc
-
-pub read-all : (rows : List (Bor (List ℕ))) (masks : List ℕ) (size quorum number word : ℕ) → 1 ≤ quorum → quorum ≤ size
-    → AreMasks size quorum masks → IsRead rows masks size number size word
-    → (i : ℕ) → i < 64
-    → has_bit word i ≡ list_any (is_set_at rows (64 * number + i)) (write_set (64 * number + i) size quorum)
-read-all rows masks size quorum number word some within are was i inside =
-    was i inside
-    ∙ any_same_below (is_read_at rows masks size number i)
-    (λ index. is_set_at rows (64 * number + i) index && is_striped (64 * number + i) index size quorum) size
-    (λ index below.
-    ap (λ b. is_set_at rows (64 * number + i) index && b)
-    (has_bit-mask masks size quorum number i index some within below inside are))
-    (range_with_len 0 size) (below_range 0 size size (omega arith))
-    ∙ any-carried (is_set_at rows (64 * number + i)) (64 * number + i) size quorum (omega arith)
