@@ -1,5 +1,5 @@
 // From which members of an ensemble an entry can be copied.
-ghost use Rattle.std.specs.Prelude.{◌≡◌, ℕ, ◌+◌, ◌*◌, ◌^◌, ◌<◌, length, not};
+ghost use Rattle.std.specs.Prelude.{◌≡◌, ℕ, ◌+◌, ◌*◌, ◌%◌, ◌^◌, ◌<◌, length, not};
 ghost use Rattle.std.specs.List.{find, list_any};
 ghost use Rattle.reh_model.specs.Metadata.{IsMetadata};
 ghost use Rattle.reh_model.specs.Cluster as cluster;
@@ -31,7 +31,8 @@ pub fn first_unreadable(
     let masks = masks_of(metadata);
     for word in entries.words() {
         let number = word.number;
-        let bits = word.bits & !readable_word(&rows, &masks, metadata, number);
+        let start = 64 * number % metadata.size();
+        let bits = word.bits & !readable_word(&rows, &masks, metadata, start, number);
         if let Some(entry) = least_entry(Word { number, bits }) {
             return Some(entry);
         }
@@ -76,17 +77,23 @@ pub fn masks_of(metadata: &LedgerMeta) -> Masks
     Masks::new(metadata.size(), metadata.write_quorum())
 }
 
-/// The entries of a word that are in some row at an index of their write sets.
-pub fn readable_word(rows: &Rows<'_>, masks: &Masks, metadata: &LedgerMeta, number: u32) -> u64
+/// The entries of a word that are in some row at an index of their write sets. The word's first entry has its rank 0 at
+/// the index `start`.
+pub fn readable_word(
+    rows: &Rows<'_>,
+    masks: &Masks,
+    metadata: &LedgerMeta,
+    start: u32,
+    number: u32,
+) -> u64
     requires masks { masks.now ≡ sizes_of metadata.now }
+    requires start { start ≡ (64 * number) % metadata.now.size }
     requires number { 64 * number < 2 ^ 32 }
     ensures { (i : ℕ) → i < 64 → has_bit result i ≡ list_any (is_set_at rows.now (64 * number + i))
         (stripe.write_set (64 * number + i) metadata.now.size metadata.now.write_quorum) }
 {
-    let size = metadata.size();
-    let start = 64 * number % size;
     let mut readable = 0;
-    for index in 0..size {
+    for index in 0..metadata.size() {
         let carried = masks.carried(start, index);
         readable |= word_at(rows[index as usize], number as usize) & carried;
     }

@@ -12,7 +12,7 @@ ghost use Rattle.reh_scan.specs.Sources.{is_set_at, sizes_of};
 use crate::sources::{Rows, masks_of, readable_word, source_rows};
 use reh_cluster::{Ledger, State};
 use reh_meta::{Fragment, LedgerMeta};
-use reh_stripe::{Masks, bits_between};
+use reh_stripe::{Masks, bits_between, wrapped};
 use reh_types::{LedgerId, SurveyLine};
 use std::alloc::{AllocError, Global};
 
@@ -175,11 +175,14 @@ fn count_lacking(
         (λ e. not (list_any (is_set_at rows.now e) (stripe.write_set e metadata.now.size metadata.now.write_quorum)))
         (range first (last + 1)) }
 {
+    let size = metadata.size();
+    let mut start = 64 * (first / 64) % size;
     let mut count = 0;
     for number in first / 64..last / 64 + 1 {
-        let readable = readable_word(rows, masks, metadata, number);
+        let readable = readable_word(rows, masks, metadata, start, number);
         let lacking = bits_between(number, first, last) & !readable;
         count += lacking.count_ones() as usize;
+        start = wrapped(start + 64 % size, size);
     }
     count as u32
 }

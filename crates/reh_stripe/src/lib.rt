@@ -11,7 +11,7 @@ pub use masks::Masks;
 pub use striped::{Striped, is_striped, rank_from};
 pub use striped_words::StripedWords;
 pub use words::{Word, bits_between, least_entry};
-pub use writes::{WriteSet, write_set};
+pub use writes::{WriteSet, wrapped, write_set};
 
 #[cfg(test)]
 mod tests;

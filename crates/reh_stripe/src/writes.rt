@@ -66,7 +66,7 @@ impl Iterator for WriteSet {
 }
 
 /// A number below twice the size, round an ensemble of this size.
-pub(crate) fn wrapped(number: u32, size: u32) -> u32
+pub fn wrapped(number: u32, size: u32) -> u32
     requires { number < 2 * size }
     ensures { result ≡ number % size }
 {

@@ -9,20 +9,21 @@ use Rattle.reh_scan.proofs.sources.readable_word.Goals as goal
 
 pub carried-carried-requires-clause-start : goal.carried-carried-requires-clause-start
 carried-carried-requires-clause-start c =
-    let rules_of : IsMetadata c.args.metadata.now = c.size-size.ensures.well_formed in
-    let size : c.size-size.result ≡ c.args.masks.now.size =
-    c.size-size.ensures.size ∙ ap (λ (v : Sizes). v.size) (sym c.requires.masks) in
+    let m : Metadata = c.args.metadata.now in
+    let rules_of : IsMetadata m = c.size-index-end.ensures.well_formed in
+    let size : m.size ≡ c.args.masks.now.size = ap (λ (v : Sizes). v.size) (sym c.requires.masks) in
     omega (
       arith,
       size,
-      mod_below (64 * c.args.number) c.size-size.result
-          (omega (arith, c.size-size.ensures.size, rules_of.some_acks, rules_of.acks_within, rules_of.writes_within)),
+      c.requires.start,
+      mod_below (64 * c.args.number) m.size
+          (omega (arith, rules_of.some_acks, rules_of.acks_within, rules_of.writes_within)),
     )
 
 pub carried-carried-requires-clause-index : goal.carried-carried-requires-clause-index
 carried-carried-requires-clause-index c =
-    let size : c.size-size.result ≡ c.args.masks.now.size =
-    c.size-size.ensures.size ∙ ap (λ (v : Sizes). v.size) (sym c.requires.masks) in
+    let size : c.size-index-end.result ≡ c.args.masks.now.size =
+    c.size-index-end.ensures.size ∙ ap (λ (v : Sizes). v.size) (sym c.requires.masks) in
     omega (arith, size)
 
 pub loop-index-preserved : goal.loop-index-preserved
@@ -30,22 +31,21 @@ loop-index-preserved c =
     let m : Metadata = c.args.metadata.now in
     let index : ℕ = c.loop-index.index in
     let number : ℕ = c.args.number in
-    let rules_of : IsMetadata m = c.size-size.ensures.well_formed in
+    let rules_of : IsMetadata m = c.size-index-end.ensures.well_formed in
     let inside : index < length c.args.rows.now =
-    omega (arith, rules_of.small, c.size-size.ensures.size, c.told-rows) in
-    let size : c.size-size.result ≡ c.args.masks.now.size =
-    c.size-size.ensures.size ∙ ap (λ (v : Sizes). v.size) (sym c.requires.masks) in
+    omega (arith, rules_of.small, c.size-index-end.ensures.size, c.told-rows) in
+    let size : m.size ≡ c.args.masks.now.size = ap (λ (v : Sizes). v.size) (sym c.requires.masks) in
     read-more c.args.rows.now m.size m.write_quorum number index c.loop-index.readable c.word_at.result
     c.carried-carried.result _ inside
     c.word_at.ensures
-    (λ i in_word. c.carried-carried.ensures number i (ap (λ n. (64 * number) % n) size) in_word
+    (λ i in_word. c.carried-carried.ensures number i (c.requires.start ∙ ap (λ n. (64 * number) % n) size) in_word
     ∙ ap (λ (v : Sizes). is_striped (64 * number + i) index v.size v.quorum) c.requires.masks) c.loop-index.invariant
 
 pub returns : goal.returns
 returns c =
     let m : Metadata = c.args.metadata.now in
-    let rules_of : IsMetadata m = c.size-size.ensures.well_formed in
-    let all : c.loop-index.index ≡ m.size = omega (arith, c.size-size.ensures.size) in
+    let rules_of : IsMetadata m = c.size-index-end.ensures.well_formed in
+    let all : c.loop-index.index ≡ m.size = omega (arith, c.size-index-end.ensures.size) in
     let was =
     subst (λ (n : ℕ). IsRead c.args.rows.now m.size m.write_quorum c.args.number n c.loop-index.readable) all
     c.loop-index.invariant in
