@@ -13,7 +13,7 @@ use Rattle.std.proofs.lemmas.List.FromFn.{length-range_with_len, length-enumerat
 use Rattle.std.proofs.lemmas.List.{append-nil, drop_min, drop_more, get_or-drop, get_or-map, length-map, take_all, take_min, take_more}
 use Rattle.reh_stripe.specs.Words.{has_bit, is_between}
 use Rattle.reh_stripe.proofs.WordLaws.{has_bit-and, has_bit-not}
-use Rattle.reh_held.proofs.CountLaws.{count-cons, count-range, count-append, count-ones}
+use Rattle.reh_stripe.proofs.CountLaws.{count-cons, count-range, count-append, count-ones}
 use Rattle.reh_model.specs.Striping.{range}
 
 -- Counts

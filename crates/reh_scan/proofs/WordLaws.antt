@@ -11,13 +11,12 @@ use Rattle.std.proofs.lemmas.Nat.{mod_below}
 use Rattle.std.proofs.lemmas.List.Elements.{All-nil, All-cons}
 use Rattle.std.proofs.lemmas.List.Folds.{find-append, list_any-append}
 use Rattle.reh_held.specs.Rows.{is_set}
-use Rattle.reh_held.proofs.CountLaws.{range-append}
 use Rattle.reh_model.specs.Striping.{range, index_at, is_striped, write_set}
 use Rattle.reh_model.proofs.Ranges.{list_any-map, passes_any, any_passes, same_answer}
 use Rattle.reh_model.proofs.StripingLaws.{is_striped-ranks}
 use Rattle.reh_stripe.specs.declared.words.Word.{Word}
 use Rattle.reh_stripe.specs.Words.{has_bit, entries_in, entries_of}
-use Rattle.reh_stripe.proofs.WordLaws.{has_bit-none, has_bit-and, has_bit-or, has_bit-not, find-in_word}
+use Rattle.reh_stripe.proofs.WordLaws.{has_bit-none, has_bit-and, has_bit-or, has_bit-not, find-in_word, range-append}
 use Rattle.reh_scan.specs.Sources.{is_set_at}
 use Rattle.reh_scan.proofs.ReadingLaws.{is_set_there}
 
