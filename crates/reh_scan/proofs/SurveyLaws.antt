@@ -2,8 +2,8 @@
 use Rattle.std.proofs.Common.{◌≡◌, ◌∙◌, ◌+◌, ◌-◌, ◌*◌, ◌/◌, ◌^◌, ◌<◌, ◌≤◌, ◌&&◌, ◌++◌, ◌∷◌, [], List, Bool, true, false}
 use Rattle.std.proofs.Common.{cond, not, ℕ, zero, suc, refl, ap, sym, arith, nat_le, map, min, drop, take, length}
 use Rattle.std.proofs.Common.{append_assoc, get_or, length-drop}
-use Rattle.std.specs.Prelude.{◌==◌, bit_and, count_by}
-use Rattle.std.specs.Int.{bit_at, bit_not, w64}
+use Rattle.std.specs.Prelude.{bit_and, count_by}
+use Rattle.std.specs.Int.{bit_not, w64}
 use Rattle.std.specs.Int.Count.{ones}
 use Rattle.std.specs.List.{enumerate_from, flat_map, range_with_len}
 use Rattle.std.proofs.lemmas.Bool.Decides.{nat_tests}

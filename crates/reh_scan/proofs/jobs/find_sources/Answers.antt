@@ -1,5 +1,5 @@
 -- The sources of a word's entries follow those of the words before it.
-use Rattle.std.proofs.Common.{rules, ◌≡◌, ◌∙◌, ◌+◌, ◌≤◌, ap, sym, subst, List, [], ◌∷◌, ◌++◌, ℕ, Option, All, map}
+use Rattle.std.proofs.Common.{◌≡◌, ◌∙◌, ◌+◌, ◌≤◌, ap, sym, subst, List, ◌++◌, ℕ, Option, All, map}
 use Rattle.std.proofs.Common.{append_assoc}
 use Rattle.std.proofs.lemmas.List.{map-append}
 use Rattle.reh_model.specs.Striping.{striped_entries}
