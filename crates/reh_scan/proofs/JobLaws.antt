@@ -8,12 +8,16 @@ use Rattle.std.specs.List.{find}
 use Rattle.std.specs.Option.{option_map, option_and_then}
 use Rattle.std.proofs.lemmas.Bool.{cases_lt}
 use Rattle.std.proofs.lemmas.List.{get_or-drop, get_or-take, get_or_past, get_or_append_left, length-take, length-drop}
-use Rattle.std.proofs.lemmas.List.Elements.{All-filter, All-head, All-tail}
+use Rattle.std.proofs.lemmas.List.Elements.{All-filter, All-head, All-tail, All-nil, All-cons}
 use Rattle.std.proofs.lemmas.List.FromFn.{length-range_with_len, get_or-range_with_len}
 use Rattle.std.proofs.lemmas.Nat.Bits.{bit_at-zero}
 use Rattle.std.proofs.Math.Seq.{get_or-append_seam}
 use Rattle.reh_types.specs.declared.names.Aim.{Aim}
+use Rattle.std.specs.List.{range_with_len}
 use Rattle.reh_held.specs.Rows.{is_set}
+use Rattle.reh_model.specs.Contents.{is_in_word}
+use Rattle.reh_stripe.specs.declared.words.Word.{Word}
+use Rattle.reh_stripe.specs.Words.{entries_in, has_bit}
 use Rattle.reh_model.specs.Striping.{range, is_striped, striped_entries, write_set}
 use Rattle.reh_model.specs.Metadata.{Fragment, stop_of, stripe_of}
 use Rattle.reh_model.specs.Cluster.{Cluster, Ledger, is_source, ledger_at}
@@ -21,7 +25,7 @@ use Rattle.reh_model.specs.Scan.{content_of, ledger_scan, scan, source_of}
 use Rattle.reh_model.proofs.StripedLaws.{stripe_of-found}
 use Rattle.reh_model.proofs.WriteSetLaws.{write_set-below}
 use Rattle.reh_scan.specs.declared.jobs.Reading.{Reading}
-use Rattle.reh_scan.specs.Jobs.{IsReadingOf, has_copy, source_in}
+use Rattle.reh_scan.specs.Jobs.{IsReading, IsReadingOf, has_copy, source_in}
 
 -- Words of rows
 
@@ -195,3 +199,49 @@ content_of-read s g aim fragment stop version r is same found ends = λ k. recor
   ensemble = sym is.ensemble k;
   sources = sources_in-read s g aim fragment stop r is found ends k;
 }
+
+-- Words of entries
+
+-- an entry of a word is in a member's words if its bit is set in the member's word of that number
+pub has_copy-bit : (first : ℕ) (rows : List (List ℕ)) (number entry index : ℕ) → entry / 64 ≡ number → first ≤ entry
+    → has_copy first rows entry index
+    ≡ has_bit (slice_index (get_or rows index []) (number - first / 64)) (entry % 64)
+has_copy-bit first rows number entry index is from =
+    let place : (entry - 64 * (first / 64)) / 64 ≡ number - first / 64 = omega (arith, is, from) in
+    let bit : (entry - 64 * (first / 64)) % 64 ≡ entry % 64 = omega (arith, from) in
+    λ j. has_bit (slice_index (get_or rows index []) (place j)) (bit j)
+
+-- the source of an entry is found in the words that the members hold
+pub source_in-held : (r : Reading) (held : List ℕ) (number entry : ℕ) → IsReading r
+    → ((index : ℕ) → index < r.size
+    → slice_index held index ≡ slice_index (get_or r.rows.items index []) (number - r.first / 64))
+    → entry / 64 ≡ number → r.first ≤ entry
+    → option_map (λ i. slice_index r.ensemble i)
+    (find (λ i. has_bit (slice_index held i) (entry % 64)) (write_set entry r.size r.write_quorum))
+    ≡ source_in r entry
+source_in-held r held number entry is are at from =
+    ap (λ found. option_map (λ i. slice_index r.ensemble i) found)
+    (find-below (λ i. has_bit (slice_index held i) (entry % 64)) (has_copy r.first r.rows.items entry) r.size
+    (λ i inside. ap (λ w. has_bit w (entry % 64)) (are i inside)
+    ∙ sym (has_copy-bit r.first r.rows.items number entry i at from))
+    (write_set entry r.size r.write_quorum)
+    (write_set-below entry r.size r.write_quorum (omega (arith, is.some, is.within))))
+
+-- the entries of a word are in it
+pub entries_in-within : (w : Word) → All (λ e. e / 64 ≡ w.number) (entries_in w)
+unfolding entries_in
+entries_in-within w =
+    All-filter (is_in_word w.number w.bits) (λ e. e / 64 ≡ w.number) (range_with_len (64 * w.number) 64) (λ k d inside.
+    let below : k < 64 = omega (arith, length-range_with_len (64 * w.number) 64) in
+    let at = get_or-range_with_len (64 * w.number) 64 k d below in
+    omega (arith, at, below))
+
+-- what holds of each element of two lists, one behind the other, holds of each of both
+pub All-first : {X : Type 0} (P : X → Type 0) (xs ys : List X) → All P (xs ++ ys) → All P xs
+All-first P [] ys all = All-nil P
+All-first P (x ∷ xs) ys all =
+    All-cons P x xs (All-head P x (xs ++ ys) all) (All-first P xs ys (All-tail P x (xs ++ ys) all))
+
+pub All-second : {X : Type 0} (P : X → Type 0) (xs ys : List X) → All P (xs ++ ys) → All P ys
+All-second P [] ys all = all
+All-second P (x ∷ xs) ys all = All-second P xs ys (All-tail P x (xs ++ ys) all)

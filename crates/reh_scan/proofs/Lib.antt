@@ -1,3 +1,4 @@
+pub mod CopyLaws
 pub mod JobLaws
 pub mod PlaceLaws
 pub mod PostLaws

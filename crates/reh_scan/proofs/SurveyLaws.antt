@@ -2,8 +2,8 @@
 use Rattle.std.proofs.Common.{◌≡◌, ◌∙◌, ◌+◌, ◌-◌, ◌*◌, ◌/◌, ◌^◌, ◌<◌, ◌≤◌, ◌&&◌, ◌++◌, ◌∷◌, [], List, Bool, true, false}
 use Rattle.std.proofs.Common.{cond, not, ℕ, zero, suc, refl, ap, sym, arith, nat_le, map, min, drop, take, length}
 use Rattle.std.proofs.Common.{append_assoc, get_or, length-drop}
-use Rattle.std.specs.Prelude.{◌==◌, bit_and, count_by}
-use Rattle.std.specs.Int.{bit_at, bit_not, w64}
+use Rattle.std.specs.Prelude.{bit_and, count_by}
+use Rattle.std.specs.Int.{bit_not, w64}
 use Rattle.std.specs.Int.Count.{ones}
 use Rattle.std.specs.List.{enumerate_from, flat_map, range_with_len}
 use Rattle.std.proofs.lemmas.Bool.Decides.{nat_tests}
@@ -13,7 +13,7 @@ use Rattle.std.proofs.lemmas.List.FromFn.{length-range_with_len, length-enumerat
 use Rattle.std.proofs.lemmas.List.{append-nil, drop_min, drop_more, get_or-drop, get_or-map, length-map, take_all, take_min, take_more}
 use Rattle.reh_stripe.specs.Words.{has_bit, is_between}
 use Rattle.reh_stripe.proofs.WordLaws.{has_bit-and, has_bit-not}
-use Rattle.reh_held.proofs.CountLaws.{count-cons, count-range, count-append, count-ones}
+use Rattle.reh_stripe.proofs.CountLaws.{count-cons, count-range, count-append, count-ones}
 use Rattle.reh_model.specs.Striping.{range}
 
 -- Counts

@@ -1,6 +1,6 @@
 -- Words of the entries that some row has, and the first entry of words that passes a test.
 use Rattle.std.proofs.Common.{◌≡◌, ◌∙◌, ◌+◌, ◌*◌, ◌/◌, ◌%◌, ◌-◌, ◌<◌, ◌≤◌, ◌&&◌, ◌||◌, Bool, true, false, List, [], ◌∷◌}
-use Rattle.std.proofs.Common.{◌++◌, ℕ, refl, ap, sym, length, get_or, slice_index, Bor, arith, nat_eq}
+use Rattle.std.proofs.Common.{ℕ, refl, ap, sym, length, get_or, slice_index, Bor, arith}
 use Rattle.std.specs.Prelude.{◌==◌, ◌^◌, bit_and, bit_or, not, slice_get, None, Some}
 use Rattle.std.specs.Int.{bit_at, bit_not, w64}
 use Rattle.std.specs.List.{find, list_any, range_with_len}
@@ -8,23 +8,21 @@ use Rattle.std.specs.Option.{option_or}
 use Rattle.std.proofs.Math.Bool.{or-false}
 use Rattle.std.proofs.lemmas.Bool.Decides.{nat_tests}
 use Rattle.std.proofs.lemmas.Nat.{mod_below}
-use Rattle.std.proofs.lemmas.List.Elements.{All-nil, All-cons}
 use Rattle.std.proofs.lemmas.List.Folds.{find-append, list_any-append}
 use Rattle.reh_held.specs.Rows.{is_set}
-use Rattle.reh_held.proofs.CountLaws.{range-append}
 use Rattle.reh_model.specs.Striping.{range, index_at, is_striped, write_set}
 use Rattle.reh_model.proofs.Ranges.{list_any-map, passes_any, any_passes, same_answer}
 use Rattle.reh_model.proofs.StripingLaws.{is_striped-ranks}
 use Rattle.reh_stripe.specs.declared.words.Word.{Word}
 use Rattle.reh_stripe.specs.Words.{has_bit, entries_in, entries_of}
-use Rattle.reh_stripe.proofs.WordLaws.{has_bit-none, has_bit-and, has_bit-or, has_bit-not, find-in_word}
+use Rattle.reh_stripe.proofs.WordLaws.{has_bit-none, has_bit-and, has_bit-or, has_bit-not, find-in_word, range-append}
 use Rattle.reh_scan.specs.Sources.{is_set_at}
 use Rattle.reh_scan.proofs.ReadingLaws.{is_set_there}
 
 -- Words of rows
 
 -- one number more
-any-range-more : (p : ℕ → Bool) (n : ℕ)
+pub any-range-more : (p : ℕ → Bool) (n : ℕ)
     → list_any p (range_with_len 0 (n + 1)) ≡ (list_any p (range_with_len 0 n) || p n)
 any-range-more p n =
     let none : 0 + n ≡ n = omega arith in
@@ -45,25 +43,32 @@ IsRead rows size quorum number index word =
 pub read-none : (rows : List (Bor (List ℕ))) (size quorum number : ℕ) → IsRead rows size quorum number 0 0
 read-none rows size quorum number = λ i inside. has_bit-none i
 
+-- the bits of the word that was read are those of the row's entries
+pub has_bit-row : (rows : List (Bor (List ℕ))) (number index read : ℕ) (d : Bor (List ℕ)) → index < length rows
+    → read ≡ slice_index (get_or rows index d).now number → (i : ℕ) → i < 64
+    → has_bit read i ≡ is_set_at rows (64 * number + i) index
+has_bit-row rows number index read d within is_read i inside =
+    let place : (64 * number + i) / 64 ≡ number = omega arith in
+    let bit : (64 * number + i) % 64 ≡ i = omega arith in
+    sym (is_set_there rows index (64 * number + i) d within
+    ∙ ap (λ n. bit_at (slice_index (get_or rows index d).now n) ((64 * number + i) % 64) == 1) place
+    ∙ ap (λ n. bit_at (slice_index (get_or rows index d).now number) n == 1) bit
+    ∙ ap (λ n. has_bit n i) (sym is_read))
+
 pub read-more : (rows : List (Bor (List ℕ))) (size quorum number index word read carried : ℕ) (d : Bor (List ℕ))
     → index < length rows → read ≡ slice_index (get_or rows index d).now number
     → ((i : ℕ) → i < 64 → has_bit carried i ≡ is_striped (64 * number + i) index size quorum)
     → IsRead rows size quorum number index word
     → IsRead rows size quorum number (index + 1) (bit_or word (bit_and read carried))
 read-more rows size quorum number index word read carried d within is_read is_carried was = λ i inside.
-    let place : (64 * number + i) / 64 ≡ number = omega arith in
-    let bit : (64 * number + i) % 64 ≡ i = omega arith in
-    let set_there : is_set_at rows (64 * number + i) index ≡ has_bit read i =
-    is_set_there rows index (64 * number + i) d within
-    ∙ ap (λ n. bit_at (slice_index (get_or rows index d).now n) ((64 * number + i) % 64) == 1) place
-    ∙ ap (λ n. bit_at (slice_index (get_or rows index d).now number) n == 1) bit
-    ∙ ap (λ n. has_bit n i) (sym is_read) in
     has_bit-or word (bit_and read carried) i
-    ∙ (λ j. was i inside j || (has_bit-and read carried i ∙ (λ k. sym set_there k && is_carried i inside k)) j)
+    ∙ (λ j. was i inside j
+    || (has_bit-and read carried i
+    ∙ (λ k. has_bit-row rows number index read d within is_read i inside k && is_carried i inside k)) j)
     ∙ sym (any-range-more (is_read_at rows size quorum (64 * number + i)) index)
 
 -- what holds of a member of the write set holds of an index that carries the entry
-any-carried : (p : ℕ → Bool) (e n q : ℕ) → 1 ≤ n
+pub any-carried : (p : ℕ → Bool) (e n q : ℕ) → 1 ≤ n
     → list_any (λ i. p i && is_striped e i n q) (range_with_len 0 n) ≡ list_any p (write_set e n q)
 any-carried p e n q some = same_answer _ _
     (λ any.

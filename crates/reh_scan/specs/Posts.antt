@@ -1,5 +1,5 @@
 -- When the sources that a content names can still be used.
-use Rattle.std.specs.Prelude.{◌≡◌, ℕ, ◌<◌, Bool, true, not, ◌&&◌, ◌==◌, List, length, Option, None, Some, slice_get}
+use Rattle.std.specs.Prelude.{◌≡◌, ℕ, ◌%◌, ◌<◌, Bool, true, not, ◌&&◌, ◌==◌, List, length, Option, None, Some, slice_get}
 use Rattle.std.specs.Prelude.{slice_index}
 use Rattle.std.specs.Borrow.{Bor}
 use Rattle.std.specs.List.{list_any}
@@ -10,6 +10,7 @@ use Rattle.reh_model.specs.Checks.{reason_if}
 use Rattle.reh_model.specs.Metadata.{Fragment, Metadata, stripe_of}
 use Rattle.reh_model.specs.Scan.{is_as_seen}
 use Rattle.reh_model.specs.Striping.{write_set, striped_entries}
+use Rattle.reh_stripe.specs.Words.{has_bit}
 use Rattle.reh_scan.specs.Sources.{is_set_at}
 
 -- the metadata is as the content saw it, and this is its fragment
@@ -32,3 +33,9 @@ lost_copy rows m fragment (entry, None) = Some (NoSource entry)
 lost_copy rows m fragment (entry, Some bookie) =
     reason_if (not (list_any (is_copy_at rows fragment entry bookie) (write_set entry m.size m.write_quorum)))
     (SourceGone entry)
+
+-- the same, by the bits of the bookies' words, of which each has those entries of one word that can be copied from it
+abbrev pub lost_bit : List ℕ → ℕ × Option ℕ → Option Refusal
+lost_bit copies (entry, None) = Some (NoSource entry)
+lost_bit copies (entry, Some bookie) =
+    reason_if (not (has_bit (slice_index copies bookie) (entry % 64))) (SourceGone entry)

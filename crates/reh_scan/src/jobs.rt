@@ -1,16 +1,21 @@
 // Scans, apart from the state that they read.
-ghost use Rattle.std.specs.Prelude.{◌≡◌, ℕ, ◌*◌, ◌/◌, ◌-◌, ◌<◌, ◌≤◌, length, map, None, Some, IfOk};
+ghost use Rattle.std.specs.Prelude.{◌≡◌, ℕ, ◌*◌, ◌/◌, ◌-◌, ◌^◌, ◌<◌, ◌≤◌, ◌++◌, [], length, map, All, None, Some, IfOk, OnOk};
+ghost use Rattle.std.specs.Prelude.{slice_index, slice_index_or};
+ghost use Rattle.std.specs.List.{find};
+ghost use Rattle.std.specs.Option.{option_map};
+ghost use Rattle.reh_types.specs.declared.limits.TheConstants.{MAX_ENSEMBLE_SIZE};
 ghost use Rattle.reh_held.specs.Rows.{is_set};
 ghost use Rattle.reh_model.specs.Scan.{aim_refusal, scan};
 ghost use Rattle.reh_model.specs.Striping.{striped_entries};
+ghost use Rattle.reh_stripe.specs.Words.{entries_in, has_bit};
 ghost use Rattle.reh_scan.specs.Jobs.{AreCopies, IsReadingOf, IsReading, source_in};
 
 use crate::sources::source_row;
 use reh_cluster::{Ledger, State};
-use reh_held::is_set;
+use reh_held::word_at;
 use reh_meta::Fragment;
-use reh_stripe::{Striped, write_set};
-use reh_types::{Aim, BookieIx, Content, Members, Sources};
+use reh_stripe::{Round, Striped, Word, WordEntries};
+use reh_types::{Aim, BookieIx, Content, MAX_ENSEMBLE_SIZE, Members, Sources};
 use std::alloc::{AllocError, Global};
 use std::marker::Model;
 
@@ -168,6 +173,8 @@ pub fn look(alloc: Global, job: &Job) -> Result<Content, AllocError>
 }
 
 /// The source of each entry that the fragment stripes onto the index.
+///
+/// It goes by words of 64 entries: of each the members' words are read once.
 fn find_sources(
     alloc: Global,
     reading: &Reading,
@@ -177,7 +184,6 @@ fn find_sources(
     ensures { IfOk result (λ sources. sources.items ≡ map (source_in reading.now)
         (striped_entries reading.now.first reading.now.stop index reading.now.size reading.now.write_quorum)) }
 {
-    let mut sources = Vec::new(alloc);
     let entries = Striped::new(
         reading.first,
         reading.stop,
@@ -185,23 +191,67 @@ fn find_sources(
         reading.size,
         reading.write_quorum,
     );
-    for entry in entries {
-        sources.push(find_source(reading, entry))?;
+    let round = Round::new(reading.size);
+    let mut sources = Vec::with_capacity(alloc, entries.len())?;
+    for word in entries.words() {
+        push_sources(&mut sources, reading, &round, word)?;
     }
     Ok(sources)
 }
 
-/// The first member in the order of the entry's write set whose words have the entry.
-fn find_source(reading: &Reading, entry: u32) -> Option<BookieIx>
+/// Puts the sources of a word's entries behind the others.
+fn push_sources(
+    sources: &mut Vec<Option<BookieIx>>,
+    reading: &Reading,
+    round: &Round,
+    word: Word,
+) -> Result<(), AllocError>
     requires reading { IsReading reading.now }
-    requires entry { reading.now.first ≤ entry }
-    ensures { result ≡ source_in reading.now entry }
+    requires round { round.now ≡ reading.now.size }
+    requires number { word.number < 2 ^ 26 }
+    requires from { All (λ entry. reading.now.first ≤ entry) (entries_in word) }
+    ensures { OnOk result (sources.new.items
+        ≡ sources.old.items ++ map (source_in reading.now) (entries_in word)) }
 {
-    let members = reading.ensemble.as_slice();
-    let place = entry - 64 * (reading.first / 64);
-    for index in write_set(entry, reading.size, reading.write_quorum) {
-        if is_set(&reading.rows[index as usize].items, place) {
-            return Some(members[index as usize]);
+    let held = held_words(reading, word.number);
+    let start = 64 * word.number % reading.size;
+    for entry in WordEntries::new(word) {
+        let bit = entry % 64;
+        let indexes = round.write_set(start, bit, reading.write_quorum);
+        sources.push(find_source(reading.ensemble.as_slice(), &held, indexes, bit))?;
+    }
+    Ok(())
+}
+
+/// A word of each member, by the members' indexes.
+type Held = [u64; MAX_ENSEMBLE_SIZE as usize];
+
+/// The members' words of that number.
+fn held_words(reading: &Reading, number: u32) -> Held
+    requires { IsReading reading.now }
+    ensures { (index : ℕ) → index < reading.now.size → slice_index result index
+        ≡ slice_index (slice_index_or reading.now.rows.items index []) (number - reading.now.first / 64) }
+{
+    let place = number.saturating_sub(reading.first / 64) as usize;
+    let mut held = [0; MAX_ENSEMBLE_SIZE as usize];
+    for index in 0..reading.size as usize {
+        held[index] = word_at(&reading.rows[index].items, place);
+    }
+    held
+}
+
+/// The first member in the order of the write set whose word has the bit.
+fn find_source(members: &[BookieIx], held: &Held, indexes: &[u32], bit: u32) -> Option<BookieIx>
+    requires within { All (λ index. index < length members.now) indexes.now }
+    requires small { length members.now ≤ MAX_ENSEMBLE_SIZE }
+    requires bit { bit < 64 }
+    ensures { result ≡ option_map (λ index. slice_index members.now index)
+        (find (λ index. has_bit (slice_index held.now index) bit) indexes.now) }
+{
+    for index in indexes {
+        let place = *index as usize;
+        if (held[place] >> bit) & 1 == 1 {
+            return Some(members[place]);
         }
     }
     None

@@ -1,7 +1,8 @@
 // Whether what a worker found can be posted.
-ghost use Rattle.std.specs.Prelude.{◌≡◌, ◌^◌, ◌<◌, ◌&&◌, ◌==◌, false, length, map, Some, slice_get, slice_index};
-ghost use Rattle.std.specs.Prelude.{MatchOption};
+ghost use Rattle.std.specs.Prelude.{◌≡◌, ℕ, ◌+◌, ◌*◌, ◌^◌, ◌<◌, ◌&&◌, ◌==◌, false, length, map, All, Some, slice_get};
+ghost use Rattle.std.specs.Prelude.{MatchOption, slice_index};
 ghost use Rattle.std.specs.List.{list_any, zip};
+ghost use Rattle.reh_types.specs.declared.limits.TheConstants.{MAX_BOOKIES};
 ghost use Rattle.reh_model.specs.Checks.{first_reason};
 ghost use Rattle.reh_model.specs.Cluster.{stripe_at};
 ghost use Rattle.reh_model.specs.Refusals.{Decides, Finds};
@@ -9,15 +10,17 @@ ghost use Rattle.reh_model.specs.Scan as scan;
 ghost use Rattle.reh_model.specs.Scan.{is_as_seen, lost_source, post_refusal};
 ghost use Rattle.reh_model.specs.Striping as stripe;
 ghost use Rattle.reh_model.specs.Striping.{striped_entries};
-ghost use Rattle.reh_scan.specs.Posts.{IsSeen, is_copy_at, lost_copy};
+ghost use Rattle.reh_stripe.specs.Words.{entries_in, has_bit};
+ghost use Rattle.reh_scan.specs.Posts.{IsSeen, is_copy_at, lost_bit};
+ghost use Rattle.reh_scan.specs.Sources.{sizes_of};
 
 use crate::places::{check_member, find_owned};
-use crate::sources::{Rows, source_rows};
+use crate::sources::{Rows, masks_of, source_rows};
 use reh_cluster::{Ledger, State};
-use reh_held::is_set;
+use reh_held::word_at;
 use reh_meta::{Fragment, LedgerMeta};
-use reh_stripe::{Striped, write_set};
-use reh_types::{BookieIx, Content, Refusal};
+use reh_stripe::{Masks, Striped, Word, WordEntries};
+use reh_types::{BookieIx, Content, MAX_BOOKIES, Refusal};
 
 /// Whether what a worker found can be posted, or else the first refusal that applies: it has to hold the ledger's lock,
 /// the fragment has to be as it was seen, at the version that was seen, and the source that is named for each entry has
@@ -68,7 +71,7 @@ fn is_fragment_as_seen(metadata: &LedgerMeta, content: &Content, fragment: &Frag
         && metadata.end_of(content.aim.fragment as usize) == Some(content.stop)
         && fragment.ensemble.as_slice() == content.ensemble.as_slice()
         && content.aim.index < metadata.size() as u64
-        && content.sources.as_slice().len() == entries_of(metadata, content).count()
+        && content.sources.as_slice().len() == entries_of(metadata, content).len()
 }
 
 /// The entries that the content's fragment stripes onto the index, as it was seen.
@@ -89,6 +92,8 @@ fn entries_of(metadata: &LedgerMeta, content: &Content) -> Striped
 }
 
 /// Whether each entry can still be copied from the source that is named for it.
+///
+/// It goes by words of 64 entries: of each the members' rows are read once.
 fn check_sources(
     state: &State,
     ledger: &Ledger,
@@ -96,6 +101,7 @@ fn check_sources(
     content: &Content,
 ) -> Result<(), Refusal>
     requires ensemble { length fragment.now.ensemble ≡ ledger.now.metadata.size }
+    requires members { All (λ member. member < MAX_BOOKIES) fragment.now.ensemble }
     requires index { content.now.aim.index < ledger.now.metadata.size }
     ensures { Decides result (first_reason (map (lost_source state.now ledger.now fragment.now)
         (zip (striped_entries content.now.first content.now.stop content.now.aim.index
@@ -103,46 +109,65 @@ fn check_sources(
 {
     let metadata = ledger.metadata();
     let rows = source_rows(state, ledger, fragment);
-    for (entry, source) in entries_of(metadata, content).zip(content.sources.as_slice()) {
-        check_source(&rows, metadata, fragment, entry, *source)?;
+    let masks = masks_of(metadata);
+    let mut sources = content.sources.as_slice();
+    for word in entries_of(metadata, content).words() {
+        let copies = copies_of(&rows, &masks, metadata, fragment, word.number);
+        check_word(&copies, word, sources)?;
+        let checked = (word.bits.count_ones() as usize).min(sources.len());
+        sources = &sources[checked..];
     }
     Ok(())
 }
 
-/// Whether the entry can be copied from the source that is named for it, by the rows of the fragment's members.
-fn check_source(
+/// For each bookie which entries of a word can be copied from it.
+type Copies = [u64; MAX_BOOKIES];
+
+/// The entries of a word that are in the bookies' rows at the indexes that carry them.
+fn copies_of(
     rows: &Rows<'_>,
+    masks: &Masks,
     metadata: &LedgerMeta,
     fragment: &Fragment,
-    entry: u32,
-    source: Option<BookieIx>,
-) -> Result<(), Refusal>
-    requires { length fragment.now.ensemble ≡ metadata.now.size }
-    ensures { Decides result (lost_copy rows.now metadata.now fragment.now (entry, source)) }
+    number: u32,
+) -> Copies
+    requires ensemble { length fragment.now.ensemble ≡ metadata.now.size }
+    requires members { All (λ member. member < MAX_BOOKIES) fragment.now.ensemble }
+    requires masks { masks.now ≡ sizes_of metadata.now }
+    requires number { 64 * number < 2 ^ 32 }
+    ensures { (bookie i : ℕ) → i < 64 → has_bit (slice_index result bookie) i
+        ≡ list_any (is_copy_at rows.now fragment.now (64 * number + i) bookie)
+        (stripe.write_set (64 * number + i) metadata.now.size metadata.now.write_quorum) }
+{
+    let size = metadata.size();
+    let start = 64 * number % size;
+    let mut copies = [0; MAX_BOOKIES];
+    for index in 0..size {
+        let member = fragment.ensemble[index as usize].0 as usize;
+        let carried = masks.carried(start, index);
+        copies[member] |= word_at(rows[index as usize], number as usize) & carried;
+    }
+    copies
+}
+
+/// Whether each entry of the word can be copied from the source that is named for it.
+fn check_word(copies: &Copies, word: Word, sources: &[Option<BookieIx>]) -> Result<(), Refusal>
+    requires { word.number < 2 ^ 26 }
+    ensures { Decides result (first_reason (map (lost_bit copies.now) (zip (entries_in word) sources.now))) }
+{
+    for (entry, source) in WordEntries::new(word).zip(sources) {
+        check_source(copies, entry, *source)?;
+    }
+    Ok(())
+}
+
+/// Whether the entry can be copied from the source that is named for it.
+fn check_source(copies: &Copies, entry: u32, source: Option<BookieIx>) -> Result<(), Refusal>
+    ensures { Decides result (lost_bit copies.now (entry, source)) }
 {
     match source {
-        Some(bookie) if is_source(rows, metadata, fragment, entry, bookie) => Ok(()),
+        Some(bookie) if (word_at(copies, bookie.0 as usize) >> (entry % 64)) & 1 == 1 => Ok(()),
         Some(_) => Err(Refusal::SourceGone(entry as u64)),
         None => Err(Refusal::NoSource(entry as u64)),
     }
-}
-
-/// Whether the bookie is at an index of the entry's write set at which the row has the entry.
-fn is_source(
-    rows: &Rows<'_>,
-    metadata: &LedgerMeta,
-    fragment: &Fragment,
-    entry: u32,
-    bookie: BookieIx,
-) -> bool
-    requires { length fragment.now.ensemble ≡ metadata.now.size }
-    ensures { result ≡ list_any (is_copy_at rows.now fragment.now entry bookie)
-        (stripe.write_set entry metadata.now.size metadata.now.write_quorum) }
-{
-    for index in write_set(entry, metadata.size(), metadata.write_quorum()) {
-        if fragment.ensemble[index as usize] == bookie && is_set(rows[index as usize], entry) {
-            return true;
-        }
-    }
-    false
 }

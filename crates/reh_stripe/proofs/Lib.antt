@@ -1,2 +1,4 @@
+pub mod CountLaws
 pub mod MaskLaws
+pub mod RoundLaws
 pub mod WordLaws

@@ -158,7 +158,7 @@ module _ (p q : ℕ → Bool) where
       λ j. cond (first j) (a ∷ rest j) (rest j)
 
 -- whether an entry of the word is one whose bit is set
-in_word-bit : (number bits i : ℕ) → i < 64 → is_in_word number bits (64 * number + i) ≡ has_bit bits i
+pub in_word-bit : (number bits i : ℕ) → i < 64 → is_in_word number bits (64 * number + i) ≡ has_bit bits i
 in_word-bit number bits i inside =
     let word : ((64 * number + i) / 64 == number) ≡ true = grind (arith, nat_tests) in
     let bit : (64 * number + i) % 64 ≡ i = omega (arith, inside) in
@@ -243,7 +243,7 @@ least-some number bits i least =
 
 -- Words of a range
 
-range-append : (a m n : ℕ) → range_with_len a (m + n) ≡ range_with_len a m ++ range_with_len (a + m) n
+pub range-append : (a m n : ℕ) → range_with_len a (m + n) ≡ range_with_len a m ++ range_with_len (a + m) n
 range-append a zero n =
     let same : a ≡ a + 0 = omega arith in
     let none : 0 + n ≡ n = omega arith in ap (range_with_len a) none ∙ ap (λ b. range_with_len b n) same
@@ -397,3 +397,114 @@ any-in_word w e =
       first_of : (a b : Bool) → (a && b) ≡ true → a ≡ true
       first_of true b is = refl
       first_of false b is = is
+
+-- Entries one by one
+
+-- a number less one lacks its least bit, and has those above it
+pub least-cleared : (n t i : ℕ) → has_bit n t ≡ true → ((j : ℕ) → j < t → has_bit n j ≡ false)
+    → (has_bit n i && has_bit (n - 1) i) ≡ (has_bit n i && not (nat_eq i t))
+least-cleared n zero zero set none =
+    let odd : n % 2 ≡ 1 = grind (arith, nat_tests, sym (ap (λ (b : ℕ). b == 1) (bit_at_lowest n)) ∙ set) in
+    let even : (n - 1) % 2 ≡ 0 = omega (arith, odd) in
+    ap (λ b. has_bit n 0 && b) (ap (λ (b : ℕ). b == 1) (bit_at_lowest (n - 1) ∙ even))
+least-cleared n zero (suc i) set none =
+    let odd : n % 2 ≡ 1 = grind (arith, nat_tests, sym (ap (λ (b : ℕ). b == 1) (bit_at_lowest n)) ∙ set) in
+    let half : (n - 1) / 2 ≡ n / 2 = omega (arith, odd) in
+    let above : has_bit (n - 1) (suc i) ≡ has_bit n (suc i) =
+    ap (λ (b : ℕ). b == 1) (bit_at-suc (n - 1) i ∙ ap (λ m. bit_at m i) half ∙ sym (bit_at-suc n i)) in
+    let other : nat_eq (suc i) 0 ≡ false = grind (arith, nat_tests) in
+    ap (λ b. has_bit n (suc i) && b) above ∙ both (has_bit n (suc i))
+    ∙ ap (λ b. has_bit n (suc i) && not b) (sym other) where
+      both : (b : Bool) → (b && b) ≡ (b && true)
+      both true = refl
+      both false = refl
+least-cleared n (suc t) zero set none =
+    let no : has_bit n 0 ≡ false = none 0 (omega arith) in
+    (λ j. no j && has_bit (n - 1) 0) ∙ sym (λ j. no j && not (nat_eq 0 (suc t)))
+least-cleared n (suc t) (suc i) set none =
+    let even : n % 2 ≡ 0 =
+    grind (arith, nat_tests, sym (ap (λ (b : ℕ). b == 1) (bit_at_lowest n)) ∙ none 0 (omega arith)) in
+    let half : (n - 1) / 2 ≡ n / 2 - 1 = omega (arith, even) in
+    let later : (j : ℕ) → has_bit n (suc j) ≡ has_bit (n / 2) j = λ j. ap (λ (b : ℕ). b == 1) (bit_at-suc n j) in
+    (λ j. later i j
+    && ap (λ (b : ℕ). b == 1) (bit_at-suc (n - 1) i ∙ ap (λ m. bit_at m i) half) j)
+    ∙ least-cleared (n / 2) t i (sym (later t) ∙ set) (λ j below. sym (later j) ∙ none (suc j) (omega (arith, below)))
+    ∙ (λ j. sym (later i) j && not (same j)) where
+      same : nat_eq i t ≡ nat_eq (suc i) (suc t)
+      same = grind (arith, nat_tests)
+
+-- the first number of a range that passes a test, and those behind it
+filter-next : (p q : ℕ → Bool) (a n t : ℕ) → t < n → p (a + t) ≡ true → ((i : ℕ) → i < t → p (a + i) ≡ false)
+    → ((i : ℕ) → i < n → q (a + i) ≡ (p (a + i) && not (nat_eq i t)))
+    → filter p (range_with_len a n) ≡ (a + t) ∷ filter q (range_with_len a n)
+filter-next p q a zero t inside passes before rest = absurd (omega arith)
+filter-next p q a (suc n) zero inside passes before rest =
+    let none : a + 0 ≡ a = omega arith in
+    let here : p a ≡ true = ap p (sym none) ∙ passes in
+    let itself : nat_eq 0 0 ≡ true = grind (arith, nat_tests) in
+    let gone : q a ≡ false = ap q (sym none) ∙ rest 0 (omega arith) ∙ (λ j. passes j && not (itself j)) in
+    let others : filter p (range_with_len (a + 1) n) ≡ filter q (range_with_len (a + 1) n) =
+    filter-range p q (a + 1) n (λ i below.
+    let next : (a + 1) + i ≡ a + suc i = omega arith in
+    let other : nat_eq (suc i) 0 ≡ false = grind (arith, nat_tests) in
+    ap p next ∙ sym (all (p (a + suc i))) ∙ ap (λ b. p (a + suc i) && not b) (sym other)
+    ∙ sym (rest (suc i) (omega (arith, below))) ∙ ap q (sym next)) in
+    (λ j. cond (here j) (a ∷ others j) (others j))
+    ∙ sym (λ j. none j ∷ cond (gone j) (a ∷ filter q (range_with_len (a + 1) n)) (filter q (range_with_len (a + 1) n)))
+  where
+    all : (b : Bool) → (b && true) ≡ b
+    all true = refl
+    all false = refl
+filter-next p q a (suc n) (suc t) inside passes before rest =
+    let none : a + 0 ≡ a = omega arith in
+    let next : (a + 1) + t ≡ a + suc t = omega arith in
+    let out : p a ≡ false = ap p (sym none) ∙ before 0 (omega arith) in
+    let gone : q a ≡ false =
+    ap q (sym none) ∙ rest 0 (omega arith) ∙ (λ j. (ap p none ∙ out) j && not (nat_eq 0 (suc t))) in
+    let others = filter-next p q (a + 1) n t (omega (arith, inside)) (ap p next ∙ passes)
+    (λ i below. let at : (a + 1) + i ≡ a + suc i = omega arith in ap p at ∙ before (suc i) (omega (arith, below)))
+    (λ i below.
+    let at : (a + 1) + i ≡ a + suc i = omega arith in
+    let same : nat_eq (suc i) (suc t) ≡ nat_eq i t = grind (arith, nat_tests) in
+    ap q at ∙ rest (suc i) (omega (arith, below)) ∙ (λ j. p (sym at j) && not (same j))) in
+    (λ j. cond (out j) (a ∷ filter p (range_with_len (a + 1) n)) (filter p (range_with_len (a + 1) n)))
+    ∙ others
+    ∙ (λ j. next j ∷ sym (λ k. cond (gone k) (a ∷ filter q (range_with_len (a + 1) n)) (filter q (range_with_len (a + 1) n))) j)
+
+-- the least entry of a word comes before those of the word without its least bit
+pub entries-next : (number bits : ℕ) → bits ≢ 0 → bits < 2 ^ 64
+    → entries_in (record { number = number; bits = bits })
+    ≡ (64 * number + trailing_zeros w64 bits) ∷ entries_in (record { number = number; bits = bit_and bits (bits - 1) })
+unfolding entries_in
+entries-next number bits some small =
+    let t : ℕ = trailing_zeros w64 bits in
+    let least = least-bit bits some small in
+    filter-next (is_in_word number bits) (is_in_word number (bit_and bits (bits - 1))) (64 * number) 64 t least.inside
+    (in_word-bit number bits t least.inside ∙ least.set)
+    (λ i below. in_word-bit number bits i (omega (arith, below, least.inside)) ∙ least.before i below)
+    (λ i inside.
+    in_word-bit number (bit_and bits (bits - 1)) i inside ∙ has_bit-and bits (bits - 1) i
+    ∙ least-cleared bits t i least.set least.before
+    ∙ ap (λ b. b && not (nat_eq i t)) (sym (in_word-bit number bits i inside)))
+
+pub entries-taken : (number bits entry : ℕ) → bits < 2 ^ 64
+    → slice_get (entries_in (record { number = number; bits = bits })) 0 ≡ Some entry
+    → (1 ≤ bits)
+    × (entries_in (record { number = number; bits = bits })
+    ≡ entry ∷ entries_in (record { number = number; bits = bit_and bits (bits - 1) }))
+entries-taken number bits entry small is = elim (cases_lt 0 bits) [
+  | inl some ↦
+      let next = entries-next number bits (omega (arith, some)) small in
+      let same : 64 * number + trailing_zeros w64 bits ≡ entry =
+      of_some _ _ (sym (ap (λ (es : List ℕ). slice_get es 0) next) ∙ is) in
+      (some, next ∙ ap (λ e. e ∷ entries_in (record { number = number; bits = bit_and bits (bits - 1) })) same)
+  | inr none ↦
+      let zero_bits : bits ≡ 0 = omega (arith, none) in
+      absurd (never (sym (least-none number)
+      ∙ ap (λ b. slice_get (entries_in (record { number = number; bits = b })) 0) (sym zero_bits) ∙ is))
+] where
+  of_some : (a b : ℕ) → Some a ≡ Some b → a ≡ b
+  of_some a b same = cc
+
+  never : None ≡ Some entry → ⊥
+  never same = cc

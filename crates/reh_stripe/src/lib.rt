@@ -2,14 +2,18 @@
 #![tactic(auto)]
 
 mod masks;
+mod rounds;
 mod striped;
 mod striped_words;
+mod word_entries;
 mod words;
 mod writes;
 
 pub use masks::Masks;
+pub use rounds::Round;
 pub use striped::{Striped, is_striped, rank_from};
 pub use striped_words::StripedWords;
+pub use word_entries::WordEntries;
 pub use words::{Word, bits_between, least_entry};
 pub use writes::{WriteSet, wrapped, write_set};
 

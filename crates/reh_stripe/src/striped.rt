@@ -1,5 +1,5 @@
 // The entries that an index of an ensemble carries.
-ghost use Rattle.std.specs.Prelude.{◌≡◌, ◌+◌, ◌-◌, ◌%◌, ◌<◌, ◌≤◌};
+ghost use Rattle.std.specs.Prelude.{◌≡◌, ◌+◌, ◌-◌, ◌%◌, ◌<◌, ◌≤◌, length};
 ghost use Rattle.std.specs.Iterator.{YieldsFirst, item_count};
 ghost use Rattle.reh_types.specs.declared.limits.TheConstants.{MAX_ENSEMBLE_SIZE};
 ghost use Rattle.reh_model.specs.Striping as stripe;
@@ -99,6 +99,17 @@ impl Striped {
             size: self.size,
             quorum: self.quorum,
         }
+    }
+
+    /// How many entries are left, counted by words.
+    pub fn len(&self) -> usize
+        ensures { result ≡ length self.now }
+    {
+        let mut count = 0;
+        for word in self.words() {
+            count += word.bits.count_ones() as usize;
+        }
+        count
     }
 
     /// The entries that are left, word by word.

@@ -1,5 +1,5 @@
 // Striping as BookKeeper's documentation shows it, and of a small ledger.
-use crate::{Striped, Word, is_striped, least_entry, write_set};
+use crate::{Round, Striped, Word, WordEntries, is_striped, least_entry, write_set};
 
 /// Five bookies and a write quorum of three: an entry goes round the ensemble, one bookie further each time.
 #[test]
@@ -60,4 +60,20 @@ fn goes_word_by_word(rt: HostRuntime) {
     };
     assert!(rt; Striped::new(65535, 65536, 15, 16, 1).words().eq([last]));
     assert_eq!(rt; least_entry(last), Some(65535));
+}
+
+/// The entries of a word with its last one, the write set of an entry of a later word, and how many entries there are
+/// about the end of a word.
+#[test]
+fn goes_entry_by_entry(rt: HostRuntime) {
+    let word = Word {
+        number: 1023,
+        bits: (1 << 63) | 1,
+    };
+    assert!(rt; WordEntries::new(word).eq([65472, 65535]));
+    assert_eq!(rt;
+        Round::new(5).write_set(64 % 5, 63, 3),
+        [2, 3, 4].as_slice()
+    );
+    assert_eq!(rt; Striped::new(63, 66, 1, 3, 2).len(), 2);
 }

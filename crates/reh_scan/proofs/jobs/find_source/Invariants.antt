@@ -1,14 +1,10 @@
--- The first member that has the entry is at one of the indexes that are left, each of which is in the ensemble.
-use Rattle.std.proofs.Common.{◌≡◌, ◌<◌, All}
+-- The first member whose word has the bit is at one of the indexes that are left.
+use Rattle.std.proofs.Common.{◌≡◌, drop, slice_index}
 use Rattle.std.specs.List.{find}
-use Rattle.reh_model.specs.Striping.{write_set}
-use Rattle.reh_scan.specs.Jobs.{has_copy}
+use Rattle.reh_stripe.specs.Words.{has_bit}
 use Rattle.reh_scan.proofs.jobs.find_source.Given as goal
 
 abbrev pub invariant-loop-index : goal.invariant-loop-index
-invariant-loop-index l = record {
-  first : find (has_copy l.reading.first l.reading.rows.items l.entry)
-      (write_set l.entry l.reading.size l.reading.write_quorum)
-      ≡ find (has_copy l.reading.first l.reading.rows.items l.entry) l.index-iterator;
-  within : All (λ index. index < l.reading.size) l.index-iterator;
-}
+invariant-loop-index l =
+    find (λ i. has_bit (slice_index l.held i) l.bit) l.indexes
+    ≡ find (λ i. has_bit (slice_index l.held i) l.bit) (drop l.index-index l.indexes)

@@ -1,42 +1,61 @@
--- An entry's source follows those of the entries before it.
-use Rattle.std.proofs.Common.{rules, ◌≡◌, ◌∙◌, ◌≤◌, ap, sym, subst, List, [], ◌∷◌, ◌++◌, ℕ, Option, All, map}
+-- The sources of a word's entries follow those of the words before it.
+use Rattle.std.proofs.Common.{◌≡◌, ◌∙◌, ◌+◌, ◌≤◌, ap, sym, subst, List, ◌++◌, ℕ, Option, All, map}
 use Rattle.std.proofs.Common.{append_assoc}
-use Rattle.std.proofs.lemmas.List.Elements.{All-tail}
+use Rattle.std.proofs.lemmas.List.{map-append}
 use Rattle.reh_model.specs.Striping.{striped_entries}
+use Rattle.reh_stripe.specs.declared.words.Word.{Word}
+use Rattle.reh_stripe.specs.Words.{AreRising, entries_in, entries_of}
 use Rattle.reh_scan.specs.declared.jobs.Reading.{Reading}
 use Rattle.reh_scan.specs.Jobs.{source_in}
-use Rattle.reh_scan.proofs.JobLaws.{striped_entries-within}
+use Rattle.reh_scan.proofs.JobLaws.{striped_entries-within, All-first, All-second}
 use Rattle.reh_scan.proofs.jobs.find_sources.Goals as goal
 
-pub loop-entry-init : goal.loop-entry-init
-loop-entry-init c =
+pub loop-word-init : goal.loop-word-init
+loop-word-init c =
     let r : Reading = c.args.reading.now in
-    let entries : c.into_iter-entry-iterator.result
+    let words : c.into_iter-word-iterator.result ≡ c.words-word-items.result =
+    c.into_iter-word-iterator.ensures.into_iter_gives in
+    let entries : entries_of c.into_iter-word-iterator.result
     ≡ striped_entries r.first r.stop c.args.index r.size r.write_quorum =
-    search rules in
+    ap (λ (ws : List Word). entries_of ws) words ∙ c.words-word-items.ensures.entries ∙ c.new-entries.ensures in
     record {
       sources =
-          ap (λ (sources : List (Option ℕ)). sources ++ map (source_in r) c.into_iter-entry-iterator.result)
-          c.new-sources.ensures.items
+          ap (λ (sources : List (Option ℕ)). sources ++ map (source_in r) (entries_of c.into_iter-word-iterator.result))
+          c.in_ok-sources.ensures.items
           ∙ ap (λ (es : List ℕ). map (source_in r) es) entries;
       from =
           subst (λ (es : List ℕ). All (λ e. r.first ≤ e) es) (sym entries)
           (λ k d inside. (striped_entries-within r.first r.stop c.args.index r.size r.write_quorum k d inside).0);
+      rising = (0, subst (λ (ws : List Word). AreRising 0 ws) (sym words) c.words-word-items.ensures.rising);
     }
 
-pub loop-entry-preserved : goal.loop-entry-preserved
-loop-entry-preserved c =
+pub loop-word-preserved : goal.loop-word-preserved
+loop-word-preserved c =
     let r : Reading = c.args.reading.now in
-    let before : List (Option ℕ) = c.loop-entry.sources.items in
-    let rest : List (Option ℕ) = map (source_in r) c.next.new.self in
+    let w : Word = c.in-Some.word in
+    let rest : List Word = c.next.new.self in
+    let before : List (Option ℕ) = c.loop-word.sources.items in
+    let was = c.loop-word.invariant.rising in
+    let rising = subst (λ (ws : List Word). AreRising was.0 ws) c.in-Some.ensures.steps was.1 in
     record {
       sources =
-          ap (λ (sources : List (Option ℕ)). sources ++ rest) c.in_ok-push.ensures.items
-          ∙ append_assoc before (c.find_source.result ∷ []) rest
-          ∙ ap (λ source. before ++ source ∷ rest) c.find_source.ensures
-          ∙ sym (ap (λ (es : List ℕ). before ++ map (source_in r) es) c.in-Some.ensures.steps)
-          ∙ c.loop-entry.invariant.sources;
+          ap (λ (sources : List (Option ℕ)). sources ++ map (source_in r) (entries_of rest))
+          c.in_ok-push_sources.ensures
+          ∙ append_assoc before (map (source_in r) (entries_in w)) (map (source_in r) (entries_of rest))
+          ∙ ap (λ (sources : List (Option ℕ)). before ++ sources)
+          (sym (map-append (source_in r) (entries_in w) (entries_of rest)))
+          ∙ sym (ap (λ (ws : List Word). before ++ map (source_in r) (entries_of ws)) c.in-Some.ensures.steps)
+          ∙ c.loop-word.invariant.sources;
       from =
-          All-tail (λ e. r.first ≤ e) _ _
-          (subst (λ (es : List ℕ). All (λ e. r.first ≤ e) es) c.in-Some.ensures.steps c.loop-entry.invariant.from);
+          All-second (λ e. r.first ≤ e) (entries_in w) (entries_of rest)
+          (subst (λ (ws : List Word). All (λ e. r.first ≤ e) (entries_of ws)) c.in-Some.ensures.steps
+          c.loop-word.invariant.from);
+      rising = (w.number + 1, rising.2);
     }
+
+pub push_sources-requires-clause-from : goal.push_sources-requires-clause-from
+push_sources-requires-clause-from c =
+    let r : Reading = c.args.reading.now in
+    All-first (λ e. r.first ≤ e) (entries_in c.in-Some.word) (entries_of c.next.new.self)
+    (subst (λ (ws : List Word). All (λ e. r.first ≤ e) (entries_of ws)) c.in-Some.ensures.steps
+    c.loop-word.invariant.from)

@@ -1,54 +1,71 @@
--- A source that is lost is the first one, where those before it are not.
-use Rattle.std.proofs.Common.{rules, ◌≡◌, ◌∙◌, ap, ℕ, List, Option, None, map, inl, inr}
+-- A source that is lost is one of the word's, where those of the words before it are not, or one of those behind it.
+use Rattle.std.proofs.Common.{rules, ◌≡◌, ◌∙◌, ◌+◌, ◌/◌, ap, sym, subst, ℕ, List, Option, map, drop, length, arith}
+use Rattle.std.specs.Int.Count.{ones}
 use Rattle.std.specs.List.{zip}
 use Rattle.std.specs.Option.{option_or}
-use Rattle.std.specs.Iterator.Adapters.{zip_first, zip_second}
-use Rattle.std.specs.Slice.Iter.{iter_rest}
+use Rattle.std.proofs.lemmas.List.{drop_min, take_rest}
 use Rattle.reh_types.specs.declared.refusals.Refusal.{Refusal}
 use Rattle.reh_model.specs.Checks.{first_reason}
 use Rattle.reh_model.specs.Scan.{lost_source}
-use Rattle.reh_scan.proofs.PostLaws.{lost_source-rows, lost-next, lost-no_entry, lost-no_source}
+use Rattle.reh_stripe.specs.declared.words.Word.{Word}
+use Rattle.reh_stripe.specs.Words.{AreRising, entries_in, entries_of}
+use Rattle.reh_stripe.proofs.CountLaws.{ones-entries}
+use Rattle.reh_scan.specs.Posts.{lost_bit}
+use Rattle.reh_scan.proofs.CopyLaws.{lost-word, lost_copy-bit}
+use Rattle.reh_scan.proofs.JobLaws.{entries_in-within}
+use Rattle.reh_scan.proofs.PostLaws.{lost_source-rows}
 use Rattle.reh_scan.proofs.posts.check_sources.Goals as goal
 
-pub loop-entry-preserved : goal.loop-entry-preserved
-loop-entry-preserved c =
+pub loop-word-preserved : goal.loop-word-preserved
+loop-word-preserved c =
     let lost : ℕ × Option ℕ → Option Refusal = lost_source c.args.state.now c.args.ledger.now c.args.fragment.now in
-    let rest : List ℕ = zip_first c.next.new.self in
-    let others : List (Option ℕ) = iter_rest (zip_second c.next.new.self) in
-    let here : lost (c.in-Some.entry, c.in-Some.source.now) ≡ None =
-    lost_source-rows c.args.state.now c.args.ledger.now c.args.fragment.now c.source_rows-rows.result
-    c.metadata-metadata.result.now c.metadata-metadata.ensures
-    c.source_rows-rows.ensures.well_formed c.source_rows-rows.ensures.rows c.in-Some.entry c.in-Some.source.now
-    ∙ c.in_ok-check_source.ensures in
-    c.loop-entry.invariant
-    ∙ lost-next lost _ rest _ others c.in-Some.entry c.in-Some.source.now c.in-Some.ensures.steps.0
-    c.in-Some.ensures.steps.1
-    ∙ ap (λ reason. option_or reason (first_reason (map lost (zip rest others)))) here
+    let w : Word = c.in-Some.word in
+    let rest : List Word = c.next.new.self in
+    let sources : List (Option ℕ) = c.loop-word.sources.now in
+    let was = c.loop-word.invariant.rising in
+    let rising = subst (λ (ws : List Word). AreRising was.0 ws) c.in-Some.ensures.steps was.1 in
+    let left : drop (length (entries_in w)) sources ≡ _ =
+    ap (λ n. drop n sources) (ones-entries w (omega arith))
+    ∙ sym (drop_min (ones w.bits) sources)
+    ∙ ap (λ n. drop n sources) (sym c.min-checked.ensures)
+    ∙ sym (take_rest sources c.min-checked.result) in
+    record {
+      lost =
+          c.loop-word.invariant.lost
+          ∙ ap (λ (ws : List Word). first_reason (map lost (zip (entries_of ws) sources))) c.in-Some.ensures.steps
+          ∙ lost-word (λ e. e / 64 ≡ w.number) lost (lost_bit c.copies_of-copies.result)
+          (λ e source at.
+          lost_source-rows c.args.state.now c.args.ledger.now c.args.fragment.now c.source_rows-rows.result
+          c.metadata-metadata.result.now c.metadata-metadata.ensures
+          c.source_rows-rows.ensures.well_formed c.source_rows-rows.ensures.rows e source
+          ∙ lost_copy-bit c.source_rows-rows.result c.metadata-metadata.result.now c.args.fragment.now w.number
+          c.copies_of-copies.result c.copies_of-copies.ensures e source at)
+          (entries_in w) (entries_of rest) sources (entries_in-within w)
+          ∙ ap (λ reason.
+          option_or reason (first_reason (map lost (zip (entries_of rest) (drop (length (entries_in w)) sources)))))
+          c.in_ok-check_word.ensures
+          ∙ ap (λ (zs : List (Option ℕ)). first_reason (map lost (zip (entries_of rest) zs))) left;
+      rising = (w.number + 1, rising.2);
+    }
 
-pub returns-in_err-check_source : goal.returns-in_err-check_source
-returns-in_err-check_source c =
+pub returns-in_err-check_word : goal.returns-in_err-check_word
+returns-in_err-check_word c =
     let lost : ℕ × Option ℕ → Option Refusal = lost_source c.args.state.now c.args.ledger.now c.args.fragment.now in
-    let rest : List ℕ = zip_first c.next.new.self in
-    let others : List (Option ℕ) = iter_rest (zip_second c.next.new.self) in
-    let here =
-    lost_source-rows c.args.state.now c.args.ledger.now c.args.fragment.now c.source_rows-rows.result
-    c.metadata-metadata.result.now c.metadata-metadata.ensures
-    c.source_rows-rows.ensures.well_formed c.source_rows-rows.ensures.rows c.in-Some.entry c.in-Some.source.now
-    ∙ c.in_err-check_source.ensures in
+    let w : Word = c.in-Some.word in
+    let rest : List Word = c.next.new.self in
+    let sources : List (Option ℕ) = c.loop-word.sources.now in
     let refused =
-    c.loop-entry.invariant
-    ∙ lost-next lost _ rest _ others c.in-Some.entry c.in-Some.source.now c.in-Some.ensures.steps.0
-    c.in-Some.ensures.steps.1
-    ∙ ap (λ reason. option_or reason (first_reason (map lost (zip rest others)))) here in
+    c.loop-word.invariant.lost
+    ∙ ap (λ (ws : List Word). first_reason (map lost (zip (entries_of ws) sources))) c.in-Some.ensures.steps
+    ∙ lost-word (λ e. e / 64 ≡ w.number) lost (lost_bit c.copies_of-copies.result)
+    (λ e source at.
+    lost_source-rows c.args.state.now c.args.ledger.now c.args.fragment.now c.source_rows-rows.result
+    c.metadata-metadata.result.now c.metadata-metadata.ensures
+    c.source_rows-rows.ensures.well_formed c.source_rows-rows.ensures.rows e source
+    ∙ lost_copy-bit c.source_rows-rows.result c.metadata-metadata.result.now c.args.fragment.now w.number
+    c.copies_of-copies.result c.copies_of-copies.ensures e source at)
+    (entries_in w) (entries_of rest) sources (entries_in-within w)
+    ∙ ap (λ reason.
+    option_or reason (first_reason (map lost (zip (entries_of rest) (drop (length (entries_in w)) sources)))))
+    c.in_err-check_word.ensures in
     search (rules, refused)
-
-pub returns : goal.returns
-returns c =
-    let lost : ℕ × Option ℕ → Option Refusal = lost_source c.args.state.now c.args.ledger.now c.args.fragment.now in
-    let entries : List ℕ = zip_first c.loop-entry.entry-iterator in
-    let sources : List (Option ℕ) = iter_rest (zip_second c.loop-entry.entry-iterator) in
-    let none : first_reason (map lost (zip entries sources)) ≡ None = elim c.in-None.ensures.steps [
-      | inl ended ↦ lost-no_entry lost entries sources ended.1.0
-      | inr ended ↦ lost-no_source lost entries sources ended.1.0
-    ] in
-    c.loop-entry.invariant ∙ none

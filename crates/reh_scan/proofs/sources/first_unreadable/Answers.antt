@@ -1,11 +1,11 @@
 -- An entry of the word that no row of its write set has can't be read, and the others can.
-use Rattle.std.proofs.Common.{◌≡◌, ◌∙◌, ℕ, Bool, not, List, [], ◌∷◌, ◌+◌, ◌*◌, ◌<◌, ◌≤◌, ◌^◌, ◌&&◌, None, Some, ap, sym, subst, arith}
-use Rattle.std.specs.Prelude.{bit_and, slice_get}
+use Rattle.std.proofs.Common.{◌≡◌, ◌∙◌, ℕ, Bool, not, List, ◌+◌, ◌*◌, ap, sym, subst}
+use Rattle.std.specs.Prelude.{bit_and}
 use Rattle.std.specs.Int.{bit_not, w64}
 use Rattle.std.specs.List.{find}
 use Rattle.reh_model.specs.Cluster.{is_readable}
 use Rattle.reh_stripe.specs.declared.words.Word.{Word}
-use Rattle.reh_stripe.specs.Words.{AreRising, entries_in, entries_of, has_bit}
+use Rattle.reh_stripe.specs.Words.{AreRising, entries_of}
 use Rattle.reh_scan.proofs.ReadingLaws.{is_readable-rows}
 use Rattle.reh_scan.proofs.WordLaws.{left-bits, found-here, found-later}
 use Rattle.reh_scan.proofs.sources.first_unreadable.Goals as goal
