@@ -10,9 +10,9 @@ ghost use Rattle.reh_stripe.specs.Words.{has_bit};
 ghost use Rattle.reh_scan.specs.Sources.{is_set_at, is_source_at, sizes_of};
 
 use reh_cluster::{Ledger, State};
-use reh_held::{is_set, word_at};
+use reh_held::word_at;
 use reh_meta::{Fragment, LedgerMeta};
-use reh_stripe::{Masks, Striped, Word, least_entry, write_set};
+use reh_stripe::{Masks, Striped, Word, least_entry};
 use reh_types::{BookieIx, MAX_ENSEMBLE_SIZE};
 
 /// The least of the entries that can't be read.
@@ -98,17 +98,4 @@ pub fn readable_word(
         readable |= word_at(rows[index as usize], number as usize) & carried;
     }
     readable
-}
-
-/// Whether the entry is in one of the rows at the indexes of its write set.
-pub fn is_readable(rows: &Rows<'_>, metadata: &LedgerMeta, entry: u32) -> bool
-    ensures { result ≡ list_any (is_set_at rows.now entry)
-        (stripe.write_set entry metadata.now.size metadata.now.write_quorum) }
-{
-    for index in write_set(entry, metadata.size(), metadata.write_quorum()) {
-        if is_set(rows[index as usize], entry) {
-            return true;
-        }
-    }
-    false
 }
