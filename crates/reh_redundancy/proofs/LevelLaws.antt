@@ -5,28 +5,25 @@ use Rattle.std.proofs.Common.{length, nat_eq, nat_le, nat_lt, arith}
 use Rattle.std.specs.Prelude.{◌==◌, bit_and, count_by}
 use Rattle.std.specs.Int.{bit_at, bit_not, w64}
 use Rattle.std.specs.Int.Count.{ones}
-use Rattle.reh_held.specs.Rows.{is_between}
 use Rattle.std.specs.List.{list_any, range_with_len}
 use Rattle.std.proofs.Math.Bool.{or-false}
-use Rattle.std.proofs.Math.Nat.{add-mod-mod}
 use Rattle.std.proofs.lemmas.Bool.{cases_lt}
 use Rattle.std.proofs.lemmas.Bool.Decides.{nat_tests}
 use Rattle.std.proofs.lemmas.Nat.{and_le_l, mod_below}
 use Rattle.std.proofs.lemmas.Nat.Bits.{bit_at-lt, bit_at_not, bit_at-zero}
 use Rattle.std.proofs.lemmas.List.{map-append}
-use Rattle.std.proofs.lemmas.List.Elements.{All-nil, All-cons}
 use Rattle.std.proofs.lemmas.List.Folds.{list_any-append}
 use Rattle.std.proofs.lemmas.List.Sums.{sum_by-cons, sum_by-append}
 use Rattle.reh_held.proofs.CountLaws.{count-append, count-cons, count-ones, count-range, range-append}
 use Rattle.reh_model.specs.Striping.{range, index_at, rank_of, is_striped, write_set}
 use Rattle.reh_model.proofs.StripingLaws.{index_at-rank_of, rank_of-index_at, is_striped-rank_of}
 use Rattle.reh_scan.specs.Sources.{is_set_at}
-use Rattle.reh_scan.specs.Masks.{has_bit, AreMasks}
+use Rattle.reh_stripe.specs.Words.{has_bit, is_between}
+use Rattle.reh_stripe.proofs.WordLaws.{has_bit-none, has_bit-and, has_bit-or, has_bit-not}
 use Rattle.reh_scan.proofs.ReadingLaws.{is_set_there}
 use Rattle.reh_scan.proofs.SurveyLaws.{counted_below, counted-all, is_counted}
-use Rattle.reh_scan.proofs.MaskLaws.{has_bit-and, has_bit-none, has_bit-or, is_read_at}
+use Rattle.reh_scan.proofs.WordLaws.{is_read_at}
 use Rattle.reh_redundancy.specs.Levels.{AreLevels, AreRaised}
-use Rattle.reh_redundancy.proofs.CountLaws.{count_same_below}
 
 -- The write set of an entry and the indexes that carry it
 
@@ -165,41 +162,15 @@ count-carried p e n q within =
     ∙ count_among p e n q within
     ∙ ap (λ k. count_by p (first_ranks e n k)) (sym whole)
 
--- The masks of a word
+-- Levels
 
--- ranks go on from word to word
-rank_of-more : (a t i n : ℕ) → i < n → rank_of t (rank_of a i n) n ≡ rank_of (a + t) i n
-rank_of-more a t i n inside =
-    let r : ℕ = rank_of a i n in
-    let r_in : r < n = mod_below (i + n - a % n) n (omega arith) in
-    let j : ℕ = rank_of t r n in
-    let j_in : j < n = mod_below (r + n - t % n) n (omega arith) in
-    let group : (a + t) + j ≡ a + (t + j) = omega arith in
-    let at : index_at (a + t) n j ≡ i =
-    ap (λ k. k % n) group
-    ∙ sym (add-mod-mod a (t + j) n)
-    ∙ ap (λ k. (a + k) % n) (index_at-rank_of t r n r_in)
-    ∙ index_at-rank_of a i n inside in
-    sym (rank_of-index_at (a + t) i n j j_in at)
-
--- a mask of a rank tells which entries of the word the index carries
-has_bit-mask : (masks : List ℕ) (size quorum number i index : ℕ) → 1 ≤ quorum → quorum ≤ size → index < size → i < 64
-    → AreMasks size quorum masks
-    → has_bit (slice_index masks (rank_of (64 * number) index size)) i ≡ is_striped (64 * number + i) index size quorum
-has_bit-mask masks size quorum number i index some within inside bit are =
-    let r : ℕ = rank_of (64 * number) index size in
-    let r_in : r < size = mod_below (index + size - (64 * number) % size) size (omega arith) in
-    are r r_in i bit
-    ∙ is_striped-rank_of i r size quorum some within r_in
-    ∙ ap (λ n. nat_lt n quorum) (rank_of-more (64 * number) i index size inside)
-    ∙ sym (is_striped-rank_of (64 * number + i) index size quorum some within inside)
-
--- the bits that a row's word gives by a mask
-has_bit-read : (rows : List (Bor (List ℕ))) (masks : List ℕ) (size number index read mask i : ℕ) (d : Bor (List ℕ))
+-- the bits that a row's word gives, of the entries that the index carries
+has_bit-read : (rows : List (Bor (List ℕ))) (size quorum number index read carried i : ℕ) (d : Bor (List ℕ))
     → index < length rows → i < 64
-    → read ≡ slice_index (get_or rows index d).now number → mask ≡ slice_index masks (rank_of (64 * number) index size)
-    → has_bit (bit_and read mask) i ≡ is_read_at rows masks size number i index
-has_bit-read rows masks size number index read mask i d within inside is_read is_mask =
+    → read ≡ slice_index (get_or rows index d).now number
+    → ((i : ℕ) → i < 64 → has_bit carried i ≡ is_striped (64 * number + i) index size quorum)
+    → has_bit (bit_and read carried) i ≡ is_read_at rows size quorum (64 * number + i) index
+has_bit-read rows size quorum number index read carried i d within inside is_read is_carried =
     let place : (64 * number + i) / 64 ≡ number = omega arith in
     let bit : (64 * number + i) % 64 ≡ i = omega arith in
     let set_there : is_set_at rows (64 * number + i) index ≡ has_bit read i =
@@ -207,16 +178,14 @@ has_bit-read rows masks size number index read mask i d within inside is_read is
     ∙ ap (λ n. bit_at (slice_index (get_or rows index d).now n) ((64 * number + i) % 64) == 1) place
     ∙ ap (λ n. bit_at (slice_index (get_or rows index d).now number) n == 1) bit
     ∙ ap (λ n. has_bit n i) (sym is_read) in
-    has_bit-and read mask i ∙ (λ k. sym set_there k && has_bit (is_mask k) i)
-
--- Levels
+    has_bit-and read carried i ∙ (λ k. sym set_there k && is_carried i inside k)
 
 -- the levels of the copies at the indexes below this one
-abbrev pub AreCounted : List (Bor (List ℕ)) → List ℕ → ℕ → ℕ → ℕ → ℕ → List ℕ → Type 0
-AreCounted rows masks size top number index levels =
+abbrev pub AreCounted : List (Bor (List ℕ)) → ℕ → ℕ → ℕ → ℕ → List ℕ → Type 0
+AreCounted rows size top number index levels =
     (k i : ℕ) → k ≤ top → i < 64
     → has_bit (slice_index levels k) i
-    ≡ nat_le k (count_by (is_read_at rows masks size number i) (range_with_len 0 index))
+    ≡ nat_le k (count_by (is_read_at rows size top (64 * number + i)) (range_with_len 0 index))
 
 has_bit-all : (i : ℕ) → i < 64 → has_bit (bit_not w64 0) i ≡ true
 has_bit-all i inside =
@@ -239,30 +208,31 @@ none_over k = grind (arith, nat_tests)
 all_over : (n : ℕ) → nat_le 0 n ≡ true
 all_over n = grind (arith, nat_tests)
 
-pub levels-none : (rows : List (Bor (List ℕ))) (masks : List ℕ) (size top number n : ℕ)
-    → AreCounted rows masks size top number 0 (bit_not w64 0 ∷ zeros n)
-levels-none rows masks size top number n zero i within inside = has_bit-all i inside ∙ sym (all_over 0)
-levels-none rows masks size top number n (suc k) i within inside =
+pub levels-none : (rows : List (Bor (List ℕ))) (size top number n : ℕ)
+    → AreCounted rows size top number 0 (bit_not w64 0 ∷ zeros n)
+levels-none rows size top number n zero i within inside = has_bit-all i inside ∙ sym (all_over 0)
+levels-none rows size top number n (suc k) i within inside =
     ap (λ w. has_bit w i) (zeros-at n k) ∙ has_bit-none i ∙ none_over k
 
 one_higher : (k n : ℕ) (one : Bool) → (nat_le (k + 1) n || (nat_le k n && one)) ≡ nat_le (k + 1) (n + cond one 1 0)
 one_higher k n true = grind (arith, nat_tests)
 one_higher k n false = grind (arith, nat_tests)
 
-pub levels-more : (rows : List (Bor (List ℕ))) (masks : List ℕ) (size top number index read mask : ℕ) (old new : List ℕ)
+pub levels-more : (rows : List (Bor (List ℕ))) (size top number index read carried : ℕ) (old new : List ℕ)
     → (d : Bor (List ℕ)) → index < length rows
-    → read ≡ slice_index (get_or rows index d).now number → mask ≡ slice_index masks (rank_of (64 * number) index size)
-    → AreCounted rows masks size top number index old → AreRaised old new (bit_and read mask) top
-    → AreCounted rows masks size top number (index + 1) new
-levels-more rows masks size top number index read mask old new d within is_read is_mask was raised zero i low inside =
+    → read ≡ slice_index (get_or rows index d).now number
+    → ((i : ℕ) → i < 64 → has_bit carried i ≡ is_striped (64 * number + i) index size top)
+    → AreCounted rows size top number index old → AreRaised old new (bit_and read carried) top
+    → AreCounted rows size top number (index + 1) new
+levels-more rows size top number index read carried old new d within is_read is_carried was raised zero i low inside =
     ap (λ w. has_bit w i) raised.all ∙ was 0 i low inside
-    ∙ all_over (count_by (is_read_at rows masks size number i) (range_with_len 0 index))
-    ∙ sym (all_over (count_by (is_read_at rows masks size number i) (range_with_len 0 (index + 1))))
-levels-more rows masks size top number index read mask old new d within is_read is_mask was raised (suc k) i low inside =
+    ∙ all_over (count_by (is_read_at rows size top (64 * number + i)) (range_with_len 0 index))
+    ∙ sym (all_over (count_by (is_read_at rows size top (64 * number + i)) (range_with_len 0 (index + 1))))
+levels-more rows size top number index read carried old new d within is_read is_carried was raised (suc k) i low inside =
     let at : suc k ≡ k + 1 = omega arith in
-    let reads : ℕ → Bool = is_read_at rows masks size number i in
+    let reads : ℕ → Bool = is_read_at rows size top (64 * number + i) in
     let n : ℕ = count_by reads (range_with_len 0 index) in
-    let word : ℕ = bit_and read mask in
+    let word : ℕ = bit_and read carried in
     ap (λ m. has_bit (slice_index new m) i) at
     ∙ ap (λ w. has_bit w i) (raised.each k (omega arith))
     ∙ has_bit-or (slice_index old (k + 1)) (bit_and (slice_index old k) word) i
@@ -271,41 +241,19 @@ levels-more rows masks size top number index read mask old new d within is_read 
     || (has_bit-and (slice_index old k) word i
     ∙ (λ h.
     was k i (omega arith) inside h
-    && has_bit-read rows masks size number index read mask i d within inside is_read is_mask h)) j)
+    && has_bit-read rows size top number index read carried i d within inside is_read is_carried h)) j)
     ∙ one_higher k n (reads index)
     ∙ ap (λ m. nat_le (k + 1) m) (sym (count_more reads index))
     ∙ ap (λ m. nat_le m (count_by reads (range_with_len 0 (index + 1)))) (sym at)
 
-below_range : (a n stop : ℕ) → a + n ≤ stop → All (λ e. e < stop) (range_with_len a n)
-below_range a zero stop within = All-nil (λ e. e < stop)
-below_range a (suc n) stop within =
-    All-cons (λ e. e < stop) a (range_with_len (a + 1) n) (omega arith) (below_range (a + 1) n stop (omega arith))
-
-pub levels-all : (rows : List (Bor (List ℕ))) (masks : List ℕ) (size quorum number : ℕ) (levels : List ℕ)
-    → 1 ≤ quorum → quorum ≤ size → AreMasks size quorum masks
-    → AreCounted rows masks size quorum number size levels
+pub levels-all : (rows : List (Bor (List ℕ))) (size quorum number : ℕ) (levels : List ℕ) → quorum ≤ size
+    → AreCounted rows size quorum number size levels
     → AreLevels levels quorum number (λ e. count_by (is_set_at rows e) (write_set e size quorum))
-levels-all rows masks size quorum number levels some within are was k i low inside =
+levels-all rows size quorum number levels within was k i low inside =
     was k i low inside
-    ∙ ap (nat_le k)
-    (count_same_below (is_read_at rows masks size number i)
-    (λ index. is_set_at rows (64 * number + i) index && is_striped (64 * number + i) index size quorum) size
-    (λ index below.
-    ap (λ b. is_set_at rows (64 * number + i) index && b)
-    (has_bit-mask masks size quorum number i index some within below inside are))
-    (range_with_len 0 size) (below_range 0 size size (omega arith))
-    ∙ count-carried (is_set_at rows (64 * number + i)) (64 * number + i) size quorum within)
+    ∙ ap (nat_le k) (count-carried (is_set_at rows (64 * number + i)) (64 * number + i) size quorum within)
 
 -- Words
-
-not_one : (b : ℕ) → b < 2 → (1 - b == 1) ≡ not (b == 1)
-not_one zero within = refl
-not_one (suc zero) within = refl
-not_one (suc (suc b)) within = absurd (omega arith)
-
-has_bit-not : (w i : ℕ) → w < 2 ^ 64 → i < 64 → has_bit (bit_not w64 w) i ≡ not (has_bit w i)
-has_bit-not w i within inside =
-    ap (λ (b : ℕ). b == 1) (bit_at_not w64 w i within inside) ∙ not_one (bit_at w i) (bit_at-lt w i)
 
 -- the bits of one word that another lacks
 pub ones-without : (bits others : ℕ) → bits < 2 ^ 64 → others < 2 ^ 64

@@ -32,3 +32,11 @@ AreAtMost-with m k n counts more within left right = record {
   under_ack = omega (arith, within, left.under_ack, right.under_ack);
   under_write = omega (arith, within, left.under_write, right.under_write);
 }
+
+-- a wider limit
+pub AreAtMost-wider : (m n : ℕ) (counts : Redundancy) → m ≤ n → AreAtMost m counts → AreAtMost n counts
+AreAtMost-wider m n counts within was = record {
+  lost = omega (arith, within, was.lost);
+  under_ack = omega (arith, within, was.under_ack);
+  under_write = omega (arith, within, was.under_write);
+}

@@ -1,6 +1,6 @@
 -- Words that count copies: the word of level k has the entries with at least k copies.
 use Rattle.std.specs.Prelude.{◌≡◌, ℕ, ◌+◌, ◌*◌, ◌<◌, ◌≤◌, nat_le, List, slice_index, bit_and, bit_or}
-use Rattle.reh_scan.specs.Masks.{has_bit}
+use Rattle.reh_stripe.specs.Words.{has_bit}
 
 -- the levels up to the top one after one copy more of the entries of a word
 pub record AreRaised (old new : List ℕ) (word top : ℕ) : Type 0 where

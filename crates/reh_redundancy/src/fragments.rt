@@ -2,23 +2,25 @@
 ghost use Rattle.std.specs.Prelude.{◌≡◌, ◌*◌, ◌^◌, ◌<◌, ◌≤◌, length, unwrap_or, Some};
 ghost use Rattle.reh_model.specs.Metadata as meta;
 ghost use Rattle.reh_model.specs.Recovery as recovery;
-ghost use Rattle.reh_scan.specs.Masks.{AreMasks};
+ghost use Rattle.reh_scan.specs.Sources.{sizes_of};
 ghost use Rattle.reh_redundancy.specs.Bounds.{AreAtMost};
 ghost use Rattle.reh_redundancy.specs.Losses.{losing};
 ghost use Rattle.reh_redundancy.specs.Redundancy as model;
 
 use crate::counts::Redundancy;
-use crate::masks::{Masks, stripe_masks};
 use crate::rows::rows_without;
 use crate::words::count_words;
 use reh_cluster::{Ledger, State};
 use reh_meta::Fragment;
+use reh_scan::masks_of;
+use reh_stripe::Masks;
 use reh_types::BookieSet;
 
 /// How many entries of all ledgers have too few copies while these bookies are lost, besides those that aren't
 /// registered. It takes no memory.
 pub fn redundancy(state: &State, lost: &BookieSet) -> Redundancy
-    ensures { result ≡ model.redundancy (losing state.now lost.now) }
+    ensures counts { result ≡ model.redundancy (losing state.now lost.now) }
+    ensures limit { AreAtMost (2 ^ 49) result }
 {
     let mut sum = Redundancy::none();
     for ledger in state.ledgers() {
@@ -34,7 +36,7 @@ pub fn ledger_redundancy(state: &State, lost: &BookieSet, ledger: &Ledger) -> Re
     ensures limit { AreAtMost (2 ^ 40) result }
 {
     let fragments = ledger.metadata().fragments();
-    let masks = stripe_masks(ledger.metadata());
+    let masks = masks_of(ledger.metadata());
     let mut sum = Redundancy::none();
     for number in 0..fragments.len() {
         sum = sum.plus(&counts_of(state, lost, ledger, &masks, number, &fragments[number]));
@@ -54,7 +56,7 @@ pub fn fragment_redundancy(
     ensures { model.fragment_at (losing state.now lost.now) ledger.now number ≡ Some result }
 {
     let metadata = ledger.metadata();
-    let masks = stripe_masks(metadata);
+    let masks = masks_of(metadata);
     let fragment = &metadata.fragments()[number];
     counts_of(state, lost, ledger, &masks, number, fragment)
 }
@@ -69,7 +71,7 @@ fn counts_of(
     fragment: &Fragment,
 ) -> Redundancy
     requires ensemble { length fragment.now.ensemble ≡ ledger.now.metadata.size }
-    requires masks { AreMasks ledger.now.metadata.size ledger.now.metadata.write_quorum masks.now }
+    requires masks { masks.now ≡ sizes_of ledger.now.metadata }
     ensures counts { result
         ≡ model.fragment_redundancy (losing state.now lost.now) ledger.now number fragment.now }
     ensures limit { AreAtMost (2 ^ 32) result }

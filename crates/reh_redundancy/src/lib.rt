@@ -5,7 +5,6 @@ mod changes;
 mod counts;
 mod fragments;
 mod laws;
-mod masks;
 mod rows;
 mod verdicts;
 mod words;

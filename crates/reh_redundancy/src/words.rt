@@ -1,18 +1,18 @@
 // Copies of the entries of a fragment, counted by words of 64 entries each.
-ghost use Rattle.std.specs.Prelude.{◌≡◌, ◌+◌, ◌*◌, ◌^◌, ◌<◌, ◌≤◌, ◌&&◌, count_by, not, slice_index};
+ghost use Rattle.std.specs.Prelude.{◌≡◌, ◌+◌, ◌*◌, ◌^◌, ◌<◌, ◌≤◌, ◌&&◌, count_by, not};
 ghost use Rattle.std.specs.List.{range_with_len};
 ghost use Rattle.reh_types.specs.declared.limits.TheConstants.{MAX_ENSEMBLE_SIZE};
 ghost use Rattle.reh_model.specs.Striping.{range};
-ghost use Rattle.reh_scan.specs.Masks.{has_bit, AreMasks};
+ghost use Rattle.reh_stripe.specs.Words.{has_bit};
+ghost use Rattle.reh_scan.specs.Sources.{sizes_of};
 ghost use Rattle.reh_redundancy.specs.Levels.{AreLevels, AreRaised};
 ghost use Rattle.reh_redundancy.specs.Rows.{row_copies, rows_under};
 
 use crate::counts::Redundancy;
-use crate::masks::Masks;
-use reh_held::bits_between;
+use reh_held::word_at;
 use reh_meta::LedgerMeta;
 use reh_scan::Rows;
-use reh_stripe::rank_from;
+use reh_stripe::{Masks, bits_between};
 use reh_types::MAX_ENSEMBLE_SIZE;
 
 /// How many of the entries from the first to the last are in too few rows at the indexes of their write sets.
@@ -23,7 +23,7 @@ pub(crate) fn count_words(
     first: u32,
     last: u32,
 ) -> Redundancy
-    requires masks { AreMasks metadata.now.size metadata.now.write_quorum masks.now }
+    requires masks { masks.now ≡ sizes_of metadata.now }
     requires order { first ≤ last }
     requires last { last + 1 < 2 ^ 32 }
     ensures { result ≡ record {
@@ -59,7 +59,7 @@ type Levels = [u64; LEVELS];
 
 /// The levels of a word's entries, up to the write quorum.
 fn levels_of(rows: &Rows<'_>, masks: &Masks, metadata: &LedgerMeta, number: u32) -> Levels
-    requires masks { AreMasks metadata.now.size metadata.now.write_quorum masks.now }
+    requires masks { masks.now ≡ sizes_of metadata.now }
     requires number { 64 * number < 2 ^ 32 }
     ensures { AreLevels result metadata.now.write_quorum number (row_copies rows.now metadata.now) }
 {
@@ -68,8 +68,8 @@ fn levels_of(rows: &Rows<'_>, masks: &Masks, metadata: &LedgerMeta, number: u32)
     let mut levels = [0; LEVELS];
     levels[0] = !0;
     for index in 0..size {
-        let mask = masks[rank_from(start, index, size) as usize];
-        let word = word_at(rows[index as usize], number as usize) & mask;
+        let carried = masks.carried(start, index);
+        let word = word_at(rows[index as usize], number as usize) & carried;
         raise(&mut levels, word, metadata.write_quorum());
     }
     levels
@@ -92,14 +92,4 @@ fn count_without(bits: u64, others: u64) -> u64
         ≡ count_by (λ i. has_bit bits i && not (has_bit others i)) (range_with_len 0 64) }
 {
     (bits & !others).count_ones() as u64
-}
-
-/// A word of a row, which has no entry past its words.
-fn word_at(row: &[u64], number: usize) -> u64
-    ensures { result ≡ slice_index row.now number }
-{
-    match row.get(number) {
-        Some(word) => *word,
-        None => 0,
-    }
 }

@@ -1,12 +1,13 @@
 -- The counts of a ledger more.
 use Rattle.std.proofs.Common.{◌≡◌, ◌∙◌, ◌+◌, ◌*◌, ◌<◌, ◌≤◌, ℕ, List, map, length, get_or, ap, sym, subst, arith}
 use Rattle.std.proofs.lemmas.List.{get_or-map, length-map}
+use Rattle.reh_types.specs.declared.limits.TheConstants.{MAX_LEDGERS}
 use Rattle.reh_model.specs.Cluster.{Cluster, Ledger}
 use Rattle.reh_redundancy.specs.declared.counts.Redundancy.{Redundancy}
 use Rattle.reh_redundancy.specs.Bounds.{AreAtMost}
 use Rattle.reh_redundancy.specs.Losses.{losing}
 use Rattle.reh_redundancy.specs.Redundancy.{ledger_redundancy}
-use Rattle.reh_redundancy.proofs.SumLaws.{AreAtMost-with, sum_of-more, sum_with}
+use Rattle.reh_redundancy.proofs.SumLaws.{AreAtMost-with, AreAtMost-wider, sum_of-more, sum_with}
 use Rattle.reh_redundancy.proofs.fragments.redundancy.Goals as goal
 
 pub loop-ledger-preserved : goal.loop-ledger-preserved
@@ -32,3 +33,12 @@ loop-ledger-preserved c =
           c.ledger_redundancy.result more
           c.loop-ledger.invariant.limit c.ledger_redundancy.ensures.limit);
     }
+
+pub returns-clause-limit : goal.returns-clause-limit
+returns-clause-limit c =
+    let ledgers : List Ledger = c.ledgers-ledger-items.result.now in
+    let many : length ledgers ≡ length c.args.state.now.parts.ledgers = ap length c.ledgers-ledger-items.ensures.ledgers in
+    let few : length c.args.state.now.parts.ledgers ≤ MAX_LEDGERS =
+    c.ledgers-ledger-items.ensures.well_formed.ledgers.few in
+    AreAtMost-wider (1099511627776 * c.loop-ledger.ledger-index) 562949953421312 c.loop-ledger.sum
+    (omega (arith, many, few)) c.loop-ledger.invariant.limit

@@ -23,7 +23,7 @@ pub returns-clause-verdict : goal.returns-clause-verdict
 returns-clause-verdict c =
     c.verdict_of.ensures
     ∙ by_counts c.args.state.now c.new.result c.args.bookies.now c.args.allow_under_ack c.redundancy-before.result
-    c.redundancy-after.result c.new.ensures c.redundancy-before.ensures c.redundancy-after.ensures
+    c.redundancy-after.result c.new.ensures c.redundancy-before.ensures.counts c.redundancy-after.ensures.counts
     ∙ verdict-counts c.args.state.now c.args.bookies.now c.args.allow_under_ack
 
 pub returns-clause-rule : goal.returns-clause-rule
@@ -31,5 +31,5 @@ returns-clause-rule c =
     ap is_yes
     (c.verdict_of.ensures
     ∙ by_counts c.args.state.now c.new.result c.args.bookies.now c.args.allow_under_ack c.redundancy-before.result
-    c.redundancy-after.result c.new.ensures c.redundancy-before.ensures c.redundancy-after.ensures)
+    c.redundancy-after.result c.new.ensures c.redundancy-before.ensures.counts c.redundancy-after.ensures.counts)
     ∙ verdict-rule c.args.state.now c.args.bookies.now c.args.allow_under_ack

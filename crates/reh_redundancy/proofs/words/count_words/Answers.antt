@@ -3,7 +3,7 @@ use Rattle.std.proofs.Common.{◌≡◌, ◌∙◌, ◌+◌, ◌*◌, ◌/◌, �
 use Rattle.std.specs.Prelude.{◌&&◌, ◌^◌, count_by}
 use Rattle.std.specs.List.{range_with_len}
 use Rattle.reh_model.specs.Metadata.{Metadata, IsMetadata}
-use Rattle.reh_scan.specs.Masks.{has_bit}
+use Rattle.reh_stripe.specs.Words.{has_bit}
 use Rattle.reh_scan.proofs.SurveyLaws.{counted_below, counted-none, count-le, is_counted}
 use Rattle.reh_redundancy.specs.Rows.{row_copies}
 use Rattle.reh_redundancy.proofs.LevelLaws.{word-more, words-all}
