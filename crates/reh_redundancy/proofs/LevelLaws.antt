@@ -1,6 +1,6 @@
 -- Levels of the copies of a word's entries, raised index by index.
 use Rattle.std.proofs.Common.{◌≡◌, ◌≢◌, ◌∙◌, ◌+◌, ◌-◌, ◌*◌, ◌/◌, ◌%◌, ◌^◌, ◌<◌, ◌≤◌, ◌&&◌, ◌||◌, not, cond, ℕ, zero, suc}
-use Rattle.std.proofs.Common.{Bool, true, false, List, [], ◌∷◌, ◌++◌, inl, inr, Bor, All, refl, ap, sym, map, get_or, slice_index}
+use Rattle.std.proofs.Common.{Bool, true, false, List, [], ◌∷◌, ◌++◌, inl, inr, Bor, refl, ap, sym, map, get_or, slice_index}
 use Rattle.std.proofs.Common.{length, nat_eq, nat_le, nat_lt, arith}
 use Rattle.std.specs.Prelude.{◌==◌, bit_and, count_by}
 use Rattle.std.specs.Int.{bit_at, bit_not, w64}
@@ -10,13 +10,13 @@ use Rattle.std.proofs.Math.Bool.{or-false}
 use Rattle.std.proofs.lemmas.Bool.{cases_lt}
 use Rattle.std.proofs.lemmas.Bool.Decides.{nat_tests}
 use Rattle.std.proofs.lemmas.Nat.{and_le_l, mod_below}
-use Rattle.std.proofs.lemmas.Nat.Bits.{bit_at-lt, bit_at_not, bit_at-zero}
+use Rattle.std.proofs.lemmas.Nat.Bits.{bit_at_not, bit_at-zero}
 use Rattle.std.proofs.lemmas.List.{map-append}
 use Rattle.std.proofs.lemmas.List.Folds.{list_any-append}
 use Rattle.std.proofs.lemmas.List.Sums.{sum_by-cons, sum_by-append}
 use Rattle.reh_held.proofs.CountLaws.{count-append, count-cons, count-ones, count-range, range-append}
 use Rattle.reh_model.specs.Striping.{range, index_at, rank_of, is_striped, write_set}
-use Rattle.reh_model.proofs.StripingLaws.{index_at-rank_of, rank_of-index_at, is_striped-rank_of}
+use Rattle.reh_model.proofs.StripingLaws.{rank_of-index_at, is_striped-rank_of}
 use Rattle.reh_scan.specs.Sources.{is_set_at}
 use Rattle.reh_stripe.specs.Words.{has_bit, is_between}
 use Rattle.reh_stripe.proofs.WordLaws.{has_bit-none, has_bit-and, has_bit-or, has_bit-not}
