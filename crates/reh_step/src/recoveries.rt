@@ -12,9 +12,9 @@ ghost use Rattle.reh_step.specs.Marks.{is_marked};
 
 use reh_cluster::{Ledger, State};
 use reh_meta::{Fragment, LedgerMeta};
-use reh_scan::{is_readable, source_rows};
-use reh_stripe::write_set;
-use reh_types::{MAX_ENSEMBLE_SIZE, Refusal};
+use reh_scan::first_unreadable;
+use reh_stripe::{Striped, write_set};
+use reh_types::{ENTRY_END, MAX_ENSEMBLE_SIZE, Refusal};
 
 /// The last fragment, to which the ledger's writer appends.
 pub(crate) fn last_fragment(ledger: &Ledger) -> &Fragment
@@ -39,35 +39,44 @@ pub(crate) fn next_entry(state: &State, ledger: &Ledger) -> u32
 }
 
 /// Where a recovery ends the ledger, the first entry of the last fragment that can't be read, if enough registered
-/// members
-/// answer it: for each entry that it passes, an ack quorum of its write set, and for the one where it ends, which all
-/// that answer lack, so many that the others are no ack quorum.
+/// members answer it: for each entry that it passes, an ack quorum of its write set, and for the one where it ends,
+/// which all that answer lack, so many that the others are no ack quorum.
 ///
-/// BookKeeper's recovery (`LedgerRecoveryOp`) reads on from the last fragment's first entry, writes each entry back,
-/// and
+/// BookKeeper's recovery (`LedgerRecoveryOp`) reads on from the last fragment's first entry, writes each entry back, and
 /// ends at the first one that no ack quorum can have stored.
 pub(crate) fn find_end(state: &State, ledger: &Ledger) -> Result<u32, Refusal>
     ensures { Finds result (first_reason
         (model.too_few state.now ledger.now ∷ model.undecided state.now ledger.now ∷ []))
         (λ end. end ≡ recovery.recovered_end state.now ledger.now) }
 {
-    let _well_formed = state.ledgers();
     let metadata = ledger.metadata();
     let last = last_fragment(ledger);
-    let rows = source_rows(state, ledger, last);
+    let end = recovered_end(state, ledger, last);
     let registered = registered_members(state, ledger, last);
-    let mut entry = last.first;
-    while is_readable(&rows, metadata, entry) {
+    // as many entries as the ensemble has members: from there on write sets repeat
+    for entry in last.first..end.min(last.first + metadata.size()) {
         if count_registered(&registered, metadata, entry) < metadata.ack_quorum() {
             return Err(Refusal::TooFew(entry as u64));
         }
-        entry += 1;
     }
     let decisive = metadata.write_quorum() - metadata.ack_quorum() + 1;
-    if count_registered(&registered, metadata, entry) < decisive {
-        return Err(Refusal::Undecided(entry as u64));
+    if count_registered(&registered, metadata, end) < decisive {
+        return Err(Refusal::Undecided(end as u64));
     }
-    Ok(entry)
+    Ok(end)
+}
+
+/// The first entry of the ledger's last fragment that can't be read.
+fn recovered_end(state: &State, ledger: &Ledger, last: &Fragment) -> u32
+    requires last { last.now ≡ meta.last_fragment ledger.now.metadata }
+    requires whole { length last.now.ensemble ≡ ledger.now.metadata.size }
+    ensures { result ≡ recovery.recovered_end state.now ledger.now }
+{
+    let _well_formed = state.ledgers();
+    let _well_formed_metadata = ledger.metadata().size();
+    // of an ensemble of one member, that member carries each entry
+    let entries = Striped::new(last.first, ENTRY_END as u32, 0, 1, 1);
+    first_unreadable(state, ledger, last, entries).unwrap_or(ENTRY_END as u32)
 }
 
 // The members of an ensemble
