@@ -1,5 +1,5 @@
 // Whether bookies may be stopped, judged from the files of pictures.
-ghost use Rattle.std.specs.Prelude.{◌≡◌, ◌≤◌, vec_len, length, IfOk};
+ghost use Rattle.std.specs.Prelude.{◌≡◌, ◌+◌, ◌≤◌, vec_len, length, IfOk, OnOk};
 ghost use Rattle.reh_verdict.specs.declared.answers.TheConstants.{MAX_PICTURES};
 
 use crate::checks::{read_picture_file, write_text};
@@ -49,21 +49,47 @@ fn judge_files<R: thread::Threads + Wait + Sync>(
 ) -> Result<Vec<Judged>, RunFault>
     ensures { IfOk result (λ judged. length judged.items ≤ MAX_PICTURES) }
 {
-    let mut slots = Vec::new(rt.alloc());
-    for path in &stop.pictures {
-        slots.push(Slot { path: *path, judged: None })?;
-    }
+    let mut slots = slots_of(rt.alloc(), &stop.pictures)?;
     let bookies = stop.bookies.as_slice();
     thread::for_each_mut(threads, &mut slots, stop.crew.workers, &|_, slot| {
         slot.judged = Some(judge_file(rt, slot.path, bookies));
     });
-    let mut judged = Vec::new(rt.alloc());
+    judged_of(rt.alloc(), slots)
+}
+
+/// A slot for each picture.
+fn slots_of<'a>(alloc: Global, pictures: &[&'a str]) -> Result<Vec<Slot<'a>>, AllocError>
+    ensures { IfOk result (λ slots. length slots.items ≡ length pictures.now) }
+{
+    let mut slots = Vec::new(alloc);
+    for path in pictures {
+        slots.push(Slot {
+            path: *path,
+            judged: None,
+        })?;
+    }
+    Ok(slots)
+}
+
+/// What is judged of each picture, or the first fault.
+fn judged_of(alloc: Global, slots: Vec<Slot<'_>>) -> Result<Vec<Judged>, RunFault>
+    ensures { IfOk result (λ judged. length judged.items ≤ length slots.items) }
+{
+    let mut judged = Vec::new(alloc);
     for slot in slots {
         if let Some(one) = slot.judged {
-            judged.push(one?)?;
+            push_judged(&mut judged, one?)?;
         }
     }
     Ok(judged)
+}
+
+/// Adds what is judged of a picture.
+fn push_judged(judged: &mut Vec<Judged>, one: Judged) -> Result<(), AllocError>
+    ensures { OnOk result (length judged.new.items ≡ length judged.old.items + 1) }
+{
+    judged.push(one)?;
+    Ok(())
 }
 
 /// Judges the picture in a file.
