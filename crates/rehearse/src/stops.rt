@@ -73,7 +73,7 @@ fn slots_of<'a>(alloc: Global, pictures: &[&'a str]) -> Result<Vec<Slot<'a>>, Al
 
 /// What is judged of each picture, or the first fault.
 fn judged_of(alloc: Global, slots: Vec<Slot<'_>>) -> Result<Vec<Judged>, RunFault>
-    ensures { IfOk result (λ judged. length judged.items ≤ length slots.items) }
+    ensures { IfOk result (λ judged. length judged.items ≤ length slots.entry.items) }
 {
     let mut judged = Vec::new(alloc);
     for slot in slots {
