@@ -16,14 +16,14 @@ pub(crate) fn check_file(rt: &HostRuntime, path: &str) -> Result<(), RunFault> {
 }
 
 /// Writes a text to standard output.
-fn write_text(rt: &HostRuntime, text: &str) -> io::Result<()> {
+pub(crate) fn write_text(rt: &HostRuntime, text: &str) -> io::Result<()> {
     let mut writer = io::writer(rt);
     writer.write_all(text.as_bytes())?;
     writer.flush()
 }
 
 /// The bytes of a picture's file, and of a longer one a byte more than a picture may have.
-fn read_picture_file(rt: &HostRuntime, path: &str) -> Result<Vec<u8>, RunFault> {
+pub(crate) fn read_picture_file(rt: &HostRuntime, path: &str) -> Result<Vec<u8>, RunFault> {
     let file = fs::open(rt, path).map_err(|error| unread(rt.alloc(), "open", path, error))?;
     let mut bytes = Vec::new(rt.alloc());
     file.take(MAX_PICTURE_BYTES as u64 + 1)

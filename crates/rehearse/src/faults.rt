@@ -17,6 +17,10 @@ pub enum RunFault {
     Picture(PictureFault),
     /// The picture that is checked is refused.
     Refused(LocatedFault),
+    /// This picture of several is refused.
+    RefusedIn(String, LocatedFault),
+    /// The bookies to stop are misnamed, as this says.
+    Misnamed(String),
     /// The file of the picture that is checked can't be opened or read, for the reason that this says.
     Unread(String),
     /// A read failed.
@@ -38,7 +42,8 @@ pub fn status_of(fault: &RunFault) -> u8
     ensures { result ≡ status_number fault.now }
 {
     match fault {
-        RunFault::Picture(_) | RunFault::Refused(_) => 3,
+        RunFault::Misnamed(_) => 2,
+        RunFault::Picture(_) | RunFault::Refused(_) | RunFault::RefusedIn(..) => 3,
         RunFault::Unread(_) | RunFault::ReadFault | RunFault::TooLong => 4,
         RunFault::WriteFault => 5,
         RunFault::NoMemory => 6,
@@ -56,6 +61,8 @@ impl fmt::Display for RunFault {
         match self {
             RunFault::Picture(fault) => write!(f, "picture: {fault}"),
             RunFault::Refused(located) => write!(f, "picture: {located}"),
+            RunFault::RefusedIn(path, located) => write!(f, "picture {path}: {located}"),
+            RunFault::Misnamed(reason) => write!(f, "{reason}"),
             RunFault::Unread(reason) => write!(f, "{reason}"),
             RunFault::ReadFault => write!(f, "read fault"),
             RunFault::TooLong => write!(f, "script too long"),

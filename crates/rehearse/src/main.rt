@@ -14,6 +14,7 @@ mod openings;
 mod operators;
 mod outcomes;
 mod runs;
+mod stops;
 mod tasks;
 
 use checks::check_file;
@@ -29,6 +30,7 @@ use std::process::ExitCode;
 use std::sync::Wait;
 use std::thread::Threads;
 use std::{env, fs, io};
+use stops::stop_over;
 use tasks::{DrillFiles, Input, Task, task_of};
 
 fn main(rt: HostRuntime) -> ExitCode {
@@ -40,6 +42,10 @@ fn main(rt: HostRuntime) -> ExitCode {
         Ok(Task::Play(input)) => end(&rt, play(&rt, &rt, input)),
         Ok(Task::Check { picture }) => end(&rt, check_file(&rt, picture)),
         Ok(Task::Drill(files)) => end(&rt, drill(&rt, &rt, files)),
+        Ok(Task::Stop(stop)) => match stop_over(&rt, &rt, &stop) {
+            Ok(status) => ExitCode::from(status),
+            Err(fault) => end(&rt, Err(fault)),
+        },
         Err(error) => show(&rt, &error),
     }
 }

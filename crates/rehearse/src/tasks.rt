@@ -3,10 +3,12 @@ ghost use Rattle.std.specs.Prelude.{◌<◌, ◌≤◌, vec_len};
 
 use crate::drills::MAX_OPERATORS;
 use crate::runs::Crew;
+use crate::stops::Stop;
 use clap::error::ErrorKind;
-use clap::{Arg, ArgMatches, Command, Error, value_parser};
+use clap::{Arg, ArgAction, ArgMatches, Command, Error, value_parser};
 use reh_crew::MAX_WORKERS;
 use reh_script::Verb;
+use reh_verdict::MAX_PICTURES;
 use std::alloc::{AllocError, Global};
 
 /// What the program is asked to do.
@@ -18,6 +20,8 @@ pub enum Task<'a> {
     Check { picture: &'a str },
     /// Plays scripts on a picture, each by an operator of its own.
     Drill(DrillFiles<'a>),
+    /// Says whether bookies may be stopped.
+    Stop(Stop<'a>),
 }
 
 /// Where the picture of a drill is, and its scripts, of which there are 1 to 8.
@@ -83,6 +87,9 @@ fn asked_task<'a>(alloc: Global, matches: &ArgMatches<'a>) -> Result<Task<'a>, A
     let Some((name, given)) = matches.subcommand() else {
         return Ok(Task::Play(Input::Pipe));
     };
+    if name == "ok-to-stop" {
+        return asked_stop(alloc, given);
+    }
     let scripts = given.get_strs("SCRIPT").unwrap_or(&[]);
     let workers = given.get_one("workers").unwrap_or(1);
     match (name, given.get_str("PICTURE"), scripts.first()) {
@@ -106,6 +113,24 @@ fn asked_task<'a>(alloc: Global, matches: &ArgMatches<'a>) -> Result<Task<'a>, A
     }
 }
 
+/// What these matches of `ok-to-stop` ask for.
+fn asked_stop<'a>(alloc: Global, given: &ArgMatches<'a>) -> Result<Task<'a>, AllocError> {
+    let pictures = given.get_strs("PICTURE").unwrap_or(&[]);
+    let bookies = given.get_strs("lose").unwrap_or(&[]);
+    let workers = given.get_one("workers").unwrap_or(1);
+    if pictures.len() <= MAX_PICTURES && 0 < workers && workers <= MAX_WORKERS {
+        let crew = Crew { workers };
+        return Ok(Task::Stop(Stop {
+            pictures: pictures.to_vec(alloc)?,
+            bookies: bookies.to_vec(alloc)?,
+            crew,
+            allow_under_ack: given.get_flag("allow-under-ack"),
+        }));
+    }
+    // The parser lets no other number of pictures or workers through.
+    Ok(Task::Play(Input::Pipe))
+}
+
 /// Help, as an error, for words that ask for it. It has the list of commands, which is made here alone.
 fn show_help(alloc: Global, words: &[String]) -> Result<(), Error> {
     let ways = all_ways(alloc)?;
@@ -124,17 +149,13 @@ fn all_ways(alloc: Global) -> Result<String, AllocError> {
     Ok(ways)
 }
 
-/// The command line: no word, `run PICTURE SCRIPT --workers N`, `talk PICTURE`, `check PICTURE`, or
-/// `drill PICTURE SCRIPT..`.
+/// The command line: no word, `run PICTURE SCRIPT --workers N`, `talk PICTURE`, `check PICTURE`,
+/// `drill PICTURE SCRIPT..`, or `ok-to-stop --lose BOOKIE,.. PICTURE..`.
 fn command<'a>(alloc: Global, ways: &'a str) -> Result<Command<'a>, Error> {
     let script = Arg::new(alloc, "SCRIPT")
         .required(true)
         .help("A file with the script");
-    let workers = Arg::new(alloc, "workers")
-        .long("workers")
-        .value_name("N")
-        .value_parser(value_parser!(u64).range(1..=MAX_WORKERS as i64))
-        .help("How many workers make each survey, 1 to 8; by default 1");
+    let workers = workers_arg(alloc)?.help("How many workers make each survey, 1 to 8; by default 1");
     let run = Command::new(alloc, "run")
         .about("Plays a script on a picture, each in a file")
         .arg(picture_arg(alloc))?
@@ -154,6 +175,7 @@ fn command<'a>(alloc: Global, ways: &'a str) -> Result<Command<'a>, Error> {
         .about("Plays scripts on a picture, each by an operator with a thread of its own")
         .arg(picture_arg(alloc))?
         .arg(scripts)?;
+    let stop = stop_command(alloc)?;
     let command = Command::new(alloc, "rehearse")
         .version(VERSION)
         .about(ABOUT)
@@ -162,8 +184,44 @@ fn command<'a>(alloc: Global, ways: &'a str) -> Result<Command<'a>, Error> {
         .subcommand(run)?
         .subcommand(talk)?
         .subcommand(check)?
-        .subcommand(drill)?;
+        .subcommand(drill)?
+        .subcommand(stop)?;
     Ok(command)
+}
+
+/// The command `ok-to-stop`.
+fn stop_command<'a>(alloc: Global) -> Result<Command<'a>, Error> {
+    let bookies = Arg::new(alloc, "lose")
+        .long("lose")
+        .value_name("BOOKIE")
+        .value_delimiter(',')
+        .required(true)
+        .help("The bookies to stop, with commas between them");
+    let allow = Arg::new(alloc, "allow-under-ack")
+        .long("allow-under-ack")
+        .action(ArgAction::SetTrue)
+        .help("Lets entries fall under their ack quorum, as long as they can be read");
+    let workers = workers_arg(alloc)?.help("How many workers judge pictures, 1 to 8; by default 1");
+    let pictures = Arg::new(alloc, "PICTURE")
+        .required(true)
+        .num_args(1..=MAX_PICTURES)
+        .help("Files with pictures of one cluster, which are judged as one");
+    let command = Command::new(alloc, "ok-to-stop")
+        .about("Says whether bookies may be stopped, and what that leaves with too few copies")
+        .arg(bookies)?
+        .arg(allow)?
+        .arg(workers)?
+        .arg(pictures)?;
+    Ok(command)
+}
+
+/// The argument for a number of workers, 1 to 8.
+fn workers_arg<'a>(alloc: Global) -> Result<Arg<'a>, Error> {
+    let workers = Arg::new(alloc, "workers")
+        .long("workers")
+        .value_name("N")
+        .value_parser(value_parser!(u64).range(1..=MAX_WORKERS as i64));
+    Ok(workers)
 }
 
 /// The argument that names a picture's file.

@@ -1,0 +1,2 @@
+pub mod BookieLaws
+pub mod AnswerLaws

@@ -1,0 +1,43 @@
+-- A word more.
+use Rattle.std.proofs.Common.{◌≡◌, ◌∙◌, ◌<◌, ℕ, List, Bor, Some, None, ◌+◌, length, get_or, ap, sym, subst, arith}
+use Rattle.std.specs.Prelude.{slice_get}
+use Rattle.std.proofs.lemmas.Option.{slice_get-get_or}
+use Rattle.reh_types.specs.Sets as set
+use Rattle.reh_types.specs.Sets.{Set, numbers}
+use Rattle.reh_model.specs.Cluster.{bookie_named}
+use Rattle.reh_verdict.proofs.BookieLaws.{AreNamedBelow, named-none, named-more, named-all}
+use Rattle.reh_verdict.proofs.BookieLaws.{misnamed-unknown, misnamed-twice}
+use Rattle.reh_verdict.proofs.bookies.find_bookies.Goals as goal
+
+pub loop-number-init : goal.loop-number-init
+loop-number-init c =
+    subst (λ (bookies : Set numbers). AreNamedBelow c.args.names.now c.args.words.now 0 bookies)
+    (sym c.new-bookies.ensures) (named-none c.args.names.now c.args.words.now)
+
+pub returns-in_default-clause-fault : goal.returns-in_default-clause-fault
+returns-in_default-clause-fault c =
+    misnamed-unknown c.args.names.now c.args.words.now c.loop-number.number _
+    (slice_get-get_or c.args.words.now c.loop-number.number _ c.loop-number-test.true)
+    (ap (bookie_named c.args.names.now) (sym c.as_bytes.ensures.value) ∙ sym c.find.ensures ∙ c.in_default.is)
+
+pub returns-then-contains-clause-fault : goal.returns-then-contains-clause-fault
+returns-then-contains-clause-fault c =
+    misnamed-twice c.args.names.now c.args.words.now c.loop-number.number c.in-Some.bookie _ c.loop-number.bookies
+    (slice_get-get_or c.args.words.now c.loop-number.number _ c.loop-number-test.true)
+    (ap (bookie_named c.args.names.now) (sym c.as_bytes.ensures.value) ∙ sym c.find.ensures ∙ c.in-Some.is)
+    (sym c.contains.ensures ∙ c.if-contains.true) c.loop-number.invariant
+
+pub loop-number-preserved : goal.loop-number-preserved
+loop-number-preserved c =
+    subst
+    (λ (bookies : Set numbers). AreNamedBelow c.args.names.now c.args.words.now (c.loop-number.number + 1) bookies)
+    (sym c.insert.ensures)
+    (named-more c.args.names.now c.args.words.now c.loop-number.number c.in-Some.bookie _ c.loop-number.bookies
+    (slice_get-get_or c.args.words.now c.loop-number.number _ c.loop-number-test.true)
+    (ap (bookie_named c.args.names.now) (sym c.as_bytes.ensures.value) ∙ sym c.find.ensures ∙ c.in-Some.is)
+    (sym c.contains.ensures ∙ c.if-contains.false) c.loop-number.invariant)
+
+pub returns-clause-named : goal.returns-clause-named
+returns-clause-named c =
+    named-all c.args.names.now c.args.words.now c.loop-number.number c.loop-number.bookies
+    (omega (arith, c.loop-number-test.false)) c.loop-number.invariant

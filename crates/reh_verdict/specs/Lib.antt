@@ -1,0 +1,4 @@
+pub mod Answers
+pub mod Bookies
+pub mod Judging
+pub mod Texts

@@ -1,0 +1,53 @@
+// What is judged of one picture.
+ghost use Rattle.std.specs.Prelude.{◌≡◌, ◌^◌, IfOk, string_bytes};
+ghost use Rattle.reh_redundancy.specs.Bounds.{AreAtMost};
+ghost use Rattle.reh_redundancy.specs.Losses.{losing};
+ghost use Rattle.reh_redundancy.specs.Redundancy as model;
+ghost use Rattle.reh_verdict.specs.Texts.{ledgers_text};
+
+use crate::texts::push_ledger;
+use reh_cluster::State;
+use reh_redundancy::{Redundancy, ledger_redundancy};
+use reh_types::BookieSet;
+use std::alloc::{AllocError, Global};
+use std::snapshot::Snapshot;
+
+/// What is judged of a picture: the lines of its ledgers, and how many entries have too few copies now, and without these
+/// bookies. The picture's state is gone by then.
+#[derive(Drop)]
+pub struct Judged {
+    pub state: Snapshot<State>,
+    pub bookies: BookieSet,
+    pub lines: String,
+    pub now: Redundancy,
+    pub without: Redundancy,
+    ghost counts_now: { now ≡ model.redundancy state.value },
+    ghost counts_without: { without ≡ model.redundancy (losing state.value bookies) },
+    ghost limit_now: { AreAtMost (2 ^ 49) now },
+    ghost limit_without: { AreAtMost (2 ^ 49) without },
+    ghost text: { string_bytes lines ≡ ledgers_text state.value bookies },
+}
+
+/// Judges a state without these bookies. Each ledger is counted twice, now and without them.
+pub(crate) fn judge(alloc: Global, state: &State, bookies: BookieSet) -> Result<Judged, AllocError>
+    ensures { IfOk result (λ judged. (judged.state.value ≡ state.now) × (judged.bookies ≡ bookies)) }
+{
+    let nobody = BookieSet::new();
+    let mut lines = String::new(alloc);
+    let mut now = Redundancy::none();
+    let mut without = Redundancy::none();
+    for ledger in state.ledgers() {
+        let before = ledger_redundancy(state, &nobody, ledger);
+        let after = ledger_redundancy(state, &bookies, ledger);
+        now = now.plus(&before);
+        without = without.plus(&after);
+        push_ledger(&mut lines, state, &bookies, ledger, &before, &after)?;
+    }
+    Ok(Judged {
+        state: Snapshot::of(state),
+        bookies,
+        lines,
+        now,
+        without,
+    })
+}

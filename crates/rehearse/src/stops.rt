@@ -1,0 +1,127 @@
+// Whether bookies may be stopped, judged from the files of pictures.
+ghost use Rattle.std.specs.Prelude.{◌≡◌, ◌+◌, ◌≤◌, vec_len, length, IfOk, OnOk};
+ghost use Rattle.reh_verdict.specs.declared.answers.TheConstants.{MAX_PICTURES};
+
+use crate::checks::{read_picture_file, write_text};
+use crate::faults::RunFault;
+use crate::runs::Crew;
+use reh_verdict::{
+    JudgeFault, Judged, MAX_PICTURES, NameFault, answer_over, judge_picture, status_of,
+};
+use std::alloc::{AllocError, Global};
+use std::sync::Wait;
+use std::thread;
+
+/// What is asked: may these bookies be stopped, by these pictures of one cluster.
+#[derive(Drop)]
+pub struct Stop<'a> {
+    pub pictures: Vec<&'a str>,
+    pub bookies: Vec<&'a str>,
+    pub crew: Crew,
+    pub allow_under_ack: bool,
+    ghost few: { vec_len pictures ≤ MAX_PICTURES },
+}
+
+/// Says to standard output whether the bookies may be stopped, and gives the status.
+pub(crate) fn stop_over<R: thread::Threads + Wait + Sync>(
+    rt: &HostRuntime,
+    threads: &R,
+    stop: &Stop<'_>,
+) -> Result<u8, RunFault> {
+    let judged = judge_files(rt, threads, stop)?;
+    let answer = answer_over(rt.alloc(), &judged, stop.allow_under_ack)?;
+    write_text(rt, answer.text.as_str()).map_err(|_| RunFault::WriteFault)?;
+    Ok(status_of(answer.verdict))
+}
+
+/// A picture's file, and what is judged of it, once it is.
+#[derive(Drop)]
+struct Slot<'a> {
+    path: &'a str,
+    judged: Option<Result<Judged, RunFault>>,
+}
+
+/// What is judged of each picture, in order, by the workers; or the first fault, also in that order.
+fn judge_files<R: thread::Threads + Wait + Sync>(
+    rt: &HostRuntime,
+    threads: &R,
+    stop: &Stop<'_>,
+) -> Result<Vec<Judged>, RunFault>
+    ensures { IfOk result (λ judged. length judged.items ≤ MAX_PICTURES) }
+{
+    let mut slots = slots_of(rt.alloc(), &stop.pictures)?;
+    let bookies = stop.bookies.as_slice();
+    thread::for_each_mut(threads, &mut slots, stop.crew.workers, &|_, slot| {
+        slot.judged = Some(judge_file(rt, slot.path, bookies));
+    });
+    judged_of(rt.alloc(), slots)
+}
+
+/// A slot for each picture.
+fn slots_of<'a>(alloc: Global, pictures: &[&'a str]) -> Result<Vec<Slot<'a>>, AllocError>
+    ensures { IfOk result (λ slots. length slots.items ≡ length pictures.now) }
+{
+    let mut slots = Vec::new(alloc);
+    for path in pictures {
+        slots.push(Slot {
+            path: *path,
+            judged: None,
+        })?;
+    }
+    Ok(slots)
+}
+
+/// What is judged of each picture, or the first fault.
+fn judged_of(alloc: Global, slots: Vec<Slot<'_>>) -> Result<Vec<Judged>, RunFault>
+    ensures { IfOk result (λ judged. length judged.items ≤ length slots.entry.items) }
+{
+    let mut judged = Vec::new(alloc);
+    for slot in slots {
+        if let Some(one) = slot.judged {
+            push_judged(&mut judged, one?)?;
+        }
+    }
+    Ok(judged)
+}
+
+/// Adds what is judged of a picture.
+fn push_judged(judged: &mut Vec<Judged>, one: Judged) -> Result<(), AllocError>
+    ensures { OnOk result (length judged.new.items ≡ length judged.old.items + 1) }
+{
+    judged.push(one)?;
+    Ok(())
+}
+
+/// Judges the picture in a file.
+fn judge_file(rt: &HostRuntime, path: &str, bookies: &[&str]) -> Result<Judged, RunFault> {
+    let picture = read_picture_file(rt, path)?;
+    match judge_picture(rt.alloc(), &picture, bookies) {
+        Ok(judged) => Ok(judged),
+        Err(fault) => Err(fault_of(rt.alloc(), path, bookies, fault)?),
+    }
+}
+
+/// The fault of a run that can't judge this picture.
+fn fault_of(alloc: Global, path: &str, bookies: &[&str], fault: JudgeFault) -> Result<RunFault, AllocError> {
+    let fault = match fault {
+        JudgeFault::Refused(located) => RunFault::RefusedIn(format!(in alloc; "{path}")?, located),
+        JudgeFault::Misnamed(NameFault::Unknown(number)) => {
+            let name = name_at(bookies, number);
+            RunFault::Misnamed(format!(in alloc; "{path} has no bookie '{name}'")?)
+        }
+        JudgeFault::Misnamed(NameFault::Twice(number)) => {
+            let name = name_at(bookies, number);
+            RunFault::Misnamed(format!(in alloc; "bookie '{name}' is named twice")?)
+        }
+        JudgeFault::NoMemory => RunFault::NoMemory,
+    };
+    Ok(fault)
+}
+
+/// The word of that number.
+fn name_at<'a>(bookies: &[&'a str], number: usize) -> &'a str {
+    match bookies.get(number) {
+        Some(name) => *name,
+        None => "",
+    }
+}
