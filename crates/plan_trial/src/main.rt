@@ -7,7 +7,13 @@ use reh_types::{BookieIx, BookieSet};
 use std::io::Read;
 use std::io::Write;
 
-fn main(rt: HostRuntime) -> u8 {
+use std::process::ExitCode;
+
+fn main(rt: HostRuntime) -> ExitCode {
+    ExitCode::from(run(&rt))
+}
+
+fn run(rt: &HostRuntime) -> u8 {
     let mut input = Vec::new(rt.alloc());
     let mut reader = rt.reader();
     if reader.read_to_end(&mut input).is_err() {
@@ -36,7 +42,7 @@ fn main(rt: HostRuntime) -> u8 {
     };
     match plan(rt.alloc(), state, &lost, &allowed) {
         Ok(plan) => {
-            let mut writer = std::io::writer(&rt);
+            let mut writer = std::io::writer(rt);
             let _ = writer.write_all(plan.text());
             let _ = writer.flush();
             0

@@ -93,13 +93,16 @@ impl From<PlanFault> for Stop {
 }
 
 /// The first reason why something is left, after one step more.
-pub(crate) fn first_reason<T: Drop>(
+pub(crate) fn first_reason(
     left: Option<Reason>,
-    step: Result<T, Stop>,
+    step: Result<(), Stop>,
 ) -> Result<Option<Reason>, PlanFault> {
     match step {
+        Ok(()) => Ok(left),
         Err(Stop::Fault(fault)) => Err(fault),
-        Err(Stop::Left(reason)) if left.is_none() => Ok(Some(reason)),
-        _ => Ok(left),
+        Err(Stop::Left(reason)) => match left {
+            Some(first) => Ok(Some(first)),
+            None => Ok(Some(reason)),
+        },
     }
 }

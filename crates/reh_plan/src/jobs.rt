@@ -30,12 +30,12 @@ impl Job {
     // What there is to do
 
     /// The ledger as it stands.
-    fn ledger_in(self, state: &State) -> Option<&Ledger> {
+    fn ledger_in<'a>(&self, state: &'a State) -> Option<&'a Ledger> {
         state.ledgers().get(self.place)
     }
 
     /// Whether the ledger has a task.
-    pub fn has_task(self, state: &State) -> bool {
+    pub fn has_task(&self, state: &State) -> bool {
         match self.ledger_in(state) {
             Some(ledger) => ledger.task().is_some(),
             None => false,
@@ -43,7 +43,7 @@ impl Job {
     }
 
     /// Where the ledger stands and its last fragment, if it isn't closed and some member of that isn't registered.
-    fn unclosed(self, state: &State) -> Option<(LedgerState, usize)> {
+    fn unclosed(&self, state: &State) -> Option<(LedgerState, usize)> {
         let ledger = self.ledger_in(state)?;
         let metadata = ledger.metadata();
         let last = metadata.fragments().last()?;
@@ -57,7 +57,7 @@ impl Job {
     }
 
     /// The places of missing members.
-    fn gaps(self, alloc: Global, state: &State) -> Result<Vec<Gap>, AllocError> {
+    fn gaps(&self, alloc: Global, state: &State) -> Result<Vec<Gap>, AllocError> {
         let mut gaps = Vec::new(alloc);
         let Some(ledger) = self.ledger_in(state) else {
             return Ok(gaps);
@@ -69,13 +69,13 @@ impl Job {
     }
 
     /// Who holds the lock.
-    fn owner(self, state: &State) -> Option<BookieIx> {
+    fn owner(&self, state: &State) -> Option<BookieIx> {
         let lock = self.ledger_in(state)?.lock()?;
         Some(lock.owner)
     }
 
     /// The version of the ledger's metadata.
-    fn version(self, state: &State) -> u64 {
+    fn version(&self, state: &State) -> u64 {
         match self.ledger_in(state) {
             Some(ledger) => ledger.metadata().version(),
             None => 0,
@@ -85,7 +85,7 @@ impl Job {
     // What is done
 
     /// Locks the task by a worker that can take places of the fragment.
-    fn lock(self, plan: &mut Plan, workers: &Workers, fragment: usize) -> Result<BookieIx, Stop>
+    fn lock(&self, plan: &mut Plan, workers: &Workers, fragment: usize) -> Result<BookieIx, Stop>
         ensures { Works plan.old plan.new }
     {
         let Some(worker) = self.worker(plan.state(), workers, fragment) else {
@@ -95,41 +95,38 @@ impl Job {
         let ledger = self.ledger;
         match self.owner(plan.state()) {
             Some(owner) if owner == worker => return Ok(worker),
-            Some(owner) => plan.work(Event::Release {
+            Some(owner) => plan.work(&Event::Release {
                 worker: owner,
                 ledger,
             })?,
             None => {}
         }
-        plan.work(Event::Acquire { worker, ledger })?;
+        plan.work(&Event::Acquire { worker, ledger })?;
         Ok(worker)
     }
 
     /// Who takes places of the fragment.
-    fn worker(self, state: &State, workers: &Workers, fragment: usize) -> Option<BookieIx> {
+    fn worker(&self, state: &State, workers: &Workers, fragment: usize) -> Option<BookieIx> {
         workers.choose(state, self.ledger_in(state)?, fragment)
     }
 
-    /// Grants the writer of an open ledger its grace, if it needs another bookie; says whether it did.
-    pub fn grant(self, plan: &mut Plan, workers: &Workers) -> Result<bool, Stop>
+    /// Grants the writer of an open ledger its grace, if it needs another bookie.
+    pub fn grant(&self, plan: &mut Plan, workers: &Workers) -> Result<(), Stop>
         ensures { Works plan.old plan.new }
     {
         if !self.has_task(plan.state()) {
-            return Ok(false);
+            return Ok(());
         }
-        match self.unclosed(plan.state()) {
-            Some((LedgerState::Open, last)) => {
-                let worker = self.lock(plan, workers, last)?;
-                let ledger = self.ledger;
-                plan.work(Event::Grace { worker, ledger })?;
-                Ok(true)
-            }
-            _ => Ok(false),
-        }
+        let Some((LedgerState::Open, last)) = self.unclosed(plan.state()) else {
+            return Ok(());
+        };
+        let worker = self.lock(plan, workers, last)?;
+        let ledger = self.ledger;
+        plan.work(&Event::Grace { worker, ledger })
     }
 
     /// Recovers a ledger that isn't closed, if some member of its last ensemble isn't registered.
-    fn close(self, plan: &mut Plan, workers: &Workers) -> Result<(), Stop>
+    fn close(&self, plan: &mut Plan, workers: &Workers) -> Result<(), Stop>
         ensures { Works plan.old plan.new }
     {
         let Some((state, last)) = self.unclosed(plan.state()) else {
@@ -138,19 +135,21 @@ impl Job {
         let worker = self.lock(plan, workers, last)?;
         let ledger = self.ledger;
         if state == LedgerState::Open {
-            plan.work(Event::Fence { worker, ledger })?;
+            plan.work(&Event::Fence { worker, ledger })?;
         }
-        plan.work(Event::Seal { worker, ledger })
+        plan.work(&Event::Seal { worker, ledger })
     }
 
     /// Has a worker copy the entries of a missing member's place, and take it.
-    fn fill(self, plan: &mut Plan, workers: &mut Workers, gap: Gap) -> Result<(), Stop>
+    fn fill(&self, plan: &mut Plan, workers: &mut Workers, gap: &Gap) -> Result<(), Stop>
         ensures { Works plan.old plan.new }
     {
         let worker = self.lock(plan, workers, gap.fragment)?;
         let version = self.version(plan.state());
-        let (ledger, fragment, index) = (self.ledger, gap.fragment as u64, gap.index as u64);
-        plan.work(Event::Copy {
+        let ledger = self.ledger;
+        let fragment = gap.fragment as u64;
+        let index = gap.index as u64;
+        plan.work(&Event::Copy {
             worker,
             ledger,
             fragment,
@@ -158,7 +157,7 @@ impl Job {
             version,
         })?;
         workers.add(worker, gap.entries);
-        plan.work(Event::Swap {
+        plan.work(&Event::Swap {
             worker,
             ledger,
             fragment,
@@ -169,7 +168,7 @@ impl Job {
 
     /// Does all that can be done for the ledger, and says why something is left, if it is.
     pub fn work(
-        self,
+        &self,
         alloc: Global,
         plan: &mut Plan,
         workers: &mut Workers,
@@ -180,7 +179,7 @@ impl Job {
         let mut left = first_reason(None, closed)?;
         let gaps = self.gaps(alloc, plan.state())?;
         for gap in &gaps {
-            let filled = self.fill(plan, workers, *gap);
+            let filled = self.fill(plan, workers, gap);
             left = first_reason(left, filled)?;
         }
         let ended = self.end(plan);
@@ -188,16 +187,16 @@ impl Job {
     }
 
     /// Ends the task, if that can be done, or else gives the lock back.
-    fn end(self, plan: &mut Plan) -> Result<(), Stop>
+    fn end(&self, plan: &mut Plan) -> Result<(), Stop>
         ensures { Works plan.old plan.new }
     {
         let Some(worker) = self.owner(plan.state()) else {
             return Ok(());
         };
         let ledger = self.ledger;
-        match plan.work(Event::Finish { worker, ledger }) {
+        match plan.work(&Event::Finish { worker, ledger }) {
             Err(Stop::Left(reason)) => {
-                plan.work(Event::Release { worker, ledger })?;
+                plan.work(&Event::Release { worker, ledger })?;
                 Err(Stop::Left(reason))
             }
             ended => ended,

@@ -11,7 +11,7 @@ use crate::plans::Plan;
 use crate::workers::Workers;
 use reh_audit::under_of;
 use reh_cluster::{Ledger, State};
-use reh_types::{BookieIx, BookieSet, Event};
+use reh_types::{BookieIx, BookieSet, Event, MAX_BOOKIES};
 use std::alloc::{AllocError, Global};
 
 /// The plan for a cluster of which these bookies are lost, where only the allowed bookies take places.
@@ -64,14 +64,14 @@ fn publish(plan: &mut Plan) -> Result<(), PlanFault>
 {
     let ticks = ticks_to_publish(plan.state());
     if ticks > 0 {
-        let waited = plan.work(Event::Tick { ticks });
+        let waited = plan.work(&Event::Tick { ticks });
         first_reason(None, waited)?;
     }
     if !plan.state().is_enabled() {
-        let enabled = plan.work(Event::Enable);
+        let enabled = plan.work(&Event::Enable);
         first_reason(None, enabled)?;
     }
-    let published = plan.work(Event::Audit);
+    let published = plan.work(&Event::Audit);
     first_reason(None, published)?;
     Ok(())
 }
@@ -79,8 +79,8 @@ fn publish(plan: &mut Plan) -> Result<(), PlanFault>
 /// In how many ticks the delay of each bookie that isn't registered is over.
 fn ticks_to_publish(state: &State) -> u64 {
     let mut ticks = 0;
-    for number in 0..state.names().len() {
-        if let Some(tick) = state.lost_tick(BookieIx(number as u8)) {
+    for number in 0..MAX_BOOKIES as u8 {
+        if let Some(tick) = state.lost_tick(BookieIx(number)) {
             let wait = tick
                 .saturating_add(state.delay())
                 .saturating_sub(state.clock());
@@ -94,21 +94,31 @@ fn ticks_to_publish(state: &State) -> u64 {
 fn grant_all(plan: &mut Plan, workers: &Workers) -> Result<(), PlanFault>
     ensures { Works plan.old plan.new }
 {
-    let mut granted = false;
     for place in 0..plan.state().ledgers().len() {
-        let Some(job) = job_at(plan.state(), place) else {
-            continue;
-        };
-        let grant = job.grant(plan, workers);
-        granted = granted || matches!(grant, Ok(true));
-        first_reason(None, grant)?;
+        if let Some(job) = job_at(plan.state(), place) {
+            let granted = job.grant(plan, workers);
+            first_reason(None, granted)?;
+        }
     }
-    let ticks = plan.state().grace();
-    if granted && ticks > 0 {
-        let waited = plan.work(Event::Tick { ticks });
+    let ticks = ticks_to_fence(plan.state());
+    if ticks > 0 {
+        let waited = plan.work(&Event::Tick { ticks });
         first_reason(None, waited)?;
     }
     Ok(())
+}
+
+/// In how many ticks each ledger with a due tick may be fenced.
+fn ticks_to_fence(state: &State) -> u64 {
+    let mut ticks = 0;
+    for ledger in state.ledgers() {
+        if let Some(lock) = ledger.lock()
+            && let Some(due) = lock.due
+        {
+            ticks = due.saturating_sub(state.clock()).max(ticks);
+        }
+    }
+    ticks
 }
 
 /// Does what can be done for each ledger with a task, in picture order, and says of each ledger why something is left.
@@ -122,13 +132,28 @@ fn work_all(
     let count = plan.state().ledgers().len();
     let mut reasons = Vec::with_capacity(alloc, count)?;
     for place in 0..count {
-        let left = match job_at(plan.state(), place) {
-            Some(job) if job.has_task(plan.state()) => job.work(alloc, plan, workers)?,
-            _ => None,
-        };
+        let left = work_at(alloc, plan, workers, place)?;
         reasons.push(left).map_err(AllocError::from)?;
     }
     Ok(reasons)
+}
+
+/// Does what can be done for the ledger at a place of the picture, if it has a task, and says why something is left.
+fn work_at(
+    alloc: Global,
+    plan: &mut Plan,
+    workers: &mut Workers,
+    place: usize,
+) -> Result<Option<Reason>, PlanFault>
+    ensures { Works plan.old plan.new }
+{
+    let Some(job) = job_at(plan.state(), place) else {
+        return Ok(None);
+    };
+    if !job.has_task(plan.state()) {
+        return Ok(None);
+    }
+    job.work(alloc, plan, workers)
 }
 
 /// The job of the ledger at a place of the picture.

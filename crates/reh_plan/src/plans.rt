@@ -90,7 +90,7 @@ impl Plan {
         if !self.state().is_up(bookie) {
             return Ok(());
         }
-        match self.make(Event::Lose { bookie })? {
+        match self.make(&Event::Lose { bookie })? {
             Outcome::Made => Ok(()),
             _ => Err(PlanFault::NoRoom),
         }
@@ -98,13 +98,16 @@ impl Plan {
 
     /// Makes an event that registers no bookie and loses none, and writes its command. Where the event is refused, or
     /// there is no room for the line, nothing changes.
-    pub(crate) fn work(&mut self, event: Event) -> Result<(), Stop>
-        requires { is_work event ≡ true }
+    pub(crate) fn work(&mut self, event: &Event) -> Result<(), Stop>
+        requires { is_work event.now ≡ true }
         ensures { Works self.old self.new }
     {
         match self.make(event)? {
             Outcome::Made => Ok(()),
-            Outcome::Refused(refusal) => Err(Stop::Left(Reason::Refused { event, refusal })),
+            Outcome::Refused(refusal) => Err(Stop::Left(Reason::Refused {
+                event: *event,
+                refusal,
+            })),
             Outcome::Unwritten => Err(Stop::Left(Reason::NoRoom)),
         }
     }
@@ -113,21 +116,21 @@ impl Plan {
     /// changes.
     ///
     /// The command is written as text and read back as a script is: it is kept only where it asks for this very event.
-    fn make(&mut self, event: Event) -> Result<Outcome, PlanFault>
+    fn make(&mut self, event: &Event) -> Result<Outcome, PlanFault>
         ensures { MatchResult result
-            (λ outcome. Makes self.old event outcome self.new) (λ _. self.new ≡ self.old) }
+            (λ outcome. Makes self.old event.now outcome self.new) (λ _. self.new ≡ self.old) }
     {
         let alloc = self.session.allocator();
-        let written = event_line(alloc, self.session.state().names(), &event)?;
+        let written = event_line(alloc, self.session.state().names(), event)?;
         let line = written.as_bytes();
         let length = self.text.len();
         if !has_room(length, line, COMMENT_BYTES)
-            || !asks_for(self.session.state().names(), line, &event)
+            || !asks_for(self.session.state().names(), line, event)
         {
             return Ok(Outcome::Unwritten);
         }
         push_line(&mut self.text, line)?;
-        match self.session.act(&event) {
+        match self.session.act(event) {
             Ok(()) => Ok(Outcome::Made),
             Err(refusal) => {
                 self.text.truncate(length);
@@ -161,12 +164,12 @@ impl Plan {
     }
 }
 
-/// Whether a script of that length has room for a line, and for so many bytes behind it.
-fn has_room(length: usize, line: &[u8], spare: usize) -> bool
+/// Whether a script of so many bytes has room for a line, and for so many bytes behind it.
+fn has_room(written: usize, line: &[u8], spare: usize) -> bool
     requires { spare ≤ MAX_SCRIPT_BYTES }
-    ensures { IsTrue result → length + (length line.now + 1) ≤ MAX_SCRIPT_BYTES }
+    ensures { IsTrue result → written + (length line.now + 1) ≤ MAX_SCRIPT_BYTES }
 {
-    line.len() < MAX_SCRIPT_BYTES - spare && length < MAX_SCRIPT_BYTES - spare - line.len()
+    line.len() < MAX_SCRIPT_BYTES - spare && written < MAX_SCRIPT_BYTES - spare - line.len()
 }
 
 /// Adds a line with its LF, or else nothing.
@@ -188,8 +191,9 @@ fn asks_for(names: &Names, line: &[u8], event: &Event) -> bool
     if !is_line(line) {
         return false;
     }
-    match parse_line(names, line) {
-        Some(Ok(Command::Make(Move::Do(asked)))) => asked == *event,
+    let command = parse_line(names, line);
+    match &command {
+        Some(Ok(Command::Make(Move::Do(asked)))) => *asked == *event,
         _ => false,
     }
 }

@@ -8,17 +8,17 @@ use std::alloc::{AllocError, Global};
 #[derive(Drop)]
 pub(crate) struct Workers {
     allowed: BookieSet,
-    /// How many entries each bookie holds: those of the picture, and about as many as it has copied since.
+    /// How many entries each of the bookies that there can be holds: those of the picture, and about as many as it has
+    /// copied since.
     loads: Vec<u64>,
 }
 
 impl Workers {
     /// With what the bookies hold now. Only those that are allowed take places.
     pub fn of(alloc: Global, state: &State, allowed: &BookieSet) -> Result<Workers, AllocError> {
-        let count = state.names().len();
-        let mut loads = Vec::with_capacity(alloc, count)?;
-        for number in 0..count {
-            loads.push(state.count(BookieIx(number as u8)) as u64)?;
+        let mut loads = Vec::new(alloc);
+        for number in 0..MAX_BOOKIES as u8 {
+            loads.push(state.count(BookieIx(number)) as u64)?;
         }
         Ok(Workers {
             allowed: allowed.copied(),
@@ -43,15 +43,27 @@ impl Workers {
 
     /// Of the bookies that can join these members, the one that holds least, and of several such the first.
     fn least_outside(&self, state: &State, members: &BookieSet) -> Option<BookieIx> {
-        let mut least = None;
-        for (number, load) in self.loads.iter().enumerate() {
-            let worker = BookieIx(number as u8);
-            if self.can_join(state, worker, members) && is_less(*load, least) {
-                least = Some((worker, *load));
+        let none = MAX_BOOKIES as u8;
+        let mut least = none;
+        for number in 0..none {
+            if self.load(number) < self.load(least)
+                && self.can_join(state, BookieIx(number), members)
+            {
+                least = number;
             }
         }
-        let (worker, _) = least?;
-        Some(worker)
+        if least == none {
+            return None;
+        }
+        Some(BookieIx(least))
+    }
+
+    /// How many entries the bookie holds. A number that no bookie has counts as more than any.
+    fn load(&self, number: u8) -> u64 {
+        match self.loads.get(number as usize) {
+            Some(load) => *load,
+            None => u64::MAX,
+        }
     }
 
     /// Whether the bookie may take places, is registered, and is none of these members.
@@ -64,14 +76,6 @@ impl Workers {
         if let Some(load) = self.loads.get_mut(worker.0 as usize) {
             *load = load.saturating_add(entries);
         }
-    }
-}
-
-/// Whether a load is less than the one of a worker, if there is one.
-fn is_less(load: u64, worker: Option<(BookieIx, u64)>) -> bool {
-    match worker {
-        Some((_, other)) => load < other,
-        None => true,
     }
 }
 
