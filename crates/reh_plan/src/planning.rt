@@ -11,7 +11,7 @@ use crate::plans::Plan;
 use crate::workers::Workers;
 use reh_audit::under_of;
 use reh_cluster::{Ledger, State};
-use reh_types::{BookieIx, BookieSet, Event, MAX_BOOKIES};
+use reh_types::{BookieIx, BookieSet, Event, MAX_BOOKIES, Refusal};
 use std::alloc::{AllocError, Global};
 
 /// The plan for a cluster of which these bookies are lost, where only the allowed bookies take places.
@@ -94,6 +94,8 @@ fn ticks_to_publish(state: &State) -> u64 {
 fn grant_all(plan: &mut Plan, workers: &Workers) -> Result<(), PlanFault>
     ensures { Works plan.old plan.new }
 {
+    // The check of this loop has to meet the type of a step's refusal by its name.
+    let _refusal: Option<Refusal> = None;
     for place in 0..plan.state().ledgers().len() {
         if let Some(job) = job_at(plan.state(), place) {
             let granted = job.grant(plan, workers);
@@ -129,6 +131,8 @@ fn work_all(
 ) -> Result<Vec<Option<Reason>>, PlanFault>
     ensures { Works plan.old plan.new }
 {
+    // The check of this loop has to meet the types of a step's event and of its refusal by their names.
+    let _step: Option<(Event, Refusal)> = None;
     let count = plan.state().ledgers().len();
     let mut reasons = Vec::with_capacity(alloc, count)?;
     for place in 0..count {

@@ -14,7 +14,7 @@ use Rattle.reh_script.specs.declared.faults.PipeFault.TheVariants as pipe_fault
 use Rattle.rehearse.specs.declared.faults.RunFault.{RunFault}
 use Rattle.reh_script.specs.declared.streams.StreamFault.{StreamFault}
 use Rattle.rehearse.specs.declared.faults.RunFault.TheVariants.{Picture, ReadFault, TooLong, WriteFault, NoMemory}
-use Rattle.rehearse.specs.declared.faults.RunFault.TheVariants.{NoThread, Refused, Unread, Close}
+use Rattle.rehearse.specs.declared.faults.RunFault.TheVariants.{NoThread, Refused, Misnamed, Unread, Close}
 
 -- how a run ends once its answers were flushed: a failed flush is a write fault where answers were lost, and any
 -- other fault stays
@@ -29,6 +29,7 @@ end_after_flush (Err fault) (Err lost) = Err fault
 abbrev pub status_number : RunFault → ℕ
 status_number (Picture fault) = 3
 status_number (Refused located) = 3
+status_number (Misnamed reason) = 2
 status_number (Unread reason) = 4
 status_number ReadFault = 4
 status_number TooLong = 4
@@ -47,6 +48,7 @@ cause_text (Mismatch number) = codes "3 Mismatch " ++ decimal number
 abbrev pub run_fault_text : RunFault → List ℕ
 run_fault_text (Picture fault) = codes "picture: " ++ fault_text fault
 run_fault_text (Refused located) = codes "picture: " ++ located_text located
+run_fault_text (Misnamed reason) = string_bytes reason
 run_fault_text (Unread reason) = string_bytes reason
 run_fault_text ReadFault = codes "read fault"
 run_fault_text TooLong = codes "script too long"

@@ -23,7 +23,7 @@ fn write_text(rt: &HostRuntime, text: &str) -> io::Result<()> {
 }
 
 /// The bytes of a picture's file, and of a longer one a byte more than a picture may have.
-fn read_picture_file(rt: &HostRuntime, path: &str) -> Result<Vec<u8>, RunFault> {
+pub(crate) fn read_picture_file(rt: &HostRuntime, path: &str) -> Result<Vec<u8>, RunFault> {
     let file = fs::open(rt, path).map_err(|error| unread(rt.alloc(), "open", path, error))?;
     let mut bytes = Vec::new(rt.alloc());
     file.take(MAX_PICTURE_BYTES as u64 + 1)

@@ -17,11 +17,13 @@ pub enum RunFault {
     Picture(PictureFault),
     /// The picture that is checked is refused.
     Refused(LocatedFault),
+    /// Bookies of the command line are misnamed, as this says.
+    Misnamed(String),
     /// The file of the picture that is checked can't be opened or read, for the reason that this says.
     Unread(String),
     /// A read failed.
     ReadFault,
-    /// The script is longer than 1,048,576 bytes.
+    /// The script is longer than 1,048,576 bytes, or a plan would be.
     TooLong,
     /// A write failed, or took no byte.
     WriteFault,
@@ -38,6 +40,7 @@ pub fn status_of(fault: &RunFault) -> u8
     ensures { result ≡ status_number fault.now }
 {
     match fault {
+        RunFault::Misnamed(_) => 2,
         RunFault::Picture(_) | RunFault::Refused(_) => 3,
         RunFault::Unread(_) | RunFault::ReadFault | RunFault::TooLong => 4,
         RunFault::WriteFault => 5,
@@ -56,6 +59,7 @@ impl fmt::Display for RunFault {
         match self {
             RunFault::Picture(fault) => write!(f, "picture: {fault}"),
             RunFault::Refused(located) => write!(f, "picture: {located}"),
+            RunFault::Misnamed(reason) => write!(f, "{reason}"),
             RunFault::Unread(reason) => write!(f, "{reason}"),
             RunFault::ReadFault => write!(f, "read fault"),
             RunFault::TooLong => write!(f, "script too long"),

@@ -2,6 +2,7 @@
 ghost use Rattle.std.specs.Prelude.{◌<◌, ◌≤◌, vec_len};
 
 use crate::drills::MAX_OPERATORS;
+use crate::plans::PlanWords;
 use crate::runs::Crew;
 use clap::error::ErrorKind;
 use clap::{Arg, ArgMatches, Command, Error, value_parser};
@@ -18,6 +19,8 @@ pub enum Task<'a> {
     Check { picture: &'a str },
     /// Plays scripts on a picture, each by an operator of its own.
     Drill(DrillFiles<'a>),
+    /// Plans what is to be done without some bookies of a picture.
+    Plan(PlanWords<'a>),
 }
 
 /// Where the picture of a drill is, and its scripts, of which there are 1 to 8.
@@ -83,6 +86,9 @@ fn asked_task<'a>(alloc: Global, matches: &ArgMatches<'a>) -> Result<Task<'a>, A
     let Some((name, given)) = matches.subcommand() else {
         return Ok(Task::Play(Input::Pipe));
     };
+    if name == "plan" {
+        return asked_plan(alloc, given);
+    }
     let scripts = given.get_strs("SCRIPT").unwrap_or(&[]);
     let workers = given.get_one("workers").unwrap_or(1);
     match (name, given.get_str("PICTURE"), scripts.first()) {
@@ -106,6 +112,19 @@ fn asked_task<'a>(alloc: Global, matches: &ArgMatches<'a>) -> Result<Task<'a>, A
     }
 }
 
+/// What these matches of `plan` ask for.
+fn asked_plan<'a>(alloc: Global, given: &ArgMatches<'a>) -> Result<Task<'a>, AllocError> {
+    // The picture is required.
+    let picture = given.get_str("PICTURE").unwrap_or("");
+    let lost = given.get_strs("lose").unwrap_or(&[]);
+    let allowed = given.get_strs("to").unwrap_or(&[]);
+    Ok(Task::Plan(PlanWords {
+        picture,
+        lost: lost.to_vec(alloc)?,
+        allowed: allowed.to_vec(alloc)?,
+    }))
+}
+
 /// Help, as an error, for words that ask for it. It has the list of commands, which is made here alone.
 fn show_help(alloc: Global, words: &[String]) -> Result<(), Error> {
     let ways = all_ways(alloc)?;
@@ -124,8 +143,8 @@ fn all_ways(alloc: Global) -> Result<String, AllocError> {
     Ok(ways)
 }
 
-/// The command line: no word, `run PICTURE SCRIPT --workers N`, `talk PICTURE`, `check PICTURE`, or
-/// `drill PICTURE SCRIPT..`.
+/// The command line: no word, `run PICTURE SCRIPT --workers N`, `talk PICTURE`, `check PICTURE`,
+/// `drill PICTURE SCRIPT..`, or `plan --lose BOOKIE,.. --to BOOKIE,.. PICTURE`.
 fn command<'a>(alloc: Global, ways: &'a str) -> Result<Command<'a>, Error> {
     let script = Arg::new(alloc, "SCRIPT")
         .required(true)
@@ -154,6 +173,7 @@ fn command<'a>(alloc: Global, ways: &'a str) -> Result<Command<'a>, Error> {
         .about("Plays scripts on a picture, each by an operator with a thread of its own")
         .arg(picture_arg(alloc))?
         .arg(scripts)?;
+    let plan = plan_command(alloc)?;
     let command = Command::new(alloc, "rehearse")
         .version(VERSION)
         .about(ABOUT)
@@ -162,7 +182,28 @@ fn command<'a>(alloc: Global, ways: &'a str) -> Result<Command<'a>, Error> {
         .subcommand(run)?
         .subcommand(talk)?
         .subcommand(check)?
-        .subcommand(drill)?;
+        .subcommand(drill)?
+        .subcommand(plan)?;
+    Ok(command)
+}
+
+/// The command `plan`.
+fn plan_command<'a>(alloc: Global) -> Result<Command<'a>, Error> {
+    let lost = Arg::new(alloc, "lose")
+        .long("lose")
+        .value_name("BOOKIE")
+        .value_delimiter(',')
+        .help("The bookies to lose, with commas between them");
+    let allowed = Arg::new(alloc, "to")
+        .long("to")
+        .value_name("BOOKIE")
+        .value_delimiter(',')
+        .help("The bookies that may take their places; by default all");
+    let command = Command::new(alloc, "plan")
+        .about("Plays AutoRecovery without some bookies, and prints the script")
+        .arg(lost)?
+        .arg(allowed)?
+        .arg(picture_arg(alloc))?;
     Ok(command)
 }
 
