@@ -42,8 +42,7 @@ IsDraft-event m n s text new line event draft now room none said is done =
 pub made_by : (m n : Session) (s : Cluster) (d : Draft) (text new : List ℕ) (event : Event) → draft_of m text ≡ d
     → replay m.opening m.done ≡ Some s → Performs m (Do event) Done n → Makes d event Made (draft_of n new)
 made_by m n s d text new event view now done =
-    let p = performed m n event done in
-    (
+    let p = performed m n event done in (
       ap (λ (x : Session). x.opening) p.1 ∙ ap (λ (x : Draft). x.opening) view,
       ap (λ (x : Draft). refusal_of x.state event) (sym view) ∙ p.0,
       ap state_of p.1 ∙ state_after m s event now p.0 ∙ ap (λ (x : Draft). after x.state event) view,

@@ -114,8 +114,8 @@ impl Job {
     pub fn grant(&self, plan: &mut Plan, workers: &Workers) -> Result<(), Stop>
         ensures { Works plan.old plan.new }
     {
-        // The check of this function has to meet the type of a step's refusal by its name.
-        let _refusal: Option<Refusal> = None;
+        // The check of this function has to meet the types of what stops a step by their names.
+        let _stop: Option<(Reason, Refusal)> = None;
         if !self.has_task(plan.state()) {
             return Ok(());
         }
@@ -131,8 +131,8 @@ impl Job {
     fn close(&self, plan: &mut Plan, workers: &Workers) -> Result<(), Stop>
         ensures { Works plan.old plan.new }
     {
-        // The check of this function has to meet the type of a step's refusal by its name.
-        let _refusal: Option<Refusal> = None;
+        // The check of this function has to meet the types of what stops a step by their names.
+        let _stop: Option<(Reason, Refusal)> = None;
         let Some((state, last)) = self.unclosed(plan.state()) else {
             return Ok(());
         };
@@ -148,8 +148,8 @@ impl Job {
     fn fill(&self, plan: &mut Plan, workers: &mut Workers, gap: &Gap) -> Result<(), Stop>
         ensures { Works plan.old plan.new }
     {
-        // The check of this function has to meet the type of a step's refusal by its name.
-        let _refusal: Option<Refusal> = None;
+        // The check of this function has to meet the types of what stops a step by their names.
+        let _stop: Option<(Reason, Refusal)> = None;
         let worker = self.lock(plan, workers, gap.fragment)?;
         let version = self.version(plan.state());
         let ledger = self.ledger;
@@ -181,8 +181,8 @@ impl Job {
     ) -> Result<Option<Reason>, PlanFault>
         ensures { Works plan.old plan.new }
     {
-        // The check of this loop has to meet the types of a step's event and of its refusal by their names.
-        let _step: Option<(Event, Refusal)> = None;
+        // The check of this loop has to meet the types of what stops a step by their names.
+        let _stop: Option<(Reason, Refusal, Event)> = None;
         let closed = self.close(plan, workers);
         let mut left = first_reason(None, closed)?;
         let gaps = self.gaps(alloc, plan.state())?;

@@ -1,7 +1,10 @@
 // The plan for a cluster: bookies are lost, the auditor publishes, and AutoRecovery is played to its end.
 ghost use Rattle.std.specs.Prelude.{◌≡◌, ◌≤◌, length, IfOk, OnOk, Some};
 ghost use Rattle.reh_types.specs.declared.limits.TheConstants.{MAX_SCRIPT_BYTES};
-ghost use Rattle.reh_model.specs.Session.{replay};
+ghost use Rattle.reh_model.specs.Book.{new_book};
+ghost use Rattle.reh_model.specs.Session.{replay, opened_session};
+ghost use Rattle.reh_script.specs.Transcript.{starting, transcript};
+ghost use Rattle.reh_plan.specs.Replies.{ok_answers};
 ghost use Rattle.reh_plan.specs.Plans.{Asks, Works, IsWithout, AllNamed, IsNaming};
 ghost use Rattle.reh_plan.specs.Plans as plans;
 
@@ -22,8 +25,9 @@ use std::alloc::{AllocError, Global};
 /// fenced after the grace and recovered first. Where AutoRecovery is disabled, the plan enables it.
 ///
 /// Each line of the script is a comment or asks for an event (`asks`), and played on this state each of these events is
-/// accepted (`accepted`). They lose the lost bookies and no other, and register none (`lost`). Each ledger that has a
-/// task in the end, or a member that isn't registered, is named in a comment (`named`).
+/// accepted (`accepted`): each line that has an answer is answered `ok` (`replies`). They lose the lost bookies and no
+/// other, and register none (`lost`). Each ledger that has a task in the end, or a member that isn't registered, is named
+/// in a comment (`named`).
 pub fn plan(
     alloc: Global,
     state: State,
@@ -33,6 +37,9 @@ pub fn plan(
     ensures opening { IfOk result (λ plan. plan.opening ≡ state) }
     ensures asks { IfOk result (λ plan. Asks state.names plan.lines plan.events) }
     ensures accepted { IfOk result (λ plan. replay state plan.events ≡ Some plan.state) }
+    ensures replies { IfOk result (λ plan.
+        transcript state.names 0 (starting (new_book (opened_session state))) 1 plan.lines
+        ≡ ok_answers state.names 1 plan.lines) }
     ensures lost { IfOk result (λ plan. IsWithout state lost.now plan.state) }
     ensures named { IfOk result (λ plan. AllNamed plan.state plan.lines plan.state.parts.ledgers) }
 {
@@ -62,6 +69,8 @@ fn lose_all(plan: &mut Plan, lost: &[BookieIx]) -> Result<(), PlanFault>
 fn publish(plan: &mut Plan) -> Result<(), PlanFault>
     ensures { Works plan.old plan.new }
 {
+    // The check of this function has to meet the types of what stops a step by their names.
+    let _stop: Option<(Reason, Refusal)> = None;
     let ticks = ticks_to_publish(plan.state());
     if ticks > 0 {
         let waited = plan.work(&Event::Tick { ticks });
@@ -94,8 +103,8 @@ fn ticks_to_publish(state: &State) -> u64 {
 fn grant_all(plan: &mut Plan, workers: &Workers) -> Result<(), PlanFault>
     ensures { Works plan.old plan.new }
 {
-    // The check of this loop has to meet the type of a step's refusal by its name.
-    let _refusal: Option<Refusal> = None;
+    // The check of this function has to meet the types of what stops a step by their names.
+    let _stop: Option<(Reason, Refusal)> = None;
     for place in 0..plan.state().ledgers().len() {
         if let Some(job) = job_at(plan.state(), place) {
             let granted = job.grant(plan, workers);
@@ -131,8 +140,8 @@ fn work_all(
 ) -> Result<Vec<Option<Reason>>, PlanFault>
     ensures { Works plan.old plan.new }
 {
-    // The check of this loop has to meet the types of a step's event and of its refusal by their names.
-    let _step: Option<(Event, Refusal)> = None;
+    // The check of this loop has to meet the types of what stops a step by their names.
+    let _stop: Option<(Reason, Refusal, Event)> = None;
     let count = plan.state().ledgers().len();
     let mut reasons = Vec::with_capacity(alloc, count)?;
     for place in 0..count {

@@ -2,11 +2,14 @@
 ghost use Rattle.std.specs.Prelude.{◌≡◌, ◌+◌, ◌≤◌, ◌∷◌, ◌++◌, [], true, false, length, IfOk, OnOk, OnErr, MatchResult, None, Some, Ok};
 ghost use Rattle.std.specs.Prelude.{IsTrue};
 ghost use Rattle.reh_types.specs.declared.limits.TheConstants.{MAX_SCRIPT_BYTES};
-ghost use Rattle.reh_model.specs.Session.{replay};
+ghost use Rattle.reh_model.specs.Book.{new_book};
+ghost use Rattle.reh_model.specs.Session.{replay, opened_session};
 ghost use Rattle.reh_types.specs.declared.moves.Move.TheVariants.{Do};
 ghost use Rattle.reh_script.specs.declared.commands.Command.TheVariants.{Make};
 ghost use Rattle.reh_script.specs.Answers.{asked};
 ghost use Rattle.reh_script.specs.Lines.{lines_of};
+ghost use Rattle.reh_script.specs.Transcript.{starting, transcript};
+ghost use Rattle.reh_plan.specs.Replies.{ok_answers};
 ghost use Rattle.reh_plan.specs.Plans.{Asks, Makes, Works, is_work, has_lf, IsLeaving, IsWithout};
 
 use crate::faults::{PlanFault, Reason, Stop};
@@ -64,14 +67,19 @@ impl Plan {
     }
 
     /// The script. Each of its lines is a comment or asks for an event (`asks`), and played from where the plan begins,
-    /// each of these events is accepted (`accepted`). It is no longer than a script can be.
+    /// each of these events is accepted (`accepted`): each line that has an answer is answered `ok` (`replies`). It is no
+    /// longer than a script can be.
     pub fn text(&self) -> &[u8]
         ensures lines { lines_of result.now ≡ self.now.lines }
         ensures few { length result.now ≤ MAX_SCRIPT_BYTES }
         ensures asks { Asks self.now.opening.names self.now.lines self.now.events }
         ensures accepted { replay self.now.opening self.now.events ≡ Some self.now.state }
+        ensures replies { transcript self.now.opening.names 0
+            (starting (new_book (opened_session self.now.opening))) 1 self.now.lines
+            ≡ ok_answers self.now.opening.names 1 self.now.lines }
     {
         let _replayed = self.session.state();
+        let _few = self.session.undone();
         &self.text
     }
 
@@ -87,6 +95,8 @@ impl Plan {
         ensures opening { OnOk result (self.new.opening ≡ self.old.opening) }
         ensures lost { OnOk result (IsWithout self.old.state (bookie ∷ []) self.new.state) }
     {
+        // The check of this function has to meet the type of a refusal by its name.
+        let _refusal: Option<Refusal> = None;
         if !self.state().is_up(bookie) {
             return Ok(());
         }

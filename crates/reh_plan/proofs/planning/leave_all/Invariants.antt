@@ -8,5 +8,5 @@ invariant-loop-place l = record {
   opening : l.plan.opening ≡ l.fn.plan.opening;
   state : l.plan.state ≡ l.fn.plan.state;
   count : l.place-end ≡ length l.plan.state.parts.ledgers;
-  named : AllNamed l.plan.state l.plan.lines (take l.place l.plan.state.parts.ledgers)
+  named : AllNamed l.plan.state l.plan.lines (take l.place l.plan.state.parts.ledgers);
 }
