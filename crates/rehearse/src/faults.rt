@@ -19,13 +19,13 @@ pub enum RunFault {
     Refused(LocatedFault),
     /// This picture of several is refused.
     RefusedIn(String, LocatedFault),
-    /// The bookies to stop are misnamed, as this says.
+    /// Bookies of the command line are misnamed, as this says.
     Misnamed(String),
     /// The file of the picture that is checked can't be opened or read, for the reason that this says.
     Unread(String),
     /// A read failed.
     ReadFault,
-    /// The script is longer than 1,048,576 bytes.
+    /// The script is longer than 1,048,576 bytes, or a plan would be.
     TooLong,
     /// A write failed, or took no byte.
     WriteFault,

@@ -1,5 +1,5 @@
-// Rehearses events on a picture of a cluster, from standard input or from files, by one operator or several; or checks
-// a picture.
+// Rehearses events on a picture of a cluster, from standard input or from files, by one operator or several; checks a
+// picture; or plans what is to be done without some of its bookies.
 #![tactic(auto)]
 
 ghost use Rattle.std.specs.Prelude.{◌≡◌, false};
@@ -13,6 +13,7 @@ mod files;
 mod openings;
 mod operators;
 mod outcomes;
+mod plans;
 mod runs;
 mod stops;
 mod tasks;
@@ -22,6 +23,7 @@ use clap::Error;
 use drills::drill_over;
 use faults::{RunFault, after_flush, status_of, want_of_memory};
 use files::{LateFile, read_file, read_scripts};
+use plans::plan_file;
 use reh_crew::{OpenGate, Plain};
 use reh_script::{FromRead, Gathered, TextOut, ToWrite, pipe, run};
 use reh_types::MAX_PICTURE_BYTES;
@@ -46,6 +48,7 @@ fn main(rt: HostRuntime) -> ExitCode {
             Ok(status) => ExitCode::from(status),
             Err(fault) => end(&rt, Err(fault)),
         },
+        Ok(Task::Plan(words)) => end(&rt, plan_file(&rt, &words)),
         Err(error) => show(&rt, &error),
     }
 }

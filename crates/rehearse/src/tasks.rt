@@ -2,6 +2,7 @@
 ghost use Rattle.std.specs.Prelude.{◌<◌, ◌≤◌, vec_len};
 
 use crate::drills::MAX_OPERATORS;
+use crate::plans::PlanWords;
 use crate::runs::Crew;
 use crate::stops::Stop;
 use clap::error::ErrorKind;
@@ -22,6 +23,8 @@ pub enum Task<'a> {
     Drill(DrillFiles<'a>),
     /// Says whether bookies may be stopped.
     Stop(Stop<'a>),
+    /// Plans what is to be done without some bookies of a picture.
+    Plan(PlanWords<'a>),
 }
 
 /// Where the picture of a drill is, and its scripts, of which there are 1 to 8.
@@ -90,6 +93,9 @@ fn asked_task<'a>(alloc: Global, matches: &ArgMatches<'a>) -> Result<Task<'a>, A
     if name == "ok-to-stop" {
         return asked_stop(alloc, given);
     }
+    if name == "plan" {
+        return asked_plan(alloc, given);
+    }
     let scripts = given.get_strs("SCRIPT").unwrap_or(&[]);
     let workers = given.get_one("workers").unwrap_or(1);
     match (name, given.get_str("PICTURE"), scripts.first()) {
@@ -131,6 +137,19 @@ fn asked_stop<'a>(alloc: Global, given: &ArgMatches<'a>) -> Result<Task<'a>, All
     Ok(Task::Play(Input::Pipe))
 }
 
+/// What these matches of `plan` ask for.
+fn asked_plan<'a>(alloc: Global, given: &ArgMatches<'a>) -> Result<Task<'a>, AllocError> {
+    // The picture is required.
+    let picture = given.get_str("PICTURE").unwrap_or("");
+    let lost = given.get_strs("lose").unwrap_or(&[]);
+    let allowed = given.get_strs("to").unwrap_or(&[]);
+    Ok(Task::Plan(PlanWords {
+        picture,
+        lost: lost.to_vec(alloc)?,
+        allowed: allowed.to_vec(alloc)?,
+    }))
+}
+
 /// Help, as an error, for words that ask for it. It has the list of commands, which is made here alone.
 fn show_help(alloc: Global, words: &[String]) -> Result<(), Error> {
     let ways = all_ways(alloc)?;
@@ -150,7 +169,7 @@ fn all_ways(alloc: Global) -> Result<String, AllocError> {
 }
 
 /// The command line: no word, `run PICTURE SCRIPT --workers N`, `talk PICTURE`, `check PICTURE`,
-/// `drill PICTURE SCRIPT..`, or `ok-to-stop --lose BOOKIE,.. PICTURE..`.
+/// `drill PICTURE SCRIPT..`, `ok-to-stop --lose BOOKIE,.. PICTURE..`, or `plan --lose BOOKIE,.. --to BOOKIE,.. PICTURE`.
 fn command<'a>(alloc: Global, ways: &'a str) -> Result<Command<'a>, Error> {
     let script = Arg::new(alloc, "SCRIPT")
         .required(true)
@@ -176,6 +195,7 @@ fn command<'a>(alloc: Global, ways: &'a str) -> Result<Command<'a>, Error> {
         .arg(picture_arg(alloc))?
         .arg(scripts)?;
     let stop = stop_command(alloc)?;
+    let plan = plan_command(alloc)?;
     let command = Command::new(alloc, "rehearse")
         .version(VERSION)
         .about(ABOUT)
@@ -185,7 +205,28 @@ fn command<'a>(alloc: Global, ways: &'a str) -> Result<Command<'a>, Error> {
         .subcommand(talk)?
         .subcommand(check)?
         .subcommand(drill)?
-        .subcommand(stop)?;
+        .subcommand(stop)?
+        .subcommand(plan)?;
+    Ok(command)
+}
+
+/// The command `plan`.
+fn plan_command<'a>(alloc: Global) -> Result<Command<'a>, Error> {
+    let lost = Arg::new(alloc, "lose")
+        .long("lose")
+        .value_name("BOOKIE")
+        .value_delimiter(',')
+        .help("The bookies to lose, with commas between them");
+    let allowed = Arg::new(alloc, "to")
+        .long("to")
+        .value_name("BOOKIE")
+        .value_delimiter(',')
+        .help("The bookies that may take their places; by default all");
+    let command = Command::new(alloc, "plan")
+        .about("Plays AutoRecovery without some bookies, and prints the script")
+        .arg(lost)?
+        .arg(allowed)?
+        .arg(picture_arg(alloc))?;
     Ok(command)
 }
 

@@ -1,0 +1,4 @@
+pub mod PlanLaws
+pub mod DraftLaws
+pub mod NamedLaws
+pub mod ReplyLaws

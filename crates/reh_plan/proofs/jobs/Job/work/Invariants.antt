@@ -1,0 +1,6 @@
+-- The plan goes on by work alone.
+use Rattle.reh_plan.specs.Plans.{Works}
+use Rattle.reh_plan.proofs.jobs.Job.work.Given as goal
+
+abbrev pub invariant-loop-gap : goal.invariant-loop-gap
+invariant-loop-gap l = Works l.fn.plan l.plan

@@ -1,0 +1,52 @@
+-- Each ledger that is left is named in its turn.
+use Rattle.std.proofs.Common.{◌≡◌, ℕ, ◌+◌, ◌<◌, length, take, get_or, sym, ap, ◌∙◌, subst, arith, List, false}
+use Rattle.reh_model.specs.Cluster.{Cluster, Ledger}
+use Rattle.reh_plan.specs.Plans.{Draft, IsLeaving, AllNamed, is_left}
+use Rattle.reh_plan.proofs.NamedLaws.{named_left, named_else, named_whole}
+use Rattle.reh_plan.proofs.planning.leave_all.Goals as goal
+use Rattle.reh_plan.proofs.planning.leave_all.Goals.{then-is_left+in_ok-leave, else-is_left}
+
+pub loop-place-preserved : goal.loop-place-preserved
+loop-place-preserved c =
+    let g : Ledger = c.index-ledgers-place.result in
+    let d : Draft = c.loop-place.plan in
+    let k : ℕ = c.loop-place.place in
+    let list : c.ledgers.result.now ≡ d.state.parts.ledgers =
+    c.ledgers.ensures.ledgers ∙ ap (λ (s : Cluster). s.parts.ledgers) c.state-in-loop-place.ensures in
+    let is : g ≡ get_or d.state.parts.ledgers k g =
+    subst (λ (gs : List Ledger). g ≡ get_or gs k g) list c.index-ledgers-place.is in
+    let within : k < length d.state.parts.ledgers = omega (arith, c.loop-place-test.true, c.loop-place.invariant.count) in
+    elim c.if-is_left.branch [
+      | then-is_left+in_ok-leave w ↦
+          let leaving : IsLeaving d g.id w.leave.new.self =
+          subst (λ (l : ℕ). IsLeaving d l w.leave.new.self) w.id-id.ensures w.in_ok-leave.ensures in
+          let same = w.plan-is ∙ leaving.1 in
+          record {
+            opening = ap (λ (x : Draft). x.opening) same ∙ c.loop-place.invariant.opening;
+            state = ap (λ (x : Draft). x.state) same ∙ c.loop-place.invariant.state;
+            count = c.loop-place.invariant.count ∙ ap (λ (x : Draft). length x.state.parts.ledgers) (sym same);
+            named =
+                subst (λ (x : Draft). AllNamed x.state x.lines (take (k + 1) x.state.parts.ledgers)) (sym w.plan-is)
+                (named_left d w.leave.new.self k g leaving within is c.loop-place.invariant.named);
+          }
+      | else-is_left w ↦
+          let fine : is_left d.state g ≡ false =
+          ap (λ (s : Cluster). is_left s g) (sym c.state-in-loop-place-2.ensures) ∙ sym c.is_left.ensures ∙ w.if-is_left.false in
+          record {
+            opening = ap (λ (x : Draft). x.opening) w.plan-is ∙ c.loop-place.invariant.opening;
+            state = ap (λ (x : Draft). x.state) w.plan-is ∙ c.loop-place.invariant.state;
+            count = c.loop-place.invariant.count ∙ ap (λ (x : Draft). length x.state.parts.ledgers) (sym w.plan-is);
+            named =
+                subst (λ (x : Draft). AllNamed x.state x.lines (take (k + 1) x.state.parts.ledgers)) (sym w.plan-is)
+                (named_else d k g fine within is c.loop-place.invariant.named);
+          }
+    ]
+
+pub returns : goal.returns
+returns c = record {
+  opening = c.loop-place.invariant.opening;
+  state = c.loop-place.invariant.state;
+  named =
+      named_whole c.loop-place.plan.state c.loop-place.plan.lines c.loop-place.plan.state.parts.ledgers c.loop-place.place
+      (omega (arith, c.loop-place-test.false, c.loop-place.invariant.count)) c.loop-place.invariant.named;
+}

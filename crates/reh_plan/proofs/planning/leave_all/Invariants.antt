@@ -1,0 +1,12 @@
+-- The first ledgers with which something is left are named.
+use Rattle.std.proofs.Common.{◌≡◌, length, take}
+use Rattle.reh_plan.specs.Plans.{AllNamed}
+use Rattle.reh_plan.proofs.planning.leave_all.Given as goal
+
+abbrev pub invariant-loop-place : goal.invariant-loop-place
+invariant-loop-place l = record {
+  opening : l.plan.opening ≡ l.fn.plan.opening;
+  state : l.plan.state ≡ l.fn.plan.state;
+  count : l.place-end ≡ length l.plan.state.parts.ledgers;
+  named : AllNamed l.plan.state l.plan.lines (take l.place l.plan.state.parts.ledgers);
+}

@@ -1,0 +1,117 @@
+-- What a plan is: a script whose lines ask for events that are accepted one after another, and a comment for each ledger
+-- with which something is left to do.
+use Rattle.std.specs.Prelude.{◌≡◌, ◌==◌, ℕ, ◌≤◌, IsTrue, Bool, true, false, not, ◌&&◌, ◌||◌, All, Any, List, [], ◌∷◌, ◌++◌, length}
+use Rattle.std.specs.Prelude.{Option, None, Some, is_some, Result, Ok, Err, codes}
+use Rattle.std.specs.List.{flat_map, list_any}
+use Rattle.std.specs.Fmt.{decimal}
+use Rattle.reh_types.specs.declared.limits.TheConstants.{MAX_SCRIPT_BYTES}
+use Rattle.reh_types.specs.declared.moves.Event.{Event}
+use Rattle.reh_types.specs.declared.moves.Event.TheVariants.{Lose, Join, Audit, Acquire, Release, Finish, Expire}
+use Rattle.reh_types.specs.declared.moves.Event.TheVariants.{Grace, Tick, Roll, Fence, Seal, Copy, Swap}
+use Rattle.reh_types.specs.declared.moves.Event.TheVariants.{Disable, Enable}
+use Rattle.reh_types.specs.declared.moves.Move.TheVariants.{Do}
+use Rattle.reh_types.specs.declared.refusals.Refusal.{Refusal}
+use Rattle.reh_model.specs.Audit.{first_under}
+use Rattle.reh_model.specs.Cluster.{Cluster, Ledger, is_up}
+use Rattle.reh_model.specs.Session as model
+use Rattle.reh_model.specs.Session.{state_of}
+use Rattle.reh_model.specs.Step.{refusal_of, after}
+use Rattle.reh_script.specs.Answers.{asked}
+use Rattle.reh_script.specs.Lines.{lines_of, ended}
+use Rattle.reh_script.specs.declared.commands.Command.{Command}
+use Rattle.reh_script.specs.declared.commands.Command.TheVariants.{Make}
+use Rattle.reh_script.specs.declared.commands.LineFault.{LineFault}
+use Rattle.reh_plan.specs.declared.plans.Outcome.{Outcome}
+use Rattle.reh_plan.specs.declared.plans.Outcome.TheVariants.{Made, Refused, Unwritten}
+
+-- Scripts of events
+
+-- the event that a line asks for, if it asks for one
+abbrev pub event_asked : Option (Result Command LineFault) → List Event
+event_asked (Some (Ok (Make (Do event)))) = event ∷ []
+event_asked other = []
+
+-- a line without an answer, as a comment, or one that asks for an event
+abbrev pub IsEventOrNone : Option (Result Command LineFault) → Type 0
+IsEventOrNone None = Unit {0}
+IsEventOrNone (Some (Ok (Make (Do event)))) = Unit {0}
+IsEventOrNone other = ⊥
+
+-- with the bookies of these names, the lines ask for these events, in their order, and for nothing else
+pub record Asks (names : List (List ℕ)) (lines : List (List ℕ)) (events : List Event) : Type 0 where
+  pub only : All (λ line. IsEventOrNone (asked names line)) lines
+  pub all : flat_map (λ line. event_asked (asked names line)) lines ≡ events
+
+-- whether a text has an LF
+abbrev pub has_lf : List ℕ → Bool
+has_lf text = list_any (λ b. b == 10) text
+
+-- Plans
+
+-- the cluster on which a plan begins, the one to which it leads, the events of its lines, and the lines
+pub record Draft : Type 0 where
+  pub opening : Cluster
+  pub state : Cluster
+  pub events : List Event
+  pub lines : List (List ℕ)
+
+abbrev pub draft_of : model.Session → List ℕ → Draft
+draft_of m text =
+    record { opening = m.opening; state = state_of m; events = m.done; lines = lines_of text }
+
+-- a plan's lines ask for the events that survive in its session, and no line is without its end
+pub record IsDraft (m : model.Session) (text : List ℕ) : Type 0 where
+  pub ends : ended text ≡ text
+  pub few : length text ≤ MAX_SCRIPT_BYTES
+  pub asks : Asks m.opening.names (lines_of text) m.done
+
+-- what becomes of a plan that is to make an event: it does so, or its cluster and its events stay
+abbrev pub Makes : Draft → Event → Outcome → Draft → Type 0
+Makes d event Made n =
+    (n.opening ≡ d.opening) × (refusal_of d.state event ≡ None) × (n.state ≡ after d.state event)
+Makes d event (Refused refusal) n = (n.opening ≡ d.opening) × (n.state ≡ d.state)
+Makes d event Unwritten n = (n.opening ≡ d.opening) × (n.state ≡ d.state)
+
+-- in t these bookies aren't registered, and all others are as in s
+abbrev pub IsWithout : Cluster → List ℕ → Cluster → Type 0
+IsWithout s lost t = (b : ℕ) → is_up t b ≡ is_up s b && not (list_any (λ c. c == b) lost)
+
+-- whether an event leaves all registrations as they are
+abbrev pub is_work : Event → Bool
+is_work (Lose b) = false
+is_work (Join b) = false
+is_work event = true
+
+-- the plan goes on from d to n, and no registration changes
+pub record Works (d n : Draft) : Type 0 where
+  pub opening : n.opening ≡ d.opening
+  pub lost_at : n.state.parts.lost_at ≡ d.state.parts.lost_at
+
+-- What is left
+
+-- whether something is left to do for a ledger: it has a task, or some member of an ensemble isn't registered
+abbrev pub is_left : Cluster → Ledger → Bool
+is_left s g = is_some g.task || is_some (first_under s g)
+
+-- the comment that a ledger is left, and why
+abbrev pub left_line : ℕ → List ℕ → List ℕ
+left_line ledger why = codes "# ledger " ++ (decimal ledger ++ (codes " is left: " ++ why))
+
+-- some line is such a comment
+abbrev pub IsNamed : List (List ℕ) → ℕ → Type 0
+IsNamed lines ledger = Any (λ line. (why : List ℕ) × (line ≡ left_line ledger why)) lines
+
+-- the plan goes on by such a comment
+abbrev pub IsLeaving : Draft → ℕ → Draft → Type 0
+IsLeaving d ledger n =
+    (why : List ℕ) × (n ≡ record d { lines = d.lines ++ left_line ledger why ∷ [] })
+
+-- each of these ledgers with which something is left is named in a comment
+abbrev pub AllNamed : Cluster → List (List ℕ) → List Ledger → Type 0
+AllNamed s lines ledgers = All (λ g. IsTrue (is_left s g) → IsNamed lines g.id) ledgers
+
+-- the plan goes on from d to n by comments alone, which name each ledger with which something is left
+pub record IsNaming (d n : Draft) : Type 0 where
+  pub opening : n.opening ≡ d.opening
+  pub state : n.state ≡ d.state
+  pub named : AllNamed n.state n.lines n.state.parts.ledgers

@@ -1,0 +1,108 @@
+// Why there is no plan, and why something of a plan is not done.
+use reh_types::{Event, Refusal};
+use std::alloc::AllocError;
+use std::error::Error;
+use std::fmt;
+
+/// Why there is no plan.
+#[derive(Clone, Copy, PartialEq, Eq, Debug)]
+pub enum PlanFault {
+    /// There is no memory for it.
+    NoMemory,
+    /// What it has to say at least, the bookies that are lost and the ledgers that are left, finds no room in a script.
+    NoRoom,
+}
+
+impl fmt::Display for PlanFault {
+    fn fmt<W: fmt::Write>(&self, f: &mut fmt::Formatter<W>) -> fmt::Result {
+        match self {
+            PlanFault::NoMemory => write!(f, "no memory"),
+            PlanFault::NoRoom => write!(f, "the plan is too long for a script"),
+        }
+    }
+}
+
+impl Error for PlanFault {}
+
+impl From<AllocError> for PlanFault {
+    fn from(_want: AllocError) -> PlanFault {
+        PlanFault::NoMemory
+    }
+}
+
+/// Why something is left to do for a ledger.
+#[derive(Clone, Copy, PartialEq, Eq, Debug)]
+pub enum Reason {
+    /// No bookie that may take places is registered and outside of the ensemble of this fragment.
+    NoWorker { fragment: u64 },
+    /// This event is refused.
+    Refused { event: Event, refusal: Refusal },
+    /// The script has no room for a further command.
+    NoRoom,
+    /// The ledger has no task.
+    NoTask,
+}
+
+impl fmt::Display for Reason {
+    fn fmt<W: fmt::Write>(&self, f: &mut fmt::Formatter<W>) -> fmt::Result {
+        match self {
+            Reason::NoWorker { fragment } => write!(f, "fragment {fragment}: no worker"),
+            Reason::Refused { event, refusal } => match event {
+                Event::Copy {
+                    fragment,
+                    index,
+                    ..
+                } => write!(
+                    f,
+                    "fragment {fragment} index {index}: copy refused {refusal}"
+                ),
+                Event::Swap {
+                    fragment,
+                    index,
+                    ..
+                } => write!(
+                    f,
+                    "fragment {fragment} index {index}: swap refused {refusal}"
+                ),
+                Event::Acquire { .. } => write!(f, "acquire refused {refusal}"),
+                Event::Grace { .. } => write!(f, "grace refused {refusal}"),
+                Event::Fence { .. } => write!(f, "fence refused {refusal}"),
+                Event::Seal { .. } => write!(f, "seal refused {refusal}"),
+                Event::Finish { .. } => write!(f, "finish refused {refusal}"),
+                _ => write!(f, "refused {refusal}"),
+            },
+            Reason::NoRoom => write!(f, "no room in the script"),
+            Reason::NoTask => write!(f, "no task"),
+        }
+    }
+}
+
+/// Why a step of a plan is not made: something is left then, or there is no plan.
+#[derive(Clone, Copy, PartialEq, Eq, Debug)]
+pub(crate) enum Stop {
+    /// Something is left for this reason.
+    Left(Reason),
+    /// There is no plan.
+    Fault(PlanFault),
+}
+
+impl From<PlanFault> for Stop {
+    fn from(fault: PlanFault) -> Stop {
+        Stop::Fault(fault)
+    }
+}
+
+/// The first reason why something is left, after one step more.
+pub(crate) fn first_reason(
+    left: Option<Reason>,
+    step: Result<(), Stop>,
+) -> Result<Option<Reason>, PlanFault> {
+    match step {
+        Ok(()) => Ok(left),
+        Err(Stop::Fault(fault)) => Err(fault),
+        Err(Stop::Left(reason)) => match left {
+            Some(first) => Ok(Some(first)),
+            None => Ok(Some(reason)),
+        },
+    }
+}

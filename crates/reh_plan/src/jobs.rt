@@ -1,0 +1,250 @@
+// What is done for one ledger, as AutoRecovery does it: its lock, the recovery of an open one, and the places of missing
+// members.
+ghost use Rattle.std.specs.Prelude.{◌≡◌};
+ghost use Rattle.reh_plan.specs.Plans.{Works};
+
+use crate::faults::{PlanFault, Reason, Stop, first_reason};
+use crate::plans::Plan;
+use crate::workers::Workers;
+use reh_audit::is_under;
+use reh_cluster::{Ledger, State};
+use reh_types::{BookieIx, Event, LedgerId, LedgerState, Refusal};
+use std::alloc::{AllocError, Global};
+
+/// A ledger by its place in the picture, and its id.
+#[derive(Clone, Copy)]
+pub(crate) struct Job {
+    pub place: usize,
+    pub ledger: LedgerId,
+}
+
+/// The place of a missing member, in an ensemble whose entries are known, and about how many of them it has.
+#[derive(Clone, Copy)]
+struct Gap {
+    fragment: usize,
+    index: usize,
+    entries: u64,
+}
+
+impl Job {
+    // What there is to do
+
+    /// The ledger as it stands.
+    fn ledger_in<'a>(&self, state: &'a State) -> Option<&'a Ledger> {
+        state.ledgers().get(self.place)
+    }
+
+    /// Whether the ledger has a task.
+    pub fn has_task(&self, state: &State) -> bool {
+        match self.ledger_in(state) {
+            Some(ledger) => ledger.task().is_some(),
+            None => false,
+        }
+    }
+
+    /// Where the ledger stands and its last fragment, if it isn't closed and some member of that isn't registered.
+    fn unclosed(&self, state: &State) -> Option<(LedgerState, usize)> {
+        let ledger = self.ledger_in(state)?;
+        let metadata = ledger.metadata();
+        let last = metadata.fragments().last()?;
+        match metadata.state() {
+            LedgerState::Closed { end: _ } => None,
+            unclosed if is_under(state, last) => {
+                Some((unclosed, metadata.fragments().len().saturating_sub(1)))
+            }
+            _ => None,
+        }
+    }
+
+    /// The places of missing members.
+    fn gaps(&self, alloc: Global, state: &State) -> Result<Vec<Gap>, AllocError> {
+        let mut gaps = Vec::new(alloc);
+        let Some(ledger) = self.ledger_in(state) else {
+            return Ok(gaps);
+        };
+        for fragment in 0..ledger.metadata().fragments().len() {
+            push_gaps(&mut gaps, state, ledger, fragment)?;
+        }
+        Ok(gaps)
+    }
+
+    /// Who holds the lock.
+    fn owner(&self, state: &State) -> Option<BookieIx> {
+        let lock = self.ledger_in(state)?.lock()?;
+        Some(lock.owner)
+    }
+
+    /// The version of the ledger's metadata.
+    fn version(&self, state: &State) -> u64 {
+        match self.ledger_in(state) {
+            Some(ledger) => ledger.metadata().version(),
+            None => 0,
+        }
+    }
+
+    // What is done
+
+    /// Locks the task by a worker that can take places of the fragment.
+    fn lock(&self, plan: &mut Plan, workers: &Workers, fragment: usize) -> Result<BookieIx, Stop>
+        ensures { Works plan.old plan.new }
+    {
+        let Some(worker) = self.worker(plan.state(), workers, fragment) else {
+            let fragment = fragment as u64;
+            return Err(Stop::Left(Reason::NoWorker { fragment }));
+        };
+        let ledger = self.ledger;
+        match self.owner(plan.state()) {
+            Some(owner) if owner == worker => return Ok(worker),
+            Some(owner) => plan.work(&Event::Release {
+                worker: owner,
+                ledger,
+            })?,
+            None => {}
+        }
+        plan.work(&Event::Acquire { worker, ledger })?;
+        Ok(worker)
+    }
+
+    /// Who takes places of the fragment.
+    fn worker(&self, state: &State, workers: &Workers, fragment: usize) -> Option<BookieIx> {
+        workers.choose(state, self.ledger_in(state)?, fragment)
+    }
+
+    /// Grants the writer of an open ledger its grace, if it needs another bookie.
+    pub fn grant(&self, plan: &mut Plan, workers: &Workers) -> Result<(), Stop>
+        ensures { Works plan.old plan.new }
+    {
+        // The check of this function has to meet the types of what stops a step by their names.
+        let _stop: Option<(Reason, Refusal)> = None;
+        if !self.has_task(plan.state()) {
+            return Ok(());
+        }
+        let Some((LedgerState::Open, last)) = self.unclosed(plan.state()) else {
+            return Ok(());
+        };
+        let worker = self.lock(plan, workers, last)?;
+        let ledger = self.ledger;
+        plan.work(&Event::Grace { worker, ledger })
+    }
+
+    /// Recovers a ledger that isn't closed, if some member of its last ensemble isn't registered.
+    fn close(&self, plan: &mut Plan, workers: &Workers) -> Result<(), Stop>
+        ensures { Works plan.old plan.new }
+    {
+        // The check of this function has to meet the types of what stops a step by their names.
+        let _stop: Option<(Reason, Refusal)> = None;
+        let Some((state, last)) = self.unclosed(plan.state()) else {
+            return Ok(());
+        };
+        let worker = self.lock(plan, workers, last)?;
+        let ledger = self.ledger;
+        if state == LedgerState::Open {
+            plan.work(&Event::Fence { worker, ledger })?;
+        }
+        plan.work(&Event::Seal { worker, ledger })
+    }
+
+    /// Has a worker copy the entries of a missing member's place, and take it.
+    fn fill(&self, plan: &mut Plan, workers: &mut Workers, gap: &Gap) -> Result<(), Stop>
+        ensures { Works plan.old plan.new }
+    {
+        // The check of this function has to meet the types of what stops a step by their names.
+        let _stop: Option<(Reason, Refusal)> = None;
+        let worker = self.lock(plan, workers, gap.fragment)?;
+        let version = self.version(plan.state());
+        let ledger = self.ledger;
+        let fragment = gap.fragment as u64;
+        let index = gap.index as u64;
+        plan.work(&Event::Copy {
+            worker,
+            ledger,
+            fragment,
+            index,
+            version,
+        })?;
+        workers.add(worker, gap.entries);
+        plan.work(&Event::Swap {
+            worker,
+            ledger,
+            fragment,
+            index,
+            version,
+        })
+    }
+
+    /// Does all that can be done for the ledger, and says why something is left, if it is.
+    pub fn work(
+        &self,
+        alloc: Global,
+        plan: &mut Plan,
+        workers: &mut Workers,
+    ) -> Result<Option<Reason>, PlanFault>
+        ensures { Works plan.old plan.new }
+    {
+        // The check of this loop has to meet the types of what stops a step by their names.
+        let _stop: Option<(Reason, Refusal, Event)> = None;
+        let closed = self.close(plan, workers);
+        let mut left = first_reason(None, closed)?;
+        let gaps = self.gaps(alloc, plan.state())?;
+        for gap in &gaps {
+            let filled = self.fill(plan, workers, gap);
+            left = first_reason(left, filled)?;
+        }
+        let ended = self.end(plan);
+        first_reason(left, ended)
+    }
+
+    /// Ends the task, if that can be done, or else gives the lock back.
+    fn end(&self, plan: &mut Plan) -> Result<(), Stop>
+        ensures { Works plan.old plan.new }
+    {
+        let Some(worker) = self.owner(plan.state()) else {
+            return Ok(());
+        };
+        let ledger = self.ledger;
+        match plan.work(&Event::Finish { worker, ledger }) {
+            Err(Stop::Left(reason)) => {
+                plan.work(&Event::Release { worker, ledger })?;
+                Err(Stop::Left(reason))
+            }
+            ended => ended,
+        }
+    }
+}
+
+/// Adds the places of a fragment's missing members, if its entries are known.
+fn push_gaps(
+    gaps: &mut Vec<Gap>,
+    state: &State,
+    ledger: &Ledger,
+    number: usize,
+) -> Result<(), AllocError> {
+    let metadata = ledger.metadata();
+    let (Some(fragment), Some(end)) = (metadata.fragments().get(number), metadata.end_of(number))
+    else {
+        return Ok(());
+    };
+    let entries = share(
+        end.saturating_sub(fragment.first),
+        metadata.write_quorum(),
+        metadata.size(),
+    );
+    for (index, member) in fragment.ensemble.iter().enumerate() {
+        if !state.is_up(*member) {
+            gaps.push(Gap {
+                fragment: number,
+                index,
+                entries,
+            })?;
+        }
+    }
+    Ok(())
+}
+
+/// About how many of so many entries one of `size` members has, where each entry is written to `quorum` of them.
+fn share(entries: u32, quorum: u32, size: u32) -> u64 {
+    if size == 0 {
+        return 0;
+    }
+    entries as u64 * quorum as u64 / size as u64
+}

@@ -1,0 +1,13 @@
+// Plans: which commands bring the ledgers of lost bookies back to full strength, as a script that is accepted.
+#![tactic(auto, using(crate::proofs::PlanLaws::works_on, crate::proofs::PlanLaws::works_none, crate::proofs::PlanLaws::works_by))]
+
+mod faults;
+mod jobs;
+mod lines;
+mod planning;
+mod plans;
+mod workers;
+
+pub use faults::PlanFault;
+pub use planning::plan;
+pub use plans::Plan;

@@ -1,0 +1,209 @@
+// The plan for a cluster: bookies are lost, the auditor publishes, and AutoRecovery is played to its end.
+ghost use Rattle.std.specs.Prelude.{◌≡◌, ◌≤◌, length, IfOk, OnOk, Some};
+ghost use Rattle.reh_types.specs.declared.limits.TheConstants.{MAX_SCRIPT_BYTES};
+ghost use Rattle.reh_model.specs.Book.{new_book};
+ghost use Rattle.reh_model.specs.Session.{replay, opened_session};
+ghost use Rattle.reh_script.specs.Transcript.{starting, transcript};
+ghost use Rattle.reh_plan.specs.Replies.{ok_answers};
+ghost use Rattle.reh_plan.specs.Plans.{Asks, Works, IsWithout, AllNamed, IsNaming};
+ghost use Rattle.reh_plan.specs.Plans as plans;
+
+use crate::faults::{PlanFault, Reason, first_reason};
+use crate::jobs::Job;
+use crate::plans::Plan;
+use crate::workers::Workers;
+use reh_audit::under_of;
+use reh_cluster::{Ledger, State};
+use reh_types::{BookieIx, BookieSet, Event, MAX_BOOKIES, Refusal};
+use std::alloc::{AllocError, Global};
+
+/// The plan for a cluster of which these bookies are lost, where only the allowed bookies take places.
+///
+/// The bookies are lost, the auditor publishes, once the delay for lost bookies is over, and AutoRecovery is played to
+/// its end: of each ledger with a task a worker takes the places of missing members. It is a bookie in no ensemble of
+/// the ledger, where there is one, and of those the one that holds least. An open ledger that needs its writer is
+/// fenced after the grace and recovered first. Where AutoRecovery is disabled, the plan enables it.
+///
+/// Each line of the script is a comment or asks for an event (`asks`), and played on this state each of these events is
+/// accepted (`accepted`): each line that has an answer is answered `ok` (`replies`). They lose the lost bookies and no
+/// other, and register none (`lost`). Each ledger that has a task in the end, or a member that isn't registered, is named
+/// in a comment (`named`).
+pub fn plan(
+    alloc: Global,
+    state: State,
+    lost: &[BookieIx],
+    allowed: &BookieSet,
+) -> Result<Plan, PlanFault>
+    ensures opening { IfOk result (λ plan. plan.opening ≡ state) }
+    ensures asks { IfOk result (λ plan. Asks state.names plan.lines plan.events) }
+    ensures accepted { IfOk result (λ plan. replay state plan.events ≡ Some plan.state) }
+    ensures replies { IfOk result (λ plan.
+        transcript state.names 0 (starting (new_book (opened_session state))) 1 plan.lines
+        ≡ ok_answers state.names 1 plan.lines) }
+    ensures lost { IfOk result (λ plan. IsWithout state lost.now plan.state) }
+    ensures named { IfOk result (λ plan. AllNamed plan.state plan.lines plan.state.parts.ledgers) }
+{
+    let mut plan = Plan::begin(alloc, state)?;
+    lose_all(&mut plan, lost)?;
+    publish(&mut plan)?;
+    let mut workers = Workers::of(alloc, plan.state(), allowed)?;
+    grant_all(&mut plan, &workers)?;
+    let reasons = work_all(alloc, &mut plan, &mut workers)?;
+    leave_all(&mut plan, &reasons)?;
+    let _checked = plan.text();
+    Ok(plan)
+}
+
+/// Loses these bookies, those that are registered.
+fn lose_all(plan: &mut Plan, lost: &[BookieIx]) -> Result<(), PlanFault>
+    ensures opening { OnOk result (plan.new.opening ≡ plan.old.opening) }
+    ensures lost { OnOk result (IsWithout plan.old.state lost.now plan.new.state) }
+{
+    for bookie in lost {
+        plan.lose(*bookie)?;
+    }
+    Ok(())
+}
+
+/// Has the auditor publish what is missing, once the delay for lost bookies is over. Where nothing is, nothing happens.
+fn publish(plan: &mut Plan) -> Result<(), PlanFault>
+    ensures { Works plan.old plan.new }
+{
+    // The check of this function has to meet the types of what stops a step by their names.
+    let _stop: Option<(Reason, Refusal)> = None;
+    let ticks = ticks_to_publish(plan.state());
+    if ticks > 0 {
+        let waited = plan.work(&Event::Tick { ticks });
+        first_reason(None, waited)?;
+    }
+    if !plan.state().is_enabled() {
+        let enabled = plan.work(&Event::Enable);
+        first_reason(None, enabled)?;
+    }
+    let published = plan.work(&Event::Audit);
+    first_reason(None, published)?;
+    Ok(())
+}
+
+/// In how many ticks the delay of each bookie that isn't registered is over.
+fn ticks_to_publish(state: &State) -> u64 {
+    let mut ticks = 0;
+    for number in 0..MAX_BOOKIES as u8 {
+        if let Some(tick) = state.lost_tick(BookieIx(number)) {
+            let wait = tick
+                .saturating_add(state.delay())
+                .saturating_sub(state.clock());
+            ticks = wait.max(ticks);
+        }
+    }
+    ticks
+}
+
+/// Grants a grace to the writers of all open ledgers that need another bookie, and waits until it is over.
+fn grant_all(plan: &mut Plan, workers: &Workers) -> Result<(), PlanFault>
+    ensures { Works plan.old plan.new }
+{
+    // The check of this function has to meet the types of what stops a step by their names.
+    let _stop: Option<(Reason, Refusal)> = None;
+    for place in 0..plan.state().ledgers().len() {
+        if let Some(job) = job_at(plan.state(), place) {
+            let granted = job.grant(plan, workers);
+            first_reason(None, granted)?;
+        }
+    }
+    let ticks = ticks_to_fence(plan.state());
+    if ticks > 0 {
+        let waited = plan.work(&Event::Tick { ticks });
+        first_reason(None, waited)?;
+    }
+    Ok(())
+}
+
+/// In how many ticks each ledger with a due tick may be fenced.
+fn ticks_to_fence(state: &State) -> u64 {
+    let mut ticks = 0;
+    for ledger in state.ledgers() {
+        if let Some(lock) = ledger.lock()
+            && let Some(due) = lock.due
+        {
+            ticks = due.saturating_sub(state.clock()).max(ticks);
+        }
+    }
+    ticks
+}
+
+/// Does what can be done for each ledger with a task, in picture order, and says of each ledger why something is left.
+fn work_all(
+    alloc: Global,
+    plan: &mut Plan,
+    workers: &mut Workers,
+) -> Result<Vec<Option<Reason>>, PlanFault>
+    ensures { Works plan.old plan.new }
+{
+    // The check of this loop has to meet the types of what stops a step by their names.
+    let _stop: Option<(Reason, Refusal, Event)> = None;
+    let count = plan.state().ledgers().len();
+    let mut reasons = Vec::with_capacity(alloc, count)?;
+    for place in 0..count {
+        let left = work_at(alloc, plan, workers, place)?;
+        reasons.push(left).map_err(AllocError::from)?;
+    }
+    Ok(reasons)
+}
+
+/// Does what can be done for the ledger at a place of the picture, if it has a task, and says why something is left.
+fn work_at(
+    alloc: Global,
+    plan: &mut Plan,
+    workers: &mut Workers,
+    place: usize,
+) -> Result<Option<Reason>, PlanFault>
+    ensures { Works plan.old plan.new }
+{
+    let Some(job) = job_at(plan.state(), place) else {
+        return Ok(None);
+    };
+    if !job.has_task(plan.state()) {
+        return Ok(None);
+    }
+    job.work(alloc, plan, workers)
+}
+
+/// The job of the ledger at a place of the picture.
+fn job_at(state: &State, place: usize) -> Option<Job> {
+    let ledger = state.ledgers().get(place)?;
+    Some(Job {
+        place,
+        ledger: ledger.id(),
+    })
+}
+
+/// Names in a comment each ledger that has a task, or a member that isn't registered, with the reason that there is for
+/// it.
+fn leave_all(plan: &mut Plan, reasons: &[Option<Reason>]) -> Result<(), PlanFault>
+    ensures { OnOk result (IsNaming plan.old plan.new) }
+{
+    for place in 0..plan.state().ledgers().len() {
+        let ledger = &plan.state().ledgers()[place];
+        if is_left(plan.state(), ledger) {
+            let id = ledger.id();
+            plan.leave(id, reason_at(reasons, place))?;
+        }
+    }
+    Ok(())
+}
+
+/// Whether something is left to do for a ledger: it has a task, or some member of an ensemble isn't registered.
+fn is_left(state: &State, ledger: &Ledger) -> bool
+    ensures { result ≡ plans.is_left state.now ledger.now }
+{
+    ledger.task().is_some() || under_of(state, ledger).is_some()
+}
+
+/// The reason for a ledger; without one the ledger has no task.
+fn reason_at(reasons: &[Option<Reason>], place: usize) -> Reason {
+    match reasons.get(place) {
+        Some(Some(reason)) => *reason,
+        _ => Reason::NoTask,
+    }
+}

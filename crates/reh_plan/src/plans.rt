@@ -1,0 +1,217 @@
+// A plan as it grows: a script beside the session on which its commands are made.
+ghost use Rattle.std.specs.Prelude.{◌≡◌, ◌+◌, ◌≤◌, ◌∷◌, ◌++◌, [], true, false, length, IfOk, OnOk, OnErr, MatchResult, None, Some, Ok};
+ghost use Rattle.std.specs.Prelude.{IsTrue};
+ghost use Rattle.reh_types.specs.declared.limits.TheConstants.{MAX_SCRIPT_BYTES};
+ghost use Rattle.reh_model.specs.Book.{new_book};
+ghost use Rattle.reh_model.specs.Session.{replay, opened_session};
+ghost use Rattle.reh_types.specs.declared.moves.Move.TheVariants.{Do};
+ghost use Rattle.reh_script.specs.declared.commands.Command.TheVariants.{Make};
+ghost use Rattle.reh_script.specs.Answers.{asked};
+ghost use Rattle.reh_script.specs.Lines.{lines_of};
+ghost use Rattle.reh_script.specs.Transcript.{starting, transcript};
+ghost use Rattle.reh_plan.specs.Replies.{ok_answers};
+ghost use Rattle.reh_plan.specs.Plans.{Asks, Makes, Works, is_work, has_lf, IsLeaving, IsWithout};
+
+use crate::faults::{PlanFault, Reason, Stop};
+use crate::lines::{event_line, is_line};
+use reh_cluster::{Names, State};
+use reh_script::{Command, parse_line};
+use reh_session::Session;
+use reh_types::{BookieIx, Event, LedgerId, MAX_LEDGERS, MAX_SCRIPT_BYTES, Move, Refusal};
+use std::alloc::{AllocError, Global};
+use std::marker::Model;
+
+/// What became of an event that a plan was to make.
+#[derive(Clone, Copy, PartialEq, Eq, Debug)]
+pub(crate) enum Outcome {
+    /// It was made, and its command is the plan's last line.
+    Made,
+    /// It was refused.
+    Refused(Refusal),
+    /// No line asks for it: the script has no room for a further one.
+    Unwritten,
+}
+
+/// How many bytes of a script are kept free for the comments on the ledgers that are left.
+const COMMENT_BYTES: usize = 128 * MAX_LEDGERS;
+
+/// A script whose commands are accepted one after another, and where they lead.
+///
+/// Contracts see the cluster on which it begins, the one to which it leads, the events of its lines, and the lines.
+#[derive(Drop)]
+pub struct Plan {
+    session: Session,
+    text: Vec<u8>,
+}
+
+impl Model for Plan {
+    ghost use Rattle.reh_plan.specs.Plans.{Draft, draft_of, IsDraft};
+
+    ghost Value = { Draft };
+
+    ghost view = { λ p. draft_of p.session p.text.items };
+
+    ghost invariant = { λ p. IsDraft p.session p.text.items };
+}
+
+impl Plan {
+    /// A plan on this state, without a line.
+    pub(crate) fn begin(alloc: Global, state: State) -> Result<Plan, PlanFault>
+        ensures { IfOk result (λ plan.
+            plan ≡ record { opening = state; state = state; events = []; lines = [] }) }
+    {
+        Ok(Plan {
+            session: Session::open(alloc, state)?,
+            text: Vec::new(alloc),
+        })
+    }
+
+    /// The script. Each of its lines is a comment or asks for an event (`asks`), and played from where the plan begins,
+    /// each of these events is accepted (`accepted`): each line that has an answer is answered `ok` (`replies`). It is no
+    /// longer than a script can be.
+    pub fn text(&self) -> &[u8]
+        ensures lines { lines_of result.now ≡ self.now.lines }
+        ensures few { length result.now ≤ MAX_SCRIPT_BYTES }
+        ensures asks { Asks self.now.opening.names self.now.lines self.now.events }
+        ensures accepted { replay self.now.opening self.now.events ≡ Some self.now.state }
+        ensures replies { transcript self.now.opening.names 0
+            (starting (new_book (opened_session self.now.opening))) 1 self.now.lines
+            ≡ ok_answers self.now.opening.names 1 self.now.lines }
+    {
+        let _replayed = self.session.state();
+        let _few = self.session.undone();
+        &self.text
+    }
+
+    /// The state to which the commands lead.
+    pub fn state(&self) -> &State
+        ensures { result.now ≡ self.now.state }
+    {
+        self.session.state()
+    }
+
+    /// Loses the bookie, if it is registered, and no other.
+    pub(crate) fn lose(&mut self, bookie: BookieIx) -> Result<(), PlanFault>
+        ensures opening { OnOk result (self.new.opening ≡ self.old.opening) }
+        ensures lost { OnOk result (IsWithout self.old.state (bookie ∷ []) self.new.state) }
+    {
+        // The check of this function has to meet the type of a refusal by its name.
+        let _refusal: Option<Refusal> = None;
+        if !self.state().is_up(bookie) {
+            return Ok(());
+        }
+        match self.make(&Event::Lose { bookie })? {
+            Outcome::Made => Ok(()),
+            _ => Err(PlanFault::NoRoom),
+        }
+    }
+
+    /// Makes an event that registers no bookie and loses none, and writes its command. Where the event is refused, or
+    /// there is no room for the line, nothing changes.
+    pub(crate) fn work(&mut self, event: &Event) -> Result<(), Stop>
+        requires { is_work event.now ≡ true }
+        ensures { Works self.old self.new }
+    {
+        match self.make(event)? {
+            Outcome::Made => Ok(()),
+            Outcome::Refused(refusal) => Err(Stop::Left(Reason::Refused {
+                event: *event,
+                refusal,
+            })),
+            Outcome::Unwritten => Err(Stop::Left(Reason::NoRoom)),
+        }
+    }
+
+    /// Makes an event and writes its command. Where the event is refused, or there is no room for the line, nothing
+    /// changes.
+    ///
+    /// The command is written as text and read back as a script is: it is kept only where it asks for this very event.
+    fn make(&mut self, event: &Event) -> Result<Outcome, PlanFault>
+        ensures { MatchResult result
+            (λ outcome. Makes self.old event.now outcome self.new) (λ _. self.new ≡ self.old) }
+    {
+        let alloc = self.session.allocator();
+        let written = event_line(alloc, self.session.state().names(), event)?;
+        let line = written.as_bytes();
+        let length = self.text.len();
+        if !has_room(length, line, COMMENT_BYTES)
+            || !asks_for(self.session.state().names(), line, event)
+        {
+            return Ok(Outcome::Unwritten);
+        }
+        push_line(&mut self.text, line)?;
+        match self.session.act(event) {
+            Ok(()) => Ok(Outcome::Made),
+            Err(refusal) => {
+                self.text.truncate(length);
+                match refusal {
+                    Refusal::NoMemory => Err(PlanFault::NoMemory),
+                    refusal => Ok(Outcome::Refused(refusal)),
+                }
+            }
+        }
+    }
+
+    /// Writes the comment that a ledger is left, and why.
+    pub(crate) fn leave(&mut self, ledger: LedgerId, reason: Reason) -> Result<(), PlanFault>
+        ensures { OnOk result (IsLeaving self.old ledger self.new) }
+    {
+        let alloc = self.session.allocator();
+        let why = format!(in alloc; "{reason}")?;
+        let line = format!(in alloc; "# ledger {} is left: {}", ledger.0, why.as_str())?;
+        self.remark(line.as_bytes())
+    }
+
+    /// Writes a comment. It fails where there is no room for it, or where it is none.
+    pub(crate) fn remark(&mut self, line: &[u8]) -> Result<(), PlanFault>
+        ensures { OnOk result (self.new ≡ record self.old { lines = self.old.lines ++ line.now ∷ [] }) }
+    {
+        if !has_room(self.text.len(), line, 0) || !is_comment(self.session.state().names(), line) {
+            return Err(PlanFault::NoRoom);
+        }
+        push_line(&mut self.text, line)?;
+        Ok(())
+    }
+}
+
+/// Whether a script of so many bytes has room for a line, and for so many bytes behind it.
+fn has_room(written: usize, line: &[u8], spare: usize) -> bool
+    requires { spare ≤ MAX_SCRIPT_BYTES }
+    ensures { IsTrue result → written + (length line.now + 1) ≤ MAX_SCRIPT_BYTES }
+{
+    line.len() < MAX_SCRIPT_BYTES - spare && written < MAX_SCRIPT_BYTES - spare - line.len()
+}
+
+/// Adds a line with its LF, or else nothing.
+fn push_line(text: &mut Vec<u8>, line: &[u8]) -> Result<(), AllocError>
+    ensures ok { OnOk result (text.new.items ≡ text.old.items ++ (line.now ++ 10 ∷ [])) }
+    ensures err { OnErr result (text.new.items ≡ text.old.items) }
+{
+    text.reserve(line.len() + 1)?;
+    text.extend_from_slice(line).unwrap();
+    text.push(b'\n').unwrap();
+    Ok(())
+}
+
+/// Whether a line asks for this event, with the bookies of these names.
+fn asks_for(names: &Names, line: &[u8], event: &Event) -> bool
+    ensures line { IsTrue result → has_lf line.now ≡ false }
+    ensures asked { IsTrue result → asked names.now line.now ≡ Some (Ok (Make (Do event.now))) }
+{
+    if !is_line(line) {
+        return false;
+    }
+    let command = parse_line(names, line);
+    match &command {
+        Some(Ok(Command::Make(Move::Do(asked)))) => *asked == *event,
+        _ => false,
+    }
+}
+
+/// Whether a line asks for nothing and has no answer.
+fn is_comment(names: &Names, line: &[u8]) -> bool
+    ensures line { IsTrue result → has_lf line.now ≡ false }
+    ensures asked { IsTrue result → asked names.now line.now ≡ None }
+{
+    is_line(line) && parse_line(names, line).is_none()
+}
