@@ -1,5 +1,5 @@
 -- How a plan's text and its session grow together.
-use Rattle.std.proofs.Common.{◌≡◌, ℕ, ◌+◌, ◌≤◌, false, List, [], ◌∷◌, ◌++◌, length, sym, ap, ◌∙◌, subst, arith, Option, None, Some, length-append}
+use Rattle.std.proofs.Common.{◌≡◌, ℕ, ◌+◌, ◌≤◌, false, List, [], ◌∷◌, ◌++◌, length, sym, ap, ◌∙◌, subst, arith, None, Some, length-append}
 use Rattle.std.specs.Prelude.{Ok}
 use Rattle.reh_types.specs.declared.limits.TheConstants.{MAX_SCRIPT_BYTES}
 use Rattle.reh_types.specs.declared.moves.Event.{Event}
@@ -9,7 +9,7 @@ use Rattle.reh_model.specs.Cluster.{Cluster}
 use Rattle.reh_model.specs.Session.{replay, Session, state_of, with_event, Performs}
 use Rattle.reh_model.specs.Step.{refusal_of, after}
 use Rattle.reh_script.specs.Answers.{asked}
-use Rattle.reh_script.specs.Lines.{lines_of, ended}
+use Rattle.reh_script.specs.Lines.{lines_of}
 use Rattle.reh_script.specs.declared.commands.Command.TheVariants.{Make}
 use Rattle.reh_plan.specs.Plans.{has_lf, Asks, Draft, draft_of, IsDraft, Makes}
 use Rattle.reh_plan.specs.declared.plans.Outcome.TheVariants.{Made}

@@ -1,6 +1,6 @@
 -- Lines that ask for events which are accepted are answered `ok`.
-use Rattle.std.proofs.Common.{◌≡◌, ℕ, ◌+◌, ◌<◌, ◌≤◌, Bool, false, List, [], ◌∷◌, ◌++◌, length, refl, sym, ap, ◌∙◌, arith, Option, None, Some, IsSome, is_some, length-append}
-use Rattle.std.specs.Prelude.{All, Result, Ok, Err, unwrap_or, nat_lt, nat_le, codes}
+use Rattle.std.proofs.Common.{◌≡◌, ℕ, ◌+◌, ◌<◌, ◌≤◌, false, List, [], ◌∷◌, ◌++◌, length, refl, sym, ap, ◌∙◌, arith, Option, None, Some, IsSome, is_some, length-append}
+use Rattle.std.specs.Prelude.{All, Result, Ok, unwrap_or, nat_lt, nat_le, codes}
 use Rattle.std.specs.List.{flat_map}
 use Rattle.std.proofs.lemmas.Bool.Decides.{nat_tests}
 use Rattle.std.proofs.lemmas.List.Elements.{All-head, All-tail}
@@ -57,10 +57,10 @@ line_ok names lines later None m t k n one now some few short = later m t k (n +
 line_ok names lines later (Some (Ok (Make (Do event)))) m t k n one now some few short =
     let first = replay_first t event (events_in names lines) some in
     let none : refusal_of (state_of m) event ≡ None =
-        ap (λ (o : Option Cluster). refusal_of (unwrap_or o m.opening) event) now ∙ first.0 in
+    ap (λ (o : Option Cluster). refusal_of (unwrap_or o m.opening) event) now ∙ first.0 in
     let done : answer_to (player m k).book 0 (call.Ask (Do event)) ≡ Done = is_done m k event none (omega arith) (omega arith) in
     let next : replay m.opening (m.done ++ event ∷ []) ≡ Some (after t event) =
-        replay-append m.opening t m.done (event ∷ []) now ∙ replay_one t event first.0 in
+    replay-append m.opening t m.done (event ∷ []) now ∙ replay_one t event first.0 in
     let size : length (m.done ++ event ∷ []) ≡ length m.done + 1 = length-append m.done (event ∷ []) in
     ap (λ (r : Reply). numbered n (reply_answer names r) ++ transcript names 0 (record { book = book_after (player m k).book 0 (call.Ask (Do event)) r; hand = [] }) (n + 1) lines) done
     ∙ ap (λ (answers : List ℕ). numbered n (codes "ok\n") ++ answers)

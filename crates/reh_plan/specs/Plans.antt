@@ -1,16 +1,13 @@
 -- What a plan is: a script whose lines ask for events that are accepted one after another, and a comment for each ledger
 -- with which something is left to do.
 use Rattle.std.specs.Prelude.{◌≡◌, ◌==◌, ℕ, ◌≤◌, IsTrue, Bool, true, false, not, ◌&&◌, ◌||◌, All, Any, List, [], ◌∷◌, ◌++◌, length}
-use Rattle.std.specs.Prelude.{Option, None, Some, is_some, Result, Ok, Err, codes}
+use Rattle.std.specs.Prelude.{Option, None, Some, is_some, Result, Ok, codes}
 use Rattle.std.specs.List.{flat_map, list_any}
 use Rattle.std.specs.Fmt.{decimal}
 use Rattle.reh_types.specs.declared.limits.TheConstants.{MAX_SCRIPT_BYTES}
 use Rattle.reh_types.specs.declared.moves.Event.{Event}
-use Rattle.reh_types.specs.declared.moves.Event.TheVariants.{Lose, Join, Audit, Acquire, Release, Finish, Expire}
-use Rattle.reh_types.specs.declared.moves.Event.TheVariants.{Grace, Tick, Roll, Fence, Seal, Copy, Swap}
-use Rattle.reh_types.specs.declared.moves.Event.TheVariants.{Disable, Enable}
+use Rattle.reh_types.specs.declared.moves.Event.TheVariants.{Lose, Join}
 use Rattle.reh_types.specs.declared.moves.Move.TheVariants.{Do}
-use Rattle.reh_types.specs.declared.refusals.Refusal.{Refusal}
 use Rattle.reh_model.specs.Audit.{first_under}
 use Rattle.reh_model.specs.Cluster.{Cluster, Ledger, is_up}
 use Rattle.reh_model.specs.Session as model

@@ -5,7 +5,7 @@ use reh_cluster::Names;
 use reh_picture::check_picture;
 use reh_plan::{PlanFault, plan};
 use reh_types::{BookieIx, BookieSet, MAX_BOOKIES};
-use std::alloc::Global;
+use std::alloc::{AllocError, Global};
 use std::io;
 use std::io::Write;
 
@@ -54,7 +54,7 @@ fn find_bookies(alloc: Global, names: &Names, words: &[&str]) -> Result<Vec<Book
             let reason = format!(in alloc; "bookie '{word}' is named twice")?;
             return Err(RunFault::Misnamed(reason));
         }
-        bookies.push(bookie)?;
+        bookies.push(bookie).map_err(AllocError::from)?;
     }
     Ok(bookies)
 }

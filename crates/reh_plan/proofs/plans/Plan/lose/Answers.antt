@@ -11,6 +11,6 @@ use Rattle.reh_plan.proofs.plans.Plan.lose.Goals as goal
 pub returns-in-Made-clause-lost : goal.returns-in-Made-clause-lost
 returns-in-Made-clause-lost c =
     let made : Makes c.args.self.now (Lose c.args.bookie) Made c.make.new.self =
-        subst (λ (o : Outcome). Makes c.args.self.now (Lose c.args.bookie) o c.make.new.self) c.in-Made.is c.in_ok-make.ensures in
+    subst (λ (o : Outcome). Makes c.args.self.now (Lose c.args.bookie) o c.make.new.self) c.in-Made.is c.in_ok-make.ensures in
     subst (λ (s : Cluster). IsWithout c.args.self.now.state (c.args.bookie ∷ []) s) (sym made.2)
     (IsWithout-lose c.args.self.now.state c.args.bookie)

@@ -1,8 +1,5 @@
 -- The line that was read back is kept with the event that it asks for.
-use Rattle.std.proofs.Common.{◌≡◌, ◌∙◌, ap, sym, subst, refl, arith, List, ℕ, Ok}
-use Rattle.reh_types.specs.declared.moves.Move.TheVariants.{Do}
-use Rattle.reh_types.specs.declared.moves.Reply.TheVariants.{Done}
-use Rattle.reh_model.specs.Session.{Performs, reply_of}
+use Rattle.std.proofs.Common.{◌∙◌, ap, sym, refl, arith, List, ℕ}
 use Rattle.reh_script.specs.Answers.{asked}
 use Rattle.reh_plan.proofs.DraftLaws.{IsDraft-event, made_by}
 use Rattle.reh_plan.proofs.plans.Plan.make.Goals as goal

@@ -1,5 +1,5 @@
 -- Each line is answered `ok`, as its event is accepted.
-use Rattle.std.proofs.Common.{◌≡◌, ◌∙◌, sym, subst, arith, ℕ, List, length}
+use Rattle.std.proofs.Common.{◌≡◌, subst, arith}
 use Rattle.reh_model.specs.Book.{new_book}
 use Rattle.reh_model.specs.Session.{opened_session}
 use Rattle.reh_script.specs.Lines.{lines_of}
@@ -13,4 +13,4 @@ pub returns-clause-replies : goal.returns-clause-replies
 returns-clause-replies c =
     subst (λ (d : Draft). transcript d.opening.names 0 (starting (new_book (opened_session d.opening))) 1 d.lines ≡ ok_answers d.opening.names 1 d.lines)
     c.self.view_is
-    (plan_ok c.self.inside.session.opening ? (lines_of c.self.inside.text.items) c.self.inside.session.done c.self.invariant.asks ? ?)
+    (plan_ok c.self.inside.session.opening c.state-replayed.result.now (lines_of c.self.inside.text.items) c.self.inside.session.done c.self.invariant.asks c.state-replayed.ensures.replays (omega (arith, c.undone-few.ensures.few)))
