@@ -146,9 +146,15 @@ fn work_all(
     let mut reasons = Vec::with_capacity(alloc, count)?;
     for place in 0..count {
         let left = work_at(alloc, plan, workers, place)?;
-        reasons.push(left).map_err(AllocError::from)?;
+        push_reason(&mut reasons, left)?;
     }
     Ok(reasons)
+}
+
+/// Adds why something is left for a ledger, if it is.
+fn push_reason(reasons: &mut Vec<Option<Reason>>, left: Option<Reason>) -> Result<(), AllocError> {
+    reasons.push(left)?;
+    Ok(())
 }
 
 /// Does what can be done for the ledger at a place of the picture, if it has a task, and says why something is left.

@@ -54,9 +54,15 @@ fn find_bookies(alloc: Global, names: &Names, words: &[&str]) -> Result<Vec<Book
             let reason = format!(in alloc; "bookie '{word}' is named twice")?;
             return Err(RunFault::Misnamed(reason));
         }
-        bookies.push(bookie).map_err(AllocError::from)?;
+        push_bookie(&mut bookies, bookie)?;
     }
     Ok(bookies)
+}
+
+/// Adds a bookie.
+fn push_bookie(bookies: &mut Vec<BookieIx>, bookie: BookieIx) -> Result<(), AllocError> {
+    bookies.push(bookie)?;
+    Ok(())
 }
 
 /// The set of these bookies, each of which is one of the 64 bookies that there can be.

@@ -1,5 +1,6 @@
 // Whether bookies may be stopped, judged from the files of pictures.
-ghost use Rattle.std.specs.Prelude.{◌≡◌, ◌+◌, ◌≤◌, vec_len, length, IfOk, OnOk};
+ghost use Rattle.std.specs.Prelude.{◌≡◌, ◌+◌, ◌≤◌, All, vec_len, length, IfOk, OnOk};
+ghost use Rattle.std.specs.Option.{IsSome};
 ghost use Rattle.reh_verdict.specs.declared.answers.TheConstants.{MAX_PICTURES};
 
 use crate::checks::{read_picture_file, write_text};
@@ -47,11 +48,13 @@ fn judge_files<R: thread::Threads + Wait + Sync>(
     threads: &R,
     stop: &Stop<'_>,
 ) -> Result<Vec<Judged>, RunFault>
-    ensures { IfOk result (λ judged. length judged.items ≤ MAX_PICTURES) }
+    ensures { IfOk result (λ judged. length judged.items ≡ vec_len stop.now.pictures) }
 {
     let mut slots = slots_of(rt.alloc(), &stop.pictures)?;
     let bookies = stop.bookies.as_slice();
-    thread::for_each_mut(threads, &mut slots, stop.crew.workers, &|_, slot| {
+    thread::for_each_mut(threads, &mut slots, stop.crew.workers, &|_, slot: &mut Slot<'_>|
+        ensures { IsSome slot.exit.now.judged }
+    {
         slot.judged = Some(judge_file(rt, slot.path, bookies));
     });
     judged_of(rt.alloc(), slots)
@@ -71,15 +74,17 @@ fn slots_of<'a>(alloc: Global, pictures: &[&'a str]) -> Result<Vec<Slot<'a>>, Al
     Ok(slots)
 }
 
-/// What is judged of each picture, or the first fault.
+/// What is judged of each picture, all of which are, or the first fault.
 fn judged_of(alloc: Global, slots: Vec<Slot<'_>>) -> Result<Vec<Judged>, RunFault>
-    ensures { IfOk result (λ judged. length judged.items ≤ length slots.entry.items) }
+    requires { All (λ slot. IsSome slot.judged) slots.entry.items }
+    ensures { IfOk result (λ judged. length judged.items ≡ length slots.entry.items) }
 {
     let mut judged = Vec::new(alloc);
     for slot in slots {
-        if let Some(one) = slot.judged {
-            push_judged(&mut judged, one?)?;
-        }
+        let Some(one) = slot.judged else {
+            unreachable!()
+        };
+        push_judged(&mut judged, one?)?;
     }
     Ok(judged)
 }
