@@ -174,7 +174,9 @@ fn command<'a>(alloc: Global, ways: &'a str) -> Result<Command<'a>, Error> {
     let script = Arg::new(alloc, "SCRIPT")
         .required(true)
         .help("A file with the script");
-    let workers = workers_arg(alloc)?.help("How many workers make each survey, 1 to 8; by default 1");
+    let workers = workers_arg(alloc)?.help(
+        "How many workers make each survey, 1 to 8; by default 1",
+    );
     let run = Command::new(alloc, "run")
         .about("Plays a script on a picture, each in a file")
         .arg(picture_arg(alloc))?
