@@ -52,11 +52,16 @@ fn judge_files<R: thread::Threads + Wait + Sync>(
 {
     let mut slots = slots_of(rt.alloc(), &stop.pictures)?;
     let bookies = stop.bookies.as_slice();
-    thread::for_each_mut(threads, &mut slots, stop.crew.workers, &|_, slot: &mut Slot<'_>|
-        ensures { IsSome slot.exit.now.judged }
-    {
-        slot.judged = Some(judge_file(rt, slot.path, bookies));
-    });
+    thread::for_each_mut(
+        threads,
+        &mut slots,
+        stop.crew.workers,
+        &|_, slot: &mut Slot<'_>|
+            ensures { IsSome slot.exit.now.judged }
+        {
+            slot.judged = Some(judge_file(rt, slot.path, bookies));
+        },
+    );
     judged_of(rt.alloc(), slots)
 }
 
@@ -107,7 +112,12 @@ fn judge_file(rt: &HostRuntime, path: &str, bookies: &[&str]) -> Result<Judged, 
 }
 
 /// The fault of a run that can't judge this picture.
-fn fault_of(alloc: Global, path: &str, bookies: &[&str], fault: JudgeFault) -> Result<RunFault, AllocError> {
+fn fault_of(
+    alloc: Global,
+    path: &str,
+    bookies: &[&str],
+    fault: JudgeFault,
+) -> Result<RunFault, AllocError> {
     let fault = match fault {
         JudgeFault::Refused(located) => RunFault::RefusedIn(format!(in alloc; "{path}")?, located),
         JudgeFault::Misnamed(NameFault::Unknown(number)) => {
