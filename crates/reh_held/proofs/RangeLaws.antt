@@ -1,12 +1,10 @@
 -- The bits of a range of entries, set word by word.
-use Rattle.std.proofs.Common.{◌≡◌, ℕ, ◌+◌, ◌-◌, ◌*◌, ◌/◌, ◌%◌, ◌<◌, ◌≤◌, ◌^◌, Bool, true, false, cond, ◌&&◌, ◌||◌, List}
+use Rattle.std.proofs.Common.{◌≡◌, ℕ, ◌+◌, ◌*◌, ◌/◌, ◌%◌, ◌<◌, ◌≤◌, Bool, true, false, cond, ◌&&◌, ◌||◌, List}
 use Rattle.std.proofs.Common.{length, get_or, set, refl, sym, ap, ◌∙◌, arith, nat_eq, nat_le, nat_lt, inl, inr}
-use Rattle.std.specs.Prelude.{◌==◌, bit_and, bit_or, max, min}
+use Rattle.std.specs.Prelude.{◌==◌, bit_or}
 use Rattle.std.specs.Int.{bit_at}
 use Rattle.std.proofs.lemmas.Bool.{cases_lt, cases_order}
 use Rattle.std.proofs.lemmas.Bool.Decides.{nat_tests}
-use Rattle.std.proofs.lemmas.Nat.Bits.{bit_at_or, bit_at_and, bit_at-lt, ones_shl, ones_shr, bit_at_mask_inside}
-use Rattle.std.proofs.lemmas.Nat.Bits.{bit_at_mask_below, bit_at_ones, bit_at_ones_above}
 use Rattle.std.proofs.lemmas.List.{get_or_read, length-set}
 use Rattle.reh_stripe.specs.Words.{is_between}
 use Rattle.reh_stripe.proofs.WordLaws.{has_bit-or}

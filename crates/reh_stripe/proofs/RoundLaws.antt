@@ -1,5 +1,5 @@
 -- Write sets as slices of the indexes of an ensemble, round and round.
-use Rattle.std.proofs.Common.{◌≡◌, ◌∙◌, ◌+◌, ◌-◌, ◌*◌, ◌%◌, ◌<◌, ◌≤◌, ◌∷◌, List, ℕ, zero, suc, refl, ap, sym, length, drop, take}
+use Rattle.std.proofs.Common.{◌≡◌, ◌∙◌, ◌+◌, ◌-◌, ◌*◌, ◌%◌, ◌<◌, ◌≤◌, ◌∷◌, List, ℕ, zero, suc, refl, ap, length, drop, take}
 use Rattle.std.proofs.Common.{map, slice_index, arith}
 use Rattle.std.specs.List.{range_with_len}
 use Rattle.std.proofs.Math.Nat.{mod-add-mod}

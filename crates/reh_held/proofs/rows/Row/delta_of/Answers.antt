@@ -1,7 +1,5 @@
 -- Of each word the entries turn that the row lacks.
-use Rattle.std.proofs.Common.{◌≡◌, ◌∙◌, List, [], ◌∷◌, ℕ, slice_index, ap, subst, sym, arith}
-use Rattle.std.specs.Prelude.{bit_and}
-use Rattle.std.specs.Int.{bit_not, w64}
+use Rattle.std.proofs.Common.{◌≡◌, ◌∙◌, List, ℕ, slice_index, ap, subst, sym, arith}
 use Rattle.reh_stripe.specs.declared.words.Word.{Word}
 use Rattle.reh_stripe.specs.Words.{AreRising, entries_of}
 use Rattle.reh_held.specs.declared.turns.Turn.{Turn}
