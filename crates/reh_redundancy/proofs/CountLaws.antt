@@ -8,7 +8,7 @@ use Rattle.std.specs.List.{enumerate_from, list_all, list_any, range_with_len}
 use Rattle.std.proofs.lemmas.Bool.Decides.{nat_tests}
 use Rattle.std.proofs.lemmas.List.Elements.{All-head, All-tail}
 use Rattle.std.proofs.lemmas.List.Sums.{sum_by-cons, sum_by-le-sum_by}
-use Rattle.reh_held.proofs.CountLaws.{count-append}
+use Rattle.reh_stripe.proofs.CountLaws.{count-append}
 use Rattle.reh_model.specs.Striping.{range}
 
 pub sum_by-map : {X Y : Type 0} (f : Y → ℕ) (h : X → Y) (xs : List X) → sum_by f (map h xs) ≡ sum_by (λ x. f (h x)) xs

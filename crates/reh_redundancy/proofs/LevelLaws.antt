@@ -14,7 +14,8 @@ use Rattle.std.proofs.lemmas.Nat.Bits.{bit_at_not, bit_at-zero}
 use Rattle.std.proofs.lemmas.List.{map-append}
 use Rattle.std.proofs.lemmas.List.Folds.{list_any-append}
 use Rattle.std.proofs.lemmas.List.Sums.{sum_by-cons, sum_by-append}
-use Rattle.reh_held.proofs.CountLaws.{count-append, count-cons, count-ones, count-range, range-append}
+use Rattle.reh_stripe.proofs.CountLaws.{count-append, count-cons, count-ones, count-range}
+use Rattle.reh_stripe.proofs.WordLaws.{range-append}
 use Rattle.reh_model.specs.Striping.{range, index_at, rank_of, is_striped, write_set}
 use Rattle.reh_model.proofs.StripingLaws.{rank_of-index_at, is_striped-rank_of}
 use Rattle.reh_scan.specs.Sources.{is_set_at}
