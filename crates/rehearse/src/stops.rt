@@ -1,5 +1,5 @@
 // Whether bookies may be stopped, judged from the files of pictures.
-ghost use Rattle.std.specs.Prelude.{◌≡◌, ◌+◌, ◌≤◌, All, vec_len, length, IfOk, OnOk};
+ghost use Rattle.std.specs.Prelude.{◌≡◌, ◌+◌, ◌<◌, ◌≤◌, All, vec_len, length, IfOk, OnOk};
 ghost use Rattle.std.specs.Option.{IsSome};
 ghost use Rattle.reh_verdict.specs.declared.answers.TheConstants.{MAX_PICTURES};
 
@@ -35,12 +35,8 @@ pub(crate) fn stop_over<R: thread::Threads + Wait + Sync>(
     Ok(status_of(answer.verdict))
 }
 
-/// A picture's file, and what is judged of it, once it is.
-#[derive(Drop)]
-struct Slot<'a> {
-    path: &'a str,
-    judged: Option<Result<Judged, RunFault>>,
-}
+/// What is judged of a picture, once it is.
+type Slot = Option<Result<Judged, RunFault>>;
 
 /// What is judged of each picture, in order, by the workers; or the first fault, also in that order.
 fn judge_files<R: thread::Threads + Wait + Sync>(
@@ -50,43 +46,42 @@ fn judge_files<R: thread::Threads + Wait + Sync>(
 ) -> Result<Vec<Judged>, RunFault>
     ensures { IfOk result (λ judged. length judged.items ≡ vec_len stop.now.pictures) }
 {
-    let mut slots = slots_of(rt.alloc(), &stop.pictures)?;
+    let pictures = stop.pictures.as_slice();
     let bookies = stop.bookies.as_slice();
+    let mut slots = slots_of(rt.alloc(), pictures)?;
     thread::for_each_mut(
         threads,
         &mut slots,
         stop.crew.workers,
-        &|_, slot: &mut Slot<'_>|
-            ensures { IsSome slot.exit.now.judged }
+        &|number, slot: &mut Slot|
+            requires { number < length pictures.now }
+            ensures { IsSome slot.exit.now }
         {
-            slot.judged = Some(judge_file(rt, slot.path, bookies));
+            *slot = Some(judge_file(rt, pictures[number], bookies));
         },
     );
     judged_of(rt.alloc(), slots)
 }
 
 /// A slot for each picture.
-fn slots_of<'a>(alloc: Global, pictures: &[&'a str]) -> Result<Vec<Slot<'a>>, AllocError>
+fn slots_of(alloc: Global, pictures: &[&str]) -> Result<Vec<Slot>, AllocError>
     ensures { IfOk result (λ slots. length slots.items ≡ length pictures.now) }
 {
     let mut slots = Vec::new(alloc);
-    for path in pictures {
-        slots.push(Slot {
-            path: *path,
-            judged: None,
-        })?;
+    for _path in pictures {
+        slots.push(None)?;
     }
     Ok(slots)
 }
 
 /// What is judged of each picture, all of which are, or the first fault.
-fn judged_of(alloc: Global, slots: Vec<Slot<'_>>) -> Result<Vec<Judged>, RunFault>
-    requires { All (λ slot. IsSome slot.judged) slots.entry.items }
-    ensures { IfOk result (λ judged. length judged.items ≡ length slots.entry.items) }
+fn judged_of(alloc: Global, slots: Vec<Slot>) -> Result<Vec<Judged>, RunFault>
+    requires { All (λ slot. IsSome slot) slots.items }
+    ensures { IfOk result (λ judged. length judged.items ≡ length slots.items) }
 {
     let mut judged = Vec::new(alloc);
     for slot in slots {
-        let Some(one) = slot.judged else {
+        let Some(one) = slot else {
             unreachable!()
         };
         push_judged(&mut judged, one?)?;

@@ -3,4 +3,4 @@ use Rattle.std.proofs.Common.{◌≡◌, length}
 use Rattle.rehearse.proofs.stops.slots_of.Given as goal
 
 abbrev pub invariant-loop-path : goal.invariant-loop-path
-invariant-loop-path l = length l.slots.items ≡ l.path-index
+invariant-loop-path l = length l.slots.items ≡ l._path-index
