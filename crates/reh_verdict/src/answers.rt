@@ -21,7 +21,11 @@ pub struct Answer {
 }
 
 /// The answer over pictures of one cluster: the lines of each, then all counts, and the verdict by them.
-pub fn answer_over(alloc: Global, judged: &[Judged], allow_under_ack: bool) -> Result<Answer, AllocError>
+pub fn answer_over(
+    alloc: Global,
+    judged: &[Judged],
+    allow_under_ack: bool,
+) -> Result<Answer, AllocError>
     requires { length judged.now ≤ MAX_PICTURES }
     ensures verdict { IfOk result (λ answer. answer.verdict ≡ answers.verdict_of judged.now allow_under_ack) }
     ensures rule { IfOk result (λ answer. model.is_yes answer.verdict

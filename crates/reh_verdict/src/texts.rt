@@ -30,7 +30,12 @@ pub(crate) fn push_ledger(
 }
 
 /// Adds the line of a ledger's counts, where they aren't the same now and without the bookies.
-fn push_changed(text: &mut String, id: u64, now: &Redundancy, without: &Redundancy) -> Result<(), AllocError>
+fn push_changed(
+    text: &mut String,
+    id: u64,
+    now: &Redundancy,
+    without: &Redundancy,
+) -> Result<(), AllocError>
     ensures { OnOk result (string_bytes text.new
         ≡ string_bytes text.old ++ texts.changed_text id now.now without.now) }
 {
@@ -53,7 +58,11 @@ fn push_change(text: &mut String, id: u64, needed: bool) -> Result<(), AllocErro
 }
 
 /// Adds the line of all counts.
-pub(crate) fn push_total(text: &mut String, now: &Redundancy, without: &Redundancy) -> Result<(), AllocError>
+pub(crate) fn push_total(
+    text: &mut String,
+    now: &Redundancy,
+    without: &Redundancy,
+) -> Result<(), AllocError>
     ensures { OnOk result (string_bytes text.new
         ≡ string_bytes text.old ++ texts.total_text now.now without.now) }
 {
@@ -90,7 +99,10 @@ pub(crate) fn push_verdict(text: &mut String, verdict: Verdict) -> Result<(), Al
     match verdict {
         Verdict::Yes => text.push_str("ok-to-stop: yes\n"),
         Verdict::Loses(1) => text.push_str("ok-to-stop: no, 1 entry could not be read\n"),
-        Verdict::Loses(count) => write!(text, "ok-to-stop: no, {count} entries could not be read\n"),
+        Verdict::Loses(count) => write!(
+            text,
+            "ok-to-stop: no, {count} entries could not be read\n"
+        ),
         Verdict::FallsUnder(1) => {
             text.push_str("ok-to-stop: no, 1 entry would fall under its ack quorum\n")
         }

@@ -81,9 +81,7 @@ fn judged_of(alloc: Global, slots: Vec<Slot>) -> Result<Vec<Judged>, RunFault>
 {
     let mut judged = Vec::new(alloc);
     for slot in slots {
-        let Some(one) = slot else {
-            unreachable!()
-        };
+        let Some(one) = slot else { unreachable!() };
         push_judged(&mut judged, one?)?;
     }
     Ok(judged)
