@@ -1,27 +1,40 @@
 // Records of changes.
-ghost use Rattle.std.specs.Prelude.{◌≡◌, ◌↔◌, [], ◌∷◌, map, IfOk, IsTrue};
-ghost use Rattle.reh_model.specs.Places.{place_of, AreRising};
+ghost use Rattle.std.specs.Prelude.{◌≡◌, ◌↔◌, [], ◌∷◌, map, All, IfOk, IsTrue};
+ghost use Rattle.reh_model.specs.Places.{place_of, put_all, back_all, AreRising, IsPlaced};
 
+use crate::exchanges::{exchange_all, exchange_one};
+use crate::parts::Parts;
 use reh_meta::LedgerMeta;
 use reh_types::{BookieSet, Change};
-use std::alloc::{AllocError, Global};
+use std::alloc::AllocError;
 use std::marker::Model;
+use std::slice;
 
 /// Changes of a state's places, in the places' order and at most one of each; contracts see the list of them.
+///
+/// Most events change one place. A single change is kept in place, and takes no memory of its own.
 #[derive(Drop)]
 pub struct Changes {
-    pub(crate) list: Vec<Change<LedgerMeta>>,
+    kept: Kept,
+}
+
+/// One change, or a list of any number.
+#[derive(Drop)]
+enum Kept {
+    One(Change<LedgerMeta>),
+    Many(Vec<Change<LedgerMeta>>),
 }
 
 impl Model for Changes {
     ghost use Rattle.std.specs.Prelude.{List, map};
     ghost use Rattle.reh_model.specs.Places as places;
+    ghost use Rattle.reh_cluster.specs.Changes.{changes_in};
 
     ghost Value = { List places.Change };
 
-    ghost view = { λ changes. changes.list.items };
+    ghost view = { λ changes. changes_in changes.kept };
 
-    ghost invariant = { λ changes. places.AreRising (map places.place_of changes.list.items) };
+    ghost invariant = { λ changes. places.AreRising (map places.place_of (changes_in changes.kept)) };
 }
 
 impl Changes {
@@ -31,16 +44,18 @@ impl Changes {
         requires { AreRising (map place_of list.items) }
         ensures { result ≡ list.items }
     {
-        Changes { list }
+        Changes {
+            kept: Kept::Many(list),
+        }
     }
 
-    /// The record of one change, with room for no more.
-    pub fn one(alloc: Global, change: Change<LedgerMeta>) -> Result<Changes, AllocError>
-        ensures { IfOk result (λ changes. changes ≡ change ∷ []) }
+    /// The record of one change.
+    pub fn one(change: Change<LedgerMeta>) -> Changes
+        ensures { result ≡ change ∷ [] }
     {
-        let mut list = Vec::with_capacity(alloc, 1)?;
-        list.push(change)?;
-        Ok(Changes { list })
+        Changes {
+            kept: Kept::One(change),
+        }
     }
 
     /// The changes, in order.
@@ -48,26 +63,53 @@ impl Changes {
         ensures list { result.now ≡ self.now }
         ensures rising { AreRising (map place_of self.now) }
     {
-        &self.list
+        match &self.kept {
+            Kept::One(change) => slice::from_ref(change),
+            Kept::Many(list) => list,
+        }
     }
 
     /// Whether both are the same changes. It takes no memory.
     pub fn same(&self, other: &Changes) -> bool
         ensures { IsTrue result ↔ (self.now ≡ other.now) }
     {
-        self.list == other.list
+        self.as_slice() == other.as_slice()
     }
 
     /// A copy, on the same allocator.
     pub fn clone_in(&self) -> Result<Changes, AllocError>
         ensures { IfOk result (λ copy. copy ≡ self.now) }
     {
-        let mut list = Vec::with_capacity(*self.list.allocator(), self.list.len())?;
-        for change in &self.list {
-            list.push(clone_change(change)?)?;
-        }
-        Ok(Changes { list })
+        let kept = match &self.kept {
+            Kept::One(change) => Kept::One(clone_change(change)?),
+            Kept::Many(list) => Kept::Many(clone_list(list)?),
+        };
+        Ok(Changes { kept })
     }
+
+    /// Swaps what each change holds with what stands at its place among the parts. It takes no memory.
+    pub(crate) fn exchange(&mut self, parts: &mut Parts)
+        requires { All (IsPlaced parts.old.bookies parts.old.parts) self.old }
+        ensures parts { parts.new ≡ record parts.old { parts = put_all parts.old.parts self.old } }
+        ensures left { self.new ≡ back_all parts.old.parts self.old }
+        ensures rising { AreRising (map place_of self.old) }
+    {
+        match &mut self.kept {
+            Kept::One(change) => exchange_one(parts, change),
+            Kept::Many(list) => exchange_all(parts, list),
+        }
+    }
+}
+
+/// A copy of a list of changes.
+fn clone_list(list: &Vec<Change<LedgerMeta>>) -> Result<Vec<Change<LedgerMeta>>, AllocError>
+    ensures { IfOk result (λ copy. copy.items ≡ list.now.items) }
+{
+    let mut copy = Vec::with_capacity(*list.allocator(), list.len())?;
+    for change in list {
+        copy.push(clone_change(change)?)?;
+    }
+    Ok(copy)
 }
 
 /// A copy of a change.

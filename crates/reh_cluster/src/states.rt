@@ -14,7 +14,6 @@ ghost use Rattle.reh_model.specs.WellFormed.{IsWellFormed};
 ghost use Rattle.reh_cluster.specs.Parts.{HasRows};
 
 use crate::changes::Changes;
-use crate::exchanges::exchange_all;
 use crate::ledgers::Ledger;
 use crate::names::Names;
 use crate::parts::Parts;
@@ -261,6 +260,6 @@ impl State {
         ensures back { exchanged self.new changes.new ≡ self.old }
         ensures again { left self.new changes.new ≡ changes.old }
     {
-        exchange_all(&mut self.parts, &mut changes.list);
+        changes.exchange(&mut self.parts);
     }
 }

@@ -16,6 +16,7 @@ use Rattle.reh_stripe.proofs.WordLaws.{has_bit-and, has_bit-not, has_bit-none, l
 use Rattle.reh_held.specs.declared.turns.Turn.{Turn}
 use Rattle.reh_held.specs.Rows.{is_set}
 use Rattle.reh_held.specs.RowTurns.{is_turned, AreRising, ArePlaces, IsRowTurning}
+use Rattle.reh_held.proofs.RowLaws.{one_of-false, one_of-group}
 
 -- the turns, and the words that are left, give the row the entries that it lacks
 pub record IsTurningOn (row entries : List ℕ) (turns : List Turn) (rest : List Word) : Type 0 where
@@ -42,20 +43,9 @@ turning-none row entries rest are rising within = record {
 
 -- Turns
 
-one_of-group : (a b c : Bool) → one_of a (one_of b c) ≡ one_of (one_of a b) c
-one_of-group true true true = refl
-one_of-group true true false = refl
-one_of-group true false true = refl
-one_of-group true false false = refl
-one_of-group false b c = refl
-
-one_of-nothing : (a : Bool) → one_of a false ≡ a
-one_of-nothing true = refl
-one_of-nothing false = refl
-
 turned-more : (turns : List Turn) (u : Turn) (e : ℕ)
     → is_turned (turns ++ u ∷ []) e ≡ one_of (is_turned turns e) (is_in_word u.number u.bits e)
-turned-more [] u e = one_of-nothing (is_in_word u.number u.bits e)
+turned-more [] u e = one_of-false (is_in_word u.number u.bits e)
 turned-more (v ∷ turns) u e =
     ap (one_of (is_in_word v.number v.bits e)) (turned-more turns u e)
     ∙ one_of-group (is_in_word v.number v.bits e) (is_turned turns e) (is_in_word u.number u.bits e)

@@ -75,6 +75,13 @@ pub one_of-false : (b : Bool) → one_of b false ≡ b
 one_of-false true = refl
 one_of-false false = refl
 
+pub one_of-group : (a b c : Bool) → one_of a (one_of b c) ≡ one_of (one_of a b) c
+one_of-group true true true = refl
+one_of-group true true false = refl
+one_of-group true false true = refl
+one_of-group true false false = refl
+one_of-group false b c = refl
+
 -- with bits of a word turned, the entries that they stand for are in the row where they were not
 pub is_set-toggle : (words : List ℕ) (k bits w : ℕ) → k < length words → w ≡ get_or words k w → (q : ℕ)
     → is_set (set words k (bit_xor w bits)) q ≡ one_of (is_set words q) (is_in_word k bits q)

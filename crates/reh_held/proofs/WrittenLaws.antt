@@ -16,14 +16,17 @@ use Rattle.std.specs.FinMap as finite
 use Rattle.std.specs.FinMap.{FinMap, get-insert, len-insert, same_map, nat_cmp-IsAntisymmetric}
 use Rattle.std.proofs.lemmas.Bool.Decides.{nat_tests}
 use Rattle.reh_types.specs.Sets as set
-use Rattle.reh_model.specs.Contents.{Contents, has, copies_of, is_in_word, turned, one_of}
+use Rattle.reh_model.specs.Contents.{Contents, has, copies_of, one_of}
 use Rattle.reh_model.proofs.ContentsLaws.{has-insert, has-union-copies_of}
-use Rattle.reh_model.proofs.TurnedLaws.{has-turned}
 use Rattle.reh_stripe.specs.Words.{is_between}
+use Rattle.reh_held.specs.declared.turns.Turn.{Turn}
 use Rattle.reh_held.specs.Rows.{is_set}
+use Rattle.reh_held.specs.RowTurns.{is_turned}
+use Rattle.reh_held.specs.Turns.{turned_all}
 use Rattle.reh_held.specs.Tables.{TableValue, row_at, IsTable}
 use Rattle.reh_held.specs.Kept.{table_at, rows_in, contents_of, words_of}
 use Rattle.reh_held.proofs.HeldLaws.{contents_is, words_is, has-contents, get-words}
+use Rattle.reh_held.proofs.TurnedLaws.{has-turned_all}
 
 -- after this table is written for the ledger
 abbrev pub IsWritten : List (ℕ × TableValue) → List (ℕ × TableValue) → ℕ → TableValue → Type 0
@@ -172,21 +175,21 @@ module _ (before after : List (ℕ × TableValue)) (ledger : ℕ) (table : Table
         one_false true c d = refl
         one_false false c d = refl
 
-  -- bits of one word turned
-  pub written-turned : (bookie number bits : ℕ)
+  -- bits of words turned
+  pub written-turned : (bookie : ℕ) (turns : List Turn)
       → ((b e : ℕ)
       → is_set (row_at table b) e
-      ≡ one_of (has (contents_of before) b ledger e) (nat_eq b bookie && is_in_word number bits e))
-      → contents_of after ≡ turned (contents_of before) bookie ledger number bits
-  written-turned bookie number bits turns = written-contents (turned (contents_of before) bookie ledger number bits)
-      (λ b e. turns b e ∙ sym (has-turned (contents_of before) bookie ledger number bits b ledger e
-      ∙ ap (λ t. one_of (has (contents_of before) b ledger e) ((nat_eq b bookie && t) && is_in_word number bits e))
+      ≡ one_of (has (contents_of before) b ledger e) (nat_eq b bookie && is_turned turns e))
+      → contents_of after ≡ turned_all (contents_of before) bookie ledger turns
+  written-turned bookie turns bits = written-contents (turned_all (contents_of before) bookie ledger turns)
+      (λ b e. bits b e ∙ sym (has-turned_all (contents_of before) bookie ledger turns b ledger e
+      ∙ ap (λ t. one_of (has (contents_of before) b ledger e) ((nat_eq b bookie && t) && is_turned turns e))
       (itself ledger)
-      ∙ ap (λ t. one_of (has (contents_of before) b ledger e) (t && is_in_word number bits e))
+      ∙ ap (λ t. one_of (has (contents_of before) b ledger e) (t && is_turned turns e))
       (with_true (nat_eq b bookie))))
-      (λ b l e differ. sym (has-turned (contents_of before) bookie ledger number bits b l e
-      ∙ ap (λ t. one_of (has (contents_of before) b l e) ((nat_eq b bookie && t) && is_in_word number bits e)) differ
-      ∙ none_turned (has (contents_of before) b l e) (nat_eq b bookie) (is_in_word number bits e))) where
+      (λ b l e differ. sym (has-turned_all (contents_of before) bookie ledger turns b l e
+      ∙ ap (λ t. one_of (has (contents_of before) b l e) ((nat_eq b bookie && t) && is_turned turns e)) differ
+      ∙ none_turned (has (contents_of before) b l e) (nat_eq b bookie) (is_turned turns e))) where
         itself : (n : ℕ) → nat_eq n n ≡ true
         itself n = grind (arith, nat_tests)
 

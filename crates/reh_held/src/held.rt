@@ -1,5 +1,5 @@
 // What the bookies hold.
-ghost use Rattle.std.specs.Prelude.{◌≡◌, ℕ, ◌+◌, ◌-◌, ◌*◌, ◌<◌, ◌≤◌, ◌↔◌, length, All, IfOk, IsTrue, OnOk, OnErr};
+ghost use Rattle.std.specs.Prelude.{◌≡◌, ℕ, ◌+◌, ◌-◌, ◌*◌, ◌<◌, ◌≤◌, ◌↔◌, length, map as mapped, All, IfOk, IsTrue, OnOk, OnErr};
 ghost use Rattle.std.specs.List.{range_with_len};
 ghost use Rattle.std.specs.Ordering.{nat_cmp};
 ghost use Rattle.std.specs.FinMap as map;
@@ -7,8 +7,9 @@ ghost use Rattle.reh_types.specs.declared.limits.TheConstants.{MAX_BOOKIES, MAX_
 ghost use Rattle.reh_types.specs.Sets as set;
 ghost use Rattle.reh_model.specs.Contents.{has, copies_of, count_held, greatest_held, turned};
 ghost use Rattle.reh_held.specs.Rows.{is_set};
+ghost use Rattle.reh_held.specs.RowTurns.{turn_of};
 ghost use Rattle.reh_held.specs.Tables.{row_at, IsTable};
-ghost use Rattle.reh_held.specs.Turns.{IsTurning};
+ghost use Rattle.reh_held.specs.Turns.{turned_all, IsWordOf, IsTurning};
 ghost use Rattle.reh_held.specs.Values.{words_in, with_room};
 ghost use Rattle.reh_held.specs.declared.rows.TheConstants.{MAX_WIDTH};
 
@@ -16,7 +17,7 @@ use crate::rows::have_same_entries;
 use crate::tables::Table;
 use crate::turns::Turn;
 use reh_stripe::Striped;
-use reh_types::{BookieIx, LedgerId};
+use reh_types::{BookieIx, Change, LedgerId};
 use std::alloc::{AllocError, Global};
 use std::collections::BTreeMap;
 use std::marker::Model;
@@ -168,8 +169,25 @@ impl Held {
         requires number { number < words_in self.old ledger }
         ensures { self.new ≡ record self.old { contents = turned self.old.contents bookie ledger number bits } }
     {
+        let word: Change<()> = Change::Word {
+            bookie,
+            ledger,
+            number,
+            bits,
+        };
+        self.toggle_words(bookie, ledger, &[word]);
+    }
+
+    /// Turns the bits of all these words of the bookie's row of the ledger, which is looked up once.
+    pub fn toggle_words<M>(&mut self, bookie: BookieIx, ledger: LedgerId, words: &[Change<M>])
+        requires bookie { bookie < self.old.bookies }
+        requires words { All (IsWordOf (words_in self.old ledger) bookie ledger) words.now }
+        ensures { self.new ≡ record self.old {
+          contents = turned_all self.old.contents bookie ledger (mapped turn_of words.now);
+        } }
+    {
         match self.tables.get_mut(&ledger) {
-            Some(table) => table.toggle(bookie, number, bits),
+            Some(table) => table.toggle_words(bookie, words),
             None => {}
         }
     }
@@ -326,6 +344,15 @@ mod tests {
         assert_eq!(rt; held.row(bookie, ledger), [27].as_slice());
         held.toggle(bookie, ledger, 0, 19);
         assert_eq!(rt; held.row(bookie, ledger), [8].as_slice());
+
+        let word = |bits| Change::<()>::Word {
+            bookie,
+            ledger,
+            number: 0,
+            bits,
+        };
+        held.toggle_words(bookie, ledger, &[word(3), word(5)]);
+        assert_eq!(rt; held.row(bookie, ledger), [14].as_slice());
         Ok(())
     }
 

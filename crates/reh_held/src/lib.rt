@@ -7,5 +7,5 @@ mod tables;
 mod turns;
 
 pub use held::Held;
-pub use rows::{is_set, word_at};
+pub use rows::is_set;
 pub use turns::Turn;

@@ -1,16 +1,16 @@
 // Rows of words.
-ghost use Rattle.std.specs.Prelude.{◌≡◌, ℕ, ◌+◌, ◌*◌, ◌^◌, ◌<◌, ◌≤◌, false, ◌==◌, ◌||◌, ◌↔◌, length, All, IfOk, IsTrue};
-ghost use Rattle.std.specs.Prelude.{slice_index};
+ghost use Rattle.std.specs.Prelude.{◌≡◌, ℕ, ◌+◌, ◌*◌, ◌^◌, ◌<◌, ◌≤◌, false, ◌==◌, ◌||◌, ◌↔◌, length, map, All, IfOk, IsTrue};
 ghost use Rattle.std.specs.List.{list_any};
 ghost use Rattle.reh_model.specs.Contents.{is_in_word, one_of};
 ghost use Rattle.reh_held.specs.Rows as rows;
 ghost use Rattle.reh_stripe.specs.Words.{is_between};
 ghost use Rattle.reh_held.specs.Rows.{is_set, entries_in, IsGreatest};
-ghost use Rattle.reh_held.specs.RowTurns.{IsRowTurning};
+ghost use Rattle.reh_held.specs.RowTurns.{turn_of, is_turned, IsWordWithin, IsRowTurning};
 ghost use Rattle.reh_held.specs.declared.rows.TheConstants.{MAX_WIDTH};
 
 use crate::turns::Turn;
-use reh_stripe::{Striped, bits_between};
+use reh_stripe::{Striped, bits_between, word_at};
+use reh_types::Change;
 use std::alloc::{AllocError, Global};
 use std::marker::Model;
 
@@ -87,6 +87,20 @@ impl Row {
         self.words[number] ^= bits;
     }
 
+    /// Turns the bits of these words.
+    pub(crate) fn toggle_words<M>(&mut self, words: &[Change<M>])
+        requires { All (IsWordWithin (length self.old)) words.now }
+        ensures width { length self.new ≡ length self.old }
+        ensures bits { (e : ℕ) → is_set self.new e
+            ≡ one_of (is_set self.old e) (is_turned (map turn_of words.now) e) }
+    {
+        for change in words {
+            if let Change::Word { number, bits, .. } = change {
+                self.toggle(*number, *bits);
+            }
+        }
+    }
+
     /// Whether the entry is in the row.
     pub(crate) fn holds(&self, entry: u32) -> bool
         ensures { result ≡ is_set self.now entry }
@@ -147,16 +161,6 @@ impl Row {
             }
         }
         Ok(turns)
-    }
-}
-
-/// A word of a row, which has no entry past its words.
-pub fn word_at(words: &[u64], number: usize) -> u64
-    ensures { result ≡ slice_index words.now number }
-{
-    match words.get(number) {
-        Some(word) => *word,
-        None => 0,
     }
 }
 

@@ -1,17 +1,17 @@
 // Tables of rows.
-ghost use Rattle.std.specs.Prelude.{◌≡◌, ℕ, ◌*◌, ◌^◌, ◌<◌, ◌≤◌, ◌==◌, ◌&&◌, ◌||◌, Bool, false, length, All, IfOk};
+ghost use Rattle.std.specs.Prelude.{◌≡◌, ℕ, ◌*◌, ◌^◌, ◌<◌, ◌≤◌, ◌==◌, ◌&&◌, ◌||◌, Bool, false, length, map, All, IfOk};
 ghost use Rattle.std.specs.List.{list_any};
-ghost use Rattle.reh_model.specs.Contents.{is_in_word, one_of};
+ghost use Rattle.reh_model.specs.Contents.{one_of};
 ghost use Rattle.reh_stripe.specs.Words.{is_between};
 ghost use Rattle.reh_held.specs.Rows.{is_set, entries_in, IsGreatest};
-ghost use Rattle.reh_held.specs.RowTurns.{IsRowTurning};
+ghost use Rattle.reh_held.specs.RowTurns.{turn_of, is_turned, IsWordWithin, IsRowTurning};
 ghost use Rattle.reh_held.specs.Tables.{row_at, IsTable};
 ghost use Rattle.reh_held.specs.declared.rows.TheConstants.{MAX_WIDTH};
 
 use crate::rows::{MAX_WIDTH, Row};
 use crate::turns::Turn;
 use reh_stripe::Striped;
-use reh_types::BookieIx;
+use reh_types::{BookieIx, Change};
 use std::alloc::{AllocError, Global};
 use std::marker::Model;
 
@@ -117,17 +117,17 @@ impl Table {
         self.rows[bookie.0 as usize].insert_range(first, last);
     }
 
-    /// Turns these bits of a word of the bookie's row.
-    pub(crate) fn toggle(&mut self, bookie: BookieIx, number: usize, bits: u64)
+    /// Turns the bits of these words of the bookie's row.
+    pub(crate) fn toggle_words<M>(&mut self, bookie: BookieIx, words: &[Change<M>])
         requires table { IsTable (length self.old.rows) self.old }
         requires bookie { bookie < length self.old.rows }
-        requires number { number < self.old.width }
+        requires words { All (IsWordWithin self.old.width) words.now }
         ensures width { self.new.width ≡ self.old.width }
         ensures table { IsTable (length self.old.rows) self.new }
         ensures bits { (b e : ℕ) → is_set (row_at self.new b) e
-            ≡ one_of (is_set (row_at self.old b) e) (b == bookie && is_in_word number bits e) }
+            ≡ one_of (is_set (row_at self.old b) e) (b == bookie && is_turned (map turn_of words.now) e) }
     {
-        self.rows[bookie.0 as usize].toggle(number, bits);
+        self.rows[bookie.0 as usize].toggle_words(words);
     }
 
     /// The turns after which the bookie's row has these entries too.

@@ -1,5 +1,5 @@
 -- Records: an exchange of what an exchange left gives back cluster and record.
-use Rattle.std.proofs.Common.{◌≡◌, ◌≢◌, ℕ, List, [], ◌∷◌, map, length, refl, sym, ap, subst, ◌∙◌}
+use Rattle.std.proofs.Common.{◌≡◌, ◌≢◌, ℕ, List, [], ◌∷◌, ◌++◌, map, length, refl, sym, ap, subst, ◌∙◌}
 use Rattle.std.specs.Prelude.{All}
 use Rattle.std.proofs.lemmas.List.Elements.{All-nil, All-cons, All-head, All-tail}
 use Rattle.reh_model.specs.Cluster.{Parts, Cluster, words_among}
@@ -78,8 +78,18 @@ pub words_among-put_all : (s : Parts) (cs : List Change) (l : ℕ) → words_amo
 words_among-put_all s [] l = refl
 words_among-put_all s (c ∷ cs) l = words_among-put_all (put s c) cs l ∙ words_among-put s c l
 
+-- a record in two parts
+pub put_all-append : (s : Parts) (cs ds : List Change) → put_all s (cs ++ ds) ≡ put_all (put_all s cs) ds
+put_all-append s [] ds = refl
+put_all-append s (c ∷ cs) ds = put_all-append (put s c) cs ds
+
+pub back_all-append : (s : Parts) (cs ds : List Change)
+    → back_all s (cs ++ ds) ≡ back_all s cs ++ back_all (put_all s cs) ds
+back_all-append s [] ds = refl
+back_all-append s (c ∷ cs) ds = ap (λ es. back s c ∷ es) (back_all-append (put s c) cs ds)
+
 -- so the places stay that there are
-IsPlaced-put_all : (n : ℕ) (s : Parts) (cs : List Change) (d : Change) → IsPlaced n s d → IsPlaced n (put_all s cs) d
+pub IsPlaced-put_all : (n : ℕ) (s : Parts) (cs : List Change) (d : Change) → IsPlaced n s d → IsPlaced n (put_all s cs) d
 IsPlaced-put_all n s [] d h = h
 IsPlaced-put_all n s (c ∷ cs) d h = IsPlaced-put_all n (put s c) cs d (IsPlaced-put n s c d h)
 

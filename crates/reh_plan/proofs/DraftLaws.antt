@@ -7,12 +7,10 @@ use Rattle.reh_types.specs.declared.moves.Move.TheVariants.{Do}
 use Rattle.reh_types.specs.declared.moves.Reply.TheVariants.{Done}
 use Rattle.reh_model.specs.Cluster.{Cluster}
 use Rattle.reh_model.specs.Session.{replay, Session, state_of, with_event, Performs}
-use Rattle.reh_model.specs.Step.{refusal_of, after}
 use Rattle.reh_script.specs.Answers.{asked}
 use Rattle.reh_script.specs.Lines.{lines_of}
 use Rattle.reh_script.specs.declared.commands.Command.TheVariants.{Make}
-use Rattle.reh_plan.specs.Plans.{has_lf, Asks, Draft, draft_of, IsDraft, Makes}
-use Rattle.reh_plan.specs.declared.plans.Outcome.TheVariants.{Made}
+use Rattle.reh_plan.specs.Plans.{has_lf, Asks, Draft, draft_of, IsDraft, IsMade}
 use Rattle.reh_plan.proofs.PlanLaws.{grown_lines, grown_ends, names_replay, Asks-event, Asks-none, performed, state_after}
 
 grown_few : (text line : List ℕ) → length text + (length line + 1) ≤ MAX_SCRIPT_BYTES → length (text ++ (line ++ 10 ∷ [])) ≤ MAX_SCRIPT_BYTES
@@ -39,14 +37,25 @@ IsDraft-event m n s text new line event draft now room none said is done =
     subst (λ (x : Session). IsDraft x new) (sym (performed m n event done).1)
     (subst (λ (t : List ℕ). IsDraft (with_event m event) t) (sym is) grown)
 
-pub made_by : (m n : Session) (s : Cluster) (d : Draft) (text new : List ℕ) (event : Event) → draft_of m text ≡ d
-    → replay m.opening m.done ≡ Some s → Performs m (Do event) Done n → Makes d event Made (draft_of n new)
-made_by m n s d text new event view now done =
-    let p = performed m n event done in (
-      ap (λ (x : Session). x.opening) p.1 ∙ ap (λ (x : Draft). x.opening) view,
-      ap (λ (x : Draft). refusal_of x.state event) (sym view) ∙ p.0,
-      ap state_of p.1 ∙ state_after m s event now p.0 ∙ ap (λ (x : Draft). after x.state event) view,
-    )
+pub made_by : (m n : Session) (s : Cluster) (d : Draft) (text new line : List ℕ) (event : Event) → IsDraft m text
+    → draft_of m text ≡ d → replay m.opening m.done ≡ Some s → has_lf line ≡ false
+    → asked s.names line ≡ Some (Ok (Make (Do event))) → new ≡ text ++ (line ++ 10 ∷ []) → Performs m (Do event) Done n
+    → IsMade d event (draft_of n new)
+made_by m n s d text new line event draft view now none said is done =
+    let p = performed m n event done in
+    let same : s.names ≡ m.opening.names = names_replay m.done m.opening s now in
+    let made : IsMade (draft_of m text) event (draft_of n new) = record {
+      opening = ap (λ (x : Session). x.opening) p.1;
+      accepted = p.0;
+      state = ap state_of p.1 ∙ state_after m s event now p.0;
+      events = ap (λ (x : Session). x.done) p.1;
+      lines = (
+        line,
+        ap (λ (ns : List (List ℕ)). asked ns line) (sym same) ∙ said,
+        ap lines_of is ∙ grown_lines text line draft.ends none,
+      );
+    } in
+    subst (λ (x : Draft). IsMade x event (draft_of n new)) view made
 
 -- by a comment
 pub IsDraft-none : (m : Session) (s : Cluster) (text new line : List ℕ) → IsDraft m text

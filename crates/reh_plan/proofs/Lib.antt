@@ -2,3 +2,4 @@ pub mod PlanLaws
 pub mod DraftLaws
 pub mod NamedLaws
 pub mod ReplyLaws
+pub mod Planned

@@ -1,11 +1,12 @@
 -- Ledgers that are named in comments, one after another.
-use Rattle.std.proofs.Common.{◌≡◌, ℕ, ◌+◌, ◌<◌, ◌≤◌, false, List, [], ◌∷◌, ◌++◌, length, take, get_or, refl, sym, ap, ◌∙◌, subst, arith, true≢false, length-append}
+use Rattle.std.proofs.Common.{◌≡◌, ℕ, ◌+◌, ◌<◌, ◌≤◌, true, false, None, List, [], ◌∷◌, ◌++◌, length, take, get_or, refl, sym, ap, ◌∙◌, subst, arith, true≢false, length-append}
 use Rattle.std.specs.Prelude.{All, Any, IsTrue}
 use Rattle.std.proofs.lemmas.List.{take_more, take_all, get_or_append_left}
 use Rattle.std.proofs.lemmas.List.Elements.{All-push}
 use Rattle.std.proofs.lemmas.List.Quantifiers.{Any-push}
 use Rattle.reh_model.specs.Cluster.{Cluster, Ledger}
-use Rattle.reh_plan.specs.Plans.{Draft, is_left, left_line, IsNamed, IsLeaving, AllNamed}
+use Rattle.reh_script.specs.Answers.{asked}
+use Rattle.reh_plan.specs.Plans.{Draft, is_left, left_line, IsNamed, IsLeaving, IsLeftLine, AllNamed, OnlyLeft}
 
 Any-more : {X : Type 0} (P : X → Type 0) (xs ys : List X) → Any P xs → Any P (xs ++ ys)
 Any-more P xs ys some =
@@ -21,6 +22,16 @@ next_named s lines ledgers k g within is named one =
     let P : Ledger → Type 0 = λ g. IsTrue (is_left s g) → IsNamed lines g.id in
     subst (All P) (sym (take_more ledgers k g within ∙ ap (λ (h : Ledger). take k ledgers ++ h ∷ []) (sym is)))
     (All-push P (take k ledgers) g named one)
+
+-- and its comment is one on a ledger that is left
+pub only_left : (names : List (List ℕ)) (d n : Draft) (k : ℕ) (g : Ledger) → IsLeaving d g.id n
+    → is_left d.state g ≡ true → k < length d.state.parts.ledgers → g ≡ get_or d.state.parts.ledgers k g
+    → OnlyLeft names d.state d.lines → OnlyLeft names n.state n.lines
+only_left names d n k g leaving left within is only =
+    let line : List ℕ = left_line g.id leaving.0 in
+    subst (λ (x : Draft). OnlyLeft names x.state x.lines) (sym leaving.1)
+    (All-push (λ line. asked names line ≡ None → IsLeftLine d.state d.state.parts.ledgers line) d.lines line only
+    (λ _. (k, g, within, sym is, (left, (leaving.0, refl)))))
 
 -- a ledger that is left is named
 pub named_left : (d n : Draft) (k : ℕ) (g : Ledger) → IsLeaving d g.id n → k < length d.state.parts.ledgers

@@ -1,13 +1,13 @@
 -- How a plan grows by a line, and what becomes of registrations.
-use Rattle.std.proofs.Common.{◌≡◌, ◌≢◌, ℕ, Bool, true, false, cond, not, List, [], ◌∷◌, ◌++◌}
+use Rattle.std.proofs.Common.{◌≡◌, ◌≢◌, ℕ, ◌+◌, ◌<◌, length, Bool, true, false, cond, not, List, [], ◌∷◌, ◌++◌}
 use Rattle.std.proofs.Common.{refl, sym, ap, ◌∙◌, subst, arith, append_assoc, append-nil, Option, None, Some, is_some, true≢false, inl, inr}
-use Rattle.std.specs.Prelude.{◌==◌, ◌&&◌, ◌||◌, Result, Ok, unwrap_or, is_none, slice_get}
-use Rattle.std.specs.List.{list_any, onto_first}
+use Rattle.std.specs.Prelude.{◌==◌, ◌&&◌, ◌||◌, nat_lt, Result, Ok, Err, OnOk, OnErr, unwrap_or, is_none, slice_get}
+use Rattle.std.specs.List.{list_all, onto_first}
 use Rattle.std.specs.Option.{option_map, option_map_or}
 use Rattle.std.proofs.lemmas.Bool.Decides.{nat_tests}
 use Rattle.std.proofs.lemmas.Grind.{flat_map-append}
 use Rattle.std.proofs.lemmas.List.Elements.{All-push}
-use Rattle.std.proofs.lemmas.List.Folds.{list_any-append}
+use Rattle.std.proofs.lemmas.List.Folds.{list_all-append}
 use Rattle.std.proofs.lemmas.Option.{same_Some}
 use Rattle.reh_types.specs.declared.moves.Event.{Event}
 use Rattle.reh_types.specs.declared.moves.Event.TheVariants.{Lose, Join, Audit, Acquire, Release, Finish, Expire}
@@ -20,18 +20,20 @@ use Rattle.reh_model.specs.Checks.{first_reason}
 use Rattle.reh_model.specs.Cluster.{Cluster, is_up, change_at}
 use Rattle.reh_model.specs.Session.{replay, Session, state_of, reply_unless, no_room, with_event, Performs}
 use Rattle.reh_model.specs.Step.{refusal_of, after}
+use Rattle.reh_types.specs.Sets as set
+use Rattle.reh_types.specs.Sets.{Set, numbers}
+use Rattle.reh_model.specs.WellFormed.{IsWellFormed}
 use Rattle.reh_model.proofs.ListLaws.{slice_get-here, slice_get-others}
 use Rattle.reh_model.proofs.SessionLaws.{replay_first, replay-append, replay_one}
+use Rattle.reh_model.proofs.WellFormedLaws.{up_named}
 use Rattle.reh_script.specs.Answers.{asked}
 use Rattle.reh_script.specs.Lines.{lines_of, ended}
 use Rattle.reh_script.specs.declared.commands.Command.{Command}
 use Rattle.reh_script.specs.declared.commands.Command.TheVariants.{Make}
 use Rattle.reh_script.specs.declared.commands.LineFault.{LineFault}
 use Rattle.reh_script.proofs.ReadLaws.{lines_behind}
-use Rattle.reh_plan.specs.Plans.{has_lf, event_asked, IsEventOrNone, Asks, is_work, IsWithout, Draft, Makes, Works}
-use Rattle.reh_plan.specs.declared.plans.Outcome.{Outcome}
-use Rattle.reh_plan.specs.declared.plans.Outcome.TheVariants.{Made, Unwritten}
-use Rattle.reh_plan.specs.declared.plans.Outcome.TheVariants as outcome
+use Rattle.reh_plan.specs.Plans.{has_lf, event_asked, IsEventOrNone, Asks, Draft, IsMade, IsWithout, Loses, Works}
+use Rattle.reh_plan.specs.Plans.{is_work, is_by, is_nobodys, is_all_by, is_all_asked}
 
 -- a text that an LF ends
 some_lf : (xs : List ℕ) → has_lf (xs ++ 10 ∷ []) ≡ true
@@ -174,9 +176,13 @@ and_true : (a : Bool) → (a && true) ≡ a
 and_true true = refl
 and_true false = refl
 
-one_lost : (xs : List (Option ℕ)) (b c t : ℕ) → option_map_or is_none (slice_get (change_at xs b (λ _. Some t)) c) false ≡ (option_map_or is_none (slice_get xs c) false && not ((b == c) || false))
+pub first_true : (a b : Bool) → (a && b) ≡ true → a ≡ true
+first_true true b both = refl
+first_true false b both = both
+
+one_lost : (xs : List (Option ℕ)) (b c t : ℕ) → option_map_or is_none (slice_get (change_at xs b (λ _. Some t)) c) false ≡ (option_map_or is_none (slice_get xs c) false && not (b == c))
 one_lost xs b c t =
-    elim (b == c) as (λ u. (b == c) ≡ u → option_map_or is_none (slice_get (change_at xs b (λ _. Some t)) c) false ≡ (option_map_or is_none (slice_get xs c) false && not (u || false))) [
+    elim (b == c) as (λ u. (b == c) ≡ u → option_map_or is_none (slice_get (change_at xs b (λ _. Some t)) c) false ≡ (option_map_or is_none (slice_get xs c) false && not u)) [
       | true ↦ λ e.
           let same : b ≡ c = grind (arith, nat_tests) in
           ap (λ k. option_map_or is_none (slice_get (change_at xs k (λ _. Some t)) c) false) same
@@ -189,13 +195,13 @@ one_lost xs b c t =
     ] refl
 
 -- a loss is of the one bookie
-pub IsWithout-lose : (s : Cluster) (b : ℕ) → IsWithout s (b ∷ []) (after s (Lose b))
+pub IsWithout-lose : (s : Cluster) (b : ℕ) → IsWithout s (λ c. b == c) (after s (Lose b))
 IsWithout-lose s b c = one_lost s.parts.lost_at b c s.parts.scalars.clock
 
 -- of a bookie that isn't registered there is nothing to lose
-pub IsWithout-down : (s : Cluster) (b : ℕ) → is_up s b ≡ false → IsWithout s (b ∷ []) s
+pub IsWithout-down : (s : Cluster) (b : ℕ) → is_up s b ≡ false → IsWithout s (λ c. b == c) s
 IsWithout-down s b down c =
-    elim (b == c) as (λ u. (b == c) ≡ u → is_up s c ≡ (is_up s c && not (u || false))) [
+    elim (b == c) as (λ u. (b == c) ≡ u → is_up s c ≡ (is_up s c && not u)) [
       | true ↦ λ e.
           let same : b ≡ c = grind (arith, nat_tests) in
           let fine : is_up s c ≡ false = ap (is_up s) (sym same) ∙ down in
@@ -203,42 +209,189 @@ IsWithout-down s b down c =
       | false ↦ λ e. sym (and_true (is_up s c))
     ] refl
 
--- without some, and then without others
-both_lost : (a x y : Bool) → ((a && not x) && not (y || false)) ≡ (a && not (x || (y || false)))
-both_lost true true y = refl
-both_lost true false y = refl
-both_lost false x y = refl
+-- the bookies below a number that are to be lost
+abbrev pub below : Set numbers → ℕ → ℕ → Bool
+below lost n b = nat_lt b n && set.contains lost b
 
-pub IsWithout-more : (s t u : Cluster) (lost : List ℕ) (b : ℕ) → IsWithout s lost t → IsWithout t (b ∷ []) u → IsWithout s (lost ++ b ∷ []) u
-IsWithout-more s t u lost b first then c =
-    then c ∙ ap (λ (a : Bool). a && not ((b == c) || false)) (first c)
-    ∙ both_lost (is_up s c) (list_any (λ x. x == c) lost) (b == c)
-    ∙ ap (λ (a : Bool). is_up s c && not a) (sym (list_any-append (λ x. x == c) lost (b ∷ [])))
+below-here : (lost : Set numbers) (n : ℕ) (v : Bool) → set.contains lost n ≡ v → below lost (n + 1) n ≡ v
+below-here lost n v is =
+    let within : nat_lt n (n + 1) ≡ true = grind (arith, nat_tests) in
+    ap (λ t. t && set.contains lost n) within ∙ is
 
-pub IsWithout-none : (s : Cluster) → IsWithout s [] s
-IsWithout-none s c = sym (and_true (is_up s c))
+below-others : (lost : Set numbers) (n b : ℕ) → n ≢ b → below lost (n + 1) b ≡ below lost n b
+below-others lost n b other =
+    let same : nat_lt b (n + 1) ≡ nat_lt b n = grind (arith, nat_tests) in
+    ap (λ t. t && set.contains lost b) same
+
+-- the next bookie is to be lost
+pub IsWithout-next : (s t u : Cluster) (lost : Set numbers) (n : ℕ) → set.contains lost n ≡ true
+    → IsWithout s (below lost n) t → IsWithout t (λ b. n == b) u → IsWithout s (below lost (n + 1)) u
+IsWithout-next s t u lost n in_lost first then b =
+    then b ∙ elim (n == b) as (λ v. (n == b) ≡ v → (is_up t b && not v) ≡ (is_up s b && not (below lost (n + 1) b))) [
+      | true ↦ λ e.
+          let same : n ≡ b = grind (arith, nat_tests) in
+          let gone : below lost (n + 1) b ≡ true =
+          subst (λ k. below lost (n + 1) k ≡ true) same (below-here lost n true in_lost) in
+          and_false (is_up t b) ∙ sym (and_false (is_up s b)) ∙ ap (λ g. is_up s b && not g) (sym gone)
+      | false ↦ λ e.
+          let other : n ≢ b = grind (arith, nat_tests) in
+          and_true (is_up t b) ∙ first b ∙ ap (λ g. is_up s b && not g) (sym (below-others lost n b other))
+    ] refl
+
+-- the next bookie isn't
+pub IsWithout-kept : (s t : Cluster) (lost : Set numbers) (n : ℕ) → set.contains lost n ≡ false
+    → IsWithout s (below lost n) t → IsWithout s (below lost (n + 1)) t
+IsWithout-kept s t lost n stays first b =
+    first b ∙ ap (λ g. is_up s b && not g) (elim (n == b) as (λ v. (n == b) ≡ v → below lost n b ≡ below lost (n + 1) b) [
+      | true ↦ λ e.
+          let same : n ≡ b = grind (arith, nat_tests) in
+          let not_yet : nat_lt b n ≡ false = grind (arith, nat_tests) in
+          ap (λ t. t && set.contains lost b) not_yet
+          ∙ sym (subst (λ k. below lost (n + 1) k ≡ false) same (below-here lost n false stays))
+      | false ↦ λ e.
+          let other : n ≢ b = grind (arith, nat_tests) in
+          sym (below-others lost n b other)
+    ] refl)
+
+pub IsWithout-none : (s : Cluster) (lost : Set numbers) → IsWithout s (below lost 0) s
+IsWithout-none s lost b =
+    let none : nat_lt b 0 ≡ false = grind (arith, nat_tests) in
+    sym (ap (λ t. is_up s b && not (t && set.contains lost b)) none ∙ and_true (is_up s b))
+
+-- no bookie is registered but the cluster's
+pub IsWithout-all : (s t : Cluster) (lost : Set numbers) → IsWellFormed s → IsWithout s (below lost (length s.names)) t
+    → IsWithout s (set.contains lost) t
+IsWithout-all s t lost well first b =
+    first b ∙ elim (is_up s b) as (λ v. is_up s b ≡ v
+    → (v && not (below lost (length s.names) b)) ≡ (v && not (set.contains lost b))) [
+      | true ↦ λ up.
+          let named : b < length s.names = up_named s b well up in
+          let within : nat_lt b (length s.names) ≡ true = grind (arith, nat_tests) in
+          ap (λ t. not (t && set.contains lost b)) within
+      | false ↦ λ down. refl
+    ] refl
 
 -- what leaves all registrations leaves that
-pub IsWithout-works : (s t u : Cluster) (lost : List ℕ) → IsWithout s lost t → u.parts.lost_at ≡ t.parts.lost_at → IsWithout s lost u
-IsWithout-works s t u lost first same c =
-    ap (λ (xs : List (Option ℕ)). option_map_or is_none (slice_get xs c) false) same ∙ first c
+pub IsWithout-works : (s t u : Cluster) (is_lost : ℕ → Bool) → IsWithout s is_lost t
+    → u.parts.lost_at ≡ t.parts.lost_at → IsWithout s is_lost u
+IsWithout-works s t u is_lost first same b =
+    ap (λ (xs : List (Option ℕ)). option_map_or is_none (slice_get xs b) false) same ∙ first b
 
 -- Plans
 
-pub works_on : (d n p : Draft) → Works d n → Works n p → Works d p
-works_on d n p first then = record {
+-- an event more, by a bookie that may take places
+made_places : (allowed : Set numbers) (d n : Draft) (event : Event) → is_by allowed event ≡ true → IsMade d event n
+    → is_all_by allowed n ≡ is_all_by allowed d
+made_places allowed d n event by made =
+    ap (list_all (is_by allowed)) made.events
+    ∙ list_all-append (is_by allowed) d.events (event ∷ [])
+    ∙ ap (λ t. is_all_by allowed d && (t && true)) by
+    ∙ and_true (is_all_by allowed d)
+
+-- and its line
+made_commands : (d n : Draft) (event : Event) → IsMade d event n → is_all_asked n ≡ is_all_asked d
+made_commands d n event made =
+    let is_asked : List (List ℕ) → List ℕ → Bool = λ names line. is_some (asked names line) in
+    ap (λ (names : List (List ℕ)). list_all (is_asked names) n.lines) (ap (λ (s : Cluster). s.names) made.opening)
+    ∙ ap (list_all (is_asked d.opening.names)) made.lines.2
+    ∙ list_all-append (is_asked d.opening.names) d.lines (made.lines.0 ∷ [])
+    ∙ ap (λ (a : Option (Result Command LineFault)). is_all_asked d && (is_some a && true)) made.lines.1
+    ∙ and_true (is_all_asked d)
+
+-- a plan that has gone on by work, and then does so again
+pub works_on : (allowed : Set numbers) (d n p : Draft) → Works allowed n p → Works allowed d n → Works allowed d p
+works_on allowed d n p then first = record {
   opening = then.opening ∙ first.opening;
   lost_at = then.lost_at ∙ first.lost_at;
+  places = then.places ∙ first.places;
+  commands = then.commands ∙ first.commands;
 }
 
-pub works_none : (d : Draft) → Works d d
-works_none d = record { opening = refl; lost_at = refl }
+pub works_none : (allowed : Set numbers) (d : Draft) → Works allowed d d
+works_none allowed d = record { opening = refl; lost_at = refl; places = refl; commands = refl }
 
--- a step that makes an event that is work, or none
-pub works_by : (d n : Draft) (event : Event) (outcome : Outcome) → is_work event ≡ true → Makes d event outcome n → Works d n
-works_by d n event Made work made = record {
-  opening = made.0;
-  lost_at = ap (λ (c : Cluster). c.parts.lost_at) made.2 ∙ lost_at-after d.state event work;
+-- and then stays
+pub works_same : (allowed : Set numbers) (d n p : Draft) → p ≡ n → Works allowed d n → Works allowed d p
+works_same allowed d n p same first = subst (λ (x : Draft). Works allowed d x) (sym same) first
+
+-- and then makes an event that is work
+pub works_made : (allowed : Set numbers) (d n p : Draft) (event : Event) → IsMade n event p → is_work event ≡ true
+    → is_by allowed event ≡ true → Works allowed d n → Works allowed d p
+works_made allowed d n p event made work by first =
+    let then : Works allowed n p = record {
+      opening = made.opening;
+      lost_at = ap (λ (c : Cluster). c.parts.lost_at) made.state ∙ lost_at-after n.state event work;
+      places = made_places allowed n p event by made;
+      commands = made_commands n p event made;
+    } in
+    works_on allowed d n p then first
+
+-- if it is accepted
+pub works_done : {A B : Type 0} (allowed : Set numbers) (d n p : Draft) (event : Event) (r : Result A B)
+    → OnOk r (IsMade n event p) → OnErr r (p ≡ n) → is_work event ≡ true → is_by allowed event ≡ true
+    → Works allowed d n → Works allowed d p
+works_done allowed d n p event (Ok done) made same work by first = works_made allowed d n p event made work by first
+works_done allowed d n p event (Err stop) made same work by first = works_same allowed d n p same first
+
+-- or an event of no bookie
+pub works_alone : (allowed : Set numbers) (d n p : Draft) (event : Event) → IsMade n event p → is_nobodys event ≡ true
+    → Works allowed d n → Works allowed d p
+works_alone allowed d n p Audit made nobodys = works_made allowed d n p Audit made refl refl
+works_alone allowed d n p (Tick ticks) made nobodys = works_made allowed d n p (Tick ticks) made refl refl
+works_alone allowed d n p Enable made nobodys = works_made allowed d n p Enable made refl refl
+works_alone allowed d n p Disable made nobodys = works_made allowed d n p Disable made refl refl
+works_alone allowed d n p other made nobodys = cc
+
+-- plans that lose bookies
+pub loses_made : (d n : Draft) (bookie : ℕ) → IsMade d (Lose bookie) n → Loses d (λ b. bookie == b) n
+loses_made d n bookie made = record {
+  opening = made.opening;
+  lost =
+      subst (λ (s : Cluster). IsWithout d.state (λ b. bookie == b) s) (sym made.state)
+      (IsWithout-lose d.state bookie);
+  places = λ allowed. made_places allowed d n (Lose bookie) refl made;
+  commands = made_commands d n (Lose bookie) made;
 }
-works_by d n event (outcome.Refused refusal) work same = record { opening = same.0; lost_at = ap (λ (c : Cluster). c.parts.lost_at) same.1 }
-works_by d n event Unwritten work same = record { opening = same.0; lost_at = ap (λ (c : Cluster). c.parts.lost_at) same.1 }
+
+pub loses_down : (d : Draft) (bookie : ℕ) → is_up d.state bookie ≡ false → Loses d (λ b. bookie == b) d
+loses_down d bookie down = record {
+  opening = refl;
+  lost = IsWithout-down d.state bookie down;
+  places = λ allowed. refl;
+  commands = refl;
+}
+
+pub loses_none : (d : Draft) (lost : Set numbers) → Loses d (below lost 0) d
+loses_none d lost = record {
+  opening = refl;
+  lost = IsWithout-none d.state lost;
+  places = λ allowed. refl;
+  commands = refl;
+}
+
+pub loses_next : (d n p : Draft) (lost : Set numbers) (k : ℕ) → set.contains lost k ≡ true → Loses d (below lost k) n
+    → Loses n (λ b. k == b) p → Loses d (below lost (k + 1)) p
+loses_next d n p lost k in_lost first then = record {
+  opening = then.opening ∙ first.opening;
+  lost = IsWithout-next d.state n.state p.state lost k in_lost first.lost then.lost;
+  places = λ allowed. then.places allowed ∙ first.places allowed;
+  commands = then.commands ∙ first.commands;
+}
+
+pub loses_kept : (d n : Draft) (lost : Set numbers) (k : ℕ) → set.contains lost k ≡ false → Loses d (below lost k) n
+    → Loses d (below lost (k + 1)) n
+loses_kept d n lost k stays first = record {
+  opening = first.opening;
+  lost = IsWithout-kept d.state n.state lost k stays first.lost;
+  places = first.places;
+  commands = first.commands;
+}
+
+pub loses_all : (d n : Draft) (lost : Set numbers) → IsWellFormed d.state
+    → Loses d (below lost (length d.state.names)) n → Loses d (set.contains lost) n
+loses_all d n lost well first = record {
+  opening = first.opening;
+  lost = IsWithout-all d.state n.state lost well first.lost;
+  places = first.places;
+  commands = first.commands;
+}

@@ -1,2 +1,3 @@
 pub mod Plans
 pub mod Replies
+pub mod Workers

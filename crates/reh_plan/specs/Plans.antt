@@ -2,12 +2,14 @@
 -- with which something is left to do.
 use Rattle.std.specs.Prelude.{◌≡◌, ◌==◌, ℕ, ◌≤◌, IsTrue, Bool, true, false, not, ◌&&◌, ◌||◌, All, Any, List, [], ◌∷◌, ◌++◌, length}
 use Rattle.std.specs.Prelude.{Option, None, Some, is_some, Result, Ok, codes}
-use Rattle.std.specs.List.{flat_map, list_any}
+use Rattle.std.specs.List.{flat_map, list_all, list_any}
 use Rattle.std.specs.Fmt.{decimal}
 use Rattle.reh_types.specs.declared.limits.TheConstants.{MAX_SCRIPT_BYTES}
 use Rattle.reh_types.specs.declared.moves.Event.{Event}
-use Rattle.reh_types.specs.declared.moves.Event.TheVariants.{Lose, Join}
+use Rattle.reh_types.specs.declared.moves.Event.TheVariants.{Lose, Join, Audit, Tick, Copy, Swap, Disable, Enable}
 use Rattle.reh_types.specs.declared.moves.Move.TheVariants.{Do}
+use Rattle.reh_types.specs.Sets as set
+use Rattle.reh_types.specs.Sets.{Set, numbers}
 use Rattle.reh_model.specs.Audit.{first_under}
 use Rattle.reh_model.specs.Cluster.{Cluster, Ledger, is_up}
 use Rattle.reh_model.specs.Session as model
@@ -62,16 +64,24 @@ pub record IsDraft (m : model.Session) (text : List ℕ) : Type 0 where
   pub few : length text ≤ MAX_SCRIPT_BYTES
   pub asks : Asks m.opening.names (lines_of text) m.done
 
--- what becomes of a plan that is to make an event: it does so, or its cluster and its events stay
-abbrev pub Makes : Draft → Event → Outcome → Draft → Type 0
-Makes d event Made n =
-    (n.opening ≡ d.opening) × (refusal_of d.state event ≡ None) × (n.state ≡ after d.state event)
-Makes d event (Refused refusal) n = (n.opening ≡ d.opening) × (n.state ≡ d.state)
-Makes d event Unwritten n = (n.opening ≡ d.opening) × (n.state ≡ d.state)
+-- the plan goes on from d to n by an event that is accepted, and by a line that asks for it
+pub record IsMade (d : Draft) (event : Event) (n : Draft) : Type 0 where
+  pub opening : n.opening ≡ d.opening
+  pub accepted : refusal_of d.state event ≡ None
+  pub state : n.state ≡ after d.state event
+  pub events : n.events ≡ d.events ++ event ∷ []
+  pub lines : (line : List ℕ) × (asked d.opening.names line ≡ Some (Ok (Make (Do event))))
+      × (n.lines ≡ d.lines ++ line ∷ [])
 
--- in t these bookies aren't registered, and all others are as in s
-abbrev pub IsWithout : Cluster → List ℕ → Cluster → Type 0
-IsWithout s lost t = (b : ℕ) → is_up t b ≡ is_up s b && not (list_any (λ c. c == b) lost)
+-- what becomes of a plan that is to make an event: it does so, or stays as it is
+abbrev pub Makes : Draft → Event → Outcome → Draft → Type 0
+Makes d event Made n = IsMade d event n
+Makes d event (Refused refusal) n = n ≡ d
+Makes d event Unwritten n = n ≡ d
+
+-- in t the bookies that are lost aren't registered, and all others are as in s
+abbrev pub IsWithout : Cluster → (ℕ → Bool) → Cluster → Type 0
+IsWithout s is_lost t = (b : ℕ) → is_up t b ≡ is_up s b && not (is_lost b)
 
 -- whether an event leaves all registrations as they are
 abbrev pub is_work : Event → Bool
@@ -79,10 +89,40 @@ is_work (Lose b) = false
 is_work (Join b) = false
 is_work event = true
 
--- the plan goes on from d to n, and no registration changes
-pub record Works (d n : Draft) : Type 0 where
+-- whether the bookie that takes a place by the event, or copies for one, is among those that may
+abbrev pub is_by : Set numbers → Event → Bool
+is_by allowed (Copy worker ledger fragment index version) = set.contains allowed worker
+is_by allowed (Swap worker ledger fragment index version) = set.contains allowed worker
+is_by allowed event = true
+
+-- whether an event is one of no bookie
+abbrev pub is_nobodys : Event → Bool
+is_nobodys Audit = true
+is_nobodys (Tick ticks) = true
+is_nobodys Disable = true
+is_nobodys Enable = true
+is_nobodys event = false
+
+abbrev pub is_all_by : Set numbers → Draft → Bool
+is_all_by allowed d = list_all (is_by allowed) d.events
+
+-- whether each line has an answer, so that none is a comment
+abbrev pub is_all_asked : Draft → Bool
+is_all_asked d = list_all (λ line. is_some (asked d.opening.names line)) d.lines
+
+-- the plan goes on from d to n by commands alone; no registration changes, and none but the allowed bookies take places
+pub record Works (allowed : Set numbers) (d n : Draft) : Type 0 where
   pub opening : n.opening ≡ d.opening
   pub lost_at : n.state.parts.lost_at ≡ d.state.parts.lost_at
+  pub places : is_all_by allowed n ≡ is_all_by allowed d
+  pub commands : is_all_asked n ≡ is_all_asked d
+
+-- the plan goes on from d to n by commands alone, by which the bookies are lost and nothing else happens
+pub record Loses (d : Draft) (is_lost : ℕ → Bool) (n : Draft) : Type 0 where
+  pub opening : n.opening ≡ d.opening
+  pub lost : IsWithout d.state is_lost n.state
+  pub places : (allowed : Set numbers) → is_all_by allowed n ≡ is_all_by allowed d
+  pub commands : is_all_asked n ≡ is_all_asked d
 
 -- What is left
 
@@ -107,8 +147,18 @@ IsLeaving d ledger n =
 abbrev pub AllNamed : Cluster → List (List ℕ) → List Ledger → Type 0
 AllNamed s lines ledgers = All (λ g. IsTrue (is_left s g) → IsNamed lines g.id) ledgers
 
--- the plan goes on from d to n by comments alone, which name each ledger with which something is left
+-- the line is such a comment on one of these ledgers
+abbrev pub IsLeftLine : Cluster → List Ledger → List ℕ → Type 0
+IsLeftLine s ledgers line = Any (λ g. IsTrue (is_left s g) × ((why : List ℕ) × (line ≡ left_line g.id why))) ledgers
+
+-- each line without an answer is a comment on a ledger with which something is left
+abbrev pub OnlyLeft : List (List ℕ) → Cluster → List (List ℕ) → Type 0
+OnlyLeft names s lines = All (λ line. asked names line ≡ None → IsLeftLine s s.parts.ledgers line) lines
+
+-- the plan goes on from d to n by comments alone: they name each ledger with which something is left, and no other
 pub record IsNaming (d n : Draft) : Type 0 where
   pub opening : n.opening ≡ d.opening
   pub state : n.state ≡ d.state
+  pub events : n.events ≡ d.events
   pub named : AllNamed n.state n.lines n.state.parts.ledgers
+  pub only : OnlyLeft d.opening.names d.state d.lines → OnlyLeft n.opening.names n.state n.lines

@@ -1,7 +1,10 @@
 // What is done for one ledger, as AutoRecovery does it: its lock, the recovery of an open one, and the places of missing
 // members.
-ghost use Rattle.std.specs.Prelude.{◌≡◌};
+ghost use Rattle.std.specs.Prelude.{◌≡◌, IfOk, IfSome, true};
+ghost use Rattle.reh_types.specs.Sets as set;
+ghost use Rattle.reh_types.specs.Sets.{Set, numbers};
 ghost use Rattle.reh_plan.specs.Plans.{Works};
+ghost use Rattle.reh_plan.specs.Workers.{can_work};
 
 use crate::faults::{PlanFault, Reason, Stop, first_reason};
 use crate::plans::Plan;
@@ -35,7 +38,7 @@ impl Job {
     }
 
     /// Whether the ledger has a task.
-    pub fn has_task(&self, state: &State) -> bool {
+    pub(crate) fn has_task(&self, state: &State) -> bool {
         match self.ledger_in(state) {
             Some(ledger) => ledger.task().is_some(),
             None => false,
@@ -86,7 +89,8 @@ impl Job {
 
     /// Locks the task by a worker that can take places of the fragment.
     fn lock(&self, plan: &mut Plan, workers: &Workers, fragment: usize) -> Result<BookieIx, Stop>
-        ensures { Works plan.old plan.new }
+        ensures works { Works workers.now plan.old plan.new }
+        ensures worker { IfOk result (λ worker. set.contains workers.now worker ≡ true) }
     {
         let Some(worker) = self.worker(plan.state(), workers, fragment) else {
             let fragment = fragment as u64;
@@ -106,13 +110,15 @@ impl Job {
     }
 
     /// Who takes places of the fragment.
-    fn worker(&self, state: &State, workers: &Workers, fragment: usize) -> Option<BookieIx> {
+    fn worker(&self, state: &State, workers: &Workers, fragment: usize) -> Option<BookieIx>
+        ensures { IfSome result (λ worker. can_work workers.now state.now worker ≡ true) }
+    {
         workers.choose(state, self.ledger_in(state)?, fragment)
     }
 
     /// Grants the writer of an open ledger its grace, if it needs another bookie.
-    pub fn grant(&self, plan: &mut Plan, workers: &Workers) -> Result<(), Stop>
-        ensures { Works plan.old plan.new }
+    pub(crate) fn grant(&self, plan: &mut Plan, workers: &Workers) -> Result<(), Stop>
+        ensures { Works workers.now plan.old plan.new }
     {
         // The check of this function has to meet the types of what stops a step by their names.
         let _stop: Option<(Reason, Refusal)> = None;
@@ -129,7 +135,7 @@ impl Job {
 
     /// Recovers a ledger that isn't closed, if some member of its last ensemble isn't registered.
     fn close(&self, plan: &mut Plan, workers: &Workers) -> Result<(), Stop>
-        ensures { Works plan.old plan.new }
+        ensures { Works workers.now plan.old plan.new }
     {
         // The check of this function has to meet the types of what stops a step by their names.
         let _stop: Option<(Reason, Refusal)> = None;
@@ -146,7 +152,8 @@ impl Job {
 
     /// Has a worker copy the entries of a missing member's place, and take it.
     fn fill(&self, plan: &mut Plan, workers: &mut Workers, gap: &Gap) -> Result<(), Stop>
-        ensures { Works plan.old plan.new }
+        ensures works { Works workers.old plan.old plan.new }
+        ensures workers { workers.new ≡ workers.old }
     {
         // The check of this function has to meet the types of what stops a step by their names.
         let _stop: Option<(Reason, Refusal)> = None;
@@ -173,13 +180,14 @@ impl Job {
     }
 
     /// Does all that can be done for the ledger, and says why something is left, if it is.
-    pub fn work(
+    pub(crate) fn work(
         &self,
         alloc: Global,
         plan: &mut Plan,
         workers: &mut Workers,
     ) -> Result<Option<Reason>, PlanFault>
-        ensures { Works plan.old plan.new }
+        ensures works { Works workers.old plan.old plan.new }
+        ensures workers { workers.new ≡ workers.old }
     {
         // The check of this loop has to meet the types of what stops a step by their names.
         let _stop: Option<(Reason, Refusal, Event)> = None;
@@ -196,7 +204,7 @@ impl Job {
 
     /// Ends the task, if that can be done, or else gives the lock back.
     fn end(&self, plan: &mut Plan) -> Result<(), Stop>
-        ensures { Works plan.old plan.new }
+        ensures { (allowed : Set numbers) → Works allowed plan.old plan.new }
     {
         let Some(worker) = self.owner(plan.state()) else {
             return Ok(());

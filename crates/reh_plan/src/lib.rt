@@ -1,5 +1,5 @@
 // Plans: which commands bring the ledgers of lost bookies back to full strength, as a script that is accepted.
-#![tactic(auto, using(crate::proofs::PlanLaws::works_on, crate::proofs::PlanLaws::works_none, crate::proofs::PlanLaws::works_by))]
+#![tactic(auto, using(crate::proofs::PlanLaws::works_on, crate::proofs::PlanLaws::works_none, crate::proofs::PlanLaws::works_same, crate::proofs::PlanLaws::works_made, crate::proofs::PlanLaws::works_alone))]
 
 mod faults;
 mod jobs;

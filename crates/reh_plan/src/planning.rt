@@ -1,11 +1,14 @@
 // The plan for a cluster: bookies are lost, the auditor publishes, and AutoRecovery is played to its end.
-ghost use Rattle.std.specs.Prelude.{◌≡◌, ◌≤◌, length, IfOk, OnOk, Some};
+ghost use Rattle.std.specs.Prelude.{◌≡◌, ◌≤◌, length, IfOk, OnOk, Some, true};
+ghost use Rattle.std.specs.List.{list_all};
 ghost use Rattle.reh_types.specs.declared.limits.TheConstants.{MAX_SCRIPT_BYTES};
 ghost use Rattle.reh_model.specs.Book.{new_book};
 ghost use Rattle.reh_model.specs.Session.{replay, opened_session};
 ghost use Rattle.reh_script.specs.Transcript.{starting, transcript};
 ghost use Rattle.reh_plan.specs.Replies.{ok_answers};
-ghost use Rattle.reh_plan.specs.Plans.{Asks, Works, IsWithout, AllNamed, IsNaming};
+ghost use Rattle.reh_types.specs.Sets as set;
+ghost use Rattle.reh_types.specs.Sets.{Set, numbers};
+ghost use Rattle.reh_plan.specs.Plans.{Asks, Works, Loses, IsWithout, is_by, AllNamed, OnlyLeft, IsNaming};
 ghost use Rattle.reh_plan.specs.Plans as plans;
 
 use crate::faults::{PlanFault, Reason, first_reason};
@@ -26,12 +29,12 @@ use std::alloc::{AllocError, Global};
 ///
 /// Each line of the script is a comment or asks for an event (`asks`), and played on this state each of these events is
 /// accepted (`accepted`): each line that has an answer is answered `ok` (`replies`). They lose the lost bookies and no
-/// other, and register none (`lost`). Each ledger that has a task in the end, or a member that isn't registered, is named
-/// in a comment (`named`).
+/// other, and register none (`lost`); no bookie takes a place that isn't allowed to (`places`). Each ledger that has a
+/// task in the end, or a member that isn't registered, is named in a comment (`named`), and no other is (`only`).
 pub fn plan(
     alloc: Global,
     state: State,
-    lost: &[BookieIx],
+    lost: &BookieSet,
     allowed: &BookieSet,
 ) -> Result<Plan, PlanFault>
     ensures opening { IfOk result (λ plan. plan.opening ≡ state) }
@@ -40,8 +43,10 @@ pub fn plan(
     ensures replies { IfOk result (λ plan.
         transcript state.names 0 (starting (new_book (opened_session state))) 1 plan.lines
         ≡ ok_answers state.names 1 plan.lines) }
-    ensures lost { IfOk result (λ plan. IsWithout state lost.now plan.state) }
+    ensures lost { IfOk result (λ plan. IsWithout state (set.contains lost.now) plan.state) }
+    ensures places { IfOk result (λ plan. list_all (is_by allowed.now) plan.events ≡ true) }
     ensures named { IfOk result (λ plan. AllNamed plan.state plan.lines plan.state.parts.ledgers) }
+    ensures only { IfOk result (λ plan. OnlyLeft state.names plan.state plan.lines) }
 {
     let mut plan = Plan::begin(alloc, state)?;
     lose_all(&mut plan, lost)?;
@@ -55,34 +60,28 @@ pub fn plan(
 }
 
 /// Loses these bookies, those that are registered.
-fn lose_all(plan: &mut Plan, lost: &[BookieIx]) -> Result<(), PlanFault>
-    ensures opening { OnOk result (plan.new.opening ≡ plan.old.opening) }
-    ensures lost { OnOk result (IsWithout plan.old.state lost.now plan.new.state) }
+fn lose_all(plan: &mut Plan, lost: &BookieSet) -> Result<(), PlanFault>
+    ensures { OnOk result (Loses plan.old (set.contains lost.now) plan.new) }
 {
-    for bookie in lost {
-        plan.lose(*bookie)?;
+    let count = plan.state().names().len();
+    for number in 0..count as u8 {
+        let bookie = BookieIx(number);
+        if lost.contains(bookie) {
+            plan.lose(bookie)?;
+        }
     }
     Ok(())
 }
 
 /// Has the auditor publish what is missing, once the delay for lost bookies is over. Where nothing is, nothing happens.
 fn publish(plan: &mut Plan) -> Result<(), PlanFault>
-    ensures { Works plan.old plan.new }
+    ensures { (allowed : Set numbers) → Works allowed plan.old plan.new }
 {
-    // The check of this function has to meet the types of what stops a step by their names.
-    let _stop: Option<(Reason, Refusal)> = None;
-    let ticks = ticks_to_publish(plan.state());
-    if ticks > 0 {
-        let waited = plan.work(&Event::Tick { ticks });
-        first_reason(None, waited)?;
-    }
+    plan.wait(ticks_to_publish(plan.state()))?;
     if !plan.state().is_enabled() {
-        let enabled = plan.work(&Event::Enable);
-        first_reason(None, enabled)?;
+        plan.attempt(&Event::Enable)?;
     }
-    let published = plan.work(&Event::Audit);
-    first_reason(None, published)?;
-    Ok(())
+    plan.attempt(&Event::Audit)
 }
 
 /// In how many ticks the delay of each bookie that isn't registered is over.
@@ -101,22 +100,17 @@ fn ticks_to_publish(state: &State) -> u64 {
 
 /// Grants a grace to the writers of all open ledgers that need another bookie, and waits until it is over.
 fn grant_all(plan: &mut Plan, workers: &Workers) -> Result<(), PlanFault>
-    ensures { Works plan.old plan.new }
+    ensures { Works workers.now plan.old plan.new }
 {
-    // The check of this function has to meet the types of what stops a step by their names.
-    let _stop: Option<(Reason, Refusal)> = None;
+    // The check of this loop has to meet the types of what stops a step by their names.
+    let _stop: Option<(Reason, Refusal, Event)> = None;
     for place in 0..plan.state().ledgers().len() {
         if let Some(job) = job_at(plan.state(), place) {
             let granted = job.grant(plan, workers);
             first_reason(None, granted)?;
         }
     }
-    let ticks = ticks_to_fence(plan.state());
-    if ticks > 0 {
-        let waited = plan.work(&Event::Tick { ticks });
-        first_reason(None, waited)?;
-    }
-    Ok(())
+    plan.wait(ticks_to_fence(plan.state()))
 }
 
 /// In how many ticks each ledger with a due tick may be fenced.
@@ -138,7 +132,7 @@ fn work_all(
     plan: &mut Plan,
     workers: &mut Workers,
 ) -> Result<Vec<Option<Reason>>, PlanFault>
-    ensures { Works plan.old plan.new }
+    ensures { Works workers.old plan.old plan.new }
 {
     // The check of this loop has to meet the types of what stops a step by their names.
     let _stop: Option<(Reason, Refusal, Event)> = None;
@@ -166,7 +160,8 @@ fn work_at(
     workers: &mut Workers,
     place: usize,
 ) -> Result<Option<Reason>, PlanFault>
-    ensures { Works plan.old plan.new }
+    ensures works { Works workers.old plan.old plan.new }
+    ensures workers { workers.new ≡ workers.old }
 {
     let Some(job) = job_at(plan.state(), place) else {
         return Ok(None);

@@ -1,5 +1,5 @@
 // A plan as it grows: a script beside the session on which its commands are made.
-ghost use Rattle.std.specs.Prelude.{◌≡◌, ◌+◌, ◌≤◌, ◌∷◌, ◌++◌, [], true, false, length, IfOk, OnOk, OnErr, MatchResult, None, Some, Ok};
+ghost use Rattle.std.specs.Prelude.{◌≡◌, ◌==◌, ◌+◌, ◌≤◌, ◌∷◌, ◌++◌, [], true, false, length, IfOk, OnOk, OnErr, MatchResult, None, Some, Ok};
 ghost use Rattle.std.specs.Prelude.{IsTrue};
 ghost use Rattle.reh_types.specs.declared.limits.TheConstants.{MAX_SCRIPT_BYTES};
 ghost use Rattle.reh_model.specs.Book.{new_book};
@@ -10,7 +10,8 @@ ghost use Rattle.reh_script.specs.Answers.{asked};
 ghost use Rattle.reh_script.specs.Lines.{lines_of};
 ghost use Rattle.reh_script.specs.Transcript.{starting, transcript};
 ghost use Rattle.reh_plan.specs.Replies.{ok_answers};
-ghost use Rattle.reh_plan.specs.Plans.{Asks, Makes, Works, is_work, has_lf, IsLeaving, IsWithout};
+ghost use Rattle.reh_types.specs.Sets.{Set, numbers};
+ghost use Rattle.reh_plan.specs.Plans.{Asks, IsMade, Makes, Works, Loses, is_nobodys, has_lf, IsLeaving};
 
 use crate::faults::{PlanFault, Reason, Stop};
 use crate::lines::{event_line, is_line};
@@ -92,8 +93,7 @@ impl Plan {
 
     /// Loses the bookie, if it is registered, and no other.
     pub(crate) fn lose(&mut self, bookie: BookieIx) -> Result<(), PlanFault>
-        ensures opening { OnOk result (self.new.opening ≡ self.old.opening) }
-        ensures lost { OnOk result (IsWithout self.old.state (bookie ∷ []) self.new.state) }
+        ensures { OnOk result (Loses self.old (λ b. bookie == b) self.new) }
     {
         // The check of this function has to meet the type of a refusal by its name.
         let _refusal: Option<Refusal> = None;
@@ -106,11 +106,10 @@ impl Plan {
         }
     }
 
-    /// Makes an event that registers no bookie and loses none, and writes its command. Where the event is refused, or
-    /// there is no room for the line, nothing changes.
+    /// Makes an event and writes its command, or says why nothing changes.
     pub(crate) fn work(&mut self, event: &Event) -> Result<(), Stop>
-        requires { is_work event.now ≡ true }
-        ensures { Works self.old self.new }
+        ensures ok { OnOk result (IsMade self.old event.now self.new) }
+        ensures err { OnErr result (self.new ≡ self.old) }
     {
         match self.make(event)? {
             Outcome::Made => Ok(()),
@@ -119,6 +118,28 @@ impl Plan {
                 refusal,
             })),
             Outcome::Unwritten => Err(Stop::Left(Reason::NoRoom)),
+        }
+    }
+
+    /// Waits so many ticks, if any.
+    pub(crate) fn wait(&mut self, ticks: u64) -> Result<(), PlanFault>
+        ensures { (allowed : Set numbers) → Works allowed self.old self.new }
+    {
+        if ticks == 0 {
+            return Ok(());
+        }
+        self.attempt(&Event::Tick { ticks })
+    }
+
+    /// Makes an event of no bookie and writes its command, where that can be done.
+    pub(crate) fn attempt(&mut self, event: &Event) -> Result<(), PlanFault>
+        requires { is_nobodys event.now ≡ true }
+        ensures { (allowed : Set numbers) → Works allowed self.old self.new }
+    {
+        match self.work(event) {
+            Err(Stop::Fault(fault)) => Err(fault),
+            Err(Stop::Left(_)) => Ok(()),
+            Ok(()) => Ok(()),
         }
     }
 

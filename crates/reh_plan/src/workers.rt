@@ -1,10 +1,15 @@
 // Who takes the places of missing members.
+ghost use Rattle.std.specs.Prelude.{◌≡◌, true, not, ◌&&◌, IfOk, IfSome};
+ghost use Rattle.reh_types.specs.Sets as set;
+ghost use Rattle.reh_plan.specs.Workers.{can_work};
+
 use reh_cluster::{Ledger, State};
 use reh_meta::Fragment;
 use reh_types::{BookieIx, BookieSet, MAX_BOOKIES};
 use std::alloc::{AllocError, Global};
+use std::marker::Model;
 
-/// The bookies that may take places, and how much each bookie holds.
+/// The bookies that may take places, and how much each bookie holds. Contracts see the former.
 #[derive(Drop)]
 pub(crate) struct Workers {
     allowed: BookieSet,
@@ -13,9 +18,23 @@ pub(crate) struct Workers {
     loads: Vec<u64>,
 }
 
+impl Model for Workers {
+    ghost use Rattle.reh_types.specs.Sets.{Set, numbers};
+
+    ghost Value = { Set numbers };
+
+    ghost view = { λ workers. workers.allowed };
+}
+
 impl Workers {
     /// With what the bookies hold now. Only those that are allowed take places.
-    pub fn of(alloc: Global, state: &State, allowed: &BookieSet) -> Result<Workers, AllocError> {
+    pub(crate) fn of(
+        alloc: Global,
+        state: &State,
+        allowed: &BookieSet,
+    ) -> Result<Workers, AllocError>
+        ensures { IfOk result (λ workers. workers ≡ allowed.now) }
+    {
         let mut loads = Vec::new(alloc);
         for number in 0..MAX_BOOKIES as u8 {
             loads.push(state.count(BookieIx(number)) as u64)?;
@@ -28,7 +47,9 @@ impl Workers {
 
     /// Who takes places of a fragment: the worker that has the ledger's lock, if it can; else one that is in no
     /// ensemble of the ledger; else one that isn't in the fragment's. Of several it is the one that holds least.
-    pub fn choose(&self, state: &State, ledger: &Ledger, fragment: usize) -> Option<BookieIx> {
+    pub(crate) fn choose(&self, state: &State, ledger: &Ledger, fragment: usize) -> Option<BookieIx>
+        ensures { IfSome result (λ worker. can_work self.now state.now worker ≡ true) }
+    {
         let members = members_of(ledger.metadata().fragments().get(fragment)?);
         if let Some(lock) = ledger.lock()
             && self.can_join(state, lock.owner, &members)
@@ -42,7 +63,10 @@ impl Workers {
     }
 
     /// Of the bookies that can join these members, the one that holds least, and of several such the first.
-    fn least_outside(&self, state: &State, members: &BookieSet) -> Option<BookieIx> {
+    fn least_outside(&self, state: &State, members: &BookieSet) -> Option<BookieIx>
+        ensures { IfSome result (λ worker.
+            (can_work self.now state.now worker && not (set.contains members.now worker)) ≡ true) }
+    {
         let none = MAX_BOOKIES as u8;
         let mut least = none;
         for number in 0..none {
@@ -67,12 +91,16 @@ impl Workers {
     }
 
     /// Whether the bookie may take places, is registered, and is none of these members.
-    fn can_join(&self, state: &State, worker: BookieIx, members: &BookieSet) -> bool {
+    fn can_join(&self, state: &State, worker: BookieIx, members: &BookieSet) -> bool
+        ensures { result ≡ (can_work self.now state.now worker && not (set.contains members.now worker)) }
+    {
         self.allowed.contains(worker) && state.is_up(worker) && !members.contains(worker)
     }
 
     /// Notes that the bookie holds so many entries more.
-    pub fn add(&mut self, worker: BookieIx, entries: u64) {
+    pub(crate) fn add(&mut self, worker: BookieIx, entries: u64)
+        ensures { self.new ≡ self.old }
+    {
         if let Some(load) = self.loads.get_mut(worker.0 as usize) {
             *load = load.saturating_add(entries);
         }

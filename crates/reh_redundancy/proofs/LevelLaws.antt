@@ -1,30 +1,28 @@
--- Levels of the copies of a word's entries, raised index by index.
-use Rattle.std.proofs.Common.{◌≡◌, ◌≢◌, ◌∙◌, ◌+◌, ◌-◌, ◌*◌, ◌/◌, ◌%◌, ◌^◌, ◌<◌, ◌≤◌, ◌&&◌, ◌||◌, not, cond, ℕ, zero, suc}
+-- Copies of the entries of words, and levels of them, raised index by index.
+use Rattle.std.proofs.Common.{◌≡◌, ◌≢◌, ◌∙◌, ◌+◌, ◌-◌, ◌*◌, ◌<◌, ◌≤◌, ◌&&◌, ◌||◌, not, cond, ℕ, zero, suc}
 use Rattle.std.proofs.Common.{Bool, true, false, List, [], ◌∷◌, ◌++◌, inl, inr, Bor, refl, ap, sym, map, get_or, slice_index}
 use Rattle.std.proofs.Common.{length, nat_eq, nat_le, nat_lt, arith}
-use Rattle.std.specs.Prelude.{◌==◌, bit_and, count_by}
+use Rattle.std.specs.Prelude.{◌==◌, bit_and, bit_or, count_by}
 use Rattle.std.specs.Int.{bit_at, bit_not, w64}
-use Rattle.std.specs.Int.Count.{ones}
 use Rattle.std.specs.List.{list_any, range_with_len}
 use Rattle.std.proofs.Math.Bool.{or-false}
 use Rattle.std.proofs.lemmas.Bool.{cases_lt}
 use Rattle.std.proofs.lemmas.Bool.Decides.{nat_tests}
-use Rattle.std.proofs.lemmas.Nat.{and_le_l, mod_below}
+use Rattle.std.proofs.lemmas.Nat.{mod_below}
 use Rattle.std.proofs.lemmas.Nat.Bits.{bit_at_not, bit_at-zero}
-use Rattle.std.proofs.lemmas.List.{map-append}
+use Rattle.std.proofs.lemmas.List.{length-map, map-append}
 use Rattle.std.proofs.lemmas.List.Folds.{list_any-append}
-use Rattle.std.proofs.lemmas.List.Sums.{sum_by-cons, sum_by-append}
-use Rattle.reh_stripe.proofs.CountLaws.{count-append, count-cons, count-ones, count-range}
+use Rattle.std.proofs.lemmas.List.FromFn.{length-range_with_len}
+use Rattle.std.proofs.lemmas.List.Sums.{count_by-le-length, sum_by-cons, sum_by-append}
+use Rattle.reh_stripe.proofs.CountLaws.{count-append, count-cons, count-range}
 use Rattle.reh_stripe.proofs.WordLaws.{range-append}
 use Rattle.reh_model.specs.Striping.{range, index_at, rank_of, is_striped, write_set}
 use Rattle.reh_model.proofs.StripingLaws.{rank_of-index_at, is_striped-rank_of}
 use Rattle.reh_scan.specs.Sources.{is_set_at}
-use Rattle.reh_stripe.specs.Words.{has_bit, is_between}
-use Rattle.reh_stripe.proofs.WordLaws.{has_bit-none, has_bit-and, has_bit-or, has_bit-not}
-use Rattle.reh_scan.proofs.ReadingLaws.{is_set_there}
-use Rattle.reh_scan.proofs.SurveyLaws.{counted_below, counted-all, is_counted}
-use Rattle.reh_scan.proofs.WordLaws.{is_read_at}
-use Rattle.reh_redundancy.specs.Levels.{AreLevels, AreRaised}
+use Rattle.reh_stripe.specs.Words.{has_bit}
+use Rattle.reh_stripe.proofs.WordLaws.{has_bit-none, has_bit-and, has_bit-or}
+use Rattle.reh_scan.proofs.WordLaws.{any-carried, any-range-more, has_bit-row, is_read_at}
+use Rattle.reh_redundancy.specs.Levels.{AreRaised}
 
 -- The write set of an entry and the indexes that carry it
 
@@ -163,143 +161,158 @@ count-carried p e n q within =
     ∙ count_among p e n q within
     ∙ ap (λ k. count_by p (first_ranks e n k)) (sym whole)
 
--- Levels
+-- Bits of copies
 
 -- the bits that a row's word gives, of the entries that the index carries
-has_bit-read : (rows : List (Bor (List ℕ))) (size quorum number index read carried i : ℕ) (d : Bor (List ℕ))
+pub has_bit-read : (rows : List (Bor (List ℕ))) (size quorum number index read carried i : ℕ) (d : Bor (List ℕ))
     → index < length rows → i < 64
     → read ≡ slice_index (get_or rows index d).now number
-    → ((i : ℕ) → i < 64 → has_bit carried i ≡ is_striped (64 * number + i) index size quorum)
+    → has_bit carried i ≡ is_striped (64 * number + i) index size quorum
     → has_bit (bit_and read carried) i ≡ is_read_at rows size quorum (64 * number + i) index
 has_bit-read rows size quorum number index read carried i d within inside is_read is_carried =
-    let place : (64 * number + i) / 64 ≡ number = omega arith in
-    let bit : (64 * number + i) % 64 ≡ i = omega arith in
-    let set_there : is_set_at rows (64 * number + i) index ≡ has_bit read i =
-    is_set_there rows index (64 * number + i) d within
-    ∙ ap (λ n. bit_at (slice_index (get_or rows index d).now n) ((64 * number + i) % 64) == 1) place
-    ∙ ap (λ n. bit_at (slice_index (get_or rows index d).now number) n == 1) bit
-    ∙ ap (λ n. has_bit n i) (sym is_read) in
-    has_bit-and read carried i ∙ (λ k. sym set_there k && is_carried i inside k)
+    has_bit-and read carried i
+    ∙ (λ k. has_bit-row rows number index read d within is_read i inside k && is_carried k)
 
--- the levels of the copies at the indexes below this one
-abbrev pub AreCounted : List (Bor (List ℕ)) → ℕ → ℕ → ℕ → ℕ → List ℕ → Type 0
-AreCounted rows size top number index levels =
+-- how many rows at the indexes below this one have the entry, and carry it
+abbrev pub copies_below : List (Bor (List ℕ)) → ℕ → ℕ → ℕ → ℕ → ℕ
+copies_below rows size quorum index entry = count_by (is_read_at rows size quorum entry) (range_with_len 0 index)
+
+all_over : (n : ℕ) → nat_le 0 n ≡ true
+all_over n = grind (arith, nat_tests)
+
+none_over : (k : ℕ) → false ≡ nat_le (suc k) 0
+none_over k = grind (arith, nat_tests)
+
+one_higher : (k n : ℕ) (one : Bool) → (nat_le (k + 1) n || (nat_le k n && one)) ≡ nat_le (k + 1) (n + cond one 1 0)
+one_higher k n true = grind (arith, nat_tests)
+one_higher k n false = grind (arith, nat_tests)
+
+first_higher : (n : ℕ) (one : Bool) → (nat_le 1 n || one) ≡ nat_le 1 (n + cond one 1 0)
+first_higher n true = grind (arith, nat_tests)
+first_higher n false = grind (arith, nat_tests)
+
+module _ (rows : List (Bor (List ℕ))) (size quorum index entry held i : ℕ)
+    (is_held : has_bit held i ≡ is_read_at rows size quorum entry index) where
+  -- an entry has one copy more where it is held
+  pub higher-more : (k upper lower : ℕ) → has_bit upper i ≡ nat_le (k + 1) (copies_below rows size quorum index entry)
+      → has_bit lower i ≡ nat_le k (copies_below rows size quorum index entry)
+      → has_bit (bit_or upper (bit_and lower held)) i ≡ nat_le (k + 1) (copies_below rows size quorum (index + 1) entry)
+  higher-more k upper lower is_upper is_lower =
+      has_bit-or upper (bit_and lower held) i
+      ∙ (λ j. is_upper j || (has_bit-and lower held i ∙ (λ h. is_lower h && is_held h)) j)
+      ∙ one_higher k (copies_below rows size quorum index entry) (is_read_at rows size quorum entry index)
+      ∙ ap (nat_le (k + 1)) (sym (count_more (is_read_at rows size quorum entry) index))
+
+  pub once-more : (upper : ℕ) → has_bit upper i ≡ nat_le 1 (copies_below rows size quorum index entry)
+      → has_bit (bit_or upper held) i ≡ nat_le 1 (copies_below rows size quorum (index + 1) entry)
+  once-more upper is_upper =
+      has_bit-or upper held i ∙ (λ j. is_upper j || is_held j)
+      ∙ first_higher (copies_below rows size quorum index entry) (is_read_at rows size quorum entry index)
+      ∙ ap (nat_le 1) (sym (count_more (is_read_at rows size quorum entry) index))
+
+-- at all indexes the rows that have an entry are those of its write set that have it
+pub copies_below-all : (rows : List (Bor (List ℕ))) (size quorum entry : ℕ) → quorum ≤ size
+    → copies_below rows size quorum size entry ≡ count_by (is_set_at rows entry) (write_set entry size quorum)
+copies_below-all rows size quorum entry within = count-carried (is_set_at rows entry) entry size quorum within
+
+-- Entries that a row lacks
+
+-- whether the index carries the entry, and its row lacks it
+abbrev pub is_lacked_at : List (Bor (List ℕ)) → ℕ → ℕ → ℕ → ℕ → Bool
+is_lacked_at rows size quorum entry index = not (is_set_at rows entry index) && is_striped entry index size quorum
+
+-- whether one of the indexes below this one does
+abbrev pub is_lacked_below : List (Bor (List ℕ)) → ℕ → ℕ → ℕ → ℕ → Bool
+is_lacked_below rows size quorum index entry = list_any (is_lacked_at rows size quorum entry) (range_with_len 0 index)
+
+lacks : (set striped : Bool) → (striped && not (set && striped)) ≡ (not set && striped)
+lacks true true = refl
+lacks true false = refl
+lacks false true = refl
+lacks false false = refl
+
+pub lacked-more : (rows : List (Bor (List ℕ))) (size quorum index entry lacking lacked i : ℕ)
+    → has_bit lacking i ≡ is_lacked_below rows size quorum index entry
+    → has_bit lacked i ≡ (is_striped entry index size quorum && not (is_read_at rows size quorum entry index))
+    → has_bit (bit_or lacking lacked) i ≡ is_lacked_below rows size quorum (index + 1) entry
+lacked-more rows size quorum index entry lacking lacked i is_lacking is_lacked =
+    has_bit-or lacking lacked i
+    ∙ (λ j. is_lacking j || (is_lacked ∙ lacks (is_set_at rows entry index) (is_striped entry index size quorum)) j)
+    ∙ sym (any-range-more (is_lacked_at rows size quorum entry) index)
+
+-- no element fails exactly where as many pass as there are
+none_fails : (p : ℕ → Bool) (xs : List ℕ) → not (list_any (λ x. not (p x)) xs) ≡ nat_le (length xs) (count_by p xs)
+none_fails p [] = refl
+none_fails p (x ∷ xs) =
+    all_here (p x) (list_any (λ x. not (p x)) xs) (count_by p xs) (length xs) (count_by-le-length p xs)
+    (none_fails p xs)
+    ∙ ap (λ n. nat_le (length (x ∷ xs)) n) (sym (sum_by-cons (λ x. cond (p x) 1 0) x xs)) where
+      all_here : (here later : Bool) (n all : ℕ) → n ≤ all → not later ≡ nat_le all n
+          → not (not here || later) ≡ nat_le (suc all) (cond here 1 0 + n)
+      all_here true later n all within was = was ∙ grind (arith, nat_tests)
+      all_here false later n all within was = grind (arith, nat_tests)
+
+-- at all indexes no index lacks an entry exactly where it has the copies of the write quorum
+pub is_lacked_below-all : (rows : List (Bor (List ℕ))) (size quorum entry : ℕ) → 1 ≤ size
+    → not (is_lacked_below rows size quorum size entry)
+    ≡ nat_le quorum (count_by (is_set_at rows entry) (write_set entry size quorum))
+is_lacked_below-all rows size quorum entry some =
+    let many : length (write_set entry size quorum) ≡ quorum =
+    length-map (range 0 quorum) (index_at entry size) ∙ length-range_with_len 0 (quorum - 0)
+    ∙ (let whole : quorum - 0 ≡ quorum = omega arith in whole) in
+    ap not (any-carried (λ i. not (is_set_at rows entry i)) entry size quorum some)
+    ∙ none_fails (is_set_at rows entry) (write_set entry size quorum)
+    ∙ ap (λ n. nat_le n (count_by (is_set_at rows entry) (write_set entry size quorum))) many
+
+-- Levels
+
+-- the levels of the copies at the indexes below this one, of a word's entries
+abbrev pub AreCounted : List (Bor (List ℕ)) → ℕ → ℕ → ℕ → ℕ → ℕ → (ℕ → ℕ) → Type 0
+AreCounted rows size quorum top number index levels =
     (k i : ℕ) → k ≤ top → i < 64
-    → has_bit (slice_index levels k) i
-    ≡ nat_le k (count_by (is_read_at rows size top (64 * number + i)) (range_with_len 0 index))
+    → has_bit (levels k) i ≡ nat_le k (copies_below rows size quorum index (64 * number + i))
 
-has_bit-all : (i : ℕ) → i < 64 → has_bit (bit_not w64 0) i ≡ true
+pub has_bit-all : (i : ℕ) → i < 64 → has_bit (bit_not w64 0) i ≡ true
 has_bit-all i inside =
     let none : 1 - bit_at 0 i ≡ 1 = (λ j. 1 - bit_at-zero i j) in
     ap (λ (b : ℕ). b == 1) (bit_at_not w64 0 i (omega arith) inside ∙ none)
+
+pub levels-none : (rows : List (Bor (List ℕ))) (size quorum top number : ℕ) (levels : ℕ → ℕ)
+    → ((i : ℕ) → i < 64 → has_bit (levels 0) i ≡ true) → ((k : ℕ) → levels (suc k) ≡ 0)
+    → AreCounted rows size quorum top number 0 levels
+levels-none rows size quorum top number levels all none zero i within inside =
+    all i inside ∙ sym (all_over 0)
+levels-none rows size quorum top number levels all none (suc k) i within inside =
+    ap (λ w. has_bit w i) (none k) ∙ has_bit-none i ∙ none_over k
+
+pub levels-more : (rows : List (Bor (List ℕ))) (size quorum top number index held : ℕ) (old new : ℕ → ℕ)
+    → ((i : ℕ) → i < 64 → has_bit held i ≡ is_read_at rows size quorum (64 * number + i) index)
+    → AreCounted rows size quorum top number index old → AreRaised old new held top
+    → AreCounted rows size quorum top number (index + 1) new
+levels-more rows size quorum top number index held old new is_held was raised zero i low inside =
+    ap (λ w. has_bit w i) raised.all ∙ was 0 i low inside
+    ∙ all_over (copies_below rows size quorum index (64 * number + i))
+    ∙ sym (all_over (copies_below rows size quorum (index + 1) (64 * number + i)))
+levels-more rows size quorum top number index held old new is_held was raised (suc k) i low inside =
+    let at : suc k ≡ k + 1 = omega arith in
+    ap (λ m. has_bit (new m) i) at
+    ∙ ap (λ w. has_bit w i) (raised.each k (omega arith))
+    ∙ higher-more rows size quorum index (64 * number + i) held i (is_held i inside) k (old (k + 1)) (old k)
+    (was (k + 1) i (omega arith) inside) (was k i (omega arith) inside)
+    ∙ ap (λ m. nat_le m (copies_below rows size quorum (index + 1) (64 * number + i))) (sym at)
 
 -- so many zeros
 abbrev pub zeros : ℕ → List ℕ
 zeros zero = []
 zeros (suc n) = 0 ∷ zeros n
 
-zeros-at : (n k : ℕ) → slice_index (zeros n) k ≡ 0
+pub zeros-at : (n k : ℕ) → slice_index (zeros n) k ≡ 0
 zeros-at zero k = refl
 zeros-at (suc n) zero = refl
 zeros-at (suc n) (suc k) = zeros-at n k
 
-none_over : (k : ℕ) → false ≡ nat_le (suc k) 0
-none_over k = grind (arith, nat_tests)
-
-all_over : (n : ℕ) → nat_le 0 n ≡ true
-all_over n = grind (arith, nat_tests)
-
-pub levels-none : (rows : List (Bor (List ℕ))) (size top number n : ℕ)
-    → AreCounted rows size top number 0 (bit_not w64 0 ∷ zeros n)
-levels-none rows size top number n zero i within inside = has_bit-all i inside ∙ sym (all_over 0)
-levels-none rows size top number n (suc k) i within inside =
-    ap (λ w. has_bit w i) (zeros-at n k) ∙ has_bit-none i ∙ none_over k
-
-one_higher : (k n : ℕ) (one : Bool) → (nat_le (k + 1) n || (nat_le k n && one)) ≡ nat_le (k + 1) (n + cond one 1 0)
-one_higher k n true = grind (arith, nat_tests)
-one_higher k n false = grind (arith, nat_tests)
-
-pub levels-more : (rows : List (Bor (List ℕ))) (size top number index read carried : ℕ) (old new : List ℕ)
-    → (d : Bor (List ℕ)) → index < length rows
-    → read ≡ slice_index (get_or rows index d).now number
-    → ((i : ℕ) → i < 64 → has_bit carried i ≡ is_striped (64 * number + i) index size top)
-    → AreCounted rows size top number index old → AreRaised old new (bit_and read carried) top
-    → AreCounted rows size top number (index + 1) new
-levels-more rows size top number index read carried old new d within is_read is_carried was raised zero i low inside =
-    ap (λ w. has_bit w i) raised.all ∙ was 0 i low inside
-    ∙ all_over (count_by (is_read_at rows size top (64 * number + i)) (range_with_len 0 index))
-    ∙ sym (all_over (count_by (is_read_at rows size top (64 * number + i)) (range_with_len 0 (index + 1))))
-levels-more rows size top number index read carried old new d within is_read is_carried was raised (suc k) i low inside =
-    let at : suc k ≡ k + 1 = omega arith in
-    let reads : ℕ → Bool = is_read_at rows size top (64 * number + i) in
-    let n : ℕ = count_by reads (range_with_len 0 index) in
-    let word : ℕ = bit_and read carried in
-    ap (λ m. has_bit (slice_index new m) i) at
-    ∙ ap (λ w. has_bit w i) (raised.each k (omega arith))
-    ∙ has_bit-or (slice_index old (k + 1)) (bit_and (slice_index old k) word) i
-    ∙ (λ j.
-    was (k + 1) i (omega arith) inside j
-    || (has_bit-and (slice_index old k) word i
-    ∙ (λ h.
-    was k i (omega arith) inside h
-    && has_bit-read rows size top number index read carried i d within inside is_read is_carried h)) j)
-    ∙ one_higher k n (reads index)
-    ∙ ap (λ m. nat_le (k + 1) m) (sym (count_more reads index))
-    ∙ ap (λ m. nat_le m (count_by reads (range_with_len 0 (index + 1)))) (sym at)
-
-pub levels-all : (rows : List (Bor (List ℕ))) (size quorum number : ℕ) (levels : List ℕ) → quorum ≤ size
-    → AreCounted rows size quorum number size levels
-    → AreLevels levels quorum number (λ e. count_by (is_set_at rows e) (write_set e size quorum))
-levels-all rows size quorum number levels within was k i low inside =
-    was k i low inside
-    ∙ ap (nat_le k) (count-carried (is_set_at rows (64 * number + i)) (64 * number + i) size quorum within)
-
 -- Words
 
--- the bits of one word that another lacks
-pub ones-without : (bits others : ℕ) → bits < 2 ^ 64 → others < 2 ^ 64
-    → ones (bit_and bits (bit_not w64 others))
-    ≡ count_by (λ i. has_bit bits i && not (has_bit others i)) (range_with_len 0 64)
-ones-without bits others within others_within =
-    let fits : bit_and bits (bit_not w64 others) < 2 ^ 64 =
-    omega (arith, within, and_le_l bits (bit_not w64 others)) in
-    sym (count-ones 64 (bit_and bits (bit_not w64 others)) fits)
-    ∙ count-range (has_bit (bit_and bits (bit_not w64 others))) (λ i. has_bit bits i && not (has_bit others i)) 0 0 64
-    (λ i inside.
-    let at : 0 + i ≡ i = omega arith in
-    ap (has_bit (bit_and bits (bit_not w64 others))) at
-    ∙ has_bit-and bits (bit_not w64 others) i
-    ∙ ap (λ b. has_bit bits i && b) (has_bit-not others i others_within inside)
-    ∙ ap (λ k. has_bit bits k && not (has_bit others k)) (sym at))
-
--- the entries with fewer copies than are wanted, of a word more
-pub word-more : (copies : ℕ → ℕ) (top wanted first last number count found between : ℕ) (levels : List ℕ)
-    → wanted ≤ top
-    → found ≡ count_by (λ i. has_bit between i && not (has_bit (slice_index levels wanted) i)) (range_with_len 0 64)
-    → ((i : ℕ) → i < 64 → has_bit between i ≡ is_between first last (64 * number + i))
-    → AreLevels levels top number copies
-    → count ≡ counted_below (λ e. not (nat_le wanted (copies e))) first last number
-    → count + found ≡ counted_below (λ e. not (nat_le wanted (copies e))) first last (number + 1)
-word-more copies top wanted first last number count found between levels low is are_between are_levels was =
-    let q : ℕ → Bool = is_counted (λ e. not (nat_le wanted (copies e))) first last in
-    let bits : ℕ → Bool = λ i. has_bit between i && not (has_bit (slice_index levels wanted) i) in
-    let more : 64 * number + 64 ≡ 64 * (number + 1) = omega arith in
-    let none : 0 + 64 * number ≡ 64 * number = omega arith in
-    let word : count_by q (range_with_len (0 + 64 * number) 64) ≡ found =
-    count-range q bits (0 + 64 * number) 0 64 (λ i inside.
-    let first_bit : 0 + i ≡ i = omega arith in
-    ap (λ n. q (n + i)) none
-    ∙ (λ j. sym (are_between i inside) j && not (sym (are_levels wanted i low inside) j))
-    ∙ ap bits (sym first_bit))
-    ∙ sym is in
-    (λ j. was j + sym word j) ∙ sym (count-append q 0 (64 * number) 64) ∙ ap (λ n. count_by q (range_with_len 0 n)) more
-
--- and of all words
-pub words-all : (copies : ℕ → ℕ) (wanted first last number : ℕ) → first ≤ last → last / 64 + 1 ≤ number
-    → counted_below (λ e. not (nat_le wanted (copies e))) first last number
-    ≡ count_by (λ e. nat_lt (copies e) wanted) (range first (last + 1))
-words-all copies wanted first last number order end =
-    counted-all (λ e. not (nat_le wanted (copies e))) first last number order end
-    ∙ (λ i. count_by (λ e. turned (copies e) i) (range first (last + 1))) where
-      turned : (n : ℕ) → not (nat_le wanted n) ≡ nat_lt n wanted
-      turned n = grind (arith, nat_tests)
+-- an entry doesn't have the copies that are wanted where it has fewer
+pub turned : (wanted n : ℕ) → not (nat_le wanted n) ≡ nat_lt n wanted
+turned wanted n = grind (arith, nat_tests)

@@ -1,5 +1,5 @@
 -- Counts, added up.
-use Rattle.std.proofs.Common.{◌≡◌, ◌∙◌, ◌+◌, ◌<◌, ◌≤◌, ℕ, List, ap, sym, get_or, length, take, arith}
+use Rattle.std.proofs.Common.{◌≡◌, ◌∙◌, ◌+◌, ◌<◌, ◌≤◌, ℕ, List, ap, sym, subst, get_or, length, take, arith}
 use Rattle.std.proofs.lemmas.List.Sums.{sum_by_more}
 use Rattle.reh_redundancy.specs.declared.counts.Redundancy.{Redundancy}
 use Rattle.reh_redundancy.specs.Bounds.{AreAtMost}
@@ -40,3 +40,16 @@ AreAtMost-wider m n counts within was = record {
   under_ack = omega (arith, within, was.under_ack);
   under_write = omega (arith, within, was.under_write);
 }
+
+-- a sum with one more, which is the next of a list of counts
+pub sum_of-next : (counts : List Redundancy) (i : ℕ) (sum one more next : Redundancy) → next ≡ sum_with sum more
+    → sum ≡ sum_of (take i counts) → more ≡ one → i < length counts → get_or counts i one ≡ one
+    → next ≡ sum_of (take (i + 1) counts)
+sum_of-next counts i sum one more next is_next was same within is =
+    is_next ∙ (λ j. sum_with (was j) (same j)) ∙ sum_of-more counts i one within is
+
+-- and its limit
+pub AreAtMost-next : (m k n : ℕ) (sum more next : Redundancy) → next ≡ sum_with sum more → m + k ≤ n → AreAtMost m sum
+    → AreAtMost k more → AreAtMost n next
+AreAtMost-next m k n sum more next is_next within left right =
+    subst (λ (s : Redundancy). AreAtMost n s) (sym is_next) (AreAtMost-with m k n sum more within left right)

@@ -5,3 +5,4 @@ pub mod Losses
 pub mod Redundancy
 pub mod Rows
 pub mod Verdicts
+pub mod Words

@@ -43,6 +43,13 @@ impl Redundancy {
     }
 }
 
+/// How many entries have too few copies now, and without some bookies.
+#[derive(Clone, Copy, PartialEq, Eq, Debug)]
+pub struct Both {
+    pub now: Redundancy,
+    pub without: Redundancy,
+}
+
 /// Whether bookies may be stopped, and if not, why.
 #[derive(Clone, Copy, PartialEq, Eq, Debug)]
 pub enum Verdict {

@@ -12,8 +12,8 @@ use crate::rows::rows_without;
 use crate::words::count_words;
 use reh_cluster::{Ledger, State};
 use reh_meta::Fragment;
-use reh_scan::masks_of;
-use reh_stripe::Masks;
+use reh_scan::four_masks_of;
+use reh_stripe::FourMasks;
 use reh_types::BookieSet;
 
 /// How many entries of all ledgers have too few copies while these bookies are lost, besides those that aren't
@@ -36,7 +36,7 @@ pub fn ledger_redundancy(state: &State, lost: &BookieSet, ledger: &Ledger) -> Re
     ensures limit { AreAtMost (2 ^ 40) result }
 {
     let fragments = ledger.metadata().fragments();
-    let masks = masks_of(ledger.metadata());
+    let masks = four_masks_of(ledger.metadata());
     let mut sum = Redundancy::none();
     for number in 0..fragments.len() {
         sum = sum.plus(&counts_of(state, lost, ledger, &masks, number, &fragments[number]));
@@ -56,17 +56,17 @@ pub fn fragment_redundancy(
     ensures { model.fragment_at (losing state.now lost.now) ledger.now number ≡ Some result }
 {
     let metadata = ledger.metadata();
-    let masks = masks_of(metadata);
+    let masks = four_masks_of(metadata);
     let fragment = &metadata.fragments()[number];
     counts_of(state, lost, ledger, &masks, number, fragment)
 }
 
 /// The counts of the ledger's fragment, of that number, by the masks of its ensembles.
-fn counts_of(
+pub(crate) fn counts_of(
     state: &State,
     lost: &BookieSet,
     ledger: &Ledger,
-    masks: &Masks,
+    masks: &FourMasks,
     number: usize,
     fragment: &Fragment,
 ) -> Redundancy

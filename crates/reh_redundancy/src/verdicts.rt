@@ -3,7 +3,7 @@ ghost use Rattle.std.specs.Prelude.{◌≡◌};
 ghost use Rattle.reh_redundancy.specs.Verdicts as model;
 
 use crate::counts::{Redundancy, Verdict};
-use crate::fragments::redundancy;
+use crate::losses::redundancy_both;
 use reh_cluster::State;
 use reh_types::BookieSet;
 
@@ -17,9 +17,8 @@ pub fn verdict_on(state: &State, bookies: &BookieSet, allow_under_ack: bool) -> 
     ensures verdict { result ≡ model.verdict_on state.now bookies.now allow_under_ack }
     ensures rule { model.is_yes result ≡ model.ok_to_stop state.now bookies.now allow_under_ack }
 {
-    let before = redundancy(state, &BookieSet::new());
-    let after = redundancy(state, bookies);
-    verdict_of(&before, &after, allow_under_ack)
+    let counts = redundancy_both(state, bookies);
+    verdict_of(&counts.now, &counts.without, allow_under_ack)
 }
 
 /// The verdict by the counts before and after a loss, of one state or added up of several.

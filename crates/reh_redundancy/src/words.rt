@@ -1,24 +1,20 @@
-// Copies of the entries of a fragment, counted by words of 64 entries each.
-ghost use Rattle.std.specs.Prelude.{◌≡◌, ◌+◌, ◌*◌, ◌^◌, ◌<◌, ◌≤◌, ◌&&◌, count_by, not};
-ghost use Rattle.std.specs.List.{range_with_len};
-ghost use Rattle.reh_types.specs.declared.limits.TheConstants.{MAX_ENSEMBLE_SIZE};
+// Copies of the entries of a fragment, counted by words of 64 entries each, four at a time.
+ghost use Rattle.std.specs.Prelude.{◌≡◌, ◌+◌, ◌*◌, ◌%◌, ◌^◌, ◌<◌, ◌≤◌, nat_le};
 ghost use Rattle.reh_model.specs.Striping.{range};
-ghost use Rattle.reh_stripe.specs.Words.{has_bit};
 ghost use Rattle.reh_scan.specs.Sources.{sizes_of};
-ghost use Rattle.reh_redundancy.specs.Levels.{AreLevels, AreRaised};
 ghost use Rattle.reh_redundancy.specs.Rows.{row_copies, rows_under};
+ghost use Rattle.reh_redundancy.specs.Words.{HaveEntries};
 
 use crate::counts::Redundancy;
-use reh_held::word_at;
+use crate::levels::{all_entries, level_of_acks, twice_words};
 use reh_meta::LedgerMeta;
 use reh_scan::Rows;
-use reh_stripe::{Masks, bits_between};
-use reh_types::MAX_ENSEMBLE_SIZE;
+use reh_stripe::{FourMasks, FourWords, wrapped};
 
 /// How many of the entries from the first to the last are in too few rows at the indexes of their write sets.
 pub(crate) fn count_words(
     rows: &Rows<'_>,
-    masks: &Masks,
+    masks: &FourMasks,
     metadata: &LedgerMeta,
     first: u32,
     last: u32,
@@ -32,18 +28,23 @@ pub(crate) fn count_words(
       under_write = rows_under rows.now metadata.now metadata.now.write_quorum (range first (last + 1));
     } }
 {
-    let acks = metadata.ack_quorum() as usize;
-    let writes = metadata.write_quorum() as usize;
-    let _size = metadata.size();
+    let size = metadata.size();
+    let mut start = 64 * (first / 64) % size;
     let mut lost = 0;
     let mut under_ack = 0;
     let mut under_write = 0;
-    for number in first / 64..last / 64 + 1 {
-        let levels = levels_of(rows, masks, metadata, number);
-        let inside = bits_between(number, first, last);
-        lost += count_without(inside, levels[1]);
-        under_ack += count_without(inside, levels[acks]);
-        under_write += count_without(inside, levels[writes]);
+    for four in 0..(last / 64 - first / 64) / 4 + 1 {
+        let number = first / 64 + 4 * four;
+        let inside = FourWords::between(number, first, last);
+        let copied = copied_words(rows, masks, metadata, start, number);
+        let acked = acked_words(rows, masks, metadata, start, number, &copied);
+        let unread = inside.without(&copied.once);
+        let unacked = inside.without(&acked);
+        let unwritten = inside.without(&copied.written);
+        lost += unread.count() as u64;
+        under_ack += unacked.count() as u64;
+        under_write += unwritten.count() as u64;
+        start = wrapped(start + 256 % size, size);
     }
     Redundancy {
         lost,
@@ -52,44 +53,68 @@ pub(crate) fn count_words(
     }
 }
 
-/// Level k has the entries of a word with at least k copies.
-const LEVELS: usize = MAX_ENSEMBLE_SIZE as usize + 1;
+/// Entries of four words that follow one another, by their copies.
+#[derive(Drop)]
+struct Copied {
+    /// Those with a copy.
+    once: FourWords,
+    /// Those with the copies of the write quorum: no index of their write sets lacks them.
+    written: FourWords,
+}
 
-type Levels = [u64; LEVELS];
-
-/// The levels of a word's entries, up to the write quorum.
-fn levels_of(rows: &Rows<'_>, masks: &Masks, metadata: &LedgerMeta, number: u32) -> Levels
+/// The entries of four words, from that number on, by their copies. The first word's first entry has its rank 0 at the
+/// index `start`.
+fn copied_words(
+    rows: &Rows<'_>,
+    masks: &FourMasks,
+    metadata: &LedgerMeta,
+    start: u32,
+    number: u32,
+) -> Copied
     requires masks { masks.now ≡ sizes_of metadata.now }
-    requires number { 64 * number < 2 ^ 32 }
-    ensures { AreLevels result metadata.now.write_quorum number (row_copies rows.now metadata.now) }
+    requires start { start ≡ (64 * number) % metadata.now.size }
+    ensures once { HaveEntries result.once.words number (λ e. nat_le 1 (row_copies rows.now metadata.now e)) }
+    ensures written { HaveEntries result.written.words number
+        (λ e. nat_le metadata.now.write_quorum (row_copies rows.now metadata.now e)) }
 {
-    let size = metadata.size();
-    let start = 64 * number % size;
-    let mut levels = [0; LEVELS];
-    levels[0] = !0;
-    for index in 0..size {
+    let mut once = FourWords::none();
+    let mut lacking = FourWords::none();
+    for index in 0..metadata.size() {
         let carried = masks.carried(start, index);
-        let word = word_at(rows[index as usize], number as usize) & carried;
-        raise(&mut levels, word, metadata.write_quorum());
+        let row = FourWords::at(rows[index as usize], number as usize);
+        let held = row.and(&carried);
+        let lacked = carried.without(&held);
+        once = once.or(&held);
+        lacking = lacking.or(&lacked);
     }
-    levels
+    let written = all_entries().without(&lacking);
+    Copied { once, written }
 }
 
-/// Counts one copy more of the entries of a word, in the levels up to the top one.
-fn raise(levels: &mut Levels, word: u64, top: u32)
-    requires { top ≤ MAX_ENSEMBLE_SIZE }
-    ensures { AreRaised levels.old levels.new word top }
+/// Those of them that have the copies of the ack quorum, which is mostly one, two or the write quorum.
+fn acked_words(
+    rows: &Rows<'_>,
+    masks: &FourMasks,
+    metadata: &LedgerMeta,
+    start: u32,
+    number: u32,
+    copied: &Copied,
+) -> FourWords
+    requires masks { masks.now ≡ sizes_of metadata.now }
+    requires start { start ≡ (64 * number) % metadata.now.size }
+    requires once { HaveEntries copied.now.once.words number (λ e. nat_le 1 (row_copies rows.now metadata.now e)) }
+    requires written { HaveEntries copied.now.written.words number
+        (λ e. nat_le metadata.now.write_quorum (row_copies rows.now metadata.now e)) }
+    ensures { HaveEntries result.words number
+        (λ e. nat_le metadata.now.ack_quorum (row_copies rows.now metadata.now e)) }
 {
-    for step in 0..top {
-        let level = (top - step) as usize;
-        levels[level] |= levels[level - 1] & word;
+    let acks = metadata.ack_quorum();
+    if acks == metadata.write_quorum() {
+        return copied.written;
     }
-}
-
-/// How many bits of a word are not in another.
-fn count_without(bits: u64, others: u64) -> u64
-    ensures { result
-        ≡ count_by (λ i. has_bit bits i && not (has_bit others i)) (range_with_len 0 64) }
-{
-    (bits & !others).count_ones() as u64
+    match acks {
+        1 => copied.once,
+        2 => twice_words(rows, masks, metadata, start, number),
+        _ => level_of_acks(rows, masks, metadata, start, number),
+    }
 }

@@ -1,7 +1,7 @@
 -- Entries that can't be read, counted word by word.
 use Rattle.std.proofs.Common.{◌≡◌, ◌∙◌, ◌+◌, ◌-◌, ◌*◌, ◌/◌, ◌^◌, ◌<◌, ◌≤◌, ◌&&◌, ◌++◌, ◌∷◌, [], List, Bool, true, false}
 use Rattle.std.proofs.Common.{cond, not, ℕ, zero, suc, refl, ap, sym, arith, nat_le, map, min, drop, take, length}
-use Rattle.std.proofs.Common.{append_assoc, get_or, length-drop}
+use Rattle.std.proofs.Common.{append_assoc, get_or, length-drop, slice_index}
 use Rattle.std.specs.Prelude.{bit_and, count_by}
 use Rattle.std.specs.Int.{bit_not, w64}
 use Rattle.std.specs.Int.Count.{ones}
@@ -57,6 +57,32 @@ counted-more p first last number count bits within is was =
     ap (λ n. q (n + i)) none ∙ sym (is i inside) ∙ ap (has_bit bits) (sym first_bit))
     ∙ count-ones 64 bits within in
     (λ j. was j + sym word j) ∙ sym (count-append q 0 (64 * number) 64) ∙ ap (λ n. count_by q (range_with_len 0 n)) more
+
+-- four words more
+pub counted-four : (p : ℕ → Bool) (first last number count : ℕ) (words : List ℕ)
+    → ((k : ℕ) → k < 4 → slice_index words k < 2 ^ 64)
+    → ((k i : ℕ) → k < 4 → i < 64 → has_bit (slice_index words k) i ≡ is_counted p first last (64 * (number + k) + i))
+    → count ≡ counted_below p first last number
+    → count
+    + (ones (slice_index words 0) + ones (slice_index words 1) + ones (slice_index words 2) + ones (slice_index words 3))
+    ≡ counted_below p first last (number + 4)
+counted-four p first last number count words small are was =
+    let w : ℕ → ℕ = slice_index words in
+    let now : number + 0 ≡ number = omega arith in
+    let one = counted-more p first last (number + 0) count (w 0) (small 0 (omega arith)) (λ i. are 0 i (omega arith))
+    (was ∙ ap (counted_below p first last) (sym now)) in
+    let two = counted-more p first last (number + 1) (count + ones (w 0)) (w 1) (small 1 (omega arith))
+    (λ i. are 1 i (omega arith)) (one ∙ ap (λ n. counted_below p first last (n + 1)) now) in
+    let after_two : number + 1 + 1 ≡ number + 2 = omega arith in
+    let three = counted-more p first last (number + 2) (count + ones (w 0) + ones (w 1)) (w 2) (small 2 (omega arith))
+    (λ i. are 2 i (omega arith)) (two ∙ ap (counted_below p first last) after_two) in
+    let after_three : number + 2 + 1 ≡ number + 3 = omega arith in
+    let four = counted-more p first last (number + 3) (count + ones (w 0) + ones (w 1) + ones (w 2)) (w 3)
+    (small 3 (omega arith)) (λ i. are 3 i (omega arith)) (three ∙ ap (counted_below p first last) after_three) in
+    let after_four : number + 3 + 1 ≡ number + 4 = omega arith in
+    let sum : count + (ones (w 0) + ones (w 1) + ones (w 2) + ones (w 3))
+    ≡ count + ones (w 0) + ones (w 1) + ones (w 2) + ones (w 3) = omega arith in
+    sum ∙ four ∙ ap (counted_below p first last) after_four
 
 -- all are below the word behind the last one's
 pub counted-all : (p : ℕ → Bool) (first last number : ℕ) → first ≤ last → last / 64 + 1 ≤ number

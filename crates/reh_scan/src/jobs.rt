@@ -12,9 +12,8 @@ ghost use Rattle.reh_scan.specs.Jobs.{AreCopies, IsReadingOf, IsReading, source_
 
 use crate::sources::source_row;
 use reh_cluster::{Ledger, State};
-use reh_held::word_at;
 use reh_meta::Fragment;
-use reh_stripe::{Round, Striped, Word, WordEntries};
+use reh_stripe::{Round, Striped, Word, WordEntries, word_at};
 use reh_types::{Aim, BookieIx, Content, MAX_ENSEMBLE_SIZE, Members, Sources};
 use std::alloc::{AllocError, Global};
 use std::marker::Model;

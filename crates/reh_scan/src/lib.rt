@@ -14,5 +14,5 @@ pub use jobs::{Job, look};
 pub use laws::surveys_list_places;
 pub use places::{Found, aimed, check_bookie, check_member, check_place, find_ledger, find_owned};
 pub use posts::{check, find_posted};
-pub use sources::{Rows, first_unreadable, masks_of, readable_word, source_rows};
+pub use sources::{Rows, first_unreadable, four_masks_of, readable_words, source_rows};
 pub use surveys::{survey_line, survey_plain, survey_run};

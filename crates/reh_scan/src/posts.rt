@@ -17,9 +17,8 @@ ghost use Rattle.reh_scan.specs.Sources.{sizes_of};
 use crate::places::{check_member, find_owned};
 use crate::sources::{Rows, masks_of, source_rows};
 use reh_cluster::{Ledger, State};
-use reh_held::word_at;
 use reh_meta::{Fragment, LedgerMeta};
-use reh_stripe::{Masks, Striped, Word, WordEntries};
+use reh_stripe::{Masks, Striped, Word, WordEntries, word_at};
 use reh_types::{BookieIx, Content, MAX_BOOKIES, Refusal};
 
 /// Whether what a worker found can be posted, or else the first refusal that applies: it has to hold the ledger's lock,

@@ -1,5 +1,5 @@
 // From which members of an ensemble an entry can be copied.
-ghost use Rattle.std.specs.Prelude.{◌≡◌, ℕ, ◌+◌, ◌*◌, ◌%◌, ◌^◌, ◌<◌, length, not};
+ghost use Rattle.std.specs.Prelude.{◌≡◌, ℕ, ◌+◌, ◌*◌, ◌%◌, ◌^◌, ◌<◌, length, not, slice_index};
 ghost use Rattle.std.specs.List.{find, list_any};
 ghost use Rattle.reh_model.specs.Metadata.{IsMetadata};
 ghost use Rattle.reh_model.specs.Cluster as cluster;
@@ -10,9 +10,8 @@ ghost use Rattle.reh_stripe.specs.Words.{has_bit};
 ghost use Rattle.reh_scan.specs.Sources.{is_set_at, is_source_at, sizes_of};
 
 use reh_cluster::{Ledger, State};
-use reh_held::word_at;
 use reh_meta::{Fragment, LedgerMeta};
-use reh_stripe::{Masks, Striped, Word, least_entry};
+use reh_stripe::{FourMasks, FourWords, Masks, Striped, Word, least_entry, word_at};
 use reh_types::{BookieIx, MAX_ENSEMBLE_SIZE};
 
 /// The least of the entries that can't be read.
@@ -77,9 +76,16 @@ pub fn masks_of(metadata: &LedgerMeta) -> Masks
     Masks::new(metadata.size(), metadata.write_quorum())
 }
 
+/// The same, of four words at a time.
+pub fn four_masks_of(metadata: &LedgerMeta) -> FourMasks
+    ensures { result ≡ sizes_of metadata.now }
+{
+    FourMasks::new(metadata.size(), metadata.write_quorum())
+}
+
 /// The entries of a word that are in some row at an index of their write sets. The word's first entry has its rank 0 at
 /// the index `start`.
-pub fn readable_word(
+fn readable_word(
     rows: &Rows<'_>,
     masks: &Masks,
     metadata: &LedgerMeta,
@@ -96,6 +102,29 @@ pub fn readable_word(
     for index in 0..metadata.size() {
         let carried = masks.carried(start, index);
         readable |= word_at(rows[index as usize], number as usize) & carried;
+    }
+    readable
+}
+
+/// The entries of four words, from that number on, that are in some row at an index of their write sets. The first
+/// word's first entry has its rank 0 at the index `start`.
+pub fn readable_words(
+    rows: &Rows<'_>,
+    masks: &FourMasks,
+    metadata: &LedgerMeta,
+    start: u32,
+    number: u32,
+) -> FourWords
+    requires masks { masks.now ≡ sizes_of metadata.now }
+    requires start { start ≡ (64 * number) % metadata.now.size }
+    ensures { (k i : ℕ) → k < 4 → i < 64 → has_bit (slice_index result.words k) i
+        ≡ list_any (is_set_at rows.now (64 * (number + k) + i))
+        (stripe.write_set (64 * (number + k) + i) metadata.now.size metadata.now.write_quorum) }
+{
+    let mut readable = FourWords::none();
+    for index in 0..metadata.size() {
+        let held = FourWords::at(rows[index as usize], number as usize);
+        readable = readable.or(&held.and(&masks.carried(start, index)));
     }
     readable
 }

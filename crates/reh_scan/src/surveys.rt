@@ -9,10 +9,10 @@ ghost use Rattle.reh_model.specs.Cluster as cluster;
 ghost use Rattle.reh_model.specs.Survey as model;
 ghost use Rattle.reh_scan.specs.Sources.{is_set_at, sizes_of};
 
-use crate::sources::{Rows, masks_of, readable_word, source_rows};
+use crate::sources::{Rows, four_masks_of, readable_words, source_rows};
 use reh_cluster::{Ledger, State};
 use reh_meta::{Fragment, LedgerMeta};
-use reh_stripe::{Masks, bits_between, wrapped};
+use reh_stripe::{FourMasks, FourWords, wrapped};
 use reh_types::{LedgerId, SurveyLine};
 use std::alloc::{AllocError, Global};
 
@@ -74,7 +74,7 @@ fn push_run(
     }
     let metadata = ledger.metadata();
     let fragments = metadata.fragments();
-    let masks = masks_of(metadata);
+    let masks = four_masks_of(metadata);
     for number in first..first + count {
         lines.push(fragment_line(state, ledger, &masks, number, &fragments[number]))?;
     }
@@ -89,7 +89,7 @@ pub fn survey_line(state: &State, ledger: LedgerId, fragment: u64) -> SurveyLine
     let found = state.ledger(ledger).unwrap();
     let number = fragment as usize;
     let metadata = found.metadata();
-    let masks = masks_of(metadata);
+    let masks = four_masks_of(metadata);
     fragment_line(state, found, &masks, number, &metadata.fragments()[number])
 }
 
@@ -97,7 +97,7 @@ pub fn survey_line(state: &State, ledger: LedgerId, fragment: u64) -> SurveyLine
 fn fragment_line(
     state: &State,
     ledger: &Ledger,
-    masks: &Masks,
+    masks: &FourMasks,
     number: usize,
     fragment: &Fragment,
 ) -> SurveyLine
@@ -131,7 +131,7 @@ fn count_down(state: &State, ledger: &Ledger, fragment: &Fragment) -> u32
 fn lost_of(
     state: &State,
     ledger: &Ledger,
-    masks: &Masks,
+    masks: &FourMasks,
     number: usize,
     fragment: &Fragment,
 ) -> Option<u32>
@@ -144,7 +144,13 @@ fn lost_of(
 }
 
 /// How many entries from the fragment's first one up to, not including, the stop can't be read.
-fn count_lost(state: &State, ledger: &Ledger, masks: &Masks, fragment: &Fragment, stop: u32) -> u32
+fn count_lost(
+    state: &State,
+    ledger: &Ledger,
+    masks: &FourMasks,
+    fragment: &Fragment,
+    stop: u32,
+) -> u32
     requires ensemble { length fragment.now.ensemble ≡ ledger.now.metadata.size }
     requires masks { masks.now ≡ sizes_of ledger.now.metadata }
     ensures { result ≡ count_by
@@ -160,10 +166,11 @@ fn count_lost(state: &State, ledger: &Ledger, masks: &Masks, fragment: &Fragment
 
 /// How many entries from the first to the last are in no row at an index of their write sets.
 ///
-/// It goes by words, of 64 entries each: the entries that one index carries are a mask of the bits of its row's word.
+/// It goes by words, of 64 entries each and four at a time: the entries that one index carries are a mask of the bits of
+/// its row's words.
 fn count_lacking(
     rows: &Rows<'_>,
-    masks: &Masks,
+    masks: &FourMasks,
     metadata: &LedgerMeta,
     first: u32,
     last: u32,
@@ -178,11 +185,12 @@ fn count_lacking(
     let size = metadata.size();
     let mut start = 64 * (first / 64) % size;
     let mut count = 0;
-    for number in first / 64..last / 64 + 1 {
-        let readable = readable_word(rows, masks, metadata, start, number);
-        let lacking = bits_between(number, first, last) & !readable;
-        count += lacking.count_ones() as usize;
-        start = wrapped(start + 64 % size, size);
+    for four in 0..(last / 64 - first / 64) / 4 + 1 {
+        let number = first / 64 + 4 * four;
+        let readable = readable_words(rows, masks, metadata, start, number);
+        let lacking = FourWords::between(number, first, last).without(&readable);
+        count += lacking.count() as usize;
+        start = wrapped(start + 256 % size, size);
     }
     count as u32
 }

@@ -17,12 +17,11 @@ ghost use Rattle.reh_step.specs.Places.{IsPlace};
 use crate::recoveries::{find_end, last_fragment, next_entry};
 use reh_audit::{has_news, is_under, under_of};
 use reh_cluster::{Ledger, State};
-use reh_held::word_at;
 use reh_meta::Fragment;
 use reh_scan::{
     Found, check_bookie, check_member, check_place, find_ledger, find_owned, first_unreadable,
 };
-use reh_stripe::{Striped, Word, least_entry};
+use reh_stripe::{Striped, Word, least_entry, word_at};
 use reh_types::{
     Aim, BookieIx, CLOCK_END, ENTRY_END, Event, LedgerId, LedgerState, MAX_FRAGMENTS, MAX_TICKS,
     MAX_VERSION, Refusal,

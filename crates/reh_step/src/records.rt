@@ -28,25 +28,23 @@ use reh_types::{Aim, BookieIx, Change, LedgerId, Lock, Refusal, Scalar};
 use std::alloc::{AllocError, Global};
 
 /// The bookie's registration goes, at the tick of the clock.
-pub(crate) fn lose(alloc: Global, state: &State, bookie: BookieIx) -> Result<Changes, Refusal>
+pub(crate) fn lose(state: &State, bookie: BookieIx) -> Result<Changes, Refusal>
     ensures { IsDecision state.now (Lose bookie) result }
 {
     check_lose(state, bookie)?;
     let _well_formed = state.names();
     let lost_at = Some(state.clock());
-    let changes = Changes::one(alloc, Change::Registration { bookie, lost_at })?;
-    Ok(changes)
+    Ok(Changes::one(Change::Registration { bookie, lost_at }))
 }
 
 /// The bookie is registered.
-pub(crate) fn join(alloc: Global, state: &State, bookie: BookieIx) -> Result<Changes, Refusal>
+pub(crate) fn join(state: &State, bookie: BookieIx) -> Result<Changes, Refusal>
     ensures { IsDecision state.now (Join bookie) result }
 {
     check_join(state, bookie)?;
     let _well_formed = state.names();
     let lost_at = None;
-    let changes = Changes::one(alloc, Change::Registration { bookie, lost_at })?;
-    Ok(changes)
+    Ok(Changes::one(Change::Registration { bookie, lost_at }))
 }
 
 /// Each task that an audit changes names the long-lost members too.
@@ -66,12 +64,7 @@ pub(crate) fn audit(alloc: Global, state: &State) -> Result<Changes, Refusal>
 }
 
 /// The worker locks the ledger's task.
-pub(crate) fn acquire(
-    alloc: Global,
-    state: &State,
-    worker: BookieIx,
-    ledger: LedgerId,
-) -> Result<Changes, Refusal>
+pub(crate) fn acquire(state: &State, worker: BookieIx, ledger: LedgerId) -> Result<Changes, Refusal>
     ensures { IsDecision state.now (Acquire worker ledger) result }
 {
     let found = check_acquire(state, worker, ledger)?;
@@ -80,23 +73,16 @@ pub(crate) fn acquire(
         due: None,
     });
     let place = found.place;
-    let changes = Changes::one(alloc, Change::Lock { place, lock })?;
-    Ok(changes)
+    Ok(Changes::one(Change::Lock { place, lock }))
 }
 
 /// The ledger's lock goes.
-pub(crate) fn release(
-    alloc: Global,
-    state: &State,
-    worker: BookieIx,
-    ledger: LedgerId,
-) -> Result<Changes, Refusal>
+pub(crate) fn release(state: &State, worker: BookieIx, ledger: LedgerId) -> Result<Changes, Refusal>
     ensures { IsDecision state.now (Release worker ledger) result }
 {
     let found = check_release(state, worker, ledger)?;
     let place = found.place;
-    let changes = Changes::one(alloc, Change::Lock { place, lock: None })?;
-    Ok(changes)
+    Ok(Changes::one(Change::Lock { place, lock: None }))
 }
 
 /// The ledger's task goes, and its lock.
@@ -132,12 +118,7 @@ pub(crate) fn expire(alloc: Global, state: &State, worker: BookieIx) -> Result<C
 }
 
 /// The due tick of the ledger's lock is set: a grace from now.
-pub(crate) fn grace(
-    alloc: Global,
-    state: &State,
-    worker: BookieIx,
-    ledger: LedgerId,
-) -> Result<Changes, Refusal>
+pub(crate) fn grace(state: &State, worker: BookieIx, ledger: LedgerId) -> Result<Changes, Refusal>
     ensures { IsDecision state.now (Grace worker ledger) result }
 {
     let found = check_grace(state, worker, ledger)?;
@@ -146,19 +127,17 @@ pub(crate) fn grace(
         due: Some(state.clock() + state.grace()),
     });
     let place = found.place;
-    let changes = Changes::one(alloc, Change::Lock { place, lock })?;
-    Ok(changes)
+    Ok(Changes::one(Change::Lock { place, lock }))
 }
 
 /// The clock goes on.
-pub(crate) fn tick(alloc: Global, state: &State, ticks: u64) -> Result<Changes, Refusal>
+pub(crate) fn tick(state: &State, ticks: u64) -> Result<Changes, Refusal>
     ensures { IsDecision state.now (Tick ticks) result }
 {
     check_tick(state, ticks)?;
     let _well_formed = state.names();
     let clock = state.clock() + ticks;
-    let changes = Changes::one(alloc, Change::Scalar(Scalar::Clock(clock)))?;
-    Ok(changes)
+    Ok(Changes::one(Change::Scalar(Scalar::Clock(clock))))
 }
 
 /// The bookie takes that index of the last ensemble, in a new fragment from the next entry on, or in the last fragment
@@ -242,12 +221,7 @@ pub(crate) fn copy(
 
 /// The worker's bookie takes that index of the fragment's ensemble, and the ledger's metadata goes to its next version.
 /// BookKeeper's worker does so by `updateEnsembleInfo`, which writes the ledger's metadata conditional on its version.
-pub(crate) fn swap(
-    alloc: Global,
-    state: &State,
-    aim: &Aim,
-    version: u64,
-) -> Result<Changes, Refusal>
+pub(crate) fn swap(state: &State, aim: &Aim, version: u64) -> Result<Changes, Refusal>
     ensures { IsDecision state.now
         (Swap aim.now.worker aim.now.ledger aim.now.fragment aim.now.index version) result }
 {
@@ -255,28 +229,25 @@ pub(crate) fn swap(
     let stored = found.ledger.metadata();
     let metadata = stored.with_member(aim.fragment as usize, aim.index as usize, aim.worker)?;
     let place = found.place;
-    let changes = Changes::one(alloc, Change::Metadata { place, metadata })?;
-    Ok(changes)
+    Ok(Changes::one(Change::Metadata { place, metadata }))
 }
 
 /// AutoRecovery is disabled.
-pub(crate) fn disable(alloc: Global, state: &State) -> Result<Changes, Refusal>
+pub(crate) fn disable(state: &State) -> Result<Changes, Refusal>
     ensures { IsDecision state.now Disable result }
 {
     check_disable(state)?;
     let _well_formed = state.names();
-    let changes = Changes::one(alloc, Change::Scalar(Scalar::Enabled(false)))?;
-    Ok(changes)
+    Ok(Changes::one(Change::Scalar(Scalar::Enabled(false))))
 }
 
 /// AutoRecovery is enabled.
-pub(crate) fn enable(alloc: Global, state: &State) -> Result<Changes, Refusal>
+pub(crate) fn enable(state: &State) -> Result<Changes, Refusal>
     ensures { IsDecision state.now Enable result }
 {
     check_enable(state)?;
     let _well_formed = state.names();
-    let changes = Changes::one(alloc, Change::Scalar(Scalar::Enabled(true)))?;
-    Ok(changes)
+    Ok(Changes::one(Change::Scalar(Scalar::Enabled(true))))
 }
 
 // Copies
@@ -311,19 +282,22 @@ fn without_due(alloc: Global, found: Found<'_>, metadata: LedgerMeta) -> Result<
         ≡ Metadata found.entry.place metadata ∷ due_gone found.entry.place found.entry.ledger.now) }
 {
     let place = found.place;
-    let mut list = Vec::with_capacity(alloc, 2)?;
-    list.push(Change::Metadata { place, metadata })?;
-    if let Some(
-        Lock {
-            owner,
-            due: Some(_),
-        },
-    ) = found.ledger.lock()
-    {
-        let lock = Some(Lock { owner, due: None });
-        list.push(Change::Lock { place, lock })?;
+    let metadata = Change::Metadata { place, metadata };
+    match found.ledger.lock() {
+        Some(
+            Lock {
+                owner,
+                due: Some(_),
+            },
+        ) => {
+            let lock = Some(Lock { owner, due: None });
+            let mut list = Vec::with_capacity(alloc, 2)?;
+            list.push(metadata)?;
+            list.push(Change::Lock { place, lock })?;
+            Ok(Changes::of(list))
+        }
+        _ => Ok(Changes::one(metadata)),
     }
-    Ok(Changes::of(list))
 }
 
 /// The entries that a recovery of the ledger up to this end writes back to the bookie; none for one that isn't

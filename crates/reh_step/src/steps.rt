@@ -21,15 +21,15 @@ pub fn decide(alloc: Global, state: &State, event: &Event) -> Result<Changes, Re
         (λ refusal. refusal ≡ or_no_memory (refusal_of state.now event.now)) }
 {
     match event {
-        Event::Lose { bookie } => records::lose(alloc, state, *bookie),
-        Event::Join { bookie } => records::join(alloc, state, *bookie),
+        Event::Lose { bookie } => records::lose(state, *bookie),
+        Event::Join { bookie } => records::join(state, *bookie),
         Event::Audit => records::audit(alloc, state),
-        Event::Acquire { worker, ledger } => records::acquire(alloc, state, *worker, *ledger),
-        Event::Release { worker, ledger } => records::release(alloc, state, *worker, *ledger),
+        Event::Acquire { worker, ledger } => records::acquire(state, *worker, *ledger),
+        Event::Release { worker, ledger } => records::release(state, *worker, *ledger),
         Event::Finish { worker, ledger } => records::finish(alloc, state, *worker, *ledger),
         Event::Expire { worker } => records::expire(alloc, state, *worker),
-        Event::Grace { worker, ledger } => records::grace(alloc, state, *worker, *ledger),
-        Event::Tick { ticks } => records::tick(alloc, state, *ticks),
+        Event::Grace { worker, ledger } => records::grace(state, *worker, *ledger),
+        Event::Tick { ticks } => records::tick(state, *ticks),
         Event::Roll {
             ledger,
             index,
@@ -56,13 +56,12 @@ pub fn decide(alloc: Global, state: &State, event: &Event) -> Result<Changes, Re
             index,
             version,
         } => records::swap(
-            alloc,
             state,
             &aim_of(*worker, *ledger, *fragment, *index),
             *version,
         ),
-        Event::Disable => records::disable(alloc, state),
-        Event::Enable => records::enable(alloc, state),
+        Event::Disable => records::disable(state),
+        Event::Enable => records::enable(state),
     }
 }
 

@@ -1,4 +1,5 @@
 pub mod CountLaws
+pub mod FourLaws
 pub mod MaskLaws
 pub mod RoundLaws
 pub mod WordLaws

@@ -155,6 +155,15 @@ mask-next_without size quorum before index mask some within is inside was missed
 
 -- Words
 
+-- the index of rank 0 goes on from word to word
+pub start-next : (number words n : ℕ)
+    → ((64 * number) % n + (64 * words) % n) % n ≡ (64 * (number + words)) % n
+start-next number words n =
+    let more : 64 * number + 64 * words ≡ 64 * (number + words) = omega arith in
+    mod-add-mod (64 * number) n ((64 * words) % n)
+    ∙ add-mod-mod (64 * number) (64 * words) n
+    ∙ ap (λ m. m % n) more
+
 -- ranks go on from word to word
 rank_of-more : (a t i n : ℕ) → i < n → rank_of t (rank_of a i n) n ≡ rank_of (a + t) i n
 rank_of-more a t i n inside =
@@ -170,14 +179,22 @@ rank_of-more a t i n inside =
     ∙ index_at-rank_of a i n inside in
     sym (rank_of-index_at (a + t) i n j j_in at)
 
+-- an index carries an entry where its rank carries it as many entries later
+pub is_striped-moved : (a t index size quorum : ℕ) → 1 ≤ quorum → quorum ≤ size → index < size
+    → is_striped t (rank_of a index size) size quorum ≡ is_striped (a + t) index size quorum
+is_striped-moved a t index size quorum some within inside =
+    let r : ℕ = rank_of a index size in
+    let r_in : r < size = mod_below (index + size - a % size) size (omega arith) in
+    is_striped-rank_of t r size quorum some within r_in
+    ∙ ap (λ n. nat_lt n quorum) (rank_of-more a t index size inside)
+    ∙ sym (is_striped-rank_of (a + t) index size quorum some within inside)
+
 -- a mask of a rank tells which entries of the word the index carries
 pub has_bit-mask : (masks : List ℕ) (size quorum number i index : ℕ) → 1 ≤ quorum → quorum ≤ size → index < size → i < 64
     → AreMasks size quorum masks
     → has_bit (slice_index masks (rank_of (64 * number) index size)) i ≡ is_striped (64 * number + i) index size quorum
 has_bit-mask masks size quorum number i index some within inside bit are =
-    let r : ℕ = rank_of (64 * number) index size in
-    let r_in : r < size = mod_below (index + size - (64 * number) % size) size (omega arith) in
-    are r r_in i bit
-    ∙ is_striped-rank_of i r size quorum some within r_in
-    ∙ ap (λ n. nat_lt n quorum) (rank_of-more (64 * number) i index size inside)
-    ∙ sym (is_striped-rank_of (64 * number + i) index size quorum some within inside)
+    let r_in : rank_of (64 * number) index size < size =
+    mod_below (index + size - (64 * number) % size) size (omega arith) in
+    are (rank_of (64 * number) index size) r_in i bit
+    ∙ is_striped-moved (64 * number) i index size quorum some within inside

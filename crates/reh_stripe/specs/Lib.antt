@@ -1,3 +1,4 @@
+pub mod FourKept
 pub mod Kept
 pub mod Left
 pub mod Masks

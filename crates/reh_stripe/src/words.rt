@@ -1,5 +1,5 @@
 // Words of 64 entries.
-ghost use Rattle.std.specs.Prelude.{◌≡◌, ℕ, ◌+◌, ◌*◌, ◌^◌, ◌<◌, ◌≤◌, slice_get};
+ghost use Rattle.std.specs.Prelude.{◌≡◌, ℕ, ◌+◌, ◌*◌, ◌^◌, ◌<◌, ◌≤◌, slice_get, slice_index};
 ghost use Rattle.reh_stripe.specs.Words.{has_bit, is_between, entries_in};
 
 /// Some of the 64 entries of a word: bit i of word n stands for entry 64 n + i.
@@ -30,4 +30,14 @@ pub fn bits_between(number: u32, first: u32, last: u32) -> u64
     let low = first.saturating_sub(64 * number);
     let high = (last - 64 * number).min(63);
     (u64::MAX << low) & (u64::MAX >> (63 - high))
+}
+
+/// A word of a row, which has no entry past its words.
+pub fn word_at(words: &[u64], number: usize) -> u64
+    ensures { result ≡ slice_index words.now number }
+{
+    match words.get(number) {
+        Some(word) => *word,
+        None => 0,
+    }
 }

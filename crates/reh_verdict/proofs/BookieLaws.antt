@@ -1,11 +1,11 @@
 -- Bookies that words name, word by word.
 use Rattle.std.proofs.Common.{◌≡◌, ◌∙◌, ◌+◌, ◌<◌, ◌≤◌, ◌||◌, ◌∷◌, [], ◌++◌, ℕ, Bool, true, false, List, Bor, refl, ap, sym}
-use Rattle.std.proofs.Common.{subst, inl, inr, arith, take, length, get_or, nat_eq, Option, Some, None}
+use Rattle.std.proofs.Common.{subst, inl, inr, arith, take, length, nat_eq, Option, Some, None}
 use Rattle.std.specs.Prelude.{◌==◌, is_some, slice_get}
 use Rattle.std.specs.List.{list_any}
 use Rattle.std.specs.Cmp.{unsigned_tied}
 use Rattle.std.specs.Ordering.{nat_cmp, eq_by_cmp}
-use Rattle.std.specs.Option.{IsSome, IsSomeAnd, option_map_or}
+use Rattle.std.specs.Option.{IsSomeAnd, option_map_or}
 use Rattle.std.proofs.Math.Bool.{or-false}
 use Rattle.std.proofs.lemmas.Bool.{cases_lt}
 use Rattle.std.proofs.lemmas.Bool.Decides.{nat_tests}
@@ -15,22 +15,21 @@ use Rattle.std.proofs.lemmas.Option.{get_or_from_slice_get, slice_get_within}
 use Rattle.reh_types.specs.Sets as set
 use Rattle.reh_types.specs.Sets.{Set, numbers, contains-empty, contains-insert}
 use Rattle.reh_model.specs.Cluster.{bookie_named}
-use Rattle.reh_verdict.specs.Bookies.{AreNamed, IsMisnamed, is_name_of, is_named_before}
+use Rattle.reh_verdict.specs.Bookies.{AreNamed, NameOnce, IsMisnamed, is_name_of, is_named_before}
 use Rattle.reh_verdict.specs.declared.bookies.NameFault.TheVariants.{Unknown, Twice}
 
 module _ (names : List (List ℕ)) (words : List (Bor (List ℕ))) where
   -- what holds of the words below that number
   pub record AreNamedBelow (n : ℕ) (bookies : Set numbers) : Type 0 where
-    pub each : (number : ℕ) (word : Bor (List ℕ)) → number < n → slice_get words number ≡ Some word
-        → IsSome (bookie_named names word.now)
-    pub once : (number bookie : ℕ) (word : Bor (List ℕ)) → number < n → slice_get words number ≡ Some word
-        → bookie_named names word.now ≡ Some bookie → is_named_before names words number bookie ≡ false
+    pub different : NameOnce names words n
     pub all : (bookie : ℕ) → set.contains bookies bookie ≡ list_any (is_name_of names bookie) (take n words)
 
   pub named-none : AreNamedBelow 0 set.empty
   named-none = record {
-    each = λ number word below. absurd (omega (arith, below));
-    once = λ number bookie word below. absurd (omega (arith, below));
+    different = record {
+      each = λ number word below. absurd (omega (arith, below));
+      once = λ number bookie word below. absurd (omega (arith, below));
+    };
     all = λ bookie. contains-empty numbers bookie;
   }
 
@@ -57,26 +56,28 @@ module _ (names : List (List ℕ)) (words : List (Bor (List ℕ))) where
       → bookie_named names word.now ≡ Some bookie → set.contains bookies bookie ≡ false
       → AreNamedBelow n bookies → AreNamedBelow (n + 1) (set.insert bookies bookie)
   named-more n bookie word bookies here named fresh was = record {
-    each = λ number other below there.
-        elim (cases_lt number n) [
-          | inl before ↦ was.each number other before there
-          | inr at ↦
-              let same : number ≡ n = omega (arith, below, at) in
-              let this : word ≡ other = the_word n word other here (ap (slice_get words) (sym same) ∙ there) in
-              sym (ap is_some (sym named ∙ ap (λ (w : Bor (List ℕ)). bookie_named names w.now) this))
-        ];
-    once = λ number b other below there names_it.
-        elim (cases_lt number n) [
-          | inl before ↦ was.once number b other before there names_it
-          | inr at ↦
-              let same : number ≡ n = omega (arith, below, at) in
-              let this : word ≡ other = the_word n word other here (ap (slice_get words) (sym same) ∙ there) in
-              let one : bookie ≡ b =
-              ap (option_value bookie)
-              (sym named ∙ ap (λ (w : Bor (List ℕ)). bookie_named names w.now) this ∙ names_it) in
-              ap (λ k. is_named_before names words k b) same
-              ∙ sym (was.all b) ∙ ap (set.contains bookies) (sym one) ∙ fresh
-        ];
+    different = record {
+      each = λ number other below there.
+          elim (cases_lt number n) [
+            | inl before ↦ was.different.each number other before there
+            | inr at ↦
+                let same : number ≡ n = omega (arith, below, at) in
+                let this : word ≡ other = the_word n word other here (ap (slice_get words) (sym same) ∙ there) in
+                sym (ap is_some (sym named ∙ ap (λ (w : Bor (List ℕ)). bookie_named names w.now) this))
+          ];
+      once = λ number b other below there names_it.
+          elim (cases_lt number n) [
+            | inl before ↦ was.different.once number b other before there names_it
+            | inr at ↦
+                let same : number ≡ n = omega (arith, below, at) in
+                let this : word ≡ other = the_word n word other here (ap (slice_get words) (sym same) ∙ there) in
+                let one : bookie ≡ b =
+                ap (option_value bookie)
+                (sym named ∙ ap (λ (w : Bor (List ℕ)). bookie_named names w.now) this ∙ names_it) in
+                ap (λ k. is_named_before names words k b) same
+                ∙ sym (was.all b) ∙ ap (set.contains bookies) (sym one) ∙ fresh
+          ];
+    };
     all = λ b.
         contains-insert bookies bookie b
         ∙ (λ i. itself bookie b i || was.all b i)
@@ -95,26 +96,34 @@ module _ (names : List (List ℕ)) (words : List (Bor (List ℕ))) where
 
   pub named-all : (n : ℕ) (bookies : Set numbers) → length words ≤ n → AreNamedBelow n bookies → AreNamed names words bookies
   named-all n bookies end was = record {
-    each = λ number word there. was.each number word (below number word there) there;
-    once = λ number b word there names_it. was.once number b word (below number word there) there names_it;
+    different = record {
+      each = λ number word within. was.different.each number word (below number within);
+      once = λ number b word within. was.different.once number b word (below number within);
+    };
     all = λ b. was.all b ∙ ap (list_any (is_name_of names b)) (take_all n words end);
   } where
-    below : (number : ℕ) (word : Bor (List ℕ)) → slice_get words number ≡ Some word → number < n
-    below number word there = omega (arith, end, slice_get_within words number word there)
+    below : (number : ℕ) → number < length words → number < n
+    below number within = omega (arith, end, within)
 
-  pub misnamed-unknown : (n : ℕ) (word : Bor (List ℕ)) → slice_get words n ≡ Some word
-      → bookie_named names word.now ≡ None → IsMisnamed names words (Unknown n)
-  misnamed-unknown n word here unknown =
-      subst (λ (o : Option (Bor (List ℕ))). IsSomeAnd o (λ word. bookie_named names word.now ≡ None)) (sym here) unknown
+  pub misnamed-unknown : (n : ℕ) (word : Bor (List ℕ)) (bookies : Set numbers) → slice_get words n ≡ Some word
+      → bookie_named names word.now ≡ None → AreNamedBelow n bookies → IsMisnamed names words (Unknown n)
+  misnamed-unknown n word bookies here unknown was = record {
+    before = was.different;
+    faulty =
+        subst (λ (o : Option (Bor (List ℕ))). IsSomeAnd o (λ word. bookie_named names word.now ≡ None)) (sym here) unknown;
+  }
 
   pub misnamed-twice : (n bookie : ℕ) (word : Bor (List ℕ)) (bookies : Set numbers) → slice_get words n ≡ Some word
       → bookie_named names word.now ≡ Some bookie → set.contains bookies bookie ≡ true
       → AreNamedBelow n bookies → IsMisnamed names words (Twice n)
-  misnamed-twice n bookie word bookies here named again was =
-      subst
-      (λ (o : Option (Bor (List ℕ))).
-      IsSomeAnd o
-      (λ word. IsSomeAnd (bookie_named names word.now) (λ bookie. is_named_before names words n bookie ≡ true)))
-      (sym here)
-      (subst (λ (o : Option ℕ). IsSomeAnd o (λ bookie. is_named_before names words n bookie ≡ true)) (sym named)
-      (sym (was.all bookie) ∙ again))
+  misnamed-twice n bookie word bookies here named again was = record {
+    before = was.different;
+    faulty =
+        subst
+        (λ (o : Option (Bor (List ℕ))).
+        IsSomeAnd o
+        (λ word. IsSomeAnd (bookie_named names word.now) (λ bookie. is_named_before names words n bookie ≡ true)))
+        (sym here)
+        (subst (λ (o : Option ℕ). IsSomeAnd o (λ bookie. is_named_before names words n bookie ≡ true)) (sym named)
+        (sym (was.all bookie) ∙ again));
+  }

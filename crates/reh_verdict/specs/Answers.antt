@@ -1,5 +1,5 @@
 -- The answer over pictures.
-use Rattle.std.specs.Prelude.{ℕ, Bool, List, ◌++◌, flat_map, map, string_bytes}
+use Rattle.std.specs.Prelude.{ℕ, Bool, List, ◌++◌, flat_map, map}
 use Rattle.reh_redundancy.specs.declared.counts.Redundancy.{Redundancy}
 use Rattle.reh_redundancy.specs.declared.counts.Verdict.{Verdict}
 use Rattle.reh_redundancy.specs.declared.counts.Verdict.TheVariants.{Yes, Loses, FallsUnder}

@@ -1,9 +1,11 @@
 // The bookies that words name.
-ghost use Rattle.std.specs.Prelude.{◌<◌, IfErr, IfOk, length};
+ghost use Rattle.std.specs.Prelude.{◌≡◌, ◌<◌, not, IfErr, IfOk, length};
+ghost use Rattle.reh_types.specs.declared.limits.TheConstants.{MAX_BOOKIES};
+ghost use Rattle.reh_types.specs.Sets as set;
 ghost use Rattle.reh_verdict.specs.Bookies.{AreNamed, IsMisnamed};
 
 use reh_cluster::Names;
-use reh_types::BookieSet;
+use reh_types::{BookieIx, BookieSet};
 
 /// Why words name no set of bookies; each has the number of a word, from 0.
 #[derive(Clone, Copy, PartialEq, Eq, Debug)]
@@ -14,7 +16,7 @@ pub enum NameFault {
     Twice(usize),
 }
 
-/// The bookies that these words name.
+/// The bookies that these words name, or the first word that names none, or one that is named already.
 pub fn find_bookies(names: &Names, words: &[&str]) -> Result<BookieSet, NameFault>
     ensures named { IfOk result (λ bookies. AreNamed names.now words.now bookies) }
     ensures fault { IfErr result (IsMisnamed names.now words.now) }
@@ -25,10 +27,20 @@ pub fn find_bookies(names: &Names, words: &[&str]) -> Result<BookieSet, NameFaul
         let Some(bookie) = names.find(words[number].as_bytes()) else {
             return Err(NameFault::Unknown(number));
         };
-        if bookies.contains(bookie) {
+        if !add(&mut bookies, bookie) {
             return Err(NameFault::Twice(number));
         }
-        bookies.insert(bookie);
     }
     Ok(bookies)
+}
+
+/// Puts the bookie into the set, and says whether it is new there.
+fn add(bookies: &mut BookieSet, bookie: BookieIx) -> bool
+    requires { bookie < MAX_BOOKIES }
+    ensures new { result ≡ not (set.contains bookies.old bookie) }
+    ensures added { bookies.new ≡ set.insert bookies.old bookie }
+{
+    let is_new = !bookies.contains(bookie);
+    bookies.insert(bookie);
+    is_new
 }

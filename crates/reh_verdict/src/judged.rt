@@ -7,7 +7,7 @@ ghost use Rattle.reh_verdict.specs.Texts.{ledgers_text};
 
 use crate::texts::push_ledger;
 use reh_cluster::State;
-use reh_redundancy::{Redundancy, ledger_redundancy};
+use reh_redundancy::{Redundancy, ledger_both};
 use reh_types::BookieSet;
 use std::alloc::{AllocError, Global};
 use std::snapshot::Snapshot;
@@ -28,20 +28,25 @@ pub struct Judged {
     ghost text: { string_bytes lines ≡ ledgers_text state.value bookies },
 }
 
-/// Judges a state without these bookies. Each ledger is counted twice, now and without them.
+/// Judges a state without these bookies.
 pub(crate) fn judge(alloc: Global, state: &State, bookies: BookieSet) -> Result<Judged, AllocError>
     ensures { IfOk result (λ judged. (judged.state.value ≡ state.now) × (judged.bookies ≡ bookies)) }
 {
-    let nobody = BookieSet::new();
     let mut lines = String::new(alloc);
     let mut now = Redundancy::none();
     let mut without = Redundancy::none();
     for ledger in state.ledgers() {
-        let before = ledger_redundancy(state, &nobody, ledger);
-        let after = ledger_redundancy(state, &bookies, ledger);
-        now = now.plus(&before);
-        without = without.plus(&after);
-        push_ledger(&mut lines, state, &bookies, ledger, &before, &after)?;
+        let both = ledger_both(state, &bookies, ledger);
+        now = now.plus(&both.now);
+        without = without.plus(&both.without);
+        push_ledger(
+            &mut lines,
+            state,
+            &bookies,
+            ledger,
+            &both.now,
+            &both.without,
+        )?;
     }
     Ok(Judged {
         state: Snapshot::of(state),

@@ -1,5 +1,6 @@
 // Pictures that are judged.
 ghost use Rattle.reh_picture.specs.Pictures.{picture_of};
+ghost use Rattle.reh_picture.specs.Places.{located_of};
 ghost use Rattle.reh_verdict.specs.Judging.{JudgesPicture};
 
 use crate::bookies::{NameFault, find_bookies};
@@ -54,9 +55,10 @@ impl From<LocatedFault> for JudgeFault {
     }
 }
 
-/// Judges a picture without the bookies that these words name.
+/// Judges a picture without the bookies that these words name. It fails by the picture's first fault, with its place, or
+/// by the first word that names none of its bookies, or one that a word before it names.
 pub fn judge_picture(alloc: Global, picture: &[u8], words: &[&str]) -> Result<Judged, JudgeFault>
-    ensures { JudgesPicture (picture_of picture.now) words.now result }
+    ensures { JudgesPicture (picture_of picture.now) (located_of picture.now) words.now result }
 {
     let state = check_picture(alloc, picture)?;
     let bookies = find_bookies(state.names(), words)?;

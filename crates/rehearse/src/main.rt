@@ -10,6 +10,7 @@ mod drill_tests;
 mod drills;
 mod faults;
 mod files;
+mod names;
 mod openings;
 mod operators;
 mod outcomes;

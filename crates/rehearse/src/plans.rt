@@ -1,11 +1,13 @@
 // What is to be done without some bookies, planned from the file of a picture.
 use crate::checks::read_picture_file;
 use crate::faults::RunFault;
+use crate::names::misnamed;
 use reh_cluster::Names;
 use reh_picture::check_picture;
 use reh_plan::{PlanFault, plan};
 use reh_types::{BookieIx, BookieSet, MAX_BOOKIES};
-use std::alloc::{AllocError, Global};
+use reh_verdict::find_bookies;
+use std::alloc::Global;
 use std::io;
 use std::io::Write;
 
@@ -21,12 +23,11 @@ pub struct PlanWords<'a> {
 pub(crate) fn plan_file(rt: &HostRuntime, words: &PlanWords<'_>) -> Result<(), RunFault> {
     let bytes = read_picture_file(rt, words.picture)?;
     let state = check_picture(rt.alloc(), &bytes)?;
-    let lost = find_bookies(rt.alloc(), state.names(), &words.lost)?;
-    let allowed = find_bookies(rt.alloc(), state.names(), &words.allowed)?;
+    let lost = bookies_of(rt.alloc(), words.picture, state.names(), &words.lost)?;
     let allowed = if words.allowed.is_empty() {
         all_bookies()
     } else {
-        set_of(&allowed)
+        bookies_of(rt.alloc(), words.picture, state.names(), &words.allowed)?
     };
     match plan(rt.alloc(), state, &lost, &allowed) {
         Ok(plan) => write_bytes(rt, plan.text()).map_err(|_| RunFault::WriteFault),
@@ -42,38 +43,14 @@ fn write_bytes(rt: &HostRuntime, bytes: &[u8]) -> io::Result<()> {
     writer.flush()
 }
 
-/// The bookies of these names, each once.
-fn find_bookies(alloc: Global, names: &Names, words: &[&str]) -> Result<Vec<BookieIx>, RunFault> {
-    let mut bookies: Vec<BookieIx> = Vec::new(alloc);
-    for word in words {
-        let Some(bookie) = names.find(word.as_bytes()) else {
-            let reason = format!(in alloc; "no bookie '{word}'")?;
-            return Err(RunFault::Misnamed(reason));
-        };
-        if bookies.contains(&bookie) {
-            let reason = format!(in alloc; "bookie '{word}' is named twice")?;
-            return Err(RunFault::Misnamed(reason));
-        }
-        push_bookie(&mut bookies, bookie)?;
-    }
-    Ok(bookies)
-}
-
-/// Adds a bookie.
-fn push_bookie(bookies: &mut Vec<BookieIx>, bookie: BookieIx) -> Result<(), AllocError> {
-    bookies.push(bookie)?;
-    Ok(())
-}
-
-/// The set of these bookies, each of which is one of the 64 bookies that there can be.
-fn set_of(bookies: &[BookieIx]) -> BookieSet {
-    let mut set = BookieSet::new();
-    for bookie in bookies {
-        if (bookie.0 as usize) < MAX_BOOKIES {
-            set.insert(*bookie);
-        }
-    }
-    set
+/// The bookies of a picture that these words name.
+fn bookies_of(
+    alloc: Global,
+    picture: &str,
+    names: &Names,
+    words: &[&str],
+) -> Result<BookieSet, RunFault> {
+    find_bookies(names, words).map_err(|fault| misnamed(alloc, picture, words, fault))
 }
 
 /// The set of all bookies that there can be.

@@ -5,10 +5,9 @@ ghost use Rattle.reh_verdict.specs.declared.answers.TheConstants.{MAX_PICTURES};
 
 use crate::checks::{read_picture_file, write_text};
 use crate::faults::RunFault;
+use crate::names::misnamed;
 use crate::runs::Crew;
-use reh_verdict::{
-    JudgeFault, Judged, MAX_PICTURES, NameFault, answer_over, judge_picture, status_of,
-};
+use reh_verdict::{JudgeFault, Judged, MAX_PICTURES, answer_over, judge_picture, status_of};
 use std::alloc::{AllocError, Global};
 use std::sync::Wait;
 use std::thread;
@@ -113,23 +112,8 @@ fn fault_of(
 ) -> Result<RunFault, AllocError> {
     let fault = match fault {
         JudgeFault::Refused(located) => RunFault::RefusedIn(format!(in alloc; "{path}")?, located),
-        JudgeFault::Misnamed(NameFault::Unknown(number)) => {
-            let name = name_at(bookies, number);
-            RunFault::Misnamed(format!(in alloc; "{path} has no bookie '{name}'")?)
-        }
-        JudgeFault::Misnamed(NameFault::Twice(number)) => {
-            let name = name_at(bookies, number);
-            RunFault::Misnamed(format!(in alloc; "bookie '{name}' is named twice")?)
-        }
+        JudgeFault::Misnamed(fault) => misnamed(alloc, path, bookies, fault),
         JudgeFault::NoMemory => RunFault::NoMemory,
     };
     Ok(fault)
-}
-
-/// The word of that number.
-fn name_at<'a>(bookies: &[&'a str], number: usize) -> &'a str {
-    match bookies.get(number) {
-        Some(name) => *name,
-        None => "",
-    }
 }

@@ -1,8 +1,8 @@
 -- Each ledger that is left is named in its turn.
-use Rattle.std.proofs.Common.{◌≡◌, ℕ, ◌+◌, ◌<◌, length, take, get_or, sym, ap, ◌∙◌, subst, arith, List, false}
+use Rattle.std.proofs.Common.{◌≡◌, ℕ, ◌+◌, ◌<◌, length, take, get_or, sym, ap, ◌∙◌, subst, arith, List, true, false}
 use Rattle.reh_model.specs.Cluster.{Cluster, Ledger}
-use Rattle.reh_plan.specs.Plans.{Draft, IsLeaving, AllNamed, is_left}
-use Rattle.reh_plan.proofs.NamedLaws.{named_left, named_else, named_whole}
+use Rattle.reh_plan.specs.Plans.{Draft, IsLeaving, AllNamed, OnlyLeft, is_left}
+use Rattle.reh_plan.proofs.NamedLaws.{named_left, named_else, named_whole, only_left}
 use Rattle.reh_plan.proofs.planning.leave_all.Goals as goal
 use Rattle.reh_plan.proofs.planning.leave_all.Goals.{then-is_left+in_ok-leave, else-is_left}
 
@@ -21,10 +21,19 @@ loop-place-preserved c =
           let leaving : IsLeaving d g.id w.leave.new.self =
           subst (λ (l : ℕ). IsLeaving d l w.leave.new.self) w.id-id.ensures w.in_ok-leave.ensures in
           let same = w.plan-is ∙ leaving.1 in
+          let left : is_left d.state g ≡ true =
+          ap (λ (s : Cluster). is_left s g) (sym c.state-in-loop-place-2.ensures) ∙ sym c.is_left.ensures ∙ w.if-is_left.true in
           record {
             opening = ap (λ (x : Draft). x.opening) same ∙ c.loop-place.invariant.opening;
             state = ap (λ (x : Draft). x.state) same ∙ c.loop-place.invariant.state;
             count = c.loop-place.invariant.count ∙ ap (λ (x : Draft). length x.state.parts.ledgers) (sym same);
+            events = ap (λ (x : Draft). x.events) same ∙ c.loop-place.invariant.events;
+            only = λ only.
+                subst (λ (x : Draft). OnlyLeft x.opening.names x.state x.lines) (sym w.plan-is)
+                (subst (λ (s : Cluster). OnlyLeft s.names w.leave.new.self.state w.leave.new.self.lines)
+                (sym (ap (λ (x : Draft). x.opening) leaving.1))
+                (only_left d.opening.names d w.leave.new.self k g leaving left within is
+                (c.loop-place.invariant.only only)));
             named =
                 subst (λ (x : Draft). AllNamed x.state x.lines (take (k + 1) x.state.parts.ledgers)) (sym w.plan-is)
                 (named_left d w.leave.new.self k g leaving within is c.loop-place.invariant.named);
@@ -36,6 +45,10 @@ loop-place-preserved c =
             opening = ap (λ (x : Draft). x.opening) w.plan-is ∙ c.loop-place.invariant.opening;
             state = ap (λ (x : Draft). x.state) w.plan-is ∙ c.loop-place.invariant.state;
             count = c.loop-place.invariant.count ∙ ap (λ (x : Draft). length x.state.parts.ledgers) (sym w.plan-is);
+            events = ap (λ (x : Draft). x.events) w.plan-is ∙ c.loop-place.invariant.events;
+            only = λ only.
+                subst (λ (x : Draft). OnlyLeft x.opening.names x.state x.lines) (sym w.plan-is)
+                (c.loop-place.invariant.only only);
             named =
                 subst (λ (x : Draft). AllNamed x.state x.lines (take (k + 1) x.state.parts.ledgers)) (sym w.plan-is)
                 (named_else d k g fine within is c.loop-place.invariant.named);
@@ -46,6 +59,8 @@ pub returns : goal.returns
 returns c = record {
   opening = c.loop-place.invariant.opening;
   state = c.loop-place.invariant.state;
+  events = c.loop-place.invariant.events;
+  only = c.loop-place.invariant.only;
   named =
       named_whole c.loop-place.plan.state c.loop-place.plan.lines c.loop-place.plan.state.parts.ledgers c.loop-place.place
       (omega (arith, c.loop-place-test.false, c.loop-place.invariant.count)) c.loop-place.invariant.named;

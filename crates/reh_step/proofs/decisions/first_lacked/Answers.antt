@@ -1,5 +1,5 @@
 -- An entry of the word whose bit the bookie's row lacks is lacked, and the others are not.
-use Rattle.std.proofs.Common.{◌≡◌, ◌∙◌, ℕ, Bool, not, List, ◌∷◌, ◌+◌, ◌*◌, ap, sym, subst, slice_index}
+use Rattle.std.proofs.Common.{◌≡◌, ◌∙◌, ℕ, Bool, not, List, ◌+◌, ◌*◌, ap, sym, subst}
 use Rattle.std.specs.Prelude.{bit_and}
 use Rattle.std.specs.Int.{bit_not, w64}
 use Rattle.std.specs.List.{find}

@@ -13,7 +13,7 @@ returns c =
     let s : Cluster = c.args.state.now in
     let found = c.in_ok-found.ensures in
     let k = c.in_ok-found.found.place in
-    decided s (Grace c.args.worker c.args.ledger) _ c.in_ok-changes.changes found.0 c.in_ok-changes.ensures
+    decided s (Grace c.args.worker c.args.ledger) _ c.one.result found.0 c.one.ensures
     (subst
     (λ due. IsRecordOf s (Grace c.args.worker c.args.ledger) (Lock k (Some (record { owner = c.args.worker; due = Some due })) ∷ [])) (λ i. sym c.clock.ensures.clock i + sym c.grace.ensures i)
     (grace_delta s c.args.worker c.args.ledger k found.1.well_formed found.1.place found.0))

@@ -6,6 +6,6 @@ use Rattle.reh_step.proofs.records.join.Goals as goal
 
 pub returns : goal.returns
 returns c =
-    decided c.args.state.now (Join c.args.bookie) _ c.in_ok-changes.changes c.in_ok-check_join.ensures
-    c.in_ok-changes.ensures
+    decided c.args.state.now (Join c.args.bookie) _ c.one.result c.in_ok-check_join.ensures
+    c.one.ensures
     (join_delta c.args.state.now c.args.bookie c.names-well_formed.ensures.well_formed c.in_ok-check_join.ensures)

@@ -7,7 +7,7 @@ use Rattle.reh_step.proofs.records.release.Goals as goal
 pub returns : goal.returns
 returns c =
     let found = c.in_ok-found.ensures in
-    decided c.args.state.now (Release c.args.worker c.args.ledger) _ c.in_ok-changes.changes found.0
-    c.in_ok-changes.ensures
+    decided c.args.state.now (Release c.args.worker c.args.ledger) _ c.one.result found.0
+    c.one.ensures
     (release_delta c.args.state.now c.args.worker c.args.ledger c.in_ok-found.found.place found.1.well_formed
     found.1.place found.0)

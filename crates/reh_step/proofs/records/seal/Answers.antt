@@ -1,5 +1,5 @@
 -- The metadata and the words that the registered members get are the only differences.
-use Rattle.std.proofs.Common.{◌∙◌, ◌<◌, ◌≤◌, ℕ, List, length, ap, arith}
+use Rattle.std.proofs.Common.{◌<◌, ◌≤◌, ℕ, List, length, ap, arith}
 use Rattle.reh_types.specs.Sets.{union}
 use Rattle.reh_types.specs.declared.moves.Event.TheVariants.{Seal}
 use Rattle.reh_held.specs.Turns.{IsTurning}

@@ -44,7 +44,7 @@ returns c =
     found_read s aim.ledger c.in_ok-found.found found.1 in
     let made : c.in_ok-metadata.metadata ≡ next_version (with_member_at g.metadata aim.fragment aim.index aim.worker) =
     rw c.metadata-stored.ensures at c.in_ok-metadata.ensures in
-    decided s (Swap aim.worker aim.ledger aim.fragment aim.index c.args.version) _ c.in_ok-changes.changes found.0
-    c.in_ok-changes.ensures
+    decided s (Swap aim.worker aim.ledger aim.fragment aim.index c.args.version) _ c.one.result found.0
+    c.one.ensures
     (swap_delta s aim.worker aim.ledger aim.fragment aim.index c.args.version c.in_ok-found.found.place g
     c.in_ok-metadata.metadata found.1.well_formed found.1.place read made found.0)

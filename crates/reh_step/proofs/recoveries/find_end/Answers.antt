@@ -1,7 +1,6 @@
 -- The recovery is refused at the first entry with too few members, or at its end where too few members say that they
 -- lack the entry.
 use Rattle.std.proofs.Common.{◌≡◌, ◌∙◌, ◌<◌, ◌≤◌, ◌+◌, ◌-◌, ap, sym, subst, arith, ℕ, length, inl, inr, Some}
-use Rattle.std.specs.Prelude.{min}
 use Rattle.reh_types.specs.declared.refusals.Refusal.TheVariants.{Undecided}
 use Rattle.std.proofs.lemmas.Bool.{cases_lt}
 use Rattle.reh_model.specs.Metadata.{Fragment, Metadata, IsMetadata, last_fragment}

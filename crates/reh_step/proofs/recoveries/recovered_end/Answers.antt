@@ -1,11 +1,10 @@
 -- The first entry that can't be read, of those that there can be, or else the one past them.
-use Rattle.std.proofs.Common.{◌≡◌, ◌∙◌, ◌<◌, ◌≤◌, List, ℕ, not, ap, sym, subst, arith, Option}
+use Rattle.std.proofs.Common.{◌≡◌, ◌∙◌, ◌<◌, List, ℕ, not, ap, subst, arith, Option}
 use Rattle.std.specs.Prelude.{unwrap_or}
 use Rattle.std.specs.List.{find}
 use Rattle.reh_types.specs.declared.limits.TheConstants.{ENTRY_END}
 use Rattle.reh_model.specs.Metadata.{Fragment, Metadata, last_fragment}
 use Rattle.reh_model.specs.Cluster.{Cluster, Ledger, is_readable}
-use Rattle.reh_model.specs.Recovery.{recovered_end}
 use Rattle.reh_model.specs.Striping.{striped_entries}
 use Rattle.reh_model.proofs.FragmentLaws.{first-last}
 use Rattle.reh_step.proofs.WalkLaws.{recovered_end-found}

@@ -2,7 +2,6 @@
 use Rattle.std.proofs.Common.{◌≡◌, ◌∙◌, ◌++◌, ℕ, List, ap, arith}
 use Rattle.std.specs.Prelude.{flat_map}
 use Rattle.std.proofs.lemmas.List.{take_all}
-use Rattle.reh_redundancy.specs.declared.counts.Verdict.{Verdict}
 use Rattle.reh_redundancy.specs.Verdicts as verdicts
 use Rattle.reh_verdict.specs.declared.judged.Judged.{Judged}
 use Rattle.reh_verdict.specs.Answers.{verdict_of}

@@ -1,6 +1,5 @@
 -- A word more.
-use Rattle.std.proofs.Common.{◌≡◌, ◌∙◌, ◌<◌, ℕ, List, Bor, Some, None, ◌+◌, length, get_or, ap, sym, subst, arith}
-use Rattle.std.specs.Prelude.{slice_get}
+use Rattle.std.proofs.Common.{◌≡◌, ◌∙◌, true, false, ◌+◌, ap, sym, subst, arith}
 use Rattle.std.proofs.lemmas.Option.{slice_get-get_or}
 use Rattle.reh_types.specs.Sets as set
 use Rattle.reh_types.specs.Sets.{Set, numbers}
@@ -16,26 +15,31 @@ loop-number-init c =
 
 pub returns-in_default-clause-fault : goal.returns-in_default-clause-fault
 returns-in_default-clause-fault c =
-    misnamed-unknown c.args.names.now c.args.words.now c.loop-number.number _
+    misnamed-unknown c.args.names.now c.args.words.now c.loop-number.number _ c.loop-number.bookies
     (slice_get-get_or c.args.words.now c.loop-number.number _ c.loop-number-test.true)
     (ap (bookie_named c.args.names.now) (sym c.as_bytes.ensures.value) ∙ sym c.find.ensures ∙ c.in_default.is)
+    c.loop-number.invariant
 
-pub returns-then-contains-clause-fault : goal.returns-then-contains-clause-fault
-returns-then-contains-clause-fault c =
+pub returns-then-not-add-clause-fault : goal.returns-then-not-add-clause-fault
+returns-then-not-add-clause-fault c =
+    let again : set.contains c.loop-number.bookies c.in-Some.bookie ≡ true =
+    grind (arith, c.add.ensures.new, c.if-not-add.true) in
     misnamed-twice c.args.names.now c.args.words.now c.loop-number.number c.in-Some.bookie _ c.loop-number.bookies
     (slice_get-get_or c.args.words.now c.loop-number.number _ c.loop-number-test.true)
     (ap (bookie_named c.args.names.now) (sym c.as_bytes.ensures.value) ∙ sym c.find.ensures ∙ c.in-Some.is)
-    (sym c.contains.ensures ∙ c.if-contains.true) c.loop-number.invariant
+    again c.loop-number.invariant
 
 pub loop-number-preserved : goal.loop-number-preserved
 loop-number-preserved c =
+    let fresh : set.contains c.loop-number.bookies c.in-Some.bookie ≡ false =
+    grind (arith, c.add.ensures.new, c.if-not-add.false) in
     subst
     (λ (bookies : Set numbers). AreNamedBelow c.args.names.now c.args.words.now (c.loop-number.number + 1) bookies)
-    (sym c.insert.ensures)
+    (sym c.add.ensures.added)
     (named-more c.args.names.now c.args.words.now c.loop-number.number c.in-Some.bookie _ c.loop-number.bookies
     (slice_get-get_or c.args.words.now c.loop-number.number _ c.loop-number-test.true)
     (ap (bookie_named c.args.names.now) (sym c.as_bytes.ensures.value) ∙ sym c.find.ensures ∙ c.in-Some.is)
-    (sym c.contains.ensures ∙ c.if-contains.false) c.loop-number.invariant)
+    fresh c.loop-number.invariant)
 
 pub returns-clause-named : goal.returns-clause-named
 returns-clause-named c =

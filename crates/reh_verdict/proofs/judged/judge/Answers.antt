@@ -1,31 +1,17 @@
 -- A ledger more.
-use Rattle.std.proofs.Common.{◌≡◌, ◌∙◌, ◌+◌, ◌++◌, ◌*◌, ◌<◌, ◌≤◌, ℕ, List, map, take, length, get_or, ap, sym, subst, arith}
+use Rattle.std.proofs.Common.{◌≡◌, ◌∙◌, ◌+◌, ◌++◌, ◌*◌, ◌<◌, ◌≤◌, ℕ, List, map, take, length, get_or, ap, sym, arith}
 use Rattle.std.specs.Prelude.{flat_map}
 use Rattle.std.proofs.lemmas.List.{get_or-map, length-map, take_all}
 use Rattle.reh_types.specs.declared.limits.TheConstants.{MAX_LEDGERS}
-use Rattle.reh_types.specs.Sets as set
-use Rattle.reh_types.specs.Sets.{Set, numbers}
 use Rattle.reh_model.specs.Cluster.{Cluster, Ledger}
 use Rattle.reh_redundancy.specs.declared.counts.Redundancy.{Redundancy}
 use Rattle.reh_redundancy.specs.Bounds.{AreAtMost}
 use Rattle.reh_redundancy.specs.Losses.{losing}
 use Rattle.reh_redundancy.specs.Redundancy.{ledger_redundancy, redundancy, sum_of}
-use Rattle.reh_redundancy.proofs.LossLaws.{losing-none}
-use Rattle.reh_redundancy.proofs.SumLaws.{AreAtMost-with, AreAtMost-wider, sum_of-more, sum_with}
+use Rattle.reh_redundancy.proofs.SumLaws.{AreAtMost-next, AreAtMost-wider, sum_of-next, sum_with}
 use Rattle.reh_verdict.specs.Texts.{ledger_text, ledgers_text}
 use Rattle.reh_verdict.proofs.AnswerLaws.{printed-more}
 use Rattle.reh_verdict.proofs.judged.judge.Goals as goal
-
--- the counts without nobody are those of the state
-now_of : (s : Cluster) (g : Ledger) (nobody : Set numbers) (counts : Redundancy) → nobody ≡ set.empty
-    → counts ≡ ledger_redundancy (losing s nobody) g → counts ≡ ledger_redundancy s g
-now_of s g nobody counts none is =
-    is ∙ ap (λ none. ledger_redundancy (losing s none) g) none ∙ ap (λ s. ledger_redundancy s g) (losing-none s)
-
-pub push_ledger-requires-clause-now : goal.push_ledger-requires-clause-now
-push_ledger-requires-clause-now c =
-    now_of c.args.state.now c.ledger-item.result c.new-nobody.result c.ledger_redundancy-before.result
-    c.new-nobody.ensures c.ledger_redundancy-before.ensures.counts
 
 pub loop-ledger-preserved : goal.loop-ledger-preserved
 loop-ledger-preserved c =
@@ -33,35 +19,29 @@ loop-ledger-preserved c =
     let n : ℕ = c.loop-ledger.ledger-index in
     let g : Ledger = c.ledger-item.result in
     let gs : List Ledger = c.ledgers-ledger-items.result.now in
-    let now : Ledger → Redundancy = ledger_redundancy s in
-    let without : Ledger → Redundancy = ledger_redundancy (losing s c.args.bookies) in
-    let before : c.ledger_redundancy-before.result ≡ now g =
-    now_of s g c.new-nobody.result c.ledger_redundancy-before.result
-    c.new-nobody.ensures c.ledger_redundancy-before.ensures.counts in
     let more : 1099511627776 * n + 1099511627776 ≤ 1099511627776 * (n + 1) = omega arith in
-    let within : (f : Ledger → Redundancy) → n < length (map f gs) = λ f.
-    omega (arith, c.loop-ledger-test.true, length-map gs f) in
-    let is : (f : Ledger → Redundancy) → get_or (map f gs) n (f g) ≡ f g = λ f.
-    get_or-map f gs n g (f g) c.loop-ledger-test.true ∙ ap f (sym c.ledger-item.is) in
+    let counted : (counts : Ledger → Redundancy) (sum one next : Redundancy) → sum ≡ sum_of (take n (map counts gs))
+    → one ≡ counts g → next ≡ sum_with sum one → next ≡ sum_of (take (n + 1) (map counts gs)) =
+    λ counts sum one next was same is_next.
+    let within : n < length (map counts gs) = omega (arith, c.loop-ledger-test.true, length-map gs counts) in
+    sum_of-next (map counts gs) n sum (counts g) one next is_next was same within
+    (get_or-map counts gs n g (counts g) c.loop-ledger-test.true ∙ ap counts (sym c.ledger-item.is)) in
     record {
       now =
-          c.plus-now.ensures
-          ∙ (λ i. sum_with (c.loop-ledger.invariant.now i) (before i))
-          ∙ sum_of-more (map now gs) n (now g) (within now) (is now);
+          counted (ledger_redundancy s) c.loop-ledger.now c.ledger_both-both.result.now c.plus-now.result
+          c.loop-ledger.invariant.now c.ledger_both-both.ensures.now c.plus-now.ensures;
       without =
-          c.plus-without.ensures
-          ∙ (λ i. sum_with (c.loop-ledger.invariant.without i) (c.ledger_redundancy-after.ensures.counts i))
-          ∙ sum_of-more (map without gs) n (without g) (within without) (is without);
+          counted (ledger_redundancy (losing s c.args.bookies)) c.loop-ledger.without
+          c.ledger_both-both.result.without c.plus-without.result c.loop-ledger.invariant.without
+          c.ledger_both-both.ensures.without c.plus-without.ensures;
       limit_now =
-          subst (λ (sum : Redundancy). AreAtMost (1099511627776 * (n + 1)) sum) (sym c.plus-now.ensures)
-          (AreAtMost-with (1099511627776 * n) 1099511627776 (1099511627776 * (n + 1)) c.loop-ledger.now
-          c.ledger_redundancy-before.result more
-          c.loop-ledger.invariant.limit_now c.ledger_redundancy-before.ensures.limit);
+          AreAtMost-next (1099511627776 * n) 1099511627776 (1099511627776 * (n + 1)) c.loop-ledger.now
+          c.ledger_both-both.result.now c.plus-now.result c.plus-now.ensures more c.loop-ledger.invariant.limit_now
+          c.ledger_both-both.ensures.limit_now;
       limit_without =
-          subst (λ (sum : Redundancy). AreAtMost (1099511627776 * (n + 1)) sum) (sym c.plus-without.ensures)
-          (AreAtMost-with (1099511627776 * n) 1099511627776 (1099511627776 * (n + 1)) c.loop-ledger.without
-          c.ledger_redundancy-after.result more
-          c.loop-ledger.invariant.limit_without c.ledger_redundancy-after.ensures.limit);
+          AreAtMost-next (1099511627776 * n) 1099511627776 (1099511627776 * (n + 1)) c.loop-ledger.without
+          c.ledger_both-both.result.without c.plus-without.result c.plus-without.ensures more
+          c.loop-ledger.invariant.limit_without c.ledger_both-both.ensures.limit_without;
       text =
           c.in_ok-push_ledger.ensures
           ∙ ap (λ (t : List ℕ). t ++ ledger_text s c.args.bookies g) c.loop-ledger.invariant.text

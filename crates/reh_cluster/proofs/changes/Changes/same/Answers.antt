@@ -12,5 +12,5 @@ use Rattle.reh_cluster.proofs.changes.Changes.same.Goals as goal
 pub returns : goal.returns
 returns c =
     told_by (slice_eq-Decides (changes_tell the_row ghosts no_dict tells_metadata) _ _ c.eq.result c.eq.ensures)
-    (λ same. sym c.self.view_is ∙ same ∙ c.other.view_is)
-    (λ same. c.self.view_is ∙ same ∙ sym c.other.view_is)
+    (λ same. sym c.as_slice.ensures.list ∙ same ∙ c.as_slice-2.ensures.list)
+    (λ same. c.as_slice.ensures.list ∙ same ∙ sym c.as_slice-2.ensures.list)

@@ -1,6 +1,10 @@
 -- The plan goes on by work alone.
+use Rattle.std.proofs.Common.{◌≡◌}
 use Rattle.reh_plan.specs.Plans.{Works}
 use Rattle.reh_plan.proofs.jobs.Job.work.Given as goal
 
 abbrev pub invariant-loop-gap : goal.invariant-loop-gap
-invariant-loop-gap l = Works l.fn.plan l.plan
+invariant-loop-gap l = record {
+  works : Works l.fn.workers l.fn.plan l.plan;
+  workers : l.workers ≡ l.fn.workers;
+}

@@ -17,5 +17,10 @@ invariant_of-self-in-Ok c =
 
 pub returns-in-Ok : goal.returns-in-Ok
 returns-in-Ok c =
-    made_by c.self.inside.session c.act.new.self c.state.result.now c.args.self.now c.self.inside.text.items
-    c.push_line.new.text.items c.args.event.now c.self.view_is c.state.ensures.replays c.in-Ok.ensures.answers
+    made_by c.self.inside.session c.act.new.self c.state-else-not-has_room.result.now c.args.self.now
+    c.self.inside.text.items c.push_line.new.text.items c.as_bytes-line.result.now c.args.event.now c.self.invariant
+    c.self.view_is c.state-else-not-has_room.ensures.replays
+    (c.if-not-asks_for.ensures.line refl)
+    (ap (λ (ns : List (List ℕ)). asked ns c.as_bytes-line.result.now) (sym c.names-else-not-has_room.ensures.names) ∙ c.if-not-asks_for.ensures.asked refl)
+    c.in_ok-push_line.ensures.ok
+    c.in-Ok.ensures.answers

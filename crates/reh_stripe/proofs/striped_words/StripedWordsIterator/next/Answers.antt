@@ -1,13 +1,13 @@
 -- Each call gives the next word, with a bit for each of the range's entries that the index carries.
 use Rattle.std.proofs.Common.{◌≡◌, ◌∙◌, ◌+◌, ◌*◌, ◌%◌, ◌^◌, ◌<◌, ◌&&◌, ℕ, Bool, true, false, List, ◌∷◌, map, length, refl, ap, sym, arith}
 use Rattle.std.specs.Prelude.{bit_and}
-use Rattle.std.proofs.Math.Nat.{mod-add-mod, add-mod-mod}
 use Rattle.std.proofs.lemmas.Nat.{mod_below, and_le_l}
 use Rattle.reh_model.specs.Striping.{is_striped, range}
 use Rattle.reh_model.proofs.StripingLaws.{range-cons}
 use Rattle.reh_stripe.specs.declared.words.Word.{Word}
 use Rattle.reh_stripe.specs.Words.{is_between, word_of}
 use Rattle.reh_stripe.specs.Left.{is_carried}
+use Rattle.reh_stripe.proofs.MaskLaws.{start-next}
 use Rattle.reh_stripe.proofs.WordLaws.{word_of-bits, has_bit-and}
 use Rattle.reh_stripe.proofs.striped_words.StripedWordsIterator.next.Goals as goal
 
@@ -53,7 +53,6 @@ pub invariant_of-self : goal.invariant_of-self
 invariant_of-self c =
     let s = c.self.inside in
     let is = c.self.invariant in
-    let more : 64 * s.number + 64 ≡ 64 * (s.number + 1) = omega arith in
     record {
       from = omega (arith, is.from);
       to = λ left. is.to (omega (arith, left));
@@ -61,9 +60,7 @@ invariant_of-self c =
       start =
           c.wrapped-self-inside.ensures
           ∙ (λ j. (is.start j + is.step j) % is.size j)
-          ∙ mod-add-mod (64 * s.number) s.masks.size (64 % s.masks.size)
-          ∙ add-mod-mod (64 * s.number) 64 s.masks.size
-          ∙ ap (λ n. n % s.masks.size) more;
+          ∙ start-next s.number 1 s.masks.size;
       step = is.step;
       size = is.size;
       some = is.some;

@@ -1,0 +1,48 @@
+-- What all of a plan's steps come to.
+use Rattle.std.proofs.Common.{◌≡◌, ◌∙◌, List, [], true, None, is_some, sym, ap, subst, true≢false}
+use Rattle.std.proofs.lemmas.List.Elements.{All-weaker}
+use Rattle.std.proofs.lemmas.List.Sums.{AllPass-from_list_all}
+use Rattle.std.specs.List.{list_all}
+use Rattle.reh_types.specs.declared.moves.Event.{Event}
+use Rattle.reh_types.specs.Sets as set
+use Rattle.reh_types.specs.Sets.{Set, numbers}
+use Rattle.reh_model.specs.Cluster.{Cluster}
+use Rattle.reh_script.specs.Answers.{asked}
+use Rattle.reh_plan.specs.Plans.{Draft, IsWithout, IsLeftLine, IsNaming, Loses, OnlyLeft, Works, is_by, is_all_by, is_all_asked}
+use Rattle.reh_plan.proofs.PlanLaws.{IsWithout-works}
+
+abbrev pub empty_draft : Cluster → Draft
+empty_draft s = record { opening = s; state = s; events = []; lines = [] }
+
+pub record IsPlanned (s : Cluster) (lost allowed : Set numbers) (n : Draft) : Type 0 where
+  pub opening : n.opening ≡ s
+  pub without : IsWithout s (set.contains lost) n.state
+  pub places : is_all_by allowed n ≡ true
+  pub only : OnlyLeft s.names n.state n.lines
+
+-- a plan without a comment
+only_commands : (d : Draft) → is_all_asked d ≡ true → OnlyLeft d.opening.names d.state d.lines
+only_commands d all =
+    All-weaker (λ line. is_some (asked d.opening.names line) ≡ true)
+    (λ line. asked d.opening.names line ≡ None → IsLeftLine d.state d.state.parts.ledgers line)
+    (λ line some none. absurd (true≢false (sym some ∙ ap is_some none)))
+    d.lines (AllPass-from_list_all (λ line. is_some (asked d.opening.names line)) d.lines all)
+
+-- bookies are lost, work is done, and what is left is named
+pub planned : (s : Cluster) (lost allowed : Set numbers) (l w n : Draft) → Loses (empty_draft s) (set.contains lost) l
+    → Works allowed l w → IsNaming w n → IsPlanned s lost allowed n
+planned s lost allowed l w n first then last =
+    let opening : w.opening ≡ s = then.opening ∙ first.opening in
+    let all : is_all_asked w ≡ true = then.commands ∙ first.commands in
+    record {
+      opening = last.opening ∙ opening;
+      without =
+          subst (λ (t : Cluster). IsWithout s (set.contains lost) t) (sym last.state)
+          (IsWithout-works s l.state w.state (set.contains lost) first.lost then.lost_at);
+      places =
+          ap (λ (events : List Event). list_all (is_by allowed) events) last.events
+          ∙ then.places ∙ first.places allowed;
+      only =
+          subst (λ (o : Cluster). OnlyLeft o.names n.state n.lines) (last.opening ∙ opening)
+          (last.only (only_commands w all));
+    }

@@ -1,0 +1,22 @@
+-- An open ledger is fenced first.
+use Rattle.std.proofs.Common.{refl}
+use Rattle.reh_types.specs.Sets.{Set, numbers}
+use Rattle.reh_plan.specs.Plans.{Draft, Works}
+use Rattle.reh_plan.proofs.PlanLaws.{works_done, works_same}
+use Rattle.reh_plan.proofs.jobs.Job.close.Goals as goal
+use Rattle.reh_plan.proofs.jobs.Job.close.Goals.{then-eq+in_ok-work, else-eq}
+
+pub returns : goal.returns
+returns c =
+    let allowed : Set numbers = c.args.workers.now in
+    let d : Draft = c.args.plan.now in
+    let fenced : Works allowed d c.if-eq.plan =
+    elim c.if-eq.branch [
+      | then-eq+in_ok-work w ↦
+          works_same allowed d w.work.new.self c.if-eq.plan w.plan-is
+          (works_done allowed d c.lock.new.plan w.work.new.self _ w.work.result w.work.ensures.ok w.work.ensures.err refl
+          refl c.lock.ensures.works)
+      | else-eq w ↦ works_same allowed d c.lock.new.plan c.if-eq.plan w.plan-is c.lock.ensures.works
+    ] in
+    works_done allowed d c.if-eq.plan c.work-2.new.self _ c.work-2.result c.work-2.ensures.ok c.work-2.ensures.err refl
+    refl fenced

@@ -1,0 +1,57 @@
+-- What the steps come to.
+use Rattle.std.proofs.Common.{◌≡◌, Some, subst}
+use Rattle.reh_types.specs.Sets as set
+use Rattle.reh_types.specs.Sets.{Set, numbers}
+use Rattle.reh_model.specs.Book.{new_book}
+use Rattle.reh_model.specs.Cluster.{Cluster}
+use Rattle.reh_model.specs.Session.{replay, opened_session}
+use Rattle.reh_script.specs.Transcript.{starting, transcript}
+use Rattle.reh_plan.specs.Plans.{Asks, Draft, Loses, Works}
+use Rattle.reh_plan.specs.Replies.{ok_answers}
+use Rattle.reh_plan.proofs.PlanLaws.{works_on}
+use Rattle.reh_plan.proofs.Planned.{IsPlanned, planned}
+use Rattle.reh_plan.proofs.planning.plan.Goals as goal
+
+all_of : (c : goal.After-drop-workers-inside-2) → IsPlanned c.args.state c.args.lost.now c.args.allowed.now c.leave_all.new.plan
+all_of c =
+    let l : Draft = c.lose_all.new.plan in
+    let p : Draft = c.publish.new.plan in
+    let g : Draft = c.grant_all.new.plan in
+    let w : Draft = c.work_all.new.plan in
+    let some : Set numbers = c.in_ok-workers.workers in
+    let worked : Works some l w =
+    works_on some l g w c.work_all.ensures (works_on some l p g c.grant_all.ensures (c.publish.ensures some)) in
+    planned c.args.state c.args.lost.now c.args.allowed.now l w c.leave_all.new.plan
+    (subst (λ (b : Draft). Loses b (set.contains c.args.lost.now) l) c.in_ok-plan.ensures c.in_ok-lose_all.ensures)
+    (subst (λ (a : Set numbers). Works a l w) c.in_ok-workers.ensures worked)
+    c.in_ok-leave_all.ensures
+
+pub returns-clause-opening : goal.returns-clause-opening
+returns-clause-opening c = (all_of c).opening
+
+pub returns-clause-asks : goal.returns-clause-asks
+returns-clause-asks c =
+    subst (λ (s : Cluster). Asks s.names c.leave_all.new.plan.lines c.leave_all.new.plan.events) (all_of c).opening
+    c.text-checked.ensures.asks
+
+pub returns-clause-accepted : goal.returns-clause-accepted
+returns-clause-accepted c =
+    subst (λ (s : Cluster). replay s c.leave_all.new.plan.events ≡ Some c.leave_all.new.plan.state) (all_of c).opening
+    c.text-checked.ensures.accepted
+
+pub returns-clause-replies : goal.returns-clause-replies
+returns-clause-replies c =
+    subst
+    (λ (s : Cluster).
+    transcript s.names 0 (starting (new_book (opened_session s))) 1 c.leave_all.new.plan.lines
+    ≡ ok_answers s.names 1 c.leave_all.new.plan.lines)
+    (all_of c).opening c.text-checked.ensures.replies
+
+pub returns-clause-lost : goal.returns-clause-lost
+returns-clause-lost c = (all_of c).without
+
+pub returns-clause-places : goal.returns-clause-places
+returns-clause-places c = (all_of c).places
+
+pub returns-clause-only : goal.returns-clause-only
+returns-clause-only c = (all_of c).only
