@@ -4,6 +4,7 @@ ghost use Rattle.std.specs.Prelude.{◌≡◌, ◌↔◌, IfOk, IsTrue};
 use crate::names::{Aim, BookieIx};
 use std::alloc::{AllocError, Global};
 use std::marker::Model;
+use std::sync::Arc;
 
 /// The members of an ensemble, by their indexes; contracts see the list.
 #[derive(Drop)]
@@ -139,9 +140,11 @@ impl Content {
 }
 
 /// A content behind a pointer, by which moves, calls and the lines of a tape are small; contracts see the content.
+///
+/// Copies share the content, which nobody changes.
 #[derive(Drop)]
 pub struct BoxedContent {
-    content: Box<Content>,
+    content: Arc<Content>,
 }
 
 impl Model for BoxedContent {
@@ -157,7 +160,7 @@ impl BoxedContent {
     pub fn of(alloc: Global, content: Content) -> Result<BoxedContent, AllocError>
         ensures { IfOk result (λ boxed. boxed ≡ content) }
     {
-        let content = Box::new(alloc, content)?;
+        let content = Arc::new(alloc, content)?;
         Ok(BoxedContent { content })
     }
 
@@ -168,12 +171,12 @@ impl BoxedContent {
         &self.content
     }
 
-    /// A copy.
+    /// A copy, which takes no memory: an error says that there are too many of them to count.
     pub fn clone_in(&self) -> Result<BoxedContent, AllocError>
         ensures { IfOk result (λ copy. copy ≡ self.now) }
     {
-        let alloc = *self.content.ensemble.items.allocator();
-        BoxedContent::of(alloc, self.content.clone_in()?)
+        let content = self.content.clone()?;
+        Ok(BoxedContent { content })
     }
 
     /// Whether both are the same content.
