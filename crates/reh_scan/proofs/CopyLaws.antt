@@ -116,18 +116,18 @@ members-few s l f g fragment well_formed there is = λ k d inside.
 
 -- Sources of words
 
-zip-nil : (ys : List ℕ) (zs : List (Option ℕ)) → zs ≡ [] → zip ys zs ≡ []
+pub zip-nil : (ys : List ℕ) (zs : List (Option ℕ)) → zs ≡ [] → zip ys zs ≡ []
 zip-nil [] [] is = refl
 zip-nil (y ∷ ys) [] is = refl
 zip-nil ys (z ∷ zs) is = cc
 
-zip-append : (xs ys : List ℕ) (zs : List (Option ℕ)) → zip (xs ++ ys) zs ≡ zip xs zs ++ zip ys (drop (length xs) zs)
+pub zip-append : (xs ys : List ℕ) (zs : List (Option ℕ)) → zip (xs ++ ys) zs ≡ zip xs zs ++ zip ys (drop (length xs) zs)
 zip-append [] ys zs = refl
 zip-append (x ∷ xs) ys [] = sym (zip-nil ys [] refl)
 zip-append (x ∷ xs) ys (z ∷ zs) = ap (λ ps. (x, z) ∷ ps) (zip-append xs ys zs)
 
 -- the first reason of two lists, one behind the other, comes from the first where it gives one
-first_reason-append : (checks later : List (Option Refusal))
+pub first_reason-append : (checks later : List (Option Refusal))
     → first_reason (checks ++ later) ≡ option_or (first_reason checks) (first_reason later)
 first_reason-append [] later = refl
 first_reason-append (None ∷ checks) later = first_reason-append checks later

@@ -103,7 +103,7 @@ find-mapped p f (x ∷ xs) =
     ]
 
 -- tests that give the same answers below a size find the same
-find-below : (p q : ℕ → Bool) (size : ℕ) → ((i : ℕ) → i < size → p i ≡ q i) → (is : List ℕ) → All (λ i. i < size) is
+pub find-below : (p q : ℕ → Bool) (size : ℕ) → ((i : ℕ) → i < size → p i ≡ q i) → (is : List ℕ) → All (λ i. i < size) is
     → find p is ≡ find q is
 find-below p q size same [] within = refl
 find-below p q size same (i ∷ is) within =
@@ -111,7 +111,7 @@ find-below p q size same (i ∷ is) within =
     ∙ ap (λ found. cond (q i) (Some i) found) (find-below p q size same is (All-tail (λ j. j < size) i is within))
 
 -- changes that are the same where a condition holds
-map-where : {X Y : Type 0} (P : X → Type 0) (f g : X → Y) → ((x : X) → P x → f x ≡ g x) → (xs : List X) → All P xs
+pub map-where : {X Y : Type 0} (P : X → Type 0) (f g : X → Y) → ((x : X) → P x → f x ≡ g x) → (xs : List X) → All P xs
     → map f xs ≡ map g xs
 map-where P f g same [] each = refl
 map-where P f g same (x ∷ xs) each =

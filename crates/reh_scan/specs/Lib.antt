@@ -1,3 +1,4 @@
+pub mod Blocks
 pub mod Costs
 pub mod Jobs
 pub mod Places

@@ -9,8 +9,10 @@ ghost use Rattle.reh_model.specs.Scan.{aim_refusal, scan};
 ghost use Rattle.reh_model.specs.Striping.{striped_entries};
 ghost use Rattle.reh_stripe.specs.Words.{entries_in, has_bit};
 ghost use Rattle.reh_scan.specs.Jobs.{AreCopies, IsReadingOf, IsReading, source_in};
+ghost use Rattle.reh_scan.specs.Sources.{is_set_at};
 
-use crate::sources::source_row;
+use crate::blocks::{MOST_ENTRIES, block_end, repeats};
+use crate::sources::{Rows, source_row};
 use reh_cluster::{Ledger, State};
 use reh_meta::Fragment;
 use reh_stripe::{Round, Striped, Word, WordEntries, word_at};
@@ -173,7 +175,7 @@ pub fn look(alloc: Global, job: &Job) -> Result<Content, AllocError>
 
 /// The source of each entry that the fragment stripes onto the index.
 ///
-/// It goes by words of 64 entries: of each the members' words are read once.
+/// It goes by blocks: where the members' words are those of the block before, the sources are, too.
 fn find_sources(
     alloc: Global,
     reading: &Reading,
@@ -183,17 +185,66 @@ fn find_sources(
     ensures { IfOk result (λ sources. sources.items ≡ map (source_in reading.now)
         (striped_entries reading.now.first reading.now.stop index reading.now.size reading.now.write_quorum)) }
 {
-    let entries = Striped::new(
-        reading.first,
-        reading.stop,
-        index,
-        reading.size,
-        reading.write_quorum,
-    );
+    let rows = rows_of(reading);
     let round = Round::new(reading.size);
-    let mut sources = Vec::with_capacity(alloc, entries.len())?;
+    let number = reading.first / 64;
+    let mut sources = Vec::with_capacity(
+        alloc,
+        stripe(reading, index, reading.first, reading.stop).len(),
+    )?;
+    let mut block = Vec::new(alloc);
+    let mut before = reading.first;
+    let mut from = reading.first;
+    while from < reading.stop {
+        let end = block_end(from, reading.stop, reading.size);
+        if !repeats(&rows, reading.size, number, before, from, end) {
+            block = block_sources(alloc, reading, &round, stripe(reading, index, from, end))?;
+        }
+        sources.extend_from_slice(&block)?;
+        before = from;
+        from = end;
+    }
+    Ok(sources)
+}
+
+/// The words of the members by their indexes, as slices.
+fn rows_of<'a>(reading: &'a Reading) -> Rows<'a>
+    requires { IsReading reading.now }
+    ensures { (index entry : ℕ) → index < reading.now.size → is_set_at result entry index
+        ≡ is_set (slice_index_or reading.now.rows.items index []) entry }
+{
+    let mut rows: Rows<'a> = [&[]; MAX_ENSEMBLE_SIZE as usize];
+    for index in 0..reading.size as usize {
+        rows[index] = &reading.rows[index].items;
+    }
+    rows
+}
+
+/// The entries from the first up to, not including, the stop that the fragment stripes onto the index.
+fn stripe(reading: &Reading, index: u32, first: u32, stop: u32) -> Striped
+    requires { IsReading reading.now }
+    ensures { result ≡ striped_entries first stop index reading.now.size reading.now.write_quorum }
+{
+    Striped::new(first, stop, index, reading.size, reading.write_quorum)
+}
+
+/// The source of each of these entries.
+///
+/// It goes by words of 64 entries: of each the members' words are read once.
+fn block_sources(
+    alloc: Global,
+    reading: &Reading,
+    round: &Round,
+    entries: Striped,
+) -> Result<Vec<Option<BookieIx>>, AllocError>
+    requires reading { IsReading reading.now }
+    requires round { round.now ≡ reading.now.size }
+    requires from { All (λ entry. reading.now.first ≤ entry) entries }
+    ensures { IfOk result (λ sources. sources.items ≡ map (source_in reading.now) entries) }
+{
+    let mut sources = Vec::with_capacity(alloc, MOST_ENTRIES)?;
     for word in entries.words() {
-        push_sources(&mut sources, reading, &round, word)?;
+        push_sources(&mut sources, reading, round, word)?;
     }
     Ok(sources)
 }

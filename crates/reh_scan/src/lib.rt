@@ -1,6 +1,7 @@
 // What a worker finds for a place of a fragment, and whether it can be posted.
 #![tactic(auto)]
 
+mod blocks;
 mod costs;
 mod jobs;
 mod laws;

@@ -1,6 +1,6 @@
 // Whether what a worker found can be posted.
 ghost use Rattle.std.specs.Prelude.{◌≡◌, ℕ, ◌+◌, ◌*◌, ◌^◌, ◌<◌, ◌&&◌, ◌==◌, false, length, map, All, Some, slice_get};
-ghost use Rattle.std.specs.Prelude.{MatchOption, slice_index};
+ghost use Rattle.std.specs.Prelude.{IsTrue, MatchOption, min, slice_index, take, ◌≤◌};
 ghost use Rattle.std.specs.List.{list_any, zip};
 ghost use Rattle.reh_types.specs.declared.limits.TheConstants.{MAX_BOOKIES};
 ghost use Rattle.reh_model.specs.Checks.{first_reason};
@@ -11,9 +11,10 @@ ghost use Rattle.reh_model.specs.Scan.{is_as_seen, lost_source, post_refusal};
 ghost use Rattle.reh_model.specs.Striping as stripe;
 ghost use Rattle.reh_model.specs.Striping.{striped_entries};
 ghost use Rattle.reh_stripe.specs.Words.{entries_in, has_bit};
-ghost use Rattle.reh_scan.specs.Posts.{IsSeen, is_copy_at, lost_bit};
+ghost use Rattle.reh_scan.specs.Posts.{IsSeen, is_copy_at, lost_bit, lost_copy};
 ghost use Rattle.reh_scan.specs.Sources.{sizes_of};
 
+use crate::blocks::{block_end, repeats};
 use crate::places::{check_member, find_owned};
 use crate::sources::{Rows, masks_of, source_rows};
 use reh_cluster::{Ledger, State};
@@ -80,19 +81,22 @@ fn entries_of(metadata: &LedgerMeta, content: &Content) -> Striped
         metadata.now.size metadata.now.write_quorum }
     ensures few { length result < 2 ^ 32 }
 {
+    stripe(metadata, content.aim.index, content.first, content.stop)
+}
+
+/// The entries from the first up to, not including, the stop that a fragment of the ledger stripes onto the index.
+fn stripe(metadata: &LedgerMeta, index: u64, first: u32, stop: u32) -> Striped
+    requires { index < metadata.now.size }
+    ensures entries { result ≡ striped_entries first stop index metadata.now.size metadata.now.write_quorum }
+    ensures few { length result < 2 ^ 32 }
+{
     let size = metadata.size();
-    Striped::new(
-        content.first,
-        content.stop,
-        content.aim.index as u32,
-        size,
-        metadata.write_quorum(),
-    )
+    Striped::new(first, stop, index as u32, size, metadata.write_quorum())
 }
 
 /// Whether each entry can still be copied from the source that is named for it.
 ///
-/// It goes by words of 64 entries: of each the members' rows are read once.
+/// It goes by blocks: one with the sources of the block before, where the members' rows are as there, needs no look.
 fn check_sources(
     state: &State,
     ledger: &Ledger,
@@ -107,16 +111,64 @@ fn check_sources(
         ledger.now.metadata.size ledger.now.metadata.write_quorum) content.now.sources))) }
 {
     let metadata = ledger.metadata();
+    let size = metadata.size();
     let rows = source_rows(state, ledger, fragment);
     let masks = masks_of(metadata);
     let mut sources = content.sources.as_slice();
-    for word in entries_of(metadata, content).words() {
-        let copies = copies_of(&rows, &masks, metadata, fragment, word.number);
-        check_word(&copies, word, sources)?;
-        let checked = (word.bits.count_ones() as usize).min(sources.len());
-        sources = &sources[checked..];
+    let mut block = &sources[..0];
+    let mut before = content.first;
+    let mut from = content.first;
+    while from < content.stop {
+        let end = block_end(from, content.stop, size);
+        let count = if repeats(&rows, size, 0, before, from, end) && begins_with(sources, block) {
+            block.len()
+        } else {
+            let entries = stripe(metadata, content.aim.index, from, end);
+            check_block(&rows, &masks, metadata, fragment, entries, sources)?
+        };
+        let (here, behind) = sources.split_at(count);
+        block = here;
+        sources = behind;
+        before = from;
+        from = end;
     }
     Ok(())
+}
+
+/// Whether the sources begin with those of a block.
+fn begins_with(sources: &[Option<BookieIx>], block: &[Option<BookieIx>]) -> bool
+    ensures bound { IsTrue result → length block.now ≤ length sources.now }
+    ensures same { IsTrue result → take (length block.now) sources.now ≡ block.now }
+{
+    block.len() <= sources.len() && &sources[..block.len()] == block
+}
+
+/// How many sources are those of the entries, if each entry can be copied from the source that is named for it.
+///
+/// It goes by words of 64 entries: of each the members' rows are read once.
+fn check_block(
+    rows: &Rows<'_>,
+    masks: &Masks,
+    metadata: &LedgerMeta,
+    fragment: &Fragment,
+    entries: Striped,
+    sources: &[Option<BookieIx>],
+) -> Result<usize, Refusal>
+    requires ensemble { length fragment.now.ensemble ≡ metadata.now.size }
+    requires members { All (λ member. member < MAX_BOOKIES) fragment.now.ensemble }
+    requires masks { masks.now ≡ sizes_of metadata.now }
+    ensures { Finds result
+        (first_reason (map (lost_copy rows.now metadata.now fragment.now) (zip entries sources.now)))
+        (λ count. count ≡ min (length entries) (length sources.now)) }
+{
+    let mut rest = sources;
+    for word in entries.words() {
+        let copies = copies_of(rows, masks, metadata, fragment, word.number);
+        check_word(&copies, word, rest)?;
+        let checked = (word.bits.count_ones() as usize).min(rest.len());
+        rest = &rest[checked..];
+    }
+    Ok(sources.len() - rest.len())
 }
 
 /// For each bookie which entries of a word can be copied from it.
