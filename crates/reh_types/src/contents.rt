@@ -171,7 +171,7 @@ impl BoxedContent {
         &self.content
     }
 
-    /// A copy, which takes no memory: an error says that there are too many of them to count.
+    /// A copy, which shares the content and takes no memory. It fails only where there are 2^63 copies.
     pub fn clone_in(&self) -> Result<BoxedContent, AllocError>
         ensures { IfOk result (λ copy. copy ≡ self.now) }
     {
