@@ -14,7 +14,7 @@ pub const MOST_ENTRIES: usize = 64 * MAX_ENSEMBLE_SIZE as usize;
 
 /// How many words of 64 entries a block has: up to sixteen, and as often as many as the ensemble has members, so that
 /// the write sets of one block's entries are those of the next one's.
-pub fn words_of(size: u32) -> u32
+fn words_of(size: u32) -> u32
     requires some { 1 ≤ size }
     requires small { size ≤ MAX_ENSEMBLE_SIZE }
     ensures { result ≡ words_of_block size }
@@ -49,7 +49,7 @@ pub fn repeats(rows: &Rows<'_>, size: u32, number: u32, first: u32, middle: u32,
         && do_rows_repeat(rows, size, (middle / 64 - number) as usize, words as usize)
 }
 
-/// Whether each row has as many words from that place on as before it, and the same.
+/// Whether in each row so many words from that place on are the same as those right before it.
 fn do_rows_repeat(rows: &Rows<'_>, size: u32, place: usize, count: usize) -> bool
     requires small { size ≤ MAX_ENSEMBLE_SIZE }
     requires before { count ≤ place }
@@ -65,7 +65,7 @@ fn do_rows_repeat(rows: &Rows<'_>, size: u32, place: usize, count: usize) -> boo
     true
 }
 
-/// Whether so many words of the row from that place on are those before it.
+/// Whether in the row so many words from that place on are the same as those right before it.
 fn does_row_repeat(row: &[u64], place: usize, count: usize) -> bool
     requires before { count ≤ place }
     requires place { place < 2 ^ 32 }
