@@ -1,13 +1,15 @@
 -- What a post asks of the fragment and of the sources.
 use Rattle.std.proofs.Common.{◌≡◌, ◌∙◌, ℕ, ◌-◌, ◌≤◌, ◌<◌, ◌&&◌, ◌||◌, Bool, true, false, not, List, [], ◌∷◌, map}
 use Rattle.std.proofs.Common.{length, Option, None, Some, All, Bor, refl, ap, sym, slice_index, nat_lt, arith}
-use Rattle.std.specs.Prelude.{◌==◌}
+use Rattle.std.specs.Prelude.{◌==◌, ◌+◌, ◌%◌, bit_or, bit_xor, max}
+use Rattle.std.specs.Int.{bit_at}
 use Rattle.std.specs.List.{list_any, zip}
 use Rattle.std.specs.Option.{option_or}
 use Rattle.std.proofs.lemmas.Bool.Decides.{nat_tests}
 use Rattle.std.proofs.lemmas.List.Elements.{All-head, All-tail}
 use Rattle.std.proofs.lemmas.List.FromFn.{length-range_with_len}
 use Rattle.std.proofs.lemmas.List.Sums.{count_by-le-length, length-filter}
+use Rattle.std.proofs.lemmas.Nat.Bits.{bit_at-lt, bit_at-zero, bit_at_or, bit_at_xor, same_from_bits}
 use Rattle.reh_types.specs.declared.contents.Content.{Content}
 use Rattle.reh_types.specs.declared.refusals.Refusal.{Refusal}
 use Rattle.reh_types.specs.declared.refusals.Refusal.TheVariants.{NoIndex, SourceGone, Stale}
@@ -150,3 +152,13 @@ source_checks-found s content g fragment reason inside is =
     ∷ target_is_member fragment content.aim.worker ∷ [])
     (lost_sources s content g fragment ∷ []) reason
     (sym (member_checks s content g fragment inside) ∙ is)
+
+-- the bits in which two numbers differ, and others: there is none where there is no other and the numbers are the same
+pub none_differing : (others a b : ℕ) → bit_or others (bit_xor a b) ≡ 0 → (others ≡ 0) × (a ≡ b)
+none_differing others a b none =
+    let clear : (i : ℕ) → max (bit_at others i) ((bit_at a i + bit_at b i) % 2) ≡ 0 =
+    λ i. ap (max (bit_at others i)) (sym (bit_at_xor a b i)) ∙ sym (bit_at_or others (bit_xor a b) i)
+    ∙ ap (λ n. bit_at n i) none ∙ bit_at-zero i in (
+      same_from_bits others 0 (λ i. omega (arith, clear i, bit_at-zero i)),
+      same_from_bits a b (λ i. omega (arith, clear i, bit_at-lt a i, bit_at-lt b i)),
+    )

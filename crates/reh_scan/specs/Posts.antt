@@ -1,6 +1,6 @@
 -- When the sources that a content names can still be used.
 use Rattle.std.specs.Prelude.{◌≡◌, ℕ, ◌%◌, ◌<◌, Bool, true, not, ◌&&◌, ◌==◌, List, length, Option, None, Some, slice_get}
-use Rattle.std.specs.Prelude.{slice_index}
+use Rattle.std.specs.Prelude.{slice_index, nat_lt, if◌then◌else◌}
 use Rattle.std.specs.Borrow.{Bor}
 use Rattle.std.specs.List.{list_any}
 use Rattle.reh_types.specs.declared.contents.Content.{Content}
@@ -39,3 +39,7 @@ abbrev pub lost_bit : List ℕ → ℕ × Option ℕ → Option Refusal
 lost_bit copies (entry, None) = Some (NoSource entry)
 lost_bit copies (entry, Some bookie) =
     reason_if (not (has_bit (slice_index copies bookie) (entry % 64))) (SourceGone entry)
+
+-- the source that a number stands for: a bookie is its own number, none is one past a byte
+abbrev pub source_of : ℕ → Option ℕ
+source_of number = if nat_lt number 256 then Some number else None

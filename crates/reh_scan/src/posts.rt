@@ -11,7 +11,7 @@ ghost use Rattle.reh_model.specs.Scan.{is_as_seen, lost_source, post_refusal};
 ghost use Rattle.reh_model.specs.Striping as stripe;
 ghost use Rattle.reh_model.specs.Striping.{striped_entries};
 ghost use Rattle.reh_stripe.specs.Words.{entries_in, has_bit};
-ghost use Rattle.reh_scan.specs.Posts.{IsSeen, is_copy_at, lost_bit, lost_copy};
+ghost use Rattle.reh_scan.specs.Posts.{IsSeen, is_copy_at, lost_bit, lost_copy, source_of};
 ghost use Rattle.reh_scan.specs.Sources.{sizes_of};
 
 use crate::blocks::{block_end, repeats};
@@ -140,7 +140,30 @@ fn begins_with(sources: &[Option<BookieIx>], block: &[Option<BookieIx>]) -> bool
     ensures bound { IsTrue result → length block.now ≤ length sources.now }
     ensures same { IsTrue result → take (length block.now) sources.now ≡ block.now }
 {
-    block.len() <= sources.len() && &sources[..block.len()] == block
+    block.len() <= sources.len() && are_same(&sources[..block.len()], block)
+}
+
+/// Whether both are the same sources. It goes through all of them, without a way out, so that many can be compared at
+/// once.
+fn are_same(sources: &[Option<BookieIx>], others: &[Option<BookieIx>]) -> bool
+    requires { length sources.now ≡ length others.now }
+    ensures { IsTrue result → sources.now ≡ others.now }
+{
+    let mut differing = 0;
+    for index in 0..sources.len() {
+        differing |= code_of(sources[index]) ^ code_of(others[index]);
+    }
+    differing == 0
+}
+
+/// A number for the source: the bookie's own, or the one past them all.
+fn code_of(source: Option<BookieIx>) -> u16
+    ensures { source ≡ source_of result }
+{
+    match source {
+        Some(bookie) => bookie.0 as u16,
+        None => 256,
+    }
 }
 
 /// How many sources are those of the entries, if each entry can be copied from the source that is named for it.
