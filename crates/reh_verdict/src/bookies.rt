@@ -1,34 +1,35 @@
 // The bookies that words name.
-ghost use Rattle.std.specs.Prelude.{◌≡◌, ◌<◌, not, IfErr, IfOk, length};
+ghost use Rattle.std.specs.Prelude.{◌≡◌, ◌<◌, not, IfErr, IfOk, is_some, length, position};
+ghost use Rattle.std.specs.List.{list_any};
 ghost use Rattle.reh_types.specs.declared.limits.TheConstants.{MAX_BOOKIES};
 ghost use Rattle.reh_types.specs.Sets as set;
-ghost use Rattle.reh_verdict.specs.Bookies.{AreNamed, IsMisnamed};
+ghost use Rattle.reh_model.specs.Cluster.{bookie_named};
+ghost use Rattle.reh_verdict.specs.Bookies.{AreNamed, IsNamedTwice, has_bookie};
 
+use crate::judged::Judged;
 use reh_cluster::Names;
 use reh_types::{BookieIx, BookieSet};
 
-/// Why words name no set of bookies; each has the number of a word, from 0.
+/// A word names a bookie that a word before it names.
 #[derive(Clone, Copy, PartialEq, Eq, Debug)]
-pub enum NameFault {
-    /// There is no bookie of this name.
-    Unknown(usize),
-    /// A word before this one has the same name.
-    Twice(usize),
+pub struct NamedTwice {
+    /// The number of the word, from 0.
+    pub word: usize,
 }
 
-/// The bookies that these words name, or the first word that names none, or one that is named already.
-pub fn find_bookies(names: &Names, words: &[&str]) -> Result<BookieSet, NameFault>
+/// The bookies that these words name, or the first word that names one again. Words that name none are passed over.
+pub fn find_bookies(names: &Names, words: &[&str]) -> Result<BookieSet, NamedTwice>
     ensures named { IfOk result (λ bookies. AreNamed names.now words.now bookies) }
-    ensures fault { IfErr result (IsMisnamed names.now words.now) }
+    ensures fault { IfErr result (λ fault. IsNamedTwice names.now words.now fault.word) }
 {
     let _limit = names.len();
     let mut bookies = BookieSet::new();
     for number in 0..words.len() {
         let Some(bookie) = names.find(words[number].as_bytes()) else {
-            return Err(NameFault::Unknown(number));
+            continue;
         };
         if !add(&mut bookies, bookie) {
-            return Err(NameFault::Twice(number));
+            return Err(NamedTwice { word: number });
         }
     }
     Ok(bookies)
@@ -43,4 +44,32 @@ fn add(bookies: &mut BookieSet, bookie: BookieIx) -> bool
     let is_new = !bookies.contains(bookie);
     bookies.insert(bookie);
     is_new
+}
+
+/// The first word that names no bookie, if there is one.
+pub fn first_unknown(names: &Names, words: &[&str]) -> Option<usize>
+    ensures { result ≡ position (λ word. not (is_some (bookie_named names.now word.now))) words.now }
+{
+    words.iter().position(|word| !has(names, word))
+}
+
+/// The first word that names no bookie of any picture, if there is one.
+pub fn first_unknown_to_all(judged: &[Judged], words: &[&str]) -> Option<usize>
+    ensures { result ≡ position (λ word. not (list_any (has_bookie word) judged.now)) words.now }
+{
+    words.iter().position(|word| !any_has(judged, word))
+}
+
+/// Whether some picture has a bookie of that name.
+fn any_has(judged: &[Judged], word: &str) -> bool
+    ensures { result ≡ list_any (has_bookie word.entry) judged.now }
+{
+    judged.iter().any(|one| has(&one.names, word))
+}
+
+/// Whether there is a bookie of that name.
+fn has(names: &Names, word: &str) -> bool
+    ensures { result ≡ is_some (bookie_named names.now word.now) }
+{
+    names.find(word.as_bytes()).is_some()
 }

@@ -8,6 +8,6 @@ mod pictures;
 mod texts;
 
 pub use answers::{Answer, MAX_PICTURES, answer_over, status_of};
-pub use bookies::{NameFault, find_bookies};
+pub use bookies::{NamedTwice, find_bookies, first_unknown, first_unknown_to_all};
 pub use judged::Judged;
 pub use pictures::{JudgeFault, judge_picture};

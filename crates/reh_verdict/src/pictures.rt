@@ -3,7 +3,7 @@ ghost use Rattle.reh_picture.specs.Pictures.{picture_of};
 ghost use Rattle.reh_picture.specs.Places.{located_of};
 ghost use Rattle.reh_verdict.specs.Judging.{JudgesPicture};
 
-use crate::bookies::{NameFault, find_bookies};
+use crate::bookies::{NamedTwice, find_bookies};
 use crate::judged::{Judged, judge};
 use reh_picture::{LocatedFault, PictureFault, check_picture};
 use std::alloc::{AllocError, Global};
@@ -13,8 +13,8 @@ use std::alloc::{AllocError, Global};
 pub enum JudgeFault {
     /// It is refused.
     Refused(LocatedFault),
-    /// A word names none of its bookies, or one that is named already.
-    Misnamed(NameFault),
+    /// A word names one of its bookies again.
+    Twice(NamedTwice),
     /// There is no memory.
     NoMemory,
 }
@@ -30,14 +30,14 @@ impl From<AllocError> for JudgeFault {
     }
 }
 
-impl From<NameFault> for JudgeFault {
+impl From<NamedTwice> for JudgeFault {
     ghost use Rattle.std.specs.Prelude.{◌≡◌};
-    ghost use Rattle.reh_verdict.specs.declared.pictures.JudgeFault.TheVariants.{Misnamed};
+    ghost use Rattle.reh_verdict.specs.declared.pictures.JudgeFault.TheVariants.{Twice};
 
-    ghost from_gives = { λ name fault. fault ≡ Misnamed name };
+    ghost from_gives = { λ again fault. fault ≡ Twice again };
 
-    fn from(fault: NameFault) -> JudgeFault {
-        JudgeFault::Misnamed(fault)
+    fn from(again: NamedTwice) -> JudgeFault {
+        JudgeFault::Twice(again)
     }
 }
 
@@ -55,8 +55,9 @@ impl From<LocatedFault> for JudgeFault {
     }
 }
 
-/// Judges a picture without the bookies that these words name. It fails by the picture's first fault, with its place, or
-/// by the first word that names none of its bookies, or one that a word before it names.
+/// Judges a picture without those of its bookies that these words name. It fails by the picture's first fault, with its
+/// place, or by the first word that names a bookie which a word before it names. Words that name no bookie of this
+/// picture change nothing here (`first_unknown_to_all` finds those that name none of any).
 pub fn judge_picture(alloc: Global, picture: &[u8], words: &[&str]) -> Result<Judged, JudgeFault>
     ensures { JudgesPicture (picture_of picture.now) (located_of picture.now) words.now result }
 {

@@ -1,32 +1,30 @@
 // Bookies that words of the command line name.
 use crate::faults::RunFault;
-use reh_verdict::NameFault;
 use std::alloc::{AllocError, Global};
 
-/// That one of these words names no bookie of the picture in a file, or one that is named already; or want of memory.
-pub(crate) fn misnamed(alloc: Global, path: &str, words: &[&str], fault: NameFault) -> RunFault {
-    match misnamed_text(alloc, path, words, fault) {
-        Ok(text) => RunFault::Misnamed(text),
-        Err(want) => RunFault::from(want),
-    }
+/// That the word of this number names no bookie of the picture in a file; or want of memory.
+pub(crate) fn unknown(alloc: Global, path: &str, words: &[&str], number: usize) -> RunFault {
+    let name = name_at(words, number);
+    misnamed(format!(in alloc; "{path} has no bookie '{name}'"))
 }
 
-/// What is wrong with the words.
-fn misnamed_text(
-    alloc: Global,
-    path: &str,
-    words: &[&str],
-    fault: NameFault,
-) -> Result<String, AllocError> {
-    match fault {
-        NameFault::Unknown(number) => {
-            let name = name_at(words, number);
-            format!(in alloc; "{path} has no bookie '{name}'")
-        }
-        NameFault::Twice(number) => {
-            let name = name_at(words, number);
-            format!(in alloc; "bookie '{name}' is named twice")
-        }
+/// That the word of this number names no bookie of any picture; or want of memory.
+pub(crate) fn unknown_to_all(alloc: Global, words: &[&str], number: usize) -> RunFault {
+    let name = name_at(words, number);
+    misnamed(format!(in alloc; "no picture has a bookie '{name}'"))
+}
+
+/// That the word of this number names a bookie which a word before it names; or want of memory.
+pub(crate) fn named_twice(alloc: Global, words: &[&str], number: usize) -> RunFault {
+    let name = name_at(words, number);
+    misnamed(format!(in alloc; "bookie '{name}' is named twice"))
+}
+
+/// The fault with this text.
+fn misnamed(text: Result<String, AllocError>) -> RunFault {
+    match text {
+        Ok(text) => RunFault::Misnamed(text),
+        Err(want) => RunFault::from(want),
     }
 }
 

@@ -1,12 +1,12 @@
 // What is to be done without some bookies, planned from the file of a picture.
 use crate::checks::read_picture_file;
 use crate::faults::RunFault;
-use crate::names::misnamed;
+use crate::names::{named_twice, unknown};
 use reh_cluster::Names;
 use reh_picture::check_picture;
 use reh_plan::{PlanFault, plan};
 use reh_types::{BookieIx, BookieSet, MAX_BOOKIES};
-use reh_verdict::find_bookies;
+use reh_verdict::{find_bookies, first_unknown};
 use std::alloc::Global;
 use std::io;
 use std::io::Write;
@@ -50,7 +50,13 @@ fn bookies_of(
     names: &Names,
     words: &[&str],
 ) -> Result<BookieSet, RunFault> {
-    find_bookies(names, words).map_err(|fault| misnamed(alloc, picture, words, fault))
+    let bookies = find_bookies(names, words).map_err(|again| named_twice(
+        alloc, words, again.word,
+    ))?;
+    match first_unknown(names, words) {
+        Some(number) => Err(unknown(alloc, picture, words, number)),
+        None => Ok(bookies),
+    }
 }
 
 /// The set of all bookies that there can be.

@@ -5,9 +5,11 @@ ghost use Rattle.reh_verdict.specs.declared.answers.TheConstants.{MAX_PICTURES};
 
 use crate::checks::{read_picture_file, write_text};
 use crate::faults::RunFault;
-use crate::names::misnamed;
+use crate::names::{named_twice, unknown, unknown_to_all};
 use crate::runs::Crew;
-use reh_verdict::{JudgeFault, Judged, MAX_PICTURES, answer_over, judge_picture, status_of};
+use reh_verdict::{
+    JudgeFault, Judged, MAX_PICTURES, answer_over, first_unknown_to_all, judge_picture, status_of,
+};
 use std::alloc::{AllocError, Global};
 use std::sync::Wait;
 use std::thread;
@@ -29,9 +31,20 @@ pub(crate) fn stop_over<R: thread::Threads + Wait + Sync>(
     stop: &Stop<'_>,
 ) -> Result<u8, RunFault> {
     let judged = judge_files(rt, threads, stop)?;
+    if let Some(number) = first_unknown_to_all(&judged, &stop.bookies) {
+        return Err(unknown_in(rt.alloc(), stop, number));
+    }
     let answer = answer_over(rt.alloc(), &judged, stop.allow_under_ack)?;
     write_text(rt, answer.text.as_str()).map_err(|_| RunFault::WriteFault)?;
     Ok(status_of(answer.verdict))
+}
+
+/// That the word of this number names no bookie of the one picture, or of any of several.
+fn unknown_in(alloc: Global, stop: &Stop<'_>, number: usize) -> RunFault {
+    match stop.pictures.as_slice() {
+        [path] => unknown(alloc, path, &stop.bookies, number),
+        _ => unknown_to_all(alloc, &stop.bookies, number),
+    }
 }
 
 /// What is judged of a picture, once it is.
@@ -112,7 +125,7 @@ fn fault_of(
 ) -> Result<RunFault, AllocError> {
     let fault = match fault {
         JudgeFault::Refused(located) => RunFault::RefusedIn(format!(in alloc; "{path}")?, located),
-        JudgeFault::Misnamed(fault) => misnamed(alloc, path, bookies, fault),
+        JudgeFault::Twice(again) => named_twice(alloc, bookies, again.word),
         JudgeFault::NoMemory => RunFault::NoMemory,
     };
     Ok(fault)

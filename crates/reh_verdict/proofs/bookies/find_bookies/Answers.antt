@@ -4,8 +4,7 @@ use Rattle.std.proofs.lemmas.Option.{slice_get-get_or}
 use Rattle.reh_types.specs.Sets as set
 use Rattle.reh_types.specs.Sets.{Set, numbers}
 use Rattle.reh_model.specs.Cluster.{bookie_named}
-use Rattle.reh_verdict.proofs.BookieLaws.{AreNamedBelow, named-none, named-more, named-all}
-use Rattle.reh_verdict.proofs.BookieLaws.{misnamed-unknown, misnamed-twice}
+use Rattle.reh_verdict.proofs.BookieLaws.{AreNamedBelow, named-none, named-none_more, named-more, named-all, named-twice}
 use Rattle.reh_verdict.proofs.bookies.find_bookies.Goals as goal
 
 pub loop-number-init : goal.loop-number-init
@@ -13,9 +12,9 @@ loop-number-init c =
     subst (λ (bookies : Set numbers). AreNamedBelow c.args.names.now c.args.words.now 0 bookies)
     (sym c.new-bookies.ensures) (named-none c.args.names.now c.args.words.now)
 
-pub returns-in_default-clause-fault : goal.returns-in_default-clause-fault
-returns-in_default-clause-fault c =
-    misnamed-unknown c.args.names.now c.args.words.now c.loop-number.number _ c.loop-number.bookies
+pub loop-number-preserved-in_default : goal.loop-number-preserved-in_default
+loop-number-preserved-in_default c =
+    named-none_more c.args.names.now c.args.words.now c.loop-number.number _ c.loop-number.bookies
     (slice_get-get_or c.args.words.now c.loop-number.number _ c.loop-number-test.true)
     (ap (bookie_named c.args.names.now) (sym c.as_bytes.ensures.value) ∙ sym c.find.ensures ∙ c.in_default.is)
     c.loop-number.invariant
@@ -24,7 +23,7 @@ pub returns-then-not-add-clause-fault : goal.returns-then-not-add-clause-fault
 returns-then-not-add-clause-fault c =
     let again : set.contains c.loop-number.bookies c.in-Some.bookie ≡ true =
     grind (arith, c.add.ensures.new, c.if-not-add.true) in
-    misnamed-twice c.args.names.now c.args.words.now c.loop-number.number c.in-Some.bookie _ c.loop-number.bookies
+    named-twice c.args.names.now c.args.words.now c.loop-number.number c.in-Some.bookie _ c.loop-number.bookies
     (slice_get-get_or c.args.words.now c.loop-number.number _ c.loop-number-test.true)
     (ap (bookie_named c.args.names.now) (sym c.as_bytes.ensures.value) ∙ sym c.find.ensures ∙ c.in-Some.is)
     again c.loop-number.invariant

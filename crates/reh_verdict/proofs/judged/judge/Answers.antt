@@ -1,11 +1,10 @@
 -- A ledger more.
-use Rattle.std.proofs.Common.{◌≡◌, ◌∙◌, ◌+◌, ◌++◌, ◌*◌, ◌<◌, ◌≤◌, ℕ, List, map, take, length, get_or, ap, sym, arith}
+use Rattle.std.proofs.Common.{◌≡◌, ◌∙◌, ◌+◌, ◌++◌, ◌*◌, ◌<◌, ◌≤◌, ℕ, List, map, take, length, ap, sym, arith}
 use Rattle.std.specs.Prelude.{flat_map}
 use Rattle.std.proofs.lemmas.List.{get_or-map, length-map, take_all}
 use Rattle.reh_types.specs.declared.limits.TheConstants.{MAX_LEDGERS}
 use Rattle.reh_model.specs.Cluster.{Cluster, Ledger}
 use Rattle.reh_redundancy.specs.declared.counts.Redundancy.{Redundancy}
-use Rattle.reh_redundancy.specs.Bounds.{AreAtMost}
 use Rattle.reh_redundancy.specs.Losses.{losing}
 use Rattle.reh_redundancy.specs.Redundancy.{ledger_redundancy, redundancy, sum_of}
 use Rattle.reh_redundancy.proofs.SumLaws.{AreAtMost-next, AreAtMost-wider, sum_of-next, sum_with}
@@ -64,6 +63,7 @@ invariant_of-result c =
     ∙ ap (λ (gs : List Ledger). sum_of (map f gs)) here in
     let is : s ≡ c.of.result.value = sym c.of.ensures in
     record {
+      named = c.in_ok-names.ensures ∙ c.names.ensures.names ∙ ap (λ (s : Cluster). s.names) is;
       counts_now = all (ledger_redundancy s) c.loop-ledger.now c.loop-ledger.invariant.now ∙ ap redundancy is;
       counts_without =
           all (ledger_redundancy (losing s c.args.bookies)) c.loop-ledger.without c.loop-ledger.invariant.without
