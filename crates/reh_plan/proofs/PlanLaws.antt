@@ -1,12 +1,12 @@
 -- How a plan grows by a line, and what becomes of registrations.
-use Rattle.std.proofs.Common.{◌≡◌, ◌≢◌, ℕ, ◌+◌, ◌<◌, length, Bool, true, false, cond, not, List, [], ◌∷◌, ◌++◌}
+use Rattle.std.proofs.Common.{◌≡◌, ◌≢◌, ℕ, zero, suc, ◌+◌, ◌<◌, length, Bool, true, false, cond, not, List, [], ◌∷◌, ◌++◌}
 use Rattle.std.proofs.Common.{refl, sym, ap, ◌∙◌, subst, arith, append_assoc, append-nil, Option, None, Some, is_some, true≢false, inl, inr}
 use Rattle.std.specs.Prelude.{◌==◌, ◌&&◌, ◌||◌, nat_lt, Result, Ok, Err, OnOk, OnErr, unwrap_or, is_none, slice_get}
-use Rattle.std.specs.List.{list_all, onto_first}
+use Rattle.std.specs.List.{filter, flat_map, list_all, onto_first, range_with_len}
 use Rattle.std.specs.Option.{option_map, option_map_or}
 use Rattle.std.proofs.lemmas.Bool.Decides.{nat_tests}
 use Rattle.std.proofs.lemmas.Grind.{flat_map-append}
-use Rattle.std.proofs.lemmas.List.Elements.{All-push}
+use Rattle.std.proofs.lemmas.List.Elements.{All-push, filter-append}
 use Rattle.std.proofs.lemmas.List.Folds.{list_all-append}
 use Rattle.std.proofs.lemmas.Option.{same_Some}
 use Rattle.reh_types.specs.declared.moves.Event.{Event}
@@ -33,7 +33,7 @@ use Rattle.reh_script.specs.declared.commands.Command.TheVariants.{Make}
 use Rattle.reh_script.specs.declared.commands.LineFault.{LineFault}
 use Rattle.reh_script.proofs.ReadLaws.{lines_behind}
 use Rattle.reh_plan.specs.Plans.{has_lf, event_asked, IsEventOrNone, Asks, Draft, IsMade, IsWithout, Loses, Works}
-use Rattle.reh_plan.specs.Plans.{is_work, is_by, is_nobodys, is_all_by, is_all_asked}
+use Rattle.reh_plan.specs.Plans.{GoesOnBy, is_all_asked, is_nobodys, is_work_by, loss_of, losses_of}
 
 -- a text that an LF ends
 some_lf : (xs : List ℕ) → has_lf (xs ++ 10 ∷ []) ≡ true
@@ -146,23 +146,20 @@ state_after m s event is none =
 -- Registrations
 
 -- work leaves them
-pub lost_at-after : (s : Cluster) (event : Event) → is_work event ≡ true → (after s event).parts.lost_at ≡ s.parts.lost_at
-lost_at-after s (Lose b) e = absurd (true≢false (sym e))
-lost_at-after s (Join b) e = absurd (true≢false (sym e))
-lost_at-after s Audit e = refl
-lost_at-after s (Acquire w l) e = refl
-lost_at-after s (Release w l) e = refl
-lost_at-after s (Finish w l) e = refl
-lost_at-after s (Expire w) e = refl
-lost_at-after s (Grace w l) e = refl
-lost_at-after s (Tick n) e = refl
-lost_at-after s (Roll l i b) e = refl
-lost_at-after s (Fence w l) e = refl
-lost_at-after s (Seal w l) e = refl
-lost_at-after s (Copy w l f i v) e = refl
-lost_at-after s (Swap w l f i v) e = refl
-lost_at-after s Disable e = refl
-lost_at-after s Enable e = refl
+lost_at-after : (allowed : Set numbers) (s : Cluster) (event : Event) → is_work_by allowed event ≡ true
+    → (after s event).parts.lost_at ≡ s.parts.lost_at
+lost_at-after allowed s Audit e = refl
+lost_at-after allowed s Enable e = refl
+lost_at-after allowed s (Tick n) e = refl
+lost_at-after allowed s (Release w l) e = refl
+lost_at-after allowed s (Finish w l) e = refl
+lost_at-after allowed s (Acquire w l) e = refl
+lost_at-after allowed s (Grace w l) e = refl
+lost_at-after allowed s (Fence w l) e = refl
+lost_at-after allowed s (Seal w l) e = refl
+lost_at-after allowed s (Copy w l f i v) e = refl
+lost_at-after allowed s (Swap w l f i v) e = refl
+lost_at-after allowed s other e = absurd (true≢false (sym e))
 
 put_down : (t : ℕ) (o : Option (Option ℕ)) → option_map_or is_none (option_map (λ (_ : Option ℕ). Some t) o) false ≡ false
 put_down t None = refl
@@ -279,16 +276,19 @@ IsWithout-works s t u is_lost first same b =
 
 -- Plans
 
--- an event more, by a bookie that may take places
-made_places : (allowed : Set numbers) (d n : Draft) (event : Event) → is_by allowed event ≡ true → IsMade d event n
-    → is_all_by allowed n ≡ is_all_by allowed d
-made_places allowed d n event by made =
-    ap (list_all (is_by allowed)) made.events
-    ∙ list_all-append (is_by allowed) d.events (event ∷ [])
-    ∙ ap (λ t. is_all_by allowed d && (t && true)) by
-    ∙ and_true (is_all_by allowed d)
+-- no work yet
+works_nothing : (allowed : Set numbers) (events : List Event) → GoesOnBy allowed events events
+works_nothing allowed events = ([], sym (append-nil events), refl)
 
--- and its line
+-- and work behind work
+works_behind : (allowed : Set numbers) (a b c : List Event) → GoesOnBy allowed a b → GoesOnBy allowed b c → GoesOnBy allowed a c
+works_behind allowed a b c first then = (
+  first.0 ++ then.0,
+  then.1 ∙ ap (λ (es : List Event). es ++ then.0) first.1 ∙ append_assoc a first.0 then.0,
+  list_all-append (is_work_by allowed) first.0 then.0 ∙ ap (λ t. t && list_all (is_work_by allowed) then.0) first.2 ∙ then.2,
+)
+
+-- the line of an event
 made_commands : (d n : Draft) (event : Event) → IsMade d event n → is_all_asked n ≡ is_all_asked d
 made_commands d n event made =
     let is_asked : List (List ℕ) → List ℕ → Bool = λ names line. is_some (asked names line) in
@@ -303,95 +303,130 @@ pub works_on : (allowed : Set numbers) (d n p : Draft) → Works allowed n p →
 works_on allowed d n p then first = record {
   opening = then.opening ∙ first.opening;
   lost_at = then.lost_at ∙ first.lost_at;
-  places = then.places ∙ first.places;
+  work = works_behind allowed d.events n.events p.events first.work then.work;
   commands = then.commands ∙ first.commands;
 }
 
 pub works_none : (allowed : Set numbers) (d : Draft) → Works allowed d d
-works_none allowed d = record { opening = refl; lost_at = refl; places = refl; commands = refl }
+works_none allowed d = record { opening = refl; lost_at = refl; work = works_nothing allowed d.events; commands = refl }
 
 -- and then stays
 pub works_same : (allowed : Set numbers) (d n p : Draft) → p ≡ n → Works allowed d n → Works allowed d p
 works_same allowed d n p same first = subst (λ (x : Draft). Works allowed d x) (sym same) first
 
 -- and then makes an event that is work
-pub works_made : (allowed : Set numbers) (d n p : Draft) (event : Event) → IsMade n event p → is_work event ≡ true
-    → is_by allowed event ≡ true → Works allowed d n → Works allowed d p
-works_made allowed d n p event made work by first =
+pub works_made : (allowed : Set numbers) (d n p : Draft) (event : Event) → IsMade n event p
+    → is_work_by allowed event ≡ true → Works allowed d n → Works allowed d p
+works_made allowed d n p event made by first =
     let then : Works allowed n p = record {
       opening = made.opening;
-      lost_at = ap (λ (c : Cluster). c.parts.lost_at) made.state ∙ lost_at-after n.state event work;
-      places = made_places allowed n p event by made;
+      lost_at = ap (λ (c : Cluster). c.parts.lost_at) made.state ∙ lost_at-after allowed n.state event by;
+      work = (event ∷ [], made.events, ap (λ t. t && true) by);
       commands = made_commands n p event made;
     } in
     works_on allowed d n p then first
 
 -- if it is accepted
 pub works_done : {A B : Type 0} (allowed : Set numbers) (d n p : Draft) (event : Event) (r : Result A B)
-    → OnOk r (IsMade n event p) → OnErr r (p ≡ n) → is_work event ≡ true → is_by allowed event ≡ true
+    → OnOk r (IsMade n event p) → OnErr r (p ≡ n) → is_work_by allowed event ≡ true
     → Works allowed d n → Works allowed d p
-works_done allowed d n p event (Ok done) made same work by first = works_made allowed d n p event made work by first
-works_done allowed d n p event (Err stop) made same work by first = works_same allowed d n p same first
+works_done allowed d n p event (Ok done) made same by first = works_made allowed d n p event made by first
+works_done allowed d n p event (Err stop) made same by first = works_same allowed d n p same first
 
 -- or an event of no bookie
 pub works_alone : (allowed : Set numbers) (d n p : Draft) (event : Event) → IsMade n event p → is_nobodys event ≡ true
     → Works allowed d n → Works allowed d p
-works_alone allowed d n p Audit made nobodys = works_made allowed d n p Audit made refl refl
-works_alone allowed d n p (Tick ticks) made nobodys = works_made allowed d n p (Tick ticks) made refl refl
-works_alone allowed d n p Enable made nobodys = works_made allowed d n p Enable made refl refl
-works_alone allowed d n p Disable made nobodys = works_made allowed d n p Disable made refl refl
+works_alone allowed d n p Audit made nobodys = works_made allowed d n p Audit made refl
+works_alone allowed d n p (Tick ticks) made nobodys = works_made allowed d n p (Tick ticks) made refl
+works_alone allowed d n p Enable made nobodys = works_made allowed d n p Enable made refl
 works_alone allowed d n p other made nobodys = cc
 
 -- plans that lose bookies
-pub loses_made : (d n : Draft) (bookie : ℕ) → IsMade d (Lose bookie) n → Loses d (λ b. bookie == b) n
-loses_made d n bookie made = record {
+pub loses_made : (d n : Draft) (bookie : ℕ) → is_up d.state bookie ≡ true → IsMade d (Lose bookie) n
+    → Loses d (λ b. bookie == b) (loss_of d.state bookie) n
+loses_made d n bookie up made = record {
   opening = made.opening;
   lost =
       subst (λ (s : Cluster). IsWithout d.state (λ b. bookie == b) s) (sym made.state)
       (IsWithout-lose d.state bookie);
-  places = λ allowed. made_places allowed d n (Lose bookie) refl made;
+  events = made.events ∙ ap (λ (t : Bool). d.events ++ cond t (Lose bookie ∷ []) []) (sym up);
   commands = made_commands d n (Lose bookie) made;
 }
 
-pub loses_down : (d : Draft) (bookie : ℕ) → is_up d.state bookie ≡ false → Loses d (λ b. bookie == b) d
+pub loses_down : (d : Draft) (bookie : ℕ) → is_up d.state bookie ≡ false
+    → Loses d (λ b. bookie == b) (loss_of d.state bookie) d
 loses_down d bookie down = record {
   opening = refl;
   lost = IsWithout-down d.state bookie down;
-  places = λ allowed. refl;
+  events = sym (append-nil d.events) ∙ ap (λ (t : Bool). d.events ++ cond t (Lose bookie ∷ []) []) (sym down);
   commands = refl;
 }
 
-pub loses_none : (d : Draft) (lost : Set numbers) → Loses d (below lost 0) d
+range_more : (a n b : ℕ) → a + n ≡ b → range_with_len a (n + 1) ≡ range_with_len a n ++ b ∷ []
+range_more a zero b is = let here : a ≡ b = omega (arith, is) in ap (λ k. k ∷ []) here
+range_more a (suc n) b is =
+    let more : suc n + 1 ≡ suc (n + 1) = omega arith in
+    ap (range_with_len a) more ∙ ap (λ (ks : List ℕ). a ∷ ks) (range_more (a + 1) n b (omega (arith, is)))
+
+-- the next bookie's loss, if it is to be lost
+losses_next : (s : Cluster) (is_lost : ℕ → Bool) (k : ℕ) (v : Bool) → is_lost k ≡ v
+    → losses_of s is_lost (k + 1) ≡ losses_of s is_lost k ++ cond v (loss_of s k) []
+losses_next s is_lost k v is =
+    ap (λ (bs : List ℕ). flat_map (loss_of s) (filter is_lost bs)) (range_more 0 k k (omega arith))
+    ∙ ap (flat_map (loss_of s)) (filter-append is_lost (range_with_len 0 k) (k ∷ []))
+    ∙ flat_map-append (loss_of s) (filter is_lost (range_with_len 0 k)) (filter is_lost (k ∷ []))
+    ∙ ap (λ (t : Bool). losses_of s is_lost k ++ flat_map (loss_of s) (cond t (k ∷ []) [])) is
+    ∙ ap (λ (es : List Event). losses_of s is_lost k ++ es) (one v) where
+      one : (t : Bool) → flat_map (loss_of s) (cond t (k ∷ []) []) ≡ cond t (loss_of s k) []
+      one true = append-nil (loss_of s k)
+      one false = refl
+
+pub loses_none : (d : Draft) (lost : Set numbers) → Loses d (below lost 0) (losses_of d.state (set.contains lost) 0) d
 loses_none d lost = record {
   opening = refl;
   lost = IsWithout-none d.state lost;
-  places = λ allowed. refl;
+  events = sym (append-nil d.events);
   commands = refl;
 }
 
-pub loses_next : (d n p : Draft) (lost : Set numbers) (k : ℕ) → set.contains lost k ≡ true → Loses d (below lost k) n
-    → Loses n (λ b. k == b) p → Loses d (below lost (k + 1)) p
-loses_next d n p lost k in_lost first then = record {
-  opening = then.opening ∙ first.opening;
-  lost = IsWithout-next d.state n.state p.state lost k in_lost first.lost then.lost;
-  places = λ allowed. then.places allowed ∙ first.places allowed;
-  commands = then.commands ∙ first.commands;
-}
+pub loses_next : (d n p : Draft) (lost : Set numbers) (k : ℕ) → set.contains lost k ≡ true
+    → Loses d (below lost k) (losses_of d.state (set.contains lost) k) n
+    → Loses n (λ b. k == b) (loss_of n.state k) p
+    → Loses d (below lost (k + 1)) (losses_of d.state (set.contains lost) (k + 1)) p
+loses_next d n p lost k in_lost first then =
+    let not_yet : nat_lt k k ≡ false = grind (arith, nat_tests) in
+    let still : is_up n.state k ≡ is_up d.state k =
+    first.lost k ∙ ap (λ t. is_up d.state k && not (t && set.contains lost k)) not_yet ∙ and_true (is_up d.state k) in
+    record {
+      opening = then.opening ∙ first.opening;
+      lost = IsWithout-next d.state n.state p.state lost k in_lost first.lost then.lost;
+      events =
+          then.events
+          ∙ ap (λ (es : List Event). es ++ loss_of n.state k) first.events
+          ∙ append_assoc d.events (losses_of d.state (set.contains lost) k) (loss_of n.state k)
+          ∙ ap (λ (t : Bool). d.events ++ (losses_of d.state (set.contains lost) k ++ cond t (Lose k ∷ []) [])) still
+          ∙ ap (λ (es : List Event). d.events ++ es) (sym (losses_next d.state (set.contains lost) k true in_lost));
+      commands = then.commands ∙ first.commands;
+    }
 
-pub loses_kept : (d n : Draft) (lost : Set numbers) (k : ℕ) → set.contains lost k ≡ false → Loses d (below lost k) n
-    → Loses d (below lost (k + 1)) n
+pub loses_kept : (d n : Draft) (lost : Set numbers) (k : ℕ) → set.contains lost k ≡ false
+    → Loses d (below lost k) (losses_of d.state (set.contains lost) k) n
+    → Loses d (below lost (k + 1)) (losses_of d.state (set.contains lost) (k + 1)) n
 loses_kept d n lost k stays first = record {
   opening = first.opening;
   lost = IsWithout-kept d.state n.state lost k stays first.lost;
-  places = first.places;
+  events =
+      first.events
+      ∙ ap (λ (es : List Event). d.events ++ es)
+      (sym (losses_next d.state (set.contains lost) k false stays ∙ append-nil (losses_of d.state (set.contains lost) k)));
   commands = first.commands;
 }
 
-pub loses_all : (d n : Draft) (lost : Set numbers) → IsWellFormed d.state
-    → Loses d (below lost (length d.state.names)) n → Loses d (set.contains lost) n
-loses_all d n lost well first = record {
+pub loses_all : (d n : Draft) (lost : Set numbers) (losses : List Event) → IsWellFormed d.state
+    → Loses d (below lost (length d.state.names)) losses n → Loses d (set.contains lost) losses n
+loses_all d n lost losses well first = record {
   opening = first.opening;
   lost = IsWithout-all d.state n.state lost well first.lost;
-  places = first.places;
+  events = first.events;
   commands = first.commands;
 }

@@ -1,14 +1,13 @@
 -- What all of a plan's steps come to.
-use Rattle.std.proofs.Common.{◌≡◌, ◌∙◌, List, [], true, None, is_some, sym, ap, subst, true≢false}
+use Rattle.std.proofs.Common.{◌≡◌, ◌∙◌, List, [], ◌++◌, length, true, None, is_some, sym, ap, subst, true≢false}
 use Rattle.std.proofs.lemmas.List.Elements.{All-weaker}
 use Rattle.std.proofs.lemmas.List.Sums.{AllPass-from_list_all}
-use Rattle.std.specs.List.{list_all}
 use Rattle.reh_types.specs.declared.moves.Event.{Event}
 use Rattle.reh_types.specs.Sets as set
 use Rattle.reh_types.specs.Sets.{Set, numbers}
 use Rattle.reh_model.specs.Cluster.{Cluster}
 use Rattle.reh_script.specs.Answers.{asked}
-use Rattle.reh_plan.specs.Plans.{Draft, IsWithout, IsLeftLine, IsNaming, Loses, OnlyLeft, Works, is_by, is_all_by, is_all_asked}
+use Rattle.reh_plan.specs.Plans.{Draft, GoesOnBy, IsWithout, IsLeftLine, IsNaming, Loses, OnlyLeft, Works, is_all_asked, losses_of}
 use Rattle.reh_plan.proofs.PlanLaws.{IsWithout-works}
 
 abbrev pub empty_draft : Cluster → Draft
@@ -17,7 +16,7 @@ empty_draft s = record { opening = s; state = s; events = []; lines = [] }
 pub record IsPlanned (s : Cluster) (lost allowed : Set numbers) (n : Draft) : Type 0 where
   pub opening : n.opening ≡ s
   pub without : IsWithout s (set.contains lost) n.state
-  pub places : is_all_by allowed n ≡ true
+  pub order : GoesOnBy allowed (losses_of s (set.contains lost) (length s.names)) n.events
   pub only : OnlyLeft s.names n.state n.lines
 
 -- a plan without a comment
@@ -29,7 +28,7 @@ only_commands d all =
     d.lines (AllPass-from_list_all (λ line. is_some (asked d.opening.names line)) d.lines all)
 
 -- bookies are lost, work is done, and what is left is named
-pub planned : (s : Cluster) (lost allowed : Set numbers) (l w n : Draft) → Loses (empty_draft s) (set.contains lost) l
+pub planned : (s : Cluster) (lost allowed : Set numbers) (l w n : Draft) → Loses (empty_draft s) (set.contains lost) (losses_of s (set.contains lost) (length s.names)) l
     → Works allowed l w → IsNaming w n → IsPlanned s lost allowed n
 planned s lost allowed l w n first then last =
     let opening : w.opening ≡ s = then.opening ∙ first.opening in
@@ -39,9 +38,11 @@ planned s lost allowed l w n first then last =
       without =
           subst (λ (t : Cluster). IsWithout s (set.contains lost) t) (sym last.state)
           (IsWithout-works s l.state w.state (set.contains lost) first.lost then.lost_at);
-      places =
-          ap (λ (events : List Event). list_all (is_by allowed) events) last.events
-          ∙ then.places ∙ first.places allowed;
+      order = (
+        then.work.0,
+        last.events ∙ then.work.1 ∙ ap (λ (events : List Event). events ++ then.work.0) first.events,
+        then.work.2,
+      );
       only =
           subst (λ (o : Cluster). OnlyLeft o.names n.state n.lines) (last.opening ∙ opening)
           (last.only (only_commands w all));

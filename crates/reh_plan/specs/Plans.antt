@@ -1,12 +1,13 @@
 -- What a plan is: a script whose lines ask for events that are accepted one after another, and a comment for each ledger
 -- with which something is left to do.
 use Rattle.std.specs.Prelude.{◌≡◌, ◌==◌, ℕ, ◌≤◌, IsTrue, Bool, true, false, not, ◌&&◌, ◌||◌, All, Any, List, [], ◌∷◌, ◌++◌, length}
-use Rattle.std.specs.Prelude.{Option, None, Some, is_some, Result, Ok, codes}
-use Rattle.std.specs.List.{flat_map, list_all, list_any}
+use Rattle.std.specs.Prelude.{Option, None, Some, is_some, Result, Ok, codes, if◌then◌else◌}
+use Rattle.std.specs.List.{filter, flat_map, list_all, list_any, range_with_len}
 use Rattle.std.specs.Fmt.{decimal}
 use Rattle.reh_types.specs.declared.limits.TheConstants.{MAX_SCRIPT_BYTES}
 use Rattle.reh_types.specs.declared.moves.Event.{Event}
-use Rattle.reh_types.specs.declared.moves.Event.TheVariants.{Lose, Join, Audit, Tick, Copy, Swap, Disable, Enable}
+use Rattle.reh_types.specs.declared.moves.Event.TheVariants.{Lose, Audit, Acquire, Release, Finish, Grace, Tick}
+use Rattle.reh_types.specs.declared.moves.Event.TheVariants.{Fence, Seal, Copy, Swap, Enable}
 use Rattle.reh_types.specs.declared.moves.Move.TheVariants.{Do}
 use Rattle.reh_types.specs.Sets as set
 use Rattle.reh_types.specs.Sets.{Set, numbers}
@@ -83,45 +84,59 @@ Makes d event Unwritten n = n ≡ d
 abbrev pub IsWithout : Cluster → (ℕ → Bool) → Cluster → Type 0
 IsWithout s is_lost t = (b : ℕ) → is_up t b ≡ is_up s b && not (is_lost b)
 
--- whether an event leaves all registrations as they are
-abbrev pub is_work : Event → Bool
-is_work (Lose b) = false
-is_work (Join b) = false
-is_work event = true
+-- the loss of a bookie, if it is registered
+abbrev pub loss_of : Cluster → ℕ → List Event
+loss_of s bookie = if is_up s bookie then Lose bookie ∷ [] else []
 
--- whether the bookie that takes a place by the event, or copies for one, is among those that may
-abbrev pub is_by : Set numbers → Event → Bool
-is_by allowed (Copy worker ledger fragment index version) = set.contains allowed worker
-is_by allowed (Swap worker ledger fragment index version) = set.contains allowed worker
-is_by allowed event = true
+-- those of the first n bookies that are to be lost, in picture order
+abbrev pub losses_of : Cluster → (ℕ → Bool) → ℕ → List Event
+losses_of s is_lost n = flat_map (loss_of s) (filter is_lost (range_with_len 0 n))
+
+-- whether an event is AutoRecovery's, by bookies that may work: no bookie is lost or joins, no writer changes an
+-- ensemble, and who locks a task, recovers a ledger, copies or takes a place is one of them; whoever has a lock may give
+-- it back, or end the task
+abbrev pub is_work_by : Set numbers → Event → Bool
+is_work_by allowed Audit = true
+is_work_by allowed Enable = true
+is_work_by allowed (Tick ticks) = true
+is_work_by allowed (Release worker ledger) = true
+is_work_by allowed (Finish worker ledger) = true
+is_work_by allowed (Acquire worker ledger) = set.contains allowed worker
+is_work_by allowed (Grace worker ledger) = set.contains allowed worker
+is_work_by allowed (Fence worker ledger) = set.contains allowed worker
+is_work_by allowed (Seal worker ledger) = set.contains allowed worker
+is_work_by allowed (Copy worker ledger fragment index version) = set.contains allowed worker
+is_work_by allowed (Swap worker ledger fragment index version) = set.contains allowed worker
+is_work_by allowed other = false
+
+-- behind these events there is nothing but such work
+abbrev pub GoesOnBy : Set numbers → List Event → List Event → Type 0
+GoesOnBy allowed before events =
+    (work : List Event) × (events ≡ before ++ work) × (list_all (is_work_by allowed) work ≡ true)
 
 -- whether an event is one of no bookie
 abbrev pub is_nobodys : Event → Bool
 is_nobodys Audit = true
 is_nobodys (Tick ticks) = true
-is_nobodys Disable = true
 is_nobodys Enable = true
 is_nobodys event = false
-
-abbrev pub is_all_by : Set numbers → Draft → Bool
-is_all_by allowed d = list_all (is_by allowed) d.events
 
 -- whether each line has an answer, so that none is a comment
 abbrev pub is_all_asked : Draft → Bool
 is_all_asked d = list_all (λ line. is_some (asked d.opening.names line)) d.lines
 
--- the plan goes on from d to n by commands alone; no registration changes, and none but the allowed bookies take places
+-- the plan goes on from d to n by commands alone: work of the allowed bookies, by which no registration changes
 pub record Works (allowed : Set numbers) (d n : Draft) : Type 0 where
   pub opening : n.opening ≡ d.opening
   pub lost_at : n.state.parts.lost_at ≡ d.state.parts.lost_at
-  pub places : is_all_by allowed n ≡ is_all_by allowed d
+  pub work : GoesOnBy allowed d.events n.events
   pub commands : is_all_asked n ≡ is_all_asked d
 
--- the plan goes on from d to n by commands alone, by which the bookies are lost and nothing else happens
-pub record Loses (d : Draft) (is_lost : ℕ → Bool) (n : Draft) : Type 0 where
+-- the plan goes on from d to n by the commands of these losses alone, by which the bookies are lost
+pub record Loses (d : Draft) (is_lost : ℕ → Bool) (losses : List Event) (n : Draft) : Type 0 where
   pub opening : n.opening ≡ d.opening
   pub lost : IsWithout d.state is_lost n.state
-  pub places : (allowed : Set numbers) → is_all_by allowed n ≡ is_all_by allowed d
+  pub events : n.events ≡ d.events ++ losses
   pub commands : is_all_asked n ≡ is_all_asked d
 
 -- What is left

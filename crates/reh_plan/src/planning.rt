@@ -1,6 +1,5 @@
 // The plan for a cluster: bookies are lost, the auditor publishes, and AutoRecovery is played to its end.
 ghost use Rattle.std.specs.Prelude.{◌≡◌, ◌≤◌, length, IfOk, OnOk, Some, true};
-ghost use Rattle.std.specs.List.{list_all};
 ghost use Rattle.reh_types.specs.declared.limits.TheConstants.{MAX_SCRIPT_BYTES};
 ghost use Rattle.reh_model.specs.Book.{new_book};
 ghost use Rattle.reh_model.specs.Session.{replay, opened_session};
@@ -8,7 +7,7 @@ ghost use Rattle.reh_script.specs.Transcript.{starting, transcript};
 ghost use Rattle.reh_plan.specs.Replies.{ok_answers};
 ghost use Rattle.reh_types.specs.Sets as set;
 ghost use Rattle.reh_types.specs.Sets.{Set, numbers};
-ghost use Rattle.reh_plan.specs.Plans.{Asks, Works, Loses, IsWithout, is_by, AllNamed, OnlyLeft, IsNaming};
+ghost use Rattle.reh_plan.specs.Plans.{Asks, Works, Loses, GoesOnBy, IsWithout, AllNamed, OnlyLeft, IsNaming, losses_of};
 ghost use Rattle.reh_plan.specs.Plans as plans;
 
 use crate::faults::{PlanFault, Reason, first_reason};
@@ -20,7 +19,7 @@ use reh_cluster::{Ledger, State};
 use reh_types::{BookieIx, BookieSet, Event, MAX_BOOKIES, Refusal};
 use std::alloc::{AllocError, Global};
 
-/// The plan for a cluster of which these bookies are lost, where only the allowed bookies take places.
+/// The plan for a cluster of which these bookies are lost, where only the allowed bookies work.
 ///
 /// The bookies are lost, the auditor publishes, once the delay for lost bookies is over, and AutoRecovery is played to
 /// its end: of each ledger with a task a worker takes the places of missing members. It is a bookie in no ensemble of
@@ -28,9 +27,12 @@ use std::alloc::{AllocError, Global};
 /// fenced after the grace and recovered first. Where AutoRecovery is disabled, the plan enables it.
 ///
 /// Each line of the script is a comment or asks for an event (`asks`), and played on this state each of these events is
-/// accepted (`accepted`): each line that has an answer is answered `ok` (`replies`). They lose the lost bookies and no
-/// other, and register none (`lost`); no bookie takes a place that isn't allowed to (`places`). Each ledger that has a
-/// task in the end, or a member that isn't registered, is named in a comment (`named`), and no other is (`only`).
+/// accepted (`accepted`): each line that has an answer is answered `ok` (`replies`). First those of the lost bookies
+/// that are registered are lost, and behind that there is nothing but AutoRecovery's work, by which no registration
+/// changes, and in which none but the allowed bookies lock tasks, recover ledgers, copy or take places (`order`). So in
+/// the end the lost bookies aren't registered, and all others are as they were (`lost`). Each ledger that has a task
+/// then, or a member that isn't registered, is named in a comment (`named`), and no other is (`only`). The comment's
+/// reason is what the last try for that ledger met, which no clause says.
 pub fn plan(
     alloc: Global,
     state: State,
@@ -44,7 +46,8 @@ pub fn plan(
         transcript state.names 0 (starting (new_book (opened_session state))) 1 plan.lines
         ≡ ok_answers state.names 1 plan.lines) }
     ensures lost { IfOk result (λ plan. IsWithout state (set.contains lost.now) plan.state) }
-    ensures places { IfOk result (λ plan. list_all (is_by allowed.now) plan.events ≡ true) }
+    ensures order { IfOk result (λ plan. GoesOnBy allowed.now
+        (losses_of state (set.contains lost.now) (length state.names)) plan.events) }
     ensures named { IfOk result (λ plan. AllNamed plan.state plan.lines plan.state.parts.ledgers) }
     ensures only { IfOk result (λ plan. OnlyLeft state.names plan.state plan.lines) }
 {
@@ -61,7 +64,8 @@ pub fn plan(
 
 /// Loses these bookies, those that are registered.
 fn lose_all(plan: &mut Plan, lost: &BookieSet) -> Result<(), PlanFault>
-    ensures { OnOk result (Loses plan.old (set.contains lost.now) plan.new) }
+    ensures { OnOk result (Loses plan.old (set.contains lost.now)
+        (losses_of plan.old.state (set.contains lost.now) (length plan.old.state.names)) plan.new) }
 {
     let count = plan.state().names().len();
     for number in 0..count as u8 {

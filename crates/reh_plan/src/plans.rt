@@ -11,7 +11,7 @@ ghost use Rattle.reh_script.specs.Lines.{lines_of};
 ghost use Rattle.reh_script.specs.Transcript.{starting, transcript};
 ghost use Rattle.reh_plan.specs.Replies.{ok_answers};
 ghost use Rattle.reh_types.specs.Sets.{Set, numbers};
-ghost use Rattle.reh_plan.specs.Plans.{Asks, IsMade, Makes, Works, Loses, is_nobodys, has_lf, IsLeaving};
+ghost use Rattle.reh_plan.specs.Plans.{Asks, IsMade, Makes, Works, Loses, is_nobodys, has_lf, loss_of, IsLeaving};
 
 use crate::faults::{PlanFault, Reason, Stop};
 use crate::lines::{event_line, is_line};
@@ -93,7 +93,7 @@ impl Plan {
 
     /// Loses the bookie, if it is registered, and no other.
     pub(crate) fn lose(&mut self, bookie: BookieIx) -> Result<(), PlanFault>
-        ensures { OnOk result (Loses self.old (λ b. bookie == b) self.new) }
+        ensures { OnOk result (Loses self.old (λ b. bookie == b) (loss_of self.old.state bookie) self.new) }
     {
         // The check of this function has to meet the type of a refusal by its name.
         let _refusal: Option<Refusal> = None;

@@ -1,12 +1,12 @@
 -- What the steps come to.
-use Rattle.std.proofs.Common.{◌≡◌, Some, subst}
+use Rattle.std.proofs.Common.{◌≡◌, Some, length, subst}
 use Rattle.reh_types.specs.Sets as set
 use Rattle.reh_types.specs.Sets.{Set, numbers}
 use Rattle.reh_model.specs.Book.{new_book}
 use Rattle.reh_model.specs.Cluster.{Cluster}
 use Rattle.reh_model.specs.Session.{replay, opened_session}
 use Rattle.reh_script.specs.Transcript.{starting, transcript}
-use Rattle.reh_plan.specs.Plans.{Asks, Draft, Loses, Works}
+use Rattle.reh_plan.specs.Plans.{Asks, Draft, Loses, Works, losses_of}
 use Rattle.reh_plan.specs.Replies.{ok_answers}
 use Rattle.reh_plan.proofs.PlanLaws.{works_on}
 use Rattle.reh_plan.proofs.Planned.{IsPlanned, planned}
@@ -22,7 +22,10 @@ all_of c =
     let worked : Works some l w =
     works_on some l g w c.work_all.ensures (works_on some l p g c.grant_all.ensures (c.publish.ensures some)) in
     planned c.args.state c.args.lost.now c.args.allowed.now l w c.leave_all.new.plan
-    (subst (λ (b : Draft). Loses b (set.contains c.args.lost.now) l) c.in_ok-plan.ensures c.in_ok-lose_all.ensures)
+    (subst (λ (b : Draft).
+    Loses b (set.contains c.args.lost.now)
+    (losses_of b.state (set.contains c.args.lost.now) (length b.state.names)) l)
+    c.in_ok-plan.ensures c.in_ok-lose_all.ensures)
     (subst (λ (a : Set numbers). Works a l w) c.in_ok-workers.ensures worked)
     c.in_ok-leave_all.ensures
 
@@ -50,8 +53,8 @@ returns-clause-replies c =
 pub returns-clause-lost : goal.returns-clause-lost
 returns-clause-lost c = (all_of c).without
 
-pub returns-clause-places : goal.returns-clause-places
-returns-clause-places c = (all_of c).places
+pub returns-clause-order : goal.returns-clause-order
+returns-clause-order c = (all_of c).order
 
 pub returns-clause-only : goal.returns-clause-only
 returns-clause-only c = (all_of c).only

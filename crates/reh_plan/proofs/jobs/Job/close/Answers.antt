@@ -1,5 +1,4 @@
 -- An open ledger is fenced first.
-use Rattle.std.proofs.Common.{refl}
 use Rattle.reh_types.specs.Sets.{Set, numbers}
 use Rattle.reh_plan.specs.Plans.{Draft, Works}
 use Rattle.reh_plan.proofs.PlanLaws.{works_done, works_same}
@@ -14,9 +13,9 @@ returns c =
     elim c.if-eq.branch [
       | then-eq+in_ok-work w ↦
           works_same allowed d w.work.new.self c.if-eq.plan w.plan-is
-          (works_done allowed d c.lock.new.plan w.work.new.self _ w.work.result w.work.ensures.ok w.work.ensures.err refl
-          refl c.lock.ensures.works)
+          (works_done allowed d c.lock.new.plan w.work.new.self _ w.work.result w.work.ensures.ok w.work.ensures.err
+          c.in_ok-worker.ensures.worker c.lock.ensures.works)
       | else-eq w ↦ works_same allowed d c.lock.new.plan c.if-eq.plan w.plan-is c.lock.ensures.works
     ] in
-    works_done allowed d c.if-eq.plan c.work-2.new.self _ c.work-2.result c.work-2.ensures.ok c.work-2.ensures.err refl
-    refl fenced
+    works_done allowed d c.if-eq.plan c.work-2.new.self _ c.work-2.result c.work-2.ensures.ok c.work-2.ensures.err
+    c.in_ok-worker.ensures.worker fenced

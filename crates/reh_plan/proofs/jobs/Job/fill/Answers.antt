@@ -1,5 +1,4 @@
 -- The worker may take places.
-use Rattle.std.proofs.Common.{refl}
 use Rattle.reh_types.specs.Sets.{Set, numbers}
 use Rattle.reh_plan.specs.Plans.{Draft, Works}
 use Rattle.reh_plan.proofs.PlanLaws.{works_done}
@@ -10,7 +9,7 @@ returns-clause-works c =
     let allowed : Set numbers = c.args.workers.now in
     let d : Draft = c.args.plan.now in
     let copied : Works allowed d c.work.new.self =
-    works_done allowed d c.lock.new.plan c.work.new.self _ c.work.result c.work.ensures.ok c.work.ensures.err refl
+    works_done allowed d c.lock.new.plan c.work.new.self _ c.work.result c.work.ensures.ok c.work.ensures.err
     c.in_ok-worker.ensures.worker c.lock.ensures.works in
-    works_done allowed d c.work.new.self c.work-2.new.self _ c.work-2.result c.work-2.ensures.ok c.work-2.ensures.err refl
+    works_done allowed d c.work.new.self c.work-2.new.self _ c.work-2.result c.work-2.ensures.ok c.work-2.ensures.err
     c.in_ok-worker.ensures.worker copied
