@@ -150,8 +150,8 @@ fn are_same(sources: &[Option<BookieIx>], others: &[Option<BookieIx>]) -> bool
     ensures { IsTrue result → sources.now ≡ others.now }
 {
     let mut differing = 0;
-    for index in 0..sources.len() {
-        differing |= code_of(sources[index]) ^ code_of(others[index]);
+    for (source, other) in sources.iter().zip(others) {
+        differing |= code_of(*source) ^ code_of(*other);
     }
     differing == 0
 }
