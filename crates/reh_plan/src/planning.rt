@@ -32,7 +32,7 @@ use std::alloc::{AllocError, Global};
 /// changes, and in which none but the allowed bookies lock tasks, recover ledgers, copy or take places (`order`). So in
 /// the end the lost bookies aren't registered, and all others are as they were (`lost`). Each ledger that has a task
 /// then, or a member that isn't registered, is named in a comment (`named`), and no other is (`only`). The comment's
-/// reason is what the last try for that ledger met, which no clause says.
+/// reason is the first that was met for that ledger, which no clause says.
 pub fn plan(
     alloc: Global,
     state: State,
