@@ -14,7 +14,7 @@ use Rattle.reh_redundancy.specs.Redundancy.{copies, count_under, entries_of, fra
 use Rattle.reh_redundancy.specs.Redundancy.{redundancy, sum_of}
 use Rattle.reh_redundancy.specs.declared.counts.Redundancy.{Redundancy}
 use Rattle.reh_redundancy.specs.Verdicts.{count_entries, every_entry, has_acks, is_yes, keeps, loses}
-use Rattle.reh_redundancy.specs.Verdicts.{ok_to_stop, verdict_of, verdict_on}
+use Rattle.reh_redundancy.specs.Verdicts.{ok_to_stop, unacked_without, unread_without, verdict_by, verdict_of, verdict_on, verdict_over}
 use Rattle.reh_redundancy.specs.declared.counts.Verdict.TheVariants.{Yes, Loses, FallsUnder}
 use Rattle.reh_redundancy.proofs.LossLaws.{is_source-kept}
 use Rattle.reh_redundancy.proofs.CountLaws.{any-count, count_by-le, list_all-alike, sum_by-map, sum_by-plus, sums-same}
@@ -208,42 +208,38 @@ ok_to_stop-counts s bookies allow_under_ack =
 -- Verdicts with their reasons
 
 more-lost : (s : Cluster) (bookies : Set numbers)
-    → (redundancy (losing s bookies)).lost
-    ≡ (redundancy s).lost + count_entries s (loses is_readable s (losing s bookies))
+    → (redundancy (losing s bookies)).lost ≡ (redundancy s).lost + unread_without s bookies
 more-lost s bookies =
     lost-all (losing s bookies)
     ∙ lost-entries is_readable (λ _. 1) is_readable-copies s bookies
-    ∙ ap (λ n. n + count_entries s (loses is_readable s (losing s bookies))) (sym (lost-all s))
+    ∙ ap (λ n. n + unread_without s bookies) (sym (lost-all s))
 
 more-under : (s : Cluster) (bookies : Set numbers)
-    → (redundancy (losing s bookies)).under_ack
-    ≡ (redundancy s).under_ack + count_entries s (loses has_acks s (losing s bookies))
+    → (redundancy (losing s bookies)).under_ack ≡ (redundancy s).under_ack + unacked_without s bookies
 more-under s bookies =
     under_ack-all (losing s bookies)
     ∙ lost-entries has_acks (λ g. g.metadata.ack_quorum) has_acks-copies s bookies
-    ∙ ap (λ n. n + count_entries s (loses has_acks s (losing s bookies))) (sym (under_ack-all s))
+    ∙ ap (λ n. n + unacked_without s bookies) (sym (under_ack-all s))
+
+-- the verdict by counts, of which those after the loss are so much more
+by-more : (before after : Redundancy) (lost under : ℕ) (allow : Bool) → after.lost ≡ before.lost + lost
+    → after.under_ack ≡ before.under_ack + under → verdict_of before after allow ≡ verdict_by lost under allow
+by-more before after lost under allow more more_under =
+    let loss : after.lost - before.lost ≡ lost = omega (arith, more) in
+    let falls : after.under_ack - before.under_ack ≡ under = omega (arith, more_under) in
+    λ i.
+    if some_more before.lost after.lost lost more i then Loses (loss i)
+    else (if some_more before.under_ack after.under_ack under more_under i && not allow then FallsUnder (falls i)
+    else Yes) where
+      some_more : (before after more : ℕ) → after ≡ before + more → nat_lt before after ≡ nat_lt 0 more
+      some_more before after more is = grind (arith, nat_tests)
 
 -- the counts tell how many entries are lost, and how many fall under their acks
 pub verdict-counts : (s : Cluster) (bookies : Set numbers) (allow : Bool)
     → verdict_of (redundancy s) (redundancy (losing s bookies)) allow ≡ verdict_on s bookies allow
 verdict-counts s bookies allow =
-    judged (redundancy s).lost (redundancy (losing s bookies)).lost (redundancy s).under_ack
-    (redundancy (losing s bookies)).under_ack (count_entries s (loses is_readable s (losing s bookies)))
-    (count_entries s (loses has_acks s (losing s bookies))) (more-lost s bookies) (more-under s bookies) where
-      some_more : (before after more : ℕ) → after ≡ before + more → nat_lt before after ≡ nat_lt 0 more
-      some_more before after more is = grind (arith, nat_tests)
-
-      judged : (lost_before lost_after under_before under_after lost under : ℕ) → lost_after ≡ lost_before + lost
-          → under_after ≡ under_before + under
-          → (if nat_lt lost_before lost_after then Loses (lost_after - lost_before)
-          else (if nat_lt under_before under_after && not allow then FallsUnder (under_after - under_before) else Yes))
-          ≡ (if nat_lt 0 lost then Loses lost else (if nat_lt 0 under && not allow then FallsUnder under else Yes))
-      judged lost_before lost_after under_before under_after lost under more more_under =
-          let loss : lost_after - lost_before ≡ lost = omega (arith, more) in
-          let falls : under_after - under_before ≡ under = omega (arith, more_under) in
-          λ i.
-          if some_more lost_before lost_after lost more i then Loses (loss i)
-          else (if some_more under_before under_after under more_under i && not allow then FallsUnder (falls i) else Yes)
+    by-more (redundancy s) (redundancy (losing s bookies)) (unread_without s bookies) (unacked_without s bookies) allow
+    (more-lost s bookies) (more-under s bookies)
 
 -- a verdict is yes where nothing is lost, and nothing falls under its acks, or that may be
 ruled : (lost under allow : Bool) (m n : ℕ)
@@ -295,6 +291,25 @@ lost-more s bookies = omega (arith, more-lost s bookies)
 under-ack-more : (s : Cluster) (bookies : Set numbers)
     → (redundancy s).under_ack ≤ (redundancy (losing s bookies)).under_ack
 under-ack-more s bookies = omega (arith, more-under s bookies)
+
+-- the sums of their counts tell how many entries of all are lost, and how many fall under their acks
+pub verdicts-counted : (clusters : List (Cluster × Set numbers)) (allow : Bool)
+    → verdict_of (sum_of (map (λ c. redundancy c.0) clusters))
+    (sum_of (map (λ c. redundancy (losing c.0 c.1)) clusters)) allow ≡ verdict_over clusters allow
+verdicts-counted clusters allow =
+    let now : Cluster × Set numbers → Redundancy = λ c. redundancy c.0 in
+    let without : Cluster × Set numbers → Redundancy = λ c. redundancy (losing c.0 c.1) in
+    by-more (sum_of (map now clusters)) (sum_of (map without clusters))
+    (sum_by (λ c. unread_without c.0 c.1) clusters) (sum_by (λ c. unacked_without c.0 c.1) clusters) allow
+    (summed (λ c. c.lost) now without (λ c. unread_without c.0 c.1) (λ c. more-lost c.0 c.1))
+    (summed (λ c. c.under_ack) now without (λ c. unacked_without c.0 c.1) (λ c. more-under c.0 c.1)) where
+      summed : (count : Redundancy → ℕ) (now without : Cluster × Set numbers → Redundancy)
+          (more : Cluster × Set numbers → ℕ) → ((c : Cluster × Set numbers) → count (without c) ≡ count (now c) + more c)
+          → sum_by count (map without clusters) ≡ sum_by count (map now clusters) + sum_by more clusters
+      summed count now without more each =
+          sum_by-map count without clusters
+          ∙ sum_by-plus (λ c. count (now c)) more (λ c. count (without c)) clusters each
+          ∙ ap (λ n. n + sum_by more clusters) (sym (sum_by-map count now clusters))
 
 -- the verdict by the sums of their counts is yes exactly where it is yes for each
 pub verdicts-added : (clusters : List (Cluster × Set numbers)) (allow : Bool)

@@ -1,6 +1,6 @@
 -- Whether bookies may be stopped.
 use Rattle.std.specs.Prelude.{ℕ, ◌-◌, Bool, true, false, not, ◌&&◌, ◌||◌, nat_le, nat_lt, if◌then◌else◌, count_by}
-use Rattle.std.specs.Prelude.{sum_by}
+use Rattle.std.specs.Prelude.{List, sum_by}
 use Rattle.std.specs.List.{enumerate_from, list_all}
 use Rattle.reh_types.specs.Sets.{Set, numbers}
 use Rattle.reh_model.specs.Metadata.{Fragment}
@@ -46,14 +46,30 @@ count_entries s test =
     sum_by (λ p. count_by (test g p.1) (entries_of s g p.0 p.1)) (enumerate_from 0 g.metadata.fragments))
     s.parts.ledgers
 
--- the verdict on these bookies: how many entries that can be read now can't be read without them, or else how many
--- that have their acks now don't have them without them
-abbrev pub verdict_on : Cluster → Set numbers → Bool → Verdict
-verdict_on s bookies allow_under_ack =
-    let lost = count_entries s (loses is_readable s (losing s bookies)) in
-    let under = count_entries s (loses has_acks s (losing s bookies)) in
+-- the verdict by how many entries that can be read now can't be read without some bookies, and how many that have their
+-- acks now don't have them without them
+abbrev pub verdict_by : ℕ → ℕ → Bool → Verdict
+verdict_by lost under allow_under_ack =
     if nat_lt 0 lost then Loses lost
     else (if nat_lt 0 under && not allow_under_ack then FallsUnder under else Yes)
+
+-- so many entries these are of a cluster
+abbrev pub unread_without : Cluster → Set numbers → ℕ
+unread_without s bookies = count_entries s (loses is_readable s (losing s bookies))
+
+abbrev pub unacked_without : Cluster → Set numbers → ℕ
+unacked_without s bookies = count_entries s (loses has_acks s (losing s bookies))
+
+-- the verdict on these bookies
+abbrev pub verdict_on : Cluster → Set numbers → Bool → Verdict
+verdict_on s bookies allow_under_ack =
+    verdict_by (unread_without s bookies) (unacked_without s bookies) allow_under_ack
+
+-- the verdict over several clusters, each with the bookies that it loses, by the entries of all of them
+abbrev pub verdict_over : List (Cluster × Set numbers) → Bool → Verdict
+verdict_over clusters allow_under_ack =
+    verdict_by (sum_by (λ c. unread_without c.0 c.1) clusters) (sum_by (λ c. unacked_without c.0 c.1) clusters)
+    allow_under_ack
 
 abbrev pub is_yes : Verdict → Bool
 is_yes Yes = true

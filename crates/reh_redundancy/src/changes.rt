@@ -6,9 +6,9 @@ ghost use Rattle.reh_model.specs.Cluster.{is_up};
 ghost use Rattle.reh_redundancy.specs.Losses.{losing};
 ghost use Rattle.reh_redundancy.specs.Changes as model;
 
-use crate::fragments::last_fragment;
 use reh_cluster::{Ledger, State};
 use reh_meta::Fragment;
+use reh_scan::last_fragment;
 use reh_types::{BookieSet, LedgerState};
 
 /// Whether the ledger is open, and some member of its last ensemble isn't registered while these bookies are lost: its

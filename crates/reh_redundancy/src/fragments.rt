@@ -12,7 +12,7 @@ use crate::rows::rows_without;
 use crate::words::count_words;
 use reh_cluster::{Ledger, State};
 use reh_meta::Fragment;
-use reh_scan::four_masks_of;
+use reh_scan::{four_masks_of, next_entry};
 use reh_stripe::FourMasks;
 use reh_types::BookieSet;
 
@@ -94,25 +94,4 @@ fn entries_end(state: &State, ledger: &Ledger, number: usize) -> u32
         Some(stop) => stop,
         None => next_entry(state, ledger),
     }
-}
-
-/// The writer's next entry: one more than the greatest that any bookie holds, and no less than the last fragment's
-/// first.
-fn next_entry(state: &State, ledger: &Ledger) -> u32
-    ensures { result ≡ recovery.next_entry state.now ledger.now }
-{
-    let _well_formed = state.ledgers();
-    let first = last_fragment(ledger).first;
-    match state.greatest(ledger.id()) {
-        Some(greatest) => first.max(greatest + 1),
-        None => first,
-    }
-}
-
-/// The last fragment, to which the ledger's writer appends.
-pub(crate) fn last_fragment(ledger: &Ledger) -> &Fragment
-    ensures { result.now ≡ meta.last_fragment ledger.now.metadata }
-{
-    let fragments = ledger.metadata().fragments();
-    &fragments[fragments.len() - 1]
 }

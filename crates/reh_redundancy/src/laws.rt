@@ -11,7 +11,7 @@ ghost use Rattle.reh_model.specs.Step.{after};
 ghost use Rattle.reh_model.specs.Survey.{lost_of};
 ghost use Rattle.reh_redundancy.specs.Losses.{losing};
 ghost use Rattle.reh_redundancy.specs.Redundancy.{copies, fragment_redundancy, redundancy, sum_of};
-ghost use Rattle.reh_redundancy.specs.Verdicts.{is_yes, ok_to_stop, verdict_of};
+ghost use Rattle.reh_redundancy.specs.Verdicts.{is_yes, ok_to_stop, verdict_of, verdict_over};
 
 /// An entry has no copy exactly where it can't be read.
 pub fn without_copies_is_unreadable()
@@ -43,10 +43,16 @@ pub fn losses_are_events()
         → losing s bookies ≡ fold (λ s b. after s (Lose b)) s (set.items bookies) }
 {}
 
-/// The verdict by the counts of several clusters, added up, is yes exactly where the verdict on each of them is. So a
-/// cluster whose ledgers stand in several pictures is judged as one.
+/// The counts of several clusters, added up, give the verdict by the entries of all of them (`verdict`), and it is yes
+/// exactly where the verdict on each of them is (`rule`). So a cluster whose ledgers stand in several pictures is judged
+/// as one.
 pub fn verdicts_add_up()
-    ensures { (clusters : List (Cluster × Set numbers)) (allow : Bool)
+    ensures verdict { (clusters : List (Cluster × Set numbers)) (allow : Bool)
+        → verdict_of
+        (sum_of (map (λ c. redundancy c.0) clusters))
+        (sum_of (map (λ c. redundancy (losing c.0 c.1)) clusters)) allow
+        ≡ verdict_over clusters allow }
+    ensures rule { (clusters : List (Cluster × Set numbers)) (allow : Bool)
         → is_yes (verdict_of
         (sum_of (map (λ c. redundancy c.0) clusters))
         (sum_of (map (λ c. redundancy (losing c.0 c.1)) clusters)) allow)

@@ -22,32 +22,6 @@ pub(crate) fn all_entries() -> FourWords
     FourWords { words: [!0; 4] }
 }
 
-/// The entries of four words, from that number on, with two copies or more. The first word's first entry has its rank 0
-/// at the index `start`.
-pub(crate) fn twice_words(
-    rows: &Rows<'_>,
-    masks: &FourMasks,
-    metadata: &LedgerMeta,
-    start: u32,
-    number: u32,
-) -> FourWords
-    requires masks { masks.now ≡ sizes_of metadata.now }
-    requires start { start ≡ (64 * number) % metadata.now.size }
-    ensures { HaveEntries result.words number (λ e. nat_le 2 (row_copies rows.now metadata.now e)) }
-{
-    let mut once = FourWords::none();
-    let mut twice = FourWords::none();
-    for index in 0..metadata.size() {
-        let carried = masks.carried(start, index);
-        let row = FourWords::at(rows[index as usize], number as usize);
-        let held = row.and(&carried);
-        let again = once.and(&held);
-        twice = twice.or(&again);
-        once = once.or(&held);
-    }
-    twice
-}
-
 /// The entries of four words, from that number on, with the copies of the ack quorum. The first word's first entry has
 /// its rank 0 at the index `start`.
 pub(crate) fn level_of_acks(

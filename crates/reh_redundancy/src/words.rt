@@ -6,7 +6,7 @@ ghost use Rattle.reh_redundancy.specs.Rows.{row_copies, rows_under};
 ghost use Rattle.reh_redundancy.specs.Words.{HaveEntries};
 
 use crate::counts::Redundancy;
-use crate::levels::{all_entries, level_of_acks, twice_words};
+use crate::levels::{all_entries, level_of_acks};
 use reh_meta::LedgerMeta;
 use reh_scan::Rows;
 use reh_stripe::{FourMasks, FourWords, wrapped};
@@ -58,6 +58,8 @@ pub(crate) fn count_words(
 struct Copied {
     /// Those with a copy.
     once: FourWords,
+    /// Those with two copies.
+    twice: FourWords,
     /// Those with the copies of the write quorum: no index of their write sets lacks them.
     written: FourWords,
 }
@@ -74,21 +76,29 @@ fn copied_words(
     requires masks { masks.now ≡ sizes_of metadata.now }
     requires start { start ≡ (64 * number) % metadata.now.size }
     ensures once { HaveEntries result.once.words number (λ e. nat_le 1 (row_copies rows.now metadata.now e)) }
+    ensures twice { HaveEntries result.twice.words number (λ e. nat_le 2 (row_copies rows.now metadata.now e)) }
     ensures written { HaveEntries result.written.words number
         (λ e. nat_le metadata.now.write_quorum (row_copies rows.now metadata.now e)) }
 {
     let mut once = FourWords::none();
+    let mut twice = FourWords::none();
     let mut lacking = FourWords::none();
     for index in 0..metadata.size() {
         let carried = masks.carried(start, index);
         let row = FourWords::at(rows[index as usize], number as usize);
         let held = row.and(&carried);
+        let again = once.and(&held);
         let lacked = carried.without(&held);
+        twice = twice.or(&again);
         once = once.or(&held);
         lacking = lacking.or(&lacked);
     }
     let written = all_entries().without(&lacking);
-    Copied { once, written }
+    Copied {
+        once,
+        twice,
+        written,
+    }
 }
 
 /// Those of them that have the copies of the ack quorum, which is mostly one, two or the write quorum.
@@ -103,6 +113,7 @@ fn acked_words(
     requires masks { masks.now ≡ sizes_of metadata.now }
     requires start { start ≡ (64 * number) % metadata.now.size }
     requires once { HaveEntries copied.now.once.words number (λ e. nat_le 1 (row_copies rows.now metadata.now e)) }
+    requires twice { HaveEntries copied.now.twice.words number (λ e. nat_le 2 (row_copies rows.now metadata.now e)) }
     requires written { HaveEntries copied.now.written.words number
         (λ e. nat_le metadata.now.write_quorum (row_copies rows.now metadata.now e)) }
     ensures { HaveEntries result.words number
@@ -114,7 +125,7 @@ fn acked_words(
     }
     match acks {
         1 => copied.once,
-        2 => twice_words(rows, masks, metadata, start, number),
+        2 => copied.twice,
         _ => level_of_acks(rows, masks, metadata, start, number),
     }
 }

@@ -9,6 +9,7 @@ mod places;
 mod posts;
 mod sources;
 mod surveys;
+mod writers;
 
 pub use costs::survey_costs;
 pub use jobs::{Job, look};
@@ -17,3 +18,4 @@ pub use places::{Found, aimed, check_bookie, check_member, check_place, find_led
 pub use posts::{check, find_posted};
 pub use sources::{Rows, first_unreadable, four_masks_of, readable_words, source_rows};
 pub use surveys::{survey_line, survey_plain, survey_run};
+pub use writers::{last_fragment, next_entry};

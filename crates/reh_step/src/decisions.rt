@@ -14,12 +14,13 @@ ghost use Rattle.reh_model.specs.Recovery as recovery;
 ghost use Rattle.reh_scan.specs.Places.{IsFound};
 ghost use Rattle.reh_step.specs.Places.{IsPlace};
 
-use crate::recoveries::{find_end, last_fragment, next_entry};
+use crate::recoveries::find_end;
 use reh_audit::{has_news, is_under, under_of};
 use reh_cluster::{Ledger, State};
 use reh_meta::Fragment;
 use reh_scan::{
     Found, check_bookie, check_member, check_place, find_ledger, find_owned, first_unreadable,
+    last_fragment, next_entry,
 };
 use reh_stripe::{Striped, Word, least_entry, word_at};
 use reh_types::{

@@ -17,12 +17,11 @@ use crate::decisions::{
     check_finish, check_grace, check_join, check_lose, check_release, check_roll, check_seal,
     check_swap, check_tick,
 };
-use crate::recoveries::last_fragment;
 use reh_audit::{is_news, published_of};
 use reh_cluster::{Changes, Ledger, State};
 use reh_held::Turn;
 use reh_meta::{Fragment, LedgerMeta};
-use reh_scan::Found;
+use reh_scan::{Found, last_fragment};
 use reh_stripe::Striped;
 use reh_types::{Aim, BookieIx, Change, LedgerId, Lock, Refusal, Scalar};
 use std::alloc::{AllocError, Global};

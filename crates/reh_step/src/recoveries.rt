@@ -1,4 +1,4 @@
-// Where a writer goes on and a recovery ends, and whether enough members answer a recovery.
+// Where a recovery ends, and whether enough members answer it.
 ghost use Rattle.std.specs.Prelude.{◌≡◌, ◌<◌, ℕ, [], ◌∷◌, length, slice_index, count_by};
 ghost use Rattle.reh_model.specs.Metadata as meta;
 ghost use Rattle.reh_model.specs.Metadata.{IsMetadata};
@@ -12,31 +12,9 @@ ghost use Rattle.reh_step.specs.Marks.{is_marked};
 
 use reh_cluster::{Ledger, State};
 use reh_meta::{Fragment, LedgerMeta};
-use reh_scan::first_unreadable;
+use reh_scan::{first_unreadable, last_fragment};
 use reh_stripe::{Striped, write_set};
 use reh_types::{ENTRY_END, MAX_ENSEMBLE_SIZE, Refusal};
-
-/// The last fragment, to which the ledger's writer appends.
-pub(crate) fn last_fragment(ledger: &Ledger) -> &Fragment
-    ensures last { result.now ≡ meta.last_fragment ledger.now.metadata }
-    ensures whole { length result.now.ensemble ≡ ledger.now.metadata.size }
-{
-    let fragments = ledger.metadata().fragments();
-    &fragments[fragments.len() - 1]
-}
-
-/// The writer's next entry: one more than the greatest that any bookie holds, and no less than the last fragment's
-/// first.
-pub(crate) fn next_entry(state: &State, ledger: &Ledger) -> u32
-    ensures { result ≡ recovery.next_entry state.now ledger.now }
-{
-    let _well_formed = state.ledgers();
-    let first = last_fragment(ledger).first;
-    match state.greatest(ledger.id()) {
-        Some(greatest) => first.max(greatest + 1),
-        None => first,
-    }
-}
 
 /// Where a recovery ends the ledger, the first entry of the last fragment that can't be read, if enough registered
 /// members answer it: for each entry that it passes, an ack quorum of its write set, and for the one where it ends,

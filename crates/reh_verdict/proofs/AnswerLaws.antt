@@ -9,9 +9,9 @@ use Rattle.reh_model.specs.Cluster.{Cluster}
 use Rattle.reh_redundancy.specs.Losses.{losing}
 use Rattle.reh_redundancy.specs.Redundancy.{redundancy, sum_of}
 use Rattle.reh_redundancy.specs.Verdicts as verdicts
-use Rattle.reh_redundancy.proofs.VerdictLaws.{verdicts-added}
+use Rattle.reh_redundancy.proofs.VerdictLaws.{verdicts-added, verdicts-counted}
 use Rattle.reh_verdict.specs.declared.judged.Judged.{Judged}
-use Rattle.reh_verdict.specs.Answers.{counts_now, counts_without, verdict_of}
+use Rattle.reh_verdict.specs.Answers.{cluster_of, counts_now, counts_without, verdict_of}
 
 -- what is printed of one more
 pub printed-more : {X : Type 0} (f : X → List ℕ) (xs : List X) (i : ℕ) (x : X) → i < length xs → x ≡ get_or xs i x
@@ -23,10 +23,6 @@ printed-more f xs i x within is =
     ∙ ap (λ y. flat_map f (take i xs ++ y ∷ [])) is
     ∙ ap (λ zs. flat_map f zs) (sym (take_more xs i x within))
 
--- the cluster of a picture, and the bookies that are lost
-abbrev judged_of : Judged → Cluster × Set numbers
-judged_of j = (j.state.value, j.bookies)
-
 maps-twice : {X Y Z : Type 0} (f : Y → Z) (h : X → Y) (xs : List X) → map f (map h xs) ≡ map (λ x. f (h x)) xs
 maps-twice f h [] = refl
 maps-twice f h (x ∷ xs) = ap (λ ys. f (h x) ∷ ys) (maps-twice f h xs)
@@ -35,16 +31,22 @@ all-mapped : {X Y : Type 0} (p : Y → Bool) (h : X → Y) (xs : List X) → lis
 all-mapped p h [] = refl
 all-mapped p h (x ∷ xs) = ap (λ b. p (h x) && b) (all-mapped p h xs)
 
--- the verdict over all pictures is the rule's for each
+-- the counts of all pictures, added up, give the verdict by all their entries
+pub verdict-counts : (judged : List Judged) (allow : Bool)
+    → verdicts.verdict_of (counts_now judged) (counts_without judged) allow ≡ verdict_of judged allow
+verdict-counts judged allow =
+    let before : sum_of (map (λ (c : Cluster × Set numbers). redundancy c.0) (map cluster_of judged))
+    ≡ counts_now judged = ap sum_of (maps-twice (λ (c : Cluster × Set numbers). redundancy c.0) cluster_of judged) in
+    let after : sum_of (map (λ (c : Cluster × Set numbers). redundancy (losing c.0 c.1)) (map cluster_of judged))
+    ≡ counts_without judged =
+    ap sum_of (maps-twice (λ (c : Cluster × Set numbers). redundancy (losing c.0 c.1)) cluster_of judged) in
+    (λ i. verdicts.verdict_of (sym before i) (sym after i) allow) ∙ verdicts-counted (map cluster_of judged) allow
+
+-- and it is the rule's for each
 pub verdict-rule : (judged : List Judged) (allow : Bool)
     → verdicts.is_yes (verdict_of judged allow)
     ≡ list_all (λ j. verdicts.ok_to_stop j.state.value j.bookies allow) judged
 verdict-rule judged allow =
-    let before : sum_of (map (λ (c : Cluster × Set numbers). redundancy c.0) (map judged_of judged))
-    ≡ counts_now judged = ap sum_of (maps-twice (λ (c : Cluster × Set numbers). redundancy c.0) judged_of judged) in
-    let after : sum_of (map (λ (c : Cluster × Set numbers). redundancy (losing c.0 c.1)) (map judged_of judged))
-    ≡ counts_without judged =
-    ap sum_of (maps-twice (λ (c : Cluster × Set numbers). redundancy (losing c.0 c.1)) judged_of judged) in
-    (λ i. verdicts.is_yes (verdicts.verdict_of (sym before i) (sym after i) allow))
-    ∙ verdicts-added (map judged_of judged) allow
-    ∙ all-mapped (λ (c : Cluster × Set numbers). verdicts.ok_to_stop c.0 c.1 allow) judged_of judged
+    ap verdicts.is_yes (sym (verdicts-counted (map cluster_of judged) allow))
+    ∙ verdicts-added (map cluster_of judged) allow
+    ∙ all-mapped (λ (c : Cluster × Set numbers). verdicts.ok_to_stop c.0 c.1 allow) cluster_of judged

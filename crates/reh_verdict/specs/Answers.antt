@@ -1,5 +1,7 @@
 -- The answer over pictures.
 use Rattle.std.specs.Prelude.{ℕ, Bool, List, ◌++◌, flat_map, map}
+use Rattle.reh_types.specs.Sets.{Set, numbers}
+use Rattle.reh_model.specs.Cluster.{Cluster}
 use Rattle.reh_redundancy.specs.declared.counts.Redundancy.{Redundancy}
 use Rattle.reh_redundancy.specs.declared.counts.Verdict.{Verdict}
 use Rattle.reh_redundancy.specs.declared.counts.Verdict.TheVariants.{Yes, Loses, FallsUnder}
@@ -16,8 +18,13 @@ counts_now judged = sum_of (map (λ j. redundancy j.state.value) judged)
 abbrev pub counts_without : List Judged → Redundancy
 counts_without judged = sum_of (map (λ j. redundancy (losing j.state.value j.bookies)) judged)
 
+-- the cluster of a picture, and the bookies that are lost
+abbrev pub cluster_of : Judged → Cluster × Set numbers
+cluster_of j = (j.state.value, j.bookies)
+
+-- the verdict by the entries of all pictures
 abbrev pub verdict_of : List Judged → Bool → Verdict
-verdict_of judged allow_under_ack = verdicts.verdict_of (counts_now judged) (counts_without judged) allow_under_ack
+verdict_of judged allow_under_ack = verdicts.verdict_over (map cluster_of judged) allow_under_ack
 
 -- the lines of each picture's ledgers, all counts, and the verdict
 abbrev pub text_of : List Judged → Bool → List ℕ

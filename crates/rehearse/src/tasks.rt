@@ -171,44 +171,62 @@ fn all_ways(alloc: Global) -> Result<String, AllocError> {
 /// The command line: no word, `run PICTURE SCRIPT --workers N`, `talk PICTURE`, `check PICTURE`,
 /// `drill PICTURE SCRIPT..`, `ok-to-stop --lose BOOKIE,.. PICTURE..`, or `plan --lose BOOKIE,.. --to BOOKIE,.. PICTURE`.
 fn command<'a>(alloc: Global, ways: &'a str) -> Result<Command<'a>, Error> {
+    let command = Command::new(alloc, "rehearse")
+        .version(VERSION)
+        .about(ABOUT)
+        .after_help(ways)
+        .disable_help_subcommand(true)
+        .subcommand(run_command(alloc)?)?
+        .subcommand(talk_command(alloc)?)?
+        .subcommand(check_command(alloc)?)?
+        .subcommand(drill_command(alloc)?)?
+        .subcommand(stop_command(alloc)?)?
+        .subcommand(plan_command(alloc)?)?;
+    Ok(command)
+}
+
+/// The command `run`.
+fn run_command<'a>(alloc: Global) -> Result<Command<'a>, Error> {
     let script = Arg::new(alloc, "SCRIPT")
         .required(true)
         .help("A file with the script");
     let workers = workers_arg(alloc)?.help(
         "How many workers make each survey, 1 to 8; by default 1",
     );
-    let run = Command::new(alloc, "run")
+    let command = Command::new(alloc, "run")
         .about("Plays a script on a picture, each in a file")
         .arg(picture_arg(alloc))?
         .arg(script)?
         .arg(workers)?;
-    let talk = Command::new(alloc, "talk")
+    Ok(command)
+}
+
+/// The command `talk`.
+fn talk_command<'a>(alloc: Global) -> Result<Command<'a>, Error> {
+    let command = Command::new(alloc, "talk")
         .about("Plays what is typed on a picture: each line is answered before more is read")
         .arg(picture_arg(alloc))?;
-    let check = Command::new(alloc, "check")
+    Ok(command)
+}
+
+/// The command `check`.
+fn check_command<'a>(alloc: Global) -> Result<Command<'a>, Error> {
+    let command = Command::new(alloc, "check")
         .about("Says how much a picture shows, or where it is wrong")
         .arg(picture_arg(alloc))?;
+    Ok(command)
+}
+
+/// The command `drill`.
+fn drill_command<'a>(alloc: Global) -> Result<Command<'a>, Error> {
     let scripts = Arg::new(alloc, "SCRIPT")
         .required(true)
         .num_args(1..=MAX_OPERATORS)
         .help("Files with the scripts of the operators, 1 to 8");
-    let drill = Command::new(alloc, "drill")
+    let command = Command::new(alloc, "drill")
         .about("Plays scripts on a picture, each by an operator with a thread of its own")
         .arg(picture_arg(alloc))?
         .arg(scripts)?;
-    let stop = stop_command(alloc)?;
-    let plan = plan_command(alloc)?;
-    let command = Command::new(alloc, "rehearse")
-        .version(VERSION)
-        .about(ABOUT)
-        .after_help(ways)
-        .disable_help_subcommand(true)
-        .subcommand(run)?
-        .subcommand(talk)?
-        .subcommand(check)?
-        .subcommand(drill)?
-        .subcommand(stop)?
-        .subcommand(plan)?;
     Ok(command)
 }
 

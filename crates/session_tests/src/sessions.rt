@@ -86,8 +86,7 @@ fn a_copy_of_the_state(rt: HostRuntime) -> Result<(), Fail> {
 }
 
 /// How many replies a run gives, and those that aren't `ok`, behind their places.
-fn run(alloc: Global, picture: &str, moves: &[Move]) -> Result<String, Fail> {
-    let mut session = opened(alloc, picture)?;
+fn run(alloc: Global, session: &mut Session, moves: &[Move]) -> Result<String, AllocError> {
     let replies = session.run(moves)?;
     let count = replies.len();
     let mut text = format!(in alloc; "{count} replies\n")?;
@@ -113,8 +112,9 @@ fn ticks_and_moves(alloc: Global, count: usize) -> Result<Vec<Move>, AllocError>
 
 #[test]
 fn a_session_is_full_at_100_000_events(rt: HostRuntime) -> Result<(), Fail> {
+    let mut session = opened(rt.alloc(), TWO_BOOKIES)?;
     let moves = ticks_and_moves(rt.alloc(), 100_000)?;
-    let shown = run(rt.alloc(), TWO_BOOKIES, &moves)?;
+    let shown = run(rt.alloc(), &mut session, &moves)?;
     assert_eq!(rt;
         shown.as_str(),
         "100004 replies\n100000: refused 35 Full\n100001: refused 16 BadTick\n"
@@ -122,13 +122,19 @@ fn a_session_is_full_at_100_000_events(rt: HostRuntime) -> Result<(), Fail> {
     Ok(())
 }
 
+/// The second of the five bookies is lost, and the fourth one's worker locks the closed ledger.
+fn lose_one(session: &mut Session) -> Result<(), Refusal> {
+    for event in &LOSS {
+        session.act(event)?;
+    }
+    Ok(())
+}
+
 /// A copy is the same session until one of the two makes a move, and again once the other has made the same.
 #[test]
 fn a_copy_is_the_same_session(rt: HostRuntime) -> Result<(), Fail> {
     let mut session = opened(rt.alloc(), FIVE_BOOKIES)?;
-    for event in &LOSS {
-        session.act(event)?;
-    }
+    lose_one(&mut session)?;
     let mut copy = session.clone_in()?;
     assert!(rt; copy.same(&session));
     session.act(&TICK)?;
@@ -140,25 +146,25 @@ fn a_copy_is_the_same_session(rt: HostRuntime) -> Result<(), Fail> {
     Ok(())
 }
 
+/// A post with a source that lacks entry 1, and one whose sources hold what is copied, which is undone and made again.
+fn posts(alloc: Global) -> Result<Vec<Move>, AllocError> {
+    let (b1, b3) = (Some(BookieIx(0)), Some(BookieIx(2)));
+    let mut moves = Vec::new(alloc);
+    moves.push(Move::Post(content(alloc, [b1, b1, b1, b3])?))?;
+    moves.push(Move::Post(content(alloc, [b1, b3, b1, b3])?))?;
+    moves.push(Move::Undo)?;
+    moves.push(Move::Redo)?;
+    Ok(moves)
+}
+
 /// An accepted post survives as the copy that it stands for, and is undone as that.
 #[test]
 fn a_post_is_a_copy(rt: HostRuntime) -> Result<(), Fail> {
     let mut session = opened(rt.alloc(), FIVE_BOOKIES)?;
-    for event in &LOSS {
-        session.act(event)?;
-    }
-    let (b1, b3) = (Some(BookieIx(0)), Some(BookieIx(2)));
-    let moves = [
-        Move::Post(content(rt.alloc(), [b1, b1, b1, b3])?),
-        Move::Post(content(rt.alloc(), [b1, b3, b1, b3])?),
-        Move::Undo,
-        Move::Redo,
-    ];
-    let mut text = String::new(rt.alloc());
-    for reply in &session.run(&moves)? {
-        write!(text, "{reply}\n")?;
-    }
-    assert_eq!(rt; text.as_str(), "refused 36 SourceGone 1\nok\nok\nok\n");
+    lose_one(&mut session)?;
+    let moves = posts(rt.alloc())?;
+    let shown = run(rt.alloc(), &mut session, &moves)?;
+    assert_eq!(rt; shown.as_str(), "4 replies\n0: refused 36 SourceGone 1\n");
     assert!(rt; session.done().last() == Some(&COPY));
     assert_eq!(rt; session.state().count(WORKER), 4);
     Ok(())

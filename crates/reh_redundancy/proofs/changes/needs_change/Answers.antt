@@ -17,5 +17,5 @@ returns-in-Open c =
     let missing : Bool =
     list_any (λ b. not (is_up (losing c.args.state.now c.args.lost.now) b)) (last_fragment g.metadata).ensemble in
     c.has_lost_member.ensures
-    ∙ (λ i. list_any (λ b. is_down-losing c.args.state.now c.args.lost.now b i) (c.last_fragment.ensures i).ensemble)
+    ∙ (λ i. list_any (λ b. is_down-losing c.args.state.now c.args.lost.now b i) (c.last_fragment.ensures.last i).ensemble)
     ∙ ap (λ (state : LedgerState). is_open state && missing) (sym open_state)

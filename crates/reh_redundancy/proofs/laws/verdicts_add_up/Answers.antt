@@ -1,5 +1,8 @@
-use Rattle.reh_redundancy.proofs.VerdictLaws.{verdicts-added}
+use Rattle.reh_redundancy.proofs.VerdictLaws.{verdicts-added, verdicts-counted}
 use Rattle.reh_redundancy.proofs.laws.verdicts_add_up.Goals as goal
 
-pub returns : goal.returns
-returns c = verdicts-added
+pub returns-clause-verdict : goal.returns-clause-verdict
+returns-clause-verdict c = verdicts-counted
+
+pub returns-clause-rule : goal.returns-clause-rule
+returns-clause-rule c = verdicts-added

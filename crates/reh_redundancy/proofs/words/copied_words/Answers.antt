@@ -1,18 +1,20 @@
 -- The copies at an index more.
 use Rattle.std.proofs.Common.{◌≡◌, ◌∙◌, ◌+◌, ◌*◌, ◌%◌, ◌<◌, ◌≤◌, ◌&&◌, not, ℕ, length, slice_index, nat_le, ap, sym, arith}
+use Rattle.std.specs.Prelude.{bit_or}
 use Rattle.reh_model.specs.Metadata.{Metadata, IsMetadata}
 use Rattle.reh_model.specs.Striping.{is_striped}
 use Rattle.reh_stripe.specs.Masks.{Sizes}
 use Rattle.reh_stripe.specs.Words.{has_bit}
 use Rattle.reh_stripe.proofs.WordLaws.{has_bit-none}
 use Rattle.reh_scan.proofs.WordLaws.{is_read_at}
-use Rattle.reh_redundancy.proofs.LevelLaws.{copies_below, copies_below-all, has_bit-read, once-more}
+use Rattle.reh_redundancy.proofs.LevelLaws.{copies_below, copies_below-all, has_bit-read, higher-more, once-more}
 use Rattle.reh_redundancy.proofs.LevelLaws.{is_lacked_below, is_lacked_below-all, lacked-more}
 use Rattle.reh_redundancy.proofs.words.copied_words.Goals as goal
 
 pub loop-index-init : goal.loop-index-init
 loop-index-init c = record {
   once = λ k i within inside. ap (λ w. has_bit w i) (c.none-once.ensures k within) ∙ has_bit-none i;
+  twice = λ k i within inside. ap (λ w. has_bit w i) (c.none-twice.ensures k within) ∙ has_bit-none i;
   lacking = λ k i within inside. ap (λ w. has_bit w i) (c.none-lacking.ensures k within) ∙ has_bit-none i;
 }
 
@@ -45,6 +47,14 @@ loop-index-preserved c =
           ∙ once-more c.args.rows.now m.size m.write_quorum index (64 * (number + k) + i)
           (slice_index c.and-held.result.words k) i (held k i within inside)
           (slice_index c.loop-index.once.words k) (c.loop-index.invariant.once k i within inside);
+      twice = λ k i within inside.
+          ap (λ w. has_bit w i)
+          (c.or-twice.ensures k within
+          ∙ ap (λ w. bit_or (slice_index c.loop-index.twice.words k) w) (c.and-again.ensures k within))
+          ∙ higher-more c.args.rows.now m.size m.write_quorum index (64 * (number + k) + i)
+          (slice_index c.and-held.result.words k) i (held k i within inside) 1
+          (slice_index c.loop-index.twice.words k) (slice_index c.loop-index.once.words k)
+          (c.loop-index.invariant.twice k i within inside) (c.loop-index.invariant.once k i within inside);
       lacking = λ k i within inside.
           ap (λ w. has_bit w i) (c.or-lacking.ensures k within)
           ∙ lacked-more c.args.rows.now m.size m.write_quorum index (64 * (number + k) + i)
@@ -61,6 +71,16 @@ returns-clause-once c = λ k i within inside.
     let all : c.loop-index.index ≡ m.size = omega (arith, c.size-index-end.ensures.size) in
     c.loop-index.invariant.once k i within inside
     ∙ ap (nat_le 1)
+    (ap (λ n. copies_below c.args.rows.now m.size m.write_quorum n (64 * (c.args.number + k) + i)) all
+    ∙ copies_below-all c.args.rows.now m.size m.write_quorum (64 * (c.args.number + k) + i) rules_of.writes_within)
+
+pub returns-clause-twice : goal.returns-clause-twice
+returns-clause-twice c = λ k i within inside.
+    let m : Metadata = c.args.metadata.now in
+    let rules_of : IsMetadata m = c.size-index-end.ensures.well_formed in
+    let all : c.loop-index.index ≡ m.size = omega (arith, c.size-index-end.ensures.size) in
+    c.loop-index.invariant.twice k i within inside
+    ∙ ap (nat_le 2)
     (ap (λ n. copies_below c.args.rows.now m.size m.write_quorum n (64 * (c.args.number + k) + i)) all
     ∙ copies_below-all c.args.rows.now m.size m.write_quorum (64 * (c.args.number + k) + i) rules_of.writes_within)
 

@@ -8,6 +8,8 @@ abbrev pub invariant-loop-index : goal.invariant-loop-index
 invariant-loop-index l = record {
   once : HaveEntries l.once.words l.number
       (λ e. nat_le 1 (copies_below l.rows l.metadata.size l.metadata.write_quorum l.index e));
+  twice : HaveEntries l.twice.words l.number
+      (λ e. nat_le 2 (copies_below l.rows l.metadata.size l.metadata.write_quorum l.index e));
   lacking : HaveEntries l.lacking.words l.number
       (is_lacked_below l.rows l.metadata.size l.metadata.write_quorum l.index);
 }

@@ -5,7 +5,7 @@ use Rattle.reh_model.specs.Contents.{greatest_held}
 use Rattle.reh_model.specs.Cluster.{Cluster}
 use Rattle.reh_model.proofs.ContentsLaws.{greatest_held-held}
 use Rattle.reh_model.proofs.WellFormedLaws.{held_below}
-use Rattle.reh_redundancy.proofs.fragments.next_entry.Goals as goal
+use Rattle.reh_scan.proofs.writers.next_entry.Goals as goal
 
 pub overflow_add-greatest : goal.overflow_add-greatest
 overflow_add-greatest c =
