@@ -20,6 +20,3 @@ pub use striped_words::StripedWords;
 pub use word_entries::WordEntries;
 pub use words::{Word, bits_between, least_entry, word_at};
 pub use writes::{WriteSet, wrapped, write_set};
-
-#[cfg(test)]
-mod tests;
