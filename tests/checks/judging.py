@@ -1,14 +1,16 @@
 """What the checks of documents share. Each prints a line 'ok: NAME' or 'FAILED: NAME' for each thing that it judges.
 
-Who imports it sets `sys.dont_write_bytecode` first: a folder of compiled modules in checks/ would be taken for a check.
+Who imports it sets `sys.dont_write_bytecode` first: a folder of compiled modules in tests/checks/ would be taken for a check.
 """
 
 import glob
 import os
 import re
+import subprocess
+import sys
 from typing import List, NamedTuple, Optional, Tuple
 
-TOP = os.path.dirname(os.path.dirname(os.path.abspath(__file__)))
+TOP = os.path.dirname(os.path.dirname(os.path.dirname(os.path.abspath(__file__))))
 FENCE = re.compile(r"( *)(`{3,}|~{3,}) *(\S*).*")
 FAILED: List[str] = []
 
@@ -41,6 +43,14 @@ def judge(name: str, wrong: List[str]) -> None:
 def status() -> int:
     """Returns the status that a check ends with."""
     return 1 if FAILED else 0
+
+
+def need_program() -> str:
+    """Returns the path of the program, which is proved and built first, or only compiled, where UNPROVED is set."""
+    rehearse = os.path.join(TOP, "rehearse")
+    if not os.environ.get("UNPROVED") and subprocess.run([rehearse, "--prove"]).returncode != 0:
+        sys.exit(1)
+    return subprocess.run([rehearse, "--program"], stdout=subprocess.PIPE, text=True, check=True).stdout.strip()
 
 
 def read_text(name: str) -> str:

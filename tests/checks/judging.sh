@@ -1,7 +1,7 @@
 # What the checks in bash share; they source it first. Each prints a line 'ok: NAME' or 'FAILED: NAME' for each thing
 # that it judges, and ends by `exit "$failed"`.
 set -u
-cd "$(dirname "${BASH_SOURCE[0]}")/.." || exit 1
+cd "$(dirname "${BASH_SOURCE[0]}")/../.." || exit 1
 work=$(mktemp -d)
 trap 'rm -rf "$work"' EXIT
 failed=0
@@ -19,17 +19,18 @@ judge() {
     fi
 }
 
-# `need_program`: proves and builds the program first, where it is missing or older than its sources. Where that fails,
-# so has the check.
+# `need_program`: proves and builds the program first, where it is missing or older than its sources; or only compiles it,
+# where UNPROVED is set. $program is its path then. Where that fails, so has the check.
 need_program() {
-    ./rehearse --prove || exit 1
+    [ -n "${UNPROVED-}" ] || ./rehearse --prove || exit 1
+    program=$PWD/$(realpath --relative-to=. "$(./rehearse --program)") || exit 1
 }
 
-# `need_library NAME`: builds checks/NAME.c, so that a program can be loaded with $work/NAME.so.
+# `need_library NAME`: builds NAME.c of this folder, so that a program can be loaded with $work/NAME.so.
 need_library() {
     local clang
     clang=$(dirname "$(readlink -f "$(command -v rt)")")/../toolchain/bin/clang
-    "$clang" -shared -fPIC -nostdlib -fuse-ld=lld -o "$work/$1.so" "checks/$1.c"
+    "$clang" -shared -fPIC -nostdlib -fuse-ld=lld -o "$work/$1.so" "tests/checks/$1.c"
     judge "the library $1 is built" $?
 }
 
