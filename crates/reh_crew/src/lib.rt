@@ -13,4 +13,4 @@ pub use gates::{Gate, OpenGate};
 pub use laws::{closed_desks_balance, driven_groups_are_whole};
 pub use reh_types::SurveyLine;
 pub use surveyors::{BySurvey, Plain, SurveyFault, Surveyor};
-pub use threads::{MAX_WORKERS, Threads};
+pub use threads::{MAX_OPERATORS, MAX_WORKERS, Threads};

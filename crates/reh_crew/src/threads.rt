@@ -18,6 +18,9 @@ use std::thread::{Promise, PromisedHandle, Scope};
 /// How many workers a survey can have.
 pub const MAX_WORKERS: usize = 8;
 
+/// How many operators a drill can have, each of whom passes the gate as a worker.
+pub const MAX_OPERATORS: usize = 8;
+
 /// Surveys by so many workers, from 1 to 8. Each takes one run of the fragments in picture order, and the runs have about
 /// equally much to read; a run may end within a ledger. Worker 0 is the caller's own thread, each other has one of its own.
 ///
