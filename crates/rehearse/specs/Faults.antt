@@ -8,6 +8,8 @@ use Rattle.reh_picture.specs.declared.faults.PictureFault.TheVariants as picture
 use Rattle.reh_picture.specs.declared.places.LocatedFault.{LocatedFault}
 use Rattle.reh_picture.specs.Faults.{fault_text}
 use Rattle.reh_picture.specs.Expected.{located_text}
+use Rattle.reh_drill.specs.declared.faults.DrillFault.{DrillFault}
+use Rattle.reh_drill.specs.declared.faults.DrillFault.TheVariants as drill_fault
 use Rattle.reh_script.specs.declared.faults.PlayFault.TheVariants as play_fault
 use Rattle.reh_script.specs.declared.faults.PipeFault.{PipeFault}
 use Rattle.reh_script.specs.declared.faults.PipeFault.TheVariants as pipe_fault
@@ -67,6 +69,16 @@ run_fault_of (pipe_fault.Play play_fault.TooLong) = TooLong
 run_fault_of (pipe_fault.Play play_fault.WriteFault) = WriteFault
 run_fault_of (pipe_fault.Play play_fault.NoMemory) = NoMemory
 run_fault_of (pipe_fault.Play play_fault.NoThread) = NoThread
+
+-- a drill's fault as the run's
+abbrev pub run_fault_of_drill : DrillFault → RunFault
+run_fault_of_drill (drill_fault.Picture fault) = Picture fault
+run_fault_of_drill drill_fault.ReadFault = ReadFault
+run_fault_of_drill drill_fault.TooLong = TooLong
+run_fault_of_drill drill_fault.WriteFault = WriteFault
+run_fault_of_drill drill_fault.NoMemory = NoMemory
+run_fault_of_drill drill_fault.NoThread = NoThread
+run_fault_of_drill (drill_fault.Close cause) = Close cause
 
 -- the fault of a picture that is checked as the run's
 abbrev pub refused_by : PictureFault → LocatedFault → RunFault

@@ -3,6 +3,7 @@ ghost use Rattle.std.specs.Prelude.{◌≡◌};
 ghost use Rattle.rehearse.specs.Faults.{status_number, end_after_flush};
 
 use reh_desk::CloseCause;
+use reh_drill::DrillFault;
 use reh_picture::{LocatedFault, PictureFault};
 use reh_script::{PipeFault, PlayFault, StreamFault};
 use std::alloc::AllocError;
@@ -127,27 +128,22 @@ impl From<PipeFault> for RunFault {
     }
 }
 
-impl From<PlayFault> for RunFault {
+impl From<DrillFault> for RunFault {
     ghost use Rattle.std.specs.Prelude.{◌≡◌};
-    ghost use Rattle.reh_script.specs.declared.faults.PipeFault.TheVariants.{Play};
-    ghost use Rattle.rehearse.specs.Faults.{run_fault_of};
+    ghost use Rattle.rehearse.specs.Faults.{run_fault_of_drill};
 
-    ghost from_gives = { λ play run. run ≡ run_fault_of (Play play) };
+    ghost from_gives = { λ drill run. run ≡ run_fault_of_drill drill };
 
-    fn from(fault: PlayFault) -> RunFault {
-        RunFault::from(PipeFault::Play(fault))
-    }
-}
-
-impl From<PictureFault> for RunFault {
-    ghost use Rattle.std.specs.Prelude.{◌≡◌};
-    ghost use Rattle.reh_script.specs.Faults.{pipe_fault_of};
-    ghost use Rattle.rehearse.specs.Faults.{run_fault_of};
-
-    ghost from_gives = { λ picture run. run ≡ run_fault_of (pipe_fault_of picture) };
-
-    fn from(fault: PictureFault) -> RunFault {
-        RunFault::from(PipeFault::from(fault))
+    fn from(fault: DrillFault) -> RunFault {
+        match fault {
+            DrillFault::Picture(fault) => RunFault::Picture(fault),
+            DrillFault::ReadFault => RunFault::ReadFault,
+            DrillFault::TooLong => RunFault::TooLong,
+            DrillFault::WriteFault => RunFault::WriteFault,
+            DrillFault::NoMemory => RunFault::NoMemory,
+            DrillFault::NoThread => RunFault::NoThread,
+            DrillFault::Close(cause) => RunFault::Close(cause),
+        }
     }
 }
 
@@ -162,28 +158,6 @@ impl From<LocatedFault> for RunFault {
             PictureFault::NoMemory => RunFault::NoMemory,
             _ => RunFault::Refused(located),
         }
-    }
-}
-
-impl From<StreamFault> for RunFault {
-    ghost use Rattle.std.specs.Prelude.{◌≡◌};
-    ghost use Rattle.rehearse.specs.declared.faults.RunFault.TheVariants.{WriteFault};
-
-    ghost from_gives = { λ _ fault. fault ≡ WriteFault };
-
-    fn from(_lost: StreamFault) -> RunFault {
-        RunFault::WriteFault
-    }
-}
-
-impl From<CloseCause> for RunFault {
-    ghost use Rattle.std.specs.Prelude.{◌≡◌};
-    ghost use Rattle.rehearse.specs.declared.faults.RunFault.TheVariants.{Close};
-
-    ghost from_gives = { λ cause fault. fault ≡ Close cause };
-
-    fn from(cause: CloseCause) -> RunFault {
-        RunFault::Close(cause)
     }
 }
 

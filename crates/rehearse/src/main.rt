@@ -5,36 +5,29 @@
 ghost use Rattle.std.specs.Prelude.{◌≡◌, false};
 
 mod checks;
-#[cfg(test)]
-mod drill_tests;
-mod drills;
 mod faults;
 mod files;
 mod names;
-mod openings;
-mod operators;
-mod outcomes;
 mod plans;
 mod runs;
 mod stops;
-mod tasks;
 
 use checks::check_file;
 use clap::Error;
-use drills::drill_over;
 use faults::{RunFault, after_flush, status_of, want_of_memory};
 use files::{LateFile, read_file, read_scripts};
 use plans::plan_file;
 use reh_crew::{OpenGate, Plain};
+use reh_drill::drill_over;
 use reh_script::{FromRead, Gathered, TextOut, ToWrite, pipe, run};
 use reh_types::MAX_PICTURE_BYTES;
-use runs::{Crew, run_by};
+use reh_words::{Crew, DrillFiles, Input, Task, task_of};
+use runs::run_by;
 use std::process::ExitCode;
 use std::sync::Wait;
 use std::thread::Threads;
 use std::{env, fs, io};
 use stops::stop_over;
-use tasks::{DrillFiles, Input, Task, task_of};
 
 fn main(rt: HostRuntime) -> ExitCode {
     let words = match words(&rt) {
@@ -157,5 +150,5 @@ fn drill<R: Threads + Wait + Sync>(
         &mut writer,
     );
     let flushed = writer.flush();
-    after_flush(drilled, flushed)
+    after_flush(drilled.map_err(RunFault::from), flushed)
 }

@@ -7,17 +7,10 @@ use reh_picture::check_picture;
 use reh_plan::{PlanFault, plan};
 use reh_types::{BookieIx, BookieSet, MAX_BOOKIES};
 use reh_verdict::{find_bookies, first_unknown};
+use reh_words::PlanWords;
 use std::alloc::Global;
 use std::io;
 use std::io::Write;
-
-/// What is asked: a plan for a picture without these bookies, of which the allowed ones take the places, or any.
-#[derive(Drop)]
-pub struct PlanWords<'a> {
-    pub picture: &'a str,
-    pub lost: Vec<&'a str>,
-    pub allowed: Vec<&'a str>,
-}
 
 /// Writes the plan to standard output.
 pub(crate) fn plan_file(rt: &HostRuntime, words: &PlanWords<'_>) -> Result<(), RunFault> {

@@ -2,24 +2,16 @@
 ghost use Rattle.std.specs.Prelude.{◌≡◌, ◌⊎◌, ◌+◌, ◌<◌, ◌≤◌, false, IfOk, OnOk};
 ghost use Rattle.reh_model.specs.Survey as model;
 ghost use Rattle.reh_crew.specs.Surveys.{FindsSurvey};
-ghost use Rattle.reh_crew.specs.declared.threads.TheConstants.{MAX_WORKERS};
 ghost use Rattle.reh_script.specs.Pipes.{loses_output};
 ghost use Rattle.reh_script.specs.Runs.{Runs, RunsOut};
 
 use reh_cluster::State;
-use reh_crew::{BySurvey, MAX_WORKERS, OpenGate, Plain, SurveyFault, SurveyLine, Threads};
+use reh_crew::{BySurvey, OpenGate, Plain, SurveyFault, SurveyLine, Threads};
 use reh_script::{PipeFault, TextIn, TextOut, run};
+use reh_words::Crew;
 use std::alloc::Global;
 use std::sync::Wait;
 use std::thread;
-
-/// How many workers make each survey of a run, from 1 to 8.
-#[derive(Clone, Copy)]
-pub struct Crew {
-    pub workers: usize,
-    ghost some: { 0 < workers },
-    ghost few: { workers ≤ MAX_WORKERS },
-}
 
 /// Reads a picture, and then a script, and writes the transcript. Where there is one worker, it is the caller's thread.
 pub(crate) fn run_by<T: thread::Threads + Wait + Sync, P: TextIn, R: TextIn, W: TextOut>(

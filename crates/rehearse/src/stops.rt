@@ -1,28 +1,17 @@
 // Whether bookies may be stopped, judged from the files of pictures.
 ghost use Rattle.std.specs.Prelude.{◌≡◌, ◌+◌, ◌<◌, ◌≤◌, All, vec_len, length, IfOk, OnOk};
 ghost use Rattle.std.specs.Option.{IsSome};
-ghost use Rattle.reh_verdict.specs.declared.answers.TheConstants.{MAX_PICTURES};
 
 use crate::checks::{read_picture_file, write_text};
 use crate::faults::RunFault;
 use crate::names::{named_twice, unknown, unknown_to_all};
-use crate::runs::Crew;
 use reh_verdict::{
-    JudgeFault, Judged, MAX_PICTURES, answer_over, first_unknown_to_all, judge_picture, status_of,
+    JudgeFault, Judged, answer_over, first_unknown_to_all, judge_picture, status_of,
 };
+use reh_words::Stop;
 use std::alloc::{AllocError, Global};
 use std::sync::Wait;
 use std::thread;
-
-/// What is asked: may these bookies be stopped, by these pictures of one cluster.
-#[derive(Drop)]
-pub struct Stop<'a> {
-    pub pictures: Vec<&'a str>,
-    pub bookies: Vec<&'a str>,
-    pub crew: Crew,
-    pub allow_under_ack: bool,
-    ghost few: { vec_len pictures ≤ MAX_PICTURES },
-}
 
 /// Says to standard output whether the bookies may be stopped, and gives the status.
 pub(crate) fn stop_over<R: thread::Threads + Wait + Sync>(

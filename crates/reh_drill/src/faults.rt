@@ -1,0 +1,99 @@
+// Why a drill ends early.
+use reh_desk::CloseCause;
+use reh_picture::PictureFault;
+use reh_script::{PipeFault, PlayFault, StreamFault};
+use std::alloc::AllocError;
+
+/// Why a drill ends early.
+#[derive(Debug, Drop)]
+pub enum DrillFault {
+    /// The picture is refused.
+    Picture(PictureFault),
+    /// A read failed. No drill says so: its scripts are in memory.
+    ReadFault,
+    /// A script is longer than 1,048,576 bytes.
+    TooLong,
+    /// A write failed, or took no byte.
+    WriteFault,
+    /// There is no memory.
+    NoMemory,
+    /// There is no thread for an operator.
+    NoThread,
+    /// The desk doesn't close.
+    Close(CloseCause),
+}
+
+impl From<AllocError> for DrillFault {
+    ghost use Rattle.std.specs.Prelude.{◌≡◌};
+    ghost use Rattle.reh_drill.specs.declared.faults.DrillFault.TheVariants.{NoMemory};
+
+    ghost from_gives = { λ _ fault. fault ≡ NoMemory };
+
+    fn from(_error: AllocError) -> DrillFault {
+        DrillFault::NoMemory
+    }
+}
+
+impl From<PipeFault> for DrillFault {
+    ghost use Rattle.std.specs.Prelude.{◌≡◌};
+    ghost use Rattle.reh_drill.specs.Faults.{drill_fault_of};
+
+    ghost from_gives = { λ pipe drill. drill ≡ drill_fault_of pipe };
+
+    fn from(fault: PipeFault) -> DrillFault {
+        match fault {
+            PipeFault::Picture(fault) => DrillFault::Picture(fault),
+            PipeFault::Play(PlayFault::ReadFault) => DrillFault::ReadFault,
+            PipeFault::Play(PlayFault::TooLong) => DrillFault::TooLong,
+            PipeFault::Play(PlayFault::WriteFault) => DrillFault::WriteFault,
+            PipeFault::Play(PlayFault::NoMemory) => DrillFault::NoMemory,
+            PipeFault::Play(PlayFault::NoThread) => DrillFault::NoThread,
+        }
+    }
+}
+
+impl From<PlayFault> for DrillFault {
+    ghost use Rattle.std.specs.Prelude.{◌≡◌};
+    ghost use Rattle.reh_script.specs.declared.faults.PipeFault.TheVariants.{Play};
+    ghost use Rattle.reh_drill.specs.Faults.{drill_fault_of};
+
+    ghost from_gives = { λ play drill. drill ≡ drill_fault_of (Play play) };
+
+    fn from(fault: PlayFault) -> DrillFault {
+        DrillFault::from(PipeFault::Play(fault))
+    }
+}
+
+impl From<PictureFault> for DrillFault {
+    ghost use Rattle.std.specs.Prelude.{◌≡◌};
+    ghost use Rattle.reh_script.specs.Faults.{pipe_fault_of};
+    ghost use Rattle.reh_drill.specs.Faults.{drill_fault_of};
+
+    ghost from_gives = { λ picture drill. drill ≡ drill_fault_of (pipe_fault_of picture) };
+
+    fn from(fault: PictureFault) -> DrillFault {
+        DrillFault::from(PipeFault::from(fault))
+    }
+}
+
+impl From<StreamFault> for DrillFault {
+    ghost use Rattle.std.specs.Prelude.{◌≡◌};
+    ghost use Rattle.reh_drill.specs.declared.faults.DrillFault.TheVariants.{WriteFault};
+
+    ghost from_gives = { λ _ fault. fault ≡ WriteFault };
+
+    fn from(_fault: StreamFault) -> DrillFault {
+        DrillFault::WriteFault
+    }
+}
+
+impl From<CloseCause> for DrillFault {
+    ghost use Rattle.std.specs.Prelude.{◌≡◌};
+    ghost use Rattle.reh_drill.specs.declared.faults.DrillFault.TheVariants.{Close};
+
+    ghost from_gives = { λ cause fault. fault ≡ Close cause };
+
+    fn from(cause: CloseCause) -> DrillFault {
+        DrillFault::Close(cause)
+    }
+}

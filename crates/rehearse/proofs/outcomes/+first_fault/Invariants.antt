@@ -1,5 +1,0 @@
-use Rattle.std.proofs.Common.{length}
-use Rattle.rehearse.proofs.outcomes.+first_fault.Given as goal
-
-abbrev pub decreases-first_fault : goal.decreases-first_fault
-decreases-first_fault l = length l.outcomes.now

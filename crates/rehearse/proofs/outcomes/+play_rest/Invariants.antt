@@ -1,5 +1,0 @@
-use Rattle.std.proofs.Common.{vec_len}
-use Rattle.rehearse.proofs.outcomes.+play_rest.Given as goal
-
-abbrev pub decreases-play_rest : goal.decreases-play_rest
-decreases-play_rest g l = vec_len l.seats.now
