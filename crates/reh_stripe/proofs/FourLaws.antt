@@ -1,6 +1,5 @@
 -- Four words at a time.
-use Rattle.std.proofs.Common.{◌≡◌, ◌∙◌, ◌+◌, ◌*◌, ◌<◌, ℕ, zero, suc, List, [], ◌∷◌, slice_index, ap, arith}
-use Rattle.reh_stripe.specs.Words.{has_bit}
+use Rattle.std.proofs.Common.{◌<◌, ℕ, zero, suc, arith}
 
 -- what holds of each of four
 pub each_of_four : (P : ℕ → Type 0) → P 0 → P 1 → P 2 → P 3 → (k : ℕ) → k < 4 → P k

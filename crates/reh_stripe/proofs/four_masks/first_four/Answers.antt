@@ -1,5 +1,5 @@
 -- The masks of four words that follow one another.
-use Rattle.std.proofs.Common.{◌≡◌, ◌∙◌, ◌+◌, ◌-◌, ◌*◌, ◌%◌, ◌<◌, ℕ, List, [], ◌∷◌, slice_index, ap, sym, arith}
+use Rattle.std.proofs.Common.{◌≡◌, ◌∙◌, ◌+◌, ◌*◌, ◌%◌, [], ◌∷◌, slice_index, ap, arith}
 use Rattle.reh_model.specs.Striping.{is_striped}
 use Rattle.reh_stripe.specs.Masks.{Sizes}
 use Rattle.reh_stripe.specs.Words.{has_bit}

@@ -1,5 +1,5 @@
 -- In each of the four words.
-use Rattle.std.proofs.Common.{◌≡◌, ◌∙◌, ◌-◌, ◌^◌, ◌<◌, ◌&&◌, not, ℕ, List, [], ◌∷◌, slice_index, ap, arith}
+use Rattle.std.proofs.Common.{◌≡◌, ◌∙◌, ◌^◌, ◌<◌, ◌&&◌, not, ℕ, [], ◌∷◌, slice_index, ap, arith}
 use Rattle.std.specs.Prelude.{bit_and}
 use Rattle.std.specs.Int.{bit_not, w64}
 use Rattle.reh_stripe.specs.Words.{has_bit}
