@@ -1,5 +1,5 @@
 // Runs whose surveys may be made by several workers.
-ghost use Rattle.std.specs.Prelude.{◌≡◌, ◌⊎◌, ◌+◌, ◌<◌, ◌≤◌, false, IfOk, OnOk};
+ghost use Rattle.std.specs.Prelude.{◌≡◌, ◌⊎◌, false, IfOk, OnOk};
 ghost use Rattle.reh_model.specs.Survey as model;
 ghost use Rattle.reh_crew.specs.Surveys.{FindsSurvey};
 ghost use Rattle.reh_script.specs.Pipes.{loses_output};

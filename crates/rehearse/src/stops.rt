@@ -1,5 +1,5 @@
 // Whether bookies may be stopped, judged from the files of pictures.
-ghost use Rattle.std.specs.Prelude.{◌≡◌, ◌+◌, ◌<◌, ◌≤◌, All, vec_len, length, IfOk, OnOk};
+ghost use Rattle.std.specs.Prelude.{◌≡◌, ◌+◌, ◌<◌, All, vec_len, length, IfOk, OnOk};
 ghost use Rattle.std.specs.Option.{IsSome};
 
 use crate::checks::{read_picture_file, write_text};
