@@ -2,6 +2,7 @@
 #![tactic(auto)]
 
 mod alike;
+mod census;
 mod classes;
 mod cuts;
 mod members;
@@ -10,6 +11,7 @@ mod segments;
 mod tails;
 
 pub use alike::count_alike;
+pub use census::{TallyFault, census_of};
 pub use classes::class_in;
 pub use members::members_of;
 pub use merge::merged;
