@@ -1,0 +1,10 @@
+pub mod Answers
+pub mod Bookies
+pub mod CensusInside
+pub mod Copies
+pub mod Counting
+pub mod Inside
+pub mod Ledgers
+pub mod Rules
+pub mod Striping
+pub mod Tails

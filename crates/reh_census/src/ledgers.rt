@@ -1,0 +1,151 @@
+// Ledgers, and what is told of the entries that their members hold.
+ghost use Rattle.std.specs.Prelude.{◌≡◌, length};
+
+use crate::names::Names;
+use std::marker::Model;
+
+/// The entries from the first to the last.
+#[derive(Clone, Copy, PartialEq, Eq, Debug)]
+pub struct Range {
+    pub first: u64,
+    pub last: u64,
+}
+
+/// Entries, by ranges. Contracts see the list.
+#[derive(Drop)]
+pub struct Ranges {
+    items: Vec<Range>,
+}
+
+impl Model for Ranges {
+    ghost use Rattle.std.specs.Prelude.{List};
+    ghost use Rattle.reh_census.specs.declared.ledgers.Range.{Range};
+
+    ghost Value = { List Range };
+
+    ghost view = { λ ranges. ranges.items.items };
+}
+
+impl Ranges {
+    /// These ranges.
+    pub fn of(items: Vec<Range>) -> Ranges
+        ensures { result ≡ items.items }
+    {
+        Ranges { items }
+    }
+
+    /// The ranges, as a slice.
+    pub fn as_slice(&self) -> &[Range]
+        ensures { result.now ≡ self.now }
+    {
+        &self.items
+    }
+}
+
+/// What is told of a bookie.
+#[derive(Drop)]
+pub enum Told {
+    /// It holds exactly these entries.
+    Holds(Ranges),
+    /// It holds what is striped onto it, without these.
+    Lacks(Ranges),
+    /// Nobody told.
+    Untold,
+}
+
+/// A content tells what a bookie holds.
+#[derive(Drop)]
+pub struct Content {
+    pub bookie: u16,
+    pub told: Told,
+}
+
+/// The entries from the first up to, not including, the stop, and the ensemble that they were written to.
+#[derive(Drop)]
+pub struct Fragment {
+    pub first: u64,
+    pub stop: u64,
+    pub ensemble: Names,
+}
+
+/// A ledger's state, by its metadata.
+#[derive(Clone, Copy, PartialEq, Eq, Debug)]
+pub enum LedgerState {
+    Open,
+    InRecovery,
+    Closed,
+}
+
+/// A ledger's state, sizes and fragments, what is told of its members, and what holds of those of which no content
+/// tells.
+#[derive(Drop)]
+pub struct Ledger {
+    state: LedgerState,
+    size: u64,
+    write_quorum: u64,
+    ack_quorum: u64,
+    fragments: Vec<Fragment>,
+    contents: Vec<Content>,
+    rest: Told,
+}
+
+impl Model for Ledger {
+    ghost use Rattle.reh_census.specs.Ledgers.{Ledger as LedgerValue, IsLedger};
+    ghost use Rattle.reh_census.specs.Inside.{ledger_in, IsLedgerIn};
+
+    ghost Value = { LedgerValue };
+
+    ghost view = { ledger_in };
+
+    ghost invariant = { IsLedgerIn };
+}
+
+impl Ledger {
+    ghost use Rattle.reh_census.specs.Ledgers.{IsLedger};
+
+    pub fn state(&self) -> LedgerState
+        ensures { result ≡ self.now.state }
+    {
+        self.state
+    }
+
+    /// The ensemble size.
+    pub fn size(&self) -> u64
+        ensures size { result ≡ self.now.size }
+        ensures well_formed { IsLedger self.now }
+    {
+        self.size
+    }
+
+    pub fn write_quorum(&self) -> u64
+        ensures { result ≡ self.now.write_quorum }
+    {
+        self.write_quorum
+    }
+
+    pub fn ack_quorum(&self) -> u64
+        ensures { result ≡ self.now.ack_quorum }
+    {
+        self.ack_quorum
+    }
+
+    pub fn fragments(&self) -> &[Fragment]
+        ensures fragments { result.now ≡ self.now.fragments }
+        ensures well_formed { IsLedger self.now }
+    {
+        &self.fragments
+    }
+
+    pub fn contents(&self) -> &[Content]
+        ensures { result.now ≡ self.now.contents }
+    {
+        &self.contents
+    }
+
+    /// What holds of the members of which no content tells.
+    pub fn rest(&self) -> &Told
+        ensures { result.now ≡ self.now.rest }
+    {
+        &self.rest
+    }
+}

@@ -1,0 +1,31 @@
+-- How often the entries of a census break the rules.
+use Rattle.std.specs.Prelude.{ℕ, Bool, ◌&&◌, ◌==◌, length}
+use Rattle.reh_census.specs.declared.classes.Class.{Class}
+use Rattle.reh_census.specs.declared.questions.Keep.{Keep}
+use Rattle.reh_census.specs.Rules.{falls, loses, may_fall, may_lose, not_sure}
+use Rattle.reh_rules.specs.declared.entries.Breaks.{Breaks}
+use Rattle.reh_rules.specs.declared.entries.Entries.{Entries}
+
+-- whether an entry has no known copy, where disks go for good
+abbrev pub on_disk : Bool → Class → Bool
+on_disk takes_disk class = (length class.known == 0) && takes_disk
+
+-- which rules an entry of this class breaks
+abbrev pub breaks_of : Keep → Bool → (ℕ → Bool) → Class → Breaks
+breaks_of keep takes_disk stopped class = record {
+  lost = loses stopped class;
+  may_be_lost = not_sure (loses stopped) (may_lose stopped) class;
+  fallen = falls keep stopped class;
+  may_be_fallen = not_sure (falls keep stopped) (may_fall keep stopped) class;
+  on_disk = on_disk takes_disk class;
+}
+
+-- how many entries break each rule, by a count of entries that pass a test
+abbrev pub entries_of : ((Class → Bool) → ℕ) → Keep → Bool → (ℕ → Bool) → Entries
+entries_of count keep takes_disk stopped = record {
+  lost = count (loses stopped);
+  may_be_lost = count (not_sure (loses stopped) (may_lose stopped));
+  fallen = count (falls keep stopped);
+  may_be_fallen = count (not_sure (falls keep stopped) (may_fall keep stopped));
+  on_disk = count (on_disk takes_disk);
+}

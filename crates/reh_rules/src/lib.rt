@@ -1,0 +1,14 @@
+// The rules for stopping bookies, over a census.
+#![tactic(auto)]
+
+mod copies;
+mod entries;
+mod members;
+mod numbers;
+mod places;
+mod racks;
+mod tails;
+mod writers;
+
+pub use copies::{entries_with, most_copies};
+pub use numbers::{answer_of, numbers_of};

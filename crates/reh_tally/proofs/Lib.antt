@@ -1,0 +1,7 @@
+pub mod ClassLaws
+pub mod CutLaws
+pub mod MemberLaws
+pub mod PlacedLaws
+pub mod ResidueLaws
+pub mod SegmentLaws
+pub mod TailLaws
