@@ -20,6 +20,17 @@ pub record Ledger : Type 0 where
   pub contents : List Content
   pub rest : Told
 
+abbrev pub ledger_by : LedgerState → ℕ → ℕ → ℕ → List Fragment → List Content → Told → Ledger
+ledger_by state size write_quorum ack_quorum fragments contents rest = record {
+  state = state;
+  size = size;
+  write_quorum = write_quorum;
+  ack_quorum = ack_quorum;
+  fragments = fragments;
+  contents = contents;
+  rest = rest;
+}
+
 abbrev pub told_in : List Content → Told → ℕ → Told
 told_in [] rest b = rest
 told_in (content ∷ contents) rest b = if content.bookie == b then content.told else told_in contents rest b

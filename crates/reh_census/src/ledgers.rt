@@ -1,5 +1,6 @@
 // Ledgers, and what is told of the entries that their members hold.
-ghost use Rattle.std.specs.Prelude.{◌≡◌, length};
+ghost use Rattle.std.specs.Prelude.{◌≡◌, ◌≤◌, ◌^◌, ◌↔◌, length, All, IsTrue, IsSome, IfSome};
+ghost use Rattle.reh_census.specs.Ledgers.{IsFragment};
 
 use crate::names::Names;
 use std::marker::Model;
@@ -100,8 +101,61 @@ impl Model for Ledger {
     ghost invariant = { IsLedgerIn };
 }
 
+/// Whether a fragment's ensemble has this size, and it stops no later than 2^63.
+fn is_fragment(size: u64, fragment: &Fragment) -> bool
+    ensures { IsTrue result ↔ IsFragment size fragment.now }
+{
+    size >= 1
+        && fragment.first <= fragment.stop
+        && fragment.stop <= 1 << 63
+        && fragment.ensemble.as_slice().len() as u64 == size
+}
+
+/// Whether each fragment is such a one.
+fn are_fragments(size: u64, fragments: &[Fragment]) -> bool
+    ensures { IsTrue result ↔ All (IsFragment size) fragments.now }
+{
+    for fragment in fragments {
+        if !is_fragment(size, fragment) {
+            return false;
+        }
+    }
+    true
+}
+
 impl Ledger {
-    ghost use Rattle.reh_census.specs.Ledgers.{IsLedger};
+    ghost use Rattle.reh_census.specs.Ledgers.{IsLedger, ledger_by};
+
+    /// A ledger of this state, of these sizes and fragments, of whose members this is told, if they fit together: quorums
+    /// that rise from 1 to the ensemble size, at most 64, and fragments with ensembles of that size.
+    pub fn try_new(
+        state: LedgerState,
+        size: u64,
+        write_quorum: u64,
+        ack_quorum: u64,
+        fragments: Vec<Fragment>,
+        contents: Vec<Content>,
+        rest: Told,
+    ) -> Option<Ledger>
+        ensures made { IfSome result (λ g. g
+            ≡ ledger_by state size write_quorum ack_quorum fragments.items contents.items rest) }
+        ensures fits { IsSome result
+            ↔ IsLedger (ledger_by state size write_quorum ack_quorum fragments.items contents.items rest) }
+    {
+        let has_quorums = 1 <= ack_quorum && ack_quorum <= write_quorum && write_quorum <= size;
+        if !has_quorums || size > 64 || !are_fragments(size, &fragments) {
+            return None;
+        }
+        Some(Ledger {
+            state,
+            size,
+            write_quorum,
+            ack_quorum,
+            fragments,
+            contents,
+            rest,
+        })
+    }
 
     pub fn state(&self) -> LedgerState
         ensures { result ≡ self.now.state }

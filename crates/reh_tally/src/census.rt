@@ -1,7 +1,9 @@
 // The census of ledgers.
-ghost use Rattle.std.specs.Prelude.{◌≡◌, ◌+◌, ◌^◌, ◌≤◌, IfOk, IsTrue, ◌↔◌, length};
+ghost use Rattle.std.specs.Prelude.{◌≡◌, ◌+◌, ◌^◌, ◌≤◌, IfOk, Err, IsTrue, ◌↔◌, length};
 ghost use Rattle.reh_census.specs.Bookies.{bookies_of, holders};
 ghost use Rattle.reh_census.specs.Counting.{IsCensus, ensembles_in, entries_in, not_judged, tails_in};
+ghost use Rattle.reh_tally.specs.Few.{AreFew};
+ghost use Rattle.reh_tally.specs.declared.census.TallyFault.TheVariants.{TooMany};
 
 use crate::merge::merged;
 use crate::segments::entries_of;
@@ -85,6 +87,7 @@ pub fn census_of(
     requires not_judged { not_judged judged ≤ 2 ^ 63 }
     ensures census { IfOk result (λ census. IsCensus census (holders (bookies_of bookies.now)) ledgers.now) }
     ensures judged { IfOk result (λ census. census.judged ≡ judged) }
+    ensures too_many { result ≡ Err TooMany → AreFew (holders (bookies_of bookies.now)) ledgers.now → ⊥ }
 {
     let counted = entries_of(alloc, bookies, ledgers)?;
     let tails = tails_of(alloc, ledgers)?;
