@@ -23,7 +23,7 @@ judge() {
 # where UNPROVED is set. $program is its path then. Where that fails, so has the check.
 need_program() {
     [ -n "${UNPROVED-}" ] || ./rehearse --prove || exit 1
-    program=$PWD/$(realpath --relative-to=. "$(./rehearse --program)") || exit 1
+    program=$(./rehearse --program) || exit 1
 }
 
 # `need_library NAME`: builds NAME.c of this folder, so that a program can be loaded with $work/NAME.so.
