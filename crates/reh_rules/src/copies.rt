@@ -1,5 +1,5 @@
 // The table of copies.
-ghost use Rattle.std.specs.Prelude.{◌≡◌, ◌==◌, ◌^◌, ◌≤◌, All, length};
+ghost use Rattle.std.specs.Prelude.{◌≡◌, ◌==◌, ◌^◌, ◌≤◌, All, ℕ, length};
 ghost use Rattle.reh_census.specs.Bookies.{is_flagged};
 ghost use Rattle.reh_census.specs.Copies.{left};
 ghost use Rattle.reh_census.specs.Counting.{count_in, entries_in};
@@ -27,9 +27,10 @@ pub fn entries_with(census: &[Counted], stopped: &BookieSet, copies: usize) -> u
     entries
 }
 
-/// A number of known copies that no entry has more of.
+/// The most known copies that a class has; 0 where there is none.
 pub fn most_copies(census: &[Counted]) -> usize
-    ensures { All (λ c. length c.class.known ≤ result) census.now }
+    ensures most { All (λ c. length c.class.known ≤ result) census.now }
+    ensures least { (k : ℕ) → All (λ c. length c.class.known ≤ k) census.now → result ≤ k }
 {
     let mut most = 0;
     for counted in census {

@@ -1,4 +1,4 @@
-// Censuses with each class once.
+// Censuses sorted, with neighbours of one class joined.
 ghost use Rattle.std.specs.Prelude.{◌≡◌, ◌^◌, ◌+◌, ◌<◌, Bool, true, cond, IfOk, OnOk};
 ghost use Rattle.reh_census.specs.declared.classes.Class.{Class as ClassValue};
 ghost use Rattle.reh_census.specs.Counting.{count_in, entries_in};
