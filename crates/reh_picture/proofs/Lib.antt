@@ -9,3 +9,4 @@ pub mod PicturesLemmas
 mod Examples
 pub mod PlacesLemmas
 pub mod CountsLemmas
+pub mod MarksLemmas

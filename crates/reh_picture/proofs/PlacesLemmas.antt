@@ -309,3 +309,11 @@ refused_fields bytes d (Ok x) few json located = tt
 refused_fields bytes d (Err l) few json located = λ known.
     ap (λ long. if long then Err TooLong else shown_by (json_of bytes)) (short bytes few) ∙ ap shown_by json
     ∙ refused_value (Some d) l.fault l.place (located known)
+
+-- where there is no fault, none has a place
+located_none : (found : Found) → fault_of found ≡ None → found ≡ None
+located_none None none = refl
+located_none (Some f) none = cc
+
+pub located_fields-none : (d : Data) → fields_fault d ≡ None → located_fields d ≡ None
+located_fields-none d none = located_none (located_fields d) (fault_of-fields d ∙ none)

@@ -54,7 +54,7 @@ use Rattle.reh_picture.specs.Contents.{held_in, words_to, IsGreatest, HasEnds}
 use Rattle.reh_model.specs.Contents as model
 use Rattle.reh_picture.proofs.Greatest.{greatest_held-low}
 use Rattle.reh_picture.specs.Pictures.{names_of, ids_of, contents_of, pictured_cluster, words_in_all, head_fault}
-use Rattle.reh_picture.specs.Pictures.{parts_fault, fields_fault, has_delay, delay_of, delay_fault, IsShown}
+use Rattle.reh_picture.specs.Pictures.{parts_fault, fields_fault, has_delay, delay_of, delay_fault, IsListed, IsShown}
 
 -- Tests
 
@@ -693,14 +693,14 @@ ledgers-shown d names lost_at grace delay listed holdings lent ends ledgers show
     (list_of d field.Ledgers)
 
 -- and so are the other parts
-pub cluster_of-shown : (d : Data) (names : List (List ℕ)) (lost_at : List (Option ℕ)) (grace delay : ℕ) (listed : List ListedLedger)
-    (holdings : List Holding) (ledgers : List Ledger) (held : model.Contents) → IsShown d names lost_at grace delay listed holdings
-    → ledgers ≡ (pictured_cluster d).parts.ledgers → held ≡ held_in holdings
+pub cluster_of-listed : (d : Data) (names : List (List ℕ)) (lost_at : List (Option ℕ)) (grace delay : ℕ) (ledgers : List Ledger)
+    (holdings : List Holding) (held : model.Contents) → IsListed d names lost_at grace delay ledgers holdings
+    → held ≡ held_in holdings
     → cluster_of names lost_at grace delay true ledgers held ≡ pictured_cluster d
-cluster_of-shown d names lost_at grace delay listed holdings ledgers held shown made is =
+cluster_of-listed d names lost_at grace delay ledgers holdings held listed is =
     λ i.
-    cluster_of (shown.names_are i) (shown.lost_are i) (shown.grace_is i) (shown.delay_is i) true (made i)
-    ((is ∙ ap held_in shown.holdings_are) i)
+    cluster_of (listed.names_are i) (listed.lost_are i) (listed.grace_is i) (listed.delay_is i) true (listed.ledgers_are i)
+    ((is ∙ ap held_in listed.holdings_are) i)
 
 -- and take as many words
 pub words_in_all-shown : (d : Data) (names : List (List ℕ)) (ledgers : List Ledger) (bookies words : ℕ)
@@ -729,3 +729,13 @@ fields_fault-past d good past =
     (option_or (reason_unless (nat_le (words_in_all (pictured_cluster d)) MAX_WORDS) (Limit field.Contents)) None))
     good
     ∙ ap (λ (t : Bool). option_or (reason_unless t (Limit field.Contents)) None) test
+
+-- where there is no fault, no part has one, and the words are within the limit
+pub parts_of-none : (d : Data) → fields_fault d ≡ None → parts_fault d ≡ None
+parts_of-none d none = (both-none _ _ none).0
+
+pub words_of-none : (d : Data) → fields_fault d ≡ None → words_in_all (pictured_cluster d) ≤ MAX_WORDS
+words_of-none d none =
+    let test : nat_le (words_in_all (pictured_cluster d)) MAX_WORDS ≡ true =
+    reason_unless-none _ _ (both-none _ _ (both-none _ _ none).1).0 in
+    grind (arith, nat_tests, test)

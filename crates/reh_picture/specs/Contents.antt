@@ -20,7 +20,7 @@ use Rattle.reh_picture.specs.declared.faults.PictureFault.{PictureFault}
 use Rattle.reh_picture.specs.declared.faults.PictureFault.TheVariants.{WrongKind, Twice, Limit, BadLedger}
 use Rattle.reh_model.specs.Checks.{first_reason, reason_unless}
 use Rattle.reh_picture.specs.Faults.{fault_along}
-use Rattle.reh_picture.specs.Members.{elements, is_object, number_in, text_in, list_in, number_of, text_of, list_of}
+use Rattle.reh_picture.specs.Members.{elements, is_object, number_in, text_in, list_in, number_of, text_of, list_of, mark_of}
 use Rattle.reh_picture.specs.Bookies.{bookie_in, known_fault}
 
 -- Ranges of entries
@@ -63,6 +63,8 @@ ranges_fault ranges = fault_along (λ before d. range_fault (next_after before) 
 pub record Holding : Type 0 where
   pub bookie : ℕ
   pub ledger : ℕ
+  -- nobody told it: a rehearsal doesn't look at that
+  pub is_assumed : Bool
   pub ranges : List (ℕ × ℕ)
 
 abbrev pub holding_in : List (List ℕ) → Data → Holding
@@ -70,6 +72,7 @@ holding_in names d =
     record {
       bookie = bookie_in names (text_of d field.Bookie);
       ledger = number_of d field.Ledger;
+      is_assumed = mark_of d field.Assumed;
       ranges = map ends_of (list_of d field.Entries);
     }
 

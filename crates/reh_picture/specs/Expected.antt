@@ -110,6 +110,9 @@ wanted_text field.Bookies here = codes "a list of 1 to 64 bookies"
 wanted_text field.Bookie here = bookie_wanted here
 wanted_text field.Name here = codes "a text of 1 to 300 bytes, each 0x21 to 0x7E"
 wanted_text field.Up here = codes "true or false"
+wanted_text field.ReadOnly here = codes "true or false"
+wanted_text field.Empty here = codes "true or false"
+wanted_text field.Rack here = codes "a text of 1 to 300 bytes, each 0x21 to 0x7E"
 wanted_text field.Ledgers here = codes "a list of at most 512 ledgers"
 wanted_text field.Ledger here = ledger_wanted here
 wanted_text field.Id here = codes "a whole number from 0 to 1000000000000"
@@ -126,6 +129,7 @@ wanted_text field.Ensemble here = ensemble_wanted here
 wanted_text field.Contents here = codes "a list of what bookies hold"
 wanted_text field.Content here = codes "an object"
 wanted_text field.Entries here = entries_wanted here
+wanted_text field.Assumed here = codes "true or false"
 
 -- the rule of a ledger
 abbrev pub rule_text : LedgerFlaw → List ℕ

@@ -8,3 +8,5 @@ pub mod Pictures
 pub mod Places
 pub mod Expected
 pub mod Counts
+pub mod Marks
+pub mod Listings

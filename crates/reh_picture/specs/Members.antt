@@ -1,7 +1,7 @@
 -- The members of a picture's objects, each as the kind of value that it must be.
 use Rattle.std.specs.Prelude.{ℕ, ℤ, Bool, false, nat_le, ◌&&◌, length, List, [], ◌∷◌, option_map, Option, Result, Ok}
 use Rattle.std.specs.Prelude.{Err}
-use Rattle.std.specs.Option.{ok_or, option_and_then, is_some}
+use Rattle.std.specs.Option.{ok_or, option_and_then, option_map_or, is_some}
 use Rattle.std.specs.Result.{result_unwrap_or, result_err}
 use Rattle.serde_json.specs.Data.{Data, Items, no_items, item}
 use Rattle.serde_json.specs.Find.{get, as_number, as_u64, as_i64, as_bool, as_str, as_array, as_object}
@@ -72,3 +72,10 @@ list_fault d field least most =
     (result_err (list_in d field)
     ∷ reason_unless (nat_le least (length (list_of d field)) && nat_le (length (list_of d field)) most) (Limit field)
     ∷ [])
+
+-- a member that needn't be there and is true or false: false where it isn't there
+abbrev pub flag_if_there : Data → Field → Result Bool PictureFault
+flag_if_there d field = option_map_or (λ v. ok_or (as_bool v) (WrongKind field)) (get (field_name field) d) (Ok false)
+
+abbrev pub mark_of : Data → Field → Bool
+mark_of d field = result_unwrap_or (flag_if_there d field) false

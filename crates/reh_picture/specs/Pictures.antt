@@ -7,7 +7,7 @@ use Rattle.reh_types.specs.declared.limits.TheConstants.{MAX_DELAY, MAX_GRACE, M
 use Rattle.reh_picture.specs.declared.pictures.TheConstants.{DELAY_FORMAT, FIRST_FORMAT}
 use Rattle.serde_json.specs.Read.{read}
 use Rattle.reh_model.specs.Contents.{Contents}
-use Rattle.reh_model.specs.Cluster.{Cluster, cluster_of}
+use Rattle.reh_model.specs.Cluster.{Cluster, Ledger, cluster_of}
 use Rattle.reh_picture.specs.declared.fields.Field.TheVariants as field
 use Rattle.reh_picture.specs.declared.faults.PictureFault.{PictureFault}
 use Rattle.reh_picture.specs.declared.faults.PictureFault.TheVariants.{TooLong, NotJson, WrongKind, Limit}
@@ -107,4 +107,14 @@ pub record IsShown (d : Data) (names : List (List ℕ)) (lost_at : List (Option 
   pub grace_is : grace ≡ number_of d field.Grace
   pub delay_is : delay ≡ delay_of d
   pub listed_are : listed ≡ map (listed_in (names_of d)) (list_of d field.Ledgers)
+  pub holdings_are : holdings ≡ map (holding_in (names_of d)) (list_of d field.Contents)
+
+-- What it lists, with the words of its ledgers.
+pub record IsListed (d : Data) (names : List (List ℕ)) (lost_at : List (Option ℕ)) (grace delay : ℕ)
+    (ledgers : List Ledger) (holdings : List Holding) : Type 0 where
+  pub names_are : names ≡ names_of d
+  pub lost_are : lost_at ≡ registrations_in (list_of d field.Bookies)
+  pub grace_is : grace ≡ number_of d field.Grace
+  pub delay_is : delay ≡ delay_of d
+  pub ledgers_are : ledgers ≡ (pictured_cluster d).parts.ledgers
   pub holdings_are : holdings ≡ map (holding_in (names_of d)) (list_of d field.Contents)

@@ -99,7 +99,7 @@ fn name_of(bookie: &Value) -> Result<&str, PictureFault>
 }
 
 /// Whether a bookie may have this name.
-fn is_name(name: &[u8]) -> bool
+pub(crate) fn is_name(name: &[u8]) -> bool
     ensures { result ≡ is_bookie_name name.now }
 {
     !name.is_empty() && name.len() <= MAX_NAME_BYTES && is_graphic(name)

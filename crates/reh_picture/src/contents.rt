@@ -22,7 +22,7 @@ ghost use Rattle.reh_cluster.specs.Parts.{HasRows};
 use crate::faults::{FaultName, LedgerFlaw, PictureFault, Repeated};
 use crate::fields::Field;
 use crate::ledgers::known_bookie;
-use crate::members::{list, number, text};
+use crate::members::{list, mark, number, text};
 use indexmap::IndexSet;
 use reh_cluster::{Ledger, Names};
 use reh_held::Held;
@@ -87,6 +87,7 @@ fn read_ranges(alloc: Global, values: &[Value]) -> Result<Vec<(u32, u32)>, Pictu
 pub struct Holding {
     bookie: BookieIx,
     ledger: LedgerId,
+    is_assumed: bool,
     /// The first and the last entry of each range.
     ranges: Vec<(u32, u32)>,
 }
@@ -96,7 +97,40 @@ impl Model for Holding {
 
     ghost Value = { HoldingValue };
 
-    ghost view = { λ h. record { bookie = h.bookie; ledger = h.ledger; ranges = h.ranges.items } };
+    ghost view = { λ h. record {
+      bookie = h.bookie;
+      ledger = h.ledger;
+      is_assumed = h.is_assumed;
+      ranges = h.ranges.items;
+    } };
+}
+
+impl Holding {
+    pub fn bookie(&self) -> BookieIx
+        ensures { result ≡ self.now.bookie }
+    {
+        self.bookie
+    }
+
+    pub fn ledger(&self) -> LedgerId
+        ensures { result ≡ self.now.ledger }
+    {
+        self.ledger
+    }
+
+    /// Whether nobody told it.
+    pub fn is_assumed(&self) -> bool
+        ensures { result ≡ self.now.is_assumed }
+    {
+        self.is_assumed
+    }
+
+    /// The first and the last entry of each range.
+    pub fn ranges(&self) -> &[(u32, u32)]
+        ensures { result.now ≡ self.now.ranges }
+    {
+        &self.ranges
+    }
 }
 
 /// The bookie and the ledger of one more holding, which join the pairs. After an `Err` they may be there.
@@ -149,6 +183,7 @@ fn read_holding(
     Ok(Holding {
         bookie,
         ledger,
+        is_assumed: mark(content, Field::Assumed),
         ranges,
     })
 }

@@ -22,6 +22,12 @@ pub enum Field {
     Name,
     /// Whether a bookie is registered.
     Up,
+    /// Whether a bookie is read-only.
+    ReadOnly,
+    /// Whether a bookie came back without its disk.
+    Empty,
+    /// A bookie's rack.
+    Rack,
     /// The list of ledgers.
     Ledgers,
     /// One ledger, or the id of the ledger whose entries are held.
@@ -54,6 +60,8 @@ pub enum Field {
     Content,
     /// The list of ranges of entries.
     Entries,
+    /// Whether nobody told it, so that it is assumed.
+    Assumed,
 }
 
 impl Field {
@@ -72,6 +80,9 @@ impl Field {
             Field::Bookie => "bookie",
             Field::Name => "name",
             Field::Up => "up",
+            Field::ReadOnly => "readOnly",
+            Field::Empty => "empty",
+            Field::Rack => "rack",
             Field::Ledgers => "ledgers",
             Field::Ledger => "ledger",
             Field::Id => "id",
@@ -88,6 +99,7 @@ impl Field {
             Field::Contents => "contents",
             Field::Content => "content",
             Field::Entries => "entries",
+            Field::Assumed => "assumed",
         }
     }
 }

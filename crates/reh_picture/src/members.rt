@@ -3,7 +3,8 @@ ghost use Rattle.std.specs.Prelude.{◌≡◌, ◌≤◌, Ok, Err, map, length, 
 ghost use Rattle.std.specs.Result.{result_err};
 ghost use Rattle.serde_json.specs.View.{view};
 ghost use Rattle.reh_picture.specs.Members.{member_in, number_in, integer_in, flag_in, text_in, list_in, number_of};
-ghost use Rattle.reh_picture.specs.Members.{list_of, number_fault, list_fault};
+ghost use Rattle.reh_picture.specs.Members.{list_of, number_fault, list_fault, mark_of};
+ghost use Rattle.reh_picture.specs.Members.{flag_if_there as flag_if_there_in};
 
 use crate::faults::PictureFault;
 use crate::fields::Field;
@@ -42,6 +43,23 @@ pub(crate) fn flag(object: &Value, field: Field) -> Result<bool, PictureFault>
     member(object, field)?
         .as_bool()
         .ok_or(PictureFault::WrongKind(field))
+}
+
+/// A member that needn't be there and is true or false: false where it isn't there.
+pub(crate) fn flag_if_there(object: &Value, field: Field) -> Result<bool, PictureFault>
+    ensures { result ≡ flag_if_there_in (view object.now) field }
+{
+    match object.get(field.name()) {
+        Some(value) => value.as_bool().ok_or(PictureFault::WrongKind(field)),
+        None => Ok(false),
+    }
+}
+
+/// The same, where what is neither true nor false is passed over.
+pub(crate) fn mark(object: &Value, field: Field) -> bool
+    ensures { result ≡ mark_of (view object.now) field }
+{
+    flag_if_there(object, field).unwrap_or(false)
 }
 
 /// A member that is a text.

@@ -8,7 +8,7 @@ ghost use Rattle.reh_types.specs.declared.limits.TheConstants.{MAX_LEDGERS};
 ghost use Rattle.reh_picture.specs.Members.{number_of};
 ghost use Rattle.reh_picture.specs.Faults.{FailsWith};
 ghost use Rattle.reh_picture.specs.Pictures.{picture_of, head_fault, parts_fault, fields_fault, pictured_cluster};
-ghost use Rattle.reh_picture.specs.Pictures.{IsShown, delay_fault, delay_of, ids_of, json_of};
+ghost use Rattle.reh_picture.specs.Pictures.{IsListed, IsShown, delay_fault, delay_of, ids_of, json_of};
 
 use crate::bookies::read_bookies;
 use crate::contents::{Holding, greatest_ends, hold, read_contents};
@@ -56,6 +56,41 @@ pub(crate) fn read_cluster(alloc: Global, picture: &Value) -> Result<State, Pict
     ensures fault { FailsWith result (fields_fault (view picture.now)) }
     ensures state { IfOk result (λ state. state ≡ pictured_cluster (view picture.now)) }
 {
+    let Listing {
+        names,
+        lost_at,
+        ticks,
+        ids,
+        ledgers,
+        holdings,
+    } = read_listing(alloc, picture)?;
+    let held = hold(alloc, names.len(), &ledgers, &holdings)?;
+    let Ticks { grace, delay } = ticks;
+    Ok(State::build(names, lost_at, grace, delay, true, ids, ledgers, held))
+}
+
+/// What a picture lists, whose words are within the limit: the state that it shows can be made of that.
+#[derive(Drop)]
+pub struct Listing {
+    /// The names of the bookies.
+    pub names: Names,
+    /// For each bookie none, if it is registered.
+    pub lost_at: Vec<Option<u64>>,
+    pub(crate) ticks: Ticks,
+    pub(crate) ids: IndexSet<u64>,
+    /// The ledgers.
+    pub ledgers: Vec<Ledger>,
+    /// What the bookies hold.
+    pub holdings: Vec<Holding>,
+}
+
+/// What a picture's fields list.
+pub(crate) fn read_listing(alloc: Global, picture: &Value) -> Result<Listing, PictureFault>
+    ensures fault { FailsWith result (fields_fault (view picture.now)) }
+    ensures listed { IfOk result (λ l. IsListed (view picture.now)
+        l.names l.lost_at.items l.ticks.grace l.ticks.delay l.ledgers.items l.holdings.items) }
+    ensures ids { IfOk result (λ l. l.ids.keys ≡ ids_of (view picture.now)) }
+{
     let Parts {
         names,
         lost_at,
@@ -69,9 +104,14 @@ pub(crate) fn read_cluster(alloc: Global, picture: &Value) -> Result<State, Pict
     if words_in_all(names.len(), &ledgers) > MAX_WORDS {
         return Err(PictureFault::Limit(Field::Contents));
     }
-    let held = hold(alloc, names.len(), &ledgers, &holdings)?;
-    let Ticks { grace, delay } = ticks;
-    Ok(State::build(names, lost_at, grace, delay, true, ids, ledgers, held))
+    Ok(Listing {
+        names,
+        lost_at,
+        ticks,
+        ids,
+        ledgers,
+        holdings,
+    })
 }
 
 /// How many words of entries so many bookies take, each as many for a ledger as it has.

@@ -51,7 +51,7 @@ pub fn check_picture(alloc: Global, bytes: &[u8]) -> Result<State, LocatedFault>
 }
 
 /// The JSON value of a text.
-fn parse_text(alloc: Global, bytes: &[u8]) -> Result<Value, LocatedFault>
+pub(crate) fn parse_text(alloc: Global, bytes: &[u8]) -> Result<Value, LocatedFault>
     ensures ok { IfOk result (λ v. json_of bytes.now ≡ Some (view v)) }
     ensures err { IfErr result (λ located. located.fault ≢ PictureFault.NoMemory
         → (located.fault ≡ PictureFault.NotJson) × (located.place ≡ Place.Picture)
@@ -73,7 +73,7 @@ fn check_value(alloc: Global, picture: &Value) -> Result<State, LocatedFault>
 }
 
 /// This first fault of a picture's fields, with its place.
-fn locate(alloc: Global, picture: &Value, fault: PictureFault) -> LocatedFault
+pub(crate) fn locate(alloc: Global, picture: &Value, fault: PictureFault) -> LocatedFault
     requires { fault ≢ PictureFault.NoMemory → fields_fault (view picture.now) ≡ Some fault }
     ensures { result.fault ≢ PictureFault.NoMemory
         → located_fields (view picture.now) ≡ Some (result.fault, result.place) }
