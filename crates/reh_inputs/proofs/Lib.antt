@@ -1,0 +1,2 @@
+pub mod NamesLemmas
+pub mod RangeLaws

@@ -1,0 +1,89 @@
+-- The ledgers of a picture, as a census counts them.
+use Rattle.std.specs.Prelude.{ℕ, ◌+◌, max, Bool, ◌==◌, List, [], map, length, fold, if◌then◌else◌}
+use Rattle.std.specs.Prelude.{slice_get, slice_index_or, unwrap_or}
+use Rattle.std.specs.List.{filter}
+use Rattle.std.specs.Option.{option_map_or}
+use Rattle.reh_census.specs.declared.ledgers.Content.{Content}
+use Rattle.reh_census.specs.declared.ledgers.Fragment.{Fragment}
+use Rattle.reh_census.specs.declared.ledgers.LedgerState.{LedgerState}
+use Rattle.reh_census.specs.declared.ledgers.LedgerState.TheVariants as census
+use Rattle.reh_census.specs.declared.ledgers.Range.{Range}
+use Rattle.reh_census.specs.declared.ledgers.Told.{Told as ToldOf}
+use Rattle.reh_census.specs.declared.ledgers.Told.TheVariants.{Holds, Untold}
+use Rattle.reh_census.specs.Ledgers.{Ledger, ledger_by}
+use Rattle.reh_census.specs.Striping.{range}
+use Rattle.reh_types.specs.declared.names.LedgerState.{LedgerState as State}
+use Rattle.reh_types.specs.declared.names.LedgerState.TheVariants.{Open, InRecovery, Closed}
+use Rattle.reh_model.specs.Metadata.{Metadata, stop_of}
+use Rattle.reh_picture.specs.Contents.{Holding}
+use Rattle.reh_inputs.specs.declared.ledgers.Reading.{Reading}
+use Rattle.reh_inputs.specs.declared.ledgers.Reading.TheVariants.{All, Told, Assumed}
+
+-- the number that a bookie of a picture has in the cluster
+abbrev pub number_in : List ℕ → ℕ → ℕ
+number_in numbers b = slice_index_or numbers b 65535
+
+-- Contents
+
+abbrev pub range_of : ℕ × ℕ → Range
+range_of ends = record { first = ends.0; last = ends.1 }
+
+-- what a holding tells: what is assumed may count as told, as untold, or alone
+abbrev pub told_as : Reading → Bool → List Range → ToldOf
+told_as All assumed ranges = Holds ranges
+told_as Told assumed ranges = if assumed then Untold else Holds ranges
+told_as Assumed assumed ranges = if assumed then Holds ranges else Holds []
+
+abbrev pub told_by : Reading → Holding → ToldOf
+told_by reading holding = told_as reading holding.is_assumed (map range_of holding.ranges)
+
+-- of a bookie without a content nobody told
+abbrev pub rest_of : Reading → ToldOf
+rest_of All = Untold
+rest_of Told = Untold
+rest_of Assumed = Holds []
+
+abbrev pub content_by : List ℕ → Reading → Holding → Content
+content_by numbers reading holding = record {
+  bookie = number_in numbers holding.bookie;
+  told = told_by reading holding;
+}
+
+-- what is told of the ledger's entries
+abbrev pub contents_of : List ℕ → Reading → ℕ → List Holding → List Content
+contents_of numbers reading ledger holdings =
+    map (content_by numbers reading) (filter (λ holding. holding.ledger == ledger) holdings)
+
+-- Fragments
+
+-- one past the greatest entry of the ledger that any bookie is told or assumed to hold; 0 where there is none
+abbrev pub end_after : ℕ → ℕ × ℕ → ℕ
+end_after end ends = max end (ends.1 + 1)
+
+abbrev pub end_told : ℕ → List Holding → ℕ
+end_told ledger holdings =
+    fold (λ end holding. if holding.ledger == ledger then fold end_after end holding.ranges else end) 0 holdings
+
+abbrev pub first_of : Metadata → ℕ → ℕ
+first_of m f = option_map_or (λ fragment. fragment.first) (slice_get m.fragments f) 0
+
+-- the fragment of that number: up to its stop, or, where it has none, to the end of what is told
+abbrev pub fragment_of : List ℕ → ℕ → Metadata → ℕ → Fragment
+fragment_of numbers end m f = record {
+  first = first_of m f;
+  stop = unwrap_or (stop_of m f) (max (first_of m f) end);
+  ensemble = map (number_in numbers) (option_map_or (λ fragment. fragment.ensemble) (slice_get m.fragments f) []);
+}
+
+-- Ledgers
+
+abbrev pub state_of : State → LedgerState
+state_of Open = census.Open
+state_of InRecovery = census.InRecovery
+state_of (Closed end) = census.Closed
+
+abbrev pub ledger_of : List ℕ → Reading → List Holding → ℕ → Metadata → Ledger
+ledger_of numbers reading holdings ledger m =
+    ledger_by (state_of m.state) m.size m.write_quorum m.ack_quorum
+    (map (fragment_of numbers (end_told ledger holdings) m) (range 0 (length m.fragments)))
+    (contents_of numbers reading ledger holdings) (rest_of reading)

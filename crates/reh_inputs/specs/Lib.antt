@@ -1,0 +1,5 @@
+pub mod Cluster
+pub mod Inside
+pub mod Ledgers
+pub mod Shown
+pub mod Names

@@ -1,0 +1,187 @@
+// The bookies of a cluster: those of its inputs, each once.
+ghost use Rattle.std.specs.Prelude.{◌≡◌, ◌<◌, ◌≤◌, ◌≢◌, length, slice_get, true, false, IfOk, OnOk, OnErr, Err, position};
+ghost use Rattle.std.specs.Option.{option_map_or};
+ghost use Rattle.reh_inputs.specs.Shown.{is_in, is_like};
+ghost use Rattle.reh_inputs.specs.Cluster as model;
+ghost use Rattle.reh_inputs.specs.declared.cluster.ClusterFault.TheVariants.{Differs, TooMany};
+ghost use Rattle.reh_inputs.specs.declared.names.TheConstants.{MAX_CLUSTER_BOOKIES};
+
+use crate::names::{ClusterNames, MAX_CLUSTER_BOOKIES};
+use crate::shown::Shown;
+use reh_census::{Bookie, Bookies};
+use std::alloc::{AllocError, Global};
+use std::marker::Model;
+
+/// Why a bookie of an input can't be one of the cluster.
+#[derive(Clone, Copy, PartialEq, Eq, Debug)]
+pub enum ClusterFault {
+    /// An input before shows it otherwise.
+    Differs,
+    /// The cluster has as many bookies as it can have.
+    TooMany,
+    /// There is no memory.
+    NoMemory,
+}
+
+impl From<AllocError> for ClusterFault {
+    ghost use Rattle.std.specs.Prelude.{◌≡◌};
+    ghost use Rattle.reh_inputs.specs.declared.cluster.ClusterFault.TheVariants.{NoMemory};
+
+    ghost from_gives = { λ _ fault. fault ≡ NoMemory };
+
+    fn from(_want: AllocError) -> ClusterFault {
+        ClusterFault::NoMemory
+    }
+}
+
+/// The bookies of a cluster, by number: their names, each once, and how inputs show them.
+#[derive(Drop)]
+pub struct Cluster {
+    names: ClusterNames,
+    shown: Vec<Shown>,
+}
+
+impl Model for Cluster {
+    ghost use Rattle.reh_inputs.specs.Cluster as model;
+    ghost use Rattle.reh_inputs.specs.Inside.{cluster_in, IsClusterIn};
+
+    ghost Value = { model.Cluster };
+
+    ghost view = { cluster_in };
+
+    ghost invariant = { IsClusterIn };
+}
+
+impl Cluster {
+    /// A cluster without bookies.
+    pub fn new(alloc: Global) -> Cluster
+        ensures { result ≡ model.no_bookies }
+    {
+        Cluster {
+            names: ClusterNames::new(alloc),
+            shown: Vec::new(alloc),
+        }
+    }
+
+    /// The names of the bookies.
+    pub fn names(&self) -> &ClusterNames
+        ensures { result.now ≡ self.now.names }
+    {
+        &self.names
+    }
+
+    /// How inputs show the bookies.
+    pub fn shown(&self) -> &[Shown]
+        ensures shown { result.now ≡ self.now.shown }
+        ensures each { length self.now.shown ≡ length self.now.names }
+    {
+        &self.shown
+    }
+
+    /// The bookies, as a census sees them.
+    pub fn bookies(&self, alloc: Global) -> Result<Bookies, AllocError>
+        ensures { IfOk result (λ bookies. bookies ≡ model.bookies_of self.now) }
+    {
+        let mut bookies = Vec::with_capacity(alloc, self.names.len())?;
+        for shown in &self.shown {
+            bookies.push(bookie_of(&self.shown, shown))?;
+        }
+        Ok(Bookies::of(bookies))
+    }
+
+    /// Adds a bookie that an input shows, or finds it shown alike by an input before.
+    pub fn add(&mut self, name: &str, shown: Shown) -> Result<(), ClusterFault>
+        ensures added { OnOk result (self.new ≡ model.with_bookie self.old name.now shown) }
+        ensures alike { OnOk result (model.is_shown_otherwise self.old name.now shown ≡ false) }
+        ensures differs { result ≡ Err Differs → model.is_shown_otherwise self.old name.now shown ≡ true }
+        ensures too_many { result ≡ Err TooMany → (length self.old.names ≡ MAX_CLUSTER_BOOKIES)
+            × (model.has_bookie self.old name.now ≡ false) }
+        ensures err { OnErr result (self.new ≡ self.old) }
+    {
+        match self.names.find(name) {
+            Some(number) if self.is_like(number, &shown) => Ok(()),
+            Some(_) => Err(ClusterFault::Differs),
+            None => self.add_new(name, shown),
+        }
+    }
+
+    /// Whether the bookie of that number is shown alike.
+    fn is_like(&self, number: u16, shown: &Shown) -> bool
+        ensures { result ≡ option_map_or (λ before. is_like before shown.now) (slice_get self.now.shown number) false }
+    {
+        match self.shown.get(number as usize) {
+            Some(before) => before.is_like(shown),
+            None => false,
+        }
+    }
+
+    /// Adds a bookie that no input before shows.
+    fn add_new(&mut self, name: &str, shown: Shown) -> Result<(), ClusterFault>
+        requires { model.has_bookie self.old name.now ≡ false }
+        ensures added { OnOk result (self.new ≡ model.with_bookie self.old name.now shown) }
+        ensures differs { result ≢ Err Differs }
+        ensures too_many { result ≡ Err TooMany → length self.old.names ≡ MAX_CLUSTER_BOOKIES }
+        ensures err { OnErr result (self.new ≡ self.old) }
+    {
+        if self.names.len() >= MAX_CLUSTER_BOOKIES {
+            return Err(ClusterFault::TooMany);
+        }
+        self.append(name, shown)?;
+        Ok(())
+    }
+
+    /// Appends a bookie.
+    fn append(&mut self, name: &str, shown: Shown) -> Result<(), AllocError>
+        requires new { model.has_bookie self.old name.now ≡ false }
+        requires few { length self.old.names < MAX_CLUSTER_BOOKIES }
+        ensures added { OnOk result (self.new ≡ model.with_bookie self.old name.now shown) }
+        ensures err { OnErr result (self.new ≡ self.old) }
+    {
+        self.shown.reserve(1)?;
+        self.names.add(name)?;
+        self.shown.push(shown)?;
+        Ok(())
+    }
+}
+
+/// A bookie as a census sees it, among all.
+fn bookie_of(all: &[Shown], shown: &Shown) -> Bookie
+    requires { length all.now ≤ MAX_CLUSTER_BOOKIES }
+    ensures { result ≡ model.bookie_of all.now shown.now }
+{
+    Bookie {
+        is_registered: shown.is_registered(),
+        is_read_only: shown.is_read_only(),
+        is_empty: shown.is_empty(),
+        rack: rack_of(all, shown),
+    }
+}
+
+/// The number of the first bookie in the rack of this one, if that is known.
+fn rack_of(all: &[Shown], shown: &Shown) -> Option<u16>
+    requires { length all.now ≤ MAX_CLUSTER_BOOKIES }
+    ensures { result ≡ (model.bookie_of all.now shown.now).rack }
+{
+    match shown.rack() {
+        Some(rack) => first_in(all, rack),
+        None => None,
+    }
+}
+
+/// The number of the first bookie in a rack.
+fn first_in(all: &[Shown], rack: &str) -> Option<u16>
+    requires { length all.now ≤ MAX_CLUSTER_BOOKIES }
+    ensures { result ≡ position (is_in rack.now) all.now }
+{
+    match place_of(all, rack) {
+        Some(place) => Some(place as u16),
+        None => None,
+    }
+}
+
+/// The place of the first bookie in a rack.
+fn place_of(all: &[Shown], rack: &str) -> Option<usize>
+    ensures { result ≡ position (is_in rack.now) all.now }
+{
+    all.iter().position(|other| other.is_in(rack))
+}

@@ -1,0 +1,228 @@
+// The ledgers of a picture, as a census counts them.
+ghost use Rattle.std.specs.Prelude.{◌≡◌, ◌<◌, ◌++◌, ◌∷◌, [], IfOk, IfSome, OnOk, fold, length, map};
+ghost use Rattle.reh_census.specs.Striping.{range};
+ghost use Rattle.reh_inputs.specs.Ledgers as model;
+
+use reh_census::{Content, Fragment, Ledger, LedgerState, Names, Range, Ranges, Told};
+use reh_cluster::Ledger as Listed;
+use reh_meta::LedgerMeta;
+use reh_picture::Holding;
+use reh_types::{BookieIx, LedgerId, LedgerState as State};
+use std::alloc::{AllocError, Global};
+
+/// The number that a bookie of a picture has in the cluster.
+fn number_of(numbers: &[u16], bookie: BookieIx) -> u16
+    ensures { result ≡ model.number_in numbers.now bookie }
+{
+    match numbers.get(bookie.0 as usize) {
+        Some(number) => *number,
+        None => u16::MAX,
+    }
+}
+
+/// The members of an ensemble, by their numbers in the cluster.
+fn members_of(alloc: Global, numbers: &[u16], ensemble: &[BookieIx]) -> Result<Names, AllocError>
+    ensures { IfOk result (λ members. members ≡ map (model.number_in numbers.now) ensemble.now) }
+{
+    let mut members = Vec::new(alloc);
+    for bookie in ensemble {
+        members.push(number_of(numbers, *bookie))?;
+    }
+    Ok(Names::of(members))
+}
+
+/// Where the entries of these ranges end: one past the greatest.
+fn end_of(ranges: &[(u32, u32)], least: u64) -> u64
+    ensures { result ≡ fold model.end_after least ranges.now }
+{
+    let mut end = least;
+    for range in ranges {
+        end = end.max(range.1 as u64 + 1);
+    }
+    end
+}
+
+/// One past the greatest entry of the ledger that any bookie is told or assumed to hold; 0 where there is none.
+fn end_told(ledger: LedgerId, holdings: &[Holding]) -> u64
+    ensures { result ≡ model.end_told ledger holdings.now }
+{
+    let mut end = 0;
+    for holding in holdings {
+        if holding.ledger() == ledger {
+            end = end_of(holding.ranges(), end);
+        }
+    }
+    end
+}
+
+/// The entries of ranges, as a census has them.
+fn ranges_of(alloc: Global, ranges: &[(u32, u32)]) -> Result<Ranges, AllocError>
+    ensures { IfOk result (λ copy. copy ≡ map model.range_of ranges.now) }
+{
+    let mut copy = Vec::new(alloc);
+    for range in ranges {
+        copy.push(Range {
+            first: range.0 as u64,
+            last: range.1 as u64,
+        })?;
+    }
+    Ok(Ranges::of(copy))
+}
+
+/// What counts as told of what a bookie holds.
+#[derive(Clone, Copy, PartialEq, Eq, Debug)]
+pub enum Reading {
+    /// What is told, and what is assumed.
+    All,
+    /// What is told alone: a bookie of which something is assumed is untold.
+    Told,
+    /// What is assumed alone: a bookie of which nothing is assumed holds nothing.
+    Assumed,
+}
+
+/// What a holding tells.
+fn told_by(alloc: Global, reading: Reading, holding: &Holding) -> Result<Told, AllocError>
+    ensures { IfOk result (λ told. told ≡ model.told_by reading holding.now) }
+{
+    match (reading, holding.is_assumed()) {
+        (Reading::Told, true) => Ok(Told::Untold),
+        (Reading::Assumed, false) => Ok(Told::Holds(Ranges::of(Vec::new(alloc)))),
+        _ => {
+            let ranges = ranges_of(alloc, holding.ranges())?;
+            Ok(Told::Holds(ranges))
+        }
+    }
+}
+
+/// What holds of a bookie of which no content tells.
+fn rest_of(alloc: Global, reading: Reading) -> Told
+    ensures { result ≡ model.rest_of reading }
+{
+    match reading {
+        Reading::All | Reading::Told => Told::Untold,
+        Reading::Assumed => Told::Holds(Ranges::of(Vec::new(alloc))),
+    }
+}
+
+/// Adds what a holding tells.
+fn add_content(
+    alloc: Global,
+    numbers: &[u16],
+    reading: Reading,
+    holding: &Holding,
+    contents: &mut Vec<Content>,
+) -> Result<(), AllocError>
+    ensures { OnOk result (contents.new.items
+        ≡ contents.old.items ++ model.content_by numbers.now reading holding.now ∷ []) }
+{
+    let told = told_by(alloc, reading, holding)?;
+    let bookie = number_of(numbers, holding.bookie());
+    contents.push(Content { bookie, told })?;
+    Ok(())
+}
+
+/// What is told of the ledger's entries.
+fn contents_of(
+    alloc: Global,
+    numbers: &[u16],
+    reading: Reading,
+    ledger: LedgerId,
+    holdings: &[Holding],
+) -> Result<Vec<Content>, AllocError>
+    ensures { IfOk result (λ contents. contents.items
+        ≡ model.contents_of numbers.now reading ledger holdings.now) }
+{
+    let mut contents = Vec::new(alloc);
+    for holding in holdings {
+        if holding.ledger() == ledger {
+            add_content(alloc, numbers, reading, holding, &mut contents)?;
+        }
+    }
+    Ok(contents)
+}
+
+/// A fragment, by its number, of a ledger whose entries are told up to this end.
+fn fragment_of(
+    alloc: Global,
+    numbers: &[u16],
+    end: u64,
+    metadata: &LedgerMeta,
+    fragment: usize,
+) -> Result<Fragment, AllocError>
+    requires { fragment < length metadata.now.fragments }
+    ensures { IfOk result (λ made. made ≡ model.fragment_of numbers.now end metadata.now fragment) }
+{
+    let listed = &metadata.fragments()[fragment];
+    let first = listed.first as u64;
+    let stop = match metadata.end_of(fragment) {
+        Some(stop) => stop as u64,
+        None => first.max(end),
+    };
+    let ensemble = members_of(alloc, numbers, &listed.ensemble)?;
+    Ok(Fragment {
+        first,
+        stop,
+        ensemble,
+    })
+}
+
+/// The fragments of a ledger whose entries are told up to this end.
+fn fragments_of(
+    alloc: Global,
+    numbers: &[u16],
+    end: u64,
+    metadata: &LedgerMeta,
+) -> Result<Vec<Fragment>, AllocError>
+    ensures { IfOk result (λ fragments. fragments.items
+        ≡ map (model.fragment_of numbers.now end metadata.now) (range 0 (length metadata.now.fragments))) }
+{
+    let mut fragments = Vec::new(alloc);
+    for fragment in 0..metadata.fragments().len() {
+        let made = fragment_of(alloc, numbers, end, metadata, fragment)?;
+        fragments.push(made)?;
+    }
+    Ok(fragments)
+}
+
+/// A ledger's state.
+fn state_of(state: State) -> LedgerState
+    ensures { result ≡ model.state_of state }
+{
+    match state {
+        State::Open => LedgerState::Open,
+        State::InRecovery => LedgerState::InRecovery,
+        State::Closed { .. } => LedgerState::Closed,
+    }
+}
+
+/// A ledger of a picture whose bookies have these numbers in the cluster, as a census counts it; none where a census can't
+/// count it.
+pub fn ledger_of(
+    alloc: Global,
+    numbers: &[u16],
+    reading: Reading,
+    holdings: &[Holding],
+    listed: &Listed,
+) -> Result<Option<Ledger>, AllocError>
+    ensures made { IfOk result (λ made. IfSome made (λ ledger. ledger
+        ≡ model.ledger_of numbers.now reading holdings.now listed.now.id listed.now.metadata)) }
+{
+    let metadata = listed.metadata();
+    let end = end_told(listed.id(), holdings);
+    let fragments = fragments_of(alloc, numbers, end, metadata)?;
+    let contents = contents_of(alloc, numbers, reading, listed.id(), holdings)?;
+    let state = state_of(metadata.state());
+    let size = metadata.size() as u64;
+    let write_quorum = metadata.write_quorum() as u64;
+    let ack_quorum = metadata.ack_quorum() as u64;
+    let rest = rest_of(alloc, reading);
+    Ok(Ledger::try_new(
+        state,
+        size,
+        write_quorum,
+        ack_quorum,
+        fragments,
+        contents,
+        rest,
+    ))
+}

@@ -1,0 +1,13 @@
+// The cluster that inputs show together: its bookies by number, and its ledgers as a census counts them.
+#![tactic(auto)]
+
+mod cluster;
+mod ledgers;
+mod names;
+mod shown;
+
+pub use cluster::{Cluster, ClusterFault};
+pub use ledgers::{Reading, ledger_of};
+pub use names::{ClusterNames, MAX_CLUSTER_BOOKIES};
+
+pub use shown::Shown;
