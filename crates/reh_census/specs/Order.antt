@@ -1,5 +1,5 @@
 -- The order of a census: what two censuses count alike, they list alike.
-use Rattle.std.specs.Prelude.{◌≡◌, ℕ, List, length}
+use Rattle.std.specs.Prelude.{◌≡◌, ◌≤◌, ℕ, List, All, length}
 use Rattle.std.specs.Cmp.Lexicographic.{slice_cmp}
 use Rattle.std.specs.List.{AllAdjacentBelow}
 use Rattle.std.specs.Ordering.{bool_cmp, nat_cmp, on, then_cmp}
@@ -33,3 +33,12 @@ tail_cmp =
 -- each comes before the next one, so none comes twice
 abbrev pub InOrder : {X : Type 0} → (X → X → Ordering) → List X → Type 0
 InOrder cmp xs = AllAdjacentBelow (λ one next. cmp one next ≡ Less) xs (length xs)
+
+-- a census has one line for each class, tail and ensemble that comes at all, and these are in order
+pub record IsInOrder (census : Census) : Type 0 where
+  pub entries : InOrder (on (λ c. c.class) class_cmp) census.entries
+  pub tails : InOrder (on (λ t. t.tail) tail_cmp) census.tails
+  pub ensembles : InOrder (on (λ e. e.members) names_cmp) census.ensembles
+  pub some_entries : All (λ c. 1 ≤ c.count) census.entries
+  pub some_ledgers : All (λ t. 1 ≤ t.count) census.tails
+  pub some_fragments : All (λ e. 1 ≤ e.count) census.ensembles

@@ -5,6 +5,7 @@ mod alike;
 mod census;
 mod classes;
 mod cuts;
+mod few;
 mod lines;
 mod members;
 mod merge;
@@ -12,8 +13,9 @@ mod segments;
 mod tails;
 
 pub use alike::count_alike;
-pub use census::{TallyFault, census_of};
+pub use census::{TallyFault, census_of, census_of_few};
 pub use classes::class_in;
+pub use few::are_few;
 pub use members::members_of;
 pub use merge::{merged, merged_ensembles, merged_tails};
 pub use segments::entries_of;
