@@ -3,6 +3,7 @@ pub mod CountLaws
 pub mod CountingLaws
 pub mod Examples
 pub mod InOrderLaws
+pub mod OnceLaws
 pub mod OrderLaws
 pub mod RangeLaws
 pub mod RuleLaws

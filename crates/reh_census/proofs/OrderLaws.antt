@@ -1,6 +1,5 @@
 -- The orders of a census are total, and tell any two apart.
-use Rattle.std.proofs.Common.{◌≡◌, ◌∙◌, cond, ℕ, Bool, true, false, List, [], ◌∷◌, refl, ap, arith}
-use Rattle.std.specs.Prelude.{◌==◌, nat_lt}
+use Rattle.std.proofs.Common.{◌≡◌, ℕ, Bool, true, false, List, [], ◌∷◌, refl, arith}
 use Rattle.std.specs.Cmp.{IsTotalOrder, bool_cmp_total}
 use Rattle.std.specs.Ordering.{bool_cmp, nat_cmp, ordering_then}
 use Rattle.std.specs.declared.cmp.Ordering.{Ordering}

@@ -1,5 +1,5 @@
 -- What is known of an entry's copies.
-use Rattle.std.specs.Prelude.{◌≡◌, ℕ, ◌<◌, Bool, true, not, ◌==◌, nat_lt, List, [], ◌∷◌, ◌++◌, count_by}
+use Rattle.std.specs.Prelude.{◌≡◌, ℕ, ◌<◌, ◌≤◌, Bool, true, not, ◌==◌, nat_lt, List, [], ◌∷◌, ◌++◌, count_by}
 use Rattle.std.specs.List.{filter, list_any}
 use Rattle.reh_census.specs.declared.classes.Class.{Class}
 
@@ -35,6 +35,10 @@ Above x (y ∷ ys) = (x < y) × Above x ys
 abbrev pub Rising : List ℕ → Type 0
 Rising [] = Unit {0}
 Rising (x ∷ xs) = Above x xs × Rising xs
+
+-- no bookie is one of these twice
+abbrev pub EachOnce : List ℕ → Type 0
+EachOnce names = (b : ℕ) → count_by (λ name. name == b) names ≤ 1
 
 -- the names with one more, in its place
 abbrev pub placed : List ℕ → ℕ → List ℕ

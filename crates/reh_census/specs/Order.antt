@@ -5,11 +5,8 @@ use Rattle.std.specs.List.{AllAdjacentBelow}
 use Rattle.std.specs.Ordering.{bool_cmp, nat_cmp, on, then_cmp}
 use Rattle.std.specs.declared.cmp.Ordering.{Ordering}
 use Rattle.std.specs.declared.cmp.Ordering.TheVariants.{Less}
-use Rattle.reh_census.specs.declared.censuses.CountedEnsemble.{CountedEnsemble}
-use Rattle.reh_census.specs.declared.censuses.CountedTail.{CountedTail}
 use Rattle.reh_census.specs.declared.censuses.Tail.{Tail}
 use Rattle.reh_census.specs.declared.classes.Class.{Class}
-use Rattle.reh_census.specs.declared.classes.Counted.{Counted}
 use Rattle.reh_census.specs.Counting.{Census}
 
 -- of lists of bookies, by the first at which they differ; a list comes before those that go on behind it
