@@ -5,6 +5,7 @@ pub mod Examples
 pub mod InOrderLaws
 pub mod OnceLaws
 pub mod OrderLaws
+pub mod RackLaws
 pub mod RangeLaws
 pub mod RuleLaws
 pub mod SortedLaws
