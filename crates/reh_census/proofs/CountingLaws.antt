@@ -9,6 +9,7 @@ use Rattle.reh_census.specs.Answers.{answer_by, answer_on, numbers_on}
 use Rattle.reh_census.specs.declared.answers.Numbers.{Numbers}
 use Rattle.reh_census.specs.Bookies.{Bookies}
 use Rattle.reh_census.specs.Counting.{Census, Counting, IsCensus, census_sum, count_fragment, count_ledger, counting_in, counting_of, tail_of}
+use Rattle.reh_census.specs.Copies.{in_order}
 use Rattle.reh_census.specs.Ledgers.{Ledger, class_of}
 use Rattle.reh_census.specs.Striping.{range}
 use Rattle.reh_census.proofs.CountLaws.{cond_le, cond_mono, count-le, sum-le-plus}
@@ -45,8 +46,8 @@ fair-of holders ledgers = record {
   tails = λ p q implies.
       sum_by-le-sum_by (λ g. count_by p (tail_of g)) (λ g. count_by q (tail_of g)) ledgers (λ g. count-le p q (tail_of g) implies);
   ensembles = λ p q implies.
-      sum_by-le-sum_by (λ g. count_by (λ f. p f.ensemble) g.fragments) (λ g. count_by (λ f. q f.ensemble) g.fragments) ledgers
-      (λ g. count-le (λ f. p f.ensemble) (λ f. q f.ensemble) g.fragments (λ f. implies f.ensemble));
+      sum_by-le-sum_by (λ g. count_by (λ f. p (in_order f.ensemble)) g.fragments) (λ g. count_by (λ f. q (in_order f.ensemble)) g.fragments) ledgers
+      (λ g. count-le (λ f. p (in_order f.ensemble)) (λ f. q (in_order f.ensemble)) g.fragments (λ f. implies (in_order f.ensemble)));
 }
 
 -- a census counts what its ledgers do
@@ -87,6 +88,6 @@ IsCensus-sum census other holders ledgers others counts too = record {
   ensembles = λ test.
       sum_by-append (λ e. cond (test e.members) e.count 0) census.ensembles other.ensembles
       ∙ (λ i. counts.ensembles test i + too.ensembles test i)
-      ∙ sym (sum_by-append (λ g. count_by (λ f. test f.ensemble) g.fragments) ledgers others);
+      ∙ sym (sum_by-append (λ g. count_by (λ f. test (in_order f.ensemble)) g.fragments) ledgers others);
   judged = (λ i. counts.judged i + too.judged i) ∙ sym (length-append ledgers others);
 }

@@ -33,6 +33,7 @@ bookies_but names down read_only empty = record {
   is_read_only = λ b. is_in read_only b;
   is_empty = λ b. is_in empty b;
   rack_of = λ b. None;
+  racks = [];
 }
 
 abbrev all_of : List ℕ → Bookies
@@ -213,6 +214,7 @@ racked = record {
   is_read_only = λ b. false;
   is_empty = λ b. false;
   rack_of = λ b. Some (cond ((b == 0) || (b == 1)) 0 1);
+  racks = 0 ∷ 1 ∷ [];
 }
 
 abbrev in_two_racks : Question

@@ -2,6 +2,10 @@ pub mod AnswerLaws
 pub mod CountLaws
 pub mod CountingLaws
 pub mod Examples
+pub mod InOrderLaws
+pub mod OnceLaws
+pub mod OrderLaws
+pub mod RackLaws
 pub mod RangeLaws
 pub mod RuleLaws
 pub mod SortedLaws

@@ -230,7 +230,7 @@ module _ (bookies : Bookies) (question : Question) (part whole : ℕ → Bool) (
   lacks_racks-part =
       option-implied (λ least. nat_lt (racks bookies part) least) (λ least. nat_lt (racks bookies whole) least) question.min_racks
       (λ least. fewer_lacks (racks bookies whole) (racks bookies part) least
-      (count-le (has_writable bookies whole) (has_writable bookies part) bookies.names has_writable-part))
+      (count-le (has_writable bookies whole) (has_writable bookies part) bookies.racks has_writable-part))
 
   loses_ensemble-part : (size : ℕ) → loses_ensemble bookies question part size ≡ true → loses_ensemble bookies question whole size ≡ true
   loses_ensemble-part size =

@@ -1,5 +1,5 @@
 -- The bookies of a cluster, and sets of them.
-use Rattle.std.specs.Prelude.{ℕ, Bool, false, not, ◌&&◌, List, length, Option, None, count_by, slice_get, slice_index_or}
+use Rattle.std.specs.Prelude.{ℕ, ◌+◌, max, Bool, false, not, ◌&&◌, List, [], ◌∷◌, length, Option, None, count_by, slice_get, slice_index_or}
 use Rattle.std.specs.List.{filter}
 use Rattle.std.specs.Option.{option_map_or}
 use Rattle.reh_census.specs.declared.bookies.Bookie.{Bookie}
@@ -9,13 +9,23 @@ use Rattle.reh_census.specs.Striping.{range}
 abbrev pub is_flagged : List Bool → ℕ → Bool
 is_flagged flags b = slice_index_or flags b false
 
--- the bookies: their names, which are registered, read-only, and back without their disks, and their racks
+-- the bookies: their names, which are registered, read-only, and back without their disks, their racks, and all racks
 pub record Bookies : Type 0 where
   pub names : List ℕ
   pub is_registered : ℕ → Bool
   pub is_read_only : ℕ → Bool
   pub is_empty : ℕ → Bool
   pub rack_of : ℕ → Option ℕ
+  pub racks : List ℕ
+
+-- one past the bookie's rack
+abbrev pub rack_stop : Bookie → ℕ
+rack_stop bookie = option_map_or (λ rack. rack + 1) bookie.rack 0
+
+-- one past the greatest rack in which a bookie stands
+abbrev pub racks_stop : List Bookie → ℕ
+racks_stop [] = 0
+racks_stop (bookie ∷ bookies) = max (rack_stop bookie) (racks_stop bookies)
 
 -- the bookies by number; one without a number isn't registered
 abbrev pub bookies_of : List Bookie → Bookies
@@ -25,6 +35,7 @@ bookies_of bookies = record {
   is_read_only = λ b. option_map_or (λ found. found.is_read_only) (slice_get bookies b) false;
   is_empty = λ b. option_map_or (λ found. found.is_empty) (slice_get bookies b) false;
   rack_of = λ b. option_map_or (λ found. found.rack) (slice_get bookies b) None;
+  racks = range 0 (racks_stop bookies);
 }
 
 -- no bookie is stopped

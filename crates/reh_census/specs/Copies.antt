@@ -1,5 +1,5 @@
 -- What is known of an entry's copies.
-use Rattle.std.specs.Prelude.{◌≡◌, ℕ, ◌<◌, Bool, true, not, ◌==◌, List, [], ◌∷◌, ◌++◌, count_by}
+use Rattle.std.specs.Prelude.{◌≡◌, ℕ, ◌<◌, ◌≤◌, Bool, true, not, ◌==◌, nat_lt, List, [], ◌∷◌, ◌++◌, count_by}
 use Rattle.std.specs.List.{filter, list_any}
 use Rattle.reh_census.specs.declared.classes.Class.{Class}
 
@@ -35,3 +35,16 @@ Above x (y ∷ ys) = (x < y) × Above x ys
 abbrev pub Rising : List ℕ → Type 0
 Rising [] = Unit {0}
 Rising (x ∷ xs) = Above x xs × Rising xs
+
+-- no bookie is one of these twice
+abbrev pub EachOnce : List ℕ → Type 0
+EachOnce names = (b : ℕ) → count_by (λ name. name == b) names ≤ 1
+
+-- the names with one more, in its place
+abbrev pub placed : List ℕ → ℕ → List ℕ
+placed names name = filter (λ other. nat_lt other name) names ++ name ∷ filter (λ other. nat_lt name other) names
+
+-- the names in rising order, each once
+abbrev pub in_order : List ℕ → List ℕ
+in_order [] = []
+in_order (name ∷ names) = placed (in_order names) name

@@ -9,6 +9,7 @@ use Rattle.reh_census.specs.declared.classes.Counted.{Counted}
 use Rattle.reh_census.specs.declared.ledgers.Fragment.{Fragment}
 use Rattle.reh_census.specs.declared.ledgers.LedgerState.{LedgerState}
 use Rattle.reh_census.specs.declared.ledgers.LedgerState.TheVariants.{Open, InRecovery, Closed}
+use Rattle.reh_census.specs.Copies.{in_order}
 use Rattle.reh_census.specs.Ledgers.{Ledger, class_of}
 use Rattle.reh_census.specs.Striping.{range}
 use Rattle.reh_census.specs.Tails.{IsTail}
@@ -117,8 +118,10 @@ tail_of g = tail_in g g.state
 abbrev pub count_tails : List Ledger → (Tail → Bool) → ℕ
 count_tails ledgers test = sum_by (λ g. count_by test (tail_of g)) ledgers
 
+-- how many fragments have an ensemble that passes a test: what counts of it is who its members are, so these are tested in
+-- rising order
 abbrev pub count_ensembles : List Ledger → (List ℕ → Bool) → ℕ
-count_ensembles ledgers test = sum_by (λ g. count_by (λ fragment. test fragment.ensemble) g.fragments) ledgers
+count_ensembles ledgers test = sum_by (λ g. count_by (λ fragment. test (in_order fragment.ensemble)) g.fragments) ledgers
 
 abbrev pub counting_of : List ℕ → List Ledger → Counting
 counting_of holders ledgers = record {

@@ -1,6 +1,6 @@
 -- Ledgers, and what is told of the entries that their members hold.
 use Rattle.std.specs.Prelude.{◌≡◌, ℕ, ◌^◌, ◌≤◌, All, length, Bool, true, false, not, ◌&&◌, ◌==◌, nat_le, List, [], ◌∷◌, map, slice_index, if◌then◌else◌}
-use Rattle.std.specs.List.{filter, list_any}
+use Rattle.std.specs.List.{AllAdjacentBelow, filter, list_any}
 use Rattle.reh_census.specs.declared.ledgers.Content.{Content}
 use Rattle.reh_census.specs.declared.ledgers.Fragment.{Fragment}
 use Rattle.reh_census.specs.declared.ledgers.LedgerState.{LedgerState}
@@ -8,6 +8,7 @@ use Rattle.reh_census.specs.declared.ledgers.Range.{Range}
 use Rattle.reh_census.specs.declared.ledgers.Told.{Told}
 use Rattle.reh_census.specs.declared.ledgers.Told.TheVariants.{Holds, Lacks, Untold}
 use Rattle.reh_census.specs.declared.classes.Class.{Class}
+use Rattle.reh_census.specs.Copies.{EachOnce}
 use Rattle.reh_census.specs.Striping.{write_set}
 
 -- a ledger's state, sizes and fragments, what is told of its members, and what holds of those of which no content tells
@@ -83,12 +84,17 @@ class_of holders g fragment entry = record {
 
 -- Well-formed ledgers
 
--- a fragment of a ledger with ensembles of this size, with entries of up to 2^63
+-- a fragment of a ledger with ensembles of this size, with entries of up to 2^63, on different bookies
 pub record IsFragment (size : ℕ) (fragment : Fragment) : Type 0 where
   pub some : 1 ≤ size
   pub order : fragment.first ≤ fragment.stop
   pub stop : fragment.stop ≤ 2 ^ 63
   pub whole : length fragment.ensemble ≡ size
+  pub once : EachOnce fragment.ensemble
+
+-- each fragment stops where the next one begins, or before, so no entry is in two of them
+abbrev pub InTurn : List Fragment → Type 0
+InTurn fragments = AllAdjacentBelow (λ one next. one.stop ≤ next.first) fragments (length fragments)
 
 pub record IsLedger (g : Ledger) : Type 0 where
   pub some_acks : 1 ≤ g.ack_quorum
@@ -96,3 +102,4 @@ pub record IsLedger (g : Ledger) : Type 0 where
   pub writes_within : g.write_quorum ≤ g.size
   pub small : g.size ≤ 64
   pub fragments : All (IsFragment g.size) g.fragments
+  pub in_turn : InTurn g.fragments

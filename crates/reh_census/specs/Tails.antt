@@ -83,9 +83,9 @@ abbrev pub has_writable : Bookies → (ℕ → Bool) → ℕ → Bool
 has_writable bookies stopped rack =
     list_any (λ b. is_writable bookies stopped b && option_map_or (λ r. r == rack) (bookies.rack_of b) false) bookies.names
 
--- in how many racks such bookies stand: racks are numbered below the number of bookies
+-- in how many racks such bookies stand
 abbrev pub racks : Bookies → (ℕ → Bool) → ℕ
-racks bookies stopped = count_by (has_writable bookies stopped) bookies.names
+racks bookies stopped = count_by (has_writable bookies stopped) bookies.racks
 
 -- whether they stand in fewer racks than are asked for
 abbrev pub lacks_racks : Bookies → Question → (ℕ → Bool) → Bool

@@ -1,5 +1,5 @@
 // The bookies of a cluster, by number.
-ghost use Rattle.std.specs.Prelude.{◌≡◌, ◌≤◌, length};
+ghost use Rattle.std.specs.Prelude.{◌≡◌, ◌≤◌, ◌<◌, ◌^◌, All, IfSome, length};
 ghost use Rattle.reh_census.specs.Bookies as model;
 
 use std::marker::Model;
@@ -14,7 +14,7 @@ pub struct Bookie {
     pub rack: Option<u16>,
 }
 
-/// The bookies of a cluster, by number. Racks are numbered below the number of bookies. Contracts see the list.
+/// The bookies of a cluster, by number. Contracts see the list.
 #[derive(Drop)]
 pub struct Bookies {
     items: Vec<Bookie>,
@@ -29,6 +29,17 @@ impl Model for Bookies {
     ghost view = { λ bookies. bookies.items.items };
 
     ghost invariant = { λ bookies. length bookies.items.items ≤ 4096 };
+}
+
+/// One past the bookie's rack.
+fn rack_stop(bookie: &Bookie) -> u32
+    ensures value { result ≡ model.rack_stop bookie.now }
+    ensures within { result ≤ 2 ^ 16 }
+{
+    match bookie.rack {
+        Some(rack) => u32::from(rack) + 1,
+        None => 0,
+    }
 }
 
 impl Bookies {
@@ -85,6 +96,19 @@ impl Bookies {
             Some(found) => found.rack,
             None => None,
         }
+    }
+
+    /// One past the greatest rack in which a bookie stands.
+    pub fn racks_stop(&self) -> u32
+        ensures value { result ≡ model.racks_stop self.now }
+        ensures within { result ≤ 2 ^ 16 }
+        ensures each { All (λ bookie. IfSome bookie.rack (λ rack. rack < result)) self.now }
+    {
+        let mut stop: u32 = 0;
+        for bookie in &self.items {
+            stop = stop.max(rack_stop(bookie));
+        }
+        stop
     }
 
     /// Whether the bookie may hold copies: it is registered, and didn't come back without its disk.

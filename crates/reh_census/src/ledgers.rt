@@ -1,6 +1,7 @@
 // Ledgers, and what is told of the entries that their members hold.
 ghost use Rattle.std.specs.Prelude.{◌≡◌, ◌≤◌, ◌^◌, ◌↔◌, length, All, IsTrue, IsSome, IfSome};
-ghost use Rattle.reh_census.specs.Ledgers.{IsFragment};
+ghost use Rattle.reh_census.specs.Copies.{EachOnce};
+ghost use Rattle.reh_census.specs.Ledgers.{InTurn, IsFragment};
 
 use crate::names::Names;
 use std::marker::Model;
@@ -101,14 +102,31 @@ impl Model for Ledger {
     ghost invariant = { IsLedgerIn };
 }
 
-/// Whether a fragment's ensemble has this size, and it stops no later than 2^63.
+/// Whether no bookie is one of these twice.
+fn are_different(names: &[u16]) -> bool
+    ensures { IsTrue result ↔ EachOnce names.now }
+{
+    for index in 0..names.len() {
+        let (before, _) = names.split_at(index);
+        if before.contains(&names[index]) {
+            return false;
+        }
+    }
+    true
+}
+
+/// Whether a fragment's ensemble has this size and no bookie twice, and it stops no later than 2^63.
 fn is_fragment(size: u64, fragment: &Fragment) -> bool
     ensures { IsTrue result ↔ IsFragment size fragment.now }
 {
-    size >= 1
-        && fragment.first <= fragment.stop
-        && fragment.stop <= 1 << 63
-        && fragment.ensemble.as_slice().len() as u64 == size
+    let names = fragment.ensemble.as_slice();
+    if size < 1 || names.len() as u64 != size {
+        return false;
+    }
+    if fragment.stop < fragment.first || fragment.stop > 1 << 63 {
+        return false;
+    }
+    are_different(names)
 }
 
 /// Whether each fragment is such a one.
@@ -123,11 +141,25 @@ fn are_fragments(size: u64, fragments: &[Fragment]) -> bool
     true
 }
 
+/// Whether each fragment stops where the next one begins, or before.
+fn are_in_turn(fragments: &[Fragment]) -> bool
+    ensures { IsTrue result ↔ InTurn fragments.now }
+{
+    let mut stop = 0;
+    for fragment in fragments {
+        if fragment.first < stop {
+            return false;
+        }
+        stop = fragment.stop;
+    }
+    true
+}
+
 impl Ledger {
     ghost use Rattle.reh_census.specs.Ledgers.{IsLedger, ledger_by};
 
     /// A ledger of this state, of these sizes and fragments, of whose members this is told, if they fit together: quorums
-    /// that rise from 1 to the ensemble size, at most 64, and fragments with ensembles of that size.
+    /// that rise from 1 to the ensemble size, at most 64, and fragments in turn, each on so many different bookies.
     pub fn try_new(
         state: LedgerState,
         size: u64,
@@ -143,7 +175,10 @@ impl Ledger {
             ↔ IsLedger (ledger_by state size write_quorum ack_quorum fragments.items contents.items rest) }
     {
         let has_quorums = 1 <= ack_quorum && ack_quorum <= write_quorum && write_quorum <= size;
-        if !has_quorums || size > 64 || !are_fragments(size, &fragments) {
+        if !has_quorums || size > 64 {
+            return None;
+        }
+        if !are_fragments(size, &fragments) || !are_in_turn(&fragments) {
             return None;
         }
         Some(Ledger {

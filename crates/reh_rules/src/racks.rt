@@ -54,8 +54,8 @@ fn count_racks(bookies: &Bookies, stopped: &BookieSet) -> u64
     ensures { result ≡ model.racks (bookies_of bookies.now) (is_flagged stopped.now) }
 {
     let mut count = 0;
-    for rack in 0..bookies.len() {
-        count += one_if(has_writable(bookies, stopped, rack));
+    for rack in 0..bookies.racks_stop() {
+        count += one_if(has_writable(bookies, stopped, rack as u16));
     }
     count
 }

@@ -1,5 +1,7 @@
 pub mod ClassLaws
 pub mod CutLaws
+pub mod FewLaws
+pub mod LineLaws
 pub mod MemberLaws
 pub mod PlacedLaws
 pub mod ResidueLaws

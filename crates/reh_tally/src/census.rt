@@ -1,25 +1,24 @@
 // The census of ledgers.
-ghost use Rattle.std.specs.Prelude.{◌≡◌, ◌+◌, ◌^◌, ◌≤◌, IfOk, Err, IsTrue, ◌↔◌, length};
+ghost use Rattle.std.specs.Prelude.{◌≡◌, ◌^◌, ◌≤◌, IfOk, Err, ◌↔◌, length};
 ghost use Rattle.reh_census.specs.Bookies.{bookies_of, holders};
-ghost use Rattle.reh_census.specs.Counting.{IsCensus, ensembles_in, entries_in, not_judged, tails_in};
+ghost use Rattle.reh_census.specs.Counting.{IsCensus, not_judged};
+ghost use Rattle.reh_census.specs.Order.{IsInOrder};
 ghost use Rattle.reh_tally.specs.Few.{AreFew};
 ghost use Rattle.reh_tally.specs.declared.census.TallyFault.TheVariants.{TooMany};
 
-use crate::merge::merged;
+use crate::few::are_few;
+use crate::merge::{merged, merged_ensembles, merged_tails};
 use crate::segments::entries_of;
 use crate::tails::{ensembles_of, tails_of};
-use reh_census::{Bookies, Census, Counted, CountedEnsemble, CountedTail, Judged, Ledger};
+use reh_census::{Bookies, Census, Judged, Ledger};
 use std::alloc::{AllocError, Global};
-
-/// How far a census counts.
-const MOST: u64 = 1 << 63;
 
 /// Why ledgers can't be counted.
 #[derive(Clone, Copy, PartialEq, Eq, Debug)]
 pub enum TallyFault {
     /// There are more entries, ledgers or fragments than a census counts.
     TooMany,
-    /// There is no memory.
+    /// Out of memory.
     NoMemory,
 }
 
@@ -34,49 +33,8 @@ impl From<AllocError> for TallyFault {
     }
 }
 
-/// Whether a census counts so many entries.
-fn has_few_entries(entries: &[Counted]) -> bool
-    ensures { IsTrue result ↔ (entries_in entries.now ≤ 2 ^ 63) }
-{
-    let mut total = 0;
-    for counted in entries {
-        if counted.count > MOST - total {
-            return false;
-        }
-        total += counted.count;
-    }
-    true
-}
-
-/// Whether it counts so many ledgers that aren't closed.
-fn has_few_tails(tails: &[CountedTail]) -> bool
-    ensures { IsTrue result ↔ (tails_in tails.now ≤ 2 ^ 63) }
-{
-    let mut total = 0;
-    for counted in tails {
-        if counted.count > MOST - total {
-            return false;
-        }
-        total += counted.count;
-    }
-    true
-}
-
-/// Whether it counts so many fragments.
-fn has_few_ensembles(ensembles: &[CountedEnsemble]) -> bool
-    ensures { IsTrue result ↔ (ensembles_in ensembles.now ≤ 2 ^ 63) }
-{
-    let mut total = 0;
-    for counted in ensembles {
-        if counted.count > MOST - total {
-            return false;
-        }
-        total += counted.count;
-    }
-    true
-}
-
-/// The census of these ledgers, of which some could not be read.
+/// The census of these ledgers, of which some could not be read. Whether they are too many is told before memory is asked
+/// for.
 pub fn census_of(
     alloc: Global,
     bookies: &Bookies,
@@ -86,21 +44,33 @@ pub fn census_of(
     requires ledgers { judged.ledgers ≡ length ledgers.now }
     requires not_judged { not_judged judged ≤ 2 ^ 63 }
     ensures census { IfOk result (λ census. IsCensus census (holders (bookies_of bookies.now)) ledgers.now) }
+    ensures order { IfOk result (λ census. IsInOrder census) }
     ensures judged { IfOk result (λ census. census.judged ≡ judged) }
-    ensures too_many { result ≡ Err TooMany → AreFew (holders (bookies_of bookies.now)) ledgers.now → ⊥ }
+    ensures too_many { result ≡ Err TooMany ↔ (AreFew (holders (bookies_of bookies.now)) ledgers.now → ⊥) }
 {
-    let counted = entries_of(alloc, bookies, ledgers)?;
-    let tails = tails_of(alloc, ledgers)?;
-    let ensembles = ensembles_of(alloc, ledgers)?;
-    if !has_few_entries(&counted) {
+    if !are_few(ledgers) {
         return Err(TallyFault::TooMany);
     }
-    if !has_few_tails(&tails) {
-        return Err(TallyFault::TooMany);
-    }
-    if !has_few_ensembles(&ensembles) {
-        return Err(TallyFault::TooMany);
-    }
-    let entries = merged(alloc, counted)?;
+    let census = census_of_few(alloc, bookies, ledgers, judged)?;
+    Ok(census)
+}
+
+/// The same of ledgers that are few enough: for want of memory alone there is none.
+pub fn census_of_few(
+    alloc: Global,
+    bookies: &Bookies,
+    ledgers: &[Ledger],
+    judged: Judged,
+) -> Result<Census, AllocError>
+    requires ledgers { judged.ledgers ≡ length ledgers.now }
+    requires not_judged { not_judged judged ≤ 2 ^ 63 }
+    requires few { AreFew (holders (bookies_of bookies.now)) ledgers.now }
+    ensures census { IfOk result (λ census. IsCensus census (holders (bookies_of bookies.now)) ledgers.now) }
+    ensures order { IfOk result (λ census. IsInOrder census) }
+    ensures judged { IfOk result (λ census. census.judged ≡ judged) }
+{
+    let entries = merged(alloc, entries_of(alloc, bookies, ledgers)?)?;
+    let tails = merged_tails(alloc, tails_of(alloc, ledgers)?)?;
+    let ensembles = merged_ensembles(alloc, ensembles_of(alloc, ledgers)?)?;
     Ok(Census::of(entries, tails, ensembles, judged))
 }

@@ -1,9 +1,11 @@
 // The tails of ledgers that aren't closed, and the ensembles of fragments.
 ghost use Rattle.std.specs.Prelude.{◌≡◌, ◌+◌, Bool, List, ℕ, All, IfOk, OnOk, count_by};
 ghost use Rattle.reh_census.specs.declared.censuses.Tail.{Tail as TailValue};
+ghost use Rattle.reh_census.specs.Copies.{in_order};
 ghost use Rattle.reh_census.specs.Counting as model;
 ghost use Rattle.reh_census.specs.Tails.{IsTail};
 
+use crate::members::in_order;
 use reh_census::{CountedEnsemble, CountedTail, Fragment, Ledger, LedgerState, Names, Tail};
 use std::alloc::{AllocError, Global};
 
@@ -71,7 +73,7 @@ pub fn tails_of(alloc: Global, ledgers: &[Ledger]) -> Result<Vec<CountedTail>, A
     Ok(tails)
 }
 
-/// Adds the ensembles of fragments.
+/// Adds the ensembles of fragments, with their members in order.
 fn add_ensembles(
     alloc: Global,
     fragments: &[Fragment],
@@ -79,10 +81,10 @@ fn add_ensembles(
 ) -> Result<(), AllocError>
     ensures { OnOk result ((test : List ℕ → Bool) → model.count_ensembles_in ensembles.new.items test
         ≡ model.count_ensembles_in ensembles.old.items test
-        + count_by (λ fragment. test fragment.ensemble) fragments.now) }
+        + count_by (λ fragment. test (in_order fragment.ensemble)) fragments.now) }
 {
     for fragment in fragments {
-        let members = copy_of(alloc, &fragment.ensemble)?;
+        let members = in_order(alloc, &fragment.ensemble)?;
         ensembles.push(CountedEnsemble { members, count: 1 })?;
     }
     Ok(())
