@@ -1,6 +1,6 @@
 -- The bookies of a cluster, as its inputs show them together.
 use Rattle.std.specs.Prelude.{ℕ, Bool, false, not, List, [], ◌∷◌, ◌++◌, map, if◌then◌else◌, Option}
-use Rattle.std.specs.Prelude.{position, slice_get, unwrap_or}
+use Rattle.std.specs.Prelude.{position, slice_get}
 use Rattle.std.specs.Option.{is_some, option_and_then, option_map_or}
 use Rattle.std.specs.Str.{bytes_eq}
 use Rattle.reh_census.specs.declared.bookies.Bookie.{Bookie}
@@ -30,10 +30,6 @@ abbrev pub with_bookie : Cluster → List ℕ → Shown → Cluster
 with_bookie cluster name shown =
     if has_bookie cluster name then cluster
     else (record { names = cluster.names ++ name ∷ []; shown = cluster.shown ++ shown ∷ [] })
-
--- the number of a bookie; one that the cluster doesn't have has a number past all
-abbrev pub number_of : Cluster → List ℕ → ℕ
-number_of cluster name = unwrap_or (position (bytes_eq name) cluster.names) 65535
 
 -- the bookie as a census sees it: a rack has the number of the first bookie in it
 abbrev pub bookie_of : List Shown → Shown → Bookie

@@ -3,3 +3,4 @@ pub mod Inside
 pub mod Ledgers
 pub mod Shown
 pub mod Names
+pub mod United

@@ -5,9 +5,11 @@ mod cluster;
 mod ledgers;
 mod names;
 mod shown;
+mod united;
 
 pub use cluster::{Cluster, ClusterFault};
 pub use ledgers::{Reading, ledger_of};
 pub use names::{ClusterNames, MAX_CLUSTER_BOOKIES};
 
 pub use shown::Shown;
+pub use united::{UniteFault, numbers_of, unite};

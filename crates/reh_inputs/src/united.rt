@@ -1,0 +1,112 @@
+// The cluster of several inputs.
+ghost use Rattle.std.specs.Prelude.{◌≡◌, ◌<◌, map, slice_get, IfOk, OnOk, string_bytes};
+ghost use Rattle.std.specs.Option.{option_map, option_map_or};
+ghost use Rattle.reh_types.specs.declared.limits.TheConstants.{MAX_BOOKIES};
+ghost use Rattle.reh_inputs.specs.United as model;
+
+use crate::cluster::{Cluster, ClusterFault};
+use crate::names::ClusterNames;
+use crate::shown::Shown;
+use reh_cluster::Names;
+use reh_picture::Listed;
+use reh_types::BookieIx;
+use std::alloc::{AllocError, Global};
+
+/// The bookie of an input that can't be one of the cluster, and why.
+#[derive(Clone, Copy, PartialEq, Eq, Debug)]
+pub struct UniteFault {
+    /// The number of the bookie in its input.
+    pub bookie: usize,
+    pub fault: ClusterFault,
+}
+
+/// A copy of a rack's name, if it is known.
+fn rack_of(alloc: Global, rack: Option<&str>) -> Result<Option<String>, AllocError>
+    ensures { IfOk result (λ copy. option_map string_bytes copy ≡ option_map (λ r. r.now) rack.entry) }
+{
+    match rack {
+        Some(rack) => Ok(Some(String::from_str(alloc, rack)?)),
+        None => Ok(None),
+    }
+}
+
+/// How a picture shows the bookie of that number.
+fn shown_at(alloc: Global, listed: &Listed, number: usize) -> Result<Shown, AllocError>
+    ensures { IfOk result (λ shown. shown ≡ model.shown_at listed.now number) }
+{
+    let is_registered = match listed.listing.lost_at.get(number) {
+        Some(lost) => lost.is_none(),
+        None => false,
+    };
+    let Some(marks) = listed.marks.get(number) else {
+        return Ok(Shown::new(is_registered, false, false, None));
+    };
+    let rack = rack_of(alloc, marks.rack())?;
+    Ok(Shown::new(
+        is_registered,
+        marks.is_read_only(),
+        marks.is_empty(),
+        rack,
+    ))
+}
+
+/// Adds the bookie of that number.
+fn add_listed(
+    alloc: Global,
+    cluster: &mut Cluster,
+    listed: &Listed,
+    number: usize,
+) -> Result<(), ClusterFault>
+    requires { number < MAX_BOOKIES }
+    ensures { OnOk result (cluster.new ≡ model.with_listed listed.now cluster.old number) }
+{
+    let Some(name) = listed.listing.names.name(BookieIx(number as u8)) else {
+        return Ok(());
+    };
+    let shown = shown_at(alloc, listed, number)?;
+    cluster.add(name, shown)
+}
+
+/// Adds the bookies of a picture. After an `Err` some of them may be there.
+pub fn unite(alloc: Global, cluster: &mut Cluster, listed: &Listed) -> Result<(), UniteFault>
+    ensures { OnOk result (cluster.new ≡ model.with_input cluster.old listed.now) }
+{
+    for number in 0..listed.listing.names.len() {
+        match add_listed(alloc, cluster, listed, number) {
+            Ok(()) => {}
+            Err(fault) => {
+                return Err(UniteFault {
+                    bookie: number,
+                    fault,
+                });
+            }
+        }
+    }
+    Ok(())
+}
+
+/// The number of each bookie of a picture in the cluster.
+pub fn numbers_of(
+    alloc: Global,
+    names: &ClusterNames,
+    listed: &Names,
+) -> Result<Vec<u16>, AllocError>
+    ensures { IfOk result (λ numbers. numbers.items ≡ map (model.number_of names.now) listed.now) }
+{
+    let mut numbers = Vec::new(alloc);
+    for bookie in 0..listed.len() {
+        numbers.push(number_at(names, listed, bookie))?;
+    }
+    Ok(numbers)
+}
+
+/// The number of the bookie of that number in a picture.
+fn number_at(names: &ClusterNames, listed: &Names, bookie: usize) -> u16
+    requires { bookie < MAX_BOOKIES }
+    ensures { result ≡ option_map_or (model.number_of names.now) (slice_get listed.now bookie) 65535 }
+{
+    match listed.name(BookieIx(bookie as u8)) {
+        Some(name) => names.find(name).unwrap_or(u16::MAX),
+        None => u16::MAX,
+    }
+}
