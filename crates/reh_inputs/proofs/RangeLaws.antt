@@ -1,5 +1,12 @@
 -- Numbers from 0 on, and one more.
-use Rattle.std.proofs.Common.{◌≡◌, ℕ, zero, suc, ◌+◌, ◌-◌, ◌<◌, List, ◌++◌, ◌∷◌, [], length, get_or, ap, ◌∙◌, refl, arith}
+use Rattle.std.proofs.Common.{◌≡◌, ℕ, zero, suc, ◌+◌, ◌-◌, ◌<◌, List, ◌++◌, ◌∷◌, [], length, get_or, map, take, append-nil, ap, sym, ◌∙◌, refl, arith, ◌≤◌, Bool, true, false, cond}
+use Rattle.reh_census.specs.declared.classes.Class.{Class}
+use Rattle.reh_census.specs.declared.classes.Counted.{Counted}
+use Rattle.reh_census.specs.Counting.{count_in, entries_in}
+use Rattle.std.proofs.lemmas.List.Sums.{sum_by_more_le_part}
+use Rattle.std.specs.List.{flat_map}
+use Rattle.std.proofs.lemmas.List.{map-append, take_more}
+use Rattle.std.proofs.lemmas.List.Concat.{flat_map-append}
 use Rattle.std.specs.Prelude.{slice_get}
 use Rattle.std.specs.Option.{option_map_or}
 use Rattle.std.specs.List.{range_with_len}
@@ -19,3 +26,27 @@ pub at_place : {A B : Type 0} (f : A → B) (d : B) (e : A) (xs : List A) (k : �
 at_place f d e [] k within = absurd (omega arith)
 at_place f d e (x ∷ xs) zero within = refl
 at_place f d e (x ∷ xs) (suc k) within = at_place f d e xs k (omega arith)
+
+-- one element more, of which something is made
+module _ {A B : Type 0} (xs : List A) (k : ℕ) (x : A) (within : k < length xs) (is : x ≡ get_or xs k x) where
+  pub map_more : (f : A → B) → map f (take (k + 1) xs) ≡ map f (take k xs) ++ f x ∷ []
+  map_more f =
+      ap (map f) (take_more xs k x within) ∙ map-append f (take k xs) (get_or xs k x ∷ [])
+      ∙ ap (λ y. map f (take k xs) ++ f y ∷ []) (sym is)
+
+  pub flat_map_more : (f : A → List B) → flat_map f (take (k + 1) xs) ≡ flat_map f (take k xs) ++ f x
+  flat_map_more f =
+      ap (flat_map f) (take_more xs k x within) ∙ flat_map-append f (take k xs) (get_or xs k x ∷ [])
+      ∙ ap (λ y. flat_map f (take k xs) ++ (f y ++ [])) (sym is)
+      ∙ ap (λ ys. flat_map f (take k xs) ++ ys) (append-nil (f x))
+
+-- what passes a test, of so many that are passed, and one more, are within all
+some_count : (b : Bool) (n : ℕ) → cond b n 0 ≤ n
+some_count true n = omega arith
+some_count false n = omega arith
+
+pub counted-fits : (items : List Counted) (test : Class → Bool) (i : ℕ) (x : Counted) → i < length items
+    → count_in (take i items) test + (get_or items i x).count ≤ entries_in items
+counted-fits items test i x within =
+    sum_by_more_le_part (λ y. cond (test y.class) y.count 0) (λ y. y.count) items i x within
+    (λ y. some_count (test y.class) y.count)

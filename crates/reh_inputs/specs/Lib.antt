@@ -4,3 +4,4 @@ pub mod Ledgers
 pub mod Shown
 pub mod Names
 pub mod United
+pub mod Gathered

@@ -2,12 +2,14 @@
 #![tactic(auto)]
 
 mod cluster;
+mod gathered;
 mod ledgers;
 mod names;
 mod shown;
 mod united;
 
 pub use cluster::{Cluster, ClusterFault};
+pub use gathered::{GatherFault, Gathered, gather};
 pub use ledgers::{Reading, ledger_of};
 pub use names::{ClusterNames, MAX_CLUSTER_BOOKIES};
 
