@@ -88,7 +88,7 @@ impl Shown {
     }
 
     /// Whether the bookie is in the rack.
-    pub(crate) fn is_in(&self, rack: &str) -> bool
+    pub fn is_in(&self, rack: &str) -> bool
         ensures { result ≡ model.is_in rack.now self.now }
     {
         match &self.rack {
