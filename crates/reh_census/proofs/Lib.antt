@@ -10,3 +10,4 @@ pub mod RangeLaws
 pub mod RuleLaws
 pub mod SortedLaws
 pub mod TailLaws
+pub mod YesLaws
