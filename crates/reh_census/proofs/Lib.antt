@@ -4,6 +4,7 @@ pub mod CountingLaws
 pub mod Examples
 pub mod InOrderLaws
 pub mod OnceLaws
+pub mod OnlyLaws
 pub mod OrderLaws
 pub mod RackLaws
 pub mod RangeLaws

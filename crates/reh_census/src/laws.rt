@@ -12,6 +12,7 @@ ghost use Rattle.reh_census.specs.Copies.{EachOnce, IsPart, Rising, best, comple
 ghost use Rattle.reh_census.specs.Counting.{Census, IsCensus, IsEntry, census_sum, counting_in, counting_of, tail_of};
 ghost use Rattle.reh_census.specs.declared.answers.Numbers.{Numbers};
 ghost use Rattle.reh_census.specs.Ledgers.{Ledger, class_of};
+ghost use Rattle.reh_census.specs.Order.{IsInOrder};
 ghost use Rattle.reh_census.specs.Rules.{breaks_kept, breaks_readable, copies_to_keep};
 ghost use Rattle.reh_census.specs.Tails as tails;
 
@@ -226,4 +227,13 @@ pub fn an_ensemble_in_order_is_the_same()
         → EachOnce ensemble
         → tails.breaks_replaceable bookies question stopped (in_order ensemble)
         ≡ tails.breaks_replaceable bookies question stopped ensemble }
+{}
+
+/// Of the same ledgers there is one census in order, if the same is said of what was judged: its text is the same, whoever
+/// counts them.
+pub fn a_census_in_order_is_the_only_one()
+    ensures { (census other : Census) (holders : List ℕ) (ledgers : List Ledger)
+        → IsCensus census holders ledgers → IsInOrder census
+        → IsCensus other holders ledgers → IsInOrder other
+        → census.judged ≡ other.judged → census ≡ other }
 {}
