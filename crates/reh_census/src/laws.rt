@@ -170,7 +170,8 @@ pub fn a_census_gives_the_answer_of_its_ledgers()
 {}
 
 /// A yes spares each entry of the ledgers, whatever the untold bookies hold: one that has a copy keeps one, and each keeps as
-/// many as are to be kept, or all that it has; and where disks go for good, each has a known copy.
+/// many as are to be kept, or all that it has; and where the disk of a bookie that is down goes for good, each has a known
+/// copy.
 pub fn a_yes_spares_each_entry()
     ensures readable { (holders : List ℕ) (ledgers : List Ledger) (bookies : Bookies) (question : Question) (not_judged : ℕ)
         (stopped holds : ℕ → Bool) (g : Ledger) (fragment : Fragment) (entry : ℕ)
