@@ -4,9 +4,11 @@ pub mod CountingLaws
 pub mod Examples
 pub mod InOrderLaws
 pub mod OnceLaws
+pub mod OnlyLaws
 pub mod OrderLaws
 pub mod RackLaws
 pub mod RangeLaws
 pub mod RuleLaws
 pub mod SortedLaws
 pub mod TailLaws
+pub mod YesLaws

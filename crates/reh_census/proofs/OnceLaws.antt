@@ -55,3 +55,14 @@ twice names i d within old once =
     let all : count_by (λ n. n == name) (take i names) + cond (name == name) 1 0 ≤ count_by (λ n. n == name) names =
     sum_by_more_le (λ n. cond (n == name) 1 0) names i d within in
     omega (arith, all, itself name, count-in (take i names) name old, once name)
+
+-- the first of different names isn't among the others, and these are different too
+pub once-first : (name : ℕ) (names : List ℕ) → EachOnce (name ∷ names) → (is_in names name ≡ false) × EachOnce names
+once-first name names once = (
+  absent (is_in names name) refl,
+  λ b. omega (arith, once b, count-cons (λ n. n == b) name names),
+) where
+  absent : (there : Bool) → is_in names name ≡ there → there ≡ false
+  absent true is =
+      absurd (omega (arith, once name, count-cons (λ n. n == name) name names, itself name, count-in names name is))
+  absent false is = refl

@@ -1,5 +1,6 @@
 -- What is counted: entries by what is known of their copies, ledgers that aren't closed, and fragments.
-use Rattle.std.specs.Prelude.{◌≡◌, ◌≤◌, ◌+◌, ◌^◌, ℕ, Bool, true, false, cond, All, List, [], ◌∷◌, ◌++◌, count_by, sum_by, length}
+use Rattle.std.specs.Prelude.{◌≡◌, ◌<◌, ◌≤◌, ◌+◌, ◌^◌, ℕ, Bool, true, false, cond, All, List, [], ◌∷◌, ◌++◌, count_by, sum_by, length}
+use Rattle.std.specs.List.{Contains}
 use Rattle.reh_census.specs.declared.censuses.CountedEnsemble.{CountedEnsemble}
 use Rattle.reh_census.specs.declared.censuses.CountedTail.{CountedTail}
 use Rattle.reh_census.specs.declared.censuses.Judged.{Judged}
@@ -93,6 +94,13 @@ count_ledger holders test g = sum_by (count_fragment holders g test) g.fragments
 
 abbrev pub count_entries : List ℕ → List Ledger → (Class → Bool) → ℕ
 count_entries holders ledgers test = sum_by (count_ledger holders test) ledgers
+
+-- the entry is of this fragment of one of the ledgers
+pub record IsEntry (ledgers : List Ledger) (g : Ledger) (fragment : Fragment) (entry : ℕ) : Type 0 where
+  pub is_ledger : Contains ledgers g
+  pub is_fragment : Contains g.fragments fragment
+  pub from : fragment.first ≤ entry
+  pub below : entry < fragment.stop
 
 -- the tail of a ledger with these fragments: its last ensemble
 abbrev pub tail_with : Ledger → Bool → List Fragment → List Tail

@@ -1,16 +1,18 @@
 // Laws: of what is known and unknown, of rules, censuses and answers.
 ghost use Rattle.std.specs.Prelude.{not, ◌-◌, ◌≡◌, ◌≤◌, ℕ, ◌+◌, min, Bool, ◌&&◌, ◌||◌, ◌==◌, nat_le, nat_lt, List, ◌++◌, true, length, count_by, false};
-ghost use Rattle.std.specs.List.{list_all, list_any};
+ghost use Rattle.std.specs.List.{Contains, list_all, list_any};
 ghost use Rattle.reh_census.specs.declared.censuses.Tail.{Tail};
 ghost use Rattle.reh_census.specs.declared.classes.Class.{Class};
+ghost use Rattle.reh_census.specs.declared.ledgers.Fragment.{Fragment};
 ghost use Rattle.reh_census.specs.declared.questions.Keep.{Keep};
 ghost use Rattle.reh_census.specs.declared.questions.Question.{Question};
 ghost use Rattle.reh_census.specs.Answers.{IsAllZero, answer_by, answer_on, is_yes, numbers_on};
 ghost use Rattle.reh_census.specs.Bookies.{Bookies, is_holder_left};
-ghost use Rattle.reh_census.specs.Copies.{IsPart, best, completion, is_in, left, worst};
-ghost use Rattle.reh_census.specs.Counting.{Census, IsCensus, census_sum, counting_in, counting_of};
+ghost use Rattle.reh_census.specs.Copies.{EachOnce, IsPart, Rising, best, completion, in_order, is_in, left, worst};
+ghost use Rattle.reh_census.specs.Counting.{Census, IsCensus, IsEntry, census_sum, counting_in, counting_of, tail_of};
 ghost use Rattle.reh_census.specs.declared.answers.Numbers.{Numbers};
-ghost use Rattle.reh_census.specs.Ledgers.{Ledger};
+ghost use Rattle.reh_census.specs.Ledgers.{Ledger, class_of};
+ghost use Rattle.reh_census.specs.Order.{IsInOrder};
 ghost use Rattle.reh_census.specs.Rules.{breaks_kept, breaks_readable, copies_to_keep};
 ghost use Rattle.reh_census.specs.Tails as tails;
 
@@ -165,4 +167,74 @@ pub fn a_census_gives_the_answer_of_its_ledgers()
         → IsCensus census holders ledgers
         → answer_on (counting_in census) bookies question not_judged stopped
         ≡ answer_on (counting_of holders ledgers) bookies question not_judged stopped }
+{}
+
+/// A yes spares each entry of the ledgers, whatever the untold bookies hold: one that has a copy keeps one, and each keeps as
+/// many as are to be kept, or all that it has; and where the disk of a bookie that is down goes for good, each has a known
+/// copy.
+pub fn a_yes_spares_each_entry()
+    ensures readable { (holders : List ℕ) (ledgers : List Ledger) (bookies : Bookies) (question : Question) (not_judged : ℕ)
+        (stopped holds : ℕ → Bool) (g : Ledger) (fragment : Fragment) (entry : ℕ)
+        → is_yes (answer_on (counting_of holders ledgers) bookies question not_judged stopped) ≡ true
+        → IsEntry ledgers g fragment entry
+        → let copies = completion (class_of holders g fragment entry) holds in
+        1 ≤ length copies → 1 ≤ left stopped copies }
+    ensures kept { (holders : List ℕ) (ledgers : List Ledger) (bookies : Bookies) (question : Question) (not_judged : ℕ)
+        (stopped holds : ℕ → Bool) (g : Ledger) (fragment : Fragment) (entry : ℕ)
+        → is_yes (answer_on (counting_of holders ledgers) bookies question not_judged stopped) ≡ true
+        → IsEntry ledgers g fragment entry
+        → let copies = completion (class_of holders g fragment entry) holds in
+        min (length copies) (copies_to_keep question.keep g.ack_quorum) ≤ left stopped copies }
+    ensures disks { (holders : List ℕ) (ledgers : List Ledger) (bookies : Bookies) (question : Question) (not_judged : ℕ)
+        (stopped : ℕ → Bool) (g : Ledger) (fragment : Fragment) (entry : ℕ)
+        → is_yes (answer_on (counting_of holders ledgers) bookies question not_judged stopped) ≡ true
+        → IsEntry ledgers g fragment entry
+        → tails.needs_disk bookies question stopped (class_of holders g fragment entry) ≡ false }
+{}
+
+/// A yes spares each ledger: one that isn't closed can be recovered, and its writer goes on, as far as that is so now; and
+/// each fragment's places find as many other bookies as now. New ledgers find an ensemble, and no ledger was left out.
+pub fn a_yes_spares_each_ledger()
+    ensures recoverable { (holders : List ℕ) (ledgers : List Ledger) (bookies : Bookies) (question : Question)
+        (not_judged : ℕ) (stopped : ℕ → Bool) (g : Ledger) (tail : Tail)
+        → is_yes (answer_on (counting_of holders ledgers) bookies question not_judged stopped) ≡ true
+        → Contains ledgers g → Contains (tail_of g) tail
+        → tails.breaks_recoverable bookies question stopped tail ≡ false }
+    ensures writable { (holders : List ℕ) (ledgers : List Ledger) (bookies : Bookies) (question : Question)
+        (not_judged : ℕ) (stopped : ℕ → Bool) (g : Ledger) (tail : Tail)
+        → is_yes (answer_on (counting_of holders ledgers) bookies question not_judged stopped) ≡ true
+        → Contains ledgers g → Contains (tail_of g) tail
+        → tails.breaks_writable bookies question stopped tail ≡ false }
+    ensures replaceable { (holders : List ℕ) (ledgers : List Ledger) (bookies : Bookies) (question : Question)
+        (not_judged : ℕ) (stopped : ℕ → Bool) (g : Ledger) (fragment : Fragment)
+        → is_yes (answer_on (counting_of holders ledgers) bookies question not_judged stopped) ≡ true
+        → Contains ledgers g → Contains g.fragments fragment → EachOnce fragment.ensemble
+        → tails.breaks_replaceable bookies question stopped fragment.ensemble ≡ false }
+    ensures new_ledgers { (holders : List ℕ) (ledgers : List Ledger) (bookies : Bookies) (question : Question)
+        (not_judged : ℕ) (stopped : ℕ → Bool)
+        → is_yes (answer_on (counting_of holders ledgers) bookies question not_judged stopped) ≡ true
+        → tails.breaks_new_ledgers bookies question stopped ≡ false }
+    ensures judged { (holders : List ℕ) (ledgers : List Ledger) (bookies : Bookies) (question : Question)
+        (not_judged : ℕ) (stopped : ℕ → Bool)
+        → is_yes (answer_on (counting_of holders ledgers) bookies question not_judged stopped) ≡ true
+        → not_judged ≡ 0 }
+{}
+
+/// The members of an ensemble in order are its members, and their places find as many other bookies.
+pub fn an_ensemble_in_order_is_the_same()
+    ensures rising { (names : List ℕ) → Rising (in_order names) }
+    ensures same { (names : List ℕ) (b : ℕ) → is_in (in_order names) b ≡ is_in names b }
+    ensures replaceable { (bookies : Bookies) (question : Question) (stopped : ℕ → Bool) (ensemble : List ℕ)
+        → EachOnce ensemble
+        → tails.breaks_replaceable bookies question stopped (in_order ensemble)
+        ≡ tails.breaks_replaceable bookies question stopped ensemble }
+{}
+
+/// Of the same ledgers there is one census in order, if the same is said of what was judged: its text is the same, whoever
+/// counts them.
+pub fn a_census_in_order_is_the_only_one()
+    ensures { (census other : Census) (holders : List ℕ) (ledgers : List Ledger)
+        → IsCensus census holders ledgers → IsInOrder census
+        → IsCensus other holders ledgers → IsInOrder other
+        → census.judged ≡ other.judged → census ≡ other }
 {}

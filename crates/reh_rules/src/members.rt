@@ -1,5 +1,5 @@
 // Which bookies hold copies, and may be written to, and how many of a write set.
-ghost use Rattle.std.specs.Prelude.{◌≡◌, ◌^◌, ◌≤◌, cond, count_by, length};
+ghost use Rattle.std.specs.Prelude.{◌≡◌, ◌^◌, ◌≤◌, ◌<◌, ℕ, Bool, cond, count_by, length};
 ghost use Rattle.std.specs.List.{list_any};
 ghost use Rattle.reh_census.specs.Bookies as bookies_model;
 ghost use Rattle.reh_census.specs.Bookies.{bookies_of, is_flagged};
@@ -64,7 +64,24 @@ pub(crate) fn takes_some_disk(bookies: &Bookies, question: &Question, stopped: &
     false
 }
 
-/// How many members of an entry's write set have copies at stake.
+/// How many members of an entry's write set pass the test.
+fn count_members<F: Fn(u16) -> bool>(tail: &Tail, entry: u64, passes: F) -> u64
+    requires tail { IsTail tail.now }
+    requires entry { entry ≤ 64 }
+    requires callable { F.IsAlwaysCallable passes }
+    ensures { (test : ℕ → Bool) → ((b : ℕ) (r : Bool) → b < 2 ^ 16 → F.post passes b r → r ≡ test b)
+        → result ≡ count_by test (model.members tail.now entry) }
+{
+    let ensemble = tail.ensemble.as_slice();
+    let mut count = 0;
+    for rank in 0..tail.write_quorum {
+        let index = (entry + rank) % tail.size;
+        count += one_if(passes(ensemble[index as usize]));
+    }
+    count
+}
+
+/// How many of them have copies at stake.
 pub(crate) fn count_at_stake(
     bookies: &Bookies,
     question: &Question,
@@ -77,13 +94,11 @@ pub(crate) fn count_at_stake(
     ensures { result ≡ count_by (model.is_at_stake (bookies_of bookies.now) question.now (is_flagged stopped.now))
         (model.members tail.now entry) }
 {
-    let ensemble = tail.ensemble.as_slice();
-    let mut count = 0;
-    for rank in 0..tail.write_quorum {
-        let index = (entry + rank) % tail.size;
-        count += one_if(is_at_stake(bookies, question, stopped, ensemble[index as usize]));
-    }
-    count
+    count_members(
+        tail,
+        entry,
+        |bookie| is_at_stake(bookies, question, stopped, bookie),
+    )
 }
 
 /// How many of them hold copies, and aren't stopped.
@@ -93,13 +108,11 @@ pub(crate) fn count_left(bookies: &Bookies, stopped: &BookieSet, tail: &Tail, en
     ensures { result ≡ count_by (bookies_model.is_holder_left (bookies_of bookies.now) (is_flagged stopped.now))
         (model.members tail.now entry) }
 {
-    let ensemble = tail.ensemble.as_slice();
-    let mut count = 0;
-    for rank in 0..tail.write_quorum {
-        let index = (entry + rank) % tail.size;
-        count += one_if(is_holder_left(bookies, stopped, ensemble[index as usize]));
-    }
-    count
+    count_members(
+        tail,
+        entry,
+        |bookie| is_holder_left(bookies, stopped, bookie),
+    )
 }
 
 /// How many of them may be written to.
@@ -109,11 +122,5 @@ pub(crate) fn count_acks(bookies: &Bookies, stopped: &BookieSet, tail: &Tail, en
     ensures { result ≡ count_by (bookies_model.is_writable (bookies_of bookies.now) (is_flagged stopped.now))
         (model.members tail.now entry) }
 {
-    let ensemble = tail.ensemble.as_slice();
-    let mut count = 0;
-    for rank in 0..tail.write_quorum {
-        let index = (entry + rank) % tail.size;
-        count += one_if(is_writable(bookies, stopped, ensemble[index as usize]));
-    }
-    count
+    count_members(tail, entry, |bookie| is_writable(bookies, stopped, bookie))
 }

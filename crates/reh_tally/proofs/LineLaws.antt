@@ -5,6 +5,7 @@ use Rattle.std.specs.List.Sorted.{IsSortedBy}
 use Rattle.std.specs.Ordering.{is_gt, is_lt, ordering_reverse}
 use Rattle.std.specs.declared.cmp.Ordering.{Ordering}
 use Rattle.std.specs.declared.cmp.Ordering.TheVariants.{Less, Equal, Greater}
+use Rattle.reh_census.specs.Order.{InOrder}
 use Rattle.std.proofs.lemmas.List.{get_or_append_left, get_or_push, length_push}
 use Rattle.std.proofs.lemmas.List.Sums.{sum_by_push}
 use Rattle.std.proofs.lemmas.List.Sorted.{IsStrictWeakOrder-flip, ranks_by, sorted_far}
@@ -63,3 +64,10 @@ sum-last f xs ys x is = ap (λ zs. sum_by f zs) is ∙ sum_by_push f xs x
 pub sum-none : {X : Type 0} (f : X → ℕ) (xs : List X) → length xs ≡ 0 → sum_by f xs ≡ 0
 sum-none f [] none = refl
 sum-none f (x ∷ xs) none = absurd (omega (arith, none))
+
+-- of no lines all holds
+pub All-none : {X : Type 0} (P : X → Type 0) (xs : List X) → length xs ≡ 0 → All P xs
+All-none P xs none k d below = absurd (omega (arith, none, below))
+
+pub InOrder-none : {X : Type 0} (cmp : X → X → Ordering) (xs : List X) → length xs ≡ 0 → InOrder cmp xs
+InOrder-none cmp xs none k d below = absurd (omega (arith, none, below))

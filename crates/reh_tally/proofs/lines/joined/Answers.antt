@@ -1,8 +1,8 @@
-use Rattle.std.proofs.Common.{◌≡◌, ◌∙◌, ◌+◌, ℕ, true, false, cond, All, sum_by, length, get_or, rules, ap, arith}
+use Rattle.std.proofs.Common.{◌≡◌, ◌∙◌, ◌+◌, ◌≤◌, ℕ, true, false, cond, All, sum_by, length, get_or, rules, ap, arith}
 use Rattle.std.specs.Ordering.{is_gt}
 use Rattle.std.proofs.lemmas.Fn.{always_returns_same}
 use Rattle.std.proofs.lemmas.List.Sorted.{All-permutation, sum_by-IsPermutation}
-use Rattle.reh_tally.proofs.LineLaws.{All-front, All-last, falls, falls_order, front_sorted, last_first, sum-last, sum-none}
+use Rattle.reh_tally.proofs.LineLaws.{All-front, All-last, All-none, InOrder-none, falls, falls_order, front_sorted, last_first, sum-last, sum-none}
 use Rattle.reh_tally.proofs.lines.joined.Goals as goal
 
 pub loop-line-init : goal.loop-line-init
@@ -16,10 +16,12 @@ loop-line-init g c =
       sorted =
           c.in_ok-sort_by.ensures.sorted (falls g.L.Line.kind g.L.Line.cmp) (falls_order g.L.Line.kind g.L.Line.cmp g.met.L.Line.total)
           (always_returns_same _ _ _ (λ a r f k. (search rules, search rules)));
-      behind = λ k d within i e below. absurd (omega (arith, none, below));
-      order = λ k d below. absurd (omega (arith, none, below));
-      some = λ k d below. absurd (omega (arith, none, below));
-      fit = λ k d below. absurd (omega (arith, none, below));
+      behind = λ k d within.
+          All-none (λ one. is_gt (g.L.Line.cmp (g.L.Line.kind one) (g.L.Line.kind (get_or c.sort_by.new.self.items k d))) ≡ false)
+          c.new-joined.result.items none;
+      order = InOrder-none (λ one next. g.L.Line.cmp (g.L.Line.kind one) (g.L.Line.kind next)) c.new-joined.result.items none;
+      some = All-none (λ one. 1 ≤ g.L.Line.count one) c.new-joined.result.items none;
+      fit = All-none (λ one. g.L.Line.IsFit (g.L.Line.kind one)) c.new-joined.result.items none;
       fits =
           All-permutation (λ one. g.L.Line.IsFit (g.L.Line.kind one)) c.args.lines.items c.sort_by.new.self.items
           c.in_ok-sort_by.ensures.permutation c.requires.fit;
