@@ -28,8 +28,11 @@ table counting stopped most =
     map (λ copies. counting.entries (λ class. left stopped class.known == copies)) (range 0 (most + 1))
 
 -- the bookies to stop that aren't registered
+abbrev pub is_missing : Bookies → (ℕ → Bool) → ℕ → Bool
+is_missing bookies stopped b = stopped b && not (bookies.is_registered b)
+
 abbrev pub unregistered : Bookies → (ℕ → Bool) → List ℕ
-unregistered bookies stopped = filter (λ b. stopped b && not (bookies.is_registered b)) bookies.names
+unregistered bookies stopped = filter (is_missing bookies stopped) bookies.names
 
 -- whether the bookie is to be stopped, and registered
 abbrev pub is_stopped_up : Bookies → (ℕ → Bool) → ℕ → Bool

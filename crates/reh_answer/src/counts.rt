@@ -1,5 +1,6 @@
 // How many entries and ledgers there are, of a kind.
 ghost use Rattle.std.specs.Prelude.{◌≡◌, ◌^◌, ◌≤◌, cond, length, nat_le, nat_lt, true};
+ghost use Rattle.std.specs.List.{list_any};
 ghost use Rattle.reh_census.specs.Bookies.{bookies_of, is_flagged};
 ghost use Rattle.reh_census.specs.Counting.{count_in, count_tails_in, entries_in, tails_in};
 ghost use Rattle.reh_answer.specs.Facts as model;
@@ -7,7 +8,7 @@ ghost use Rattle.reh_answer.specs.Facts as model;
 use reh_census::{BookieSet, Bookies, Counted, CountedTail, Tail};
 
 /// The count, or none.
-fn count_if(is: bool, count: u64) -> u64
+pub(crate) fn count_if(is: bool, count: u64) -> u64
     ensures { result ≡ cond is count 0 }
 {
     if is { count } else { 0 }
@@ -83,12 +84,18 @@ fn is_stopped_up(bookies: &Bookies, stopped: &BookieSet, bookie: u16) -> bool
     stopped.contains(bookie) && bookies.is_registered(bookie)
 }
 
+/// Whether one of these is.
+fn has_stopped(bookies: &Bookies, stopped: &BookieSet, names: &[u16]) -> bool
+    ensures { result ≡ list_any (model.is_stopped_up (bookies_of bookies.now) (is_flagged stopped.now)) names.now }
+{
+    names.iter().any(|name| is_stopped_up(bookies, stopped, *name))
+}
+
 /// Whether the writer of this ledger has to change its ensemble.
 fn has_to_change(bookies: &Bookies, stopped: &BookieSet, tail: &Tail) -> bool
     ensures { result ≡ model.has_to_change (bookies_of bookies.now) (is_flagged stopped.now) tail.now }
 {
-    let ensemble = tail.ensemble.as_slice();
-    tail.is_open && ensemble.iter().any(|member| is_stopped_up(bookies, stopped, *member))
+    tail.is_open && has_stopped(bookies, stopped, tail.ensemble.as_slice())
 }
 
 /// How many ledgers that is so of.

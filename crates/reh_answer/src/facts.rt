@@ -7,7 +7,7 @@ ghost use Rattle.reh_answer.specs.Facts as model;
 
 use crate::counts::{count_entries, count_unknown};
 use crate::tables::{Counts, most_copies, table_of};
-use crate::writers::{may_hold_a_new_ledger, unregistered_in, writers_pause};
+use crate::writers::{may_hold_a_new_ledger, unregistered_in, writable_stopped, writers_pause};
 use reh_census::{
     Answer, BookieSet, Bookies, Census, Judged, Names, Numbers, Question, answer_by,
 };
@@ -61,6 +61,7 @@ pub fn facts_of(
     let now = table_of(alloc, census, &none, most)?;
     let without = table_of(alloc, census, stopped, most)?;
     let unregistered = unregistered_in(alloc, bookies, stopped)?;
+    let writable = writable_stopped(bookies, stopped);
     Ok(Facts {
         judged: census.judged(),
         entries: count_entries(census.entries()),
@@ -72,6 +73,6 @@ pub fn facts_of(
         without,
         unregistered,
         writers_pause: writers_pause(bookies, stopped, census.tails()),
-        may_hold_a_new_ledger: may_hold_a_new_ledger(bookies, stopped, census),
+        may_hold_a_new_ledger: may_hold_a_new_ledger(census, writable),
     })
 }

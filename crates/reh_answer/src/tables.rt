@@ -1,5 +1,5 @@
 // How many entries have how many known copies.
-ghost use Rattle.std.specs.Prelude.{◌≡◌, ◌<◌, ◌^◌, IfOk};
+ghost use Rattle.std.specs.Prelude.{◌≡◌, IfOk};
 ghost use Rattle.reh_census.specs.Bookies.{is_flagged};
 ghost use Rattle.reh_census.specs.Counting.{counting_in};
 ghost use Rattle.reh_answer.specs.Facts as model;
@@ -52,8 +52,7 @@ fn copies_in(counted: &Counted) -> usize
 
 /// The most known copies that an entry has.
 pub(crate) fn most_copies(census: &[Counted]) -> usize
-    ensures most { result ≡ model.most_copies census.now }
-    ensures within { result < 2 ^ 63 }
+    ensures { result ≡ model.most_copies census.now }
 {
     let mut most = 0;
     for counted in census {
@@ -69,12 +68,12 @@ pub(crate) fn table_of(
     stopped: &BookieSet,
     most: usize,
 ) -> Result<Counts, AllocError>
-    requires { most < 2 ^ 63 }
     ensures { IfOk result (λ counts. counts ≡ model.table (counting_in census.now) (is_flagged stopped.now) most) }
 {
     let mut counts = Vec::new(alloc);
-    for copies in 0..most + 1 {
+    for copies in 0..most {
         counts.push(entries_with(census.entries(), stopped, copies))?;
     }
+    counts.push(entries_with(census.entries(), stopped, most))?;
     Ok(Counts::of(counts))
 }

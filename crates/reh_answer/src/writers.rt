@@ -5,9 +5,18 @@ ghost use Rattle.reh_census.specs.Bookies.{bookies_of, is_flagged};
 ghost use Rattle.reh_census.specs.Counting.{count_tails_in, counting_in, tails_in};
 ghost use Rattle.reh_answer.specs.Facts as model;
 
-use crate::counts::{count_acked, count_acked_tails, count_changes, count_entries, count_tails};
+use crate::counts::{
+    count_acked, count_acked_tails, count_changes, count_entries, count_if, count_tails,
+};
 use reh_census::{BookieSet, Bookies, Census, CountedTail, Names};
 use std::alloc::{AllocError, Global};
+
+/// Whether the bookie is to be stopped, and isn't registered.
+fn is_missing(bookies: &Bookies, stopped: &BookieSet, bookie: u16) -> bool
+    ensures { result ≡ model.is_missing (bookies_of bookies.now) (is_flagged stopped.now) bookie }
+{
+    stopped.contains(bookie) && !bookies.is_registered(bookie)
+}
 
 /// The bookies to stop that aren't registered.
 pub(crate) fn unregistered_in(
@@ -19,7 +28,7 @@ pub(crate) fn unregistered_in(
 {
     let mut names = Vec::new(alloc);
     for bookie in 0..bookies.len() {
-        if stopped.contains(bookie) && !bookies.is_registered(bookie) {
+        if is_missing(bookies, stopped, bookie) {
             names.push(bookie)?;
         }
     }
@@ -48,14 +57,12 @@ fn is_writable_stopped(bookies: &Bookies, stopped: &BookieSet, bookie: u16) -> b
 }
 
 /// How many of the bookies to stop can be written to now.
-fn writable_stopped(bookies: &Bookies, stopped: &BookieSet) -> u64
+pub(crate) fn writable_stopped(bookies: &Bookies, stopped: &BookieSet) -> u64
     ensures { result ≡ model.writable_stopped (bookies_of bookies.now) (is_flagged stopped.now) }
 {
     let mut count = 0;
     for bookie in 0..bookies.len() {
-        if is_writable_stopped(bookies, stopped, bookie) {
-            count += 1;
-        }
+        count += count_if(is_writable_stopped(bookies, stopped, bookie), 1);
     }
     count
 }
@@ -69,15 +76,9 @@ fn reaches_ack_quorum(census: &Census, bookies: u64) -> bool
         || (count_entries(census.entries()) == 0 && count_tails(census.tails()) == 0)
 }
 
-/// Whether the bookies to stop may be all that have copies of a ledger that nobody counted.
-pub(crate) fn may_hold_a_new_ledger(
-    bookies: &Bookies,
-    stopped: &BookieSet,
-    census: &Census,
-) -> bool
-    ensures { result ≡ model.may_hold_a_new_ledger (counting_in census.now)
-        (model.writable_stopped (bookies_of bookies.now) (is_flagged stopped.now)) }
+/// Whether so many bookies may be all that have copies of a ledger that nobody counted.
+pub(crate) fn may_hold_a_new_ledger(census: &Census, bookies: u64) -> bool
+    ensures { result ≡ model.may_hold_a_new_ledger (counting_in census.now) bookies }
 {
-    let writable = writable_stopped(bookies, stopped);
-    writable > 0 && reaches_ack_quorum(census, writable)
+    bookies > 0 && reaches_ack_quorum(census, bookies)
 }
