@@ -88,7 +88,9 @@ fn is_stopped_up(bookies: &Bookies, stopped: &BookieSet, bookie: u16) -> bool
 fn has_stopped(bookies: &Bookies, stopped: &BookieSet, names: &[u16]) -> bool
     ensures { result ≡ list_any (model.is_stopped_up (bookies_of bookies.now) (is_flagged stopped.now)) names.now }
 {
-    names.iter().any(|name| is_stopped_up(bookies, stopped, *name))
+    names
+        .iter()
+        .any(|name| is_stopped_up(bookies, stopped, *name))
 }
 
 /// Whether the writer of this ledger has to change its ensemble.
@@ -99,11 +101,7 @@ fn has_to_change(bookies: &Bookies, stopped: &BookieSet, tail: &Tail) -> bool
 }
 
 /// How many ledgers that is so of.
-pub(crate) fn count_changes(
-    bookies: &Bookies,
-    stopped: &BookieSet,
-    tails: &[CountedTail],
-) -> u64
+pub(crate) fn count_changes(bookies: &Bookies, stopped: &BookieSet, tails: &[CountedTail]) -> u64
     requires { tails_in tails.now ≤ 2 ^ 63 }
     ensures { result ≡ count_tails_in tails.now (model.has_to_change (bookies_of bookies.now) (is_flagged stopped.now)) }
 {

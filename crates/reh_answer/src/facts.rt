@@ -8,9 +8,7 @@ ghost use Rattle.reh_answer.specs.Facts as model;
 use crate::counts::{count_entries, count_unknown};
 use crate::tables::{Counts, most_copies, table_of};
 use crate::writers::{may_hold_a_new_ledger, unregistered_in, writable_stopped, writers_pause};
-use reh_census::{
-    Answer, BookieSet, Bookies, Census, Judged, Names, Numbers, Question, answer_by,
-};
+use reh_census::{Answer, BookieSet, Bookies, Census, Judged, Names, Numbers, Question, answer_by};
 use reh_rules::{breaks_new_ledgers, numbers_of};
 use std::alloc::{AllocError, Global};
 
@@ -27,9 +25,9 @@ pub struct Facts {
     /// Whether one of those that find no ensemble stands for new ledgers.
     pub breaks_new_ledgers: bool,
     /// How many entries have 0, 1, .. known copies now.
-    pub now: Counts,
+    pub copies_now: Counts,
     /// And without the bookies.
-    pub without: Counts,
+    pub copies_without: Counts,
     /// The bookies to stop that aren't registered.
     pub unregistered: Names,
     /// Whether a writer has to change its ensemble.
@@ -58,8 +56,8 @@ pub fn facts_of(
     let none = BookieSet::none(alloc);
     let numbers = numbers_of(alloc, census, bookies, question, stopped);
     let most = most_copies(census.entries());
-    let now = table_of(alloc, census, &none, most)?;
-    let without = table_of(alloc, census, stopped, most)?;
+    let copies_now = table_of(alloc, census, &none, most)?;
+    let copies_without = table_of(alloc, census, stopped, most)?;
     let unregistered = unregistered_in(alloc, bookies, stopped)?;
     let writable = writable_stopped(bookies, stopped);
     Ok(Facts {
@@ -69,8 +67,8 @@ pub fn facts_of(
         numbers,
         answer: answer_by(&numbers),
         breaks_new_ledgers: breaks_new_ledgers(alloc, bookies, question, stopped),
-        now,
-        without,
+        copies_now,
+        copies_without,
         unregistered,
         writers_pause: writers_pause(bookies, stopped, census.tails()),
         may_hold_a_new_ledger: may_hold_a_new_ledger(census, writable),

@@ -1,10 +1,21 @@
 // What is said of a stop: the facts, and how they are printed.
 #![tactic(auto)]
 
+mod against;
 mod counts;
 mod facts;
+mod notes;
+mod nouns;
+mod rows;
+mod rules;
 mod tables;
+mod texts;
+mod verdicts;
 mod writers;
 
+pub use against::Against;
 pub use facts::{Facts, facts_of};
+pub use notes::notes_of;
 pub use tables::Counts;
+pub use texts::{push_text, text_of};
+pub use verdicts::status_of;

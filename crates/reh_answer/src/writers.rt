@@ -36,11 +36,7 @@ pub(crate) fn unregistered_in(
 }
 
 /// Whether some writer has to change its ensemble.
-pub(crate) fn writers_pause(
-    bookies: &Bookies,
-    stopped: &BookieSet,
-    tails: &[CountedTail],
-) -> bool
+pub(crate) fn writers_pause(bookies: &Bookies, stopped: &BookieSet, tails: &[CountedTail]) -> bool
     requires { tails_in tails.now ≤ 2 ^ 63 }
     ensures { result ≡ nat_lt 0 (count_tails_in tails.now
         (model.has_to_change (bookies_of bookies.now) (is_flagged stopped.now))) }

@@ -1,4 +1,4 @@
-use Rattle.std.proofs.Common.{◌≡◌, ◌∙◌, ◌≤◌, ℕ, Bool, true, List, ap, length}
+use Rattle.std.proofs.Common.{◌≡◌, ◌∙◌, ℕ, Bool, true, List, ap, length}
 use Rattle.std.specs.Prelude.{nat_lt}
 use Rattle.reh_census.specs.declared.answers.Numbers.{Numbers}
 use Rattle.reh_census.specs.declared.censuses.CountedTail.{CountedTail}
@@ -26,10 +26,10 @@ returns-clause-census c =
       numbers = c.numbers_of-numbers.ensures.census i;
       answer = (c.answer_by.ensures ∙ ap (λ (n : Numbers). answer_by n) c.numbers_of-numbers.ensures.census) i;
       breaks_new_ledgers = c.breaks_new_ledgers.ensures i;
-      now =
-          (c.in_ok-now.ensures
+      copies_now =
+          (c.in_ok-copies_now.ensures
           ∙ (λ k. model.table counting (λ b. is_flagged (c.none-none.ensures k) b) (most k))) i;
-      without = (c.in_ok-without.ensures ∙ ap (λ (n : ℕ). model.table counting stopped n) most) i;
+      copies_without = (c.in_ok-copies_without.ensures ∙ ap (λ (n : ℕ). model.table counting stopped n) most) i;
       unregistered = c.in_ok-unregistered.ensures i;
       writers_pause =
           (c.writers_pause.ensures
