@@ -4,8 +4,10 @@
 mod against;
 mod counts;
 mod facts;
+mod members;
 mod notes;
 mod nouns;
+mod objects;
 mod rows;
 mod rules;
 mod tables;
@@ -16,6 +18,7 @@ mod writers;
 pub use against::Against;
 pub use facts::{Facts, facts_of};
 pub use notes::notes_of;
+pub use objects::json_of;
 pub use tables::Counts;
 pub use texts::{push_text, text_of};
 pub use verdicts::status_of;

@@ -81,11 +81,7 @@ fn push_new_ledgers(text: &mut String, others: u64) -> Result<(), AllocError>
 }
 
 /// Adds that so many find no ensemble, of which one stands for new ledgers, or none.
-fn push_no_ensemble(
-    text: &mut String,
-    new_ledgers: bool,
-    number: u64,
-) -> Result<(), AllocError>
+fn push_no_ensemble(text: &mut String, new_ledgers: bool, number: u64) -> Result<(), AllocError>
     ensures { OnOk result (string_bytes text.new ≡ string_bytes text.old ++ texts.no_ensemble new_ledgers number) }
 {
     if new_ledgers {
