@@ -7,7 +7,6 @@ use Rattle.std.specs.Fmt.{char_count, decimal, format_spec, padded_integral}
 use Rattle.std.proofs.lemmas.List.{append-nil, take_more}
 use Rattle.std.proofs.lemmas.Grind.{flat_map-append}
 use Rattle.reh_census.specs.Striping.{range}
-use Rattle.reh_answer.specs.Texts.{cell}
 use Rattle.reh_answer.proofs.Lists.{range-more}
 
 abbrev pub Done : Type 0
@@ -53,11 +52,11 @@ printed-more f xs i x within is =
     ∙ ap (λ y. flat_map f (take i xs ++ y ∷ [])) is
     ∙ ap (λ zs. flat_map f zs) (sym (take_more xs i x within))
 
-pub cells-more : (n : ℕ) → flat_map cell (range 0 n) ++ cell n ≡ flat_map cell (range 0 (n + 1))
-cells-more n =
-    ap (λ ys. flat_map cell (range 0 n) ++ ys) (sym (append-nil (cell n)))
-    ∙ sym (flat_map-append cell (range 0 n) (n ∷ []))
-    ∙ ap (λ ns. flat_map cell ns) (sym (range-more n))
+pub range-printed : (f : ℕ → List ℕ) (n : ℕ) → flat_map f (range 0 n) ++ f n ≡ flat_map f (range 0 (n + 1))
+range-printed f n =
+    ap (λ ys. flat_map f (range 0 n) ++ ys) (sym (append-nil (f n)))
+    ∙ sym (flat_map-append f (range 0 n) (n ∷ []))
+    ∙ ap (λ ns. flat_map f ns) (sym (range-more n))
 
 pub flat_map-map : {X : Type 0} (f : List ℕ → List ℕ) (h : X → List ℕ) (xs : List X)
     → flat_map f (map h xs) ≡ flat_map (λ x. f (h x)) xs
