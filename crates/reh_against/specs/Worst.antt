@@ -1,11 +1,15 @@
 -- The worst first.
-use Rattle.std.specs.Prelude.{◌≡◌, ℕ, ◌+◌, Bool, ◌&&◌, ◌||◌, ◌==◌, nat_lt, if◌then◌else◌, List, [], ◌∷◌, ◌++◌, map, take, IsPermutation}
+use Rattle.std.specs.Prelude.{◌≡◌, ℕ, ◌+◌, Bool, ◌&&◌, ◌||◌, ◌==◌, nat_lt, if◌then◌else◌, List, [], ◌∷◌, ◌++◌, take, IsPermutation, slice_get, string_bytes, Some}
 use Rattle.std.specs.List.Sorted.{IsSortedBy}
 use Rattle.reh_census.specs.declared.answers.Answer.{Answer}
+use Rattle.reh_census.specs.declared.questions.Keep.{Keep}
+use Rattle.reh_census.specs.declared.questions.Question.{Question}
+use Rattle.reh_census.specs.Bookies.{Bookies}
 use Rattle.reh_census.specs.Ledgers.{Ledger}
 use Rattle.reh_answer.specs.declared.against.Against.{Against}
 use Rattle.reh_against.specs.declared.found.Found.{Found}
-use Rattle.reh_against.specs.Weights.{entries_by}
+use Rattle.reh_against.specs.Causes.{IsCause}
+use Rattle.reh_against.specs.Weights.{entries_by, weight}
 
 abbrev pub found_by : ℕ → ℕ → ℕ → Found
 found_by weight ledger place = record { weight = record { 0 = weight }; ledger = ledger; place = place }
@@ -27,10 +31,32 @@ comes_before a b =
     nat_lt b.weight.0 a.weight.0
     || ((b.weight.0 == a.weight.0) && (nat_lt a.ledger b.ledger || ((a.ledger == b.ledger) && nat_lt a.place b.place)))
 
--- the ten first of all that were found
-pub record AreWorst (answer : Answer) (found : List Found) (against : List Against) : Type 0 where
+-- the first ten of these, in an order in which the worst come first
+pub record AreWorst (found worst : List Found) : Type 0 where
   pub order : List Found
   pub same : IsPermutation found order
   pub sorted : IsSortedBy comes_before order
-  pub ledgers : map (λ a. a.ledger) against ≡ map (λ f. f.ledger) (take 10 order)
-  pub entries : map (λ a. a.entries) against ≡ map (λ f. entries_by answer f.weight.0) (take 10 order)
+  pub first : worst ≡ take 10 order
+
+-- what is said of a ledger that was found among these, and why
+pub record IsAgainst (names : List (List ℕ)) (ledgers : List Ledger) (bookies : Bookies) (keep : Keep) (stopped : ℕ → Bool)
+    (answer : Answer) (found : Found) (against : Against) : Type 0 where
+  pub ledger : against.ledger ≡ found.ledger
+  pub entries : against.entries ≡ entries_by answer found.weight.0
+  pub found_at : Ledger
+  pub at : slice_get ledgers found.place ≡ Some found_at
+  pub cause : IsCause names bookies keep stopped answer found.weight.0 found_at (string_bytes against.cause)
+
+-- the relation holds between the elements of both lists, one by one
+abbrev pub Each : {X Y : Type 0} → (X → Y → Type 0) → List X → List Y → Type 0
+Each relation [] [] = Unit {0}
+Each relation [] (y ∷ ys) = ⊥
+Each relation (x ∷ xs) [] = ⊥
+Each relation (x ∷ xs) (y ∷ ys) = relation x y × Each relation xs ys
+
+-- of all ledgers of which something speaks against the stop, the ten worst, worst first, and what is said of each
+pub record SaysAgainst (names : List (List ℕ)) (ids : List ℕ) (ledgers : List Ledger) (bookies : Bookies) (question : Question)
+    (stopped : ℕ → Bool) (answer : Answer) (against : List Against) : Type 0 where
+  pub worst : List Found
+  pub chosen : AreWorst (found_from (weight bookies question stopped answer) 0 ids ledgers) worst
+  pub said : Each (IsAgainst names ledgers bookies question.keep stopped answer) worst against

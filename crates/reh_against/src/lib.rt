@@ -7,3 +7,5 @@ mod found;
 mod members;
 mod picks;
 mod weights;
+
+pub use picks::against_of;

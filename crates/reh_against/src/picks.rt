@@ -6,6 +6,7 @@ ghost use Rattle.reh_tally.specs.declared.census.TallyFault.TheVariants.{TooMany
 ghost use Rattle.reh_against.specs.Weights.{weight};
 ghost use Rattle.reh_against.specs.Worst as model;
 
+use crate::causes::cause_of;
 use crate::found::Found;
 use crate::weights::{entries_by, weight_of};
 use reh_answer::Against;
@@ -66,4 +67,103 @@ fn found_in(
         add(&mut found, weight, ids[place], place)?;
     }
     Ok(found)
+}
+
+/// The ten of them that weigh the most, the worst first.
+fn worst_of(
+    alloc: Global,
+    ids: &[u64],
+    ledgers: &[Ledger],
+    bookies: &Bookies,
+    question: &Question,
+    stopped: &BookieSet,
+    answer: &Answer,
+) -> Result<Vec<Found>, TallyFault>
+    requires { length ids.now ≡ length ledgers.now }
+    ensures worst { IfOk result (λ worst. model.AreWorst (model.found_from (weight (bookies_of bookies.now) question.now
+        (is_flagged stopped.now) answer.now) 0 ids.now ledgers.now) worst.items) }
+    ensures places { IfOk result (λ worst. All (λ f. f.place < length ledgers.now) worst.items) }
+    ensures too_many { result ≡ Err TooMany → All (λ g. AreFew (holders (bookies_of bookies.now)) (g ∷ [])) ledgers.now → ⊥ }
+{
+    let mut found = found_in(alloc, ids, ledgers, bookies, question, stopped, answer)?;
+    found.sort()?;
+    found.truncate(MOST);
+    Ok(found)
+}
+
+/// What is said of a ledger that was found.
+fn say(
+    alloc: Global,
+    names: &[String],
+    ledgers: &[Ledger],
+    bookies: &Bookies,
+    question: &Question,
+    stopped: &BookieSet,
+    answer: &Answer,
+    found: &Found,
+) -> Result<Against, AllocError>
+    requires { found.now.place < length ledgers.now }
+    ensures { IfOk result (λ against. model.IsAgainst (map string_bytes names.now) ledgers.now (bookies_of bookies.now)
+        question.now.keep (is_flagged stopped.now) answer.now found.now against) }
+{
+    let weight = found.weight.0;
+    let ledger = &ledgers[found.place];
+    let cause = cause_of(
+        alloc, names, bookies, question, stopped, answer, weight, ledger,
+    )?;
+    Ok(Against {
+        ledger: found.ledger,
+        entries: entries_by(answer, weight),
+        cause,
+    })
+}
+
+/// What is said of each of these.
+fn say_all(
+    alloc: Global,
+    names: &[String],
+    ledgers: &[Ledger],
+    bookies: &Bookies,
+    question: &Question,
+    stopped: &BookieSet,
+    answer: &Answer,
+    worst: &[Found],
+) -> Result<Vec<Against>, AllocError>
+    requires { All (λ f. f.place < length ledgers.now) worst.now }
+    ensures { IfOk result (λ against. model.Each (model.IsAgainst (map string_bytes names.now) ledgers.now
+        (bookies_of bookies.now) question.now.keep (is_flagged stopped.now) answer.now) worst.now against.items) }
+{
+    let mut against = Vec::new(alloc);
+    for found in worst {
+        let one = say(
+            alloc, names, ledgers, bookies, question, stopped, answer, found,
+        )?;
+        against.push(one)?;
+    }
+    Ok(against)
+}
+
+/// The ledgers that speak against the stop for this answer, at most ten, the worst first, each with the number of its
+/// entries that do, if it is entries, and why. Ledgers have these ids, and bookies these names, by number. Where a ledger
+/// alone has more entries than a census counts, it fails.
+pub fn against_of(
+    alloc: Global,
+    ids: &[u64],
+    ledgers: &[Ledger],
+    names: &[String],
+    bookies: &Bookies,
+    question: &Question,
+    stopped: &BookieSet,
+    answer: &Answer,
+) -> Result<Vec<Against>, TallyFault>
+    requires { length ids.now ≡ length ledgers.now }
+    ensures said { IfOk result (λ against. model.SaysAgainst (map string_bytes names.now) ids.now ledgers.now
+        (bookies_of bookies.now) question.now (is_flagged stopped.now) answer.now against.items) }
+    ensures too_many { result ≡ Err TooMany → All (λ g. AreFew (holders (bookies_of bookies.now)) (g ∷ [])) ledgers.now → ⊥ }
+{
+    let worst = worst_of(alloc, ids, ledgers, bookies, question, stopped, answer)?;
+    let against = say_all(
+        alloc, names, ledgers, bookies, question, stopped, answer, &worst,
+    )?;
+    Ok(against)
 }
