@@ -4,7 +4,7 @@ use Rattle.std.specs.Prelude.{All, ◌==◌}
 use Rattle.std.proofs.lemmas.List.{drop_more}
 use Rattle.std.proofs.lemmas.List.Elements.{All-cons}
 use Rattle.reh_census.specs.Ledgers.{Ledger}
-use Rattle.reh_against.specs.Worst.{found_by, found_from, found_if}
+use Rattle.reh_against.specs.Worst.{Each, found_by, found_from, found_if}
 
 -- the next ledger
 pub found-more : (weight : Ledger → ℕ) (ids : List ℕ) (ledgers : List Ledger) (place : ℕ) (g : Ledger)
@@ -23,3 +23,11 @@ All-found_if n weight ledger place within = by (weight == 0) where
   by : (b : Bool) → All (λ f. f.place < n) (cond b [] (found_by weight ledger place ∷ []))
   by true = λ k d below. absurd (omega (arith, below))
   by false = All-cons (λ f. f.place < n) (found_by weight ledger place) [] within (λ k d below. absurd (omega (arith, below)))
+
+-- one more of each
+pub Each-push : {X Y : Type 0} (relation : X → Y → Type 0) (xs : List X) (ys : List Y) (x : X) (y : Y)
+    → Each relation xs ys → relation x y → Each relation (xs ++ x ∷ []) (ys ++ y ∷ [])
+Each-push relation [] [] x y each one = (one, tt)
+Each-push relation [] (b ∷ ys) x y each one = absurd each
+Each-push relation (a ∷ xs) [] x y each one = absurd each
+Each-push relation (a ∷ xs) (b ∷ ys) x y each one = (each.0, Each-push relation xs ys x y each.1 one)

@@ -19,12 +19,7 @@ use std::cmp::Reverse;
 const MOST: usize = 10;
 
 /// Adds a ledger that weighs something.
-fn add(
-    found: &mut Vec<Found>,
-    weight: u64,
-    ledger: u64,
-    place: usize,
-) -> Result<(), AllocError>
+fn add(found: &mut Vec<Found>, weight: u64, ledger: u64, place: usize) -> Result<(), AllocError>
     ensures { OnOk result (found.new.items ≡ found.old.items ++ model.found_if weight ledger place) }
 {
     if weight == 0 {
@@ -56,14 +51,7 @@ fn found_in(
 {
     let mut found = Vec::new(alloc);
     for place in 0..ledgers.len() {
-        let weight = weight_of(
-            alloc,
-            &ledgers[place],
-            bookies,
-            question,
-            stopped,
-            answer,
-        )?;
+        let weight = weight_of(alloc, &ledgers[place], bookies, question, stopped, answer)?;
         add(&mut found, weight, ids[place], place)?;
     }
     Ok(found)

@@ -99,11 +99,7 @@ pub(crate) fn entries_by(answer: &Answer, weight: u64) -> u64
     match answer {
         Answer::Yes | Answer::NotJudged(_) => 0,
         Answer::No(rule, _) | Answer::Unknown(rule, _) => {
-            if counts_entries(*rule) {
-                weight
-            } else {
-                0
-            }
+            if counts_entries(*rule) { weight } else { 0 }
         }
         Answer::UnknownDisks(_) => weight,
     }
