@@ -1,14 +1,20 @@
 -- Tokens that are added one after the other.
-use Rattle.std.proofs.Common.{◌≡◌, ◌∙◌, ◌+◌, ◌<◌, ◌++◌, ◌∷◌, [], ℕ, List, refl, ap, sym, subst, length, take, get_or, map, append_assoc, Ok, Err, OnOk, string_bytes, String, Global}
+use Rattle.std.proofs.Common.{◌≡◌, ◌∙◌, ◌+◌, ◌<◌, ◌≤◌, ◌++◌, ◌∷◌, [], ℕ, List, refl, ap, sym, subst, length, take, get_or, map, append_assoc, Ok, Err, Option, Some, OnOk, arith, option_and_then, string_bytes, String, Global}
 use Rattle.std.specs.Prelude.{flat_map, codes}
 use Rattle.std.proofs.lemmas.Grind.{flat_map-append}
 use Rattle.std.proofs.lemmas.List.{append-nil, take_more}
-use Rattle.json.specs.Json.{Json, string}
+use Rattle.json.specs.Json.{Json, string, document, if_last, max_depth, value}
+use Rattle.json.specs.Lex.{tokens}
 use Rattle.json.specs.Token.{Token, begin_array, end_array, key}
-use Rattle.json.specs.Tree.{items_tokens, json_tokens}
+use Rattle.json.specs.Tree.{depth, items_depth, items_tokens, json_tokens}
 use Rattle.json.specs.Written.{Writes, Written}
+use Rattle.json.proofs.Printed.Trees.{value-json_tokens}
 use Rattle.reh_census.specs.declared.answers.Answer.{Answer}
-use Rattle.reh_answer.specs.Objects.{Adds, answer_tokens, count_of, items_of, list_json, member_tokens, number_json, rule_json, verdict_word}
+use Rattle.reh_census.specs.declared.answers.Answer.TheVariants.{Yes, No, Unknown, UnknownDisks, NotJudged}
+use Rattle.reh_answer.specs.declared.against.Against.{Against}
+use Rattle.reh_answer.specs.declared.facts.Facts.{Facts}
+use Rattle.reh_answer.specs.Objects.{Adds, against_json, answer_json, answer_tokens, count_of, items_of, list_json, member_tokens, number_json, rule_json, verdict_word}
+use Rattle.reh_answer.specs.Texts.{notes_of}
 use Rattle.reh_answer.proofs.TextLaws.{Done}
 
 -- a token
@@ -97,3 +103,39 @@ pub answer-first : (answer : Answer) (rest : List Token)
 answer-first answer rest =
     ap (λ ts. member_tokens (codes "verdict") (string (verdict_word answer)) ++ (key (codes "rule") ∷ ts))
     (append_assoc (json_tokens (rule_json answer)) (member_tokens (codes "count") (number_json (count_of answer))) rest)
+
+-- How deep the object is
+
+items-depth : {X : Type 0} (f : X → Json) (n : ℕ) → ((x : X) → depth (f x) ≤ n) → (xs : List X) → items_depth (items_of (map f xs)) ≤ n
+items-depth f n each [] = omega arith
+items-depth f n each (x ∷ xs) = omega (arith, each x, items-depth f n each xs)
+
+rule-depth : (answer : Answer) → depth (rule_json answer) ≡ 0
+rule-depth Yes = refl
+rule-depth (No rule count) = refl
+rule-depth (Unknown rule count) = refl
+rule-depth (UnknownDisks count) = refl
+rule-depth (NotJudged count) = refl
+
+answer-depth : (facts : Facts) (names : List (List ℕ)) (against : List Against) (further : List (List ℕ))
+    → depth (answer_json facts names against further) ≤ 128
+answer-depth facts names against further =
+    omega (
+      arith,
+      rule-depth facts.answer,
+      items-depth number_json 0 (λ n. omega arith) facts.copies_now,
+      items-depth number_json 0 (λ n. omega arith) facts.copies_without,
+      items-depth against_json 1 (λ a. omega arith) against,
+      items-depth string 0 (λ t. omega arith) (notes_of facts names ++ further),
+    )
+
+-- what a reader of JSON reads of the line
+pub line-reads : (facts : Facts) (names : List (List ℕ)) (against : List Against) (further : List (List ℕ)) (line : List ℕ)
+    → tokens line ≡ json_tokens (answer_json facts names against further)
+    → document line ≡ Some (answer_json facts names against further)
+line-reads facts names against further line is =
+    let value_of : Json = answer_json facts names against further in
+    ap (λ ts. option_and_then (λ (p : Json × List Token). if_last p.0 p.1) (value max_depth ts))
+    (is ∙ sym (append-nil (json_tokens value_of)))
+    ∙ ap (λ (o : Option (Json × List Token)). option_and_then (λ p. if_last p.0 p.1) o)
+    (value-json_tokens value_of max_depth [] (answer-depth facts names against further))

@@ -1,7 +1,7 @@
 -- What is said of a stop, as JSON.
-use Rattle.std.specs.Prelude.{◌≡◌, ℕ, List, [], ◌∷◌, ◌++◌, map, string_bytes, codes}
+use Rattle.std.specs.Prelude.{◌≡◌, ℕ, List, [], ◌∷◌, ◌++◌, map, string_bytes, codes, Some}
 use Rattle.std.specs.Fmt.{decimal}
-use Rattle.json.specs.Json.{Json, null, number, string, array, object, Items, no_items, item, no_members, member}
+use Rattle.json.specs.Json.{Json, null, number, string, array, object, Items, no_items, item, no_members, member, document}
 use Rattle.json.specs.Print.{print}
 use Rattle.json.specs.Token.{Token, key}
 use Rattle.json.specs.Tree.{json_tokens}
@@ -133,6 +133,12 @@ answer_json facts names against further = answer_with facts (notes_of facts name
 -- one object on one line
 abbrev pub json_of : Facts → List (List ℕ) → List Against → List (List ℕ) → List ℕ
 json_of facts names against further = print (json_tokens (answer_json facts names against further)) ++ codes "\n"
+
+-- the text is a line that a reader of JSON reads as this value
+pub record IsLineOf (value : Json) (text : List ℕ) : Type 0 where
+  pub line : List ℕ
+  pub ends : text ≡ line ++ codes "\n"
+  pub reads : document line ≡ Some value
 
 -- What a call adds
 

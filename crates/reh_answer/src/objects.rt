@@ -1,6 +1,7 @@
 // What is said of a stop, as JSON.
 ghost use Rattle.std.specs.Prelude.{◌≡◌, ◌++◌, [], IfOk, OnOk, codes, flat_map, map, string_bytes};
 ghost use Rattle.json.specs.Json.{string};
+ghost use Rattle.json.specs.Lex.{tokens};
 ghost use Rattle.json.specs.Print.{print};
 ghost use Rattle.json.specs.Tree.{json_tokens};
 ghost use Rattle.reh_answer.specs.Objects as objects;
@@ -159,7 +160,8 @@ fn add_all(
 /// The text of what was written.
 fn text_in(json: Writer<Global>) -> Result<String, AllocError>
     requires { json.before ≡ [] }
-    ensures { IfOk result (λ text. string_bytes text ≡ print json.tokens) }
+    ensures text { IfOk result (λ text. string_bytes text ≡ print json.tokens) }
+    ensures reads_back { IfOk result (λ text. tokens (string_bytes text) ≡ json.tokens) }
 {
     match String::from_utf8(json.into_inner()) {
         Ok(text) => Ok(text),
@@ -176,8 +178,10 @@ pub fn json_of(
     against: &[Against],
     further: &[String],
 ) -> Result<String, AllocError>
-    ensures { IfOk result (λ text. string_bytes text ≡ objects.json_of facts.now (map string_bytes names.now)
+    ensures text { IfOk result (λ text. string_bytes text ≡ objects.json_of facts.now (map string_bytes names.now)
         against.now (map string_bytes further.now)) }
+    ensures reads_back { IfOk result (λ text. objects.IsLineOf (objects.answer_json facts.now (map string_bytes names.now)
+        against.now (map string_bytes further.now)) (string_bytes text)) }
 {
     let notes = notes_of(alloc, facts, names)?;
     let mut json = Writer::new(Vec::new(alloc));
