@@ -145,6 +145,10 @@ asks_for_more AckQuorum = true
 asks_for_more (Copies copies) = nat_lt 1 copies
 asks_for_more AckLessOne = true
 
+-- the question with `--keep 1`
+abbrev pub with_keep_1 : Question → Question
+with_keep_1 question = record question { keep = Copies 1 }
+
 abbrev pub hint : Keep → List ℕ
 hint keep = if asks_for_more keep then codes " (--keep 1 allows it)" else []
 

@@ -4,6 +4,7 @@
 mod against;
 mod counts;
 mod facts;
+mod laws;
 mod members;
 mod notes;
 mod nouns;
@@ -17,6 +18,7 @@ mod writers;
 
 pub use against::Against;
 pub use facts::{Facts, facts_of};
+pub use laws::keep_1_allows_it;
 pub use notes::notes_of;
 pub use objects::json_of;
 pub use tables::Counts;
