@@ -74,7 +74,7 @@ fn is_on_disk(known: usize, takes_disk: bool) -> bool
 }
 
 /// Which rules an entry of this class breaks, where disks go for good or not.
-fn breaks_of(keep: Keep, takes_disk: bool, stopped: &BookieSet, class: &Class) -> Breaks
+pub fn breaks_of(keep: Keep, takes_disk: bool, stopped: &BookieSet, class: &Class) -> Breaks
     ensures { result ≡ model.breaks_of keep takes_disk (is_flagged stopped.now) class.now }
 {
     let known = class.known.as_slice().len();

@@ -11,4 +11,5 @@ mod tails;
 mod writers;
 
 pub use copies::{entries_with, most_copies};
-pub use numbers::{answer_of, numbers_of};
+pub use entries::{Breaks, breaks_of};
+pub use numbers::{answer_of, breaks_new_ledgers, numbers_of};

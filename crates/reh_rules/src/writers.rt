@@ -43,7 +43,7 @@ pub(crate) fn loses_ensemble(room: &Room, size: u64) -> bool
 }
 
 /// Whether new ledgers of the size that is asked for find no ensemble, and do now.
-pub(crate) fn breaks_new_ledgers(room: &Room, question: &Question) -> bool
+pub(crate) fn loses_new_ledgers(room: &Room, question: &Question) -> bool
     ensures { result ≡ rooms.breaks_new_ledgers room.now question.now }
 {
     !question.allow_blocked_writers

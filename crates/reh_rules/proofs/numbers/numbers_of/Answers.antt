@@ -40,7 +40,7 @@ returns-clause-census c =
     let new_ledgers : c.one_if-new_ledgers.result ≡ cond (breaks_new_ledgers bookies question s) 1 0 =
     c.one_if-new_ledgers.ensures.value
     ∙ ap (λ (b : Bool). cond {A = ℕ} b 1 0)
-    (c.breaks_new_ledgers.ensures ∙ ap (λ (room : Room). rooms.breaks_new_ledgers room question) c.room_of-room.ensures) in
+    (c.loses_new_ledgers.ensures ∙ ap (λ (room : Room). rooms.breaks_new_ledgers room question) c.room_of-room.ensures) in
     let places : c.count_places-replaceable.result
     ≡ count_ensembles_in c.args.census.now.ensembles (breaks_replaceable bookies question s) =
     c.count_places-replaceable.ensures

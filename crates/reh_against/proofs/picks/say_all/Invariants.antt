@@ -1,0 +1,11 @@
+-- What is said of those that are passed.
+use Rattle.std.proofs.Common.{map, take, string_bytes}
+use Rattle.reh_census.specs.Bookies.{bookies_of, is_flagged}
+use Rattle.reh_against.specs.Worst.{Each, IsAgainst}
+use Rattle.reh_against.proofs.picks.say_all.Given as goal
+
+abbrev pub invariant-loop-found : goal.invariant-loop-found
+invariant-loop-found l =
+    Each
+    (IsAgainst (map string_bytes l.names) l.ledgers (bookies_of l.bookies) l.question.keep (is_flagged l.stopped) l.answer)
+    (take l.found-index l.worst) l.against.items

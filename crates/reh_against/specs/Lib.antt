@@ -1,0 +1,3 @@
+pub mod Causes
+pub mod Weights
+pub mod Worst

@@ -1,0 +1,62 @@
+-- The worst first.
+use Rattle.std.specs.Prelude.{◌≡◌, ℕ, ◌+◌, Bool, ◌&&◌, ◌||◌, ◌==◌, nat_lt, if◌then◌else◌, List, [], ◌∷◌, ◌++◌, take, IsPermutation, slice_get, string_bytes, Some}
+use Rattle.std.specs.List.Sorted.{IsSortedBy}
+use Rattle.reh_census.specs.declared.answers.Answer.{Answer}
+use Rattle.reh_census.specs.declared.questions.Keep.{Keep}
+use Rattle.reh_census.specs.declared.questions.Question.{Question}
+use Rattle.reh_census.specs.Bookies.{Bookies}
+use Rattle.reh_census.specs.Ledgers.{Ledger}
+use Rattle.reh_answer.specs.declared.against.Against.{Against}
+use Rattle.reh_against.specs.declared.found.Found.{Found}
+use Rattle.reh_against.specs.Causes.{IsCause}
+use Rattle.reh_against.specs.Weights.{entries_by, weight}
+
+abbrev pub found_by : ℕ → ℕ → ℕ → Found
+found_by weight ledger place = record { weight = record { 0 = weight }; ledger = ledger; place = place }
+
+-- a ledger, if it weighs something
+abbrev pub found_if : ℕ → ℕ → ℕ → List Found
+found_if weight ledger place = if weight == 0 then [] else found_by weight ledger place ∷ []
+
+-- those that weigh something, where the first of these stands at that place
+abbrev pub found_from : (Ledger → ℕ) → ℕ → List ℕ → List Ledger → List Found
+found_from weight place [] ledgers = []
+found_from weight place (id ∷ ids) [] = []
+found_from weight place (id ∷ ids) (g ∷ ledgers) =
+    found_if (weight g) id place ++ found_from weight (place + 1) ids ledgers
+
+-- the worse one comes first; of two that are as bad, the one with the lesser id, and then the one that stands first
+abbrev pub comes_before : Found → Found → Bool
+comes_before a b =
+    nat_lt b.weight.0 a.weight.0
+    || ((b.weight.0 == a.weight.0) && (nat_lt a.ledger b.ledger || ((a.ledger == b.ledger) && nat_lt a.place b.place)))
+
+-- the first ten of these, in an order in which the worst come first
+pub record AreWorst (found worst : List Found) : Type 0 where
+  pub order : List Found
+  pub same : IsPermutation found order
+  pub sorted : IsSortedBy comes_before order
+  pub first : worst ≡ take 10 order
+
+-- what is said of a ledger that was found among these, and why
+pub record IsAgainst (names : List (List ℕ)) (ledgers : List Ledger) (bookies : Bookies) (keep : Keep) (stopped : ℕ → Bool)
+    (answer : Answer) (found : Found) (against : Against) : Type 0 where
+  pub ledger : against.ledger ≡ found.ledger
+  pub entries : against.entries ≡ entries_by answer found.weight.0
+  pub found_at : Ledger
+  pub at : slice_get ledgers found.place ≡ Some found_at
+  pub cause : IsCause names bookies keep stopped answer found.weight.0 found_at (string_bytes against.cause)
+
+-- the relation holds between the elements of both lists, one by one
+abbrev pub Each : {X Y : Type 0} → (X → Y → Type 0) → List X → List Y → Type 0
+Each relation [] [] = Unit {0}
+Each relation [] (y ∷ ys) = ⊥
+Each relation (x ∷ xs) [] = ⊥
+Each relation (x ∷ xs) (y ∷ ys) = relation x y × Each relation xs ys
+
+-- of all ledgers of which something speaks against the stop, the ten worst, worst first, and what is said of each
+pub record SaysAgainst (names : List (List ℕ)) (ids : List ℕ) (ledgers : List Ledger) (bookies : Bookies) (question : Question)
+    (stopped : ℕ → Bool) (answer : Answer) (against : List Against) : Type 0 where
+  pub worst : List Found
+  pub chosen : AreWorst (found_from (weight bookies question stopped answer) 0 ids ledgers) worst
+  pub said : Each (IsAgainst names ledgers bookies question.keep stopped answer) worst against

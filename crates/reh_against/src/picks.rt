@@ -1,0 +1,157 @@
+// The ledgers that speak against a stop, the worst first.
+ghost use Rattle.std.specs.Prelude.{◌≡◌, ◌<◌, [], ◌∷◌, ◌++◌, All, ℕ, IfOk, Err, OnOk, length, map, string_bytes};
+ghost use Rattle.reh_census.specs.Bookies.{bookies_of, holders, is_flagged};
+ghost use Rattle.reh_tally.specs.Few.{AreFew};
+ghost use Rattle.reh_tally.specs.declared.census.TallyFault.TheVariants.{TooMany};
+ghost use Rattle.reh_against.specs.Weights.{weight};
+ghost use Rattle.reh_against.specs.Worst as model;
+
+use crate::causes::cause_of;
+use crate::found::Found;
+use crate::weights::{entries_by, weight_of};
+use reh_answer::Against;
+use reh_census::{Answer, BookieSet, Bookies, Ledger, Question};
+use reh_tally::TallyFault;
+use std::alloc::{AllocError, Global};
+use std::cmp::Reverse;
+
+/// How many ledgers are named.
+const MOST: usize = 10;
+
+/// Adds a ledger that weighs something.
+fn add(found: &mut Vec<Found>, weight: u64, ledger: u64, place: usize) -> Result<(), AllocError>
+    ensures { OnOk result (found.new.items ≡ found.old.items ++ model.found_if weight ledger place) }
+{
+    if weight == 0 {
+        return Ok(());
+    }
+    found.push(Found {
+        weight: Reverse(weight),
+        ledger,
+        place,
+    })?;
+    Ok(())
+}
+
+/// The ledgers of which something speaks against the stop, as they stand.
+fn found_in(
+    alloc: Global,
+    ids: &[u64],
+    ledgers: &[Ledger],
+    bookies: &Bookies,
+    question: &Question,
+    stopped: &BookieSet,
+    answer: &Answer,
+) -> Result<Vec<Found>, TallyFault>
+    requires { length ids.now ≡ length ledgers.now }
+    ensures found { IfOk result (λ found. found.items ≡ model.found_from (weight (bookies_of bookies.now) question.now
+        (is_flagged stopped.now) answer.now) 0 ids.now ledgers.now) }
+    ensures places { IfOk result (λ found. All (λ f. f.place < length ledgers.now) found.items) }
+    ensures too_many { result ≡ Err TooMany → All (λ g. AreFew (holders (bookies_of bookies.now)) (g ∷ [])) ledgers.now → ⊥ }
+{
+    let mut found = Vec::new(alloc);
+    for place in 0..ledgers.len() {
+        let weight = weight_of(alloc, &ledgers[place], bookies, question, stopped, answer)?;
+        add(&mut found, weight, ids[place], place)?;
+    }
+    Ok(found)
+}
+
+/// The ten of them that weigh the most, the worst first.
+fn worst_of(
+    alloc: Global,
+    ids: &[u64],
+    ledgers: &[Ledger],
+    bookies: &Bookies,
+    question: &Question,
+    stopped: &BookieSet,
+    answer: &Answer,
+) -> Result<Vec<Found>, TallyFault>
+    requires { length ids.now ≡ length ledgers.now }
+    ensures worst { IfOk result (λ worst. model.AreWorst (model.found_from (weight (bookies_of bookies.now) question.now
+        (is_flagged stopped.now) answer.now) 0 ids.now ledgers.now) worst.items) }
+    ensures places { IfOk result (λ worst. All (λ f. f.place < length ledgers.now) worst.items) }
+    ensures too_many { result ≡ Err TooMany → All (λ g. AreFew (holders (bookies_of bookies.now)) (g ∷ [])) ledgers.now → ⊥ }
+{
+    let mut found = found_in(alloc, ids, ledgers, bookies, question, stopped, answer)?;
+    found.sort()?;
+    found.truncate(MOST);
+    Ok(found)
+}
+
+/// What is said of a ledger that was found.
+fn say(
+    alloc: Global,
+    names: &[String],
+    ledgers: &[Ledger],
+    bookies: &Bookies,
+    question: &Question,
+    stopped: &BookieSet,
+    answer: &Answer,
+    found: &Found,
+) -> Result<Against, AllocError>
+    requires { found.now.place < length ledgers.now }
+    ensures { IfOk result (λ against. model.IsAgainst (map string_bytes names.now) ledgers.now (bookies_of bookies.now)
+        question.now.keep (is_flagged stopped.now) answer.now found.now against) }
+{
+    let weight = found.weight.0;
+    let ledger = &ledgers[found.place];
+    let cause = cause_of(
+        alloc, names, bookies, question, stopped, answer, weight, ledger,
+    )?;
+    Ok(Against {
+        ledger: found.ledger,
+        entries: entries_by(answer, weight),
+        cause,
+    })
+}
+
+/// What is said of each of these.
+fn say_all(
+    alloc: Global,
+    names: &[String],
+    ledgers: &[Ledger],
+    bookies: &Bookies,
+    question: &Question,
+    stopped: &BookieSet,
+    answer: &Answer,
+    worst: &[Found],
+) -> Result<Vec<Against>, AllocError>
+    requires { All (λ f. f.place < length ledgers.now) worst.now }
+    ensures { IfOk result (λ against. model.Each (model.IsAgainst (map string_bytes names.now) ledgers.now
+        (bookies_of bookies.now) question.now.keep (is_flagged stopped.now) answer.now) worst.now against.items) }
+{
+    let mut against = Vec::new(alloc);
+    for found in worst {
+        let one = say(
+            alloc, names, ledgers, bookies, question, stopped, answer, found,
+        )?;
+        against.push(one)?;
+    }
+    Ok(against)
+}
+
+/// The ledgers that speak against the stop for this answer, at most ten, the worst first, each with the number of its
+/// entries that do, if it is entries, and why. Ledgers have these ids, and bookies these names, by number. Where a ledger
+/// alone has more entries than a census counts, it fails.
+pub fn against_of(
+    alloc: Global,
+    ids: &[u64],
+    ledgers: &[Ledger],
+    names: &[String],
+    bookies: &Bookies,
+    question: &Question,
+    stopped: &BookieSet,
+    answer: &Answer,
+) -> Result<Vec<Against>, TallyFault>
+    requires { length ids.now ≡ length ledgers.now }
+    ensures said { IfOk result (λ against. model.SaysAgainst (map string_bytes names.now) ids.now ledgers.now
+        (bookies_of bookies.now) question.now (is_flagged stopped.now) answer.now against.items) }
+    ensures too_many { result ≡ Err TooMany → All (λ g. AreFew (holders (bookies_of bookies.now)) (g ∷ [])) ledgers.now → ⊥ }
+{
+    let worst = worst_of(alloc, ids, ledgers, bookies, question, stopped, answer)?;
+    let against = say_all(
+        alloc, names, ledgers, bookies, question, stopped, answer, &worst,
+    )?;
+    Ok(against)
+}

@@ -1,0 +1,7 @@
+-- Those that are passed.
+use Rattle.std.proofs.Common.{◌≡◌, take, true}
+use Rattle.reh_census.specs.Counting.{count_in}
+use Rattle.reh_answer.proofs.counts.count_entries.Given as goal
+
+abbrev pub invariant-loop-counted : goal.invariant-loop-counted
+invariant-loop-counted l = l.entries ≡ count_in (take l.counted-index l.census) (λ class. true)

@@ -1,0 +1,14 @@
+use Rattle.std.proofs.Common.{take_all, ◌∙◌, ◌++◌, ℕ, List, ap, sym, arith, string_bytes, String, Global}
+use Rattle.std.specs.Prelude.{flat_map}
+use Rattle.reh_answer.specs.Texts as texts
+use Rattle.reh_answer.proofs.TextLaws.{flat_map-map}
+use Rattle.reh_answer.proofs.notes.push_notes.Goals as goal
+
+pub returns : goal.returns
+returns c =
+    let first : List ℕ = string_bytes c.args.text.now in
+    let line : String Global → List ℕ = λ note. texts.note_line (string_bytes note) in
+    c.loop-note.invariant
+    ∙ ap (λ (notes : List (String Global)). first ++ flat_map line notes)
+    (take_all c.loop-note.note-index c.args.notes.now (omega (arith, c.loop-note-test.false)))
+    ∙ ap (λ (t : List ℕ). first ++ t) (sym (flat_map-map texts.note_line string_bytes c.args.notes.now))

@@ -1,0 +1,9 @@
+use Rattle.std.proofs.Common.{string_bytes}
+use Rattle.reh_answer.proofs.TextLaws.{before, written}
+use Rattle.reh_answer.proofs.rules.push_rules.Goals as goal
+
+pub returns : goal.returns
+returns c =
+    before c.push_str.result (string_bytes c.push_str.new.self) (string_bytes c.args.text.now) (string_bytes c.write.new.self) _ _ c.in_ok-write.ensures.bytes
+    (before c.push_str.result (string_bytes c.push_str.new.self) (string_bytes c.write.new.self) (string_bytes c.push_replaceable.new.text) _ _ c.in_ok-push_replaceable.ensures
+    (written c.push_str.result (string_bytes c.push_str.new.self) _ _ c.push_str.ensures.bytes))

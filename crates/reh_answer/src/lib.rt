@@ -1,0 +1,26 @@
+// What is said of a stop: the facts, and how they are printed.
+#![tactic(auto)]
+
+mod against;
+mod counts;
+mod facts;
+mod laws;
+mod members;
+mod notes;
+mod nouns;
+mod objects;
+mod rows;
+mod rules;
+mod tables;
+mod texts;
+mod verdicts;
+mod writers;
+
+pub use against::Against;
+pub use facts::{Facts, facts_of};
+pub use laws::keep_1_allows_it;
+pub use notes::notes_of;
+pub use objects::json_of;
+pub use tables::Counts;
+pub use texts::{push_text, text_of};
+pub use verdicts::status_of;

@@ -1,0 +1,69 @@
+// Notes.
+ghost use Rattle.std.specs.Prelude.{◌≡◌, ◌++◌, IfOk, OnOk, codes, flat_map, map, string_bytes};
+ghost use Rattle.reh_answer.specs.Texts as texts;
+
+use crate::facts::Facts;
+use std::alloc::{AllocError, Global};
+
+/// The note that a bookie isn't registered.
+fn unregistered_note(alloc: Global, names: &[String], bookie: u16) -> Result<String, AllocError>
+    ensures { IfOk result (λ note. string_bytes note
+        ≡ texts.name_of (map string_bytes names.now) bookie ++ codes " is not registered") }
+{
+    match names.get(bookie as usize) {
+        Some(name) => format!(in alloc; "{name} is not registered"),
+        None => format!(in alloc; "bookie {bookie} is not registered"),
+    }
+}
+
+/// Adds a note, if it applies.
+fn note_if(
+    alloc: Global,
+    notes: &mut Vec<String>,
+    applies: bool,
+    note: &str,
+) -> Result<(), AllocError>
+    ensures { OnOk result (map string_bytes notes.new.items
+        ≡ map string_bytes notes.old.items ++ texts.note_if applies note.now) }
+{
+    if !applies {
+        return Ok(());
+    }
+    notes.push(String::from_str(alloc, note)?)?;
+    Ok(())
+}
+
+/// The notes that apply, where the bookies have these names, by number.
+pub fn notes_of(alloc: Global, facts: &Facts, names: &[String]) -> Result<Vec<String>, AllocError>
+    ensures { IfOk result (λ notes. map string_bytes notes.items
+        ≡ texts.notes_of facts.now (map string_bytes names.now)) }
+{
+    let mut notes = Vec::new(alloc);
+    for bookie in facts.unregistered.as_slice() {
+        notes.push(unregistered_note(alloc, names, *bookie)?)?;
+    }
+    note_if(
+        alloc,
+        &mut notes,
+        facts.writers_pause,
+        "writers pause until they have changed their ensembles",
+    )?;
+    note_if(
+        alloc,
+        &mut notes,
+        facts.may_hold_a_new_ledger,
+        "a ledger created since the input was taken may have all its copies on these bookies: make them read-only, take a new input, ask again",
+    )?;
+    Ok(notes)
+}
+
+/// Adds a line for each note.
+pub(crate) fn push_notes(text: &mut String, notes: &[String]) -> Result<(), AllocError>
+    ensures { OnOk result (string_bytes text.new
+        ≡ string_bytes text.old ++ flat_map texts.note_line (map string_bytes notes.now)) }
+{
+    for note in notes {
+        write!(text, "note: {note}\n")?;
+    }
+    Ok(())
+}

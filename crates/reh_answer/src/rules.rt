@@ -1,0 +1,75 @@
+// The numbers of the rules, and what is unknown.
+ghost use Rattle.std.specs.Prelude.{◌≡◌, ◌++◌, OnOk, string_bytes};
+ghost use Rattle.reh_answer.specs.Texts as texts;
+
+use crate::facts::Facts;
+use reh_census::Numbers;
+use std::alloc::AllocError;
+
+/// Adds the number of the last rule, where bookies go for good.
+fn push_replaceable(text: &mut String, number: u64, for_good: bool) -> Result<(), AllocError>
+    ensures { OnOk result (string_bytes text.new ≡ string_bytes text.old ++ texts.replaceable_words number for_good) }
+{
+    if !for_good {
+        return Ok(());
+    }
+    write!(text, ", replaceable {number}")
+}
+
+/// Adds the line of the rules.
+pub(crate) fn push_rules(
+    text: &mut String,
+    numbers: &Numbers,
+    for_good: bool,
+) -> Result<(), AllocError>
+    ensures { OnOk result (string_bytes text.new ≡ string_bytes text.old ++ texts.rules_line numbers.now for_good) }
+{
+    write!(
+        text,
+        "rules              readable {}, kept {}, recoverable {}, writable {}",
+        numbers.readable.no, numbers.kept.no, numbers.recoverable, numbers.writable
+    )?;
+    push_replaceable(text, numbers.replaceable, for_good)?;
+    text.push_str("\n")
+}
+
+/// Adds a number behind its label, where there is one.
+fn push_some(text: &mut String, label: &str, number: u64) -> Result<(), AllocError>
+    ensures { OnOk result (string_bytes text.new ≡ string_bytes text.old ++ texts.some_words label.now number) }
+{
+    if number == 0 {
+        return Ok(());
+    }
+    write!(text, "{label}{number}")
+}
+
+/// Whether all is told of all entries, each has a known copy or no disk goes, and all ledgers were judged.
+fn is_all_known(facts: &Facts) -> bool
+    ensures { result ≡ texts.is_all_known facts.now }
+{
+    facts.unknown == 0 && (facts.numbers.disks == 0 && facts.numbers.not_judged == 0)
+}
+
+/// Adds the line of what is unknown.
+fn push_unknown_numbers(text: &mut String, numbers: &Numbers) -> Result<(), AllocError>
+    ensures { OnOk result (string_bytes text.new ≡ string_bytes text.old ++ texts.unknown_numbers numbers.now) }
+{
+    write!(
+        text,
+        "unknown            readable {}, kept {}",
+        numbers.readable.unknown, numbers.kept.unknown
+    )?;
+    push_some(text, ", disks ", numbers.disks)?;
+    push_some(text, ", not judged ", numbers.not_judged)?;
+    text.push_str("\n")
+}
+
+/// Adds the line of what is unknown, where something is.
+pub(crate) fn push_unknown(text: &mut String, facts: &Facts) -> Result<(), AllocError>
+    ensures { OnOk result (string_bytes text.new ≡ string_bytes text.old ++ texts.unknown_line facts.now) }
+{
+    if is_all_known(facts) {
+        return Ok(());
+    }
+    push_unknown_numbers(text, &facts.numbers)
+}
