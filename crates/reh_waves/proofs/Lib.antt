@@ -1,0 +1,3 @@
+pub mod PositionLaws
+pub mod SetLaws
+pub mod WaveLaws
