@@ -1,3 +1,5 @@
+pub mod FewestLaws
 pub mod PositionLaws
+pub mod RankLaws
 pub mod SetLaws
 pub mod WaveLaws

@@ -1,1 +1,3 @@
+pub mod Fewest
+pub mod Losses
 pub mod Waves
