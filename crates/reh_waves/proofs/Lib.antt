@@ -1,5 +1,7 @@
 pub mod FewestLaws
 pub mod PositionLaws
 pub mod RankLaws
+pub mod RiskLaws
 pub mod SetLaws
+pub mod SpareLaws
 pub mod WaveLaws

@@ -1,5 +1,8 @@
 -- Losses by their numbers.
 use Rattle.std.proofs.Common.{◌≡◌, ◌∙◌, ◌<◌, ◌+◌, ◌++◌, ◌∷◌, [], ℕ, List, map, take, get_or, length, sym}
+use Rattle.std.specs.Prelude.{String}
+use Rattle.std.specs.declared.alloc.Global.{Global}
+use Rattle.reh_waves.specs.Orders.{comes_before, name_at}
 use Rattle.std.specs.Cmp.{IsStrictWeakOrder}
 use Rattle.std.specs.Cmp.Lexicographic.{slice_cmp}
 use Rattle.std.specs.Ordering.{is_lt, nat_cmp}
@@ -29,3 +32,6 @@ pub loss-more : (counting : Counting) (bookies : Bookies) (question : Question) 
 loss-more counting bookies question not_judged lost k d losses numbers below were are =
     (λ i. were i ++ record { lost = get_or lost k d; numbers = are i } ∷ [])
     ∙ sym (map_more (loss_on counting bookies question not_judged) lost k d below)
+
+pub names-order : (names : List (String Global)) → IsStrictWeakOrder (comes_before names)
+names-order names = ranks_by nat_list_cmp_total (name_at names)

@@ -1,5 +1,5 @@
 -- How many bookies may fail before an entry is lost.
-use Rattle.std.specs.Prelude.{◌≡◌, ℕ, ◌<◌, ◌+◌, ◌-◌, ◌==◌, Bool, cond, nat_lt, List, [], ◌∷◌, Option, MatchOption, count_by, length, min}
+use Rattle.std.specs.Prelude.{◌≡◌, ℕ, ◌<◌, ◌+◌, ◌-◌, ◌==◌, Bool, true, ◌≤◌, cond, nat_lt, List, [], ◌∷◌, Option, MatchOption, count_by, length, min}
 use Rattle.std.specs.List.{list_any}
 use Rattle.std.specs.Option.{option_map_or}
 use Rattle.reh_census.specs.Bookies.{Bookies, is_holder}
@@ -29,7 +29,8 @@ pub record IsFewest (count : (Class → Bool) → ℕ) (copies : ℕ) : Type 0 w
 abbrev pub AreFewest : ((Class → Bool) → ℕ) → Option ℕ → Type 0
 AreFewest count fewest = MatchOption fewest (count (λ class. nat_lt 0 (length class.known)) ≡ 0) (IsFewest count)
 
--- so many members of the write set are left as are more than needn't have an entry that was acknowledged
+-- how many members of the entry's write set may hold copies, past those that needn't have an acknowledged one: so many
+-- known or unknown copies it has
 abbrev pub spare : Bookies → Tail → ℕ → ℕ
 spare bookies tail entry =
     count_by (is_holder bookies) (members tail entry) - (tail.write_quorum - tail.ack_quorum)
@@ -41,8 +42,13 @@ pub record IsLeastSpare (count : (Tail → Bool) → ℕ) (bookies : Bookies) (c
 
 -- the least of all, or none where every ledger is closed
 abbrev pub AreLeastSpare : ((Tail → Bool) → ℕ) → Bookies → Option ℕ → Type 0
-AreLeastSpare count bookies least = MatchOption least (count (λ tail. nat_lt 0 tail.size) ≡ 0) (IsLeastSpare count bookies)
+AreLeastSpare count bookies least = MatchOption least (count (λ tail. true) ≡ 0) (IsLeastSpare count bookies)
 
 -- the less of the two
 abbrev pub least_of : Option ℕ → ℕ → ℕ
 least_of least number = option_map_or (λ n. min n number) least number
+
+-- the least of n values
+pub record IsLeastOf (value : ℕ → ℕ) (n least : ℕ) : Type 0 where
+  pub each : (k : ℕ) → k < n → least ≤ value k
+  pub some : (k : ℕ) × (k < n) × (value k ≡ least)

@@ -1,3 +1,5 @@
 pub mod Fewest
 pub mod Losses
+pub mod Orders
+pub mod Risk
 pub mod Waves

@@ -3,8 +3,13 @@
 
 mod fewest;
 mod losses;
+mod orders;
+mod risk;
 mod sets;
+mod spares;
 mod waves;
 
 pub use losses::{Loss, Lost};
+pub use orders::order_by_name;
+pub use risk::{Risk, risk_of};
 pub use waves::{Alone, Round, Waves, waves_of};
