@@ -1,8 +1,7 @@
 -- The fewest bookies that have all known copies of an entry.
-use Rattle.std.proofs.Common.{◌≡◌, ◌∙◌, ◌<◌, ◌≤◌, ◌+◌, ◌⊎◌, ◌&&◌, ◌||◌, not, cond, ℕ, Bool, true, false, List, [], ◌∷◌, ◌++◌, Option, Some, None}
-use Rattle.std.proofs.Common.{length, refl, ap, sym, subst, inl, inr, nat_lt, nat_eq, arith, true≢false, drop, get_or}
-use Rattle.std.specs.Prelude.{count_by, sum_by, min, ◌==◌}
-use Rattle.std.specs.List.{list_any}
+use Rattle.std.proofs.Common.{◌≡◌, ◌∙◌, ◌<◌, ◌≤◌, ◌+◌, ◌&&◌, ◌||◌, not, cond, ℕ, Bool, true, false, List, [], ◌∷◌, ◌++◌, Option, Some, None}
+use Rattle.std.proofs.Common.{length, refl, ap, sym, subst, inl, inr, nat_lt, arith, true≢false}
+use Rattle.std.specs.Prelude.{min, ◌==◌}
 use Rattle.std.proofs.lemmas.Bool.{cases_lt}
 use Rattle.std.proofs.lemmas.Bool.Decides.{nat_tests}
 use Rattle.std.proofs.lemmas.List.Sums.{sum_by_push, sum_by-le-sum_by}
@@ -206,9 +205,11 @@ fewest-same entries c None nothing known are =
 fewest-same entries c (Some k) nothing known are = record {
   none_lost = λ stopped fewer.
       omega (arith, count-push entries c (loses_known stopped), nothing stopped, are.none_lost stopped fewer);
-  some_lost =
-      (are.some_lost.0, are.some_lost.1,
-      omega (arith, count-push entries c (loses_known are.some_lost.0), are.some_lost.2));
+  some_lost = (
+    are.some_lost.0,
+    are.some_lost.1,
+    omega (arith, count-push entries c (loses_known are.some_lost.0), are.some_lost.2),
+  );
 }
 
 pub fewest-uncounted : (entries : List Counted) (c : Counted) (fewest : Option ℕ) → c.count ≡ 0
@@ -257,14 +258,16 @@ fewest-counted entries c None counts known are = record {
         none-known entries stopped are,
         ap (λ (b : Bool). cond {A = ℕ} b c.count 0) (none_lost-by stopped c.class.known fewer),
       );
-  some_lost =
-      (distinct c.class.known, length-distinct c.class.known,
-      omega (
-        arith,
-        count-push entries c (loses_known (distinct c.class.known)),
-        ap (λ (b : Bool). cond {A = ℕ} b c.count 0) (all-lost c.class.known known),
-        counts,
-      ));
+  some_lost = (
+    distinct c.class.known,
+    length-distinct c.class.known,
+    omega (
+      arith,
+      count-push entries c (loses_known (distinct c.class.known)),
+      ap (λ (b : Bool). cond {A = ℕ} b c.count 0) (all-lost c.class.known known),
+      counts,
+    ),
+  );
 }
 fewest-counted entries c (Some k) counts known are =
     elim (cases_lt k (how_many c.class.known)) [
@@ -279,9 +282,11 @@ fewest-counted entries c (Some k) counts known are =
                   are.none_lost stopped fewer,
                   ap (λ (b : Bool). cond {A = ℕ} b c.count 0) (none_lost-by stopped c.class.known below),
                 );
-            some_lost =
-                (are.some_lost.0, are.some_lost.1,
-                omega (arith, count-push entries c (loses_known are.some_lost.0), are.some_lost.2));
+            some_lost = (
+              are.some_lost.0,
+              are.some_lost.1,
+              omega (arith, count-push entries c (loses_known are.some_lost.0), are.some_lost.2),
+            );
           })
       | inr more ↦
           let at : min k (how_many c.class.known) ≡ how_many c.class.known = omega (arith, more) in
@@ -294,13 +299,15 @@ fewest-counted entries c (Some k) counts known are =
                   are.none_lost stopped below,
                   ap (λ (b : Bool). cond {A = ℕ} b c.count 0) (none_lost-by stopped c.class.known fewer),
                 );
-            some_lost =
-                (distinct c.class.known, length-distinct c.class.known,
-                omega (
-                  arith,
-                  count-push entries c (loses_known (distinct c.class.known)),
-                  ap (λ (b : Bool). cond {A = ℕ} b c.count 0) (all-lost c.class.known known),
-                  counts,
-                ));
+            some_lost = (
+              distinct c.class.known,
+              length-distinct c.class.known,
+              omega (
+                arith,
+                count-push entries c (loses_known (distinct c.class.known)),
+                ap (λ (b : Bool). cond {A = ℕ} b c.count 0) (all-lost c.class.known known),
+                counts,
+              ),
+            );
           })
     ]

@@ -1,12 +1,12 @@
 -- Losses of bookies, racks and pairs.
-use Rattle.std.proofs.Common.{◌≡◌, ◌∙◌, ◌<◌, ◌+◌, ◌&&◌, cond, ℕ, Bool, true, false, All, List, [], ◌∷◌, ◌++◌, map, length, refl, ap, sym, subst, arith}
-use Rattle.std.specs.Prelude.{count_by, sum_by, ◌==◌}
+use Rattle.std.proofs.Common.{◌≡◌, ◌∙◌, ◌<◌, ◌+◌, ◌&&◌, cond, ℕ, Bool, true, false, All, List, [], ◌∷◌, map, length, refl, ap, sym}
+use Rattle.std.specs.Prelude.{count_by, ◌==◌}
 use Rattle.std.specs.List.{filter}
 use Rattle.std.specs.List.Sorted.{IsPermutation}
 use Rattle.std.proofs.lemmas.List.Elements.{All-append, All-cons, All-map, All-nil, All-weaker, All-head, All-tail}
 use Rattle.std.proofs.lemmas.List.Sorted.{sum_by-IsPermutation}
 use Rattle.std.proofs.lemmas.List.Sums.{sum_by-cons}
-use Rattle.reh_census.specs.Bookies.{Bookies, bookies_of}
+use Rattle.reh_census.specs.Bookies.{bookies_of}
 use Rattle.reh_census.specs.Counting.{Census, Counting, IsCensus, counting_in, counting_of}
 use Rattle.reh_census.specs.Ledgers.{Ledger}
 use Rattle.reh_census.specs.Striping.{range}

@@ -1,6 +1,6 @@
 -- Sets of bookies, and lists of registered ones.
 use Rattle.std.proofs.Common.{◌≡◌, ◌∙◌, ◌<◌, ◌≤◌, ◌-◌, ℕ, Bool, true, false, arith, All, List, Option, map, length, ap, sym, true≢false, inl, inr}
-use Rattle.std.specs.Prelude.{slice_get, None, ◌==◌}
+use Rattle.std.specs.Prelude.{None, ◌==◌}
 use Rattle.std.specs.Option.{option_map_or}
 use Rattle.std.proofs.lemmas.Bool.{cases_lt}
 use Rattle.std.proofs.lemmas.Option.{slice_get_past}

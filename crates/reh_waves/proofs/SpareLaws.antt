@@ -1,6 +1,6 @@
 -- The least number of copies of acknowledged entries.
 use Rattle.std.proofs.Common.{◌≡◌, ◌∙◌, ◌<◌, ◌≤◌, ◌+◌, ◌-◌, ◌||◌, cond, ℕ, Bool, true, false, List, [], ◌∷◌, ◌++◌, Option, Some, None}
-use Rattle.std.proofs.Common.{refl, ap, sym, subst, inl, inr, nat_lt, arith, true≢false}
+use Rattle.std.proofs.Common.{refl, ap, sym, subst, inl, inr, nat_lt, arith}
 use Rattle.std.specs.Prelude.{min, ◌==◌}
 use Rattle.std.specs.List.{list_any}
 use Rattle.std.proofs.lemmas.Bool.{cases_lt}

@@ -7,7 +7,7 @@ ghost use Rattle.reh_waves.specs.declared.losses.Lost.TheVariants.{Rack};
 ghost use Rattle.reh_waves.specs.Losses.{AreRanked, IsWithin, loss_on, stopped_by};
 
 use crate::sets::set_of;
-use reh_census::{Bookies, BookieSet, Census, Numbers, Question};
+use reh_census::{BookieSet, Bookies, Census, Numbers, Question};
 use reh_rules::numbers_of;
 use std::alloc::{AllocError, Global};
 

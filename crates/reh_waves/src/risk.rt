@@ -33,11 +33,7 @@ pub struct Risk {
 }
 
 /// The registered bookies, in this order.
-fn registered_in(
-    alloc: Global,
-    bookies: &Bookies,
-    order: &[u16],
-) -> Result<Vec<u16>, AllocError>
+fn registered_in(alloc: Global, bookies: &Bookies, order: &[u16]) -> Result<Vec<u16>, AllocError>
     ensures { IfOk result (λ registered. registered.items ≡ filter (bookies_of bookies.now).is_registered order.now) }
 {
     order

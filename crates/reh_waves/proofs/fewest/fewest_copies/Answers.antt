@@ -1,5 +1,5 @@
-use Rattle.std.proofs.Common.{◌≡◌, ◌∙◌, ◌∷◌, ◌++◌, [], ℕ, List, ap, sym, subst, take, arith}
-use Rattle.std.proofs.lemmas.List.{take_all, take_more}
+use Rattle.std.proofs.Common.{◌∙◌, ◌∷◌, ◌++◌, [], List, ap, sym, subst, take}
+use Rattle.std.proofs.lemmas.List.{take_more}
 use Rattle.reh_census.specs.Counting.{count_in}
 use Rattle.reh_census.specs.declared.classes.Counted.{Counted}
 use Rattle.reh_waves.specs.Fewest.{AreFewest}

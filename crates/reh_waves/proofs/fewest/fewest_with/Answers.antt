@@ -1,4 +1,4 @@
-use Rattle.std.proofs.Common.{◌≡◌, ◌∙◌, ◌<◌, ◌++◌, ◌∷◌, [], ℕ, List, Option, ap, sym, subst, length, arith}
+use Rattle.std.proofs.Common.{◌∙◌, ◌<◌, ◌++◌, ◌∷◌, [], ℕ, List, ap, sym, subst, length, arith}
 use Rattle.reh_census.specs.Counting.{count_in}
 use Rattle.reh_waves.specs.Fewest.{IsFewest, how_many, least_of}
 use Rattle.reh_waves.proofs.FewestLaws.{fewest-counted}

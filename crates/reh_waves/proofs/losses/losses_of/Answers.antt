@@ -1,4 +1,4 @@
-use Rattle.std.proofs.Common.{◌≡◌, ◌∙◌, ℕ, Bool, ap}
+use Rattle.std.proofs.Common.{◌∙◌, ℕ, Bool, ap}
 use Rattle.reh_census.specs.Answers.{numbers_on}
 use Rattle.reh_census.specs.Bookies.{bookies_of}
 use Rattle.reh_census.specs.Counting.{counting_in, not_judged}

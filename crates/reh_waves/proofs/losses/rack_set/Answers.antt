@@ -1,7 +1,6 @@
-use Rattle.std.proofs.Common.{◌≡◌, ◌∙◌, ◌++◌, ◌∷◌, ◌-◌, ◌≤◌, ◌+◌, [], ℕ, Bool, false, List, map, ap, sym, subst, length, arith}
+use Rattle.std.proofs.Common.{◌≡◌, ◌∙◌, ◌++◌, ◌∷◌, ◌-◌, ◌+◌, [], ℕ, Bool, List, map, ap, sym, length, arith}
 use Rattle.std.proofs.lemmas.List.FromFn.{length-map-range_with_len, map-range_with_len_more}
 use Rattle.reh_census.specs.Bookies.{bookies_of, is_flagged}
-use Rattle.reh_census.specs.Striping.{range}
 use Rattle.reh_waves.specs.Losses.{stopped_by}
 use Rattle.reh_waves.specs.declared.losses.Lost.TheVariants.{Rack}
 use Rattle.reh_waves.proofs.SetLaws.{flags-within, rack-within}

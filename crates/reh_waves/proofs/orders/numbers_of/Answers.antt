@@ -1,4 +1,4 @@
-use Rattle.std.proofs.Common.{◌≡◌, ◌∙◌, ◌+◌, ◌-◌, ◌++◌, ◌∷◌, [], ℕ, List, ap, sym, arith}
+use Rattle.std.proofs.Common.{◌≡◌, ◌∙◌, ◌+◌, ◌-◌, ◌++◌, ◌∷◌, [], ℕ, ap, sym, arith}
 use Rattle.std.specs.List.{range_with_len}
 use Rattle.reh_census.proofs.RangeLaws.{range-append}
 use Rattle.reh_waves.proofs.orders.numbers_of.Goals as goal

@@ -1,7 +1,6 @@
-use Rattle.std.proofs.Common.{◌≡◌, ◌∙◌, ℕ, Bool, All, List, map, ap, sym, subst, length}
-use Rattle.std.specs.List.{filter}
+use Rattle.std.proofs.Common.{◌∙◌, ℕ, All, List, map, ap, sym, subst, length}
 use Rattle.reh_census.specs.Bookies.{bookies_of, holders}
-use Rattle.reh_census.specs.Counting.{Counting, count_in, count_tails_in, counting_in, counting_of, not_judged}
+use Rattle.reh_census.specs.Counting.{Counting, count_in, count_tails_in, counting_in, not_judged}
 use Rattle.reh_census.specs.declared.censuses.CountedTail.{CountedTail}
 use Rattle.reh_census.specs.declared.classes.Counted.{Counted}
 use Rattle.reh_waves.specs.Fewest.{AreFewest, AreLeastSpare}
@@ -9,7 +8,7 @@ use Rattle.reh_waves.specs.Losses.{AreRanked, IsWithin, loss_on}
 use Rattle.reh_waves.specs.Risk.{IsRisk, pairs_if}
 use Rattle.reh_waves.specs.declared.losses.Loss.{Loss}
 use Rattle.reh_waves.specs.declared.losses.Lost.{Lost}
-use Rattle.reh_waves.specs.declared.losses.Lost.TheVariants.{Bookie, Rack, Pair}
+use Rattle.reh_waves.specs.declared.losses.Lost.TheVariants.{Bookie}
 use Rattle.reh_waves.proofs.RiskLaws.{bookies-within, counting-same, loss-once, pairs-within, racks-within}
 use Rattle.reh_waves.proofs.risk.risk_of.Goals as goal
 

@@ -1,5 +1,4 @@
 -- The least of the write sets that are passed.
-use Rattle.std.proofs.Common.{◌≤◌}
 use Rattle.reh_census.specs.Bookies.{bookies_of}
 use Rattle.reh_waves.specs.Fewest.{IsLeastOf, spare}
 use Rattle.reh_waves.proofs.spares.least_in.Given as goal

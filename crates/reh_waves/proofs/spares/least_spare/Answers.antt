@@ -1,8 +1,7 @@
-use Rattle.std.proofs.Common.{◌≡◌, ◌∙◌, ◌∷◌, ◌++◌, [], List, ap, sym, subst, take}
+use Rattle.std.proofs.Common.{◌∙◌, ◌∷◌, ◌++◌, [], List, ap, sym, subst, take}
 use Rattle.std.proofs.lemmas.List.{take_more}
 use Rattle.reh_census.specs.Bookies.{bookies_of}
 use Rattle.reh_census.specs.Counting.{count_tails_in}
-use Rattle.reh_census.specs.Tails.{IsTail}
 use Rattle.reh_census.specs.declared.censuses.CountedTail.{CountedTail}
 use Rattle.reh_waves.specs.Fewest.{AreLeastSpare}
 use Rattle.reh_waves.proofs.spares.least_spare.Goals as goal
