@@ -2,13 +2,16 @@
 #![tactic(auto)]
 
 mod fewest;
+mod lines;
 mod losses;
 mod orders;
+mod reasons;
 mod risk;
 mod sets;
 mod spares;
 mod waves;
 
+pub use lines::waves_text;
 pub use losses::{Loss, Lost};
 pub use orders::order_by_name;
 pub use risk::{Risk, risk_of};
