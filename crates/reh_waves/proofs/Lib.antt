@@ -4,4 +4,5 @@ pub mod RankLaws
 pub mod RiskLaws
 pub mod SetLaws
 pub mod SpareLaws
+pub mod TextLaws
 pub mod WaveLaws

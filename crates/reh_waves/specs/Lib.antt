@@ -1,4 +1,5 @@
 pub mod Fewest
+pub mod Json
 pub mod Losses
 pub mod Orders
 pub mod Risk

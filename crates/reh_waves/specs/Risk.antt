@@ -1,5 +1,5 @@
 -- What the next failures cost.
-use Rattle.std.specs.Prelude.{ℕ, Bool, false, ◌==◌, if◌then◌else◌, List, [], filter, map}
+use Rattle.std.specs.Prelude.{◌≡◌, ℕ, Bool, false, ◌==◌, if◌then◌else◌, List, [], filter, map}
 use Rattle.reh_census.specs.Bookies.{Bookies}
 use Rattle.reh_census.specs.Counting.{Counting}
 use Rattle.reh_census.specs.declared.questions.Question.{Question}
@@ -26,6 +26,7 @@ pub record IsRisk (counting : Counting) (bookies : Bookies) (question : Question
   pub each_pair :
       AreRanked (map (loss_on counting bookies question not_judged) (pairs_if with_pairs (filter bookies.is_registered order)))
       risk.pairs.items
+  pub unjudged : risk.not_judged ≡ not_judged
 
 -- whether just this bookie is lost
 abbrev pub is_bookie : ℕ → Lost → Bool

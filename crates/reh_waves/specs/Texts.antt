@@ -1,5 +1,5 @@
 -- What is printed of waves and risks. Each line ends with its LF.
-use Rattle.std.specs.Prelude.{ℕ, Bool, true, false, ◌+◌, ◌==◌, nat_lt, if◌then◌else◌, List, [], ◌∷◌, ◌++◌, Option, None, Some, String, codes, flat_map, length}
+use Rattle.std.specs.Prelude.{ℕ, Bool, ◌+◌, ◌==◌, nat_lt, if◌then◌else◌, List, [], ◌∷◌, ◌++◌, Option, None, Some, String, codes, flat_map, length}
 use Rattle.std.specs.Fmt.{decimal}
 use Rattle.std.specs.declared.alloc.Global.{Global}
 use Rattle.reh_census.specs.declared.answers.Answer.{Answer}
@@ -102,3 +102,65 @@ abbrev pub waves_text : List (String Global) → Waves → List ℕ
 waves_text names waves =
     rounds_text names 1 waves.rounds.items
     ++ (all_alone_text names waves.alone.items ++ note_text (length waves.rounds.items))
+
+-- Risk
+
+abbrev pub broken_text : Broken → List ℕ
+broken_text broken =
+    decimal broken.no ++ (if nat_lt 0 broken.unknown then codes " unknown " ++ decimal broken.unknown else [])
+
+-- a number that is shown where it isn't 0
+abbrev pub more_text : List ℕ → ℕ → List ℕ
+more_text words count = if nat_lt 0 count then words ++ decimal count else []
+
+-- of entries, of ledgers and writers, and what is rarely asked
+abbrev pub entries_text : Numbers → List ℕ
+entries_text numbers =
+    codes "readable " ++ (broken_text numbers.readable ++ (codes ", kept " ++ broken_text numbers.kept))
+
+abbrev pub ledgers_text : Numbers → List ℕ
+ledgers_text numbers =
+    codes ", recoverable " ++ (decimal numbers.recoverable ++ (codes ", writable " ++ decimal numbers.writable))
+
+abbrev pub rare_text : Numbers → List ℕ
+rare_text numbers =
+    more_text (codes ", replaceable ") numbers.replaceable ++ more_text (codes ", disks ") numbers.disks
+
+abbrev pub rules_text : Numbers → List ℕ
+rules_text numbers = entries_text numbers ++ (ledgers_text numbers ++ rare_text numbers)
+
+-- what is lost: a bookie, a rack, two bookies
+abbrev pub lost_text : List (String Global) → List (String Global) → Lost → List ℕ
+lost_text names racks (Bookie lost) = codes "bookie " ++ name_at names lost
+lost_text names racks (Rack rack) = codes "rack " ++ name_at racks rack
+lost_text names racks (Pair one other) = codes "pair " ++ (name_at names one ++ (codes " " ++ name_at names other))
+
+abbrev pub loss_text : List (String Global) → List (String Global) → Loss → List ℕ
+loss_text names racks loss = lost_text names racks loss.lost ++ (codes " " ++ (rules_text loss.numbers ++ codes "\n"))
+
+abbrev pub losses_text : List (String Global) → List (String Global) → List Loss → List ℕ
+losses_text names racks losses = flat_map (loss_text names racks) losses
+
+-- where ledgers were not judged
+abbrev pub unjudged_text : ℕ → List ℕ
+unjudged_text count =
+    if nat_lt 0 count then codes "note: " ++ (decimal count ++ (judged_words (count == 1) ++ codes "\n")) else []
+
+abbrev pub fewest_line : Option ℕ → List ℕ
+fewest_line None = codes "fewest copies none\n"
+fewest_line (Some copies) = codes "fewest copies " ++ (decimal copies ++ codes "\n")
+
+abbrev pub least_line : Option ℕ → List ℕ
+least_line None = codes "fewest copies in ledgers not closed none\n"
+least_line (Some copies) = codes "fewest copies in ledgers not closed " ++ (decimal copies ++ codes "\n")
+
+abbrev pub fewest_text : Risk → List ℕ
+fewest_text risk = fewest_line risk.fewest_copies ++ least_line risk.fewest_in_tails
+
+abbrev pub all_losses_text : List (String Global) → List (String Global) → Risk → List ℕ
+all_losses_text names racks risk =
+    losses_text names racks risk.bookies.items
+    ++ (losses_text names racks risk.racks.items ++ losses_text names racks risk.pairs.items)
+
+abbrev pub risk_text : List (String Global) → List (String Global) → Risk → List ℕ
+risk_text names racks risk = fewest_text risk ++ (all_losses_text names racks risk ++ unjudged_text risk.not_judged)

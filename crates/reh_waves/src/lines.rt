@@ -87,7 +87,9 @@ fn push_note(text: &mut String, count: usize) -> Result<(), AllocError>
     if count <= 1 {
         return Ok(());
     }
-    text.push_str("note: only the first wave is judged by what is known now: take a new input and ask again before each further one, and keep AutoRecovery disabled meanwhile\n")
+    text.push_str(
+        "note: only the first wave is judged by what is known now: take a new input and ask again before each further one, and keep AutoRecovery disabled meanwhile\n",
+    )
 }
 
 /// The lines of the waves, where bookies have these names.

@@ -12,7 +12,8 @@ fn no_words(rule: Rule, one: bool) -> &'static str
     match (rule, one) {
         (Rule::Readable, true) => " entry could not be read",
         (Rule::Readable, false) => " entries could not be read",
-        (Rule::Kept, true) => " entry would have fewer copies than are to be kept, and fewer than now",
+        (Rule::Kept, true) =>
+            " entry would have fewer copies than are to be kept, and fewer than now",
         (Rule::Kept, false) => {
             " entries would have fewer copies than are to be kept, and fewer than now"
         }
@@ -73,7 +74,7 @@ fn disk_words(one: bool) -> &'static str
 }
 
 /// How many ledgers were not judged.
-fn judged_words(one: bool) -> &'static str
+pub(crate) fn judged_words(one: bool) -> &'static str
     ensures { result.now ≡ texts.judged_words one }
 {
     if one {

@@ -30,6 +30,8 @@ pub struct Risk {
     pub racks: Vec<Loss>,
     /// And of each two registered bookies, where they are asked for.
     pub pairs: Vec<Loss>,
+    /// How many ledgers were not judged.
+    pub not_judged: u64,
 }
 
 /// The registered bookies, in this order.
@@ -140,5 +142,6 @@ pub fn risk_of(
         bookies: rank(alloc, census, bookies, question, &alone)?,
         racks: rank(alloc, census, bookies, question, &by_rack)?,
         pairs: rank(alloc, census, bookies, question, &pairs)?,
+        not_judged: census.not_judged(),
     })
 }

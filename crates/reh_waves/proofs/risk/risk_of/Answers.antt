@@ -57,6 +57,7 @@ returns-clause-census c =
           (c.deref-5.ensures.value ∙ c.in_ok-pairs.ensures
           ∙ ap (λ (bs : List ℕ). pairs_if c.args.with_pairs bs) (c.deref-2.ensures.value ∙ c.in_ok-registered.ensures))
           c.in_ok-rank-3.ensures;
+      unjudged = c.not_judged.ensures;
     }
 
 pub returns-clause-ledgers : goal.returns-clause-ledgers
@@ -69,6 +70,7 @@ returns-clause-ledgers c ledgers counts =
       bookies = c.in_ok-rank.field-0;
       racks = c.in_ok-rank-2.field-0;
       pairs = c.in_ok-rank-3.field-0;
+      not_judged = c.not_judged.result;
     }))
     (counting-same c.args.census.now (holders (bookies_of c.args.bookies.now)) ledgers counts)
     (returns-clause-census c)
