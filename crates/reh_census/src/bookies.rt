@@ -58,6 +58,14 @@ impl Bookies {
         self.items.len() as u16
     }
 
+    /// How many bookies have a number, within what a set of bookies has flags for.
+    pub fn count(&self) -> u16
+        ensures count { result ≡ length self.now }
+        ensures within { result ≤ 4096 }
+    {
+        self.items.len() as u16
+    }
+
     /// Whether the bookie is registered.
     pub fn is_registered(&self, bookie: u16) -> bool
         ensures { result ≡ (model.bookies_of self.now).is_registered bookie }

@@ -1,0 +1,26 @@
+-- Texts of several parts.
+use Rattle.std.proofs.Common.{◌≡◌, ◌∙◌, ◌++◌, ℕ, List, ap}
+use Rattle.std.proofs.lemmas.List.{append_assoc}
+
+pub two : (start one both a b : List ℕ) → one ≡ start ++ a → both ≡ one ++ b → both ≡ start ++ (a ++ b)
+two start one both a b first second = second ∙ ap (λ xs. xs ++ b) first ∙ append_assoc start a b
+
+pub three : (start one more all a b c : List ℕ) → one ≡ start ++ a → more ≡ one ++ b → all ≡ more ++ c → all ≡ start ++ (a ++ (b ++ c))
+three start one more all a b c first second third = two start one all a (b ++ c) first (two one more all b c second third)
+
+pub four : (start one more most all a b c d : List ℕ) → one ≡ start ++ a → more ≡ one ++ b → most ≡ more ++ c → all ≡ most ++ d
+    → all ≡ start ++ (a ++ (b ++ (c ++ d)))
+four start one more most all a b c d first second third fourth =
+    two start one all a (b ++ (c ++ d)) first (three one more most all b c d second third fourth)
+
+pub five : (start one two' three' four' all a b c d e : List ℕ) → one ≡ start ++ a → two' ≡ one ++ b → three' ≡ two' ++ c → four' ≡ three' ++ d
+    → all ≡ four' ++ e
+    → all ≡ start ++ (a ++ (b ++ (c ++ (d ++ e))))
+five start one two' three' four' all a b c d e first second third fourth fifth =
+    two start one all a (b ++ (c ++ (d ++ e))) first (four one two' three' four' all b c d e second third fourth fifth)
+
+pub six : (start one two' three' four' five' all a b c d e f : List ℕ) → one ≡ start ++ a → two' ≡ one ++ b → three' ≡ two' ++ c
+    → four' ≡ three' ++ d → five' ≡ four' ++ e → all ≡ five' ++ f
+    → all ≡ start ++ (a ++ (b ++ (c ++ (d ++ (e ++ f)))))
+six start one two' three' four' five' all a b c d e f first second third fourth fifth sixth =
+    two start one all a (b ++ (c ++ (d ++ (e ++ f)))) first (five one two' three' four' five' all b c d e f second third fourth fifth sixth)

@@ -1,0 +1,81 @@
+use Rattle.std.proofs.Common.{◌∙◌, ℕ, All, List, map, ap, sym, subst, length}
+use Rattle.reh_census.specs.Bookies.{bookies_of, holders}
+use Rattle.reh_census.specs.Counting.{Counting, count_in, count_tails_in, counting_in, not_judged}
+use Rattle.reh_census.specs.declared.censuses.CountedTail.{CountedTail}
+use Rattle.reh_census.specs.declared.classes.Counted.{Counted}
+use Rattle.reh_waves.specs.Fewest.{AreFewest, AreLeastSpare}
+use Rattle.reh_waves.specs.Losses.{AreRanked, IsWithin, loss_on}
+use Rattle.reh_waves.specs.Risk.{IsRisk, pairs_if}
+use Rattle.reh_waves.specs.declared.losses.Loss.{Loss}
+use Rattle.reh_waves.specs.declared.losses.Lost.{Lost}
+use Rattle.reh_waves.specs.declared.losses.Lost.TheVariants.{Bookie}
+use Rattle.reh_waves.proofs.RiskLaws.{bookies-within, counting-same, loss-once, pairs-within, racks-within}
+use Rattle.reh_waves.proofs.risk.risk_of.Goals as goal
+
+pub rank-requires : goal.rank-requires
+rank-requires c =
+    subst (λ (lost : List Lost). All (IsWithin (length c.args.bookies.now)) lost)
+    (sym
+    (c.deref-3.ensures.value ∙ c.in_ok-alone.ensures
+    ∙ ap (λ (bs : List ℕ). map (λ b. Bookie b) bs) (c.deref.ensures.value ∙ c.in_ok-registered.ensures)))
+    (bookies-within c.args.bookies.now c.args.order.now)
+
+pub rank-requires-2 : goal.rank-requires-2
+rank-requires-2 c =
+    subst (λ (lost : List Lost). All (IsWithin (length c.args.bookies.now)) lost)
+    (sym (c.deref-4.ensures.value ∙ c.in_ok-by_rack.ensures))
+    (racks-within (length c.args.bookies.now) c.args.racks.now)
+
+pub rank-requires-3 : goal.rank-requires-3
+rank-requires-3 c =
+    subst (λ (lost : List Lost). All (IsWithin (length c.args.bookies.now)) lost)
+    (sym
+    (c.deref-5.ensures.value ∙ c.in_ok-pairs.ensures
+    ∙ ap (λ (bs : List ℕ). pairs_if c.args.with_pairs bs) (c.deref-2.ensures.value ∙ c.in_ok-registered.ensures)))
+    (pairs-within c.args.bookies.now c.args.order.now c.args.with_pairs)
+
+pub returns-clause-census : goal.returns-clause-census
+returns-clause-census c =
+    let f : Lost → Loss =
+    loss_on (counting_in c.args.census.now) (bookies_of c.args.bookies.now) c.args.question.now (not_judged c.args.census.now.judged) in
+    record {
+      fewest =
+          subst (λ (entries : List Counted). AreFewest (count_in entries) c.fewest_copies.result) c.entries.ensures.entries c.fewest_copies.ensures;
+      fewest_tails =
+          subst (λ (tails : List CountedTail). AreLeastSpare (count_tails_in tails) (bookies_of c.args.bookies.now) c.least_spare.result)
+          c.tails.ensures.tails c.least_spare.ensures;
+      each_bookie =
+          subst (λ (lost : List Lost). AreRanked (map f lost) c.in_ok-rank.field-0.items)
+          (c.deref-3.ensures.value ∙ c.in_ok-alone.ensures
+          ∙ ap (λ (bs : List ℕ). map (λ b. Bookie b) bs) (c.deref.ensures.value ∙ c.in_ok-registered.ensures))
+          c.in_ok-rank.ensures;
+      each_rack =
+          subst (λ (lost : List Lost). AreRanked (map f lost) c.in_ok-rank-2.field-0.items)
+          (c.deref-4.ensures.value ∙ c.in_ok-by_rack.ensures) c.in_ok-rank-2.ensures;
+      each_pair =
+          subst (λ (lost : List Lost). AreRanked (map f lost) c.in_ok-rank-3.field-0.items)
+          (c.deref-5.ensures.value ∙ c.in_ok-pairs.ensures
+          ∙ ap (λ (bs : List ℕ). pairs_if c.args.with_pairs bs) (c.deref-2.ensures.value ∙ c.in_ok-registered.ensures))
+          c.in_ok-rank-3.ensures;
+      unjudged = c.not_judged.ensures;
+    }
+
+pub returns-clause-ledgers : goal.returns-clause-ledgers
+returns-clause-ledgers c ledgers counts =
+    subst
+    (λ (counting : Counting). IsRisk counting (bookies_of c.args.bookies.now) c.args.question.now (not_judged c.args.census.now.judged)
+    c.args.order.now c.args.racks.now c.args.with_pairs (record {
+      fewest_copies = c.fewest_copies.result;
+      fewest_in_tails = c.least_spare.result;
+      bookies = c.in_ok-rank.field-0;
+      racks = c.in_ok-rank-2.field-0;
+      pairs = c.in_ok-rank-3.field-0;
+      not_judged = c.not_judged.result;
+    }))
+    (counting-same c.args.census.now (holders (bookies_of c.args.bookies.now)) ledgers counts)
+    (returns-clause-census c)
+
+pub returns-clause-once : goal.returns-clause-once
+returns-clause-once c b =
+    loss-once (counting_in c.args.census.now) c.args.bookies.now c.args.question.now (not_judged c.args.census.now.judged) c.args.order.now
+    c.in_ok-rank.field-0.items c.requires (returns-clause-census c).each_bookie.permutation b

@@ -1,0 +1,89 @@
+use Rattle.std.proofs.Common.{◌≡◌, ◌∙◌, ◌<◌, ℕ, Bool, All, List, Option, Some, None, ap, sym, subst, length, arith}
+use Rattle.std.specs.Prelude.{position}
+use Rattle.std.proofs.lemmas.List.Elements.{All-push}
+use Rattle.std.proofs.lemmas.List.Quantifiers.{position-Some}
+use Rattle.reh_census.specs.Answers.{is_yes}
+use Rattle.reh_census.specs.Bookies.{bookies_of}
+use Rattle.reh_census.specs.Counting.{not_judged}
+use Rattle.reh_census.specs.declared.answers.Answer.{Answer}
+use Rattle.reh_census.proofs.AnswerLaws.{yes-part-in}
+use Rattle.reh_waves.specs.declared.waves.Alone.{Alone}
+use Rattle.reh_waves.specs.declared.waves.Round.{Round}
+use Rattle.reh_waves.specs.Waves.{IsAlone, IsBegun, answer_in, joins, rack_for}
+use Rattle.reh_waves.proofs.PositionLaws.{position-none}
+use Rattle.reh_waves.proofs.WaveLaws.{IsMonotone, begun-apart, begun-rounds, joined-apart, joined-places, joined-rounds}
+use Rattle.reh_waves.proofs.waves.place.Goals as goal
+
+pub returns-in-Some-clause-waves : goal.returns-in-Some-clause-waves
+returns-in-Some-clause-waves c =
+    let answer : (ℕ → Bool) → Answer = answer_in c.args.census.now (bookies_of c.args.bookies.now) c.args.question.now in
+    let rack : Option ℕ = rack_for c.args.by_rack ((bookies_of c.args.bookies.now).rack_of c.args.bookie) in
+    let p : Round → Bool = joins answer c.args.by_rack rack c.args.bookie in
+    let monotone : IsMonotone answer =
+    yes-part-in c.args.census.now (bookies_of c.args.bookies.now) c.args.question.now (not_judged c.args.census.now.judged) in
+    let found : position p c.args.waves.now.rounds.items ≡ Some c.in-Some.number =
+    (λ i. position (joins answer c.args.by_rack (sym c.rack_for-rack.ensures i) c.args.bookie) (sym c.deref.ensures.value i))
+    ∙ sym c.in_ok-found.ensures ∙ c.in-Some.is in
+    let below : (d : Round) → c.in-Some.number < length c.args.waves.now.rounds.items =
+    λ d. (position-Some p c.args.waves.now.rounds.items c.in-Some.number d found).0 in
+    record {
+      rounds =
+          joined-rounds answer (bookies_of c.args.bookies.now) c.args.by_rack c.args.waves.now.rounds.items c.join.new.rounds.items
+          c.in-Some.number c.args.bookie (below c.in_ok-join.ensures.round) c.in_ok-join.ensures c.requires.waves.rounds c.requires.bookie
+          (λ d. (position-Some p c.args.waves.now.rounds.items c.in-Some.number d found).1);
+      apart =
+          joined-apart answer (bookies_of c.args.bookies.now) c.args.by_rack c.args.waves.now.rounds.items c.join.new.rounds.items
+          c.in-Some.number c.args.bookie monotone (below c.in_ok-join.ensures.round) c.in_ok-join.ensures c.requires.waves.rounds c.requires.waves.apart
+          (λ d. (position-Some p c.args.waves.now.rounds.items c.in-Some.number d found).1)
+          (λ k d before. (position-Some p c.args.waves.now.rounds.items c.in-Some.number d found).2 k before);
+      alone = c.requires.waves.alone;
+    }
+
+pub returns-in-Some-clause-places : goal.returns-in-Some-clause-places
+returns-in-Some-clause-places c b =
+    let answer : (ℕ → Bool) → Answer = answer_in c.args.census.now (bookies_of c.args.bookies.now) c.args.question.now in
+    let p : Round → Bool = joins answer c.args.by_rack c.rack_for-rack.result c.args.bookie in
+    let found : position p c.args.waves.now.rounds.items ≡ Some c.in-Some.number =
+    (λ i. position p (sym c.deref.ensures.value i))
+    ∙ sym c.in_ok-found.ensures ∙ c.in-Some.is in
+    omega (
+      arith,
+      joined-places c.args.waves.now.rounds.items c.join.new.rounds.items c.in-Some.number c.args.bookie
+          (position-Some p c.args.waves.now.rounds.items c.in-Some.number c.in_ok-join.ensures.round found).0 c.in_ok-join.ensures b,
+    )
+
+pub returns-then-is_yes-clause-waves : goal.returns-then-is_yes-clause-waves
+returns-then-is_yes-clause-waves c =
+    let answer : (ℕ → Bool) → Answer = answer_in c.args.census.now (bookies_of c.args.bookies.now) c.args.question.now in
+    let rack : Option ℕ = rack_for c.args.by_rack ((bookies_of c.args.bookies.now).rack_of c.args.bookie) in
+    let p : Round → Bool = joins answer c.args.by_rack rack c.args.bookie in
+    let none : position p c.args.waves.now.rounds.items ≡ None =
+    (λ i. position (joins answer c.args.by_rack (sym c.rack_for-rack.ensures i) c.args.bookie) (sym c.deref.ensures.value i))
+    ∙ sym c.in_ok-found.ensures ∙ c.in_default.is in
+    let begun : IsBegun c.args.waves.now.rounds.items c.begin.new.rounds.items rack c.args.bookie =
+    subst (λ (r : Option ℕ). IsBegun c.args.waves.now.rounds.items c.begin.new.rounds.items r c.args.bookie) c.rack_for-rack.ensures c.in_ok-begin.ensures in
+    record {
+      rounds =
+          begun-rounds answer (bookies_of c.args.bookies.now) c.args.by_rack c.args.waves.now.rounds.items c.begin.new.rounds.items c.args.bookie
+          begun c.requires.waves.rounds c.requires.bookie
+          (sym (ap (λ a. is_yes a) c.in_ok-answer.ensures) ∙ sym c.is_yes.ensures ∙ c.if-is_yes.true);
+      apart =
+          begun-apart answer c.args.by_rack c.args.waves.now.rounds.items c.begin.new.rounds.items rack c.args.bookie begun c.requires.waves.apart
+          (λ k d below. position-none p c.args.waves.now.rounds.items none k d below);
+      alone = c.requires.waves.alone;
+    }
+
+pub returns-clause-waves : goal.returns-clause-waves
+returns-clause-waves c =
+    let answer : (ℕ → Bool) → Answer = answer_in c.args.census.now (bookies_of c.args.bookies.now) c.args.question.now in
+    record {
+      rounds = c.requires.waves.rounds;
+      apart = c.requires.waves.apart;
+      alone =
+          subst (λ (named : List Alone). All (IsAlone answer (bookies_of c.args.bookies.now)) named) (sym c.in_ok-push.ensures.items)
+          (All-push (IsAlone answer (bookies_of c.args.bookies.now)) c.args.waves.now.alone.items _ c.requires.waves.alone (record {
+            registered = c.requires.bookie;
+            answer_is = c.in_ok-answer.ensures;
+            not_yes = sym c.is_yes.ensures ∙ c.if-is_yes.false;
+          }));
+    }

@@ -1,0 +1,7 @@
+pub mod Fewest
+pub mod Json
+pub mod Losses
+pub mod Orders
+pub mod Risk
+pub mod Texts
+pub mod Waves

@@ -1,0 +1,104 @@
+// The lines of waves.
+ghost use Rattle.std.specs.Prelude.{◌≡◌, ◌+◌, ◌++◌, OnOk, IfOk, length, string_bytes};
+ghost use Rattle.reh_waves.specs.Orders as orders;
+ghost use Rattle.reh_waves.specs.Texts as texts;
+
+use crate::reasons::push_reason;
+use crate::waves::{Alone, Round, Waves};
+use std::alloc::{AllocError, Global};
+
+/// Adds the name of this number.
+pub(crate) fn push_name(text: &mut String, names: &[String], number: u16) -> Result<(), AllocError>
+    ensures { OnOk result (string_bytes text.new ≡ string_bytes text.old ++ orders.name_at names.now number) }
+{
+    match names.get(number as usize) {
+        Some(name) => text.push_str(name.as_str()),
+        None => Ok(()),
+    }
+}
+
+/// Adds a space, and the name.
+fn push_spaced_one(text: &mut String, names: &[String], number: u16) -> Result<(), AllocError>
+    ensures { OnOk result (string_bytes text.new ≡ string_bytes text.old ++ texts.spaced_one names.now number) }
+{
+    text.push_str(" ")?;
+    push_name(text, names, number)
+}
+
+/// Adds names, with a space before each.
+fn push_spaced(text: &mut String, names: &[String], bookies: &[u16]) -> Result<(), AllocError>
+    ensures { OnOk result (string_bytes text.new ≡ string_bytes text.old ++ texts.spaced names.now bookies.now) }
+{
+    for bookie in bookies {
+        push_spaced_one(text, names, *bookie)?;
+    }
+    Ok(())
+}
+
+/// Adds the line of the wave of this number.
+fn push_round(
+    text: &mut String,
+    names: &[String],
+    number: usize,
+    round: &Round,
+) -> Result<(), AllocError>
+    ensures { OnOk result (string_bytes text.new ≡ string_bytes text.old ++ texts.round_text names.now number round.now) }
+{
+    write!(text, "wave {number}:")?;
+    push_spaced(text, names, &round.bookies)?;
+    text.push_str("\n")
+}
+
+/// Adds the lines of the waves.
+fn push_rounds(text: &mut String, names: &[String], rounds: &[Round]) -> Result<(), AllocError>
+    ensures { OnOk result (string_bytes text.new ≡ string_bytes text.old ++ texts.rounds_text names.now 1 rounds.now) }
+{
+    for number in 0..rounds.len() {
+        push_round(text, names, number + 1, &rounds[number])?;
+    }
+    Ok(())
+}
+
+/// Adds the line of a bookie that can't be stopped.
+fn push_alone(text: &mut String, names: &[String], alone: &Alone) -> Result<(), AllocError>
+    ensures { OnOk result (string_bytes text.new ≡ string_bytes text.old ++ texts.alone_text names.now alone.now) }
+{
+    text.push_str("alone ")?;
+    push_name(text, names, alone.bookie)?;
+    text.push_str(": ")?;
+    push_reason(text, alone.answer)?;
+    text.push_str("\n")
+}
+
+/// Adds the lines of the bookies that can't be stopped.
+fn push_all_alone(text: &mut String, names: &[String], alone: &[Alone]) -> Result<(), AllocError>
+    ensures { OnOk result (string_bytes text.new ≡ string_bytes text.old ++ texts.all_alone_text names.now alone.now) }
+{
+    for one in alone {
+        push_alone(text, names, one)?;
+    }
+    Ok(())
+}
+
+/// Adds the note, where there are more waves than one.
+fn push_note(text: &mut String, count: usize) -> Result<(), AllocError>
+    ensures { OnOk result (string_bytes text.new ≡ string_bytes text.old ++ texts.note_text count) }
+{
+    if count <= 1 {
+        return Ok(());
+    }
+    text.push_str(
+        "note: only the first wave is judged by what is known now: take a new input and ask again before each further one, and keep AutoRecovery disabled meanwhile\n",
+    )
+}
+
+/// The lines of the waves, where bookies have these names.
+pub fn waves_text(alloc: Global, names: &[String], waves: &Waves) -> Result<String, AllocError>
+    ensures { IfOk result (λ text. string_bytes text ≡ texts.waves_text names.now waves.now) }
+{
+    let mut text = String::new(alloc);
+    push_rounds(&mut text, names, &waves.rounds)?;
+    push_all_alone(&mut text, names, &waves.alone)?;
+    push_note(&mut text, waves.rounds.len())?;
+    Ok(text)
+}

@@ -1,0 +1,118 @@
+// What the loss of bookies would break.
+ghost use Rattle.std.specs.Prelude.{◌≡◌, ◌<◌, All, IfOk, ℕ, map, length};
+ghost use Rattle.reh_census.specs.Bookies.{bookies_of, is_flagged};
+ghost use Rattle.reh_census.specs.Counting.{counting_in, not_judged};
+ghost use Rattle.reh_waves.specs.Losses as model;
+ghost use Rattle.reh_waves.specs.declared.losses.Lost.TheVariants.{Rack};
+ghost use Rattle.reh_waves.specs.Losses.{AreRanked, IsWithin, loss_on, stopped_by};
+
+use crate::sets::set_of;
+use reh_census::{BookieSet, Bookies, Census, Numbers, Question};
+use reh_rules::numbers_of;
+use std::alloc::{AllocError, Global};
+
+/// Bookies that are lost: one, all of a rack, two.
+#[derive(Clone, Copy, PartialEq, Eq, Debug)]
+pub enum Lost {
+    Bookie(u16),
+    Rack(u16),
+    Pair(u16, u16),
+}
+
+/// A loss, with the numbers of every rule.
+#[derive(Clone, Copy, PartialEq, Eq, Debug)]
+pub struct Loss {
+    pub lost: Lost,
+    pub numbers: Numbers,
+}
+
+/// Whether the bookie stands in the rack.
+fn is_in_rack(bookies: &Bookies, rack: u16, bookie: u16) -> bool
+    ensures { result ≡ stopped_by (bookies_of bookies.now) (Rack rack) bookie }
+{
+    match bookies.rack_of(bookie) {
+        Some(found) => found == rack,
+        None => false,
+    }
+}
+
+/// The bookies of a rack.
+fn rack_set(alloc: Global, bookies: &Bookies, rack: u16) -> Result<BookieSet, AllocError>
+    ensures { IfOk result (λ set. (b : ℕ) → is_flagged set b ≡ stopped_by (bookies_of bookies.now) (Rack rack) b) }
+{
+    let mut flags = Vec::new(alloc);
+    for bookie in 0..bookies.count() {
+        flags.push(is_in_rack(bookies, rack, bookie))?;
+    }
+    Ok(BookieSet::of(flags))
+}
+
+/// The bookies that are lost.
+fn lost_set(alloc: Global, bookies: &Bookies, lost: Lost) -> Result<BookieSet, AllocError>
+    requires { IsWithin (length bookies.now) lost }
+    ensures { IfOk result (λ set. (b : ℕ) → is_flagged set b ≡ stopped_by (bookies_of bookies.now) lost b) }
+{
+    match lost {
+        Lost::Bookie(bookie) => {
+            let set = set_of(alloc, bookies.count(), &[], bookie)?;
+            Ok(set)
+        }
+        Lost::Rack(rack) => {
+            let set = rack_set(alloc, bookies, rack)?;
+            Ok(set)
+        }
+        Lost::Pair(one, other) => {
+            let set = set_of(alloc, bookies.count(), &[one], other)?;
+            Ok(set)
+        }
+    }
+}
+
+/// The losses of these, in their order.
+pub(crate) fn losses_of(
+    alloc: Global,
+    census: &Census,
+    bookies: &Bookies,
+    question: &Question,
+    lost: &[Lost],
+) -> Result<Vec<Loss>, AllocError>
+    requires { All (IsWithin (length bookies.now)) lost.now }
+    ensures { IfOk result (λ losses. losses.items ≡ map (loss_on (counting_in census.now) (bookies_of bookies.now) question.now
+        (not_judged census.now.judged)) lost.now) }
+{
+    let mut losses = Vec::new(alloc);
+    for one in lost {
+        let stopped = lost_set(alloc, bookies, *one)?;
+        let numbers = numbers_of(alloc, census, bookies, question, &stopped);
+        losses.push(Loss {
+            lost: *one,
+            numbers,
+        })?;
+    }
+    Ok(losses)
+}
+
+/// The numbers in the order of the rules: what is broken first, and then what nobody knows.
+fn weights(numbers: &Numbers) -> [u64; 8]
+    ensures { result ≡ model.weights numbers.now }
+{
+    [
+        numbers.readable.no,
+        numbers.kept.no,
+        numbers.recoverable,
+        numbers.writable,
+        numbers.replaceable,
+        numbers.readable.unknown,
+        numbers.kept.unknown,
+        numbers.disks,
+    ]
+}
+
+/// The losses, worst first: those of the same numbers in the order that they had.
+pub(crate) fn ranked(losses: Vec<Loss>) -> Result<Vec<Loss>, AllocError>
+    ensures { IfOk result (λ ranked. AreRanked losses.items ranked.items) }
+{
+    let mut ranked = losses;
+    ranked.sort_by(|loss, other| weights(&other.numbers).cmp(&weights(&loss.numbers)))?;
+    Ok(ranked)
+}

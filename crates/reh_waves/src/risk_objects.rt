@@ -1,0 +1,232 @@
+// Risks as JSON.
+ghost use Rattle.std.specs.Prelude.{◌≡◌, ◌++◌, OnOk, IfOk, string_bytes, true};
+ghost use Rattle.reh_waves.specs.Json as json;
+ghost use Rattle.reh_waves.specs.Json.{ArePrintable};
+
+use crate::losses::{Loss, Lost};
+use crate::objects::{push_comma, push_json_name};
+use crate::risk::Risk;
+use reh_census::{Broken, Numbers};
+use std::alloc::{AllocError, Global};
+
+/// Adds how many break a rule, and how many more may.
+fn push_broken(text: &mut String, broken: &Broken) -> Result<(), AllocError>
+    ensures { OnOk result (string_bytes text.new ≡ string_bytes text.old ++ json.broken_json broken.now) }
+{
+    let no = broken.no;
+    let unknown = broken.unknown;
+    write!(text, "{{\"no\":{no},\"unknown\":{unknown}}}")
+}
+
+/// Adds the numbers of the rules for entries.
+fn push_entries(text: &mut String, numbers: &Numbers) -> Result<(), AllocError>
+    ensures { OnOk result (string_bytes text.new ≡ string_bytes text.old ++ json.entries_json numbers.now) }
+{
+    text.push_str("\"readable\":")?;
+    push_broken(text, &numbers.readable)?;
+    text.push_str(",\"kept\":")?;
+    push_broken(text, &numbers.kept)?;
+    Ok(())
+}
+
+/// Adds those for ledgers and writers.
+fn push_ledgers(text: &mut String, numbers: &Numbers) -> Result<(), AllocError>
+    ensures { OnOk result (string_bytes text.new ≡ string_bytes text.old ++ json.ledgers_json numbers.now) }
+{
+    let recoverable = numbers.recoverable;
+    let writable = numbers.writable;
+    write!(
+        text,
+        ",\"recoverable\":{recoverable},\"writable\":{writable}"
+    )
+}
+
+/// Adds the others.
+fn push_rare(text: &mut String, numbers: &Numbers) -> Result<(), AllocError>
+    ensures { OnOk result (string_bytes text.new ≡ string_bytes text.old ++ json.rare_json numbers.now) }
+{
+    let replaceable = numbers.replaceable;
+    let disks = numbers.disks;
+    write!(text, ",\"replaceable\":{replaceable},\"disks\":{disks}")
+}
+
+/// Adds the numbers of the rules.
+fn push_rules(text: &mut String, numbers: &Numbers) -> Result<(), AllocError>
+    ensures { OnOk result (string_bytes text.new ≡ string_bytes text.old ++ json.rules_json numbers.now) }
+{
+    text.push_str("\"rules\":{")?;
+    push_entries(text, numbers)?;
+    push_ledgers(text, numbers)?;
+    push_rare(text, numbers)?;
+    text.push_str("}")?;
+    Ok(())
+}
+
+/// Adds two bookies.
+fn push_pair(text: &mut String, names: &[String], one: u16, other: u16) -> Result<(), AllocError>
+    requires { ArePrintable names.now }
+    ensures { OnOk result (string_bytes text.new ≡ string_bytes text.old ++ json.pair_json names.now one other) }
+{
+    text.push_str("\"bookies\":[")?;
+    push_json_name(text, names, one)?;
+    text.push_str(",")?;
+    push_json_name(text, names, other)?;
+    text.push_str("]")?;
+    Ok(())
+}
+
+/// Adds what is lost.
+fn push_lost(
+    text: &mut String,
+    names: &[String],
+    racks: &[String],
+    lost: Lost,
+) -> Result<(), AllocError>
+    requires names { ArePrintable names.now }
+    requires racks { ArePrintable racks.now }
+    ensures { OnOk result (string_bytes text.new ≡ string_bytes text.old ++ json.lost_json names.now racks.now lost) }
+{
+    match lost {
+        Lost::Bookie(bookie) => {
+            text.push_str("\"bookie\":")?;
+            push_json_name(text, names, bookie)
+        }
+        Lost::Rack(rack) => {
+            text.push_str("\"rack\":")?;
+            push_json_name(text, racks, rack)
+        }
+        Lost::Pair(one, other) => push_pair(text, names, one, other),
+    }
+}
+
+/// Adds a loss.
+fn push_loss(
+    text: &mut String,
+    names: &[String],
+    racks: &[String],
+    loss: &Loss,
+) -> Result<(), AllocError>
+    requires names { ArePrintable names.now }
+    requires racks { ArePrintable racks.now }
+    ensures { OnOk result (string_bytes text.new ≡ string_bytes text.old ++ json.loss_json names.now racks.now loss.now) }
+{
+    text.push_str("{")?;
+    push_lost(text, names, racks, loss.lost)?;
+    text.push_str(",")?;
+    push_rules(text, &loss.numbers)?;
+    text.push_str("}")?;
+    Ok(())
+}
+
+/// Adds the losses in a list.
+fn push_each(
+    text: &mut String,
+    names: &[String],
+    racks: &[String],
+    losses: &[Loss],
+) -> Result<(), AllocError>
+    requires names { ArePrintable names.now }
+    requires racks { ArePrintable racks.now }
+    ensures { OnOk result (string_bytes text.new
+        ≡ string_bytes text.old ++ json.elements (json.loss_json names.now racks.now) true losses.now) }
+{
+    let mut is_first = true;
+    for loss in losses {
+        push_comma(text, is_first)?;
+        push_loss(text, names, racks, loss)?;
+        is_first = false;
+    }
+    Ok(())
+}
+
+/// Adds the list of the losses.
+fn push_losses(
+    text: &mut String,
+    names: &[String],
+    racks: &[String],
+    losses: &[Loss],
+) -> Result<(), AllocError>
+    requires names { ArePrintable names.now }
+    requires racks { ArePrintable racks.now }
+    ensures { OnOk result (string_bytes text.new ≡ string_bytes text.old ++ json.losses_json names.now racks.now losses.now) }
+{
+    text.push_str("[")?;
+    push_each(text, names, racks, losses)?;
+    text.push_str("]")?;
+    Ok(())
+}
+
+/// Adds the fewest copies.
+fn push_fewest(text: &mut String, fewest: Option<usize>) -> Result<(), AllocError>
+    ensures { OnOk result (string_bytes text.new ≡ string_bytes text.old ++ json.fewest_field fewest) }
+{
+    match fewest {
+        Some(copies) => write!(text, "{{\"fewest_copies\":{copies}"),
+        None => text.push_str("{\"fewest_copies\":null"),
+    }
+}
+
+/// Adds those of ledgers that aren't closed.
+fn push_least(text: &mut String, least: Option<u64>) -> Result<(), AllocError>
+    ensures { OnOk result (string_bytes text.new ≡ string_bytes text.old ++ json.least_field least) }
+{
+    match least {
+        Some(copies) => write!(text, ",\"fewest_copies_not_closed\":{copies}"),
+        None => text.push_str(",\"fewest_copies_not_closed\":null"),
+    }
+}
+
+/// Adds how many ledgers were not judged.
+fn push_judged(text: &mut String, not_judged: u64) -> Result<(), AllocError>
+    ensures { OnOk result (string_bytes text.new ≡ string_bytes text.old ++ json.judged_field not_judged) }
+{
+    write!(text, ",\"not_judged\":{not_judged}")
+}
+
+/// Adds the fewest copies, and how many ledgers were not judged.
+fn push_both_fewest(text: &mut String, risk: &Risk) -> Result<(), AllocError>
+    ensures { OnOk result (string_bytes text.new ≡ string_bytes text.old ++ json.fewest_json risk.now) }
+{
+    push_fewest(text, risk.fewest_copies)?;
+    push_least(text, risk.fewest_in_tails)?;
+    push_judged(text, risk.not_judged)?;
+    Ok(())
+}
+
+/// Adds all losses.
+fn push_all_losses(
+    text: &mut String,
+    names: &[String],
+    racks: &[String],
+    risk: &Risk,
+) -> Result<(), AllocError>
+    requires names { ArePrintable names.now }
+    requires racks { ArePrintable racks.now }
+    ensures { OnOk result (string_bytes text.new ≡ string_bytes text.old ++ json.all_losses_json names.now racks.now risk.now) }
+{
+    text.push_str(",\"bookies\":")?;
+    push_losses(text, names, racks, &risk.bookies)?;
+    text.push_str(",\"racks\":")?;
+    push_losses(text, names, racks, &risk.racks)?;
+    text.push_str(",\"pairs\":")?;
+    push_losses(text, names, racks, &risk.pairs)?;
+    Ok(())
+}
+
+/// The risk as one object, where bookies and racks have these names.
+pub fn risk_json(
+    alloc: Global,
+    names: &[String],
+    racks: &[String],
+    risk: &Risk,
+) -> Result<String, AllocError>
+    requires names { ArePrintable names.now }
+    requires racks { ArePrintable racks.now }
+    ensures { IfOk result (λ text. string_bytes text ≡ json.risk_json names.now racks.now risk.now) }
+{
+    let mut text = String::new(alloc);
+    push_both_fewest(&mut text, risk)?;
+    push_all_losses(&mut text, names, racks, risk)?;
+    text.push_str("}\n")?;
+    Ok(text)
+}

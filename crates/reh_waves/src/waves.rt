@@ -1,0 +1,239 @@
+// Which bookies may be stopped together, in which rounds.
+ghost use Rattle.std.specs.Prelude.{◌≡◌, ◌+◌, ◌<◌, ◌==◌, ◌∷◌, cond, true, All, IfOk, OnOk, ℕ, List, length, position};
+ghost use Rattle.std.specs.List.Sorted.{IsPermutation};
+ghost use Rattle.reh_census.specs.Answers as answers;
+ghost use Rattle.reh_census.specs.Answers.{answer_on};
+ghost use Rattle.reh_census.specs.Bookies.{bookies_of, holders};
+ghost use Rattle.reh_census.specs.Copies.{is_in};
+ghost use Rattle.reh_census.specs.Counting.{IsCensus, counting_of, not_judged};
+ghost use Rattle.reh_census.specs.Ledgers.{Ledger as LedgerValue};
+ghost use Rattle.reh_census.specs.Striping.{range};
+ghost use Rattle.reh_waves.specs.Waves as model;
+ghost use Rattle.reh_waves.specs.Waves.{AreWaves, IsBegun, IsJoined, IsRound, NoTwo, answer_in, joins, places};
+
+use crate::sets::set_of;
+use reh_census::{Answer, Bookies, Census, Question};
+use reh_rules::answer_of;
+use std::alloc::{AllocError, Global};
+
+/// Bookies that may be stopped together, and their rack, where rounds keep to racks.
+#[derive(Drop)]
+pub struct Round {
+    pub rack: Option<u16>,
+    pub bookies: Vec<u16>,
+}
+
+/// A bookie that can't be stopped even alone, and what speaks against it.
+#[derive(Drop)]
+pub struct Alone {
+    pub bookie: u16,
+    pub answer: Answer,
+}
+
+/// Rounds, and the bookies that are in none.
+#[derive(Drop)]
+pub struct Waves {
+    pub rounds: Vec<Round>,
+    pub alone: Vec<Alone>,
+}
+
+/// Whether a bookie of this rack may join a round of that one.
+fn may_join(by_rack: bool, rack: Option<u16>, other: Option<u16>) -> bool
+    ensures { result ≡ model.may_join by_rack rack other }
+{
+    if !by_rack {
+        return true;
+    }
+    match (rack, other) {
+        (Some(rack), Some(other)) => rack == other,
+        _ => false,
+    }
+}
+
+/// The rack that a round of the bookie keeps to.
+fn rack_for(bookies: &Bookies, by_rack: bool, bookie: u16) -> Option<u16>
+    ensures { result ≡ model.rack_for by_rack ((bookies_of bookies.now).rack_of bookie) }
+{
+    if by_rack {
+        bookies.rack_of(bookie)
+    } else {
+        None
+    }
+}
+
+/// The answer where these bookies are stopped, and one more.
+fn answer_with(
+    alloc: Global,
+    census: &Census,
+    bookies: &Bookies,
+    question: &Question,
+    members: &[u16],
+    bookie: u16,
+) -> Result<Answer, AllocError>
+    requires members { All (λ b. (bookies_of bookies.now).is_registered b ≡ true) members.now }
+    requires bookie { (bookies_of bookies.now).is_registered bookie ≡ true }
+    ensures { IfOk result (λ answer. answer
+        ≡ answer_in census.now (bookies_of bookies.now) question.now (is_in (bookie ∷ members.now))) }
+{
+    let stopped = set_of(alloc, bookies.count(), members, bookie)?;
+    let answer = answer_of(alloc, census, bookies, question, &stopped);
+    Ok(answer)
+}
+
+/// Whether the bookie of this rack may join the round, and be stopped with it.
+fn fits(
+    alloc: Global,
+    census: &Census,
+    bookies: &Bookies,
+    question: &Question,
+    by_rack: bool,
+    round: &Round,
+    rack: Option<u16>,
+    bookie: u16,
+) -> Result<bool, AllocError>
+    requires round { IsRound (answer_in census.now (bookies_of bookies.now) question.now) (bookies_of bookies.now) by_rack round.now }
+    requires bookie { (bookies_of bookies.now).is_registered bookie ≡ true }
+    ensures { IfOk result (λ fits. fits ≡ joins (answer_in census.now (bookies_of bookies.now) question.now) by_rack rack bookie round.now) }
+{
+    if !may_join(by_rack, rack, round.rack) {
+        return Ok(false);
+    }
+    let answer = answer_with(alloc, census, bookies, question, &round.bookies, bookie)?;
+    Ok(is_yes(answer))
+}
+
+/// Whether the answer is a yes.
+fn is_yes(answer: Answer) -> bool
+    ensures { result ≡ answers.is_yes answer }
+{
+    matches!(answer, Answer::Yes)
+}
+
+/// The first round that the bookie may join and be stopped with.
+fn first_fit(
+    alloc: Global,
+    census: &Census,
+    bookies: &Bookies,
+    question: &Question,
+    by_rack: bool,
+    rounds: &[Round],
+    rack: Option<u16>,
+    bookie: u16,
+) -> Result<Option<usize>, AllocError>
+    requires rounds { All (IsRound (answer_in census.now (bookies_of bookies.now) question.now) (bookies_of bookies.now) by_rack) rounds.now }
+    requires bookie { (bookies_of bookies.now).is_registered bookie ≡ true }
+    ensures { IfOk result (λ found. found
+        ≡ position (joins (answer_in census.now (bookies_of bookies.now) question.now) by_rack rack bookie) rounds.now) }
+{
+    for number in 0..rounds.len() {
+        let round = &rounds[number];
+        if fits(
+            alloc, census, bookies, question, by_rack, round, rack, bookie,
+        )? {
+            return Ok(Some(number));
+        }
+    }
+    Ok(None)
+}
+
+/// Adds the bookie to the round of this number.
+fn join(rounds: &mut Vec<Round>, number: usize, bookie: u16) -> Result<(), AllocError>
+    requires { number < length rounds.old.items }
+    ensures { OnOk result (IsJoined rounds.old.items rounds.new.items number bookie) }
+{
+    rounds[number].bookies.push(bookie)?;
+    Ok(())
+}
+
+/// Begins a round.
+fn begin(
+    alloc: Global,
+    rounds: &mut Vec<Round>,
+    rack: Option<u16>,
+    bookie: u16,
+) -> Result<(), AllocError>
+    ensures { OnOk result (IsBegun rounds.old.items rounds.new.items rack bookie) }
+{
+    let mut bookies = Vec::new(alloc);
+    bookies.push(bookie)?;
+    rounds.push(Round { rack, bookies })?;
+    Ok(())
+}
+
+/// Puts the registered bookie into the first round that it fits, or begins one, or names it alone.
+fn place(
+    alloc: Global,
+    census: &Census,
+    bookies: &Bookies,
+    question: &Question,
+    by_rack: bool,
+    waves: &mut Waves,
+    bookie: u16,
+) -> Result<(), AllocError>
+    requires waves { AreWaves (answer_in census.now (bookies_of bookies.now) question.now) (bookies_of bookies.now) by_rack waves.old }
+    requires bookie { (bookies_of bookies.now).is_registered bookie ≡ true }
+    ensures waves { OnOk result (AreWaves (answer_in census.now (bookies_of bookies.now) question.now) (bookies_of bookies.now) by_rack waves.new) }
+    ensures places { OnOk result ((b : ℕ) → places waves.new b ≡ places waves.old b + cond (bookie == b) 1 0) }
+{
+    let rack = rack_for(bookies, by_rack, bookie);
+    let found = first_fit(
+        alloc,
+        census,
+        bookies,
+        question,
+        by_rack,
+        &waves.rounds,
+        rack,
+        bookie,
+    )?;
+    if let Some(number) = found {
+        join(&mut waves.rounds, number, bookie)?;
+        return Ok(());
+    }
+    let answer = answer_with(alloc, census, bookies, question, &[], bookie)?;
+    if is_yes(answer) {
+        begin(alloc, &mut waves.rounds, rack, bookie)?;
+        return Ok(());
+    }
+    waves.alone.push(Alone { bookie, answer })?;
+    Ok(())
+}
+
+/// Rounds of the registered bookies, each of which may be stopped together, by the census: each bookie in this order goes
+/// into the first round that it fits, or begins one. Where rounds keep to racks, bookies without a known rack are in
+/// rounds of their own. `Err` only where there is no memory.
+pub fn waves_of(
+    alloc: Global,
+    census: &Census,
+    bookies: &Bookies,
+    question: &Question,
+    order: &[u16],
+    by_rack: bool,
+) -> Result<Waves, AllocError>
+    requires { IsPermutation (range 0 (length bookies.now)) order.now }
+    ensures census { IfOk result (AreWaves (answer_in census.now (bookies_of bookies.now) question.now)
+        (bookies_of bookies.now) by_rack) }
+    ensures ledgers { IfOk result (λ waves. (ledgers : List LedgerValue)
+        → IsCensus census.now (holders (bookies_of bookies.now)) ledgers
+        → AreWaves (answer_on (counting_of (holders (bookies_of bookies.now)) ledgers) (bookies_of bookies.now) question.now
+        (not_judged census.now.judged)) (bookies_of bookies.now) by_rack waves) }
+    ensures no_two { IfOk result (λ waves. NoTwo (answer_in census.now (bookies_of bookies.now) question.now) by_rack waves.rounds.items) }
+    ensures no_two_of_ledgers { IfOk result (λ waves. (ledgers : List LedgerValue)
+        → IsCensus census.now (holders (bookies_of bookies.now)) ledgers
+        → NoTwo (answer_on (counting_of (holders (bookies_of bookies.now)) ledgers) (bookies_of bookies.now) question.now
+        (not_judged census.now.judged)) by_rack waves.rounds.items) }
+    ensures once { IfOk result (λ waves. (b : ℕ) → places waves b ≡ cond ((bookies_of bookies.now).is_registered b) 1 0) }
+{
+    let mut waves = Waves {
+        rounds: Vec::new(alloc),
+        alone: Vec::new(alloc),
+    };
+    for bookie in order {
+        if bookies.is_registered(*bookie) {
+            place(
+                alloc, census, bookies, question, by_rack, &mut waves, *bookie,
+            )?;
+        }
+    }
+    Ok(waves)
+}
