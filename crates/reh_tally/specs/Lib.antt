@@ -1,3 +1,5 @@
 pub mod Few
+pub mod Lines
+pub mod Masks
 pub mod Members
 pub mod Segments

@@ -5,6 +5,8 @@ mod alike;
 mod census;
 mod classes;
 mod cuts;
+mod lines;
+mod masks;
 mod members;
 mod merge;
 mod segments;
