@@ -3,6 +3,7 @@ pub mod CutLaws
 pub mod MaskLaws
 pub mod MemberLaws
 pub mod PlacedLaws
+pub mod RangeLaws
 pub mod ResidueLaws
 pub mod SegmentLaws
 pub mod TailLaws

@@ -3,3 +3,4 @@ pub mod Lines
 pub mod Masks
 pub mod Members
 pub mod Segments
+pub mod Stretches

@@ -9,6 +9,7 @@ mod lines;
 mod masks;
 mod members;
 mod merge;
+mod ranges;
 mod segments;
 mod tails;
 
