@@ -1,4 +1,5 @@
 pub mod ClassLaws
+pub mod CursorLaws
 pub mod CutLaws
 pub mod MaskLaws
 pub mod MemberLaws

@@ -101,3 +101,13 @@ pub with_none : (names : List ℕ) (m r : ℕ) → r ≢ 1 → names ≡ names +
 with_none names m r apart = sym (append-nil names) ∙ ap (λ b. names ++ cond b (m ∷ []) []) (sym (differ r apart)) where
   differ : (r : ℕ) → r ≢ 1 → (r == 1) ≡ false
   differ r apart = grind (arith, nat_tests)
+
+-- one element more, from the last
+pub mask-more : {X : Type 0} (test : X → Bool) (xs : List X) (i : ℕ) (d : X) (mask more : ℕ) (bit : Bool) → 0 < i → i ≤ length xs
+    → mask ≡ mask_of test (drop i xs) → bit ≡ test (get_or xs (i - 1) d) → more ≡ mask * 2 + cond bit 1 0
+    → more ≡ mask_of test (drop (i - 1) xs)
+mask-more test xs i d mask more bit some within was is then =
+    let next : (i - 1) + 1 ≡ i = omega (arith, some) in
+    then
+    ∙ (λ j. (was ∙ ap (λ k. mask_of test (drop k xs)) (sym next)) j * 2 + cond (is j) 1 0)
+    ∙ sym (at_drop_more (mask_of test) xs (i - 1) d (omega (arith, some, within)))

@@ -1,3 +1,4 @@
+pub mod Cursors
 pub mod Few
 pub mod Lines
 pub mod Masks

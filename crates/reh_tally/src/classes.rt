@@ -2,6 +2,7 @@
 ghost use Rattle.std.specs.Prelude.{◌≡◌, ◌^◌, ◌<◌, ◌≤◌, ◌&&◌, IfOk, length};
 ghost use Rattle.std.specs.List.{list_any};
 ghost use Rattle.reh_census.specs.Ledgers as model;
+ghost use Rattle.reh_tally.specs.Cursors as cursors;
 ghost use Rattle.reh_tally.specs.Segments as segments;
 
 use reh_census::{Class, Fragment, Ledger, Names, Range, Told};
@@ -34,6 +35,29 @@ pub(crate) fn told_of(ledger: &Ledger, bookie: u16) -> &Told
         }
     }
     ledger.rest()
+}
+
+/// The number of the bookie's content; past the last one, where it has none.
+pub(crate) fn content_of(ledger: &Ledger, bookie: u16) -> usize
+    ensures { cursors.told_at ledger.now result ≡ model.told_of ledger.now bookie }
+{
+    let contents = ledger.contents();
+    for index in 0..contents.len() {
+        if contents[index].bookie == bookie {
+            return index;
+        }
+    }
+    contents.len()
+}
+
+/// What the content of this number tells; past the last one, what holds of the rest.
+pub(crate) fn told_at(ledger: &Ledger, content: usize) -> &Told
+    ensures { result.now ≡ cursors.told_at ledger.now content }
+{
+    match ledger.contents().get(content) {
+        Some(found) => &found.told,
+        None => ledger.rest(),
+    }
 }
 
 /// Whether the entry is in one of the ranges.

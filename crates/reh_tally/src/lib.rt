@@ -4,6 +4,7 @@
 mod alike;
 mod census;
 mod classes;
+mod cursors;
 mod cuts;
 mod lines;
 mod masks;
