@@ -1,10 +1,9 @@
 pub mod ClassLaws
 pub mod CursorLaws
-pub mod CutLaws
 pub mod MaskLaws
 pub mod MemberLaws
 pub mod PlacedLaws
 pub mod RangeLaws
-pub mod ResidueLaws
+pub mod RoundLaws
 pub mod SegmentLaws
 pub mod TailLaws

@@ -1,23 +1,19 @@
 // Censuses, counted by segments: no loop goes over entries.
 #![tactic(auto)]
 
-mod alike;
 mod census;
 mod classes;
 mod cursors;
-mod cuts;
 mod lines;
 mod masks;
 mod members;
 mod merge;
 mod ranges;
+mod rounds;
 mod segments;
 mod tails;
 
-pub use alike::count_alike;
 pub use census::{TallyFault, census_of};
-pub use classes::class_in;
-pub use members::members_of;
 pub use merge::merged;
 pub use segments::entries_of;
 pub use tails::{ensembles_of, tails_of};

@@ -1,4 +1,4 @@
-use Rattle.std.proofs.Common.{◌≡◌, ◌∙◌, ◌<◌, ◌≤◌, List, length, drop, subst, sym, ap, arith}
+use Rattle.std.proofs.Common.{◌∙◌, List, length, sym, ap}
 use Rattle.std.specs.Prelude.{slice_get}
 use Rattle.std.specs.Option.{option_map_or}
 use Rattle.reh_census.specs.declared.ledgers.Content.{Content}

@@ -1,4 +1,4 @@
-use Rattle.std.proofs.Common.{◌-◌, ◌<◌, ◌≤◌, length, drop, arith, length-drop}
+use Rattle.std.proofs.Common.{◌≤◌, length, drop, arith, length-drop}
 use Rattle.reh_tally.specs.declared.cursors.Cursor.{Cursor}
 use Rattle.reh_tally.proofs.MaskLaws.{mask-room}
 use Rattle.reh_tally.proofs.cursors.held_by.Goals as goal

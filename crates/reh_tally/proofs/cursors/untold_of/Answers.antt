@@ -1,4 +1,4 @@
-use Rattle.std.proofs.Common.{◌≡◌, ◌∙◌, ◌-◌, ◌<◌, ◌≤◌, length, drop, ap, arith, length-drop}
+use Rattle.std.proofs.Common.{◌∙◌, ◌≤◌, length, drop, ap, arith, length-drop}
 use Rattle.reh_census.specs.declared.ledgers.Told.{Told}
 use Rattle.reh_census.specs.Ledgers.{is_untold}
 use Rattle.reh_tally.specs.declared.cursors.Cursor.{Cursor}

@@ -1,4 +1,4 @@
-use Rattle.std.proofs.Common.{◌≡◌, ◌+◌, ◌-◌, ◌<◌, ◌≤◌, ℕ, List, length, drop, subst, sym, arith, length-drop}
+use Rattle.std.proofs.Common.{◌≤◌, length, drop, arith, length-drop}
 use Rattle.reh_census.specs.Ledgers.{carries}
 use Rattle.reh_tally.proofs.MaskLaws.{mask-room}
 use Rattle.reh_tally.proofs.masks.mask_at.Goals as goal

@@ -10,7 +10,7 @@ loop-index-preserved c =
     let close : 0 < c.loop-index.index
     → (get_or c.args.ranges.now (c.loop-index.index - 1) z).last < (get_or c.args.ranges.now c.loop-index.index z).first =
     λ some. elim c.else-index-gt0.branch [
-      else-index-gt0-via-then-index-gt0+else-ranges-index-2 w ↦ w.if-ranges-index-2.false
+      | else-index-gt0-via-then-index-gt0+else-ranges-index-2 w ↦ w.if-ranges-index-2.false
       | else-index-gt0-via-else-index-gt0 w ↦ absurd (omega (arith, some, w.if-index-gt0.false))
     ] in
     record {

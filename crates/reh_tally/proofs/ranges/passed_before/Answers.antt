@@ -1,4 +1,4 @@
-use Rattle.std.proofs.Common.{◌+◌, ◌-◌, ◌/◌, ◌<◌, ◌≤◌, ℕ, length, arith}
+use Rattle.std.proofs.Common.{◌+◌, ◌-◌, ◌/◌, ◌<◌, ℕ, arith}
 use Rattle.reh_tally.proofs.RangeLaws.{ended-below}
 use Rattle.reh_tally.proofs.ranges.passed_before.Goals as goal
 

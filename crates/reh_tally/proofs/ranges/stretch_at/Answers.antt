@@ -1,4 +1,4 @@
-use Rattle.std.proofs.Common.{◌≡◌, ◌∙◌, ◌+◌, ◌<◌, ◌≤◌, ℕ, get_or, arith}
+use Rattle.std.proofs.Common.{◌∙◌, ◌+◌, ◌≤◌, get_or, arith}
 use Rattle.reh_census.specs.declared.ledgers.Range.{Range}
 use Rattle.reh_tally.proofs.RangeLaws.{all-passed, begun, first-decides}
 use Rattle.reh_tally.proofs.ranges.stretch_at.Goals as goal
