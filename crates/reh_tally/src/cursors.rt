@@ -1,5 +1,5 @@
 // What is told of a fragment's members, from an entry on.
-ghost use Rattle.std.specs.Prelude.{◌≡◌, ◌<◌, ◌≤◌, ℕ, All, IfOk, true, length, map};
+ghost use Rattle.std.specs.Prelude.{◌≡◌, ◌<◌, ◌≤◌, ℕ, ◌+◌, All, IfOk, true, length, drop, slice_index_or};
 ghost use Rattle.reh_census.specs.Ledgers.{is_held, is_untold, told_of};
 ghost use Rattle.reh_tally.specs.declared.cursors.Cursor.{Cursor as CursorValue};
 ghost use Rattle.reh_tally.specs.Cursors as model;
@@ -19,6 +19,13 @@ pub(crate) struct Cursor {
     content: usize,
     is_rising: bool,
     stretch: Stretch,
+}
+
+/// Entries up to the stop, with a mask of the members that hold them, where they are striped onto them.
+#[derive(Clone, Copy)]
+pub(crate) struct Segment {
+    pub(crate) held: u64,
+    pub(crate) stop: u64,
 }
 
 /// Whether the ranges of what is told are rising.
@@ -135,9 +142,6 @@ fn moved_to(ledger: &Ledger, cursor: Cursor, at: u64, stop: u64) -> Cursor
     ensures told { model.IsCursor ledger.now at result }
     ensures later { at < result.stretch.end }
 {
-    if at < cursor.stretch.end {
-        return cursor;
-    }
     let told = told_at(ledger, cursor.content);
     let stretch = stretch_of(told, cursor.is_rising, cursor.stretch.passed, at, stop);
     Cursor {
@@ -148,47 +152,51 @@ fn moved_to(ledger: &Ledger, cursor: Cursor, at: u64, stop: u64) -> Cursor
     }
 }
 
-/// Moves the cursors to the entry, of which each tells then.
-pub(crate) fn move_to(ledger: &Ledger, cursors: &mut Vec<Cursor>, at: u64, stop: u64)
+/// Moves one of the cursors to the entry, of which it tells then.
+fn move_one(ledger: &Ledger, cursors: &mut Vec<Cursor>, index: usize, at: u64, stop: u64)
+    requires index { index < length cursors.old.items }
     requires order { at < stop }
     requires told { All (model.IsCursor ledger.now at) cursors.old.items }
+    ensures long { length cursors.new.items ≡ length cursors.old.items }
     ensures members { model.members_of cursors.new.items ≡ model.members_of cursors.old.items }
     ensures told { All (model.IsCursor ledger.now at) cursors.new.items }
-    ensures later { All (λ c. at < c.stretch.end) cursors.new.items }
+    ensures later { (d : CursorValue) → at < (slice_index_or cursors.new.items index d).stretch.end }
+    ensures rest { drop (index + 1) cursors.new.items ≡ drop (index + 1) cursors.old.items }
 {
-    for index in 0..cursors.len() {
+    if cursors[index].stretch.end <= at {
         let moved = moved_to(ledger, cursors[index], at, stop);
         cursors[index] = moved;
     }
 }
 
-/// The first end after the entry of what is told of a member, and at most the stop: up to there is a segment.
-pub(crate) fn next_cut(cursors: &[Cursor], at: u64, stop: u64) -> u64
+/// The entries from this one on of which each member holds, where they are striped onto it, all or none: moves the
+/// cursors there.
+pub(crate) fn next_segment(
+    ledger: &Ledger,
+    cursors: &mut Vec<Cursor>,
+    at: u64,
+    stop: u64,
+) -> Segment
+    requires few { length cursors.old.items ≤ 64 }
     requires order { at < stop }
-    requires later { All (λ c. at < c.stretch.end) cursors.now }
-    ensures later { at < result }
-    ensures within { result ≤ stop }
-    ensures before { All (λ c. result ≤ c.stretch.end) cursors.now }
+    requires told { All (model.IsCursor ledger.now at) cursors.old.items }
+    ensures members { model.members_of cursors.new.items ≡ model.members_of cursors.old.items }
+    ensures told { All (model.IsCursor ledger.now at) cursors.new.items }
+    ensures later { at < result.stop }
+    ensures within { result.stop ≤ stop }
+    ensures before { All (λ c. result.stop ≤ c.stretch.end) cursors.new.items }
+    ensures held { result.held ≡ mask_of (λ (c : CursorValue). c.stretch.is_held) cursors.new.items }
 {
+    let mut held = 0;
     let mut next = stop;
-    for cursor in cursors {
-        next = next.min(cursor.stretch.end);
-    }
-    next
-}
-
-/// Which of the members hold the entries that are told of.
-pub(crate) fn held_by(cursors: &[Cursor]) -> u64
-    requires { length cursors.now ≤ 64 }
-    ensures { result ≡ mask_of (λ (c : CursorValue). c.stretch.is_held) cursors.now }
-{
-    let mut mask = 0;
     let mut index = cursors.len();
     while index > 0 {
         index -= 1;
-        mask = with_bit(mask, cursors[index].stretch.is_held);
+        move_one(ledger, cursors, index, at, stop);
+        held = with_bit(held, cursors[index].stretch.is_held);
+        next = next.min(cursors[index].stretch.end);
     }
-    mask
+    Segment { held, stop: next }
 }
 
 /// Of which of the members nobody told.

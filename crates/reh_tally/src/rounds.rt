@@ -1,5 +1,5 @@
 // The entries of a segment, by their remainders.
-ghost use Rattle.std.specs.Prelude.{◌≡◌, ◌^◌, ◌<◌, ◌≤◌, ◌+◌, ◌%◌, ℕ, Bool, cond, nat_lt, OnOk, length};
+ghost use Rattle.std.specs.Prelude.{◌≡◌, ◌^◌, ◌<◌, ◌≤◌, ◌+◌, ◌/◌, ◌%◌, ℕ, Bool, cond, nat_lt, OnOk, length};
 ghost use Rattle.reh_tally.specs.Lines.{count_lines};
 ghost use Rattle.reh_tally.specs.Segments as model;
 
@@ -15,6 +15,26 @@ fn remainder_behind(remainder: u64, entries: u64, size: u64) -> u64
 {
     let sum = remainder + entries;
     if sum < size { sum } else { sum - size }
+}
+
+/// How many whole rounds of the ensemble these entries are: most segments are shorter than one, and need no division.
+fn rounds_in(entries: u64, size: u64) -> u64
+    requires { 0 < size }
+    ensures { result ≡ entries / size }
+{
+    if entries < size { 0 } else { entries / size }
+}
+
+/// How many entries come behind the whole rounds.
+fn rest_of(entries: u64, size: u64) -> u64
+    requires { 0 < size }
+    ensures { result ≡ entries % size }
+{
+    if entries < size {
+        entries
+    } else {
+        entries % size
+    }
 }
 
 /// How many entries of a segment have the remainder of its entry of this index: one in each whole round, and one more
@@ -46,8 +66,8 @@ pub(crate) fn count_segment(
 {
     let size = masks.len() as u64;
     let entries = stop - first;
-    let rounds = entries / size;
-    let more = entries % size;
+    let rounds = rounds_in(entries, size);
+    let more = rest_of(entries, size);
     let remainder = first % size;
     for index in 0..size.min(entries) {
         let mask = masks[remainder_behind(remainder, index, size) as usize];

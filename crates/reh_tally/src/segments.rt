@@ -8,7 +8,7 @@ ghost use Rattle.reh_tally.specs.Members.{names_of};
 ghost use Rattle.reh_tally.specs.Segments.{count_classes};
 
 use crate::classes::class_by;
-use crate::cursors::{cursors_of, held_by, move_to, next_cut, risings_of, untold_of};
+use crate::cursors::{cursors_of, next_segment, risings_of, untold_of};
 use crate::lines::{Line, Lines};
 use crate::masks::masks_of;
 use crate::members::members_of;
@@ -37,11 +37,9 @@ fn lines_of(
     let mut lines = Lines::new(alloc)?;
     let mut at = fragment.first;
     while at < fragment.stop {
-        move_to(ledger, &mut cursors, at, fragment.stop);
-        let next = next_cut(&cursors, at, fragment.stop);
-        let held = held_by(&cursors);
-        count_segment(alloc, &masks, held, untold, at, next, &mut lines)?;
-        at = next;
+        let next = next_segment(ledger, &mut cursors, at, fragment.stop);
+        count_segment(alloc, &masks, next.held, untold, at, next.stop, &mut lines)?;
+        at = next.stop;
     }
     Ok(lines)
 }

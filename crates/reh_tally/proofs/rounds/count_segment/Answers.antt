@@ -1,4 +1,4 @@
-use Rattle.std.proofs.Common.{◌≡◌, ◌∙◌, ◌+◌, ◌-◌, ◌/◌, ◌%◌, ℕ, Bool, cond, length, ap, sym, arith}
+use Rattle.std.proofs.Common.{◌≡◌, ◌∙◌, ◌+◌, ◌-◌, ◌%◌, ℕ, Bool, cond, length, ap, sym, arith}
 use Rattle.std.specs.Prelude.{bit_and, min, slice_index, sum_by}
 use Rattle.std.proofs.Math.Nat.{mod-add-mod}
 use Rattle.reh_census.specs.Striping.{range}
@@ -12,10 +12,9 @@ grouped a b c d e was is = omega (arith, was, is)
 pub loop-index-preserved : goal.loop-index-preserved
 loop-index-preserved c test =
     let size : ℕ = length c.args.masks.now in
-    let entries : ℕ = c.args.stop - c.args.first in
     let passes : ℕ → Bool =
     λ r. test (bit_and (slice_index c.args.masks.now r) c.args.held) (bit_and (slice_index c.args.masks.now r) c.args.untold) in
-    let f : ℕ → ℕ = by_index passes size c.args.first (entries / size) (entries % size) in
+    let f : ℕ → ℕ = by_index passes size c.args.first c.rounds_in-rounds.result c.rest_of-more.result in
     let at : c.remainder_behind.result ≡ (c.args.first + c.loop-index.index) % size =
     c.remainder_behind.ensures ∙ mod-add-mod c.args.first size c.loop-index.index in
     let one : cond (passes c.remainder_behind.result) c.count_alike-count.result 0 ≡ f c.loop-index.index =
@@ -28,12 +27,13 @@ loop-index-preserved c test =
 pub returns : goal.returns
 returns c test =
     let size : ℕ = length c.args.masks.now in
-    let entries : ℕ = c.args.stop - c.args.first in
     let passes : ℕ → Bool =
     λ r. test (bit_and (slice_index c.args.masks.now r) c.args.held) (bit_and (slice_index c.args.masks.now r) c.args.untold) in
-    let f : ℕ → ℕ = by_index passes size c.args.first (entries / size) (entries % size) in
+    let f : ℕ → ℕ = by_index passes size c.args.first c.rounds_in-rounds.result c.rest_of-more.result in
     let all : c.loop-index.index ≡ min (length c.args.masks.now) (c.args.stop - c.args.first) =
     omega (arith, c.loop-index-test.false, c.loop-index.auto.index-end, c.min-index-end.ensures) in
     c.loop-index.invariant test
     ∙ ap (λ n. count_lines c.args.lines.now test + n)
-    (ap (λ n. sum_by f (range 0 n)) all ∙ count-rounds passes size c.args.first c.args.stop c.requires.some)
+    (ap (λ n. sum_by f (range 0 n)) all
+    ∙ (λ i. sum_by (by_index passes size c.args.first (c.rounds_in-rounds.ensures i) (c.rest_of-more.ensures i)) (range 0 (min size (c.args.stop - c.args.first))))
+    ∙ count-rounds passes size c.args.first c.args.stop c.requires.some)

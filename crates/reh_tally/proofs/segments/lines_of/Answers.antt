@@ -1,4 +1,4 @@
-use Rattle.std.proofs.Common.{◌≡◌, ◌∙◌, ◌+◌, ◌≤◌, ℕ, List, All, ap, subst, arith}
+use Rattle.std.proofs.Common.{◌≡◌, ◌∙◌, ◌+◌, ◌≤◌, ℕ, List, ap, arith}
 use Rattle.reh_census.specs.Counting.{count_between}
 use Rattle.reh_census.specs.Ledgers.{is_untold, told_of}
 use Rattle.reh_tally.specs.declared.cursors.Cursor.{Cursor}
@@ -13,8 +13,8 @@ count_segment-requires-clause-some c =
     omega (
       arith,
       c.requires.fragment.some,
-      masks-length c.args.members.now c.args.ledger.now c.args.fragment.now c.deref-in-loop-at-3.result.now
-          (c.deref-in-loop-at-3.ensures.value ∙ c.in_ok-masks.ensures),
+      masks-length c.args.members.now c.args.ledger.now c.args.fragment.now c.deref-in-loop-at.result.now
+          (c.deref-in-loop-at.ensures.value ∙ c.in_ok-masks.ensures),
     )
 
 pub count_segment-requires-clause-small : goal.count_segment-requires-clause-small
@@ -22,23 +22,19 @@ count_segment-requires-clause-small c =
     omega (
       arith,
       c.requires.small,
-      masks-length c.args.members.now c.args.ledger.now c.args.fragment.now c.deref-in-loop-at-3.result.now
-          (c.deref-in-loop-at-3.ensures.value ∙ c.in_ok-masks.ensures),
+      masks-length c.args.members.now c.args.ledger.now c.args.fragment.now c.deref-in-loop-at.result.now
+          (c.deref-in-loop-at.ensures.value ∙ c.in_ok-masks.ensures),
     )
 
 pub loop-at-preserved : goal.loop-at-preserved
 loop-at-preserved c =
     let at : ℕ = c.loop-at.at in
-    let next : ℕ = c.next_cut-next.result in
-    let cursors : List Cursor = c.move_to.new.cursors.items in
+    let next : ℕ = c.next_segment-next.result.stop in
+    let cursors : List Cursor = c.next_segment-next.new.cursors.items in
     let members : List ℕ = c.args.members.now in
-    let order : c.loop-at.at ≤ c.next_cut-next.result = omega (arith, c.next_cut-next.ensures.later) in
-    let before : All (λ (d : Cursor). next ≤ d.stretch.end) cursors =
-    subst (λ (items : List Cursor). All (λ (d : Cursor). next ≤ d.stretch.end) items) c.deref-in-loop-at.ensures.value c.next_cut-next.ensures.before in
-    let held : c.held_by-held.result ≡ mask_of (λ (d : Cursor). d.stretch.is_held) cursors =
-    c.held_by-held.ensures ∙ ap (λ (items : List Cursor). mask_of (λ (d : Cursor). d.stretch.is_held) items) c.deref-in-loop-at-2.ensures.value in
-    let carried : c.deref-in-loop-at-3.result.now ≡ masks_of members c.args.ledger.now c.args.fragment.now =
-    c.deref-in-loop-at-3.ensures.value ∙ c.in_ok-masks.ensures in
+    let order : c.loop-at.at ≤ c.next_segment-next.result.stop = omega (arith, c.next_segment-next.ensures.later) in
+    let carried : c.deref-in-loop-at.result.now ≡ masks_of members c.args.ledger.now c.args.fragment.now =
+    c.deref-in-loop-at.ensures.value ∙ c.in_ok-masks.ensures in
     let untold : c.untold_of-untold.result ≡ mask_of (λ b. is_untold (told_of c.args.ledger.now b)) members =
     untold-mask c.args.ledger.now c.in_ok-cursors.cursors.items c.args.fragment.now.first c.untold_of-untold.result c.in_ok-cursors.ensures.told
     (c.untold_of-untold.ensures
@@ -46,17 +42,19 @@ loop-at-preserved c =
     ∙ ap (λ (bs : List ℕ). mask_of (λ b. is_untold (told_of c.args.ledger.now b)) bs) c.in_ok-cursors.ensures.members in
     record {
       low = omega (arith, c.loop-at.invariant.low, order);
-      high = c.next_cut-next.ensures.within;
-      members = c.move_to.ensures.members ∙ c.loop-at.invariant.members;
-      told = cursors-later c.args.ledger.now at next cursors order c.move_to.ensures.told;
+      high = c.next_segment-next.ensures.within;
+      members = c.next_segment-next.ensures.members ∙ c.loop-at.invariant.members;
+      told = cursors-later c.args.ledger.now at next cursors order c.next_segment-next.ensures.told;
       counts = λ test.
           between-more members c.args.ledger.now c.args.fragment.now c.args.fragment.now.first at next test
           (count_classes members c.args.ledger.now c.loop-at.lines test) (count_classes members c.args.ledger.now c.count_segment.new.lines test)
           c.loop-at.invariant.low order (c.loop-at.invariant.counts test)
           (c.in_ok-count_segment.ensures (λ known lacking. test (class_by members c.args.ledger.now known lacking))
           ∙ ap (λ n. count_classes members c.args.ledger.now c.loop-at.lines test + n)
-          (count-segment members c.args.ledger.now c.args.fragment.now c.deref-in-loop-at-3.result.now cursors at next c.held_by-held.result c.untold_of-untold.result
-          (omega (arith, c.requires.fragment.some)) order carried (c.move_to.ensures.members ∙ c.loop-at.invariant.members) c.move_to.ensures.told before held untold test));
+          (count-segment members c.args.ledger.now c.args.fragment.now c.deref-in-loop-at.result.now cursors at next c.next_segment-next.result.held
+          c.untold_of-untold.result (omega (arith, c.requires.fragment.some)) order carried
+          (c.next_segment-next.ensures.members ∙ c.loop-at.invariant.members) c.next_segment-next.ensures.told c.next_segment-next.ensures.before
+          c.next_segment-next.ensures.held untold test));
     }
 
 pub returns : goal.returns
