@@ -5,6 +5,7 @@ ghost use Rattle.reh_tally.specs.Cursors.{told_at};
 ghost use Rattle.reh_tally.specs.Segments as segments;
 
 use crate::masks::chosen;
+use crate::rounds::remainder_behind;
 use reh_census::{Class, Fragment, Ledger, Told};
 use std::alloc::{AllocError, Global};
 
@@ -16,8 +17,9 @@ pub(crate) fn carries(ledger: &Ledger, fragment: &Fragment, entry: u64, bookie: 
 {
     let ensemble = fragment.ensemble.as_slice();
     let size = ledger.size();
+    let remainder = entry % size;
     for rank in 0..ledger.write_quorum() {
-        let index = (entry + rank) % size;
+        let index = remainder_behind(remainder, rank, size);
         if ensemble[index as usize] == bookie {
             return true;
         }

@@ -53,12 +53,13 @@ fn is_for(line: &Line, known: u64, untold: u64) -> bool
     line.count == 0 || (line.known == known && line.untold == untold)
 }
 
-/// A number that spreads the masks.
+/// A number in which each bit hangs on all bits of the masks.
 fn spread(known: u64, untold: u64) -> u64
     ensures { result < 2 ^ 32 }
 {
-    let mixed = known.wrapping_mul(0x9e37_79b9_7f4a_7c15);
-    mixed.wrapping_add(untold.wrapping_mul(0xc2b2_ae3d_27d4_eb4f)) >> 32
+    let known = known.wrapping_mul(0x9e37_79b9_7f4a_7c15);
+    let mixed = known.wrapping_add(untold.wrapping_mul(0xc2b2_ae3d_27d4_eb4f));
+    (mixed >> 32).wrapping_mul(0xff51_afd7_ed55_8ccd) >> 32
 }
 
 /// The place of these masks, if there is one.

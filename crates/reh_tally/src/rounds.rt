@@ -7,7 +7,7 @@ use crate::lines::{Line, Lines};
 use std::alloc::{AllocError, Global};
 
 /// The remainder by the ensemble's size of the entry that is so many behind one with this remainder.
-fn remainder_behind(remainder: u64, entries: u64, size: u64) -> u64
+pub(crate) fn remainder_behind(remainder: u64, entries: u64, size: u64) -> u64
     requires remainder { remainder < size }
     requires entries { entries < size }
     requires small { size ≤ 64 }
