@@ -1,17 +1,18 @@
 -- Cursors, and the contents that they tell of.
-use Rattle.std.proofs.Common.{◌≡◌, ◌≢◌, ◌∙◌, ◌+◌, ◌<◌, ◌≤◌, cond, ℕ, zero, suc, Bool, true, false, List, [], ◌∷◌, ◌++◌, length, get_or, set, drop, map, refl, ap, sym, subst, below_more, get_or-set_other, get_or-set_same, arith, inl, inr, true≢false}
-use Rattle.std.specs.Prelude.{◌==◌, slice_get, Option}
+use Rattle.std.proofs.Common.{◌≡◌, ◌≢◌, ◌∙◌, ◌+◌, ◌<◌, ◌≤◌, cond, ℕ, zero, suc, Bool, true, false, List, [], ◌∷◌, ◌++◌, length, get_or, set, drop, map, refl, ap, sym, subst, below_more, get_or-set_other, get_or-set_same, arith, inl, inr, true≢false, ◌⊎◌, All}
+use Rattle.std.specs.Prelude.{◌==◌, slice_get, Option, Any, min}
 use Rattle.std.specs.Option.{option_map_or}
 use Rattle.std.proofs.lemmas.Bool.{cases_lt}
 use Rattle.std.proofs.lemmas.Bool.Decides.{nat_tests}
-use Rattle.std.proofs.lemmas.List.{at_drop_all, at_drop_more, get_or_append_left, get_or_at, get_or_default, get_or_past, length-append}
+use Rattle.std.proofs.lemmas.List.{at_drop_all, at_drop_more, get_or_append_left, get_or_at, get_or_default, get_or_past, length-append, drop_more}
+use Rattle.std.proofs.lemmas.List.Elements.{All-cons, All-weaker}
 use Rattle.std.proofs.lemmas.Option.{slice_get_past}
 use Rattle.reh_census.specs.declared.ledgers.Content.{Content}
 use Rattle.reh_census.specs.declared.ledgers.Told.{Told}
 use Rattle.reh_census.specs.declared.ledgers.Told.TheVariants.{Untold}
-use Rattle.reh_census.specs.Ledgers.{told_in}
+use Rattle.reh_census.specs.Ledgers.{told_in, Ledger}
 use Rattle.reh_tally.specs.declared.cursors.Cursor.{Cursor}
-use Rattle.reh_tally.specs.Cursors.{ranges_of}
+use Rattle.reh_tally.specs.Cursors.{ranges_of, EndsAt, IsFar}
 use Rattle.reh_tally.specs.Stretches.{AreRising}
 
 abbrev told_there : List Content → Told → ℕ → Told
@@ -96,3 +97,42 @@ later-more cursors i at y within below here k d under =
     subst (λ (c : Cursor). at < c.stretch.end) (sym (get_or-set_other cursors i k y d apart)) (below k d before))
     (λ d. subst (λ (c : Cursor). at < c.stretch.end) (sym (get_or-set_same cursors i y d within)) here)
     k under d
+
+-- the cursors from one on, of which the later ones stayed
+from_one : (old new : List Cursor) (i : ℕ) (x : Cursor) → i < length new → drop (i + 1) new ≡ drop (i + 1) old → x ≡ get_or new i x
+    → drop i new ≡ x ∷ drop (i + 1) old
+from_one old new i x within rest is = drop_more new i x within ∙ (λ j. sym is j ∷ rest j)
+
+-- none of them ends before the next end
+pub before-more : (old new : List Cursor) (i next result : ℕ) (x : Cursor) → i < length new → drop (i + 1) new ≡ drop (i + 1) old
+    → x ≡ get_or new i x → result ≡ min next x.stretch.end → All (λ (c : Cursor). next ≤ c.stretch.end) (drop (i + 1) old)
+    → All (λ (c : Cursor). result ≤ c.stretch.end) (drop i new)
+before-more old new i next result x within rest is least before =
+    subst (λ (items : List Cursor). All (λ (c : Cursor). result ≤ c.stretch.end) items) (sym (from_one old new i x within rest is))
+    (All-cons (λ (c : Cursor). result ≤ c.stretch.end) x (drop (i + 1) old) (omega (arith, least))
+    (All-weaker (λ (c : Cursor). next ≤ c.stretch.end) (λ (c : Cursor). result ≤ c.stretch.end) (λ c enough. omega (arith, least, enough)) (drop (i + 1) old) before))
+
+later_one : {X : Type 0} (P : X → Type 0) (x : X) (xs : List X) → Any P xs → Any P (x ∷ xs)
+later_one P x xs any = (suc any.0, any.1, omega (arith, any.2), any.3, any.4)
+
+-- the next end is one of theirs, or the stop
+pub end-more : (g : Ledger) (old new : List Cursor) (i at stop next result : ℕ) (x : Cursor) → i < length new
+    → drop (i + 1) new ≡ drop (i + 1) old → x ≡ get_or new i x → result ≡ min next x.stretch.end → at < x.stretch.end → IsFar g at stop x
+    → (next ≡ stop) ⊎ Any (EndsAt g stop next) (drop (i + 1) old)
+    → (result ≡ stop) ⊎ Any (EndsAt g stop result) (drop i new)
+end-more g old new i at stop next result x within rest is least later far was =
+    subst (λ (items : List Cursor). (result ≡ stop) ⊎ Any (EndsAt g stop result) items) (sym (from_one old new i x within rest is))
+    (elim (cases_lt x.stretch.end next) [
+      | inl sooner ↦ own x (drop (i + 1) old) result later (omega (arith, least, sooner)) far
+      | inr not_sooner ↦ others x (drop (i + 1) old) next result (omega (arith, least, not_sooner)) was
+    ]) where
+      own : (x : Cursor) (more : List Cursor) (result : ℕ) → at < x.stretch.end → result ≡ x.stretch.end → IsFar g at stop x
+          → (result ≡ stop) ⊎ Any (EndsAt g stop result) (x ∷ more)
+      own x more result later its (inl none) = absurd (omega (arith, later, none))
+      own x more result later its (inr end) = inr (0, x, omega arith, refl, subst (λ n. EndsAt g stop n x) (sym its) end)
+
+      others : (x : Cursor) (more : List Cursor) (next result : ℕ) → result ≡ next → (next ≡ stop) ⊎ Any (EndsAt g stop next) more
+          → (result ≡ stop) ⊎ Any (EndsAt g stop result) (x ∷ more)
+      others x more next result same (inl stop_is) = inl (same ∙ stop_is)
+      others x more next result same (inr any) =
+          inr (later_one (EndsAt g stop result) x more (subst (λ n. Any (EndsAt g stop n) more) (sym same) any))

@@ -1,12 +1,13 @@
 -- Rising ranges.
-use Rattle.std.proofs.Common.{◌≡◌, ◌∙◌, ◌+◌, ◌-◌, ◌<◌, ◌≤◌, ◌||◌, ◌&&◌, ℕ, zero, suc, Bool, true, false, List, [], ◌∷◌, length, get_or, nat_le, refl, ap, subst, below_more, arith, inl, inr}
+use Rattle.std.proofs.Common.{◌≡◌, ◌∙◌, ◌+◌, ◌-◌, ◌<◌, ◌≤◌, ◌||◌, ◌&&◌, ℕ, zero, suc, Bool, true, false, List, [], ◌∷◌, length, get_or, nat_le, take, ◌⊎◌, refl, ap, subst, below_more, arith, inl, inr, sym}
 use Rattle.std.specs.List.{list_any}
 use Rattle.std.proofs.lemmas.List.{get_or_default}
+use Rattle.std.proofs.lemmas.List.Folds.{list_any_more}
 use Rattle.std.proofs.lemmas.Bool.{cases_lt}
 use Rattle.std.proofs.lemmas.Bool.Decides.{nat_tests}
 use Rattle.reh_census.specs.declared.ledgers.Range.{Range}
 use Rattle.reh_census.specs.Ledgers.{is_within}
-use Rattle.reh_tally.specs.Stretches.{ArePassed, AreRising}
+use Rattle.reh_tally.specs.Stretches.{ArePassed, AreRising, IsEnd, IsEndOf}
 
 none_of : (p : Range → Bool) (ranges : List Range) → ((k : ℕ) (d : Range) → k < length ranges → p (get_or ranges k d) ≡ false)
     → list_any p ranges ≡ false
@@ -104,3 +105,20 @@ ended-below ranges n at z rising within ended k d under =
     below_more (λ k. (d : Range) → (get_or ranges k d).last < at) n
     (λ k before d. omega (arith, rising.order k n d before within, rising.some n d within, subst (λ (r : Range). r.last < at) (get_or_default ranges n z d within) ended))
     (λ d. subst (λ (r : Range). r.last < at) (get_or_default ranges n z d within) ended) k under d
+
+-- an end by one range more
+pub end-more : (ranges : List Range) (i : ℕ) (z : Range) (stop next result : ℕ) → i < length ranges → IsEnd ranges stop next
+    → (result ≡ next) ⊎ IsEndOf result (get_or ranges i z) → IsEnd ranges stop result
+end-more ranges i z stop next result within was (inl same) = subst (λ n. IsEnd ranges stop n) (sym same) was
+end-more ranges i z stop next result within was (inr here) =
+    inr (i, get_or ranges i z, within, get_or_default ranges i (get_or ranges i z) z within, here)
+
+-- what is told by one range more
+pub told-more : (ranges : List Range) (i entry at : ℕ) (z : Range) → i < length ranges
+    → list_any (is_within entry) (take i ranges) ≡ list_any (is_within at) (take i ranges)
+    → is_within entry (get_or ranges i z) ≡ is_within at (get_or ranges i z)
+    → list_any (is_within entry) (take (i + 1) ranges) ≡ list_any (is_within at) (take (i + 1) ranges)
+told-more ranges i entry at z within was here =
+    list_any_more (is_within entry) ranges i z within
+    ∙ (λ j. was j || here j)
+    ∙ sym (list_any_more (is_within at) ranges i z within)

@@ -1,5 +1,5 @@
 -- Over a segment an entry's class is that of its remainder's masks.
-use Rattle.std.proofs.Common.{◌≡◌, ◌∙◌, ◌+◌, ◌-◌, ◌%◌, ◌<◌, ◌≤◌, ◌&&◌, ℕ, Bool, List, length, map, All, ap, sym, arith}
+use Rattle.std.proofs.Common.{◌≡◌, ◌∙◌, ◌+◌, ◌-◌, ◌%◌, ◌<◌, ◌≤◌, ◌&&◌, ℕ, Bool, List, length, map, All, ap, sym, arith, inl, inr, get_or}
 use Rattle.std.specs.Prelude.{bit_and, ◌==◌, slice_index}
 use Rattle.std.specs.List.{list_any}
 use Rattle.std.proofs.Math.Nat.{mod-add-mod}
@@ -13,7 +13,7 @@ use Rattle.reh_census.specs.Ledgers.{Ledger, carries, class_of, is_held, is_unto
 use Rattle.reh_census.specs.Striping.{range}
 use Rattle.reh_census.proofs.RangeLaws.{count-parted, count-same}
 use Rattle.reh_tally.specs.declared.cursors.Cursor.{Cursor}
-use Rattle.reh_tally.specs.Cursors.{IsCursor, members_of, told_at}
+use Rattle.reh_tally.specs.Cursors.{IsCursor, IsFar, members_of, told_at}
 use Rattle.reh_tally.specs.Masks.{mask_of, masks_of}
 use Rattle.reh_tally.specs.Segments.{class_by, count_masks}
 use Rattle.reh_tally.proofs.MaskLaws.{and-mask, chosen-mask, mask-map, mask-same}
@@ -120,3 +120,10 @@ masks-length members g fragment masks is =
     ap length is
     ∙ length-map-range_with_len (λ remainder. mask_of (carries g fragment remainder) members) 0 (g.size - 0)
     ∙ (let n : g.size - 0 ≡ g.size = omega arith in n)
+
+still_far : (g : Ledger) (at next stop : ℕ) (cursor : Cursor) → at ≤ next → IsFar g at stop cursor → IsFar g next stop cursor
+still_far g at next stop cursor order (inl none) = inl (omega (arith, order, none))
+still_far g at next stop cursor order (inr end) = inr end
+
+pub far-later : (g : Ledger) (at next stop : ℕ) (cursors : List Cursor) → at ≤ next → All (IsFar g at stop) cursors → All (IsFar g next stop) cursors
+far-later g at next stop cursors order far k d within = still_far g at next stop (get_or cursors k d) order (far k d within)

@@ -1,5 +1,5 @@
 -- What is told of members, from an entry on.
-use Rattle.std.specs.Prelude.{◌≡◌, ℕ, ◌<◌, ◌≤◌, Bool, true, false, List, [], map, slice_get, slice_index_or}
+use Rattle.std.specs.Prelude.{◌≡◌, ℕ, ◌<◌, ◌≤◌, ◌⊎◌, Bool, true, false, List, [], map, slice_get, slice_index_or}
 use Rattle.std.specs.Option.{option_map_or}
 use Rattle.reh_census.specs.declared.ledgers.Range.{Range}
 use Rattle.reh_census.specs.declared.ledgers.Told.{Told}
@@ -7,7 +7,7 @@ use Rattle.reh_census.specs.declared.ledgers.Told.TheVariants.{Holds, Lacks, Unt
 use Rattle.reh_census.specs.Ledgers.{Ledger, is_held, told_of}
 use Rattle.reh_tally.specs.declared.cursors.Cursor.{Cursor}
 use Rattle.reh_tally.specs.declared.ranges.Stretch.{Stretch}
-use Rattle.reh_tally.specs.Stretches.{ArePassed, AreRising}
+use Rattle.reh_tally.specs.Stretches.{ArePassed, AreRising, IsEnd}
 
 -- what the content of this number tells; past the last one, what holds of the rest
 abbrev pub told_at : Ledger → ℕ → Told
@@ -33,6 +33,14 @@ pub record IsCursor (g : Ledger) (at : ℕ) (cursor : Cursor) : Type 0 where
   pub told : told_at g cursor.content ≡ told_of g cursor.bookie
   pub rising : cursor.is_rising ≡ true → AreRising (ranges_of (told_at g cursor.content))
   pub stretch : IsToldFrom (told_at g cursor.content) at cursor.stretch
+
+-- the entry is the stop, or one at which a range of the cursor's bookie begins, or right before which one ends
+abbrev pub EndsAt : Ledger → ℕ → ℕ → Cursor → Type 0
+EndsAt g stop entry cursor = IsEnd (ranges_of (told_at g cursor.content)) stop entry
+
+-- the cursor tells of no entry from this one on, or up to such an end
+abbrev pub IsFar : Ledger → ℕ → ℕ → Cursor → Type 0
+IsFar g at stop cursor = (cursor.stretch.end ≤ at) ⊎ EndsAt g stop cursor.stretch.end cursor
 
 -- the bookies that the cursors tell of
 abbrev pub members_of : List Cursor → List ℕ

@@ -1,10 +1,10 @@
 // What is told of a fragment's members, from an entry on.
-ghost use Rattle.std.specs.Prelude.{◌≡◌, ◌<◌, ◌≤◌, ℕ, ◌+◌, All, IfOk, true, length, drop, slice_index_or};
+ghost use Rattle.std.specs.Prelude.{◌≡◌, ◌<◌, ◌≤◌, ℕ, ◌+◌, ◌⊎◌, All, Any, IfOk, true, length, drop, slice_index_or};
 ghost use Rattle.reh_census.specs.Ledgers.{is_held, is_untold, told_of};
 ghost use Rattle.reh_tally.specs.declared.cursors.Cursor.{Cursor as CursorValue};
 ghost use Rattle.reh_tally.specs.Cursors as model;
 ghost use Rattle.reh_tally.specs.Masks.{mask_of};
-ghost use Rattle.reh_tally.specs.Stretches.{ArePassed, AreRising};
+ghost use Rattle.reh_tally.specs.Stretches.{ArePassed, AreRising, IsEnd};
 
 use crate::classes::{content_of, is_untold, told_at};
 use crate::masks::with_bit;
@@ -70,6 +70,7 @@ fn stretch_of(told: &Told, is_rising: bool, passed: usize, at: u64, stop: u64) -
     requires rising { is_rising ≡ true → AreRising (model.ranges_of told.now) }
     requires passed { ArePassed (model.ranges_of told.now) passed at }
     ensures later { at < result.end }
+    ensures end { IsEnd (model.ranges_of told.now) stop result.end }
     ensures same { model.IsToldFrom told.now at result }
 {
     match told {
@@ -95,6 +96,7 @@ fn cursor_of(ledger: &Ledger, risings: &[bool], bookie: u16, first: u64) -> Curs
     requires { model.AreRisings ledger.now risings.now }
     ensures bookie { result.bookie ≡ bookie }
     ensures told { model.IsCursor ledger.now first result }
+    ensures none { result.stretch.end ≤ first }
 {
     let content = content_of(ledger, bookie);
     let is_rising = match risings.get(content) {
@@ -125,6 +127,7 @@ pub(crate) fn cursors_of(
     requires { model.AreRisings ledger.now risings.now }
     ensures members { IfOk result (λ cursors. model.members_of cursors.items ≡ members.now) }
     ensures told { IfOk result (λ cursors. All (model.IsCursor ledger.now first) cursors.items) }
+    ensures none { IfOk result (λ cursors. All (λ c. c.stretch.end ≤ first) cursors.items) }
 {
     let mut cursors = Vec::new(alloc);
     for bookie in members {
@@ -141,6 +144,7 @@ fn moved_to(ledger: &Ledger, cursor: Cursor, at: u64, stop: u64) -> Cursor
     ensures bookie { result.bookie ≡ cursor.bookie }
     ensures told { model.IsCursor ledger.now at result }
     ensures later { at < result.stretch.end }
+    ensures end { model.EndsAt ledger.now stop result.stretch.end result }
 {
     let told = told_at(ledger, cursor.content);
     let stretch = stretch_of(told, cursor.is_rising, cursor.stretch.passed, at, stop);
@@ -157,9 +161,11 @@ fn move_one(ledger: &Ledger, cursors: &mut Vec<Cursor>, index: usize, at: u64, s
     requires index { index < length cursors.old.items }
     requires order { at < stop }
     requires told { All (model.IsCursor ledger.now at) cursors.old.items }
+    requires far { All (model.IsFar ledger.now at stop) cursors.old.items }
     ensures long { length cursors.new.items ≡ length cursors.old.items }
     ensures members { model.members_of cursors.new.items ≡ model.members_of cursors.old.items }
     ensures told { All (model.IsCursor ledger.now at) cursors.new.items }
+    ensures far { All (model.IsFar ledger.now at stop) cursors.new.items }
     ensures later { (d : CursorValue) → at < (slice_index_or cursors.new.items index d).stretch.end }
     ensures rest { drop (index + 1) cursors.new.items ≡ drop (index + 1) cursors.old.items }
 {
@@ -180,11 +186,14 @@ pub(crate) fn next_segment(
     requires few { length cursors.old.items ≤ 64 }
     requires order { at < stop }
     requires told { All (model.IsCursor ledger.now at) cursors.old.items }
+    requires far { All (model.IsFar ledger.now at stop) cursors.old.items }
     ensures members { model.members_of cursors.new.items ≡ model.members_of cursors.old.items }
     ensures told { All (model.IsCursor ledger.now at) cursors.new.items }
+    ensures far { All (model.IsFar ledger.now at stop) cursors.new.items }
     ensures later { at < result.stop }
     ensures within { result.stop ≤ stop }
     ensures before { All (λ c. result.stop ≤ c.stretch.end) cursors.new.items }
+    ensures end { (result.stop ≡ stop) ⊎ Any (model.EndsAt ledger.now stop result.stop) cursors.new.items }
     ensures held { result.held ≡ mask_of (λ (c : CursorValue). c.stretch.is_held) cursors.new.items }
 {
     let mut held = 0;

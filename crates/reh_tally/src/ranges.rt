@@ -1,9 +1,9 @@
 // Entries from one on, as a list of ranges tells of them.
-ghost use Rattle.std.specs.Prelude.{◌≡◌, ◌<◌, ◌≤◌, ◌+◌, ◌↔◌, ℕ, IsTrue, true, length, slice_index_or};
+ghost use Rattle.std.specs.Prelude.{◌≡◌, ◌<◌, ◌≤◌, ◌+◌, ◌⊎◌, ℕ, IsTrue, true, length, slice_index_or};
 ghost use Rattle.std.specs.List.{list_any};
 ghost use Rattle.reh_census.specs.Ledgers.{is_within};
 ghost use Rattle.reh_census.specs.declared.ledgers.Range.{Range as RangeValue};
-ghost use Rattle.reh_tally.specs.Stretches.{ArePassed, AreRising, IsStretch};
+ghost use Rattle.reh_tally.specs.Stretches.{ArePassed, AreRising, IsEnd, IsEndOf, IsStretch};
 
 use reh_census::Range;
 
@@ -68,6 +68,7 @@ fn stretch_at(ranges: &[Range], index: usize, at: u64, stop: u64) -> Stretch
     requires passed { ArePassed ranges.now index at }
     requires here { (d : RangeValue) → index < length ranges.now → at ≤ (slice_index_or ranges.now index d).last }
     ensures later { at < result.end }
+    ensures end { IsEnd ranges.now stop result.end }
     ensures same { IsStretch ranges.now at result }
 {
     if index < ranges.len() {
@@ -98,6 +99,7 @@ pub(crate) fn stretch_in(
     requires rising { is_rising ≡ true → AreRising ranges.now }
     requires passed { ArePassed ranges.now passed at }
     ensures later { at < result.end }
+    ensures end { IsEnd ranges.now stop result.end }
     ensures same { IsStretch ranges.now at result }
 {
     if is_rising {
@@ -125,6 +127,7 @@ fn next_of(ranges: &[Range], at: u64, stop: u64) -> u64
     ensures within { result ≤ stop }
     ensures same { (entry : ℕ) → at ≤ entry → entry < result
         → list_any (is_within entry) ranges.now ≡ list_any (is_within at) ranges.now }
+    ensures end { IsEnd ranges.now stop result }
 {
     let mut next = stop;
     for range in ranges {
@@ -139,6 +142,7 @@ fn next_after(range: &Range, at: u64, stop: u64) -> u64
     ensures later { at < result }
     ensures within { result ≤ stop }
     ensures same { (entry : ℕ) → at ≤ entry → entry < result → is_within entry range.now ≡ is_within at range.now }
+    ensures end { (result ≡ stop) ⊎ IsEndOf result range.now }
     ensures near { range.now.first ≤ range.now.last → at ≤ range.now.last → result ≤ range.now.last + 1 }
 {
     if at < range.first {

@@ -1,4 +1,4 @@
-use Rattle.std.proofs.Common.{◌∙◌, ◌++◌, ◌∷◌, [], List, map, ap, sym, subst}
+use Rattle.std.proofs.Common.{◌∙◌, ◌++◌, ◌∷◌, [], List, map, ap, sym, subst, ◌≤◌}
 use Rattle.std.specs.Prelude.{All}
 use Rattle.std.proofs.lemmas.List.{map-append, take_more}
 use Rattle.std.proofs.lemmas.List.Elements.{All-push}
@@ -16,4 +16,7 @@ loop-bookie-preserved c = record {
   told =
       subst (λ (items : List Cursor). All (IsCursor c.args.ledger.now c.args.first) items) (sym c.in_ok-push.ensures.items)
       (All-push (IsCursor c.args.ledger.now c.args.first) c.loop-bookie.cursors.items c.cursor_of-cursor.result c.loop-bookie.invariant.told c.cursor_of-cursor.ensures.told);
+  none =
+      subst (λ (items : List Cursor). All (λ (d : Cursor). d.stretch.end ≤ c.args.first) items) (sym c.in_ok-push.ensures.items)
+      (All-push (λ (d : Cursor). d.stretch.end ≤ c.args.first) c.loop-bookie.cursors.items c.cursor_of-cursor.result c.loop-bookie.invariant.none c.cursor_of-cursor.ensures.none);
 }

@@ -5,7 +5,7 @@ use Rattle.reh_tally.specs.declared.cursors.Cursor.{Cursor}
 use Rattle.reh_tally.specs.Cursors.{told_at}
 use Rattle.reh_tally.specs.Masks.{mask_of, masks_of}
 use Rattle.reh_tally.specs.Segments.{class_by, count_classes}
-use Rattle.reh_tally.proofs.SegmentLaws.{between-more, count-segment, cursors-later, masks-length, untold-mask}
+use Rattle.reh_tally.proofs.SegmentLaws.{between-more, count-segment, cursors-later, far-later, masks-length, untold-mask}
 use Rattle.reh_tally.proofs.segments.lines_of.Goals as goal
 
 pub count_segment-requires-clause-some : goal.count_segment-requires-clause-some
@@ -45,6 +45,7 @@ loop-at-preserved c =
       high = c.next_segment-next.ensures.within;
       members = c.next_segment-next.ensures.members ∙ c.loop-at.invariant.members;
       told = cursors-later c.args.ledger.now at next cursors order c.next_segment-next.ensures.told;
+      far = far-later c.args.ledger.now at next c.args.fragment.now.stop cursors order c.next_segment-next.ensures.far;
       counts = λ test.
           between-more members c.args.ledger.now c.args.fragment.now c.args.fragment.now.first at next test
           (count_classes members c.args.ledger.now c.loop-at.lines test) (count_classes members c.args.ledger.now c.count_segment.new.lines test)
