@@ -1,9 +1,11 @@
 pub mod ClassLaws
-pub mod CutLaws
+pub mod CursorLaws
 pub mod FewLaws
 pub mod LineLaws
+pub mod MaskLaws
 pub mod MemberLaws
 pub mod PlacedLaws
-pub mod ResidueLaws
+pub mod RangeLaws
+pub mod RoundLaws
 pub mod SegmentLaws
 pub mod TailLaws

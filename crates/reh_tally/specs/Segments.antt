@@ -1,25 +1,29 @@
--- Segments: entries over which what is told of each bookie stays the same.
-use Rattle.std.specs.Prelude.{◌≡◌, ℕ, ◌%◌, ◌<◌, ◌≤◌, ◌&&◌, ◌==◌, List, count_by}
-use Rattle.std.specs.List.{filter}
+-- Entries by masks of the members that hold them and of those that nobody told of.
+use Rattle.std.specs.Prelude.{ℕ, ◌%◌, Bool, List, bit_and, count_by, length, slice_index}
 use Rattle.reh_census.specs.declared.classes.Class.{Class}
-use Rattle.reh_census.specs.declared.ledgers.Fragment.{Fragment}
-use Rattle.reh_census.specs.Ledgers.{Ledger, carries, is_held, is_untold, told_of}
+use Rattle.reh_census.specs.Ledgers.{Ledger}
 use Rattle.reh_census.specs.Striping.{range}
+use Rattle.reh_tally.specs.declared.lines.Line.{Line}
+use Rattle.reh_tally.specs.Lines.{count_lines}
+use Rattle.reh_tally.specs.Masks.{chosen}
 
--- how many entries of a range have this remainder by the ensemble's size, and so one and the same write set
-abbrev pub count_alike : ℕ → ℕ → ℕ → ℕ → ℕ
-count_alike first stop size remainder = count_by (λ entry. entry % size == remainder) (range first stop)
+-- how many entries of a range have masks that pass a test, where for each remainder a mask says onto which members they
+-- are striped
+abbrev pub count_masks : List ℕ → ℕ → ℕ → ℕ → ℕ → (ℕ → ℕ → Bool) → ℕ
+count_masks masks held untold first stop test =
+    count_by
+    (λ entry. test (bit_and (slice_index masks (entry % length masks)) held) (bit_and (slice_index masks (entry % length masks)) untold))
+    (range first stop)
 
--- of each bookie the same is told over the range as of its first entry
-abbrev pub IsSegment : Ledger → ℕ → ℕ → Type 0
-IsSegment g first stop =
-    (entry b : ℕ) → first ≤ entry → entry < stop → is_held entry (told_of g b) ≡ is_held first (told_of g b)
-
--- an entry as a census sees it, by its write set, and by what is told of another entry
-abbrev pub class_in : List ℕ → Ledger → Fragment → ℕ → ℕ → Class
-class_in registered g fragment told_at entry = record {
-  known = filter (λ b. carries g fragment entry b && is_held told_at (told_of g b)) registered;
-  untold = filter (λ b. carries g fragment entry b && is_untold (told_of g b)) registered;
+-- the class of the entries with these known and these untold members
+abbrev pub class_by : List ℕ → Ledger → ℕ → ℕ → Class
+class_by members g known untold = record {
+  known = chosen known members;
+  untold = chosen untold members;
   ack_quorum = g.ack_quorum;
   write_quorum = g.write_quorum;
 }
+
+-- how many entries of a table are of classes that pass a test
+abbrev pub count_classes : List ℕ → Ledger → List Line → (Class → Bool) → ℕ
+count_classes members g lines test = count_lines lines (λ known untold. test (class_by members g known untold))

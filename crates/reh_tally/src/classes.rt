@@ -1,10 +1,12 @@
-// An entry's class, by its remainder and what is told of a segment.
-ghost use Rattle.std.specs.Prelude.{◌≡◌, ◌^◌, ◌<◌, ◌≤◌, ◌&&◌, IfOk, length};
-ghost use Rattle.std.specs.List.{list_any};
+// Which members an entry is striped onto, what is told of them, and its class.
+ghost use Rattle.std.specs.Prelude.{◌≡◌, ◌^◌, ◌≤◌, IfOk, length};
 ghost use Rattle.reh_census.specs.Ledgers as model;
+ghost use Rattle.reh_tally.specs.Cursors.{told_at};
 ghost use Rattle.reh_tally.specs.Segments as segments;
 
-use reh_census::{Class, Fragment, Ledger, Names, Range, Told};
+use crate::masks::chosen;
+use crate::rounds::remainder_behind;
+use reh_census::{Class, Fragment, Ledger, Told};
 use std::alloc::{AllocError, Global};
 
 /// Whether the entry is striped onto the bookie.
@@ -15,8 +17,9 @@ pub(crate) fn carries(ledger: &Ledger, fragment: &Fragment, entry: u64, bookie: 
 {
     let ensemble = fragment.ensemble.as_slice();
     let size = ledger.size();
+    let remainder = entry % size;
     for rank in 0..ledger.write_quorum() {
-        let index = (entry + rank) % size;
+        let index = remainder_behind(remainder, rank, size);
         if ensemble[index as usize] == bookie {
             return true;
         }
@@ -24,33 +27,26 @@ pub(crate) fn carries(ledger: &Ledger, fragment: &Fragment, entry: u64, bookie: 
     false
 }
 
-/// What is told of a bookie.
-pub(crate) fn told_of(ledger: &Ledger, bookie: u16) -> &Told
-    ensures { result.now ≡ model.told_of ledger.now bookie }
+/// The number of the bookie's content; past the last one, where it has none.
+pub(crate) fn content_of(ledger: &Ledger, bookie: u16) -> usize
+    ensures { told_at ledger.now result ≡ model.told_of ledger.now bookie }
 {
-    for content in ledger.contents() {
-        if content.bookie == bookie {
-            return &content.told;
+    let contents = ledger.contents();
+    for index in 0..contents.len() {
+        if contents[index].bookie == bookie {
+            return index;
         }
     }
-    ledger.rest()
+    contents.len()
 }
 
-/// Whether the entry is in one of the ranges.
-fn is_in(ranges: &[Range], entry: u64) -> bool
-    ensures { result ≡ list_any (model.is_within entry) ranges.now }
+/// What the content of this number tells; past the last one, what holds of the rest.
+pub(crate) fn told_at(ledger: &Ledger, content: usize) -> &Told
+    ensures { result.now ≡ told_at ledger.now content }
 {
-    ranges.iter().any(|r| r.first <= entry && entry <= r.last)
-}
-
-/// Whether a bookie of which this is told, and onto which the entry is striped, holds it.
-pub(crate) fn is_held(told: &Told, entry: u64) -> bool
-    ensures { result ≡ model.is_held entry told.now }
-{
-    match told {
-        Told::Holds(ranges) => is_in(ranges.as_slice(), entry),
-        Told::Lacks(ranges) => !is_in(ranges.as_slice(), entry),
-        Told::Untold => false,
+    match ledger.contents().get(content) {
+        Some(found) => &found.told,
+        None => ledger.rest(),
     }
 }
 
@@ -64,67 +60,18 @@ pub(crate) fn is_untold(told: &Told) -> bool
     }
 }
 
-/// Of these bookies those onto which the entry is striped, and that are told to hold what the other entry is.
-fn known_in(
+/// The class of entries with these known and these untold members.
+pub(crate) fn class_by(
     alloc: Global,
-    holders: &[u16],
+    members: &[u16],
     ledger: &Ledger,
-    fragment: &Fragment,
-    told_at: u64,
-    entry: u64,
-) -> Result<Names, AllocError>
-    requires whole { length fragment.now.ensemble ≡ ledger.now.size }
-    requires entry { entry ≤ 2 ^ 63 }
-    ensures { IfOk result (λ names. names
-        ≡ (segments.class_in holders.now ledger.now fragment.now told_at entry).known) }
-{
-    let mut names = Vec::new(alloc);
-    for bookie in holders {
-        if carries(ledger, fragment, entry, *bookie) && is_held(told_of(ledger, *bookie), told_at) {
-            names.push(*bookie)?;
-        }
-    }
-    Ok(Names::of(names))
-}
-
-/// And those of which nobody told.
-fn untold_in(
-    alloc: Global,
-    holders: &[u16],
-    ledger: &Ledger,
-    fragment: &Fragment,
-    entry: u64,
-) -> Result<Names, AllocError>
-    requires whole { length fragment.now.ensemble ≡ ledger.now.size }
-    requires entry { entry ≤ 2 ^ 63 }
-    ensures { IfOk result (λ names. names
-        ≡ (segments.class_in holders.now ledger.now fragment.now entry entry).untold) }
-{
-    let mut names = Vec::new(alloc);
-    for bookie in holders {
-        if carries(ledger, fragment, entry, *bookie) && is_untold(told_of(ledger, *bookie)) {
-            names.push(*bookie)?;
-        }
-    }
-    Ok(Names::of(names))
-}
-
-/// An entry as a census sees it, by its write set, and by what is told of another entry.
-pub fn class_in(
-    alloc: Global,
-    holders: &[u16],
-    ledger: &Ledger,
-    fragment: &Fragment,
-    told_at: u64,
-    entry: u64,
+    known: u64,
+    untold: u64,
 ) -> Result<Class, AllocError>
-    requires whole { length fragment.now.ensemble ≡ ledger.now.size }
-    requires entry { entry ≤ 2 ^ 63 }
-    ensures { IfOk result (λ class. class
-        ≡ segments.class_in holders.now ledger.now fragment.now told_at entry) }
+    ensures { IfOk result (λ class. class ≡ segments.class_by members.now ledger.now known untold) }
 {
-    let known = known_in(alloc, holders, ledger, fragment, told_at, entry)?;
-    let untold = untold_in(alloc, holders, ledger, fragment, entry)?;
+    let known = chosen(alloc, members, known)?;
+    let untold = chosen(alloc, members, untold)?;
     Ok(Class {
         known,
         untold,

@@ -1,22 +1,22 @@
 // Censuses, counted by segments: no loop goes over entries.
 #![tactic(auto)]
 
-mod alike;
 mod census;
 mod classes;
-mod cuts;
+mod cursors;
 mod few;
+mod joins;
 mod lines;
+mod masks;
 mod members;
 mod merge;
+mod ranges;
+mod rounds;
 mod segments;
 mod tails;
 
-pub use alike::count_alike;
 pub use census::{TallyFault, census_of, census_of_few};
-pub use classes::class_in;
 pub use few::are_few;
-pub use members::members_of;
 pub use merge::{merged, merged_ensembles, merged_tails};
 pub use segments::entries_of;
 pub use tails::{ensembles_of, tails_of};

@@ -7,7 +7,7 @@ ghost use Rattle.reh_census.specs.Counting.{count_ensembles_in, count_in, count_
 ghost use Rattle.reh_census.specs.Order.{InOrder, class_cmp, names_cmp, tail_cmp};
 ghost use Rattle.reh_census.specs.Tails.{IsTail};
 
-use crate::lines::{Line, joined};
+use crate::joins::{Line, joined};
 use reh_census::{Class, Counted, CountedEnsemble, CountedTail, Names, Tail};
 use std::alloc::{AllocError, Global};
 use std::cmp::Ordering;

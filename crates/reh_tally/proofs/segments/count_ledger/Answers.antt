@@ -7,8 +7,8 @@ use Rattle.reh_census.specs.Ledgers.{IsFragment}
 use Rattle.reh_tally.specs.Members.{names_of}
 use Rattle.reh_tally.proofs.segments.count_ledger.Goals as goal
 
-pub count_fragment-requires : goal.count_fragment-requires
-count_fragment-requires c =
+pub count_fragment-requires-clause-fragment : goal.count_fragment-requires-clause-fragment
+count_fragment-requires-clause-fragment c =
     let all : List Fragment = c.args.ledger.now.fragments in
     let same : c.fragments-fragment-items.result.now ≡ all = c.fragments-fragment-items.ensures.fragments in
     let within : c.loop-fragment.fragment-index < length all = omega (arith, c.loop-fragment-test.true, ap length same) in
