@@ -1,5 +1,5 @@
 -- Cursors, and the contents that they tell of.
-use Rattle.std.proofs.Common.{◌≡◌, ◌≢◌, ◌∙◌, ◌+◌, ◌<◌, ◌≤◌, cond, ℕ, zero, suc, Bool, true, false, List, [], ◌∷◌, ◌++◌, length, get_or, set, drop, map, refl, ap, sym, subst, below_more, get_or-set_other, get_or-set_same, arith, inl, inr, true≢false, ◌⊎◌, All}
+use Rattle.std.proofs.Common.{◌≡◌, ◌∙◌, ◌+◌, ◌<◌, ◌≤◌, cond, ℕ, zero, suc, Bool, true, false, List, [], ◌∷◌, ◌++◌, length, get_or, set, drop, map, refl, ap, sym, subst, below_more, arith, inl, inr, true≢false, ◌⊎◌, All}
 use Rattle.std.specs.Prelude.{◌==◌, slice_get, Option, Any, min}
 use Rattle.std.specs.Option.{option_map_or}
 use Rattle.std.proofs.lemmas.Bool.{cases_lt}
@@ -87,16 +87,6 @@ pub members-kept : (cursors : List Cursor) (i : ℕ) (y d : Cursor) → i < leng
 members-kept [] i y d within is = absurd (omega (arith, within))
 members-kept (c ∷ cursors) zero y d within is = ap (λ b. b ∷ map (λ (c : Cursor). c.bookie) cursors) is
 members-kept (c ∷ cursors) (suc i) y d within is = ap (λ bs. c.bookie ∷ bs) (members-kept cursors i y d (omega (arith, within)) is)
-
-pub later-more : (cursors : List Cursor) (i at : ℕ) (y : Cursor) → i < length cursors
-    → ((k : ℕ) (d : Cursor) → k < i → at < (get_or cursors k d).stretch.end) → at < y.stretch.end
-    → (k : ℕ) (d : Cursor) → k < i + 1 → at < (get_or (set cursors i y) k d).stretch.end
-later-more cursors i at y within below here k d under =
-    below_more (λ k. (d : Cursor) → at < (get_or (set cursors i y) k d).stretch.end) i
-    (λ k before d. let apart : k ≢ i = omega (arith, before) in
-    subst (λ (c : Cursor). at < c.stretch.end) (sym (get_or-set_other cursors i k y d apart)) (below k d before))
-    (λ d. subst (λ (c : Cursor). at < c.stretch.end) (sym (get_or-set_same cursors i y d within)) here)
-    k under d
 
 -- the cursors from one on, of which the later ones stayed
 from_one : (old new : List Cursor) (i : ℕ) (x : Cursor) → i < length new → drop (i + 1) new ≡ drop (i + 1) old → x ≡ get_or new i x

@@ -1,6 +1,6 @@
 // What is told of a fragment's members, from an entry on.
-ghost use Rattle.std.specs.Prelude.{◌≡◌, ◌<◌, ◌≤◌, ℕ, ◌+◌, ◌⊎◌, All, Any, IfOk, true, length, drop, slice_index_or};
-ghost use Rattle.reh_census.specs.Ledgers.{is_held, is_untold, told_of};
+ghost use Rattle.std.specs.Prelude.{◌≡◌, ◌<◌, ◌≤◌, ◌+◌, ◌⊎◌, All, Any, IfOk, true, length, drop, slice_index_or};
+ghost use Rattle.reh_census.specs.Ledgers.{is_untold};
 ghost use Rattle.reh_tally.specs.declared.cursors.Cursor.{Cursor as CursorValue};
 ghost use Rattle.reh_tally.specs.Cursors as model;
 ghost use Rattle.reh_tally.specs.Masks.{mask_of};

@@ -1,7 +1,6 @@
 // Some of a fragment's members, as the bits of a number.
-ghost use Rattle.std.specs.Prelude.{◌≡◌, ◌^◌, ◌<◌, ◌≤◌, ◌+◌, ◌*◌, cond, IfOk, length, map};
+ghost use Rattle.std.specs.Prelude.{◌≡◌, ◌^◌, ◌<◌, ◌≤◌, ◌+◌, ◌*◌, cond, IfOk, length};
 ghost use Rattle.reh_census.specs.Ledgers.{carries};
-ghost use Rattle.reh_census.specs.Striping.{range};
 ghost use Rattle.reh_tally.specs.Masks as model;
 
 use crate::classes::carries;

@@ -1,5 +1,5 @@
 // Entries from one on, as a list of ranges tells of them.
-ghost use Rattle.std.specs.Prelude.{◌≡◌, ◌<◌, ◌≤◌, ◌+◌, ◌⊎◌, ℕ, IsTrue, true, length, slice_index_or};
+ghost use Rattle.std.specs.Prelude.{◌≡◌, ◌<◌, ◌≤◌, ◌+◌, ◌⊎◌, ℕ, true, length, slice_index_or};
 ghost use Rattle.std.specs.List.{list_any};
 ghost use Rattle.reh_census.specs.Ledgers.{is_within};
 ghost use Rattle.reh_census.specs.declared.ledgers.Range.{Range as RangeValue};
