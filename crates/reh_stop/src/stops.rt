@@ -146,11 +146,7 @@ fn say(
 }
 
 /// Whether the bookies may be stopped, by what inputs show together: the text that says so, and the exit status.
-pub fn answer_stop(
-    alloc: Global,
-    gathered: &Gathered,
-    asked: &Asked<'_>,
-) -> Result<Said, StopFault>
+pub fn answer_stop(alloc: Global, gathered: &Gathered, asked: &Asked<'_>) -> Result<Said, StopFault>
     ensures named { OnOk result (model.AreNamed gathered.now.cluster asked.now) }
     ensures said { IfOk result (λ said. model.IsSaid gathered.now asked.now
         (model.stopped_by gathered.now.cluster asked.now) said) }
