@@ -44,7 +44,8 @@ fn cause_by(
     ledger: &Ledger,
     entries: &[Counted],
 ) -> Result<String, AllocError>
-    ensures { IfOk result (λ cause. string_bytes cause ≡ model.cause_by (map string_bytes stop.now.names.now) (bookies_of stop.now.bookies.now)
+    ensures { IfOk result (λ cause. string_bytes cause ≡ model.cause_by (map string_bytes stop.now.names.now)
+        (bookies_of stop.now.bookies.now)
         stop.now.question.now.keep (is_flagged stop.now.stopped.now) stop.now.answer.now weight ledger.now entries.now) }
 {
     let mut text = String::new(alloc);
@@ -61,8 +62,10 @@ pub(crate) fn cause_of(
     weight: u64,
     ledger: &Ledger,
 ) -> Result<String, AllocError>
-    ensures { IfOk result (λ cause. model.IsCause (map string_bytes stop.now.names.now) (bookies_of stop.now.bookies.now)
-        stop.now.question.now.keep (is_flagged stop.now.stopped.now) stop.now.answer.now weight ledger.now (string_bytes cause)) }
+    ensures { IfOk result (λ cause. model.IsCause (map string_bytes stop.now.names.now)
+        (bookies_of stop.now.bookies.now)
+        stop.now.question.now.keep (is_flagged stop.now.stopped.now) stop.now.answer.now weight ledger.now
+        (string_bytes cause)) }
 {
     let entries = entries_of(alloc, stop.bookies, slice::from_ref(ledger))?;
     let cause = cause_by(alloc, stop, weight, ledger, &entries)?;

@@ -1,5 +1,5 @@
 // The ledgers that speak against a stop, the worst first.
-ghost use Rattle.std.specs.Prelude.{◌≡◌, ◌<◌, [], ◌∷◌, ◌++◌, All, ℕ, IfOk, Err, OnOk, length, map, string_bytes};
+ghost use Rattle.std.specs.Prelude.{◌≡◌, ◌<◌, [], ◌∷◌, ◌++◌, All, IfOk, Err, OnOk, length, map, string_bytes};
 ghost use Rattle.reh_census.specs.Bookies.{bookies_of, holders, is_flagged};
 ghost use Rattle.reh_tally.specs.Few.{AreFew};
 ghost use Rattle.reh_tally.specs.declared.census.TallyFault.TheVariants.{TooMany};
@@ -42,10 +42,12 @@ fn found_in(
     stop: &Stop<'_>,
 ) -> Result<Vec<Found>, TallyFault>
     requires { length ids.now ≡ length ledgers.now }
-    ensures found { IfOk result (λ found. found.items ≡ model.found_from (weight (bookies_of stop.now.bookies.now) stop.now.question.now
+    ensures found { IfOk result (λ found. found.items ≡ model.found_from (weight
+        (bookies_of stop.now.bookies.now) stop.now.question.now
         (is_flagged stop.now.stopped.now) stop.now.answer.now) 0 ids.now ledgers.now) }
     ensures places { IfOk result (λ found. All (λ f. f.place < length ledgers.now) found.items) }
-    ensures too_many { result ≡ Err TooMany → All (λ g. AreFew (holders (bookies_of stop.now.bookies.now)) (g ∷ [])) ledgers.now → ⊥ }
+    ensures too_many { result ≡ Err TooMany → All (λ g. AreFew (holders (bookies_of stop.now.bookies.now))
+        (g ∷ [])) ledgers.now → ⊥ }
 {
     let mut found = Vec::new(alloc);
     for place in 0..ledgers.len() {
@@ -63,10 +65,12 @@ fn worst_of(
     stop: &Stop<'_>,
 ) -> Result<Vec<Found>, TallyFault>
     requires { length ids.now ≡ length ledgers.now }
-    ensures worst { IfOk result (λ worst. model.AreWorst (model.found_from (weight (bookies_of stop.now.bookies.now) stop.now.question.now
+    ensures worst { IfOk result (λ worst. model.AreWorst (model.found_from (weight
+        (bookies_of stop.now.bookies.now) stop.now.question.now
         (is_flagged stop.now.stopped.now) stop.now.answer.now) 0 ids.now ledgers.now) worst.items) }
     ensures places { IfOk result (λ worst. All (λ f. f.place < length ledgers.now) worst.items) }
-    ensures too_many { result ≡ Err TooMany → All (λ g. AreFew (holders (bookies_of stop.now.bookies.now)) (g ∷ [])) ledgers.now → ⊥ }
+    ensures too_many { result ≡ Err TooMany → All (λ g. AreFew (holders (bookies_of stop.now.bookies.now))
+        (g ∷ [])) ledgers.now → ⊥ }
 {
     let mut found = found_in(alloc, ids, ledgers, stop)?;
     found.sort()?;
@@ -82,7 +86,8 @@ fn say(
     found: &Found,
 ) -> Result<Against, AllocError>
     requires { found.now.place < length ledgers.now }
-    ensures { IfOk result (λ against. model.IsAgainst (map string_bytes stop.now.names.now) ledgers.now (bookies_of stop.now.bookies.now)
+    ensures { IfOk result (λ against. model.IsAgainst (map string_bytes stop.now.names.now) ledgers.now
+        (bookies_of stop.now.bookies.now)
         stop.now.question.now.keep (is_flagged stop.now.stopped.now) stop.now.answer.now found.now against) }
 {
     let weight = found.weight.0;
@@ -104,7 +109,8 @@ fn say_all(
 ) -> Result<Vec<Against>, AllocError>
     requires { All (λ f. f.place < length ledgers.now) worst.now }
     ensures { IfOk result (λ against. model.Each (model.IsAgainst (map string_bytes stop.now.names.now) ledgers.now
-        (bookies_of stop.now.bookies.now) stop.now.question.now.keep (is_flagged stop.now.stopped.now) stop.now.answer.now) worst.now against.items) }
+        (bookies_of stop.now.bookies.now) stop.now.question.now.keep
+        (is_flagged stop.now.stopped.now) stop.now.answer.now) worst.now against.items) }
 {
     let mut against = Vec::new(alloc);
     for found in worst {
@@ -115,7 +121,8 @@ fn say_all(
 }
 
 /// The ledgers that speak against the stop for this answer, at most ten, the worst first, each with the number of its
-/// entries that do, if it is entries, and why. The ledgers have these ids. Where one alone has more entries than a census counts, it fails.
+/// entries that do, if it is entries, and why. The ledgers have these ids. Where one alone has more entries than a census
+/// counts, it fails.
 pub fn against_of(
     alloc: Global,
     ids: &[u64],
@@ -124,8 +131,10 @@ pub fn against_of(
 ) -> Result<Vec<Against>, TallyFault>
     requires { length ids.now ≡ length ledgers.now }
     ensures said { IfOk result (λ against. model.SaysAgainst (map string_bytes stop.now.names.now) ids.now ledgers.now
-        (bookies_of stop.now.bookies.now) stop.now.question.now (is_flagged stop.now.stopped.now) stop.now.answer.now against.items) }
-    ensures too_many { result ≡ Err TooMany → All (λ g. AreFew (holders (bookies_of stop.now.bookies.now)) (g ∷ [])) ledgers.now → ⊥ }
+        (bookies_of stop.now.bookies.now) stop.now.question.now
+        (is_flagged stop.now.stopped.now) stop.now.answer.now against.items) }
+    ensures too_many { result ≡ Err TooMany → All (λ g. AreFew (holders (bookies_of stop.now.bookies.now))
+        (g ∷ [])) ledgers.now → ⊥ }
 {
     let worst = worst_of(alloc, ids, ledgers, stop)?;
     let against = say_all(alloc, ledgers, stop, &worst)?;

@@ -60,7 +60,8 @@ fn without_new(question: &Question) -> Question
 
 /// How much of a ledger speaks against the stop.
 pub(crate) fn weight_of(alloc: Global, ledger: &Ledger, stop: &Stop<'_>) -> Result<u64, TallyFault>
-    ensures weight { IfOk result (λ weight. weight ≡ model.weight (bookies_of stop.now.bookies.now) stop.now.question.now
+    ensures weight { IfOk result (λ weight. weight ≡ model.weight
+        (bookies_of stop.now.bookies.now) stop.now.question.now
         (is_flagged stop.now.stopped.now) stop.now.answer.now ledger.now) }
     ensures too_many { result ≡ Err TooMany → AreFew (holders (bookies_of stop.now.bookies.now)) (ledger.now ∷ []) → ⊥ }
 {
