@@ -11,4 +11,6 @@ mod tails;
 mod writers;
 
 pub use copies::{entries_with, most_copies};
+pub use members::takes_some_disk;
 pub use numbers::{answer_of, numbers_of};
+pub use racks::{count_writable, lacks_racks};

@@ -4,6 +4,7 @@
 mod fewest;
 mod lines;
 mod losses;
+mod near;
 mod objects;
 mod orders;
 mod reasons;
