@@ -5,7 +5,7 @@ use Rattle.reh_census.specs.declared.classes.Counted.{Counted}
 use Rattle.reh_census.specs.Counting.{count_in, entries_in}
 use Rattle.std.proofs.lemmas.List.Sums.{sum_by_more_le_part}
 use Rattle.std.specs.List.{flat_map}
-use Rattle.std.proofs.lemmas.List.{map-append, take_more}
+use Rattle.std.proofs.lemmas.List.{length-append, map-append, take_more}
 use Rattle.std.proofs.lemmas.List.Concat.{flat_map-append}
 use Rattle.std.specs.Prelude.{slice_get}
 use Rattle.std.specs.Option.{option_map_or}
@@ -50,3 +50,16 @@ pub counted-fits : (items : List Counted) (test : Class → Bool) (i : ℕ) (x :
 counted-fits items test i x within =
     sum_by_more_le_part (λ y. cond (test y.class) y.count 0) (λ y. y.count) items i x within
     (λ y. some_count (test y.class) y.count)
+
+-- lists that are made of the same elements are as long as each other where each two parts are
+pub same_lengths : {X A B : Type 0} (f : X → List A) (g : X → List B) → ((x : X) → length (f x) ≡ length (g x))
+    → (xs : List X) → length (flat_map f xs) ≡ length (flat_map g xs)
+same_lengths f g each [] = refl
+same_lengths f g each (x ∷ xs) =
+    omega (
+      arith,
+      length-append (f x) (flat_map f xs),
+      length-append (g x) (flat_map g xs),
+      each x,
+      same_lengths f g each xs,
+    )

@@ -1,6 +1,6 @@
 -- The bookies of a cluster, as its inputs show them together.
 use Rattle.std.specs.Prelude.{ℕ, Bool, false, not, List, [], ◌∷◌, ◌++◌, map, if◌then◌else◌, Option}
-use Rattle.std.specs.Prelude.{position, slice_get}
+use Rattle.std.specs.Prelude.{position, slice_get, unwrap_or, ◌==◌}
 use Rattle.std.specs.Option.{is_some, option_and_then, option_map_or}
 use Rattle.std.specs.Str.{bytes_eq}
 use Rattle.reh_census.specs.declared.bookies.Bookie.{Bookie}
@@ -42,3 +42,14 @@ bookie_of all b = record {
 
 abbrev pub bookies_of : Cluster → List Bookie
 bookies_of cluster = map (bookie_of cluster.shown) cluster.shown
+
+-- the name of the rack of a bookie, empty where it isn't known
+abbrev pub rack_name : Shown → List ℕ
+rack_name b = unwrap_or b.rack []
+
+-- whether the bookie of that number is the first in its rack
+abbrev pub is_first_in_rack : List Shown → ℕ → Bool
+is_first_in_rack all number =
+    option_map_or
+    (λ (b : Shown). option_map_or (λ rack. option_map_or (λ place. place == number) (position (is_in rack) all) false) b.rack false)
+    (slice_get all number) false

@@ -13,7 +13,7 @@ use Rattle.reh_model.specs.Cluster.{Ledger as PicturedLedger}
 use Rattle.reh_picture.specs.declared.listings.Listed.{Listed}
 use Rattle.reh_inputs.specs.declared.gathered.GatherFault.{GatherFault}
 use Rattle.reh_inputs.specs.declared.gathered.GatherFault.TheVariants as fault
-use Rattle.reh_inputs.specs.declared.gathered.Gathered.{Gathered}
+use Rattle.reh_inputs.specs.declared.together.Gathered.{Gathered}
 use Rattle.reh_inputs.specs.declared.ledgers.Reading.{Reading}
 use Rattle.reh_inputs.specs.declared.ledgers.Reading.TheVariants.{All, Told, Assumed}
 use Rattle.reh_inputs.specs.Cluster.{bookies_of}

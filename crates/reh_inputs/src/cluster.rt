@@ -1,5 +1,7 @@
 // The bookies of a cluster: those of its inputs, each once.
-ghost use Rattle.std.specs.Prelude.{◌≡◌, ◌<◌, ◌≤◌, ◌≢◌, length, slice_get, true, false, IfOk, OnOk, OnErr, Err, position};
+ghost use Rattle.std.specs.Prelude.{◌≡◌, ◌<◌, ◌≤◌, ◌≢◌, ◌++◌, ◌∷◌, [], cond, length, map, slice_get, string_bytes, true, false, IfOk, OnOk, OnErr, Err, position};
+ghost use Rattle.std.specs.List.{filter};
+ghost use Rattle.reh_census.specs.Striping.{range};
 ghost use Rattle.std.specs.Option.{option_map_or};
 ghost use Rattle.reh_inputs.specs.Shown.{is_in, is_like};
 ghost use Rattle.reh_inputs.specs.Cluster as model;
@@ -87,6 +89,30 @@ impl Cluster {
             bookies.push(bookie_of(&self.shown, shown))?;
         }
         Ok(Bookies::of(bookies))
+    }
+
+    /// For each bookie the name of its rack, empty where that isn't known: so for the number of a rack its name.
+    pub fn racks(&self, alloc: Global) -> Result<Vec<String>, AllocError>
+        ensures { IfOk result (λ racks. map string_bytes racks.items ≡ map model.rack_name self.now.shown) }
+    {
+        let mut racks = Vec::new(alloc);
+        for shown in &self.shown {
+            racks.push(String::from_str(alloc, shown.rack().unwrap_or(""))?)?;
+        }
+        Ok(racks)
+    }
+
+    /// The numbers of the racks: each that of the first bookie in it.
+    pub fn rack_numbers(&self, alloc: Global) -> Result<Vec<u16>, AllocError>
+        ensures { IfOk result (λ numbers. numbers.items
+            ≡ filter (model.is_first_in_rack self.now.shown) (range 0 (length self.now.shown))) }
+    {
+        let mut numbers = Vec::new(alloc);
+        for number in 0..self.names.len() {
+            let is_first = is_first_in_rack(&self.shown, number);
+            add_if(&mut numbers, is_first, number as u16)?;
+        }
+        Ok(numbers)
     }
 
     /// Adds a bookie that an input shows, or finds it shown alike by an input before.
@@ -184,4 +210,27 @@ fn place_of(all: &[Shown], rack: &str) -> Option<usize>
     ensures { result ≡ position (is_in rack.now) all.now }
 {
     all.iter().position(|other| other.is_in(rack))
+}
+
+/// Whether the bookie of that number is the first in its rack.
+fn is_first_in_rack(all: &[Shown], number: usize) -> bool
+    ensures { result ≡ model.is_first_in_rack all.now number }
+{
+    let Some(shown) = all.get(number) else {
+        return false;
+    };
+    match shown.rack() {
+        Some(rack) => place_of(all, rack) == Some(number),
+        None => false,
+    }
+}
+
+/// Adds the number, if it is to be there.
+fn add_if(numbers: &mut Vec<u16>, is: bool, number: u16) -> Result<(), AllocError>
+    ensures { OnOk result (numbers.new.items ≡ numbers.old.items ++ cond is (number ∷ []) []) }
+{
+    if is {
+        numbers.push(number)?;
+    }
+    Ok(())
 }

@@ -10,6 +10,7 @@ ghost use Rattle.reh_inputs.specs.United.{united};
 use crate::cluster::{Cluster, ClusterFault};
 use crate::ledgers::{Reading, ledger_of};
 use crate::names::ClusterNames;
+use crate::together::Gathered;
 use crate::united::{UniteFault, numbers_of, unite};
 use indexmap::IndexSet;
 use reh_census::{Bookies, Census, Counted, Judged, Ledger};
@@ -69,16 +70,6 @@ impl From<TallyFault> for GatherFault {
             TallyFault::NoMemory => GatherFault::NoMemory,
         }
     }
-}
-
-/// What inputs show together: the bookies, the ids of the ledgers, each once, the ledgers, and their census.
-#[derive(Drop)]
-pub struct Gathered {
-    pub cluster: Cluster,
-    pub bookies: Bookies,
-    pub ids: Vec<u64>,
-    pub ledgers: Vec<Ledger>,
-    pub census: Census,
 }
 
 /// The fault of an input whose bookie can't be one of the cluster.

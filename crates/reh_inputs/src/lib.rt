@@ -6,12 +6,14 @@ mod gathered;
 mod ledgers;
 mod names;
 mod shown;
+mod together;
 mod united;
 
 pub use cluster::{Cluster, ClusterFault};
-pub use gathered::{GatherFault, Gathered, gather};
+pub use gathered::{GatherFault, gather};
 pub use ledgers::{Reading, ledger_of};
 pub use names::{ClusterNames, MAX_CLUSTER_BOOKIES};
 
 pub use shown::Shown;
+pub use together::Gathered;
 pub use united::{UniteFault, numbers_of, unite};

@@ -1,5 +1,5 @@
 // The names of a cluster's bookies.
-ghost use Rattle.std.specs.Prelude.{◌≡◌, ◌<◌, ◌≤◌, [], ◌∷◌, ◌++◌, length, position, slice_get, option_map, IfOk, OnErr};
+ghost use Rattle.std.specs.Prelude.{◌≡◌, ◌<◌, ◌≤◌, [], ◌∷◌, ◌++◌, length, position, slice_get, map, option_map, string_bytes, IfOk, OnErr};
 ghost use Rattle.std.specs.Prelude.{if◌then◌else◌, not};
 ghost use Rattle.std.specs.List.{list_any};
 ghost use Rattle.std.specs.Str.{bytes_eq};
@@ -45,6 +45,13 @@ impl ClusterNames {
         ensures limit { length self.now ≤ MAX_CLUSTER_BOOKIES }
     {
         self.names.len()
+    }
+
+    /// The names, by the numbers of their bookies.
+    pub fn as_slice(&self) -> &[String]
+        ensures { map string_bytes result.now ≡ self.now }
+    {
+        self.names.as_slice()
     }
 
     /// Adds a name as the last, and says whether it was new; one that is there already changes nothing.

@@ -2,5 +2,7 @@
 #![tactic(auto)]
 
 mod named;
+mod stops;
 
 pub use named::{first_twice, first_unknown, first_unknown_rack, stopped_of};
+pub use stops::{Asked, Said, StopFault, answer_stop};

@@ -3,4 +3,6 @@
 
 mod tasks;
 
-pub use tasks::{Crew, DrillFiles, Input, PlanWords, Stop, Task, task_of};
+pub use tasks::{
+    Crew, DrillFiles, Input, Inputs, MAX_FILES, PlanWords, RiskWords, Stop, Task, WaveWords, task_of,
+};

@@ -1,13 +1,13 @@
 // What the words of the command line ask for.
 ghost use Rattle.std.specs.Prelude.{◌<◌, ◌≤◌, vec_len};
 ghost use Rattle.reh_crew.specs.declared.threads.TheConstants.{MAX_WORKERS};
-ghost use Rattle.reh_verdict.specs.declared.answers.TheConstants.{MAX_PICTURES};
+ghost use Rattle.reh_words.specs.declared.tasks.TheConstants.{MAX_FILES};
 
 use clap::error::ErrorKind;
 use clap::{Arg, ArgAction, ArgMatches, Command, Error, value_parser};
+use reh_census::{Keep, Question};
 use reh_crew::{MAX_OPERATORS, MAX_WORKERS};
 use reh_script::Verb;
-use reh_verdict::MAX_PICTURES;
 use std::alloc::{AllocError, Global};
 
 /// What the program is asked to do.
@@ -21,6 +21,10 @@ pub enum Task<'a> {
     Drill(DrillFiles<'a>),
     /// Says whether bookies may be stopped.
     Stop(Stop<'a>),
+    /// Parts the bookies into rounds, each of which may be stopped.
+    Waves(WaveWords<'a>),
+    /// Says what the next losses cost.
+    Risk(RiskWords<'a>),
     /// Plans what is to be done without some bookies of a picture.
     Plan(PlanWords<'a>),
 }
@@ -59,14 +63,45 @@ pub struct Crew {
     ghost few: { workers ≤ MAX_WORKERS },
 }
 
-/// What is asked: may these bookies be stopped, by these pictures of one cluster.
+/// How many files of one cluster are read at most.
+pub const MAX_FILES: usize = 4096;
+
+/// The files of a cluster, who reads them, and how: with `strict`, what is assumed counts as untold.
+#[derive(Drop)]
+pub struct Inputs<'a> {
+    pub files: Vec<&'a str>,
+    pub strict: bool,
+    pub crew: Crew,
+    ghost few: { vec_len files ≤ MAX_FILES },
+}
+
+/// What is asked: may these bookies be stopped, and those of these racks. A word that names no bookie is a list of names
+/// with commas between them.
 #[derive(Drop)]
 pub struct Stop<'a> {
-    pub pictures: Vec<&'a str>,
+    pub inputs: Inputs<'a>,
     pub bookies: Vec<&'a str>,
-    pub crew: Crew,
-    pub allow_under_ack: bool,
-    ghost few: { vec_len pictures ≤ MAX_PICTURES },
+    pub racks: Vec<&'a str>,
+    pub question: Question,
+    pub as_json: bool,
+}
+
+/// What is asked: rounds of bookies, or of those of one rack each.
+#[derive(Drop)]
+pub struct WaveWords<'a> {
+    pub inputs: Inputs<'a>,
+    pub question: Question,
+    pub by_rack: bool,
+    pub as_json: bool,
+}
+
+/// What is asked: what the loss of each bookie and each rack costs, and of each two bookies.
+#[derive(Drop)]
+pub struct RiskWords<'a> {
+    pub inputs: Inputs<'a>,
+    pub question: Question,
+    pub with_pairs: bool,
+    pub as_json: bool,
 }
 
 /// What is asked: a plan for a picture without these bookies, of which the allowed ones take the places, or any.
@@ -114,11 +149,12 @@ fn asked_task<'a>(alloc: Global, matches: &ArgMatches<'a>) -> Result<Task<'a>, A
     let Some((name, given)) = matches.subcommand() else {
         return Ok(Task::Play(Input::Pipe));
     };
-    if name == "ok-to-stop" {
-        return asked_stop(alloc, given);
-    }
-    if name == "plan" {
-        return asked_plan(alloc, given);
+    match name {
+        "ok-to-stop" => return asked_stop(alloc, given),
+        "waves" => return asked_waves(alloc, given),
+        "risk" => return asked_risk(alloc, given),
+        "plan" => return asked_plan(alloc, given),
+        _ => {}
     }
     let scripts = given.get_strs("SCRIPT").unwrap_or(&[]);
     let workers = given.get_one("workers").unwrap_or(1);
@@ -145,20 +181,87 @@ fn asked_task<'a>(alloc: Global, matches: &ArgMatches<'a>) -> Result<Task<'a>, A
 
 /// What these matches of `ok-to-stop` ask for.
 fn asked_stop<'a>(alloc: Global, given: &ArgMatches<'a>) -> Result<Task<'a>, AllocError> {
-    let pictures = given.get_strs("PICTURE").unwrap_or(&[]);
-    let bookies = given.get_strs("lose").unwrap_or(&[]);
-    let workers = given.get_one("workers").unwrap_or(1);
-    if pictures.len() <= MAX_PICTURES && 0 < workers && workers <= MAX_WORKERS {
-        let crew = Crew { workers };
-        return Ok(Task::Stop(Stop {
-            pictures: pictures.to_vec(alloc)?,
-            bookies: bookies.to_vec(alloc)?,
-            crew,
-            allow_under_ack: given.get_flag("allow-under-ack"),
-        }));
+    Ok(Task::Stop(Stop {
+        inputs: asked_inputs(alloc, given)?,
+        bookies: words_of(alloc, given, "lose")?,
+        racks: words_of(alloc, given, "lose-rack")?,
+        question: asked_question(given),
+        as_json: is_json(given),
+    }))
+}
+
+/// What these matches of `waves` ask for.
+fn asked_waves<'a>(alloc: Global, given: &ArgMatches<'a>) -> Result<Task<'a>, AllocError> {
+    Ok(Task::Waves(WaveWords {
+        inputs: asked_inputs(alloc, given)?,
+        question: asked_question(given),
+        by_rack: given.get_flag("racks"),
+        as_json: is_json(given),
+    }))
+}
+
+/// What these matches of `risk` ask for.
+fn asked_risk<'a>(alloc: Global, given: &ArgMatches<'a>) -> Result<Task<'a>, AllocError> {
+    Ok(Task::Risk(RiskWords {
+        inputs: asked_inputs(alloc, given)?,
+        question: asked_question(given),
+        with_pairs: given.get_flag("pairs"),
+        as_json: is_json(given),
+    }))
+}
+
+/// The words of an argument.
+fn words_of<'a>(
+    alloc: Global,
+    given: &ArgMatches<'a>,
+    argument: &str,
+) -> Result<Vec<&'a str>, AllocError> {
+    given.get_strs(argument).unwrap_or(&[]).to_vec(alloc)
+}
+
+/// Whether the answer is to be JSON.
+fn is_json(given: &ArgMatches<'_>) -> bool {
+    given.get_str("format") == Some("json")
+}
+
+/// The files, and who reads them. The parser lets no other number of files or workers through; if it did, they would be
+/// passed over.
+fn asked_inputs<'a>(alloc: Global, given: &ArgMatches<'a>) -> Result<Inputs<'a>, AllocError> {
+    let mut files = words_of(alloc, given, "FILE")?;
+    files.truncate(MAX_FILES);
+    let workers: u64 = given.get_one("workers").unwrap_or(1);
+    let workers = workers.max(1).min(MAX_WORKERS as u64) as usize;
+    Ok(Inputs {
+        files,
+        strict: given.get_flag("strict"),
+        crew: Crew { workers },
+    })
+}
+
+/// How many copies entries are to keep.
+fn asked_keep(given: &ArgMatches<'_>) -> Keep {
+    if given.get_flag("allow-under-ack") {
+        return Keep::Copies(1);
     }
-    // The parser lets no other number of pictures or workers through.
-    Ok(Task::Play(Input::Pipe))
+    let Some(word) = given.get_str("keep") else {
+        return Keep::AckQuorum;
+    };
+    match KEEPS.iter().position(|keep| *keep == word) {
+        Some(0) | None => Keep::AckLessOne,
+        Some(copies) => Keep::Copies(copies as u64),
+    }
+}
+
+/// What a stop may break.
+fn asked_question(given: &ArgMatches<'_>) -> Question {
+    Question {
+        keep: asked_keep(given),
+        ensemble: given.get_one("ensemble"),
+        min_racks: given.get_one("min-racks"),
+        allow_blocked_recovery: given.get_flag("allow-blocked-recovery"),
+        allow_blocked_writers: given.get_flag("allow-blocked-writers"),
+        for_good: given.get_flag("for-good"),
+    }
 }
 
 /// What these matches of `plan` ask for.
@@ -193,7 +296,8 @@ fn all_ways(alloc: Global) -> Result<String, AllocError> {
 }
 
 /// The command line: no word, `run PICTURE SCRIPT --workers N`, `talk PICTURE`, `check PICTURE`,
-/// `drill PICTURE SCRIPT..`, `ok-to-stop --lose BOOKIE,.. PICTURE..`, or `plan --lose BOOKIE,.. --to BOOKIE,.. PICTURE`.
+/// `drill PICTURE SCRIPT..`, `ok-to-stop --lose BOOKIE,.. FILE..`, `waves FILE..`, `risk FILE..`, or
+/// `plan --lose BOOKIE,.. --to BOOKIE,.. PICTURE`.
 fn command<'a>(alloc: Global, ways: &'a str) -> Result<Command<'a>, Error> {
     let command = Command::new(alloc, "rehearse")
         .version(VERSION)
@@ -205,6 +309,8 @@ fn command<'a>(alloc: Global, ways: &'a str) -> Result<Command<'a>, Error> {
         .subcommand(check_command(alloc)?)?
         .subcommand(drill_command(alloc)?)?
         .subcommand(stop_command(alloc)?)?
+        .subcommand(waves_command(alloc)?)?
+        .subcommand(risk_command(alloc)?)?
         .subcommand(plan_command(alloc)?)?;
     Ok(command)
 }
@@ -279,25 +385,107 @@ fn stop_command<'a>(alloc: Global) -> Result<Command<'a>, Error> {
     let bookies = Arg::new(alloc, "lose")
         .long("lose")
         .value_name("BOOKIE")
-        .value_delimiter(',')
-        .required(true)
+        .action(ArgAction::Append)
+        .allow_hyphen_values(true)
         .help("The bookies to stop, with commas between them");
-    let allow = Arg::new(alloc, "allow-under-ack")
-        .long("allow-under-ack")
-        .action(ArgAction::SetTrue)
-        .help("Lets entries fall under their ack quorum, as long as they can be read");
-    let workers = workers_arg(alloc)?.help("How many workers judge pictures, 1 to 8; by default 1");
-    let pictures = Arg::new(alloc, "PICTURE")
-        .required(true)
-        .num_args(1..=MAX_PICTURES)
-        .help("Files with pictures of one cluster, which are judged as one");
+    let racks = Arg::new(alloc, "lose-rack")
+        .long("lose-rack")
+        .value_name("RACK")
+        .value_delimiter(',')
+        .action(ArgAction::Append)
+        .allow_hyphen_values(true)
+        .help("The racks whose bookies are to stop, with commas between them");
     let command = Command::new(alloc, "ok-to-stop")
         .about("Says whether bookies may be stopped, and what that leaves with too few copies")
         .arg(bookies)?
-        .arg(allow)?
-        .arg(workers)?
-        .arg(pictures)?;
+        .arg(racks)?;
+    with_inputs(alloc, with_question(alloc, command)?)
+}
+
+/// The command `waves`.
+fn waves_command<'a>(alloc: Global) -> Result<Command<'a>, Error> {
+    let racks = flag_arg(alloc, "racks").help("Each round is of one rack");
+    let command = Command::new(alloc, "waves")
+        .about("Parts the bookies into rounds, each of which may be stopped together")
+        .arg(racks)?;
+    with_inputs(alloc, with_question(alloc, command)?)
+}
+
+/// The command `risk`.
+fn risk_command<'a>(alloc: Global) -> Result<Command<'a>, Error> {
+    let pairs = flag_arg(alloc, "pairs").help("Each two bookies, too");
+    let command = Command::new(alloc, "risk")
+        .about("Says what the loss of each bookie and each rack would cost, the worst first")
+        .arg(pairs)?;
+    with_inputs(alloc, with_question(alloc, command)?)
+}
+
+/// What `--keep` may be: one less than the ack quorum, or so many copies.
+const KEEPS: &[&str] = &[
+    "ack-1", "1", "2", "3", "4", "5", "6", "7", "8", "9", "10", "11", "12", "13", "14", "15", "16",
+    "17", "18", "19", "20", "21", "22", "23", "24", "25", "26", "27", "28", "29", "30", "31", "32",
+    "33", "34", "35", "36", "37", "38", "39", "40", "41", "42", "43", "44", "45", "46", "47", "48",
+    "49", "50", "51", "52", "53", "54", "55", "56", "57", "58", "59", "60", "61", "62", "63", "64",
+];
+
+/// The command with the arguments for what a stop may break.
+fn with_question<'a>(alloc: Global, command: Command<'a>) -> Result<Command<'a>, Error> {
+    let keep = Arg::new(alloc, "keep")
+        .long("keep")
+        .value_name("COPIES")
+        .value_parser(KEEPS)
+        .help("How many copies each entry is to keep, or ack-1; by default its ledger's ack quorum");
+    let ensemble = Arg::new(alloc, "ensemble")
+        .long("ensemble")
+        .value_name("SIZE")
+        .value_parser(value_parser!(u64).range(1..=64))
+        .help("New ledgers of this ensemble size are to find bookies, too");
+    let racks = Arg::new(alloc, "min-racks")
+        .long("min-racks")
+        .value_name("RACKS")
+        .value_parser(value_parser!(u64).range(1..=4096))
+        .help("The bookies that can be written to are to stand in so many racks");
+    let command = command
+        .arg(keep)?
+        .arg(flag_arg(alloc, "allow-under-ack").help("The same as --keep 1"))?
+        .arg(flag_arg(alloc, "allow-blocked-recovery").help(
+            "Ledgers that aren't closed need only keep as many members as copies",
+        ))?
+        .arg(flag_arg(alloc, "allow-blocked-writers").help("Writers may find no ensemble"))?
+        .arg(ensemble)?
+        .arg(racks)?
+        .arg(flag_arg(alloc, "for-good").help("The bookies don't come back"))?;
     Ok(command)
+}
+
+/// The command with the arguments for the files of a cluster.
+fn with_inputs<'a>(alloc: Global, command: Command<'a>) -> Result<Command<'a>, Error> {
+    let format = Arg::new(alloc, "format")
+        .long("format")
+        .value_name("FORMAT")
+        .value_parser(FORMATS)
+        .help("How the answer is printed; by default text");
+    let workers = workers_arg(alloc)?.help("How many workers read files, 1 to 8; by default 1");
+    let files = Arg::new(alloc, "FILE")
+        .required(true)
+        .num_args(1..=MAX_FILES)
+        .help("Files with pictures of one cluster, which are judged as one");
+    let command = command
+        .arg(flag_arg(alloc, "strict").help("What is assumed counts as untold"))?
+        .arg(workers)?
+        .arg(format)?
+        .arg(files)?;
+    Ok(command)
+}
+
+/// How an answer is printed.
+const FORMATS: &[&str] = &["text", "json"];
+
+/// An argument without a value.
+fn flag_arg<'a>(alloc: Global, name: &'a str) -> Arg<'a> {
+    Arg::new(alloc, name)
+        .long(name)
+        .action(ArgAction::SetTrue)
 }
 
 /// The argument for a number of workers, 1 to 8.

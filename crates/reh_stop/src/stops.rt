@@ -1,0 +1,135 @@
+// Whether bookies may be stopped.
+ghost use Rattle.std.specs.Prelude.{IfOk};
+ghost use Rattle.reh_stop.specs.Stops as model;
+
+use crate::named::{first_twice, first_unknown, first_unknown_rack, stopped_of};
+use reh_against::against_of;
+use reh_answer::{facts_of, json_of, status_of, text_of};
+use reh_census::{BookieSet, Question};
+use reh_inputs::{Cluster, Gathered};
+use reh_tally::TallyFault;
+use std::alloc::{AllocError, Global};
+
+/// What is asked: may these bookies be stopped, and those of these racks; and whether the answer is to be JSON.
+#[derive(Clone, Copy)]
+pub struct Asked<'a> {
+    pub bookies: &'a [&'a str],
+    pub racks: &'a [&'a str],
+    pub question: Question,
+    pub as_json: bool,
+}
+
+/// What is said, and the exit status.
+#[derive(Drop)]
+pub struct Said {
+    pub text: String,
+    pub status: u8,
+}
+
+/// Why nothing is said.
+#[derive(Clone, Copy, PartialEq, Eq, Debug)]
+pub enum StopFault {
+    /// The word of this number is no bookie's name.
+    UnknownBookie(usize),
+    /// It is a word before it, too.
+    Twice(usize),
+    /// The word of this number is no bookie's rack.
+    UnknownRack(usize),
+    /// A ledger has more entries than a census counts.
+    TooMany,
+    /// Out of memory.
+    NoMemory,
+}
+
+impl From<AllocError> for StopFault {
+    ghost use Rattle.std.specs.Prelude.{◌≡◌};
+    ghost use Rattle.reh_stop.specs.declared.stops.StopFault.TheVariants.{NoMemory};
+
+    ghost from_gives = { λ _ fault. fault ≡ NoMemory };
+
+    fn from(_want: AllocError) -> StopFault {
+        StopFault::NoMemory
+    }
+}
+
+impl From<TallyFault> for StopFault {
+    ghost use Rattle.std.specs.Prelude.{◌≡◌};
+    ghost use Rattle.reh_stop.specs.Stops.{fault_of_tally};
+
+    ghost from_gives = { λ tally fault. fault ≡ fault_of_tally tally };
+
+    fn from(fault: TallyFault) -> StopFault {
+        match fault {
+            TallyFault::TooMany => StopFault::TooMany,
+            TallyFault::NoMemory => StopFault::NoMemory,
+        }
+    }
+}
+
+/// The first fault of the words.
+fn check_words(cluster: &Cluster, asked: &Asked<'_>) -> Result<(), StopFault>
+    ensures { model.AreWords cluster.now asked.now result }
+{
+    if let Some(word) = first_unknown(cluster.names(), asked.bookies) {
+        return Err(StopFault::UnknownBookie(word));
+    }
+    if let Some(word) = first_twice(asked.bookies) {
+        return Err(StopFault::Twice(word));
+    }
+    if let Some(word) = first_unknown_rack(cluster.shown(), asked.racks) {
+        return Err(StopFault::UnknownRack(word));
+    }
+    Ok(())
+}
+
+/// What is said of the stop of these bookies.
+fn say(
+    alloc: Global,
+    gathered: &Gathered,
+    asked: &Asked<'_>,
+    stopped: &BookieSet,
+) -> Result<Said, StopFault>
+    ensures { IfOk result (λ said. model.IsSaid gathered.now asked.now stopped.now said) }
+{
+    let Gathered {
+        cluster,
+        bookies,
+        ids,
+        ledgers,
+        census,
+    } = gathered;
+    let names = cluster.names().as_slice();
+    let question = &asked.question;
+    let facts = facts_of(alloc, census, bookies, question, stopped)?;
+    let against = against_of(
+        alloc,
+        ids,
+        ledgers,
+        names,
+        bookies,
+        question,
+        stopped,
+        &facts.answer,
+    )?;
+    let text = if asked.as_json {
+        json_of(alloc, &facts, names, &against, &[])?
+    } else {
+        text_of(alloc, &facts, question, names, &against, &[])?
+    };
+    Ok(Said {
+        text,
+        status: status_of(&facts.answer),
+    })
+}
+
+/// Whether the bookies may be stopped, by what inputs show together: the text that says so, and the exit status.
+pub fn answer_stop(
+    alloc: Global,
+    gathered: &Gathered,
+    asked: &Asked<'_>,
+) -> Result<Said, StopFault> {
+    check_words(&gathered.cluster, asked)?;
+    let stopped = stopped_of(alloc, &gathered.cluster, asked.bookies, asked.racks)?;
+    let said = say(alloc, gathered, asked, &stopped)?;
+    Ok(said)
+}

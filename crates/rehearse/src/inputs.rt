@@ -1,0 +1,151 @@
+// The files of a cluster, read by several workers, and what they show together.
+ghost use Rattle.std.specs.Prelude.{◌≡◌, ◌+◌, ◌<◌, All, vec_len, length, IfOk, OnOk};
+ghost use Rattle.std.specs.Option.{IsSome};
+
+use crate::checks::read_picture_file;
+use crate::faults::RunFault;
+use reh_inputs::{Cluster, GatherFault, Gathered, gather};
+use reh_picture::{LocatedFault, Listed, PictureFault, list_picture};
+use reh_words::Inputs;
+use std::alloc::{AllocError, Global};
+use std::sync::Wait;
+use std::thread;
+
+/// What the inputs show together.
+pub(crate) fn gather_files<R: thread::Threads + Wait + Sync>(
+    rt: &HostRuntime,
+    threads: &R,
+    inputs: &Inputs<'_>,
+) -> Result<Gathered, RunFault> {
+    let listed = list_files(rt, threads, inputs)?;
+    match gather(rt.alloc(), &listed, inputs.strict) {
+        Ok(gathered) => Ok(gathered),
+        Err(fault) => Err(fault_of(rt.alloc(), &inputs.files, &listed, fault)),
+    }
+}
+
+/// What a file lists, once it is read.
+type Slot = Option<Result<Listed, RunFault>>;
+
+/// What each file lists, in order, read by the workers; or the first fault, also in that order.
+fn list_files<R: thread::Threads + Wait + Sync>(
+    rt: &HostRuntime,
+    threads: &R,
+    inputs: &Inputs<'_>,
+) -> Result<Vec<Listed>, RunFault>
+    ensures { IfOk result (λ listed. length listed.items ≡ vec_len inputs.now.files) }
+{
+    let files = inputs.files.as_slice();
+    let mut slots = slots_of(rt.alloc(), files)?;
+    thread::for_each_mut(
+        threads,
+        &mut slots,
+        inputs.crew.workers,
+        &|number, slot: &mut Slot|
+            requires { number < length files.now }
+            ensures { IsSome slot.exit.now }
+        {
+            *slot = Some(list_file(rt, files[number]));
+        },
+    );
+    listed_of(rt.alloc(), slots)
+}
+
+/// A slot for each file.
+fn slots_of(alloc: Global, files: &[&str]) -> Result<Vec<Slot>, AllocError>
+    ensures { IfOk result (λ slots. length slots.items ≡ length files.now) }
+{
+    let mut slots = Vec::new(alloc);
+    for _path in files {
+        slots.push(None)?;
+    }
+    Ok(slots)
+}
+
+/// What each file lists, all of which are read, or the first fault.
+fn listed_of(alloc: Global, slots: Vec<Slot>) -> Result<Vec<Listed>, RunFault>
+    requires { All (λ slot. IsSome slot) slots.items }
+    ensures { IfOk result (λ listed. length listed.items ≡ length slots.items) }
+{
+    let mut listed = Vec::new(alloc);
+    for slot in slots {
+        let Some(one) = slot else { unreachable!() };
+        push_listed(&mut listed, one?)?;
+    }
+    Ok(listed)
+}
+
+/// Adds what a file lists.
+fn push_listed(listed: &mut Vec<Listed>, one: Listed) -> Result<(), AllocError>
+    ensures { OnOk result (length listed.new.items ≡ length listed.old.items + 1) }
+{
+    listed.push(one)?;
+    Ok(())
+}
+
+/// What the picture in a file lists.
+fn list_file(rt: &HostRuntime, path: &str) -> Result<Listed, RunFault> {
+    let picture = read_picture_file(rt, path)?;
+    match list_picture(rt.alloc(), &picture) {
+        Ok(listed) => Ok(listed),
+        Err(located) => Err(refused(rt.alloc(), path, located)?),
+    }
+}
+
+/// The fault of a run that can't read this picture.
+fn refused(alloc: Global, path: &str, located: LocatedFault) -> Result<RunFault, AllocError> {
+    match &located.fault {
+        PictureFault::NoMemory => Ok(RunFault::NoMemory),
+        _ => Ok(RunFault::RefusedIn(format!(in alloc; "{path}")?, located)),
+    }
+}
+
+/// The fault of a run whose inputs can't be judged together.
+fn fault_of(alloc: Global, files: &[&str], listed: &[Listed], fault: GatherFault) -> RunFault {
+    let text = match fault {
+        GatherFault::Differs { input, bookie } => {
+            let path = path_of(files, input);
+            let name = name_of(listed, input, bookie);
+            format!(in alloc; "{path} shows bookie '{name}' otherwise than a file before it")
+        }
+        GatherFault::TooManyBookies { input, .. } => {
+            let path = path_of(files, input);
+            format!(in alloc; "with {path} there are more than 4096 bookies")
+        }
+        GatherFault::Twice { input, ledger } => {
+            let path = path_of(files, input);
+            format!(in alloc; "ledger {ledger} of {path} is in a file before it, too")
+        }
+        GatherFault::Unfit { input, ledger } => {
+            let path = path_of(files, input);
+            format!(in alloc; "ledger {ledger} of {path} can't be counted")
+        }
+        GatherFault::TooMany => {
+            format!(in alloc; "there are more entries, ledgers or fragments than can be counted")
+        }
+        GatherFault::NoMemory => return RunFault::NoMemory,
+    };
+    match text {
+        Ok(text) => RunFault::Unfit(text),
+        Err(want) => RunFault::from(want),
+    }
+}
+
+/// The path of an input.
+fn path_of<'a>(files: &[&'a str], input: usize) -> &'a str {
+    match files.get(input) {
+        Some(path) => *path,
+        None => "",
+    }
+}
+
+/// The name of a bookie of an input.
+fn name_of(listed: &[Listed], input: usize, bookie: usize) -> &str {
+    let Some(listed) = listed.get(input) else {
+        return "";
+    };
+    match listed.listing.names.name(reh_types::BookieIx((bookie % 64) as u8)) {
+        Some(name) => name,
+        None => "",
+    }
+}

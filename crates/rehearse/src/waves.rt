@@ -1,0 +1,61 @@
+// Rounds of bookies that may be stopped together, and what the next losses cost, judged from files.
+use crate::checks::write_text;
+use crate::faults::RunFault;
+use crate::inputs::gather_files;
+use reh_waves::{order_by_name, risk_json, risk_of, risk_text, waves_json, waves_of, waves_text};
+use reh_words::{RiskWords, WaveWords};
+use std::sync::Wait;
+use std::thread;
+
+/// Says to standard output in which rounds the bookies may be stopped.
+pub(crate) fn waves_over<R: thread::Threads + Wait + Sync>(
+    rt: &HostRuntime,
+    threads: &R,
+    words: &WaveWords<'_>,
+) -> Result<(), RunFault> {
+    let gathered = gather_files(rt, threads, &words.inputs)?;
+    let names = gathered.cluster.names().as_slice();
+    let order = order_by_name(rt.alloc(), names)?;
+    let waves = waves_of(
+        rt.alloc(),
+        &gathered.census,
+        &gathered.bookies,
+        &words.question,
+        &order,
+        words.by_rack,
+    )?;
+    let text = if words.as_json {
+        waves_json(rt.alloc(), names, &waves)?
+    } else {
+        waves_text(rt.alloc(), names, &waves)?
+    };
+    write_text(rt, text.as_str()).map_err(|_| RunFault::WriteFault)
+}
+
+/// Says to standard output what the loss of each bookie and each rack would cost.
+pub(crate) fn risk_over<R: thread::Threads + Wait + Sync>(
+    rt: &HostRuntime,
+    threads: &R,
+    words: &RiskWords<'_>,
+) -> Result<(), RunFault> {
+    let gathered = gather_files(rt, threads, &words.inputs)?;
+    let names = gathered.cluster.names().as_slice();
+    let racks = gathered.cluster.racks(rt.alloc())?;
+    let order = order_by_name(rt.alloc(), names)?;
+    let numbers = gathered.cluster.rack_numbers(rt.alloc())?;
+    let risk = risk_of(
+        rt.alloc(),
+        &gathered.census,
+        &gathered.bookies,
+        &words.question,
+        &order,
+        &numbers,
+        words.with_pairs,
+    )?;
+    let text = if words.as_json {
+        risk_json(rt.alloc(), names, &racks, &risk)?
+    } else {
+        risk_text(rt.alloc(), names, &racks, &risk)?
+    };
+    write_text(rt, text.as_str()).map_err(|_| RunFault::WriteFault)
+}
