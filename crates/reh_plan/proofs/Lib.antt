@@ -3,3 +3,4 @@ pub mod DraftLaws
 pub mod NamedLaws
 pub mod ReplyLaws
 pub mod Planned
+pub mod NamesLaws

@@ -1,3 +1,4 @@
 pub mod Plans
 pub mod Replies
 pub mod Workers
+pub mod Named

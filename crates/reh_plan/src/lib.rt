@@ -4,10 +4,12 @@
 mod faults;
 mod jobs;
 mod lines;
+mod named;
 mod planning;
 mod plans;
 mod workers;
 
 pub use faults::PlanFault;
+pub use named::{NamedTwice, find_bookies, first_unknown};
 pub use planning::plan;
 pub use plans::Plan;

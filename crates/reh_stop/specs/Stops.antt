@@ -1,6 +1,8 @@
 -- What is said of a stop.
-use Rattle.std.specs.Prelude.{◌≡◌, ℕ, Bool, List, [], length, map, if◌then◌else◌, string_bytes}
+use Rattle.std.specs.Prelude.{◌≡◌, ◌<◌, ℕ, Bool, false, not, None, List, [], length, map, position, if◌then◌else◌, string_bytes}
+use Rattle.std.specs.List.{list_any}
 use Rattle.reh_census.specs.Bookies.{bookies_of, is_flagged}
+use Rattle.reh_census.specs.Striping.{range}
 use Rattle.reh_census.specs.Counting.{counting_in}
 use Rattle.reh_against.specs.Worst.{SaysAgainst}
 use Rattle.reh_answer.specs.declared.against.Against.{Against}
@@ -10,6 +12,9 @@ use Rattle.reh_answer.specs.Objects.{json_of}
 use Rattle.reh_answer.specs.Texts.{status_number, text_of}
 use Rattle.reh_tally.specs.declared.census.TallyFault.{TallyFault}
 use Rattle.reh_tally.specs.declared.census.TallyFault.TheVariants as tally
+use Rattle.reh_inputs.specs.Cluster.{Cluster}
+use Rattle.reh_inputs.specs.Shown.{is_in}
+use Rattle.reh_stop.specs.Named.{is_name, is_repeated, is_stopped}
 use Rattle.reh_inputs.specs.declared.together.Gathered.{Gathered}
 use Rattle.reh_stop.specs.declared.stops.Asked.{Asked}
 use Rattle.reh_stop.specs.declared.stops.Said.{Said}
@@ -37,3 +42,14 @@ pub record IsSaid (g : Gathered) (asked : Asked) (flags : List Bool) (said : Sai
       (is_flagged flags) (facts_of g asked flags).answer against
   pub text : string_bytes said.text ≡ text_by asked (facts_of g asked flags) g.cluster.names against
   pub status : said.status ≡ status_number (facts_of g asked flags).answer
+
+-- each word is a bookie's name, and no word is one before it; each rack is some bookie's; and there are some
+pub record AreNamed (cluster : Cluster) (asked : Asked) : Type 0 where
+  pub bookies : position (λ word. not (is_name cluster.names word.now)) asked.bookies.now ≡ None
+  pub once : (word : ℕ) → word < length asked.bookies.now → is_repeated asked.bookies.now word ≡ false
+  pub racks : position (λ word. not (list_any (is_in word.now) cluster.shown)) asked.racks.now ≡ None
+
+-- the bookies that are asked of, as flags
+abbrev pub stopped_by : Cluster → Asked → List Bool
+stopped_by cluster asked =
+    map (is_stopped cluster asked.bookies.now asked.racks.now) (range 0 (length cluster.names))

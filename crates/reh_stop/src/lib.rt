@@ -4,5 +4,5 @@
 mod named;
 mod stops;
 
-pub use named::{first_twice, first_unknown, first_unknown_rack, stopped_of};
+pub use named::{first_twice, first_unknown, first_unknown_rack, names_in, stopped_of};
 pub use stops::{Asked, Said, StopFault, answer_stop};

@@ -18,6 +18,35 @@ fn is_word(words: &[&str], name: &str) -> bool
         .any(|word| word.as_bytes() == name.as_bytes())
 }
 
+/// The names that the words give: a word that is no bookie's name is a list of names with commas between them.
+pub fn names_in<'a>(
+    alloc: Global,
+    names: &ClusterNames,
+    words: &[&'a str],
+) -> Result<Vec<&'a str>, AllocError> {
+    let mut given = Vec::new(alloc);
+    for word in words {
+        add_names(names, word, &mut given)?;
+    }
+    Ok(given)
+}
+
+/// Adds the names that a word gives.
+fn add_names<'a>(
+    names: &ClusterNames,
+    word: &'a str,
+    given: &mut Vec<&'a str>,
+) -> Result<(), AllocError> {
+    if names.find(word).is_some() {
+        given.push(word)?;
+        return Ok(());
+    }
+    for name in word.split(',') {
+        given.push(name)?;
+    }
+    Ok(())
+}
+
 /// The first word that is no bookie's name, if there is one.
 pub fn first_unknown(names: &ClusterNames, words: &[&str]) -> Option<usize>
     ensures { result ≡ position (λ word. not (model.is_name names.now word.now)) words.now }

@@ -1,5 +1,17 @@
 // Whether bookies may be stopped.
-ghost use Rattle.std.specs.Prelude.{IfOk};
+ghost use Rattle.std.specs.Prelude.{◌≡◌, ℕ, Bool, List, Err, Some, true, not, length, position, IfOk, OnOk};
+ghost use Rattle.std.specs.List.{list_any};
+ghost use Rattle.reh_census.specs.Answers.{answer_on};
+ghost use Rattle.reh_census.specs.Bookies.{bookies_of as census_bookies, is_flagged};
+ghost use Rattle.reh_census.specs.Counting.{counting_of};
+ghost use Rattle.reh_answer.specs.Texts.{status_number};
+ghost use Rattle.reh_picture.specs.declared.listings.Listed.{Listed};
+ghost use Rattle.reh_inputs.specs.Cluster.{bookies_of};
+ghost use Rattle.reh_inputs.specs.Gathered.{Gathers, holders_of, ledgers_of, reading_of};
+ghost use Rattle.reh_inputs.specs.Shown.{is_in};
+ghost use Rattle.reh_inputs.specs.United.{united};
+ghost use Rattle.reh_stop.specs.Named.{is_name, is_repeated};
+ghost use Rattle.reh_stop.specs.declared.stops.StopFault.TheVariants.{Nobody, Twice, UnknownBookie, UnknownRack};
 ghost use Rattle.reh_stop.specs.Stops as model;
 
 use crate::named::{first_twice, first_unknown, first_unknown_rack, stopped_of};
@@ -29,6 +41,8 @@ pub struct Said {
 /// Why nothing is said.
 #[derive(Clone, Copy, PartialEq, Eq, Debug)]
 pub enum StopFault {
+    /// No bookie and no rack is named.
+    Nobody,
     /// The word of this number is no bookie's name.
     UnknownBookie(usize),
     /// It is a word before it, too.
@@ -68,8 +82,17 @@ impl From<TallyFault> for StopFault {
 
 /// The first fault of the words.
 fn check_words(cluster: &Cluster, asked: &Asked<'_>) -> Result<(), StopFault>
-    ensures { model.AreWords cluster.now asked.now result }
+    ensures named { OnOk result (model.AreNamed cluster.now asked.now) }
+    ensures nobody { result ≡ Err Nobody → (length asked.now.bookies.now ≡ 0) × (length asked.now.racks.now ≡ 0) }
+    ensures unknown { (word : ℕ) → result ≡ Err (UnknownBookie word)
+        → position (λ given. not (is_name cluster.now.names given.now)) asked.now.bookies.now ≡ Some word }
+    ensures twice { (word : ℕ) → result ≡ Err (Twice word) → is_repeated asked.now.bookies.now word ≡ true }
+    ensures rack { (word : ℕ) → result ≡ Err (UnknownRack word)
+        → position (λ given. not (list_any (is_in given.now) cluster.now.shown)) asked.now.racks.now ≡ Some word }
 {
+    if asked.bookies.is_empty() && asked.racks.is_empty() {
+        return Err(StopFault::Nobody);
+    }
     if let Some(word) = first_unknown(cluster.names(), asked.bookies) {
         return Err(StopFault::UnknownBookie(word));
     }
@@ -127,7 +150,20 @@ pub fn answer_stop(
     alloc: Global,
     gathered: &Gathered,
     asked: &Asked<'_>,
-) -> Result<Said, StopFault> {
+) -> Result<Said, StopFault>
+    ensures named { OnOk result (model.AreNamed gathered.now.cluster asked.now) }
+    ensures said { IfOk result (λ said. model.IsSaid gathered.now asked.now
+        (model.stopped_by gathered.now.cluster asked.now) said) }
+    ensures ledgers { IfOk result (λ said. (inputs : List Listed) (strict : Bool) → Gathers inputs strict gathered.now
+        → said.status ≡ status_number (answer_on (counting_of (holders_of inputs) (ledgers_of (reading_of strict) inputs))
+        (census_bookies (bookies_of (united inputs))) asked.now.question 0
+        (is_flagged (model.stopped_by (united inputs) asked.now)))) }
+    ensures unknown { (word : ℕ) → result ≡ Err (UnknownBookie word)
+        → position (λ given. not (is_name gathered.now.cluster.names given.now)) asked.now.bookies.now ≡ Some word }
+    ensures twice { (word : ℕ) → result ≡ Err (Twice word) → is_repeated asked.now.bookies.now word ≡ true }
+    ensures rack { (word : ℕ) → result ≡ Err (UnknownRack word)
+        → position (λ given. not (list_any (is_in given.now) gathered.now.cluster.shown)) asked.now.racks.now ≡ Some word }
+{
     check_words(&gathered.cluster, asked)?;
     let stopped = stopped_of(alloc, &gathered.cluster, asked.bookies, asked.racks)?;
     let said = say(alloc, gathered, asked, &stopped)?;

@@ -16,7 +16,7 @@ use Rattle.reh_script.specs.declared.faults.PipeFault.TheVariants as pipe_fault
 use Rattle.rehearse.specs.declared.faults.RunFault.{RunFault}
 use Rattle.reh_script.specs.declared.streams.StreamFault.{StreamFault}
 use Rattle.rehearse.specs.declared.faults.RunFault.TheVariants.{Picture, ReadFault, TooLong, WriteFault, NoMemory}
-use Rattle.rehearse.specs.declared.faults.RunFault.TheVariants.{NoThread, Refused, RefusedIn, Misnamed, Unread, Close}
+use Rattle.rehearse.specs.declared.faults.RunFault.TheVariants.{NoThread, Refused, RefusedIn, Unfit, Misnamed, Unread, Close}
 
 -- how a run ends once its answers were flushed: a failed flush is a write fault where answers were lost, and any
 -- other fault stays
@@ -32,6 +32,7 @@ abbrev pub status_number : RunFault → ℕ
 status_number (Picture fault) = 3
 status_number (Refused located) = 3
 status_number (RefusedIn path located) = 3
+status_number (Unfit reason) = 3
 status_number (Misnamed reason) = 2
 status_number (Unread reason) = 4
 status_number ReadFault = 4
@@ -52,6 +53,7 @@ abbrev pub run_fault_text : RunFault → List ℕ
 run_fault_text (Picture fault) = codes "picture: " ++ fault_text fault
 run_fault_text (Refused located) = codes "picture: " ++ located_text located
 run_fault_text (RefusedIn path located) = codes "picture " ++ (string_bytes path ++ (codes ": " ++ located_text located))
+run_fault_text (Unfit reason) = string_bytes reason
 run_fault_text (Misnamed reason) = string_bytes reason
 run_fault_text (Unread reason) = string_bytes reason
 run_fault_text ReadFault = codes "read fault"

@@ -20,6 +20,8 @@ pub enum RunFault {
     Refused(LocatedFault),
     /// This picture of several is refused.
     RefusedIn(String, LocatedFault),
+    /// Inputs can't be judged together, for the reason that this says.
+    Unfit(String),
     /// Bookies of the command line are misnamed, as this says.
     Misnamed(String),
     /// The file of the picture that is checked can't be opened or read, for the reason that this says.
@@ -44,7 +46,10 @@ pub fn status_of(fault: &RunFault) -> u8
 {
     match fault {
         RunFault::Misnamed(_) => 2,
-        RunFault::Picture(_) | RunFault::Refused(_) | RunFault::RefusedIn(..) => 3,
+        RunFault::Picture(_)
+        | RunFault::Refused(_)
+        | RunFault::RefusedIn(..)
+        | RunFault::Unfit(_) => 3,
         RunFault::Unread(_) | RunFault::ReadFault | RunFault::TooLong => 4,
         RunFault::WriteFault => 5,
         RunFault::NoMemory => 6,
@@ -63,6 +68,7 @@ impl fmt::Display for RunFault {
             RunFault::Picture(fault) => write!(f, "picture: {fault}"),
             RunFault::Refused(located) => write!(f, "picture: {located}"),
             RunFault::RefusedIn(path, located) => write!(f, "picture {path}: {located}"),
+            RunFault::Unfit(reason) => write!(f, "{reason}"),
             RunFault::Misnamed(reason) => write!(f, "{reason}"),
             RunFault::Unread(reason) => write!(f, "{reason}"),
             RunFault::ReadFault => write!(f, "read fault"),

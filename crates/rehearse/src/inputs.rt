@@ -4,8 +4,9 @@ ghost use Rattle.std.specs.Option.{IsSome};
 
 use crate::checks::read_picture_file;
 use crate::faults::RunFault;
-use reh_inputs::{Cluster, GatherFault, Gathered, gather};
+use reh_inputs::{GatherFault, Gathered, gather};
 use reh_picture::{LocatedFault, Listed, PictureFault, list_picture};
+use reh_types::BookieIx;
 use reh_words::Inputs;
 use std::alloc::{AllocError, Global};
 use std::sync::Wait;
@@ -120,11 +121,19 @@ fn fault_of(alloc: Global, files: &[&str], listed: &[Listed], fault: GatherFault
             let path = path_of(files, input);
             format!(in alloc; "ledger {ledger} of {path} can't be counted")
         }
-        GatherFault::TooMany => {
-            format!(in alloc; "there are more entries, ledgers or fragments than can be counted")
-        }
+        GatherFault::TooMany => return too_many(alloc),
         GatherFault::NoMemory => return RunFault::NoMemory,
     };
+    unfit(text)
+}
+
+/// That there is more than a census counts.
+pub(crate) fn too_many(alloc: Global) -> RunFault {
+    unfit(format!(in alloc; "there are more entries, ledgers or fragments than can be counted"))
+}
+
+/// The fault with this text.
+fn unfit(text: Result<String, AllocError>) -> RunFault {
     match text {
         Ok(text) => RunFault::Unfit(text),
         Err(want) => RunFault::from(want),
@@ -144,7 +153,7 @@ fn name_of(listed: &[Listed], input: usize, bookie: usize) -> &str {
     let Some(listed) = listed.get(input) else {
         return "";
     };
-    match listed.listing.names.name(reh_types::BookieIx((bookie % 64) as u8)) {
+    match listed.listing.names.name(BookieIx((bookie % 64) as u8)) {
         Some(name) => name,
         None => "",
     }

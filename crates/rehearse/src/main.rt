@@ -7,10 +7,12 @@ ghost use Rattle.std.specs.Prelude.{◌≡◌, false};
 mod checks;
 mod faults;
 mod files;
+mod inputs;
 mod names;
 mod plans;
 mod runs;
 mod stops;
+mod waves;
 
 use checks::check_file;
 use clap::Error;
@@ -28,6 +30,7 @@ use std::sync::Wait;
 use std::thread::Threads;
 use std::{env, fs, io};
 use stops::stop_over;
+use waves::{risk_over, waves_over};
 
 fn main(rt: HostRuntime) -> ExitCode {
     let words = match words(&rt) {
@@ -42,6 +45,8 @@ fn main(rt: HostRuntime) -> ExitCode {
             Ok(status) => ExitCode::from(status),
             Err(fault) => end(&rt, Err(fault)),
         },
+        Ok(Task::Waves(words)) => end(&rt, waves_over(&rt, &rt, &words)),
+        Ok(Task::Risk(words)) => end(&rt, risk_over(&rt, &rt, &words)),
         Ok(Task::Plan(words)) => end(&rt, plan_file(&rt, &words)),
         Err(error) => show(&rt, &error),
     }

@@ -1,8 +1,8 @@
 // Whether bookies may be stopped, judged from files.
 use crate::checks::write_text;
 use crate::faults::RunFault;
-use crate::inputs::gather_files;
-use crate::names::{named_twice, unknown_rack, unknown_to_all};
+use crate::inputs::{gather_files, too_many};
+use crate::names::{named_twice, nobody, unknown_rack, unknown_to_all};
 use reh_inputs::ClusterNames;
 use reh_stop::{Asked, StopFault, answer_stop, names_in};
 use reh_words::Stop;
@@ -36,14 +36,11 @@ pub(crate) fn stop_over<R: thread::Threads + Wait + Sync>(
 /// The fault of a run that answers nothing.
 fn fault_of(alloc: Global, names: &ClusterNames, asked: &Asked<'_>, fault: StopFault) -> RunFault {
     match fault {
-        StopFault::Nobody => RunFault::Misnamed(String::from_str(
-            alloc,
-            "no bookie is named: give --lose or --lose-rack",
-        ).unwrap_or(String::new(alloc))),
+        StopFault::Nobody => nobody(alloc),
         StopFault::UnknownBookie(word) => unknown_to_all(alloc, names, asked.bookies, word),
         StopFault::Twice(word) => named_twice(alloc, asked.bookies, word),
         StopFault::UnknownRack(word) => unknown_rack(alloc, asked.racks, word),
-        StopFault::TooMany => RunFault::NoMemory,
+        StopFault::TooMany => too_many(alloc),
         StopFault::NoMemory => RunFault::NoMemory,
     }
 }

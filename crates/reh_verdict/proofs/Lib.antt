@@ -1,2 +1,0 @@
-pub mod BookieLaws
-pub mod AnswerLaws

@@ -1,4 +1,0 @@
-pub mod Answers
-pub mod Bookies
-pub mod Judging
-pub mod Texts
