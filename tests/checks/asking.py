@@ -61,15 +61,13 @@ class Question(NamedTuple):
 
 
 class Entry(NamedTuple):
-    """What matters of an entry: who is known to hold it, of whom nobody told, and whether a disk may have its last copy.
+    """What matters of an entry: who is known to hold it, of whom nobody told, and whether some known copy is only assumed.
 
-    Only members of its write set are meant, and of them only registered ones that aren't empty; the disks are those of the
-    members that are down. Whether some known copy is only assumed is kept beside.
+    Only members of its write set are meant, and of them only registered ones that aren't empty.
     """
 
     known: FrozenSet[str]
     untold: FrozenSet[str]
-    disks: FrozenSet[str]
     ack: int
     is_assumed: bool
 
@@ -120,21 +118,17 @@ def is_told(ledger: Ledger, name: str, question: Question) -> bool:
 
 def entry_of(cluster: Cluster, ledger: Ledger, members: FrozenSet[str], entry: int, question: Question) -> Entry:
     """An entry that was written to these members."""
-    known, untold, disks, is_assumed = set(), set(), set(), False
+    known, untold, is_assumed = set(), set(), False
     for name in members:
         bookie = cluster.bookies[name]
-        told = is_told(ledger, name, question)
-        may_hold = not told or entry in ledger.contents[name].entries
-        if bookie.is_empty or not may_hold:
+        if not bookie.is_up or bookie.is_empty:
             continue
-        if not bookie.is_up:
-            disks.add(name)
-        elif told:
+        if not is_told(ledger, name, question):
+            untold.add(name)
+        elif entry in ledger.contents[name].entries:
             known.add(name)
             is_assumed |= ledger.contents[name].is_assumed
-        else:
-            untold.add(name)
-    return Entry(frozenset(known), frozenset(untold), frozenset(disks), ledger.ack, is_assumed)
+    return Entry(frozenset(known), frozenset(untold), ledger.ack, is_assumed)
 
 
 def entries_of(cluster: Cluster, ledger: Ledger, question: Question) -> Iterator[Entry]:
@@ -163,9 +157,9 @@ def is_fallen(copies: FrozenSet[str], question: Question, ack: int) -> bool:
     return len(copies - question.stopped) < min(len(copies), copies_to_keep(question, ack))
 
 
-def goes_with_a_disk(entry: Entry, question: Question) -> bool:
-    """Whether no copy is known, and a bookie that is down and goes for good may have had one."""
-    return question.is_for_good and not entry.known and bool(entry.disks & question.stopped)
+def disks_go(cluster: Cluster, question: Question) -> bool:
+    """Whether a bookie that is down goes for good: an entry without a known copy may have its last one there."""
+    return question.is_for_good and any(not cluster.bookies[name].is_up for name in question.stopped)
 
 
 # Ledgers that aren't closed.
@@ -183,15 +177,15 @@ def write_sets(ledger: Ledger) -> List[FrozenSet[str]]:
 def loses_its_tail(cluster: Cluster, ledger: Ledger, question: Question) -> bool:
     """Whether too few members of some write set are left of those that may have acknowledged an entry nobody told of.
 
-    What is down and goes for good counts among those that there are now.
+    What is down and goes for good counts among those that there are now, whether its disk is empty or not.
     """
     least = copies_to_keep(question, ledger.ack)
     if not question.may_block_recovery:
         least = max(least, ledger.write - ledger.ack + 1)
     for members in write_sets(ledger):
-        full = {name for name in members if not cluster.bookies[name].is_empty}
-        now = {name for name in full if cluster.bookies[name].is_up}
-        going = {name for name in full - now if question.is_for_good and name in question.stopped}
+        now = {name for name in members if cluster.bookies[name].is_up and not cluster.bookies[name].is_empty}
+        down = {name for name in members if not cluster.bookies[name].is_up}
+        going = down & question.stopped if question.is_for_good else set()
         if len(now - question.stopped) < min(len(now | going), least):
             return True
     return False
@@ -203,10 +197,14 @@ def is_blocked(cluster: Cluster, ledger: Ledger, stopped: FrozenSet[str]) -> boo
     return len(left) < ledger.size and any(len(members & left) < ledger.ack for members in write_sets(ledger))
 
 
+def gets_blocked(cluster: Cluster, ledger: Ledger, question: Question) -> bool:
+    return is_blocked(cluster, ledger, question.stopped) and not is_blocked(cluster, ledger, frozenset())
+
+
 def is_unrecoverable(cluster: Cluster, ledger: Ledger, question: Question) -> bool:
     if ledger.state == "CLOSED":
         return False
-    is_newly_blocked = is_blocked(cluster, ledger, question.stopped) and not is_blocked(cluster, ledger, frozenset())
+    is_newly_blocked = not question.may_block_recovery and gets_blocked(cluster, ledger, question)
     return loses_its_tail(cluster, ledger, question) or is_newly_blocked
 
 
@@ -222,7 +220,7 @@ def finds_no_ensemble(cluster: Cluster, size: int, question: Question) -> bool:
 def is_unwritable(cluster: Cluster, ledger: Ledger, question: Question) -> bool:
     if ledger.state != "OPEN" or question.may_block_writers:
         return False
-    return finds_no_ensemble(cluster, ledger.size, question)
+    return finds_no_ensemble(cluster, ledger.size, question) or gets_blocked(cluster, ledger, question)
 
 
 def new_ledgers(cluster: Cluster, question: Question) -> int:
@@ -266,7 +264,7 @@ def numbers_of(cluster: Cluster, ledgers: List[Ledger], question: Question) -> N
     no, unknown, disks = Counter(dict.fromkeys(RULES, 0)), Counter(), 0
     for ledger in ledgers:
         for entry, count in Counter(entries_of(cluster, ledger, question)).items():
-            disks += count * goes_with_a_disk(entry, question)
+            disks += count * (not entry.known and disks_go(cluster, question))
             for rule, broken in (
                 ("readable", [is_lost(copies, question) for copies in completions(entry)]),
                 ("kept", [is_fallen(copies, question, entry.ack) for copies in completions(entry)]),
@@ -307,12 +305,12 @@ def against(cluster: Cluster, question: Question, verdict: str, rule: Optional[s
 
 
 def notes_of(cluster: Cluster, question: Question) -> List[str]:
-    notes = [f"{name} is not registered" for name in sorted(question.stopped) if not cluster.bookies[name].is_up]
+    notes = [f"{name} is not registered" for name, bookie in cluster.bookies.items() if name in question.stopped and not bookie.is_up]
     up = {name for name in question.stopped if cluster.bookies[name].is_up}
     if any(ledger.state == "OPEN" and up & set(ledger.fragments[-1][1]) for ledger in cluster.ledgers):
         notes.append("writers pause until they have changed their ensembles")
-    least = min((ledger.ack for ledger in cluster.ledgers), default=1)
-    if len(up & writable(cluster)) >= least:
+    counted = [ledger for ledger in cluster.ledgers if ledger.state != "CLOSED" or ledger.last >= 0]
+    if len(up & writable(cluster)) >= min((ledger.ack for ledger in counted), default=1):
         notes.append(
             "a ledger created since the input was taken may have all its copies on these bookies: "
             "make them read-only, take a new input, ask again"
