@@ -1,5 +1,6 @@
 -- The worst first.
-use Rattle.std.specs.Prelude.{◌≡◌, ℕ, ◌+◌, Bool, ◌&&◌, ◌||◌, ◌==◌, nat_lt, if◌then◌else◌, List, [], ◌∷◌, ◌++◌, take, IsPermutation, slice_get, string_bytes, Some}
+use Rattle.std.specs.Prelude.{◌≡◌, ℕ, ◌+◌, Bool, ◌&&◌, ◌||◌, ◌==◌, nat_lt, if◌then◌else◌, List, [], ◌∷◌, ◌++◌}
+use Rattle.std.specs.Prelude.{take, IsPermutation, slice_get, string_bytes, Some}
 use Rattle.std.specs.List.Sorted.{IsSortedBy}
 use Rattle.reh_census.specs.declared.answers.Answer.{Answer}
 use Rattle.reh_census.specs.declared.questions.Keep.{Keep}

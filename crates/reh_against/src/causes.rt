@@ -5,7 +5,8 @@ ghost use Rattle.reh_against.specs.Causes as model;
 
 use crate::entries::push_first;
 use crate::members::push_down;
-use reh_census::{Answer, BookieSet, Bookies, Counted, Ledger, Question, Rule};
+use crate::stops::Stop;
+use reh_census::{Answer, Counted, Ledger, Rule};
 use reh_tally::entries_of;
 use std::alloc::{AllocError, Global};
 use std::slice;
@@ -38,50 +39,35 @@ fn push_answer(text: &mut String, answer: &Answer, weight: u64) -> Result<(), Al
 /// Why a ledger with these entries speaks against the stop.
 fn cause_by(
     alloc: Global,
-    names: &[String],
-    bookies: &Bookies,
-    question: &Question,
-    stopped: &BookieSet,
-    answer: &Answer,
+    stop: &Stop<'_>,
     weight: u64,
     ledger: &Ledger,
     entries: &[Counted],
 ) -> Result<String, AllocError>
-    ensures { IfOk result (λ cause. string_bytes cause ≡ model.cause_by (map string_bytes names.now) (bookies_of bookies.now)
-        question.now.keep (is_flagged stopped.now) answer.now weight ledger.now entries.now) }
+    ensures { IfOk result (λ cause. string_bytes cause ≡ model.cause_by (map string_bytes stop.now.names.now)
+        (bookies_of stop.now.bookies.now)
+        stop.now.question.now.keep (is_flagged stop.now.stopped.now) stop.now.answer.now weight ledger.now entries.now) }
 {
     let mut text = String::new(alloc);
-    push_answer(&mut text, answer, weight)?;
-    push_first(
-        alloc,
-        &mut text,
-        names,
-        question.keep,
-        stopped,
-        answer,
-        entries,
-    )?;
-    push_down(&mut text, names, bookies, ledger)?;
+    push_answer(&mut text, stop.answer, weight)?;
+    push_first(alloc, &mut text, stop, entries)?;
+    push_down(&mut text, stop.names, stop.bookies, ledger)?;
     Ok(text)
 }
 
 /// Why the ledger speaks against the stop.
 pub(crate) fn cause_of(
     alloc: Global,
-    names: &[String],
-    bookies: &Bookies,
-    question: &Question,
-    stopped: &BookieSet,
-    answer: &Answer,
+    stop: &Stop<'_>,
     weight: u64,
     ledger: &Ledger,
 ) -> Result<String, AllocError>
-    ensures { IfOk result (λ cause. model.IsCause (map string_bytes names.now) (bookies_of bookies.now)
-        question.now.keep (is_flagged stopped.now) answer.now weight ledger.now (string_bytes cause)) }
+    ensures { IfOk result (λ cause. model.IsCause (map string_bytes stop.now.names.now)
+        (bookies_of stop.now.bookies.now)
+        stop.now.question.now.keep (is_flagged stop.now.stopped.now) stop.now.answer.now weight ledger.now
+        (string_bytes cause)) }
 {
-    let entries = entries_of(alloc, bookies, slice::from_ref(ledger))?;
-    let cause = cause_by(
-        alloc, names, bookies, question, stopped, answer, weight, ledger, &entries,
-    )?;
+    let entries = entries_of(alloc, stop.bookies, slice::from_ref(ledger))?;
+    let cause = cause_by(alloc, stop, weight, ledger, &entries)?;
     Ok(cause)
 }

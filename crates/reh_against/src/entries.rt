@@ -4,6 +4,7 @@ ghost use Rattle.reh_census.specs.Bookies.{is_flagged};
 ghost use Rattle.reh_against.specs.Causes as model;
 
 use crate::members::{others, push_maybe, push_sure};
+use crate::stops::Stop;
 use reh_census::{Answer, BookieSet, Class, Counted, Keep, Rule};
 use reh_rules::{Breaks, breaks_of};
 use std::alloc::{AllocError, Global};
@@ -86,18 +87,17 @@ fn push_class(
 pub(crate) fn push_first(
     alloc: Global,
     text: &mut String,
-    names: &[String],
-    keep: Keep,
-    stopped: &BookieSet,
-    answer: &Answer,
+    stop: &Stop<'_>,
     entries: &[Counted],
 ) -> Result<(), AllocError>
     ensures { OnOk result (string_bytes text.new ≡ string_bytes text.old
-        ++ model.first_words (map string_bytes names.now) answer.now keep (is_flagged stopped.now) entries.now) }
+        ++ model.first_words (map string_bytes stop.now.names.now) stop.now.answer.now stop.now.question.now.keep
+        (is_flagged stop.now.stopped.now) entries.now) }
 {
+    let keep = stop.question.keep;
     for counted in entries {
-        if some_speaks(answer, keep, stopped, counted) {
-            return push_class(alloc, text, names, stopped, &counted.class);
+        if some_speaks(stop.answer, keep, stop.stopped, counted) {
+            return push_class(alloc, text, stop.names, stop.stopped, &counted.class);
         }
     }
     Ok(())

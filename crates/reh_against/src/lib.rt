@@ -6,6 +6,8 @@ mod entries;
 mod found;
 mod members;
 mod picks;
+mod stops;
 mod weights;
 
 pub use picks::against_of;
+pub use stops::Stop;

@@ -171,7 +171,8 @@ fn push_if_down(
     bookie: u16,
 ) -> Result<(), AllocError>
     ensures { OnOk result (string_bytes text.new ≡ string_bytes text.old
-        ++ model.down_if (map string_bytes names.now) bookie (model.is_down_member (bookies_of bookies.now) ledger.now bookie)) }
+        ++ model.down_if (map string_bytes names.now) bookie (model.is_down_member
+        (bookies_of bookies.now) ledger.now bookie)) }
 {
     if !is_down_member(bookies, ledger, bookie) {
         return Ok(());

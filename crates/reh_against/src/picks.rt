@@ -1,5 +1,5 @@
 // The ledgers that speak against a stop, the worst first.
-ghost use Rattle.std.specs.Prelude.{◌≡◌, ◌<◌, [], ◌∷◌, ◌++◌, All, ℕ, IfOk, Err, OnOk, length, map, string_bytes};
+ghost use Rattle.std.specs.Prelude.{◌≡◌, ◌<◌, [], ◌∷◌, ◌++◌, All, IfOk, Err, OnOk, length, map, string_bytes};
 ghost use Rattle.reh_census.specs.Bookies.{bookies_of, holders, is_flagged};
 ghost use Rattle.reh_tally.specs.Few.{AreFew};
 ghost use Rattle.reh_tally.specs.declared.census.TallyFault.TheVariants.{TooMany};
@@ -8,9 +8,10 @@ ghost use Rattle.reh_against.specs.Worst as model;
 
 use crate::causes::cause_of;
 use crate::found::Found;
+use crate::stops::Stop;
 use crate::weights::{entries_by, weight_of};
 use reh_answer::Against;
-use reh_census::{Answer, BookieSet, Bookies, Ledger, Question};
+use reh_census::Ledger;
 use reh_tally::TallyFault;
 use std::alloc::{AllocError, Global};
 use std::cmp::Reverse;
@@ -38,20 +39,19 @@ fn found_in(
     alloc: Global,
     ids: &[u64],
     ledgers: &[Ledger],
-    bookies: &Bookies,
-    question: &Question,
-    stopped: &BookieSet,
-    answer: &Answer,
+    stop: &Stop<'_>,
 ) -> Result<Vec<Found>, TallyFault>
     requires { length ids.now ≡ length ledgers.now }
-    ensures found { IfOk result (λ found. found.items ≡ model.found_from (weight (bookies_of bookies.now) question.now
-        (is_flagged stopped.now) answer.now) 0 ids.now ledgers.now) }
+    ensures found { IfOk result (λ found. found.items ≡ model.found_from (weight
+        (bookies_of stop.now.bookies.now) stop.now.question.now
+        (is_flagged stop.now.stopped.now) stop.now.answer.now) 0 ids.now ledgers.now) }
     ensures places { IfOk result (λ found. All (λ f. f.place < length ledgers.now) found.items) }
-    ensures too_many { result ≡ Err TooMany → All (λ g. AreFew (holders (bookies_of bookies.now)) (g ∷ [])) ledgers.now → ⊥ }
+    ensures too_many { result ≡ Err TooMany → All (λ g. AreFew (holders (bookies_of stop.now.bookies.now))
+        (g ∷ [])) ledgers.now → ⊥ }
 {
     let mut found = Vec::new(alloc);
     for place in 0..ledgers.len() {
-        let weight = weight_of(alloc, &ledgers[place], bookies, question, stopped, answer)?;
+        let weight = weight_of(alloc, &ledgers[place], stop)?;
         add(&mut found, weight, ids[place], place)?;
     }
     Ok(found)
@@ -62,18 +62,17 @@ fn worst_of(
     alloc: Global,
     ids: &[u64],
     ledgers: &[Ledger],
-    bookies: &Bookies,
-    question: &Question,
-    stopped: &BookieSet,
-    answer: &Answer,
+    stop: &Stop<'_>,
 ) -> Result<Vec<Found>, TallyFault>
     requires { length ids.now ≡ length ledgers.now }
-    ensures worst { IfOk result (λ worst. model.AreWorst (model.found_from (weight (bookies_of bookies.now) question.now
-        (is_flagged stopped.now) answer.now) 0 ids.now ledgers.now) worst.items) }
+    ensures worst { IfOk result (λ worst. model.AreWorst (model.found_from (weight
+        (bookies_of stop.now.bookies.now) stop.now.question.now
+        (is_flagged stop.now.stopped.now) stop.now.answer.now) 0 ids.now ledgers.now) worst.items) }
     ensures places { IfOk result (λ worst. All (λ f. f.place < length ledgers.now) worst.items) }
-    ensures too_many { result ≡ Err TooMany → All (λ g. AreFew (holders (bookies_of bookies.now)) (g ∷ [])) ledgers.now → ⊥ }
+    ensures too_many { result ≡ Err TooMany → All (λ g. AreFew (holders (bookies_of stop.now.bookies.now))
+        (g ∷ [])) ledgers.now → ⊥ }
 {
-    let mut found = found_in(alloc, ids, ledgers, bookies, question, stopped, answer)?;
+    let mut found = found_in(alloc, ids, ledgers, stop)?;
     found.sort()?;
     found.truncate(MOST);
     Ok(found)
@@ -82,26 +81,21 @@ fn worst_of(
 /// What is said of a ledger that was found.
 fn say(
     alloc: Global,
-    names: &[String],
     ledgers: &[Ledger],
-    bookies: &Bookies,
-    question: &Question,
-    stopped: &BookieSet,
-    answer: &Answer,
+    stop: &Stop<'_>,
     found: &Found,
 ) -> Result<Against, AllocError>
     requires { found.now.place < length ledgers.now }
-    ensures { IfOk result (λ against. model.IsAgainst (map string_bytes names.now) ledgers.now (bookies_of bookies.now)
-        question.now.keep (is_flagged stopped.now) answer.now found.now against) }
+    ensures { IfOk result (λ against. model.IsAgainst (map string_bytes stop.now.names.now) ledgers.now
+        (bookies_of stop.now.bookies.now)
+        stop.now.question.now.keep (is_flagged stop.now.stopped.now) stop.now.answer.now found.now against) }
 {
     let weight = found.weight.0;
     let ledger = &ledgers[found.place];
-    let cause = cause_of(
-        alloc, names, bookies, question, stopped, answer, weight, ledger,
-    )?;
+    let cause = cause_of(alloc, stop, weight, ledger)?;
     Ok(Against {
         ledger: found.ledger,
-        entries: entries_by(answer, weight),
+        entries: entries_by(stop.answer, weight),
         cause,
     })
 }
@@ -109,49 +103,40 @@ fn say(
 /// What is said of each of these.
 fn say_all(
     alloc: Global,
-    names: &[String],
     ledgers: &[Ledger],
-    bookies: &Bookies,
-    question: &Question,
-    stopped: &BookieSet,
-    answer: &Answer,
+    stop: &Stop<'_>,
     worst: &[Found],
 ) -> Result<Vec<Against>, AllocError>
     requires { All (λ f. f.place < length ledgers.now) worst.now }
-    ensures { IfOk result (λ against. model.Each (model.IsAgainst (map string_bytes names.now) ledgers.now
-        (bookies_of bookies.now) question.now.keep (is_flagged stopped.now) answer.now) worst.now against.items) }
+    ensures { IfOk result (λ against. model.Each (model.IsAgainst (map string_bytes stop.now.names.now) ledgers.now
+        (bookies_of stop.now.bookies.now) stop.now.question.now.keep
+        (is_flagged stop.now.stopped.now) stop.now.answer.now) worst.now against.items) }
 {
     let mut against = Vec::new(alloc);
     for found in worst {
-        let one = say(
-            alloc, names, ledgers, bookies, question, stopped, answer, found,
-        )?;
+        let one = say(alloc, ledgers, stop, found)?;
         against.push(one)?;
     }
     Ok(against)
 }
 
 /// The ledgers that speak against the stop for this answer, at most ten, the worst first, each with the number of its
-/// entries that do, if it is entries, and why. Ledgers have these ids, and bookies these names, by number. Where a ledger
-/// alone has more entries than a census counts, it fails.
+/// entries that do, if it is entries, and why. The ledgers have these ids. Where one alone has more entries than a census
+/// counts, it fails.
 pub fn against_of(
     alloc: Global,
     ids: &[u64],
     ledgers: &[Ledger],
-    names: &[String],
-    bookies: &Bookies,
-    question: &Question,
-    stopped: &BookieSet,
-    answer: &Answer,
+    stop: &Stop<'_>,
 ) -> Result<Vec<Against>, TallyFault>
     requires { length ids.now ≡ length ledgers.now }
-    ensures said { IfOk result (λ against. model.SaysAgainst (map string_bytes names.now) ids.now ledgers.now
-        (bookies_of bookies.now) question.now (is_flagged stopped.now) answer.now against.items) }
-    ensures too_many { result ≡ Err TooMany → All (λ g. AreFew (holders (bookies_of bookies.now)) (g ∷ [])) ledgers.now → ⊥ }
+    ensures said { IfOk result (λ against. model.SaysAgainst (map string_bytes stop.now.names.now) ids.now ledgers.now
+        (bookies_of stop.now.bookies.now) stop.now.question.now
+        (is_flagged stop.now.stopped.now) stop.now.answer.now against.items) }
+    ensures too_many { result ≡ Err TooMany → All (λ g. AreFew (holders (bookies_of stop.now.bookies.now))
+        (g ∷ [])) ledgers.now → ⊥ }
 {
-    let worst = worst_of(alloc, ids, ledgers, bookies, question, stopped, answer)?;
-    let against = say_all(
-        alloc, names, ledgers, bookies, question, stopped, answer, &worst,
-    )?;
+    let worst = worst_of(alloc, ids, ledgers, stop)?;
+    let against = say_all(alloc, ledgers, stop, &worst)?;
     Ok(against)
 }

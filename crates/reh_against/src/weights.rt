@@ -5,7 +5,8 @@ ghost use Rattle.reh_tally.specs.Few.{AreFew};
 ghost use Rattle.reh_tally.specs.declared.census.TallyFault.TheVariants.{TooMany};
 ghost use Rattle.reh_against.specs.Weights as model;
 
-use reh_census::{Answer, BookieSet, Bookies, Judged, Ledger, Numbers, Question, Rule};
+use crate::stops::Stop;
+use reh_census::{Answer, Judged, Ledger, Numbers, Question, Rule};
 use reh_rules::numbers_of;
 use reh_tally::{TallyFault, census_of};
 use std::alloc::Global;
@@ -58,17 +59,11 @@ fn without_new(question: &Question) -> Question
 }
 
 /// How much of a ledger speaks against the stop.
-pub(crate) fn weight_of(
-    alloc: Global,
-    ledger: &Ledger,
-    bookies: &Bookies,
-    question: &Question,
-    stopped: &BookieSet,
-    answer: &Answer,
-) -> Result<u64, TallyFault>
-    ensures weight { IfOk result (λ weight. weight ≡ model.weight (bookies_of bookies.now) question.now
-        (is_flagged stopped.now) answer.now ledger.now) }
-    ensures too_many { result ≡ Err TooMany → AreFew (holders (bookies_of bookies.now)) (ledger.now ∷ []) → ⊥ }
+pub(crate) fn weight_of(alloc: Global, ledger: &Ledger, stop: &Stop<'_>) -> Result<u64, TallyFault>
+    ensures weight { IfOk result (λ weight. weight ≡ model.weight
+        (bookies_of stop.now.bookies.now) stop.now.question.now
+        (is_flagged stop.now.stopped.now) stop.now.answer.now ledger.now) }
+    ensures too_many { result ≡ Err TooMany → AreFew (holders (bookies_of stop.now.bookies.now)) (ledger.now ∷ []) → ⊥ }
 {
     let judged = Judged {
         ledgers: 1,
@@ -76,10 +71,10 @@ pub(crate) fn weight_of(
         unread: 0,
         missing: 0,
     };
-    let census = census_of(alloc, bookies, slice::from_ref(ledger), judged)?;
-    let question = without_new(question);
-    let numbers = numbers_of(alloc, &census, bookies, &question, stopped);
-    Ok(weight_by(answer, &numbers))
+    let census = census_of(alloc, stop.bookies, slice::from_ref(ledger), judged)?;
+    let question = without_new(stop.question);
+    let numbers = numbers_of(alloc, &census, stop.bookies, &question, stop.stopped);
+    Ok(weight_by(stop.answer, &numbers))
 }
 
 /// Whether the rule counts entries.

@@ -45,7 +45,8 @@ judged_line facts =
     ++ (amount facts.judged.ledgers Ledger
     ++ (codes ", "
     ++ (amount facts.entries Entry
-    ++ (codes ", " ++ (decimal facts.judged.assumed ++ (codes " assumed, " ++ (decimal facts.unknown ++ codes " unknown\n")))))))
+    ++ (codes ", "
+    ++ (decimal facts.judged.assumed ++ (codes " assumed, " ++ (decimal facts.unknown ++ codes " unknown\n")))))))
 
 -- a number behind a space, at the right end of nine places
 abbrev pub cell : ℕ → List ℕ
@@ -92,7 +93,8 @@ unknown_words numbers =
 abbrev pub unknown_numbers : Numbers → List ℕ
 unknown_numbers numbers =
     unknown_words numbers
-    ++ (some_words (codes ", disks ") numbers.disks ++ (some_words (codes ", not judged ") numbers.not_judged ++ codes "\n"))
+    ++ (some_words (codes ", disks ") numbers.disks
+    ++ (some_words (codes ", not judged ") numbers.not_judged ++ codes "\n"))
 
 -- what is unknown, where something is
 abbrev pub unknown_line : Facts → List ℕ
@@ -107,7 +109,8 @@ entries_words number = if number == 0 then [] else amount number Entry ++ codes 
 abbrev pub against_line : Against → List ℕ
 against_line against =
     codes "ledger "
-    ++ (decimal against.ledger ++ (codes ": " ++ (entries_words against.entries ++ (string_bytes against.cause ++ codes "\n"))))
+    ++ (decimal against.ledger
+    ++ (codes ": " ++ (entries_words against.entries ++ (string_bytes against.cause ++ codes "\n"))))
 
 -- the bookie's name, or its number where the names have none for it
 abbrev pub name_of : List (List ℕ) → ℕ → List ℕ

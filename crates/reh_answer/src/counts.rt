@@ -103,7 +103,8 @@ fn has_to_change(bookies: &Bookies, stopped: &BookieSet, tail: &Tail) -> bool
 /// How many ledgers that is so of.
 pub(crate) fn count_changes(bookies: &Bookies, stopped: &BookieSet, tails: &[CountedTail]) -> u64
     requires { tails_in tails.now ≤ 2 ^ 63 }
-    ensures { result ≡ count_tails_in tails.now (model.has_to_change (bookies_of bookies.now) (is_flagged stopped.now)) }
+    ensures { result ≡ count_tails_in tails.now (model.has_to_change (bookies_of bookies.now)
+        (is_flagged stopped.now)) }
 {
     let mut ledgers = 0;
     for counted in tails {

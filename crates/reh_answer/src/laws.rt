@@ -11,7 +11,8 @@ ghost use Rattle.reh_answer.specs.Texts as texts;
 /// Where the answer is that entries would have too few copies, `--keep 1` asks for less, and no entry breaks the rule then
 /// whatever the untold bookies hold.
 pub fn keep_1_allows_it()
-    ensures { (counting : Counting) (bookies : Bookies) (question : Question) (not_judged count : ℕ) (stopped : ℕ → Bool)
+    ensures { (counting : Counting) (bookies : Bookies) (question : Question) (not_judged count : ℕ) (stopped : ℕ
+        → Bool)
         → answer_on counting bookies question not_judged stopped ≡ No Kept count
         → (numbers_on counting bookies (texts.with_keep_1 question) not_judged stopped).kept.no ≡ 0 }
 {}

@@ -13,7 +13,8 @@ pub(crate) fn add_number(
     name: &str,
     number: u64,
 ) -> Result<(), AllocError>
-    ensures { OnOk result (objects.Adds (objects.member_tokens name.now (objects.number_json number)) json.old json.new) }
+    ensures { OnOk result (objects.Adds (objects.member_tokens name.now
+        (objects.number_json number)) json.old json.new) }
 {
     json.key(name)?;
     json.u64(number)
@@ -41,7 +42,8 @@ pub(crate) fn add_broken(
     name: &str,
     broken: &Broken,
 ) -> Result<(), AllocError>
-    ensures { OnOk result (objects.Adds (objects.member_tokens name.now (objects.broken_json broken.now)) json.old json.new) }
+    ensures { OnOk result (objects.Adds (objects.member_tokens name.now
+        (objects.broken_json broken.now)) json.old json.new) }
 {
     json.key(name)?;
     json.begin_object()?;

@@ -48,7 +48,8 @@ fn add_judged(json: &mut Writer<Global>, facts: &Facts) -> Result<(), AllocError
 
 /// Adds numbers.
 fn add_numbers(json: &mut Writer<Global>, numbers: &[u64]) -> Result<(), AllocError>
-    ensures { OnOk result (objects.Adds (flat_map (λ n. json_tokens (objects.number_json n)) numbers.now) json.old json.new) }
+    ensures { OnOk result (objects.Adds (flat_map (λ n. json_tokens
+        (objects.number_json n)) numbers.now) json.old json.new) }
 {
     for number in numbers {
         json.u64(*number)?;
@@ -91,7 +92,8 @@ fn add_one(json: &mut Writer<Global>, against: &Against) -> Result<(), AllocErro
 
 /// Adds ledgers.
 fn add_ledgers(json: &mut Writer<Global>, against: &[Against]) -> Result<(), AllocError>
-    ensures { OnOk result (objects.Adds (flat_map (λ a. json_tokens (objects.against_json a)) against.now) json.old json.new) }
+    ensures { OnOk result (objects.Adds (flat_map (λ a. json_tokens
+        (objects.against_json a)) against.now) json.old json.new) }
 {
     for one in against {
         add_one(json, one)?;
@@ -112,7 +114,8 @@ fn add_against(json: &mut Writer<Global>, against: &[Against]) -> Result<(), All
 
 /// Adds texts.
 fn add_texts(json: &mut Writer<Global>, texts: &[String]) -> Result<(), AllocError>
-    ensures { OnOk result (objects.Adds (flat_map (λ t. json_tokens (string (string_bytes t))) texts.now) json.old json.new) }
+    ensures { OnOk result (objects.Adds (flat_map (λ t. json_tokens (string
+        (string_bytes t))) texts.now) json.old json.new) }
 {
     for text in texts {
         json.string(text.as_str())?;
@@ -127,7 +130,8 @@ fn add_notes(
     further: &[String],
 ) -> Result<(), AllocError>
     ensures { OnOk result (objects.Adds (objects.member_tokens (codes "notes")
-        (objects.list_json (map string (map string_bytes notes.now ++ map string_bytes further.now)))) json.old json.new) }
+        (objects.list_json (map string (map string_bytes notes.now
+        ++ map string_bytes further.now)))) json.old json.new) }
 {
     json.key("notes")?;
     json.begin_array()?;
@@ -180,7 +184,8 @@ pub fn json_of(
 ) -> Result<String, AllocError>
     ensures text { IfOk result (λ text. string_bytes text ≡ objects.json_of facts.now (map string_bytes names.now)
         against.now (map string_bytes further.now)) }
-    ensures reads_back { IfOk result (λ text. objects.IsLineOf (objects.answer_json facts.now (map string_bytes names.now)
+    ensures reads_back { IfOk result (λ text. objects.IsLineOf (objects.answer_json facts.now
+        (map string_bytes names.now)
         against.now (map string_bytes further.now)) (string_bytes text)) }
 {
     let notes = notes_of(alloc, facts, names)?;

@@ -13,7 +13,6 @@ pub use cluster::{Cluster, ClusterFault};
 pub use gathered::{GatherFault, gather};
 pub use ledgers::{Reading, ledger_of};
 pub use names::{ClusterNames, MAX_CLUSTER_BOOKIES};
-
 pub use shown::Shown;
 pub use together::Gathered;
 pub use united::{UniteFault, numbers_of, unite};

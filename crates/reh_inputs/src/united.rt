@@ -42,12 +42,7 @@ fn shown_at(alloc: Global, listed: &Listed, number: usize) -> Result<Shown, Allo
         return Ok(Shown::new(is_registered, false, false, None));
     };
     let rack = rack_of(alloc, marks.rack())?;
-    Ok(Shown::new(
-        is_registered,
-        marks.is_read_only(),
-        marks.is_empty(),
-        rack,
-    ))
+    Ok(Shown::new(is_registered, marks.is_read_only(), marks.is_empty(), rack))
 }
 
 /// Adds the bookie of that number.

@@ -14,9 +14,9 @@ mod pictures;
 mod places;
 mod walks;
 
+pub use contents::Holding;
 pub use counts::Counts;
 pub use faults::{FaultName, LedgerFlaw, PictureFault, Repeated};
-pub use contents::Holding;
 pub use fields::Field;
 pub use listings::{Listed, list_picture};
 pub use marks::BookieMarks;

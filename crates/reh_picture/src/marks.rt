@@ -73,9 +73,7 @@ fn read_rack(alloc: Global, bookie: &Value) -> Result<Option<String>, PictureFau
     let Some(value) = bookie.get(Field::Rack.name()) else {
         return Ok(None);
     };
-    let rack = value
-        .as_str()
-        .ok_or(PictureFault::WrongKind(Field::Rack))?;
+    let rack = value.as_str().ok_or(PictureFault::WrongKind(Field::Rack))?;
     if !is_name(rack.as_bytes()) {
         return Err(PictureFault::Limit(Field::Rack));
     }

@@ -13,9 +13,7 @@ use std::alloc::{AllocError, Global};
 fn is_word(words: &[&str], name: &str) -> bool
     ensures { result ≡ model.is_word words.now name.now }
 {
-    words
-        .iter()
-        .any(|word| word.as_bytes() == name.as_bytes())
+    words.iter().any(|word| word.as_bytes() == name.as_bytes())
 }
 
 /// The names that the words give: a word that is no bookie's name is a list of names with commas between them.

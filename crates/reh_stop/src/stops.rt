@@ -15,7 +15,7 @@ ghost use Rattle.reh_stop.specs.declared.stops.StopFault.TheVariants.{Nobody, Tw
 ghost use Rattle.reh_stop.specs.Stops as model;
 
 use crate::named::{first_twice, first_unknown, first_unknown_rack, stopped_of};
-use reh_against::against_of;
+use reh_against::{Stop, against_of};
 use reh_answer::{facts_of, json_of, status_of, text_of};
 use reh_census::{BookieSet, Question};
 use reh_inputs::{Cluster, Gathered};
@@ -124,16 +124,14 @@ fn say(
     let names = cluster.names().as_slice();
     let question = &asked.question;
     let facts = facts_of(alloc, census, bookies, question, stopped)?;
-    let against = against_of(
-        alloc,
-        ids,
-        ledgers,
+    let stop = Stop {
         names,
         bookies,
-        question,
         stopped,
-        &facts.answer,
-    )?;
+        question,
+        answer: &facts.answer,
+    };
+    let against = against_of(alloc, ids, ledgers, &stop)?;
     let text = if asked.as_json {
         json_of(alloc, &facts, names, &against, &[])?
     } else {
@@ -146,11 +144,7 @@ fn say(
 }
 
 /// Whether the bookies may be stopped, by what inputs show together: the text that says so, and the exit status.
-pub fn answer_stop(
-    alloc: Global,
-    gathered: &Gathered,
-    asked: &Asked<'_>,
-) -> Result<Said, StopFault>
+pub fn answer_stop(alloc: Global, gathered: &Gathered, asked: &Asked<'_>) -> Result<Said, StopFault>
     ensures named { OnOk result (model.AreNamed gathered.now.cluster asked.now) }
     ensures said { IfOk result (λ said. model.IsSaid gathered.now asked.now
         (model.stopped_by gathered.now.cluster asked.now) said) }

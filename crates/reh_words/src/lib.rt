@@ -4,5 +4,6 @@
 mod tasks;
 
 pub use tasks::{
-    Crew, DrillFiles, Input, Inputs, MAX_FILES, PlanWords, RiskWords, Stop, Task, WaveWords, task_of,
+    Crew, DrillFiles, Input, Inputs, MAX_FILES, PlanWords, RiskWords, Stop, Task, WaveWords,
+    task_of,
 };

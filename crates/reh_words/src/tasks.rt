@@ -434,7 +434,9 @@ fn with_question<'a>(alloc: Global, command: Command<'a>) -> Result<Command<'a>,
         .long("keep")
         .value_name("COPIES")
         .value_parser(KEEPS)
-        .help("How many copies each entry is to keep, or ack-1; by default its ledger's ack quorum");
+        .help(
+            "How many copies each entry is to keep, or ack-1; by default its ledger's ack quorum",
+        );
     let ensemble = Arg::new(alloc, "ensemble")
         .long("ensemble")
         .value_name("SIZE")
@@ -483,9 +485,7 @@ const FORMATS: &[&str] = &["text", "json"];
 
 /// An argument without a value.
 fn flag_arg<'a>(alloc: Global, name: &'a str) -> Arg<'a> {
-    Arg::new(alloc, name)
-        .long(name)
-        .action(ArgAction::SetTrue)
+    Arg::new(alloc, name).long(name).action(ArgAction::SetTrue)
 }
 
 /// The argument for a number of workers, 1 to 8.

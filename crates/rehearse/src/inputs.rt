@@ -5,7 +5,7 @@ ghost use Rattle.std.specs.Option.{IsSome};
 use crate::checks::read_picture_file;
 use crate::faults::RunFault;
 use reh_inputs::{GatherFault, Gathered, gather};
-use reh_picture::{LocatedFault, Listed, PictureFault, list_picture};
+use reh_picture::{Listed, LocatedFault, PictureFault, list_picture};
 use reh_types::BookieIx;
 use reh_words::Inputs;
 use std::alloc::{AllocError, Global};

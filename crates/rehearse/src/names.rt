@@ -19,7 +19,9 @@ pub(crate) fn unknown_to_all(
 ) -> RunFault {
     let name = name_at(words, number);
     misnamed(match only_longer(names, name) {
-        Some(full) => format!(in alloc; "no input has a bookie '{name}': its full name is '{full}'"),
+        Some(full) => format!(in alloc;
+            "no input has a bookie '{name}': its full name is '{full}'"
+        ),
         None => format!(in alloc; "no input has a bookie '{name}'"),
     })
 }

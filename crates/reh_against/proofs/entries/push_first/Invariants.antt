@@ -8,7 +8,7 @@ use Rattle.reh_against.proofs.entries.push_first.Given as goal
 abbrev pub invariant-loop-counted : goal.invariant-loop-counted
 invariant-loop-counted l = record {
   first :
-      find (some_speaks l.answer l.keep (is_flagged l.stopped)) (drop l.counted-index l.entries)
-      ≡ find (some_speaks l.answer l.keep (is_flagged l.stopped)) l.entries;
+      find (some_speaks l.stop.answer.now l.stop.question.now.keep (is_flagged l.stop.stopped.now)) (drop l.counted-index l.entries)
+      ≡ find (some_speaks l.stop.answer.now l.stop.question.now.keep (is_flagged l.stop.stopped.now)) l.entries;
   text : string_bytes l.text ≡ string_bytes l.fn.text;
 }

@@ -12,7 +12,7 @@ use Rattle.reh_against.proofs.picks.found_in.Goals as goal
 
 pub loop-place-preserved : goal.loop-place-preserved
 loop-place-preserved c =
-    let w : Ledger → ℕ = weight (bookies_of c.args.bookies.now) c.args.question.now (is_flagged c.args.stopped.now) c.args.answer.now in
+    let w : Ledger → ℕ = weight (bookies_of c.args.stop.now.bookies.now) c.args.stop.now.question.now (is_flagged c.args.stop.now.stopped.now) c.args.stop.now.answer.now in
     let ids : List ℕ = c.args.ids.now in
     let ledgers : List Ledger = c.args.ledgers.now in
     let n : ℕ = c.loop-place.place in

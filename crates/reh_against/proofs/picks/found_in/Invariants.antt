@@ -10,7 +10,7 @@ abbrev pub invariant-loop-place : goal.invariant-loop-place
 invariant-loop-place l = record {
   found :
       l.found.items
-      ++ found_from (weight (bookies_of l.bookies) l.question (is_flagged l.stopped) l.answer) l.place (drop l.place l.ids) (drop l.place l.ledgers)
-      ≡ found_from (weight (bookies_of l.bookies) l.question (is_flagged l.stopped) l.answer) 0 l.ids l.ledgers;
+      ++ found_from (weight (bookies_of l.stop.bookies.now) l.stop.question.now (is_flagged l.stop.stopped.now) l.stop.answer.now) l.place (drop l.place l.ids) (drop l.place l.ledgers)
+      ≡ found_from (weight (bookies_of l.stop.bookies.now) l.stop.question.now (is_flagged l.stop.stopped.now) l.stop.answer.now) 0 l.ids l.ledgers;
   places : All (λ f. f.place < length l.ledgers) l.found.items;
 }

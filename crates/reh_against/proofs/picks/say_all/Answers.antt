@@ -11,8 +11,8 @@ use Rattle.reh_against.proofs.picks.say_all.Goals as goal
 pub loop-found-preserved : goal.loop-found-preserved
 loop-found-preserved c =
     let is : Found → Against → Type 0 =
-    IsAgainst (map string_bytes c.args.names.now) c.args.ledgers.now (bookies_of c.args.bookies.now) c.args.question.now.keep
-    (is_flagged c.args.stopped.now) c.args.answer.now in
+    IsAgainst (map string_bytes c.args.stop.now.names.now) c.args.ledgers.now (bookies_of c.args.stop.now.bookies.now) c.args.stop.now.question.now.keep
+    (is_flagged c.args.stop.now.stopped.now) c.args.stop.now.answer.now in
     let worst : List Found = c.args.worst.now in
     let n : ℕ = c.loop-found.found-index in
     let one : Found = get_or worst n (found_by 0 0 0) in

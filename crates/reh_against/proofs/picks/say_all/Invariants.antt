@@ -7,5 +7,5 @@ use Rattle.reh_against.proofs.picks.say_all.Given as goal
 abbrev pub invariant-loop-found : goal.invariant-loop-found
 invariant-loop-found l =
     Each
-    (IsAgainst (map string_bytes l.names) l.ledgers (bookies_of l.bookies) l.question.keep (is_flagged l.stopped) l.answer)
+    (IsAgainst (map string_bytes l.stop.names.now) l.ledgers (bookies_of l.stop.bookies.now) l.stop.question.now.keep (is_flagged l.stop.stopped.now) l.stop.answer.now)
     (take l.found-index l.worst) l.against.items

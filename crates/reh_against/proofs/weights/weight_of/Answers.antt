@@ -10,15 +10,15 @@ use Rattle.reh_against.proofs.weights.weight_of.Goals as goal
 
 pub returns-clause-weight : goal.returns-clause-weight
 returns-clause-weight c =
-    let bookies : Bookies = bookies_of c.args.bookies.now in
-    let stopped : ℕ → Bool = is_flagged c.args.stopped.now in
+    let bookies : Bookies = bookies_of c.args.stop.now.bookies.now in
+    let stopped : ℕ → Bool = is_flagged c.args.stop.now.stopped.now in
     let one : List Ledger = c.args.ledger.now ∷ [] in
     let counts : IsCensus c.in_ok-census.census (holders bookies) one =
     subst (λ (gs : List Ledger). IsCensus c.in_ok-census.census (holders bookies) gs) c.from_ref.ensures.value
     c.in_ok-census.ensures.census in
     let numbers : c.numbers_of-numbers.result
-    ≡ numbers_on (counting_of (holders bookies) one) bookies (model.without_new c.args.question.now) 0 stopped =
+    ≡ numbers_on (counting_of (holders bookies) one) bookies (model.without_new c.args.stop.now.question.now) 0 stopped =
     c.numbers_of-numbers.ensures.ledgers one counts
     ∙ (λ i. numbers_on (counting_of (holders bookies) one) bookies (c.without_new-question.ensures i)
     (not_judged (c.in_ok-census.ensures.judged i)) stopped) in
-    c.weight_by.ensures ∙ ap (λ (n : Numbers). model.weight_by c.args.answer.now n) numbers
+    c.weight_by.ensures ∙ ap (λ (n : Numbers). model.weight_by c.args.stop.now.answer.now n) numbers
