@@ -12,4 +12,6 @@ mod writers;
 
 pub use copies::{entries_with, most_copies};
 pub use entries::{Breaks, breaks_of};
+pub use members::takes_some_disk;
 pub use numbers::{answer_of, breaks_new_ledgers, numbers_of};
+pub use racks::{count_writable, lacks_racks};

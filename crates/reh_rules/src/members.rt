@@ -52,7 +52,7 @@ fn is_at_stake(bookies: &Bookies, question: &Question, stopped: &BookieSet, book
 }
 
 /// Whether some bookie's disk would go for good with it.
-pub(crate) fn takes_some_disk(bookies: &Bookies, question: &Question, stopped: &BookieSet) -> bool
+pub fn takes_some_disk(bookies: &Bookies, question: &Question, stopped: &BookieSet) -> bool
     ensures { result ≡ list_any (model.takes_disk (bookies_of bookies.now) question.now (is_flagged stopped.now))
         (bookies_of bookies.now).names }
 {

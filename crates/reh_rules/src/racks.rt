@@ -9,7 +9,7 @@ use crate::members::{is_writable, one_if};
 use reh_census::{BookieSet, Bookies, Question};
 
 /// How many bookies may be written to.
-pub(crate) fn count_writable(bookies: &Bookies, stopped: &BookieSet) -> u64
+pub fn count_writable(bookies: &Bookies, stopped: &BookieSet) -> u64
     ensures { result ≡ bookies_model.writable (bookies_of bookies.now) (is_flagged stopped.now) }
 {
     let mut count = 0;
@@ -61,7 +61,7 @@ fn count_racks(bookies: &Bookies, stopped: &BookieSet) -> u64
 }
 
 /// Whether they stand in fewer racks than are asked for.
-pub(crate) fn lacks_racks(bookies: &Bookies, question: &Question, stopped: &BookieSet) -> bool
+pub fn lacks_racks(bookies: &Bookies, question: &Question, stopped: &BookieSet) -> bool
     ensures { result ≡ model.lacks_racks (bookies_of bookies.now) question.now (is_flagged stopped.now) }
 {
     match question.min_racks {

@@ -1,4 +1,5 @@
 pub mod FewestLaws
+pub mod NearLaws
 pub mod PositionLaws
 pub mod RankLaws
 pub mod RiskLaws

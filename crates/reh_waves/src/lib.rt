@@ -4,8 +4,10 @@
 mod fewest;
 mod lines;
 mod losses;
+mod near;
 mod objects;
 mod orders;
+mod printable;
 mod reasons;
 mod risk;
 mod risk_lines;
@@ -18,6 +20,7 @@ pub use lines::waves_text;
 pub use losses::{Loss, Lost};
 pub use objects::waves_json;
 pub use orders::order_by_name;
+pub use printable::are_printable;
 pub use risk::{Risk, risk_of};
 pub use risk_lines::risk_text;
 pub use risk_objects::risk_json;

@@ -2,13 +2,15 @@
 ghost use Rattle.std.specs.Prelude.{◌≡◌, ◌<◌, All, IfOk, ℕ, map, length};
 ghost use Rattle.reh_census.specs.Bookies.{bookies_of, is_flagged};
 ghost use Rattle.reh_census.specs.Counting.{counting_in, not_judged};
+ghost use Rattle.reh_census.specs.Tails.{IsTail};
 ghost use Rattle.reh_waves.specs.Losses as model;
+ghost use Rattle.reh_waves.specs.Near.{AreLargest};
 ghost use Rattle.reh_waves.specs.declared.losses.Lost.TheVariants.{Rack};
 ghost use Rattle.reh_waves.specs.Losses.{AreRanked, IsWithin, loss_on, stopped_by};
 
+use crate::near::{Largest, near_of, numbers_near};
 use crate::sets::set_of;
 use reh_census::{BookieSet, Bookies, Census, Numbers, Question};
-use reh_rules::numbers_of;
 use std::alloc::{AllocError, Global};
 
 /// Bookies that are lost: one, all of a rack, two.
@@ -74,16 +76,20 @@ pub(crate) fn losses_of(
     census: &Census,
     bookies: &Bookies,
     question: &Question,
+    largest: Largest,
     lost: &[Lost],
 ) -> Result<Vec<Loss>, AllocError>
-    requires { All (IsWithin (length bookies.now)) lost.now }
+    requires largest { AreLargest census.now largest.tail largest.ensemble }
+    requires well_formed { All (λ t. IsTail t.tail) census.now.tails }
+    requires lost { All (IsWithin (length bookies.now)) lost.now }
     ensures { IfOk result (λ losses. losses.items ≡ map (loss_on (counting_in census.now) (bookies_of bookies.now) question.now
         (not_judged census.now.judged)) lost.now) }
 {
     let mut losses = Vec::new(alloc);
     for one in lost {
         let stopped = lost_set(alloc, bookies, *one)?;
-        let numbers = numbers_of(alloc, census, bookies, question, &stopped);
+        let near = near_of(alloc, census, &stopped)?;
+        let numbers = numbers_near(alloc, census, &near, bookies, question, largest, &stopped);
         losses.push(Loss {
             lost: *one,
             numbers,

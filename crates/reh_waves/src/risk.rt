@@ -5,7 +5,9 @@ ghost use Rattle.reh_census.specs.Bookies.{bookies_of, holders};
 ghost use Rattle.reh_census.specs.Counting.{IsCensus, counting_in, counting_of, not_judged};
 ghost use Rattle.reh_census.specs.Ledgers.{Ledger as LedgerValue};
 ghost use Rattle.reh_census.specs.Striping.{range};
+ghost use Rattle.reh_census.specs.Tails.{IsTail};
 ghost use Rattle.reh_waves.specs.Losses.{IsWithin};
+ghost use Rattle.reh_waves.specs.Near.{AreLargest};
 ghost use Rattle.reh_waves.specs.Losses as losses;
 ghost use Rattle.reh_waves.specs.Risk as model;
 ghost use Rattle.reh_waves.specs.Risk.{IsRisk};
@@ -13,6 +15,7 @@ ghost use Rattle.reh_waves.specs.declared.losses.Lost.TheVariants.{Bookie, Rack,
 
 use crate::fewest::fewest_copies;
 use crate::losses::{Loss, Lost, losses_of, ranked};
+use crate::near::{Largest, largest_of};
 use crate::spares::least_spare;
 use reh_census::{Bookies, Census, Question};
 use std::alloc::{AllocError, Global};
@@ -100,13 +103,16 @@ fn rank(
     census: &Census,
     bookies: &Bookies,
     question: &Question,
+    largest: Largest,
     lost: &[Lost],
 ) -> Result<Vec<Loss>, AllocError>
-    requires { All (IsWithin (length bookies.now)) lost.now }
+    requires largest { AreLargest census.now largest.tail largest.ensemble }
+    requires well_formed { All (λ t. IsTail t.tail) census.now.tails }
+    requires lost { All (IsWithin (length bookies.now)) lost.now }
     ensures { IfOk result (λ ranked. losses.AreRanked (map (losses.loss_on (counting_in census.now) (bookies_of bookies.now) question.now
         (not_judged census.now.judged)) lost.now) ranked.items) }
 {
-    let losses = losses_of(alloc, census, bookies, question, lost)?;
+    let losses = losses_of(alloc, census, bookies, question, largest, lost)?;
     let ranked = ranked(losses)?;
     Ok(ranked)
 }
@@ -136,12 +142,13 @@ pub fn risk_of(
     let alone = each_bookie(alloc, &registered)?;
     let by_rack = each_rack(alloc, racks)?;
     let pairs = pairs_if(alloc, with_pairs, &registered)?;
+    let largest = largest_of(census);
     Ok(Risk {
         fewest_copies: fewest_copies(census.entries()),
         fewest_in_tails: least_spare(bookies, census.tails()),
-        bookies: rank(alloc, census, bookies, question, &alone)?,
-        racks: rank(alloc, census, bookies, question, &by_rack)?,
-        pairs: rank(alloc, census, bookies, question, &pairs)?,
+        bookies: rank(alloc, census, bookies, question, largest, &alone)?,
+        racks: rank(alloc, census, bookies, question, largest, &by_rack)?,
+        pairs: rank(alloc, census, bookies, question, largest, &pairs)?,
         not_judged: census.not_judged(),
     })
 }

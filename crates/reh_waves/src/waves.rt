@@ -1,19 +1,21 @@
 // Which bookies may be stopped together, in which rounds.
-ghost use Rattle.std.specs.Prelude.{◌≡◌, ◌+◌, ◌<◌, ◌==◌, ◌∷◌, cond, true, All, IfOk, OnOk, ℕ, List, length, position};
+ghost use Rattle.std.specs.Prelude.{◌≡◌, ◌+◌, ◌<◌, ◌==◌, ◌∷◌, [], cond, true, All, IfOk, OnOk, ℕ, List, length, position};
 ghost use Rattle.std.specs.List.Sorted.{IsPermutation};
 ghost use Rattle.reh_census.specs.Answers as answers;
-ghost use Rattle.reh_census.specs.Answers.{answer_on};
+ghost use Rattle.reh_census.specs.Answers.{IsAllZero, answer_on, numbers_on};
 ghost use Rattle.reh_census.specs.Bookies.{bookies_of, holders};
 ghost use Rattle.reh_census.specs.Copies.{is_in};
-ghost use Rattle.reh_census.specs.Counting.{IsCensus, counting_of, not_judged};
+ghost use Rattle.reh_census.specs.Counting.{IsCensus, counting_in, counting_of, not_judged};
 ghost use Rattle.reh_census.specs.Ledgers.{Ledger as LedgerValue};
 ghost use Rattle.reh_census.specs.Striping.{range};
+ghost use Rattle.reh_census.specs.Tails.{IsTail};
+ghost use Rattle.reh_waves.specs.Near.{AreLargest, IsNear};
 ghost use Rattle.reh_waves.specs.Waves as model;
 ghost use Rattle.reh_waves.specs.Waves.{AreWaves, IsBegun, IsJoined, IsRound, NoTwo, answer_in, joins, places};
 
+use crate::near::{Largest, largest_of, near_of, numbers_near};
 use crate::sets::set_of;
-use reh_census::{Answer, Bookies, Census, Question};
-use reh_rules::answer_of;
+use reh_census::{Answer, Bookies, Census, Question, answer_by};
 use std::alloc::{AllocError, Global};
 
 /// Bookies that may be stopped together, and their rack, where rounds keep to racks.
@@ -61,36 +63,47 @@ fn rack_for(bookies: &Bookies, by_rack: bool, bookie: u16) -> Option<u16>
     }
 }
 
-/// The answer where these bookies are stopped, and one more.
+/// The answer where these bookies are stopped, which may be, and one more, by the part of the census that names it.
 fn answer_with(
     alloc: Global,
     census: &Census,
+    near: &Census,
     bookies: &Bookies,
     question: &Question,
+    largest: Largest,
     members: &[u16],
     bookie: u16,
 ) -> Result<Answer, AllocError>
+    requires near { IsNear census.now near.now (is_in (bookie ∷ [])) }
+    requires largest { AreLargest census.now largest.tail largest.ensemble }
+    requires well_formed { All (λ t. IsTail t.tail) census.now.tails }
+    requires zero { IsAllZero (numbers_on (counting_in census.now) (bookies_of bookies.now) question.now 0 (is_in members.now)) }
     requires members { All (λ b. (bookies_of bookies.now).is_registered b ≡ true) members.now }
     requires bookie { (bookies_of bookies.now).is_registered bookie ≡ true }
     ensures { IfOk result (λ answer. answer
         ≡ answer_in census.now (bookies_of bookies.now) question.now (is_in (bookie ∷ members.now))) }
 {
     let stopped = set_of(alloc, bookies.count(), members, bookie)?;
-    let answer = answer_of(alloc, census, bookies, question, &stopped);
-    Ok(answer)
+    let numbers = numbers_near(alloc, census, near, bookies, question, largest, &stopped);
+    Ok(answer_by(&numbers))
 }
 
 /// Whether the bookie of this rack may join the round, and be stopped with it.
 fn fits(
     alloc: Global,
     census: &Census,
+    near: &Census,
     bookies: &Bookies,
     question: &Question,
+    largest: Largest,
     by_rack: bool,
     round: &Round,
     rack: Option<u16>,
     bookie: u16,
 ) -> Result<bool, AllocError>
+    requires near { IsNear census.now near.now (is_in (bookie ∷ [])) }
+    requires largest { AreLargest census.now largest.tail largest.ensemble }
+    requires well_formed { All (λ t. IsTail t.tail) census.now.tails }
     requires round { IsRound (answer_in census.now (bookies_of bookies.now) question.now) (bookies_of bookies.now) by_rack round.now }
     requires bookie { (bookies_of bookies.now).is_registered bookie ≡ true }
     ensures { IfOk result (λ fits. fits ≡ joins (answer_in census.now (bookies_of bookies.now) question.now) by_rack rack bookie round.now) }
@@ -98,7 +111,16 @@ fn fits(
     if !may_join(by_rack, rack, round.rack) {
         return Ok(false);
     }
-    let answer = answer_with(alloc, census, bookies, question, &round.bookies, bookie)?;
+    let answer = answer_with(
+        alloc,
+        census,
+        near,
+        bookies,
+        question,
+        largest,
+        &round.bookies,
+        bookie,
+    )?;
     Ok(is_yes(answer))
 }
 
@@ -113,13 +135,18 @@ fn is_yes(answer: Answer) -> bool
 fn first_fit(
     alloc: Global,
     census: &Census,
+    near: &Census,
     bookies: &Bookies,
     question: &Question,
+    largest: Largest,
     by_rack: bool,
     rounds: &[Round],
     rack: Option<u16>,
     bookie: u16,
 ) -> Result<Option<usize>, AllocError>
+    requires near { IsNear census.now near.now (is_in (bookie ∷ [])) }
+    requires largest { AreLargest census.now largest.tail largest.ensemble }
+    requires well_formed { All (λ t. IsTail t.tail) census.now.tails }
     requires rounds { All (IsRound (answer_in census.now (bookies_of bookies.now) question.now) (bookies_of bookies.now) by_rack) rounds.now }
     requires bookie { (bookies_of bookies.now).is_registered bookie ≡ true }
     ensures { IfOk result (λ found. found
@@ -128,7 +155,7 @@ fn first_fit(
     for number in 0..rounds.len() {
         let round = &rounds[number];
         if fits(
-            alloc, census, bookies, question, by_rack, round, rack, bookie,
+            alloc, census, near, bookies, question, largest, by_rack, round, rack, bookie,
         )? {
             return Ok(Some(number));
         }
@@ -166,21 +193,28 @@ fn place(
     census: &Census,
     bookies: &Bookies,
     question: &Question,
+    largest: Largest,
     by_rack: bool,
     waves: &mut Waves,
     bookie: u16,
 ) -> Result<(), AllocError>
+    requires largest { AreLargest census.now largest.tail largest.ensemble }
+    requires well_formed { All (λ t. IsTail t.tail) census.now.tails }
     requires waves { AreWaves (answer_in census.now (bookies_of bookies.now) question.now) (bookies_of bookies.now) by_rack waves.old }
     requires bookie { (bookies_of bookies.now).is_registered bookie ≡ true }
     ensures waves { OnOk result (AreWaves (answer_in census.now (bookies_of bookies.now) question.now) (bookies_of bookies.now) by_rack waves.new) }
     ensures places { OnOk result ((b : ℕ) → places waves.new b ≡ places waves.old b + cond (bookie == b) 1 0) }
 {
+    let among = set_of(alloc, bookies.count(), &[], bookie)?;
+    let near = near_of(alloc, census, &among)?;
     let rack = rack_for(bookies, by_rack, bookie);
     let found = first_fit(
         alloc,
         census,
+        &near,
         bookies,
         question,
+        largest,
         by_rack,
         &waves.rounds,
         rack,
@@ -190,7 +224,16 @@ fn place(
         join(&mut waves.rounds, number, bookie)?;
         return Ok(());
     }
-    let answer = answer_with(alloc, census, bookies, question, &[], bookie)?;
+    let answer = answer_with(
+        alloc,
+        census,
+        &near,
+        bookies,
+        question,
+        largest,
+        &[],
+        bookie,
+    )?;
     if is_yes(answer) {
         begin(alloc, &mut waves.rounds, rack, bookie)?;
         return Ok(());
@@ -224,6 +267,7 @@ pub fn waves_of(
         (not_judged census.now.judged)) by_rack waves.rounds.items) }
     ensures once { IfOk result (λ waves. (b : ℕ) → places waves b ≡ cond ((bookies_of bookies.now).is_registered b) 1 0) }
 {
+    let largest = largest_of(census);
     let mut waves = Waves {
         rounds: Vec::new(alloc),
         alone: Vec::new(alloc),
@@ -231,7 +275,7 @@ pub fn waves_of(
     for bookie in order {
         if bookies.is_registered(*bookie) {
             place(
-                alloc, census, bookies, question, by_rack, &mut waves, *bookie,
+                alloc, census, bookies, question, largest, by_rack, &mut waves, *bookie,
             )?;
         }
     }

@@ -25,6 +25,7 @@ pub(crate) fn waves_over<R: thread::Threads + Wait + Sync>(
         words.by_rack,
     )?;
     let text = if words.as_json {
+        check_names(names)?;
         waves_json(rt.alloc(), names, &waves)?
     } else {
         waves_text(rt.alloc(), names, &waves)?

@@ -12,22 +12,22 @@ use Rattle.reh_waves.specs.declared.losses.Lost.TheVariants.{Bookie}
 use Rattle.reh_waves.proofs.RiskLaws.{bookies-within, counting-same, loss-once, pairs-within, racks-within}
 use Rattle.reh_waves.proofs.risk.risk_of.Goals as goal
 
-pub rank-requires : goal.rank-requires
-rank-requires c =
+pub rank-requires-clause-lost : goal.rank-requires-clause-lost
+rank-requires-clause-lost c =
     subst (λ (lost : List Lost). All (IsWithin (length c.args.bookies.now)) lost)
     (sym
     (c.deref-3.ensures.value ∙ c.in_ok-alone.ensures
     ∙ ap (λ (bs : List ℕ). map (λ b. Bookie b) bs) (c.deref.ensures.value ∙ c.in_ok-registered.ensures)))
     (bookies-within c.args.bookies.now c.args.order.now)
 
-pub rank-requires-2 : goal.rank-requires-2
-rank-requires-2 c =
+pub rank-requires-2-clause-lost : goal.rank-requires-2-clause-lost
+rank-requires-2-clause-lost c =
     subst (λ (lost : List Lost). All (IsWithin (length c.args.bookies.now)) lost)
     (sym (c.deref-4.ensures.value ∙ c.in_ok-by_rack.ensures))
     (racks-within (length c.args.bookies.now) c.args.racks.now)
 
-pub rank-requires-3 : goal.rank-requires-3
-rank-requires-3 c =
+pub rank-requires-3-clause-lost : goal.rank-requires-3-clause-lost
+rank-requires-3-clause-lost c =
     subst (λ (lost : List Lost). All (IsWithin (length c.args.bookies.now)) lost)
     (sym
     (c.deref-5.ensures.value ∙ c.in_ok-pairs.ensures

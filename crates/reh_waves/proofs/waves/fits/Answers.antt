@@ -1,5 +1,7 @@
-use Rattle.std.proofs.Common.{◌≡◌, ◌∙◌, ◌∷◌, ◌&&◌, ℕ, Bool, true, List, ap, sym, arith}
-use Rattle.reh_census.specs.Answers.{is_yes}
+use Rattle.std.proofs.Common.{◌≡◌, ◌∙◌, ◌∷◌, ◌&&◌, ℕ, Bool, true, List, ap, sym, subst, arith}
+use Rattle.reh_census.specs.Answers.{IsAllZero, is_yes, numbers_on}
+use Rattle.reh_census.specs.Counting.{counting_in}
+use Rattle.reh_waves.proofs.NearLaws.{yes-none}
 use Rattle.reh_census.specs.Bookies.{bookies_of}
 use Rattle.reh_census.specs.Copies.{is_in}
 use Rattle.reh_census.specs.declared.answers.Answer.{Answer}
@@ -16,3 +18,10 @@ returns c =
     let joins : may_join c.args.by_rack c.args.rack c.args.round.now.rack ≡ true =
     grind (arith, c.may_join.ensures, c.if-not-may_join.false) in
     is ∙ ap (λ b. b && goes answer (is_in (c.args.bookie ∷ c.args.round.now.bookies.items))) (sym joins)
+
+pub answer_with-requires-clause-zero : goal.answer_with-requires-clause-zero
+answer_with-requires-clause-zero c =
+    subst
+    (λ (members : List ℕ). IsAllZero (numbers_on (counting_in c.args.census.now) (bookies_of c.args.bookies.now) c.args.question.now 0 (is_in members)))
+    (sym c.deref.ensures.value)
+    (yes-none c.args.census.now (bookies_of c.args.bookies.now) c.args.question.now (is_in c.args.round.now.bookies.items) c.requires.round.yes)

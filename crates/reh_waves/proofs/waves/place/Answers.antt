@@ -9,6 +9,8 @@ use Rattle.reh_census.specs.declared.answers.Answer.{Answer}
 use Rattle.reh_census.proofs.AnswerLaws.{yes-part-in}
 use Rattle.reh_waves.specs.declared.waves.Alone.{Alone}
 use Rattle.reh_waves.specs.declared.waves.Round.{Round}
+use Rattle.reh_waves.specs.Near.{IsNear}
+use Rattle.reh_waves.proofs.NearLaws.{none-zero}
 use Rattle.reh_waves.specs.Waves.{IsAlone, IsBegun, answer_in, joins, rack_for}
 use Rattle.reh_waves.proofs.PositionLaws.{position-none}
 use Rattle.reh_waves.proofs.WaveLaws.{IsMonotone, begun-apart, begun-rounds, joined-apart, joined-places, joined-rounds}
@@ -87,3 +89,14 @@ returns-clause-waves c =
             not_yes = sym c.is_yes.ensures ∙ c.if-is_yes.false;
           }));
     }
+
+pub first_fit-requires-clause-near : goal.first_fit-requires-clause-near
+first_fit-requires-clause-near c =
+    subst (λ (among : ℕ → Bool). IsNear c.args.census.now c.in_ok-near.near among) (λ i b. c.in_ok-among.ensures b i) c.in_ok-near.ensures
+
+pub answer_with-requires-clause-near : goal.answer_with-requires-clause-near
+answer_with-requires-clause-near c =
+    subst (λ (among : ℕ → Bool). IsNear c.args.census.now c.in_ok-near.near among) (λ i b. c.in_ok-among.ensures b i) c.in_ok-near.ensures
+
+pub answer_with-requires-clause-zero : goal.answer_with-requires-clause-zero
+answer_with-requires-clause-zero c = none-zero c.args.census.now (bookies_of c.args.bookies.now) c.args.question.now

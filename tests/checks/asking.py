@@ -1,0 +1,350 @@
+"""What has to be answered where bookies are to be stopped: a plain reference, entry by entry and over every completion.
+
+A completion of an entry says of each bookie of which nobody told whether it holds the entry. The ledgers' rules are asked
+write set by write set. Nothing here is counted by ranges.
+"""
+
+from collections import Counter
+from itertools import combinations
+from typing import Dict, FrozenSet, Iterator, List, NamedTuple, Optional, Set, Tuple
+
+RULES = ("readable", "kept", "recoverable", "writable", "replaceable")
+
+
+class Bookie(NamedTuple):
+    """A bookie of a picture. Without a rack it is in none."""
+
+    is_up: bool
+    is_read_only: bool
+    is_empty: bool
+    rack: Optional[str]
+
+
+class Content(NamedTuple):
+    """What is told, or only assumed, of a bookie and a ledger. Of a bookie without a content nothing is."""
+
+    entries: FrozenSet[int]
+    is_assumed: bool
+
+
+class Ledger(NamedTuple):
+    """A ledger with the contents of its bookies. Each fragment is its first entry and its ensemble."""
+
+    id: int
+    state: str
+    last: int
+    size: int
+    write: int
+    ack: int
+    fragments: List[Tuple[int, List[str]]]
+    contents: Dict[str, Content]
+
+
+class Cluster(NamedTuple):
+    """The bookies by name, and the ledgers."""
+
+    bookies: Dict[str, Bookie]
+    ledgers: List[Ledger]
+
+
+class Question(NamedTuple):
+    """What is asked. `keep` is a number, `ack` or `ack-1`."""
+
+    stopped: FrozenSet[str]
+    keep: str = "ack"
+    may_block_recovery: bool = False
+    may_block_writers: bool = False
+    ensemble: Optional[int] = None
+    racks: Optional[int] = None
+    is_for_good: bool = False
+    is_strict: bool = False
+
+
+class Entry(NamedTuple):
+    """What matters of an entry: who is known to hold it, of whom nobody told, and whether some known copy is only assumed.
+
+    Only members of its write set are meant, and of them only registered ones that aren't empty.
+    """
+
+    known: FrozenSet[str]
+    untold: FrozenSet[str]
+    ack: int
+    is_assumed: bool
+
+
+def bookie_of(shown: Dict[str, object]) -> Bookie:
+    return Bookie(shown["up"], shown.get("readOnly", False), shown.get("empty", False), shown.get("rack"))
+
+
+def content_of(shown: Dict[str, object]) -> Content:
+    entries = frozenset(entry for first, last in shown["entries"] for entry in range(first, last + 1))
+    return Content(entries, shown.get("assumed", False))
+
+
+def cluster_of(pictures: List[Dict[str, list]]) -> Cluster:
+    """The cluster that these pictures show together."""
+    bookies = {shown["name"]: bookie_of(shown) for picture in pictures for shown in picture["bookies"]}
+    ledgers = []
+    for picture in pictures:
+        for shown in picture["ledgers"]:
+            sizes = (shown[f"{which}Size"] for which in ("ensemble", "writeQuorum", "ackQuorum"))
+            fragments = [(fragment["firstEntry"], fragment["ensemble"]) for fragment in shown["fragments"]]
+            told = {held["bookie"]: content_of(held) for held in picture["contents"] if held["ledger"] == shown["id"]}
+            ledgers.append(Ledger(shown["id"], shown["state"], shown.get("lastEntryId", -1), *sizes, fragments, told))
+    return Cluster(bookies, ledgers)
+
+
+# Entries.
+
+
+def write_set(ledger: Ledger, ensemble: List[str], entry: int) -> FrozenSet[str]:
+    return frozenset(ensemble[(entry + rank) % ledger.size] for rank in range(ledger.write))
+
+
+def stop_of(ledger: Ledger, number: int) -> int:
+    """One past the last entry of a fragment; of a last one without a stop, one past the greatest entry that is told."""
+    if number + 1 < len(ledger.fragments):
+        return ledger.fragments[number + 1][0]
+    if ledger.state == "CLOSED":
+        return ledger.last + 1
+    greatest = max((entry for content in ledger.contents.values() for entry in content.entries), default=-1)
+    return max(ledger.fragments[number][0], greatest + 1)
+
+
+def is_told(ledger: Ledger, name: str, question: Question) -> bool:
+    content = ledger.contents.get(name)
+    return content is not None and not (question.is_strict and content.is_assumed)
+
+
+def entry_of(cluster: Cluster, ledger: Ledger, members: FrozenSet[str], entry: int, question: Question) -> Entry:
+    """An entry that was written to these members."""
+    known, untold, is_assumed = set(), set(), False
+    for name in members:
+        bookie = cluster.bookies[name]
+        if not bookie.is_up or bookie.is_empty:
+            continue
+        if not is_told(ledger, name, question):
+            untold.add(name)
+        elif entry in ledger.contents[name].entries:
+            known.add(name)
+            is_assumed |= ledger.contents[name].is_assumed
+    return Entry(frozenset(known), frozenset(untold), ledger.ack, is_assumed)
+
+
+def entries_of(cluster: Cluster, ledger: Ledger, question: Question) -> Iterator[Entry]:
+    for number, (first, ensemble) in enumerate(ledger.fragments):
+        for entry in range(first, stop_of(ledger, number)):
+            yield entry_of(cluster, ledger, write_set(ledger, ensemble, entry), entry, question)
+
+
+def copies_to_keep(question: Question, ack: int) -> int:
+    """At least one copy is kept, whatever is asked."""
+    return max(1, {"ack": ack, "ack-1": ack - 1}[question.keep] if "ack" in question.keep else int(question.keep))
+
+
+def completions(entry: Entry) -> Iterator[FrozenSet[str]]:
+    """All that the copies of an entry can be."""
+    for number in range(len(entry.untold) + 1):
+        for holders in combinations(sorted(entry.untold), number):
+            yield entry.known.union(holders)
+
+
+def is_lost(copies: FrozenSet[str], question: Question) -> bool:
+    return len(copies) > 0 and len(copies - question.stopped) == 0
+
+
+def is_fallen(copies: FrozenSet[str], question: Question, ack: int) -> bool:
+    return len(copies - question.stopped) < min(len(copies), copies_to_keep(question, ack))
+
+
+def disks_go(cluster: Cluster, question: Question) -> bool:
+    """Whether a bookie that is down goes for good: an entry without a known copy may have its last one there."""
+    return question.is_for_good and any(not cluster.bookies[name].is_up for name in question.stopped)
+
+
+# Ledgers that aren't closed.
+
+
+def writable(cluster: Cluster) -> Set[str]:
+    return {name for name, bookie in cluster.bookies.items() if bookie.is_up and not bookie.is_read_only}
+
+
+def write_sets(ledger: Ledger) -> List[FrozenSet[str]]:
+    ensemble = ledger.fragments[-1][1]
+    return [write_set(ledger, ensemble, entry) for entry in range(ledger.size)]
+
+
+def loses_its_tail(cluster: Cluster, ledger: Ledger, question: Question) -> bool:
+    """Whether too few members of some write set are left of those that may have acknowledged an entry nobody told of.
+
+    What is down and goes for good counts among those that there are now, whether its disk is empty or not.
+    """
+    least = copies_to_keep(question, ledger.ack)
+    if not question.may_block_recovery:
+        least = max(least, ledger.write - ledger.ack + 1)
+    for members in write_sets(ledger):
+        now = {name for name in members if cluster.bookies[name].is_up and not cluster.bookies[name].is_empty}
+        down = {name for name in members if not cluster.bookies[name].is_up}
+        going = down & question.stopped if question.is_for_good else set()
+        if len(now - question.stopped) < min(len(now | going), least):
+            return True
+    return False
+
+
+def is_blocked(cluster: Cluster, ledger: Ledger, stopped: FrozenSet[str]) -> bool:
+    """Whether some write set has too few members to write to, and no ensemble can be made."""
+    left = writable(cluster) - stopped
+    return len(left) < ledger.size and any(len(members & left) < ledger.ack for members in write_sets(ledger))
+
+
+def gets_blocked(cluster: Cluster, ledger: Ledger, question: Question) -> bool:
+    return is_blocked(cluster, ledger, question.stopped) and not is_blocked(cluster, ledger, frozenset())
+
+
+def is_unrecoverable(cluster: Cluster, ledger: Ledger, question: Question) -> bool:
+    if ledger.state == "CLOSED":
+        return False
+    is_newly_blocked = not question.may_block_recovery and gets_blocked(cluster, ledger, question)
+    return loses_its_tail(cluster, ledger, question) or is_newly_blocked
+
+
+def finds_no_ensemble(cluster: Cluster, size: int, question: Question) -> bool:
+    """Whether an ensemble of this size, or enough racks, could be found and wouldn't be."""
+    now = writable(cluster)
+    left = now - question.stopped
+    racks_now, racks_left = (len({cluster.bookies[name].rack for name in names} - {None}) for names in (now, left))
+    least = question.racks or 0
+    return len(left) < size <= len(now) or racks_left < least <= racks_now
+
+
+def is_unwritable(cluster: Cluster, ledger: Ledger, question: Question) -> bool:
+    if ledger.state != "OPEN" or question.may_block_writers:
+        return False
+    return finds_no_ensemble(cluster, ledger.size, question) or gets_blocked(cluster, ledger, question)
+
+
+def new_ledgers(cluster: Cluster, question: Question) -> int:
+    """1 where new ledgers count as one that finds no ensemble."""
+    if question.ensemble is None or question.may_block_writers:
+        return 0
+    return int(finds_no_ensemble(cluster, question.ensemble, question))
+
+
+def places_left_over(cluster: Cluster, ensemble: List[str], stopped: FrozenSet[str]) -> int:
+    """How many places of a fragment find no bookie."""
+    members = set(ensemble)
+    places = {name for name in members if name in stopped or not cluster.bookies[name].is_up}
+    return max(0, len(places) - len(writable(cluster) - members - stopped))
+
+
+def unplaced(cluster: Cluster, ledger: Ledger, question: Question) -> int:
+    """How many fragments have more places that find no bookie than now."""
+    if not question.is_for_good:
+        return 0
+    pairs = (
+        (places_left_over(cluster, ensemble, question.stopped), places_left_over(cluster, ensemble, frozenset()))
+        for _, ensemble in ledger.fragments
+    )
+    return sum(then > now for then, now in pairs)
+
+
+# Answers.
+
+
+class Numbers(NamedTuple):
+    """How many entries break a rule whatever is held, and how many may break it; and the ledgers and fragments."""
+
+    no: Dict[str, int]
+    unknown: Dict[str, int]
+    disks: int
+
+
+def numbers_of(cluster: Cluster, ledgers: List[Ledger], question: Question) -> Numbers:
+    """The numbers of all rules, of these ledgers alone."""
+    no, unknown, disks = Counter(dict.fromkeys(RULES, 0)), Counter(), 0
+    for ledger in ledgers:
+        for entry, count in Counter(entries_of(cluster, ledger, question)).items():
+            disks += count * (not entry.known and disks_go(cluster, question))
+            for rule, broken in (
+                ("readable", [is_lost(copies, question) for copies in completions(entry)]),
+                ("kept", [is_fallen(copies, question, entry.ack) for copies in completions(entry)]),
+            ):
+                no[rule] += count * all(broken)
+                unknown[rule] += count * (any(broken) and not all(broken))
+        no["recoverable"] += is_unrecoverable(cluster, ledger, question)
+        no["writable"] += is_unwritable(cluster, ledger, question)
+        no["replaceable"] += unplaced(cluster, ledger, question)
+    return Numbers(no, unknown, disks)
+
+
+def verdict_of(numbers: Numbers) -> Tuple[str, Optional[str], int]:
+    """The verdict, the rule it names, and that rule's number."""
+    for rule in RULES:
+        if numbers.no[rule]:
+            return "no", rule, numbers.no[rule]
+    for rule in RULES:
+        if numbers.unknown[rule]:
+            return "unknown", rule, numbers.unknown[rule]
+    if numbers.disks:
+        return "unknown", "disks", numbers.disks
+    return "yes", None, 0
+
+
+def weight_of(numbers: Numbers, verdict: str, rule: Optional[str]) -> int:
+    """How much of a ledger speaks for the verdict."""
+    if rule == "disks":
+        return numbers.disks
+    return {"no": numbers.no, "unknown": numbers.unknown, "yes": Counter()}[verdict][rule]
+
+
+def against(cluster: Cluster, question: Question, verdict: str, rule: Optional[str]) -> List[Tuple[int, int]]:
+    """The ten worst ledgers, each with how many of its entries speak against a stop."""
+    weights = [(weight_of(numbers_of(cluster, [ledger], question), verdict, rule), ledger.id) for ledger in cluster.ledgers]
+    worst = sorted((-weight, number) for weight, number in weights if weight)[:10]
+    return [(number, -weight if rule in ("readable", "kept", "disks") else 0) for weight, number in worst]
+
+
+def notes_of(cluster: Cluster, question: Question) -> List[str]:
+    notes = [f"{name} is not registered" for name, bookie in cluster.bookies.items() if name in question.stopped and not bookie.is_up]
+    up = {name for name in question.stopped if cluster.bookies[name].is_up}
+    if any(ledger.state == "OPEN" and up & set(ledger.fragments[-1][1]) for ledger in cluster.ledgers):
+        notes.append("writers pause until they have changed their ensembles")
+    counted = [ledger for ledger in cluster.ledgers if ledger.state != "CLOSED" or ledger.last >= 0]
+    if len(up & writable(cluster)) >= min((ledger.ack for ledger in counted), default=1):
+        notes.append(
+            "a ledger created since the input was taken may have all its copies on these bookies: "
+            "make them read-only, take a new input, ask again"
+        )
+    return notes
+
+
+def answer_of(cluster: Cluster, question: Question) -> Dict[str, object]:
+    """The answer as JSON shows it; of what speaks against a stop, the ledgers and entries alone."""
+    entries = [entry for ledger in cluster.ledgers for entry in entries_of(cluster, ledger, question)]
+    numbers = numbers_of(cluster, cluster.ledgers, question)
+    numbers.no["writable"] += new_ledgers(cluster, question)
+    verdict, rule, count = verdict_of(numbers)
+    columns = range(max((len(entry.known) for entry in entries), default=0) + 1)
+    now = Counter(len(entry.known) for entry in entries)
+    without = Counter(len(entry.known - question.stopped) for entry in entries)
+    rules: Dict[str, object] = {name: {"no": numbers.no[name], "unknown": numbers.unknown[name]} for name in RULES[:2]}
+    rules.update({name: numbers.no[name] for name in RULES[2:]}, disks=numbers.disks)
+    return {
+        "verdict": verdict,
+        "rule": rule,
+        "count": count,
+        "rules": rules,
+        "judged": {
+            "ledgers": len(cluster.ledgers),
+            "entries": len(entries),
+            "assumed": sum(entry.is_assumed for entry in entries),
+            "unknown": sum(bool(entry.untold) for entry in entries),
+            "unread": 0,
+            "missing": 0,
+            "announced": None,
+            "taken": None,
+        },
+        "copies": {"now": [now[number] for number in columns], "without": [without[number] for number in columns]},
+        "against": against(cluster, question, verdict, rule),
+        "notes": notes_of(cluster, question),
+    }
