@@ -1,22 +1,21 @@
 // Whether bookies may be stopped.
-ghost use Rattle.std.specs.Prelude.{◌≡◌, ℕ, Bool, List, Err, Some, true, not, length, position, IfOk, OnOk};
+ghost use Rattle.std.specs.Prelude.{◌≡◌, ℕ, Bool, List, Err, Some, true, not, length, map, position, string_bytes, IfOk, OnOk};
 ghost use Rattle.std.specs.List.{list_any};
 ghost use Rattle.reh_census.specs.Answers.{answer_on};
-ghost use Rattle.reh_census.specs.Bookies.{bookies_of as census_bookies, is_flagged};
-ghost use Rattle.reh_census.specs.Counting.{counting_of};
+ghost use Rattle.reh_census.specs.Bookies.{bookies_of as census_bookies, holders, is_flagged};
+ghost use Rattle.reh_census.specs.Counting.{IsCensus, counting_of, not_judged};
+ghost use Rattle.reh_census.specs.Ledgers.{Ledger as LedgerValue};
 ghost use Rattle.reh_answer.specs.Texts.{status_number};
 ghost use Rattle.reh_picture.specs.declared.listings.Listed.{Listed};
-ghost use Rattle.reh_inputs.specs.Cluster.{bookies_of};
-ghost use Rattle.reh_inputs.specs.Gathered.{Gathers, holders_of, ledgers_of, reading_of};
+ghost use Rattle.reh_inputs.specs.Gathered.{Gathers, ledgers_of, reading_of};
 ghost use Rattle.reh_inputs.specs.Shown.{is_in};
-ghost use Rattle.reh_inputs.specs.United.{united};
 ghost use Rattle.reh_stop.specs.Named.{is_name, is_repeated};
 ghost use Rattle.reh_stop.specs.declared.stops.StopFault.TheVariants.{Nobody, Twice, UnknownBookie, UnknownRack};
 ghost use Rattle.reh_stop.specs.Stops as model;
 
 use crate::named::{first_twice, first_unknown, first_unknown_rack, stopped_of};
 use reh_against::{Stop, against_of};
-use reh_answer::{facts_of, json_of, status_of, text_of};
+use reh_answer::{Against, Facts, facts_of, json_of, status_of, text_of};
 use reh_census::{BookieSet, Question};
 use reh_inputs::{Cluster, Gathered};
 use reh_tally::TallyFault;
@@ -105,14 +104,38 @@ fn check_words(cluster: &Cluster, asked: &Asked<'_>) -> Result<(), StopFault>
     Ok(())
 }
 
+/// The facts as text, or as JSON.
+fn text_by(
+    alloc: Global,
+    asked: &Asked<'_>,
+    facts: &Facts,
+    names: &[String],
+    against: &[Against],
+) -> Result<String, AllocError>
+    ensures { IfOk result (λ text. string_bytes text
+        ≡ model.text_by asked.now facts.now (map string_bytes names.now) against.now) }
+{
+    if asked.as_json {
+        let text = json_of(alloc, facts, names, against, &[])?;
+        return Ok(text);
+    }
+    let text = text_of(alloc, facts, &asked.question, names, against, &[])?;
+    Ok(text)
+}
+
 /// What is said of the stop of these bookies.
 fn say(
     alloc: Global,
     gathered: &Gathered,
     asked: &Asked<'_>,
     stopped: &BookieSet,
-) -> Result<Said, StopFault>
-    ensures { IfOk result (λ said. model.IsSaid gathered.now asked.now stopped.now said) }
+) -> Result<Said, TallyFault>
+    ensures said { IfOk result (λ said. model.IsSaid gathered.now asked.now stopped.now said) }
+    ensures ledgers { IfOk result (λ said. (ledgers : List LedgerValue)
+        → IsCensus gathered.now.census (holders (census_bookies gathered.now.bookies)) ledgers
+        → said.status ≡ status_number (answer_on (counting_of (holders (census_bookies gathered.now.bookies)) ledgers)
+        (census_bookies gathered.now.bookies) asked.now.question (not_judged gathered.now.census.judged)
+        (is_flagged stopped.now))) }
 {
     let Gathered {
         cluster,
@@ -132,11 +155,7 @@ fn say(
         answer: &facts.answer,
     };
     let against = against_of(alloc, ids, ledgers, &stop)?;
-    let text = if asked.as_json {
-        json_of(alloc, &facts, names, &against, &[])?
-    } else {
-        text_of(alloc, &facts, question, names, &against, &[])?
-    };
+    let text = text_by(alloc, asked, &facts, names, &against)?;
     Ok(Said {
         text,
         status: status_of(&facts.answer),
@@ -149,9 +168,9 @@ pub fn answer_stop(alloc: Global, gathered: &Gathered, asked: &Asked<'_>) -> Res
     ensures said { IfOk result (λ said. model.IsSaid gathered.now asked.now
         (model.stopped_by gathered.now.cluster asked.now) said) }
     ensures ledgers { IfOk result (λ said. (inputs : List Listed) (strict : Bool) → Gathers inputs strict gathered.now
-        → said.status ≡ status_number (answer_on (counting_of (holders_of inputs) (ledgers_of (reading_of strict) inputs))
-        (census_bookies (bookies_of (united inputs))) asked.now.question 0
-        (is_flagged (model.stopped_by (united inputs) asked.now)))) }
+        → said.status ≡ status_number (answer_on (counting_of (holders (census_bookies gathered.now.bookies))
+        (ledgers_of (reading_of strict) inputs)) (census_bookies gathered.now.bookies) asked.now.question 0
+        (is_flagged (model.stopped_by gathered.now.cluster asked.now)))) }
     ensures unknown { (word : ℕ) → result ≡ Err (UnknownBookie word)
         → position (λ given. not (is_name gathered.now.cluster.names given.now)) asked.now.bookies.now ≡ Some word }
     ensures twice { (word : ℕ) → result ≡ Err (Twice word) → is_repeated asked.now.bookies.now word ≡ true }
