@@ -17,7 +17,7 @@ use Rattle.reh_types.specs.declared.names.LedgerState.TheVariants.{Open, InRecov
 use Rattle.reh_model.specs.Metadata.{Metadata, stop_of}
 use Rattle.reh_picture.specs.Contents.{Holding}
 use Rattle.reh_inputs.specs.declared.ledgers.Reading.{Reading}
-use Rattle.reh_inputs.specs.declared.ledgers.Reading.TheVariants.{All, Told, Assumed}
+use Rattle.reh_inputs.specs.declared.ledgers.Reading.TheVariants.{All, Told, Assumed, Nothing}
 
 -- the number that a bookie of a picture has in the cluster
 abbrev pub number_in : List ℕ → ℕ → ℕ
@@ -33,6 +33,7 @@ abbrev pub told_as : Reading → Bool → List Range → ToldOf
 told_as All assumed ranges = Holds ranges
 told_as Told assumed ranges = if assumed then Untold else Holds ranges
 told_as Assumed assumed ranges = if assumed then Holds ranges else Holds []
+told_as Nothing assumed ranges = Holds []
 
 abbrev pub told_by : Reading → Holding → ToldOf
 told_by reading holding = told_as reading holding.is_assumed (map range_of holding.ranges)
@@ -42,6 +43,19 @@ abbrev pub rest_of : Reading → ToldOf
 rest_of All = Untold
 rest_of Told = Untold
 rest_of Assumed = Holds []
+rest_of Nothing = Holds []
+
+-- while a ledger isn't closed, what is assumed tells nothing: its last entries may be on that bookie, too
+abbrev pub while_open : Reading → Reading
+while_open All = Told
+while_open Told = Told
+while_open Assumed = Nothing
+while_open Nothing = Nothing
+
+abbrev pub reading_in : State → Reading → Reading
+reading_in Open reading = while_open reading
+reading_in InRecovery reading = while_open reading
+reading_in (Closed end) reading = reading
 
 abbrev pub content_by : List ℕ → Reading → Holding → Content
 content_by numbers reading holding = record {
@@ -86,4 +100,4 @@ abbrev pub ledger_of : List ℕ → Reading → List Holding → ℕ → Metadat
 ledger_of numbers reading holdings ledger m =
     ledger_by (state_of m.state) m.size m.write_quorum m.ack_quorum
     (map (fragment_of numbers (end_told ledger holdings) m) (range 0 (length m.fragments)))
-    (contents_of numbers reading ledger holdings) (rest_of reading)
+    (contents_of numbers (reading_in m.state reading) ledger holdings) (rest_of (reading_in m.state reading))

@@ -78,6 +78,21 @@ pub enum Reading {
     Told,
     /// What is assumed alone: a bookie of which nothing is assumed holds nothing.
     Assumed,
+    /// Nothing: all bookies hold nothing.
+    Nothing,
+}
+
+/// How a ledger in this state is read. While it isn't closed, what is assumed tells nothing: its last entries may be on
+/// that bookie, too.
+fn reading_in(state: State, reading: Reading) -> Reading
+    ensures { result ≡ model.reading_in state reading }
+{
+    match (state, reading) {
+        (State::Closed { .. }, reading) => reading,
+        (_, Reading::All) => Reading::Told,
+        (_, Reading::Assumed) => Reading::Nothing,
+        (_, reading) => reading,
+    }
 }
 
 /// What a holding tells.
@@ -86,7 +101,9 @@ fn told_by(alloc: Global, reading: Reading, holding: &Holding) -> Result<Told, A
 {
     match (reading, holding.is_assumed()) {
         (Reading::Told, true) => Ok(Told::Untold),
-        (Reading::Assumed, false) => Ok(Told::Holds(Ranges::of(Vec::new(alloc)))),
+        (Reading::Assumed, false) | (Reading::Nothing, _) => {
+            Ok(Told::Holds(Ranges::of(Vec::new(alloc))))
+        }
         _ => {
             let ranges = ranges_of(alloc, holding.ranges())?;
             Ok(Told::Holds(ranges))
@@ -100,7 +117,7 @@ fn rest_of(alloc: Global, reading: Reading) -> Told
 {
     match reading {
         Reading::All | Reading::Told => Told::Untold,
-        Reading::Assumed => Told::Holds(Ranges::of(Vec::new(alloc))),
+        Reading::Assumed | Reading::Nothing => Told::Holds(Ranges::of(Vec::new(alloc))),
     }
 }
 
@@ -208,6 +225,7 @@ pub fn ledger_of(
         ≡ model.ledger_of numbers.now reading holdings.now listed.now.id listed.now.metadata)) }
 {
     let metadata = listed.metadata();
+    let reading = reading_in(metadata.state(), reading);
     let end = end_told(listed.id(), holdings);
     let fragments = fragments_of(alloc, numbers, end, metadata)?;
     let contents = contents_of(alloc, numbers, reading, listed.id(), holdings)?;
