@@ -133,7 +133,7 @@ pub(crate) fn too_many(alloc: Global) -> RunFault {
 }
 
 /// The fault with this text.
-fn unfit(text: Result<String, AllocError>) -> RunFault {
+pub(crate) fn unfit(text: Result<String, AllocError>) -> RunFault {
     match text {
         Ok(text) => RunFault::Unfit(text),
         Err(want) => RunFault::from(want),

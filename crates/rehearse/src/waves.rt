@@ -1,9 +1,15 @@
 // Rounds of bookies that may be stopped together, and what the next losses cost, judged from files.
+ghost use Rattle.std.specs.Prelude.{OnOk};
+ghost use Rattle.reh_waves.specs.Json.{ArePrintable};
+
 use crate::checks::write_text;
 use crate::faults::RunFault;
-use crate::inputs::gather_files;
-use reh_waves::{order_by_name, risk_json, risk_of, risk_text, waves_json, waves_of, waves_text};
+use crate::inputs::{gather_files, unfit};
+use reh_waves::{
+    are_printable, order_by_name, risk_json, risk_of, risk_text, waves_json, waves_of, waves_text,
+};
 use reh_words::{RiskWords, WaveWords};
+use std::alloc::Global;
 use std::sync::Wait;
 use std::thread;
 
@@ -25,7 +31,7 @@ pub(crate) fn waves_over<R: thread::Threads + Wait + Sync>(
         words.by_rack,
     )?;
     let text = if words.as_json {
-        check_names(names)?;
+        check_names(rt.alloc(), names)?;
         waves_json(rt.alloc(), names, &waves)?
     } else {
         waves_text(rt.alloc(), names, &waves)?
@@ -54,9 +60,21 @@ pub(crate) fn risk_over<R: thread::Threads + Wait + Sync>(
         words.with_pairs,
     )?;
     let text = if words.as_json {
+        check_names(rt.alloc(), names)?;
+        check_names(rt.alloc(), &racks)?;
         risk_json(rt.alloc(), names, &racks, &risk)?
     } else {
         risk_text(rt.alloc(), names, &racks, &risk)?
     };
     write_text(rt, text.as_str()).map_err(|_| RunFault::WriteFault)
+}
+
+/// That each name stands in JSON as it is: a picture has no others.
+fn check_names(alloc: Global, names: &[String]) -> Result<(), RunFault>
+    ensures { OnOk result (ArePrintable names.now) }
+{
+    if are_printable(names) {
+        return Ok(());
+    }
+    Err(unfit(format!(in alloc; "a name has a byte that can't be printed")))
 }
