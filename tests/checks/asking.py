@@ -248,6 +248,22 @@ def unplaced(cluster: Cluster, ledger: Ledger, question: Question) -> int:
     return sum(then > now for then, now in pairs)
 
 
+def may_lose_acknowledged(cluster: Cluster, ledger: Ledger, question: Question) -> bool:
+    """Whether some entry that was acknowledged, and of which nobody told, may have a copy now and none then.
+
+    Any ack quorum of those members of a write set may have it of whom nobody told that they don't. This asks no rule: it is
+    what a yes promises. What was written to an empty bookie since it came back isn't promised, so such members are left out.
+    """
+    for members in write_sets(ledger) if ledger.state != "CLOSED" else []:
+        may_hold = sorted(name for name in members if not is_told(ledger, name, question) and not cluster.bookies[name].is_empty)
+        for number in range(ledger.ack, len(may_hold) + 1):
+            for holders in map(frozenset, combinations(may_hold, number)):
+                up = frozenset(name for name in holders if cluster.bookies[name].is_up)
+                if is_lost(up, question) or question.is_for_good and is_lost(holders, question):
+                    return True
+    return False
+
+
 # Answers.
 
 
