@@ -1,0 +1,5 @@
+pub mod Inside
+pub mod Lines
+pub mod Names
+pub mod Texts
+pub mod Values
