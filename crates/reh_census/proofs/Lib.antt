@@ -2,6 +2,7 @@ pub mod AnswerLaws
 pub mod CountLaws
 pub mod CountingLaws
 pub mod Examples
+pub mod OrderLaws
 pub mod RangeLaws
 pub mod RuleLaws
 pub mod SortedLaws

@@ -5,6 +5,7 @@ pub mod Copies
 pub mod Counting
 pub mod Inside
 pub mod Ledgers
+pub mod Order
 pub mod Rules
 pub mod Striping
 pub mod Tails

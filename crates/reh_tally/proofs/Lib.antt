@@ -1,5 +1,6 @@
 pub mod ClassLaws
 pub mod CutLaws
+pub mod LineLaws
 pub mod MemberLaws
 pub mod PlacedLaws
 pub mod ResidueLaws

@@ -1,7 +1,9 @@
 // The census of ledgers.
-ghost use Rattle.std.specs.Prelude.{◌≡◌, ◌+◌, ◌^◌, ◌≤◌, IfOk, Err, IsTrue, ◌↔◌, length};
+ghost use Rattle.std.specs.Prelude.{◌≡◌, ◌+◌, ◌^◌, ◌≤◌, All, IfOk, Err, IsTrue, ◌↔◌, length};
+ghost use Rattle.std.specs.Ordering.{on};
 ghost use Rattle.reh_census.specs.Bookies.{bookies_of, holders};
 ghost use Rattle.reh_census.specs.Counting.{IsCensus, ensembles_in, entries_in, not_judged, tails_in};
+ghost use Rattle.reh_census.specs.Order.{InOrder, class_cmp};
 ghost use Rattle.reh_tally.specs.Few.{AreFew};
 ghost use Rattle.reh_tally.specs.declared.census.TallyFault.TheVariants.{TooMany};
 
@@ -86,6 +88,8 @@ pub fn census_of(
     requires ledgers { judged.ledgers ≡ length ledgers.now }
     requires not_judged { not_judged judged ≤ 2 ^ 63 }
     ensures census { IfOk result (λ census. IsCensus census (holders (bookies_of bookies.now)) ledgers.now) }
+    ensures order { IfOk result (λ census. InOrder (on (λ c. c.class) class_cmp) census.entries) }
+    ensures some { IfOk result (λ census. All (λ c. 1 ≤ c.count) census.entries) }
     ensures judged { IfOk result (λ census. census.judged ≡ judged) }
     ensures too_many { result ≡ Err TooMany → AreFew (holders (bookies_of bookies.now)) ledgers.now → ⊥ }
 {

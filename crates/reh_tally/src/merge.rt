@@ -1,58 +1,160 @@
-// Censuses sorted, with neighbours of one class joined.
-ghost use Rattle.std.specs.Prelude.{◌≡◌, ◌^◌, ◌+◌, ◌<◌, Bool, true, cond, IfOk, OnOk};
+// Censuses sorted, with what is of one kind joined.
+ghost use Rattle.std.specs.Prelude.{◌≡◌, ◌^◌, ◌≤◌, ◌<◌, ℕ, List, Bool, All, IfOk};
+ghost use Rattle.std.specs.Ordering.{on};
+ghost use Rattle.reh_census.specs.declared.censuses.Tail.{Tail as TailValue};
 ghost use Rattle.reh_census.specs.declared.classes.Class.{Class as ClassValue};
-ghost use Rattle.reh_census.specs.Counting.{count_in, entries_in};
+ghost use Rattle.reh_census.specs.Counting.{count_ensembles_in, count_in, count_tails_in, ensembles_in, entries_in, tails_in};
+ghost use Rattle.reh_census.specs.Order.{InOrder, class_cmp, names_cmp, tail_cmp};
+ghost use Rattle.reh_census.specs.Tails.{IsTail};
 
-use reh_census::{Class, Counted};
+use crate::lines::{Line, joined};
+use reh_census::{Class, Counted, CountedEnsemble, CountedTail, Names, Tail};
 use std::alloc::{AllocError, Global};
 use std::cmp::Ordering;
 
-/// The order of classes in a census.
-fn order_of(left: &Class, right: &Class) -> Ordering {
-    left.known
-        .as_slice()
-        .cmp(right.known.as_slice())
-        .then(left.untold.as_slice().cmp(right.untold.as_slice()))
-        .then(left.ack_quorum.cmp(&right.ack_quorum))
-        .then(left.write_quorum.cmp(&right.write_quorum))
-}
+impl Line for Counted {
+    ghost use Rattle.reh_census.specs.Order.{class_cmp};
+    ghost use Rattle.reh_census.proofs.OrderLaws.{class_exact, class_total};
 
-/// Whether they are one class.
-fn is_same(left: &Class, right: &Class) -> bool
-    ensures { result ≡ true → left.now ≡ right.now }
-{
-    left.known.as_slice() == right.known.as_slice()
-        && left.untold.as_slice() == right.untold.as_slice()
-        && left.ack_quorum == right.ack_quorum
-        && left.write_quorum == right.write_quorum
-}
+    type Kind = Class;
 
-/// Adds entries to the last class, if they are of it, and else as a class of their own.
-fn add(census: &mut Vec<Counted>, counted: Counted) -> Result<(), AllocError>
-    requires { entries_in census.old.items + counted.count < 2 ^ 64 }
-    ensures { OnOk result ((test : ClassValue → Bool) → count_in census.new.items test
-        ≡ count_in census.old.items test + cond (test counted.class) counted.count 0) }
-{
-    let len = census.len();
-    if len > 0 && is_same(&census[len - 1].class, &counted.class) {
-        census[len - 1].count += counted.count;
-        return Ok(());
+    ghost kind = { λ counted. counted.class };
+
+    ghost count = { λ counted. counted.count };
+
+    ghost cmp = { class_cmp };
+
+    ghost IsFit = { λ _. Unit {0} };
+
+    ghost total = { class_total };
+
+    ghost exact = { class_exact };
+
+    fn cmp_kind(&self, other: &Counted) -> Ordering {
+        let (one, other) = (&self.class, &other.class);
+        one.known
+            .as_slice()
+            .cmp(other.known.as_slice())
+            .then(one.untold.as_slice().cmp(other.untold.as_slice()))
+            .then(one.ack_quorum.cmp(&other.ack_quorum))
+            .then(one.write_quorum.cmp(&other.write_quorum))
     }
-    census.push(counted)?;
-    Ok(())
+
+    fn count(&self) -> u64 {
+        self.count
+    }
+
+    fn add(&mut self, more: u64) {
+        self.count += more;
+    }
 }
 
-/// The same census, sorted, with neighbours of one class joined.
+impl Line for CountedTail {
+    ghost use Rattle.reh_census.specs.Order.{tail_cmp};
+    ghost use Rattle.reh_census.specs.Tails.{IsTail};
+    ghost use Rattle.reh_census.proofs.OrderLaws.{tail_exact, tail_total};
+
+    type Kind = Tail;
+
+    ghost kind = { λ counted. counted.tail };
+
+    ghost count = { λ counted. counted.count };
+
+    ghost cmp = { tail_cmp };
+
+    ghost IsFit = { IsTail };
+
+    ghost total = { tail_total };
+
+    ghost exact = { tail_exact };
+
+    fn cmp_kind(&self, other: &CountedTail) -> Ordering {
+        let (one, other) = (&self.tail, &other.tail);
+        one.size
+            .cmp(&other.size)
+            .then(one.write_quorum.cmp(&other.write_quorum))
+            .then(one.ack_quorum.cmp(&other.ack_quorum))
+            .then(one.is_open.cmp(&other.is_open))
+            .then(one.ensemble.as_slice().cmp(other.ensemble.as_slice()))
+    }
+
+    fn count(&self) -> u64 {
+        self.count
+    }
+
+    fn add(&mut self, more: u64) {
+        self.count += more;
+    }
+}
+
+impl Line for CountedEnsemble {
+    ghost use Rattle.reh_census.specs.Order.{names_cmp};
+    ghost use Rattle.reh_census.proofs.OrderLaws.{names_exact, names_total};
+
+    type Kind = Names;
+
+    ghost kind = { λ counted. counted.members };
+
+    ghost count = { λ counted. counted.count };
+
+    ghost cmp = { names_cmp };
+
+    ghost IsFit = { λ _. Unit {0} };
+
+    ghost total = { names_total };
+
+    ghost exact = { names_exact };
+
+    fn cmp_kind(&self, other: &CountedEnsemble) -> Ordering {
+        self.members.as_slice().cmp(other.members.as_slice())
+    }
+
+    fn count(&self) -> u64 {
+        self.count
+    }
+
+    fn add(&mut self, more: u64) {
+        self.count += more;
+    }
+}
+
+/// The same entries in order, with those of one class joined, and without classes that no entry has.
 pub fn merged(alloc: Global, census: Vec<Counted>) -> Result<Vec<Counted>, AllocError>
     requires { entries_in census.items < 2 ^ 64 }
-    ensures { IfOk result (λ merged. (test : ClassValue → Bool)
+    ensures counts { IfOk result (λ merged. (test : ClassValue → Bool)
         → count_in merged.items test ≡ count_in census.items test) }
+    ensures order { IfOk result (λ merged. InOrder (on (λ c. c.class) class_cmp) merged.items) }
+    ensures some { IfOk result (λ merged. All (λ c. 1 ≤ c.count) merged.items) }
 {
-    let mut sorted = census;
-    sorted.sort_by(|left, right| order_of(&right.class, &left.class))?;
-    let mut merged = Vec::new(alloc);
-    while let Some(counted) = sorted.pop() {
-        add(&mut merged, counted)?;
-    }
+    let merged = joined(alloc, census)?;
+    Ok(merged)
+}
+
+/// The same tails in order, with equal ones joined, and without those that no ledger has.
+pub fn merged_tails(alloc: Global, tails: Vec<CountedTail>) -> Result<Vec<CountedTail>, AllocError>
+    requires within { tails_in tails.items < 2 ^ 64 }
+    requires well_formed { All (λ t. IsTail t.tail) tails.items }
+    ensures counts { IfOk result (λ merged. (test : TailValue → Bool)
+        → count_tails_in merged.items test ≡ count_tails_in tails.items test) }
+    ensures order { IfOk result (λ merged. InOrder (on (λ t. t.tail) tail_cmp) merged.items) }
+    ensures some { IfOk result (λ merged. All (λ t. 1 ≤ t.count) merged.items) }
+    ensures well_formed { IfOk result (λ merged. All (λ t. IsTail t.tail) merged.items) }
+{
+    let merged = joined(alloc, tails)?;
+    Ok(merged)
+}
+
+/// The same ensembles in order, with equal ones joined, and without those that no fragment has.
+pub fn merged_ensembles(
+    alloc: Global,
+    ensembles: Vec<CountedEnsemble>,
+) -> Result<Vec<CountedEnsemble>, AllocError>
+    requires { ensembles_in ensembles.items < 2 ^ 64 }
+    ensures counts { IfOk result (λ merged. (test : List ℕ → Bool)
+        → count_ensembles_in merged.items test ≡ count_ensembles_in ensembles.items test) }
+    ensures order { IfOk result (λ merged. InOrder (on (λ e. e.members) names_cmp) merged.items) }
+    ensures some { IfOk result (λ merged. All (λ e. 1 ≤ e.count) merged.items) }
+{
+    let merged = joined(alloc, ensembles)?;
     Ok(merged)
 }

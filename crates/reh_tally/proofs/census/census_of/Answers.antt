@@ -9,7 +9,7 @@ use Rattle.reh_tally.proofs.census.census_of.Goals as goal
 pub of-requires : goal.of-requires
 of-requires c =
     let same : entries_in c.in_ok-entries.entries.items ≡ entries_in c.in_ok-counted.counted.items =
-    c.in_ok-entries.ensures (λ _. true) in
+    c.in_ok-entries.ensures.counts (λ _. true) in
     record {
       entries =
           subst (λ (n : ℕ). n ≤ 2 ^ 63) (sym same)
