@@ -1,3 +1,4 @@
+pub mod Faults
 pub mod Inside
 pub mod Lines
 pub mod Names

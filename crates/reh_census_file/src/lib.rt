@@ -1,10 +1,12 @@
 // Censuses as text.
 #![tactic(auto)]
 
+mod faults;
 mod lists;
 mod texts;
 mod values;
 
+pub use faults::{CensusFault, Expected, Part, Word};
 pub use lists::{MAX_NAMES, NameList};
 pub use texts::census_text;
 pub use values::NamedCensus;
