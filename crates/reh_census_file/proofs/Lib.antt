@@ -1,2 +1,5 @@
 pub mod NameLemmas
+pub mod NumberLaws
+pub mod ReadLoops
 pub mod TextLaws
+pub mod WordLaws

@@ -2,5 +2,6 @@ pub mod Faults
 pub mod Inside
 pub mod Lines
 pub mod Names
+pub mod Reading
 pub mod Texts
 pub mod Values

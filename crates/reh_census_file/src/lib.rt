@@ -5,6 +5,7 @@ mod faults;
 mod lists;
 mod texts;
 mod values;
+mod words;
 
 pub use faults::{CensusFault, Expected, Part, Word};
 pub use lists::{MAX_NAMES, NameList};
