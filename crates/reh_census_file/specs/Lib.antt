@@ -1,5 +1,6 @@
 pub mod Faults
 pub mod Inside
+pub mod LineReading
 pub mod Lines
 pub mod Names
 pub mod Reading

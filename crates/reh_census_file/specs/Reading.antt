@@ -1,7 +1,7 @@
 -- Reading the words of a line from left to right: a value and the words behind it, or the first word that isn't what is
 -- expected.
 use Rattle.std.specs.Prelude.{◌≡◌, ℕ, zero, suc, ◌*◌, ◌+◌, ◌-◌, ◌^◌, ◌==◌, ◌&&◌, nat_le, nat_lt, Bool, true, false, if◌then◌else◌}
-use Rattle.std.specs.Prelude.{List, [], ◌∷◌, length, position, Option, None, Some, Result, Ok, Err}
+use Rattle.std.specs.Prelude.{List, [], ◌∷◌, length, position, Option, None, Some, Result, Ok, Err, codes}
 use Rattle.std.specs.Char.{is_ascii_graphic}
 use Rattle.std.specs.Fmt.{decimal}
 use Rattle.std.specs.List.{slice_split, list_all}
@@ -14,7 +14,7 @@ use Rattle.reh_census_file.specs.declared.faults.Word.{Word}
 use Rattle.reh_census_file.specs.Faults.{word_text}
 
 infixl 10 ◌>>=◌
-abbrev pub ◌>>=◌ : {A B : Type 0} → Result A Expected → (A → Result B Expected) → Result B Expected
+abbrev pub ◌>>=◌ : {A B E : Type 0} → Result A E → (A → Result B E) → Result B E
 (Ok x) >>= f = f x
 (Err e) >>= f = Err e
 
@@ -129,3 +129,21 @@ bookies_behind names wanted words = do
 abbrev pub no_more : List (List ℕ) → Result (Unit {0}) Expected
 no_more [] = Ok tt
 no_more (word ∷ words) = Err expected.LineEnd
+
+-- a time, or that there is none
+unfoldable pub time_at : List (List ℕ) → Result (Option (List ℕ) × List (List ℕ)) Expected
+time_at [] = Err expected.Time
+time_at (word ∷ words) =
+    if bytes_eq word (codes "-") then Ok (None, words)
+    else (if is_name word then Ok (Some word, words) else Err expected.Time)
+
+-- the version, and nothing behind it
+unfoldable pub version_at : List (List ℕ) → Result (Unit {0}) Expected
+version_at [] = Err expected.Version
+version_at (word ∷ words) = if bytes_eq word (codes "1") then no_more words else Err expected.Version
+
+-- how many lines stand before the last one, and nothing behind it
+unfoldable pub lines_at : ℕ → List (List ℕ) → Result (Unit {0}) Expected
+lines_at lines [] = Err (expected.End lines)
+lines_at lines (word ∷ words) =
+    if bytes_eq (decimal lines) word then no_more words else Err (expected.End lines)

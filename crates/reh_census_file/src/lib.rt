@@ -2,6 +2,7 @@
 #![tactic(auto)]
 
 mod faults;
+mod lines;
 mod lists;
 mod texts;
 mod values;

@@ -1,8 +1,9 @@
 // Names by number.
 ghost use Rattle.std.specs.Prelude.{◌≡◌, ◌==◌, ◌<◌, ◌≤◌, [], ◌∷◌, ◌++◌, length, slice_get, option_map, IfOk};
-ghost use Rattle.std.specs.Prelude.{if◌then◌else◌, not, OnErr, position};
+ghost use Rattle.std.specs.Prelude.{if◌then◌else◌, not, OnErr, OnOk, position, unwrap_or, ◌-◌};
 ghost use Rattle.std.specs.List.{list_any, IsDistinct};
 ghost use Rattle.std.specs.Str.{bytes_eq};
+ghost use Rattle.reh_census_file.specs.Names.{with_name};
 
 use indexmap::IndexSet;
 use std::alloc::{AllocError, Global};
@@ -66,6 +67,27 @@ impl NameList {
         let owned = String::from_str(self.names.allocator().clone()?, name)?;
         let added = self.names.insert(owned)?;
         Ok(added)
+    }
+
+    /// The number of a name, which is added as the last, if it isn't there.
+    pub(crate) fn number_for(&mut self, name: &str) -> Result<u16, AllocError>
+        requires { length self.old < MAX_NAMES }
+        ensures number { IfOk result
+            (λ number. number ≡ unwrap_or (position (bytes_eq name.now) self.old) (length self.old)) }
+        ensures added { OnOk result (self.new ≡ with_name self.old name.now) }
+    {
+        let number = self.find(name.as_bytes()).unwrap_or(self.len() as u16);
+        self.add(name)?;
+        Ok(number)
+    }
+
+    /// The last name, if there is one.
+    pub(crate) fn last(&self) -> Option<&str>
+        ensures { option_map (λ name. name.now) result ≡ slice_get self.now (length self.now - 1) }
+    {
+        let len = self.names.len();
+        let name = self.names.get_index(len.saturating_sub(1))?;
+        Some(name.as_str())
     }
 
     /// The number of that name, if it is there.

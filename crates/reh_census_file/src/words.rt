@@ -1,5 +1,5 @@
 // The words of a line, one after another, and the values that they stand for.
-ghost use Rattle.std.specs.Prelude.{◌≡◌, ◌≤◌, ◌∷◌, [], length, MatchOption, map, position, count_by};
+ghost use Rattle.std.specs.Prelude.{◌≡◌, ◌≤◌, ◌∷◌, [], length, MatchOption, map, position, count_by, option_map, if◌then◌else◌};
 ghost use Rattle.std.specs.Char.{is_ascii_graphic};
 ghost use Rattle.std.specs.Fmt.{decimal};
 ghost use Rattle.std.specs.Str.{bytes_eq};
@@ -203,14 +203,48 @@ pub(crate) fn number_behind(wanted: Word, rest: &[u8]) -> Result<(u64, &[u8]), S
     number_at(behind)
 }
 
+/// The text of a word that may be a name.
+fn name_text(word: &[u8]) -> Option<&str>
+    ensures { option_map (λ text. text.now) result ≡ (if reading.is_name word.now then Some word.now else None) }
+{
+    if !is_name(word) {
+        return None;
+    }
+    match str::from_utf8(word) {
+        Ok(text) => Some(text),
+        Err(_) => None,
+    }
+}
+
 /// A name, and what follows it.
 #[tactic(auto, unfolding(crate::specs::Reading::name_at))]
-pub(crate) fn name_at(rest: &[u8]) -> Result<(&[u8], &[u8]), Stop>
+pub(crate) fn name_at(rest: &[u8]) -> Result<(&str, &[u8]), Stop>
     ensures { Gives (λ x. (x.0.now, words_after x.1.now)) result (reading.name_at (words_after rest.now)) }
 {
-    match next_word(rest) {
-        Some((word, after)) if is_name(word) => Ok((word, after)),
-        _ => Err(Stop::At(Expected::Name)),
+    let Some((word, after)) = next_word(rest) else {
+        return Err(Stop::At(Expected::Name));
+    };
+    match name_text(word) {
+        Some(name) => Ok((name, after)),
+        None => Err(Stop::At(Expected::Name)),
+    }
+}
+
+/// A time, or that there is none, and what follows it.
+#[tactic(auto, unfolding(crate::specs::Reading::time_at))]
+pub(crate) fn time_at(rest: &[u8]) -> Result<(Option<&str>, &[u8]), Stop>
+    ensures { Gives (λ x. (option_map (λ t. t.now) x.0, words_after x.1.now)) result
+        (reading.time_at (words_after rest.now)) }
+{
+    let Some((word, after)) = next_word(rest) else {
+        return Err(Stop::At(Expected::Time));
+    };
+    if word == b"-".as_slice() {
+        return Ok((None, after));
+    }
+    match name_text(word) {
+        Some(time) => Ok((Some(time), after)),
+        None => Err(Stop::At(Expected::Time)),
     }
 }
 
@@ -271,5 +305,40 @@ pub(crate) fn no_more(rest: &[u8]) -> Result<(), Stop>
     match next_word(rest) {
         None => Ok(()),
         Some(_) => Err(Stop::At(Expected::LineEnd)),
+    }
+}
+
+/// The version, which is 1, and nothing behind it.
+#[tactic(auto, unfolding(crate::specs::Reading::version_at))]
+pub(crate) fn version_at(rest: &[u8]) -> Result<(), Stop>
+    ensures { Gives (λ x. x) result (reading.version_at (words_after rest.now)) }
+{
+    match next_word(rest) {
+        Some((word, after)) if word == b"1".as_slice() => no_more(after),
+        _ => Err(Stop::At(Expected::Version)),
+    }
+}
+
+/// How many lines stand before the last one, and nothing behind it.
+#[tactic(auto, unfolding(crate::specs::Reading::lines_at))]
+pub(crate) fn lines_at(lines: u64, rest: &[u8]) -> Result<(), Stop>
+    ensures { Gives (λ x. x) result (reading.lines_at lines (words_after rest.now)) }
+{
+    match next_word(rest) {
+        Some((word, after)) if is_written(lines, word) => no_more(after),
+        _ => Err(Stop::At(Expected::End(lines))),
+    }
+}
+
+/// What follows this word, which begins a line.
+#[tactic(auto, unfolding(crate::specs::Reading::word_at))]
+pub(crate) fn line_behind(wanted: Word, line: &[u8]) -> Result<&[u8], Stop>
+    ensures { Gives (λ after. words_after after.now) result (reading.word_at wanted (words_of line.now)) }
+{
+    let (word, after) = first_word(line);
+    if word == wanted.text().as_bytes() {
+        Ok(after)
+    } else {
+        Err(Stop::At(Expected::Word(wanted)))
     }
 }
