@@ -1,3 +1,5 @@
+pub mod Drafts
+pub mod DraftsInside
 pub mod Faults
 pub mod Inside
 pub mod LineReading

@@ -1,6 +1,8 @@
 // Censuses as text.
 #![tactic(auto)]
 
+mod checks;
+mod drafts;
 mod faults;
 mod lines;
 mod lists;

@@ -75,6 +75,7 @@ impl NameList {
         ensures number { IfOk result
             (λ number. number ≡ unwrap_or (position (bytes_eq name.now) self.old) (length self.old)) }
         ensures added { OnOk result (self.new ≡ with_name self.old name.now) }
+        ensures err { OnErr result (self.new ≡ self.old) }
     {
         let number = self.find(name.as_bytes()).unwrap_or(self.len() as u16);
         self.add(name)?;
