@@ -2,4 +2,5 @@ pub mod NameLemmas
 pub mod NumberLaws
 pub mod ReadLoops
 pub mod TextLaws
+pub mod TokenLaws
 pub mod WordLaws
