@@ -1,3 +1,4 @@
+pub mod LineTakes
 pub mod NameLemmas
 pub mod NumberLaws
 pub mod ReadLoops
