@@ -1,3 +1,5 @@
+pub mod BodyLaws
+pub mod LineLaws
 pub mod LineTakes
 pub mod NameLemmas
 pub mod NumberLaws

@@ -8,3 +8,4 @@ pub mod Names
 pub mod Reading
 pub mod Texts
 pub mod Values
+pub mod Whole

@@ -60,7 +60,7 @@ impl Draft {
     }
 
     /// Which lines have come.
-    fn part(&self) -> Part
+    pub fn part(&self) -> Part
         ensures { result ≡ spec.part_of self.now }
     {
         if self.judged.is_none() {

@@ -6,11 +6,13 @@ mod drafts;
 mod faults;
 mod lines;
 mod lists;
+mod reading;
 mod texts;
 mod values;
 mod words;
 
 pub use faults::{CensusFault, Expected, Part, Word};
 pub use lists::{MAX_NAMES, NameList};
+pub use reading::is_census;
 pub use texts::census_text;
 pub use values::NamedCensus;
