@@ -1,7 +1,8 @@
 -- Reading lines one after the other, as a loop does.
-use Rattle.std.proofs.Common.{◌≡◌, ℕ, suc, ◌+◌, ◌<◌, Bool, true, false, cond, List, [], ◌∷◌, length, drop, Result, Ok, Err, refl, sym, ap, ◌∙◌, arith}
+use Rattle.std.proofs.Common.{◌≡◌, ℕ, ◌+◌, ◌<◌, true, false, List, [], ◌∷◌, length, Result, Ok, Err, refl, sym, ap, ◌∙◌, arith}
 use Rattle.std.specs.Prelude.{codes, ◌==◌}
 use Rattle.std.specs.Str.{bytes_eq}
+use mathlib.Core.Bool.{true≢false}
 use Rattle.std.proofs.lemmas.Bool.Decides.{nat_tests}
 use Rattle.reh_census_file.specs.declared.faults.CensusFault.{CensusFault}
 use Rattle.reh_census_file.specs.declared.faults.CensusFault.TheVariants as fault
@@ -11,7 +12,8 @@ use Rattle.reh_census_file.specs.declared.faults.Stop.{Stop}
 use Rattle.reh_census_file.specs.declared.faults.Stop.TheVariants as stop
 use Rattle.reh_census_file.specs.Drafts.{Draft, step}
 use Rattle.reh_census_file.specs.Reading.{◌>>=◌, Fails, words_of}
-use Rattle.reh_census_file.specs.Whole.{FailsAll, fault_at, placed, first_of, end_line, last_at, text_end, body_at}
+use Rattle.reh_census_file.specs.Whole.{FailsAll, fault_at, placed, end_line, last_at, body_at, parts_of}
+use Rattle.reh_census_file.proofs.LineLaws.{parts_of-more}
 
 -- what stops a line stops the text
 pub fails_at : {A B : Type 0} (line : ℕ) (why : Stop) (read : Result A Expected) (f : A → Result B CensusFault) → Fails why read → FailsAll (fault_at line why) (placed line read >>= f)
@@ -43,3 +45,8 @@ pub goes_on : (lines : ℕ) (d more : Draft) (all parts : List (List ℕ)) (part
     → step d first words ≡ Ok more → body_at lines d all ≡ total → body_at (lines + 1) more parts ≡ total
 goes_on lines d more all parts part first words total is some at other stepped so_far =
     ap (λ r. placed (lines + 1) r >>= λ next. body_at (lines + 1) next parts) (sym stepped) ∙ sym (body_at-more lines d all parts part first words is some at other) ∙ so_far
+
+-- a last line that something follows
+pub last_at-more : (lines : ℕ) (d : Draft) (words : List (List ℕ)) (rest : List ℕ) → end_line lines d words ≡ Ok d → (length rest == 0) ≡ false → last_at lines d words (parts_of rest) ≡ Err (fault.Line (lines + 2) expected.NoMoreLines)
+last_at-more lines d words [] ends some = absurd (true≢false some)
+last_at-more lines d words (b ∷ bs) ends some = rw ends (parts_of-more b bs (lines + 2) d)

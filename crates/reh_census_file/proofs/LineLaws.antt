@@ -1,7 +1,7 @@
 -- The lines of a text.
-use Rattle.std.proofs.Common.{◌≡◌, ℕ, suc, ◌+◌, ◌-◌, ◌<◌, ◌≤◌, Bool, true, false, cond, not, List, [], ◌∷◌, length, take, drop, refl, sym, ap, ◌∙◌, arith, length-drop}
-use Rattle.std.specs.Prelude.{Option, None, Some, Result, Ok, Err, position, ◌==◌, ◌&&◌}
-use Rattle.std.specs.List.{position_or_len, slice_split, onto_first, prefix_len}
+use Rattle.std.proofs.Common.{◌≡◌, ℕ, suc, ◌+◌, ◌-◌, ◌<◌, Bool, true, false, cond, not, List, [], ◌∷◌, length, take, drop, refl, sym, ap, ◌∙◌, arith, length-drop}
+use Rattle.std.specs.Prelude.{None, Some, Result, Ok, Err, position, ◌==◌, ◌&&◌}
+use Rattle.std.specs.List.{position_or_len, slice_split, onto_first}
 use Rattle.std.proofs.Math.Seq.{take-length}
 use Rattle.std.proofs.lemmas.Bool.Decides.{nat_tests}
 use Rattle.std.proofs.lemmas.List.Splits.{length-slice_split}
@@ -58,10 +58,10 @@ parts_of-some_part text = omega (arith, length-slice_split is_line_end text)
 pub parts_of-more : (b : ℕ) (bs : List ℕ) (line : ℕ) (d : Draft) → text_end line d (parts_of (b ∷ bs)) ≡ Err (fault.Line line expected.NoMoreLines)
 parts_of-more b bs line d =
     elim (is_line_end b) as (λ t. text_end line d (cond t ([] ∷ parts_of bs) (onto_first b (parts_of bs))) ≡ Err (fault.Line line expected.NoMoreLines)) [
-      | true ↦ ap (λ t. cond t (ok d) (Err (fault.Line line expected.NoMoreLines))) (grind (arith, nat_tests, parts_of-some_part bs))
+      | true ↦ let some : (length (parts_of bs) == 0) ≡ false = grind (arith, nat_tests, parts_of-some_part bs) in ap (λ t. cond t (ok d) (Err (fault.Line line expected.NoMoreLines))) some
       | false ↦ first (parts_of bs)
     ]
   where
     first : (parts : List (List ℕ)) → text_end line d (onto_first b parts) ≡ Err (fault.Line line expected.NoMoreLines)
     first [] = refl
-    first (part ∷ parts) = ap (λ t. cond (t && (length parts == 0)) (ok d) (Err (fault.Line line expected.NoMoreLines))) (grind (arith, nat_tests))
+    first (part ∷ parts) = let some : (suc (length part) == 0) ≡ false = grind (arith, nat_tests) in ap (λ t. cond (t && (length parts == 0)) (ok d) (Err (fault.Line line expected.NoMoreLines))) some

@@ -1,5 +1,5 @@
 -- What is read of a line is what its words say.
-use Rattle.std.proofs.Common.{◌≡◌, ℕ, suc, ◌+◌, ◌^◌, ◌<◌, ◌≤◌, Bool, true, false, cond, List, [], ◌∷◌, ◌++◌, length, map, Option, Some, None, Result, Ok, Err, refl, sym, ap, subst, ◌∙◌, length-append, arith}
+use Rattle.std.proofs.Common.{◌≡◌, ℕ, ◌^◌, ◌<◌, ◌≤◌, true, cond, List, [], ◌∷◌, ◌++◌, length, Option, Some, None, Ok, refl, sym, ap, subst, ◌∙◌, length-append, arith}
 use Rattle.std.specs.Prelude.{codes, IfSome}
 use Rattle.std.specs.Fmt.{decimal}
 use Rattle.std.specs.List.{AllByRecursion}
@@ -10,7 +10,6 @@ use Rattle.reh_census.specs.declared.censuses.CountedEnsemble.{CountedEnsemble}
 use Rattle.reh_census.specs.declared.censuses.CountedTail.{CountedTail}
 use Rattle.reh_census.specs.declared.censuses.Judged.{Judged}
 use Rattle.reh_census.specs.declared.classes.Counted.{Counted}
-use Rattle.reh_census_file.specs.declared.faults.Expected.{Expected}
 use Rattle.reh_census_file.specs.declared.faults.Expected.TheVariants as expected
 use Rattle.reh_census_file.specs.declared.faults.Word.TheVariants as word
 use Rattle.reh_census_file.specs.LineReading.{BookieLine, rack_behind, rack_at, bookie_line_at, judged_at, entries_at, tail_at, ensemble_at}
@@ -69,9 +68,9 @@ bookie_line_takes words line e =
     let k = rack_takes em.1 r.0 r.1 in
     subst (λ (x : BookieLine). IsBookieLine x words) (ok_is made line r.2) (record {
       parts = ap (λ ws. codes "bookie" ∷ ws) (n.0 ∙ ap (λ ws. a.0.0 ∷ ws) (choice_takes (codes "up") (codes "down") expected.UpOrDown a.0.1 b.0.1 b.0.0 b.1
-        ∙ ap (λ ws. up_word b.0.0 ∷ ws) (flag_takes word.ReadOnly b.0.1
-        ∙ ap (λ ws. word_if ro.0 (codes "read-only") ++ ws) (flag_takes word.Empty ro.1
-        ∙ ap (λ ws. word_if em.0 (codes "empty") ++ ws) k.0))));
+          ∙ ap (λ ws. up_word b.0.0 ∷ ws) (flag_takes word.ReadOnly b.0.1
+          ∙ ap (λ ws. word_if ro.0 (codes "read-only") ++ ws) (flag_takes word.Empty ro.1
+          ∙ ap (λ ws. word_if em.0 (codes "empty") ++ ws) k.0))));
       named = n.1;
       racked = k.1;
     })
@@ -99,9 +98,9 @@ judged_takes words judged e =
     let missing = number_behind_takes word.Missing c.0.1 d.0.1 d.0.0 d.1 in
     subst (λ (j : Judged). IsJudgedLine j words) (ok_is made judged f.2) (record {
       parts = ap (λ ws. codes "ledgers" ∷ ws) (ledgers.parts ∙ ap (λ ws. decimal a.0.0 ∷ ws) (assumed.parts
-        ∙ ap (λ ws. codes "assumed" ∷ decimal b.0.0 ∷ ws) (unread.parts
-        ∙ ap (λ ws. codes "unread" ∷ decimal c.0.0 ∷ ws) (missing.parts
-        ∙ ap (λ ws. codes "missing" ∷ decimal d.0.0 ∷ ws) (no_more_takes d.0.1 f.1)))));
+          ∙ ap (λ ws. codes "assumed" ∷ decimal b.0.0 ∷ ws) (unread.parts
+          ∙ ap (λ ws. codes "unread" ∷ decimal c.0.0 ∷ ws) (missing.parts
+          ∙ ap (λ ws. codes "missing" ∷ decimal d.0.0 ∷ ws) (no_more_takes d.0.1 f.1)))));
       ledgers = ledgers.small;
       assumed = assumed.small;
     })
@@ -131,10 +130,10 @@ entries_take names words counted e =
     let untold = bookies_behind_take names word.Untold d.0.1 f.0.1 f.0.0 f.1 in
     subst (λ (x : Counted). IsEntriesLine names x words) (ok_is made counted g.2) (record {
       parts = ap (λ ws. codes "entries" ∷ ws) (count.0.parts ∙ ap (λ ws. decimal a.0.0 ∷ ws) ((number_behind_takes word.Write a.0.1 b.0.1 b.0.0 b.1).parts
-        ∙ ap (λ ws. codes "write" ∷ decimal b.0.0 ∷ ws) ((number_behind_takes word.Ack b.0.1 c.0.1 c.0.0 c.1).parts
-        ∙ ap (λ ws. codes "ack" ∷ decimal c.0.0 ∷ ws) (known.parts
-        ∙ ap (λ ws. codes "known" ∷ decimal (length d.0.0) ∷ (names_of names d.0.0 ++ ws)) (untold.parts
-        ∙ ap (λ ws. codes "untold" ∷ decimal (length f.0.0) ∷ ws) (ap (λ ws. names_of names f.0.0 ++ ws) (no_more_takes f.0.1 g.1) ∙ append-nil (names_of names f.0.0)))))));
+          ∙ ap (λ ws. codes "write" ∷ decimal b.0.0 ∷ ws) ((number_behind_takes word.Ack b.0.1 c.0.1 c.0.0 c.1).parts
+          ∙ ap (λ ws. codes "ack" ∷ decimal c.0.0 ∷ ws) (known.parts
+          ∙ ap (λ ws. codes "known" ∷ decimal (length d.0.0) ∷ (names_of names d.0.0 ++ ws)) (untold.parts
+          ∙ ap (λ ws. codes "untold" ∷ decimal (length f.0.0) ∷ ws) (ap (λ ws. names_of names f.0.0 ++ ws) (no_more_takes f.0.1 g.1) ∙ append-nil (names_of names f.0.0)))))));
       some = count.1;
       known = known.within;
       untold = untold.within;
@@ -166,10 +165,10 @@ tail_takes names words counted e =
     let ensemble = bookies_take names c.0.0 f.0.1 g.0.1 g.0.0 g.1 in
     subst (λ (x : CountedTail). IsTailLine names x words) (ok_is made counted h.2) (record {
       parts = ap (λ ws. codes "tail" ∷ ws) (count.0.parts ∙ ap (λ ws. decimal a.0.0 ∷ ws) (choice_takes (codes "open") (codes "in-recovery") expected.OpenOrInRecovery a.0.1 b.0.1 b.0.0 b.1
-        ∙ ap (λ ws. cond b.0.0 (codes "open") (codes "in-recovery") ∷ ws) ((number_behind_takes word.Size b.0.1 c.0.1 c.0.0 c.1).parts
-        ∙ ap (λ ws. codes "size" ∷ decimal c.0.0 ∷ ws) ((number_behind_takes word.Write c.0.1 d.0.1 d.0.0 d.1).parts
-        ∙ ap (λ ws. codes "write" ∷ decimal d.0.0 ∷ ws) ((number_behind_takes word.Ack d.0.1 f.0.1 f.0.0 f.1).parts
-        ∙ ap (λ ws. codes "ack" ∷ decimal f.0.0 ∷ ws) (ensemble.0.parts ∙ ap (λ ws. names_of names g.0.0 ++ ws) (no_more_takes g.0.1 h.1) ∙ append-nil (names_of names g.0.0)))))));
+          ∙ ap (λ ws. cond b.0.0 (codes "open") (codes "in-recovery") ∷ ws) ((number_behind_takes word.Size b.0.1 c.0.1 c.0.0 c.1).parts
+          ∙ ap (λ ws. codes "size" ∷ decimal c.0.0 ∷ ws) ((number_behind_takes word.Write c.0.1 d.0.1 d.0.0 d.1).parts
+          ∙ ap (λ ws. codes "write" ∷ decimal d.0.0 ∷ ws) ((number_behind_takes word.Ack d.0.1 f.0.1 f.0.0 f.1).parts
+          ∙ ap (λ ws. codes "ack" ∷ decimal f.0.0 ∷ ws) (ensemble.0.parts ∙ ap (λ ws. names_of names g.0.0 ++ ws) (no_more_takes g.0.1 h.1) ∙ append-nil (names_of names g.0.0)))))));
       some = count.1;
       within = ensemble.0.within;
       whole = ensemble.1;

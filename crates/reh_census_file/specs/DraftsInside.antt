@@ -3,7 +3,6 @@ use Rattle.std.specs.Prelude.{◌≡◌, ◌≤◌, ◌^◌, length, All, IfSome
 use Rattle.reh_census.specs.Counting.{ensembles_in, entries_in, not_judged, tails_in}
 use Rattle.reh_census.specs.Tails.{IsTail}
 use Rattle.reh_census_file.specs.declared.drafts.Draft.TheInside.{Inside}
-use Rattle.reh_census_file.specs.declared.lists.TheConstants.{MAX_NAMES}
 use Rattle.reh_census_file.specs.Drafts.{Draft}
 
 abbrev pub draft_in : Inside → Draft

@@ -1,5 +1,5 @@
 -- Reading a whole text: its lines from the first to the last, or the first line that isn't what is expected, and what was.
-use Rattle.std.specs.Prelude.{◌≡◌, ℕ, ◌+◌, ◌==◌, ◌&&◌, Bool, if◌then◌else◌, List, [], ◌∷◌, length, drop, Option, None, Some, is_some, unwrap_or}
+use Rattle.std.specs.Prelude.{◌≡◌, ℕ, ◌+◌, ◌==◌, ◌&&◌, Bool, if◌then◌else◌, List, [], ◌∷◌, length, drop, Option, is_some, unwrap_or}
 use Rattle.std.specs.Prelude.{Result, Ok, Err, codes}
 use Rattle.std.specs.List.{slice_split}
 use Rattle.std.specs.Str.{bytes_eq}

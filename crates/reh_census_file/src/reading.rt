@@ -1,5 +1,5 @@
 // Reading a census.
-ghost use Rattle.std.specs.Prelude.{◌≡◌, ◌∷◌, ◌<◌, [], ◌+◌, ◌^◌, codes, nat_eq, length, MatchOption, position};
+ghost use Rattle.std.specs.Prelude.{◌≡◌, ◌∷◌, ◌<◌, [], ◌+◌, ◌^◌, codes, nat_eq, length, MatchOption, position, Ok};
 ghost use Rattle.reh_census_file.specs.declared.faults.Expected.TheVariants as expected;
 ghost use Rattle.reh_census_file.specs.Reading as words;
 ghost use Rattle.std.specs.List.{starts_with, position_or_len};
@@ -187,4 +187,40 @@ fn read_body(alloc: Global, text: &[u8]) -> Result<Draft, CensusFault>
         left = rest;
     }
     Err(CensusFault::Line(lines + 1, Expected::MoreLines))
+}
+
+/// The census that these parts of a text told.
+fn census_of(
+    alloc: Global,
+    is_strict: bool,
+    taken: Option<&str>,
+    draft: Draft,
+) -> Result<NamedCensus, CensusFault>
+    ensures { GivesAll (λ c. c) result (Ok (whole.census_in is_strict (option_map (λ t. t.now) taken.entry) draft)) }
+{
+    let judged = draft.judged.unwrap_or(Judged {
+        ledgers: 0,
+        assumed: 0,
+        unread: 0,
+        missing: 0,
+    });
+    let taken = match taken {
+        Some(time) => Some(String::from_str(alloc, time)?),
+        None => None,
+    };
+    let bookies = Bookies::of(draft.bookies);
+    let census = Census::of(draft.entries, draft.tails, draft.ensembles, judged);
+    Ok(NamedCensus::of(draft.names, draft.racks, bookies, census, is_strict, taken))
+}
+
+/// The census that a text tells.
+#[tactic(auto, unfolding(crate::specs::Whole::census_at))]
+fn read_all(alloc: Global, bytes: &[u8]) -> Result<NamedCensus, CensusFault>
+    ensures { GivesAll (λ c. c) result (whole.read bytes.now) }
+{
+    let rest = behind_version(bytes)?;
+    let (is_strict, rest) = read_strict(rest)?;
+    let (taken, rest) = read_taken(rest)?;
+    let draft = read_body(alloc, rest)?;
+    census_of(alloc, is_strict, taken, draft)
 }
