@@ -3,6 +3,7 @@ pub mod LineLaws
 pub mod LineTakes
 pub mod NameLemmas
 pub mod NumberLaws
+pub mod OrderLaws
 pub mod ReadLoops
 pub mod TextLaws
 pub mod TokenLaws

@@ -13,7 +13,8 @@ use Rattle.reh_census.specs.declared.classes.Counted.{Counted}
 use Rattle.reh_census_file.specs.declared.faults.Expected.TheVariants as expected
 use Rattle.reh_census_file.specs.declared.faults.Word.TheVariants as word
 use Rattle.reh_census_file.specs.LineReading.{BookieLine, rack_behind, rack_at, bookie_line_at, judged_at, entries_at, tail_at, ensemble_at}
-use Rattle.reh_census_file.specs.Reading.{◌>>=◌, is_name, flag_at, choice_at, number_at, count_at, number_behind, name_at, bookies_at, bookies_behind, no_more}
+use Rattle.reh_census_file.specs.Canonical.{is_name}
+use Rattle.reh_census_file.specs.Reading.{◌>>=◌, flag_at, choice_at, number_at, count_at, number_behind, name_at, bookies_at, bookies_behind, no_more}
 use Rattle.reh_census_file.specs.Texts.{up_word, word_if, judged_words, entries_words, tail_words, ensemble_words, name_of, names_of}
 use Rattle.reh_census_file.proofs.TokenLaws.{bind_ok, passed, ok_is, flag_takes, choice_takes, number_takes, count_takes, number_behind_takes, name_takes, bookies_take, bookies_behind_take, no_more_takes}
 

@@ -10,7 +10,8 @@ use Rattle.reh_census_file.specs.declared.faults.Expected.{Expected}
 use Rattle.reh_census_file.specs.declared.faults.Expected.TheVariants as expected
 use Rattle.reh_census_file.specs.declared.faults.Word.{Word}
 use Rattle.reh_census_file.specs.Faults.{word_text}
-use Rattle.reh_census_file.specs.Reading.{◌>>=◌, is_name, number_of, number_or, count_or, bookie_or, word_at, flag_at, choice_at, number_at, count_at, number_behind, name_at, bookie_at, bookies_at, bookies_behind, no_more}
+use Rattle.reh_census_file.specs.Canonical.{is_name}
+use Rattle.reh_census_file.specs.Reading.{◌>>=◌, number_of, number_or, count_or, bookie_or, word_at, flag_at, choice_at, number_at, count_at, number_behind, name_at, bookie_at, bookies_at, bookies_behind, no_more}
 use Rattle.reh_census_file.specs.Texts.{name_of, names_of, word_if}
 use Rattle.reh_census_file.proofs.NumberLaws.{number_of-some}
 

@@ -10,7 +10,8 @@ use Rattle.std.proofs.lemmas.Str.{IsUtf8-from_ascii}
 use Rattle.std.proofs.lemmas.Str.Ascii.{IsAscii-nil, IsAscii-cons}
 use Rattle.std.proofs.lemmas.List.Sums.{prefix_len-le-length}
 use Rattle.std.proofs.lemmas.List.Splits.{length-slice_split}
-use Rattle.reh_census_file.specs.Reading.{is_space, is_name, words_of, words_after}
+use Rattle.reh_census_file.specs.Canonical.{is_name}
+use Rattle.reh_census_file.specs.Reading.{is_space, words_of, words_after}
 
 one_more : (n : ℕ) → 1 + n ≡ suc n
 one_more n = omega arith

@@ -2,7 +2,7 @@
 use Rattle.std.specs.Prelude.{ℕ, ◌+◌, ◌-◌, ◌^◌, ◌==◌, ◌&&◌, nat_le, nat_lt, not, Bool, true, if◌then◌else◌}
 use Rattle.std.specs.Prelude.{List, [], ◌∷◌, ◌++◌, length, slice_get, position, Option, None, Some, is_some, unwrap_or}
 use Rattle.std.specs.Prelude.{Result, Ok, Err, codes}
-use Rattle.std.specs.List.{list_all, list_any}
+use Rattle.std.specs.List.{list_any}
 use Rattle.std.specs.Option.{option_map, option_map_or}
 use Rattle.std.specs.Ordering.{is_lt, on}
 use Rattle.std.specs.Str.{bytes_eq}
@@ -11,13 +11,10 @@ use Rattle.reh_census.specs.declared.bookies.Bookie.{Bookie}
 use Rattle.reh_census.specs.declared.censuses.CountedEnsemble.{CountedEnsemble}
 use Rattle.reh_census.specs.declared.censuses.CountedTail.{CountedTail}
 use Rattle.reh_census.specs.declared.censuses.Judged.{Judged}
-use Rattle.reh_census.specs.declared.censuses.Tail.{Tail}
-use Rattle.reh_census.specs.declared.classes.Class.{Class}
 use Rattle.reh_census.specs.declared.classes.Counted.{Counted}
-use Rattle.reh_census.specs.Bookies.{bookies_of, is_holder}
-use Rattle.reh_census.specs.Copies.{is_in}
 use Rattle.reh_census.specs.Counting.{ensembles_in, entries_in, not_judged, tails_in}
 use Rattle.reh_census.specs.Order.{class_cmp, names_cmp, tail_cmp}
+use Rattle.reh_census_file.specs.Canonical.{are_quorums, are_copies, are_sizes, are_members}
 use Rattle.reh_census_file.specs.declared.faults.Expected.{Expected}
 use Rattle.reh_census_file.specs.declared.faults.Expected.TheVariants as expected
 use Rattle.reh_census_file.specs.declared.faults.Part.{Part}
@@ -40,43 +37,9 @@ pub record Draft : Type 0 where
 abbrev pub no_lines : Draft
 no_lines = record { names = []; racks = []; bookies = []; judged = None; entries = []; tails = []; ensembles = [] }
 
--- What each line has to be
-
--- whether a number is less than the first of others
-abbrev pub is_below : ℕ → List ℕ → Bool
-is_below x [] = true
-is_below x (y ∷ ys) = nat_lt x y
-
--- whether each number is less than the next
-abbrev pub are_rising : List ℕ → Bool
-are_rising [] = true
-are_rising (x ∷ xs) = is_below x xs && are_rising xs
-
 -- whether it comes after the last one
 abbrev pub is_later : {X : Type 0} → (X → X → Ordering) → List X → X → Bool
 is_later cmp xs x = option_map_or (λ last. is_lt (cmp last x)) (slice_get xs (length xs - 1)) true
-
-abbrev pub are_quorums : Class → Bool
-are_quorums class =
-    nat_le 1 class.ack_quorum && (nat_le class.ack_quorum class.write_quorum && nat_le class.write_quorum 64)
-
--- the known copies and the untold ones are on bookies that may hold some, in order, each once, and no more than the write
--- quorum
-abbrev pub are_copies : List Bookie → Class → Bool
-are_copies bookies class =
-    nat_le (length class.known + length class.untold) class.write_quorum
-    && ((are_rising class.known && are_rising class.untold)
-    && ((list_all (is_holder (bookies_of bookies)) class.known && list_all (is_holder (bookies_of bookies)) class.untold)
-    && not (list_any (is_in class.known) class.untold)))
-
-abbrev pub are_sizes : Tail → Bool
-are_sizes tail =
-    nat_le 1 tail.ack_quorum && (nat_le tail.ack_quorum tail.write_quorum
-    && (nat_le tail.write_quorum tail.size && nat_le tail.size 64))
-
--- 1 to 64 bookies, in order, each once
-abbrev pub are_members : List ℕ → Bool
-are_members members = nat_lt 0 (length members) && (nat_le (length members) 64 && are_rising members)
 
 -- What a line adds
 

@@ -1,3 +1,4 @@
+pub mod Canonical
 pub mod Drafts
 pub mod DraftsInside
 pub mod Faults

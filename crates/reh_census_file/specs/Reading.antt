@@ -1,16 +1,16 @@
 -- Reading the words of a line from left to right: a value and the words behind it, or the first word that isn't what is
 -- expected.
-use Rattle.std.specs.Prelude.{◌≡◌, ℕ, zero, suc, ◌*◌, ◌+◌, ◌-◌, ◌^◌, ◌==◌, ◌&&◌, nat_le, nat_lt, Bool, true, false, if◌then◌else◌}
-use Rattle.std.specs.Prelude.{List, [], ◌∷◌, length, position, Option, None, Some, Result, Ok, Err, codes}
-use Rattle.std.specs.Char.{is_ascii_graphic}
+use Rattle.std.specs.Prelude.{◌≡◌, ℕ, zero, suc, ◌*◌, ◌+◌, ◌-◌, ◌^◌, ◌==◌, ◌&&◌, nat_le, Bool, true, false, if◌then◌else◌}
+use Rattle.std.specs.Prelude.{List, [], ◌∷◌, position, Option, None, Some, Result, Ok, Err, codes}
 use Rattle.std.specs.Fmt.{decimal}
-use Rattle.std.specs.List.{slice_split, list_all}
+use Rattle.std.specs.List.{slice_split}
 use Rattle.std.specs.Str.{bytes_eq}
 use Rattle.reh_census_file.specs.declared.faults.Expected.{Expected}
 use Rattle.reh_census_file.specs.declared.faults.Expected.TheVariants as expected
 use Rattle.reh_census_file.specs.declared.faults.Stop.{Stop}
 use Rattle.reh_census_file.specs.declared.faults.Stop.TheVariants as stop
 use Rattle.reh_census_file.specs.declared.faults.Word.{Word}
+use Rattle.reh_census_file.specs.Canonical.{is_name}
 use Rattle.reh_census_file.specs.Faults.{word_text}
 
 infixl 10 ◌>>=◌
@@ -42,10 +42,6 @@ words_after [] = []
 words_after (b ∷ bs) = words_of bs
 
 -- Values
-
--- a name is a word of 1 to 300 bytes, each 0x21 to 0x7E
-abbrev pub is_name : List ℕ → Bool
-is_name word = nat_lt 0 (length word) && (nat_le (length word) 300 && list_all is_ascii_graphic word)
 
 -- the number that digits stand for, going on from another
 abbrev pub read_on : ℕ → List ℕ → ℕ

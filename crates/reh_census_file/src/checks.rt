@@ -6,6 +6,7 @@ ghost use Rattle.reh_census.specs.Bookies.{bookies_of};
 ghost use Rattle.reh_census.specs.Bookies as model;
 ghost use Rattle.reh_census.specs.Copies.{is_in};
 ghost use Rattle.reh_census.specs.Order.{class_cmp, names_cmp, tail_cmp};
+ghost use Rattle.reh_census_file.specs.Canonical as canonical;
 ghost use Rattle.reh_census_file.specs.Drafts as drafts;
 
 use crate::lists::NameList;
@@ -13,7 +14,7 @@ use reh_census::{Bookie, Class, Counted, CountedEnsemble, CountedTail, Tail};
 
 /// Whether a number is less than the first of others.
 fn is_below(number: u16, others: &[u16]) -> bool
-    ensures { result ≡ drafts.is_below number others.now }
+    ensures { result ≡ canonical.is_below number others.now }
 {
     match others {
         [] => true,
@@ -23,7 +24,7 @@ fn is_below(number: u16, others: &[u16]) -> bool
 
 /// Whether each number is less than the next.
 fn are_rising(numbers: &[u16]) -> bool
-    ensures { result ≡ drafts.are_rising numbers.now }
+    ensures { result ≡ canonical.are_rising numbers.now }
 {
     match numbers {
         [] => true,
@@ -64,14 +65,14 @@ fn overlap(numbers: &[u16], others: &[u16]) -> bool
 
 /// Whether these are quorums of a ledger.
 pub(crate) fn are_quorums(class: &Class) -> bool
-    ensures { result ≡ drafts.are_quorums class.now }
+    ensures { result ≡ canonical.are_quorums class.now }
 {
     1 <= class.ack_quorum && class.ack_quorum <= class.write_quorum && class.write_quorum <= 64
 }
 
 /// Whether copies can be on these bookies.
 pub(crate) fn are_copies(bookies: &[Bookie], class: &Class) -> bool
-    ensures { result ≡ drafts.are_copies bookies.now class.now }
+    ensures { result ≡ canonical.are_copies bookies.now class.now }
 {
     let known = class.known.as_slice();
     let untold = class.untold.as_slice();
@@ -85,7 +86,7 @@ pub(crate) fn are_copies(bookies: &[Bookie], class: &Class) -> bool
 
 /// Whether these are an ensemble's size and quorums.
 pub(crate) fn are_sizes(tail: &Tail) -> bool
-    ensures { result ≡ drafts.are_sizes tail.now }
+    ensures { result ≡ canonical.are_sizes tail.now }
 {
     1 <= tail.ack_quorum
         && tail.ack_quorum <= tail.write_quorum
@@ -95,7 +96,7 @@ pub(crate) fn are_sizes(tail: &Tail) -> bool
 
 /// Whether these can be the members of an ensemble.
 pub(crate) fn are_members(members: &[u16]) -> bool
-    ensures { result ≡ drafts.are_members members.now }
+    ensures { result ≡ canonical.are_members members.now }
 {
     !members.is_empty() && members.len() <= 64 && are_rising(members)
 }

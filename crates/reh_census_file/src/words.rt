@@ -4,7 +4,7 @@ ghost use Rattle.std.specs.Char.{is_ascii_graphic};
 ghost use Rattle.std.specs.Fmt.{decimal};
 ghost use Rattle.std.specs.Str.{bytes_eq};
 ghost use Rattle.std.specs.List.{list_all, position_or_len};
-ghost use Rattle.reh_census_file.specs.Faults.{word_text};
+ghost use Rattle.reh_census_file.specs.Canonical as canonical;
 ghost use Rattle.reh_census_file.specs.Reading as reading;
 ghost use Rattle.reh_census_file.specs.Reading.{Gives, words_of, words_after};
 
@@ -89,7 +89,7 @@ fn is_printed(word: &[u8]) -> bool
 
 /// Whether a word may be a name.
 fn is_name(word: &[u8]) -> bool
-    ensures { result ≡ reading.is_name word.now }
+    ensures { result ≡ canonical.is_name word.now }
 {
     !word.is_empty() && word.len() <= MAX_NAME_BYTES && is_printed(word)
 }
@@ -205,7 +205,7 @@ pub(crate) fn number_behind(wanted: Word, rest: &[u8]) -> Result<(u64, &[u8]), S
 
 /// The text of a word that may be a name.
 fn name_text(word: &[u8]) -> Option<&str>
-    ensures { option_map (λ text. text.now) result ≡ (if reading.is_name word.now then Some word.now else None) }
+    ensures { option_map (λ text. text.now) result ≡ (if canonical.is_name word.now then Some word.now else None) }
 {
     if !is_name(word) {
         return None;
