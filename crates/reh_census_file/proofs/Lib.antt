@@ -4,6 +4,7 @@ pub mod LineTakes
 pub mod NameLemmas
 pub mod NumberLaws
 pub mod OrderLaws
+pub mod RackLaws
 pub mod ReadLoops
 pub mod TextLaws
 pub mod TokenLaws
