@@ -1,4 +1,5 @@
 pub mod BodyLaws
+pub mod DraftTakes
 pub mod LineLaws
 pub mod LineTakes
 pub mod NameLemmas
@@ -6,6 +7,7 @@ pub mod NumberLaws
 pub mod OrderLaws
 pub mod RackLaws
 pub mod ReadLoops
+pub mod Steps
 pub mod TextLaws
 pub mod TokenLaws
 pub mod WordLaws
