@@ -1,7 +1,7 @@
 -- What a line adds is what it says, and keeps a draft canonical.
-use Rattle.std.proofs.Common.{◌≡◌, ℕ, zero, suc, ◌+◌, ◌^◌, ◌<◌, ◌≤◌, Bool, true, false, cond, not, List, [], ◌∷◌, ◌++◌, length, map, Option, Some, None, Result, Ok, Err, refl, sym, ap, subst, ◌∙◌, arith, length-append}
+use Rattle.std.proofs.Common.{◌≡◌, ℕ, ◌+◌, ◌^◌, ◌<◌, ◌≤◌, Bool, true, false, cond, not, List, [], ◌∷◌, ◌++◌, length, map, Option, Some, None, Result, Ok, Err, refl, sym, ap, subst, ◌∙◌, arith, length-append}
 use Rattle.std.specs.Prelude.{codes, IfSome, is_some, nat_le, nat_lt, ◌&&◌, ◌==◌}
-use Rattle.std.specs.List.{AllByRecursion, list_any, zip, sum_by}
+use Rattle.std.specs.List.{AllByRecursion, list_any, sum_by}
 use Rattle.std.specs.Option.{option_map}
 use Rattle.std.specs.Ordering.{on}
 use Rattle.std.specs.Str.{bytes_eq}
@@ -17,23 +17,23 @@ use Rattle.reh_census.specs.declared.censuses.CountedTail.{CountedTail}
 use Rattle.reh_census.specs.declared.censuses.Judged.{Judged}
 use Rattle.reh_census.specs.declared.classes.Counted.{Counted}
 use Rattle.reh_census.specs.Counting.{ensembles_in, entries_in, not_judged, tails_in}
-use Rattle.reh_census.specs.Order.{InOrder, class_cmp, names_cmp, tail_cmp}
+use Rattle.reh_census.specs.Order.{class_cmp, names_cmp, tail_cmp}
 use Rattle.reh_census_file.specs.declared.faults.Expected.{Expected}
 use Rattle.reh_census_file.specs.declared.faults.Expected.TheVariants as expected
 use Rattle.reh_census_file.specs.declared.lists.TheConstants.{MAX_NAMES}
-use Rattle.reh_census_file.specs.Canonical.{AreBookies, AreEnsembles, AreEntries, AreTails, IsJudged, AreNumbered, is_name, are_quorums, are_copies, are_sizes, are_members, next_rack}
+use Rattle.reh_census_file.specs.Canonical.{AreEnsembles, AreEntries, AreTails, AreNumbered, is_name, are_quorums, are_copies, are_sizes, are_members}
 use Rattle.reh_census_file.specs.Drafts.{Draft, part_of, other_line, is_later, rack_number, racks_with, with_bookie, add_bookie, add_judged, add_entries, add_tail, add_ensemble, bookie_step, judged_step, entries_step, tail_step, ensemble_step, step}
 use Rattle.reh_census_file.specs.LineReading.{BookieLine, bookie_line_at, judged_at, entries_at, tail_at, ensemble_at}
 use Rattle.reh_census_file.specs.Names.{IsNameList}
 use Rattle.reh_census_file.specs.Reading.{◌>>=◌}
 use Rattle.reh_census_file.specs.Texts.{bookie_words, judged_words, entries_words, tail_words, ensemble_words, up_word, word_if}
-use Rattle.reh_census_file.proofs.LineTakes.{IsBookieLine, IsJudgedLine, IsEntriesLine, IsTailLine, IsEnsembleLine, line_words, racked, bookie_line_takes, judged_takes, entries_take, tail_takes, ensemble_takes}
+use Rattle.reh_census_file.proofs.LineTakes.{IsBookieLine, IsJudgedLine, IsEntriesLine, IsTailLine, IsEnsembleLine, bookie_line_takes, judged_takes, entries_take, tail_takes, ensemble_takes}
 use Rattle.reh_census_file.proofs.OrderLaws.{InOrder-push, All-push, IsDistinct-push}
-use Rattle.reh_census_file.proofs.RackLaws.{IsRacked, is_racked, lines_by, lines_by-more, lines_by-push, numbered-up, numbered-push}
+use Rattle.reh_census_file.proofs.RackLaws.{is_racked, lines_by, lines_by-more, lines_by-push, numbered-up, numbered-push}
 use Rattle.reh_census_file.proofs.Steps.{draft_words, judged_lines, AreEarly, IsFine}
 use Rattle.reh_census_file.proofs.TokenLaws.{bind_ok, passed, ok_is}
 
-abbrev Line : Type 0
+abbrev pub Line : Type 0
 Line = List (List ℕ)
 
 -- what a line does
@@ -123,11 +123,11 @@ add_bookie_tells d line words more fine none said e =
     let rf = racks_fine d.racks line.rack old.few_racks old.racked said.racked few in
     let told : with_bookie d line ≡ more = ok_is (with_bookie d line) more c.1 in
     let lines : draft_words (with_bookie d line) ≡ draft_words d ++ (codes "bookie" ∷ words) ∷ [] =
-      early_words (with_bookie d line) none (record { entries = early.entries; tails = early.tails; ensembles = early.ensembles })
-      ∙ lines_by-push racks d.names d.bookies line.name made old.each
-      ∙ ap (λ ls. ls ++ bookie_words racks line.name made ∷ []) (ap (λ rs. lines_by rs d.names d.bookies) r.goes_on ∙ lines_by-more d.racks r.more d.names d.bookies 0 (length d.racks) old.numbered (omega arith))
-      ∙ ap (λ w. lines_by d.racks d.names d.bookies ++ w ∷ []) (ap (λ ws. codes "bookie" ∷ line.name ∷ up_word line.is_registered ∷ (word_if line.is_read_only (codes "read-only") ++ (word_if line.is_empty (codes "empty") ++ ws))) r.words ∙ sym said.parts)
-      ∙ ap (λ ls. ls ++ (codes "bookie" ∷ words) ∷ []) (sym (early_words d none early)) in
+    early_words (with_bookie d line) none (record { entries = early.entries; tails = early.tails; ensembles = early.ensembles })
+    ∙ lines_by-push racks d.names d.bookies line.name made old.each
+    ∙ ap (λ ls. ls ++ bookie_words racks line.name made ∷ []) (ap (λ rs. lines_by rs d.names d.bookies) r.goes_on ∙ lines_by-more d.racks r.more d.names d.bookies 0 (length d.racks) old.numbered (omega arith))
+    ∙ ap (λ w. lines_by d.racks d.names d.bookies ++ w ∷ []) (ap (λ ws. codes "bookie" ∷ line.name ∷ up_word line.is_registered ∷ (word_if line.is_read_only (codes "read-only") ++ (word_if line.is_empty (codes "empty") ++ ws))) r.words ∙ sym said.parts)
+    ∙ ap (λ ls. ls ++ (codes "bookie" ∷ words) ∷ []) (sym (early_words d none early)) in
     subst (λ (m : Draft). Tells d (codes "bookie" ∷ words) m) told (record {
       fine = record {
         bookies = record {
@@ -180,10 +180,10 @@ judged_tells d words more fine e =
             early = λ some. absurd cc;
           };
           words = ap (λ es. lines ++ (judged_words judged ∷ (map (entries_words d.names) es ++ (map (tail_words d.names) d.tails ++ map (ensemble_words d.names) d.ensembles)))) early.entries
-            ∙ ap (λ ts. lines ++ (judged_words judged ∷ (map (tail_words d.names) ts ++ map (ensemble_words d.names) d.ensembles))) early.tails
-            ∙ ap (λ es. lines ++ (judged_words judged ∷ map (ensemble_words d.names) es)) early.ensembles
-            ∙ ap (λ w. lines ++ w ∷ []) (sym said.parts)
-            ∙ ap (λ ls. ls ++ (codes "ledgers" ∷ words) ∷ []) (sym (early_words d none early));
+              ∙ ap (λ ts. lines ++ (judged_words judged ∷ (map (tail_words d.names) ts ++ map (ensemble_words d.names) d.ensembles))) early.tails
+              ∙ ap (λ es. lines ++ (judged_words judged ∷ map (ensemble_words d.names) es)) early.ensembles
+              ∙ ap (λ w. lines ++ w ∷ []) (sym said.parts)
+              ∙ ap (λ ls. ls ++ (codes "ledgers" ∷ words) ∷ []) (sym (early_words d none early));
         })
 
 -- Entries
@@ -238,12 +238,12 @@ entries_tell d words more fine e =
             early = not_early made some;
           };
           words = ap (λ ls. lines ++ (judged_lines d.judged ++ (ls ++ (map (tail_words d.names) d.tails ++ map (ensemble_words d.names) d.ensembles)))) (pushed (entries_words d.names) d.entries counted)
-            ∙ ap (λ ts. lines ++ (judged_lines d.judged ++ ((es ++ entries_words d.names counted ∷ []) ++ (map (tail_words d.names) ts ++ map (ensemble_words d.names) d.ensembles)))) no_tail
-            ∙ ap (λ ts. lines ++ (judged_lines d.judged ++ ((es ++ entries_words d.names counted ∷ []) ++ map (ensemble_words d.names) ts))) no_ensemble
-            ∙ ap (λ ls. lines ++ (judged_lines d.judged ++ ls)) (append-nil (es ++ entries_words d.names counted ∷ []))
-            ∙ ap (λ w. lines ++ (judged_lines d.judged ++ (es ++ w ∷ []))) (sym said.parts)
-            ∙ regroup_entries lines (judged_lines d.judged) es ((codes "entries" ∷ words) ∷ [])
-            ∙ ap (λ ls. (lines ++ (judged_lines d.judged ++ ls)) ++ (codes "entries" ∷ words) ∷ []) (sym (append-nil es)
+              ∙ ap (λ ts. lines ++ (judged_lines d.judged ++ ((es ++ entries_words d.names counted ∷ []) ++ (map (tail_words d.names) ts ++ map (ensemble_words d.names) d.ensembles)))) no_tail
+              ∙ ap (λ ts. lines ++ (judged_lines d.judged ++ ((es ++ entries_words d.names counted ∷ []) ++ map (ensemble_words d.names) ts))) no_ensemble
+              ∙ ap (λ ls. lines ++ (judged_lines d.judged ++ ls)) (append-nil (es ++ entries_words d.names counted ∷ []))
+              ∙ ap (λ w. lines ++ (judged_lines d.judged ++ (es ++ w ∷ []))) (sym said.parts)
+              ∙ regroup_entries lines (judged_lines d.judged) es ((codes "entries" ∷ words) ∷ [])
+              ∙ ap (λ ls. (lines ++ (judged_lines d.judged ++ ls)) ++ (codes "entries" ∷ words) ∷ []) (sym (append-nil es)
               ∙ ap (λ ts. es ++ map (ensemble_words d.names) ts) (sym no_ensemble) ∙ ap (λ ts. es ++ (map (tail_words d.names) ts ++ map (ensemble_words d.names) d.ensembles)) (sym no_tail));
         })
 
@@ -284,11 +284,11 @@ tail_tells d words more fine e =
             early = not_early made some;
           };
           words = ap (λ ls. lines ++ (judged_lines d.judged ++ (es ++ (ls ++ map (ensemble_words d.names) d.ensembles)))) (pushed (tail_words d.names) d.tails counted)
-            ∙ ap (λ xs. lines ++ (judged_lines d.judged ++ (es ++ ((ts ++ tail_words d.names counted ∷ []) ++ map (ensemble_words d.names) xs)))) no_ensemble
-            ∙ ap (λ ls. lines ++ (judged_lines d.judged ++ (es ++ ls))) (append-nil (ts ++ tail_words d.names counted ∷ []))
-            ∙ ap (λ w. lines ++ (judged_lines d.judged ++ (es ++ (ts ++ w ∷ [])))) (sym said.parts)
-            ∙ regroup_tails lines (judged_lines d.judged) es ts ((codes "tail" ∷ words) ∷ [])
-            ∙ ap (λ ls. (lines ++ (judged_lines d.judged ++ (es ++ ls))) ++ (codes "tail" ∷ words) ∷ []) (sym (append-nil ts) ∙ ap (λ xs. ts ++ map (ensemble_words d.names) xs) (sym no_ensemble));
+              ∙ ap (λ xs. lines ++ (judged_lines d.judged ++ (es ++ ((ts ++ tail_words d.names counted ∷ []) ++ map (ensemble_words d.names) xs)))) no_ensemble
+              ∙ ap (λ ls. lines ++ (judged_lines d.judged ++ (es ++ ls))) (append-nil (ts ++ tail_words d.names counted ∷ []))
+              ∙ ap (λ w. lines ++ (judged_lines d.judged ++ (es ++ (ts ++ w ∷ [])))) (sym said.parts)
+              ∙ regroup_tails lines (judged_lines d.judged) es ts ((codes "tail" ∷ words) ∷ [])
+              ∙ ap (λ ls. (lines ++ (judged_lines d.judged ++ (es ++ ls))) ++ (codes "tail" ∷ words) ∷ []) (sym (append-nil ts) ∙ ap (λ xs. ts ++ map (ensemble_words d.names) xs) (sym no_ensemble));
         })
 
 -- Ensembles
@@ -327,8 +327,8 @@ ensemble_tells d words more fine e =
             early = not_early made some;
           };
           words = ap (λ ls. lines ++ (judged_lines d.judged ++ (es ++ (ts ++ ls)))) (pushed (ensemble_words d.names) d.ensembles counted)
-            ∙ ap (λ w. lines ++ (judged_lines d.judged ++ (es ++ (ts ++ (xs ++ w ∷ []))))) (sym said.parts)
-            ∙ regroup_ensembles lines (judged_lines d.judged) es ts xs ((codes "ensemble" ∷ words) ∷ []);
+              ∙ ap (λ w. lines ++ (judged_lines d.judged ++ (es ++ (ts ++ (xs ++ w ∷ []))))) (sym said.parts)
+              ∙ regroup_ensembles lines (judged_lines d.judged) es ts xs ((codes "ensemble" ∷ words) ∷ []);
         })
 
 -- All lines

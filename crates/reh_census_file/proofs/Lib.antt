@@ -10,4 +10,5 @@ pub mod ReadLoops
 pub mod Steps
 pub mod TextLaws
 pub mod TokenLaws
+pub mod WholeTakes
 pub mod WordLaws

@@ -33,7 +33,7 @@ module _ {X : Type 0} (cmp : X → X → Ordering) where
             let below : length xs - 1 < length xs = omega arith in
             let is-k : length xs - 1 ≡ k = omega arith in
             let last : cmp (get_or xs k d) x ≡ Less =
-              is_less (cmp (get_or xs k d) x) (ap (λ i. is_lt (cmp (get_or xs i d) x)) (sym is-k) ∙ sym (ap (λ o. option_map_or (λ l. is_lt (cmp l x)) o true) (slice_get-get_or xs (length xs - 1) d below)) ∙ later) in
+            is_less (cmp (get_or xs k d) x) (ap (λ i. is_lt (cmp (get_or xs i d) x)) (sym is-k) ∙ sym (ap (λ o. option_map_or (λ l. is_lt (cmp l x)) o true) (slice_get-get_or xs (length xs - 1) d below)) ∙ later) in
             subst (λ (o : X). cmp o (get_or (xs ++ x ∷ []) (k + 1) d) ≡ Less) (sym (get_or_append_left xs (x ∷ []) d k (omega arith)))
             (subst (λ (o : X). cmp (get_or xs k d) o ≡ Less) (sym (ap (λ i. get_or (xs ++ x ∷ []) i d) at ∙ get_or-append_seam xs x [] d)) last)
       ]
@@ -48,7 +48,7 @@ module _ {X : Type 0} (cmp : X → X → Ordering) where
       let less = order n x (omega (arith, whole)) in
       let one : n + 1 ≡ length all = omega arith in
       let last : cmp (get_or all n x) x ≡ Less =
-        ap (λ o. cmp o x) (sym (get_or_append_left all (x ∷ ys) x n (omega arith))) ∙ ap (λ o. cmp (get_or (all ++ x ∷ ys) n x) o) (sym (ap (λ i. get_or (all ++ x ∷ ys) i x) one ∙ get_or-append_seam all x ys x)) ∙ less in
+      ap (λ o. cmp o x) (sym (get_or_append_left all (x ∷ ys) x n (omega arith))) ∙ ap (λ o. cmp (get_or (all ++ x ∷ ys) n x) o) (sym (ap (λ i. get_or (all ++ x ∷ ys) i x) one ∙ get_or-append_seam all x ys x)) ∙ less in
       let is-n : length all - 1 ≡ n = omega arith in
       ap (λ o. option_map_or (λ l. is_lt (cmp l x)) o true) (slice_get-get_or all (length all - 1) x (omega arith)) ∙ ap (λ i. is_lt (cmp (get_or all i x) x)) is-n ∙ ap is_lt last
 

@@ -13,6 +13,6 @@ mod words;
 
 pub use faults::{CensusFault, Expected, Part, Word};
 pub use lists::{MAX_NAMES, NameList};
-pub use reading::is_census;
+pub use reading::{is_census, read_census};
 pub use texts::census_text;
 pub use values::NamedCensus;

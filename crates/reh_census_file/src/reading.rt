@@ -1,10 +1,12 @@
 // Reading a census.
-ghost use Rattle.std.specs.Prelude.{◌≡◌, ◌∷◌, ◌<◌, [], ◌+◌, ◌^◌, codes, nat_eq, length, MatchOption, position, Ok};
+ghost use Rattle.std.specs.Prelude.{◌≡◌, ◌∷◌, ◌<◌, [], ◌+◌, ◌^◌, codes, nat_eq, length, MatchOption, position, IfOk, Ok};
 ghost use Rattle.reh_census_file.specs.declared.faults.Expected.TheVariants as expected;
 ghost use Rattle.reh_census_file.specs.Reading as words;
 ghost use Rattle.std.specs.List.{starts_with, position_or_len};
 ghost use Rattle.reh_census_file.specs.Drafts as drafts;
 ghost use Rattle.reh_census_file.specs.Reading.{Gives, words_after, words_of};
+ghost use Rattle.reh_census_file.specs.Canonical.{IsCanonical};
+ghost use Rattle.reh_census_file.specs.Texts.{text_of};
 ghost use Rattle.reh_census_file.specs.Whole as whole;
 ghost use Rattle.reh_census_file.specs.Whole.{GivesAll, parts_of};
 ghost use Rattle.std.specs.Option.{option_map};
@@ -223,4 +225,15 @@ fn read_all(alloc: Global, bytes: &[u8]) -> Result<NamedCensus, CensusFault>
     let (taken, rest) = read_taken(rest)?;
     let draft = read_body(alloc, rest)?;
     census_of(alloc, is_strict, taken, draft)
+}
+
+/// The census that these bytes are the text of, or the first line that makes them no text of any.
+pub fn read_census(alloc: Global, bytes: &[u8]) -> Result<NamedCensus, CensusFault>
+    // What is read has this text, each byte of it.
+    ensures text { IfOk result (λ c. text_of c ≡ bytes.now) }
+    ensures canonical { IfOk result IsCanonical }
+    // Which fault it is.
+    ensures exact { GivesAll (λ c. c) result (whole.read bytes.now) }
+{
+    read_all(alloc, bytes)
 }
