@@ -1,5 +1,6 @@
 pub mod BodyLaws
 pub mod DraftTakes
+pub mod LineAgain
 pub mod LineLaws
 pub mod LineTakes
 pub mod NameLemmas
@@ -9,6 +10,7 @@ pub mod RackLaws
 pub mod ReadLoops
 pub mod Steps
 pub mod TextLaws
+pub mod TokenAgain
 pub mod TokenLaws
 pub mod WholeTakes
 pub mod WordLaws
