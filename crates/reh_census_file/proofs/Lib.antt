@@ -6,6 +6,8 @@ pub mod LineTakes
 pub mod NameLemmas
 pub mod NumberLaws
 pub mod OrderLaws
+pub mod PlainLaws
+pub mod RackAgain
 pub mod RackLaws
 pub mod ReadLoops
 pub mod Steps

@@ -18,7 +18,7 @@ use Rattle.reh_census_file.specs.Reading.{read_on, number_of}
 pub digits_fit : (v i n : ℕ) → v < 10 ^ i → i < n → n ≤ 19 → v * 10 + 9 < 2 ^ 64
 digits_fit v i n h more few = let p : 10 ^ i ≤ 10 ^ 18 = pow-le-pow_right {n = 10} (lit< tt) {i = i} {j = 18} (omega arith) in omega arith
 
-own : IsNumeralModel (λ ds. all_ascii_digits ds ≡ true) (read_on 0)
+pub own : IsNumeralModel (λ ds. all_ascii_digits ds ≡ true) (read_on 0)
 own = numerals_by_fold _ tells_all_ascii_digits read_on (search rules)
 
 -- what is read is written so
