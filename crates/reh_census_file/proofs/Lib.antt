@@ -10,9 +10,11 @@ pub mod PlainLaws
 pub mod RackAgain
 pub mod RackLaws
 pub mod ReadLoops
+pub mod StepAgain
 pub mod Steps
 pub mod TextLaws
 pub mod TokenAgain
 pub mod TokenLaws
+pub mod WholeAgain
 pub mod WholeTakes
 pub mod WordLaws
