@@ -1,12 +1,13 @@
 -- Words without spaces and line ends: their lines are parted again.
 use Rattle.std.proofs.Common.{◌≡◌, ℕ, zero, suc, ◌+◌, ◌^◌, ◌<◌, ◌≤◌, Bool, true, false, cond, not, List, [], ◌∷◌, ◌++◌, length, map, Option, Some, None, get_or, refl, sym, ap, subst, ◌∙◌, arith}
 use Rattle.std.specs.Prelude.{codes, ◌&&◌, ◌==◌, nat_lt, nat_le, IfSome}
-use Rattle.std.specs.Char.{is_ascii_graphic, is_ascii_digit}
+use Rattle.std.specs.Char.{is_ascii_graphic, digit_value}
 use Rattle.std.specs.Fmt.{decimal}
 use Rattle.std.specs.List.{AllByRecursion, list_all, slice_split, onto_first}
-use Rattle.std.specs.Str.{all_ascii_digits}
 use Rattle.std.proofs.lemmas.Bool.Decides.{nat_tests}
-use Rattle.std.proofs.lemmas.Fmt.{digits_decimal}
+use Rattle.std.specs.Str.Parse.{AllDigits}
+use Rattle.std.proofs.lemmas.Fmt.{decimal_is_IsNumeral_wide}
+use Rattle.std.proofs.lemmas.Str.Parse.{digit_from_value}
 use Rattle.std.proofs.lemmas.List.{append-nil}
 use Rattle.std.proofs.lemmas.Option.{unwrap_or-slice_get}
 use mathlib.Core.List.{append_assoc}
@@ -15,7 +16,6 @@ use Rattle.reh_census_file.specs.Lines.{behind_spaces, line_of, lines_of}
 use Rattle.reh_census_file.specs.Reading.{is_space, words_of}
 use Rattle.reh_census_file.specs.Texts.{name_of, names_of}
 use Rattle.reh_census_file.specs.Whole.{is_line_end, parts_of}
-use Rattle.reh_census_file.proofs.NumberLaws.{own}
 use Rattle.reh_census_file.proofs.TokenAgain.{all_get}
 
 abbrev pub Line : Type 0
@@ -46,15 +46,18 @@ implied p q all (b ∷ bs) e =
     let h = and_true (p b) (list_all p bs) e in
     ap (λ t. t && list_all q bs) (all b h.0) ∙ implied p q all bs h.1
 
-pub decimal-plain : (n : ℕ) → n ≤ 2 ^ 63 → IsPlain (decimal n)
-decimal-plain n small = go (decimal n) (digits_decimal own n (omega arith))
+digit_plain : (b : ℕ) → digit_value b < 10 → is_plain b ≡ true
+digit_plain b digit = let range = digit_from_value b digit in grind (arith, nat_tests, range)
+
+pub decimal-plain_wide : (n : ℕ) → n < 10 ^ 64 → IsPlain (decimal n)
+decimal-plain_wide n small = go (decimal n) (decimal_is_IsNumeral_wide n small).0.1
   where
-    go : (bs : List ℕ) → all_ascii_digits bs ≡ true → IsPlain bs
-    go [] e = refl
-    go (b ∷ bs) e =
-        let h = and_true (is_ascii_digit b) (all_ascii_digits bs) e in
-        let one : is_plain b ≡ true = grind (arith, nat_tests, h.0) in
-        ap (λ t. t && list_all is_plain bs) one ∙ go bs h.1
+    go : (bs : List ℕ) → AllDigits 10 bs → IsPlain bs
+    go [] digits = refl
+    go (b ∷ bs) digits = ap (λ t. t && list_all is_plain bs) (digit_plain b digits.0) ∙ go bs digits.1
+
+pub decimal-plain : (n : ℕ) → n ≤ 2 ^ 63 → IsPlain (decimal n)
+decimal-plain n small = decimal-plain_wide n (omega arith)
 
 pub name-plain : (name : List ℕ) → is_name name ≡ true → IsPlain name
 name-plain name named =

@@ -82,6 +82,11 @@ module _ {X : Type 0} (words : X → Line) (add : Draft → X → Draft) (Fits :
       line_again lines d (add d x) (words x) (map spaced (map words xs) ++ parts) n.step (omega (arith, length-append (map spaced (map words xs)) parts))
       ∙ group_again next (lines + 1) (add d x) xs parts n.fits some ∙ ap (λ k. body_at k (added add (add d x) xs) parts) (omega arith)
 
+  -- and its lines are such
+  pub group_plain : ((d : Draft) (x : X) (xs : List X) → Fits d (x ∷ xs) → IsNext d x xs) → (d : Draft) (xs : List X) → Fits d xs → AllByRecursion IsPlainLine (map words xs)
+  group_plain next d [] fits = tt
+  group_plain next d (x ∷ xs) fits = let n = next d x xs fits in (n.step.plain, group_plain next (add d x) xs n.fits)
+
 -- Tests
 
 pub and_true : (a b : Bool) → (a && b) ≡ true → (a ≡ true) × (b ≡ true)
@@ -317,17 +322,26 @@ entries_group lines d todo parts fits some =
     group_again (entries_words d.names) put_entries (λ (x : Draft) (todo : List Counted). FitEntries x todo × (x.names ≡ d.names)) (entries_next d.names) lines d todo parts (fits, refl) some
     ∙ ap (λ x. body_at (lines + length todo) x parts) (put_all_entries d todo)
 
+pub entries_plain : (d : Draft) (todo : List Counted) → FitEntries d todo → AllByRecursion IsPlainLine (map (entries_words d.names) todo)
+entries_plain d todo fits = group_plain (entries_words d.names) put_entries (λ (x : Draft) (todo : List Counted). FitEntries x todo × (x.names ≡ d.names)) (entries_next d.names) d todo (fits, refl)
+
 pub tails_group : (lines : ℕ) (d : Draft) (todo : List CountedTail) (parts : Line) → FitTails d todo → 0 < length parts
     → body_at lines d (map spaced (map (tail_words d.names) todo) ++ parts) ≡ body_at (lines + length todo) (record d { tails = d.tails ++ todo }) parts
 tails_group lines d todo parts fits some =
     group_again (tail_words d.names) put_tail (λ (x : Draft) (todo : List CountedTail). FitTails x todo × (x.names ≡ d.names)) (tail_next d.names) lines d todo parts (fits, refl) some
     ∙ ap (λ x. body_at (lines + length todo) x parts) (put_all_tails d todo)
 
+pub tails_plain : (d : Draft) (todo : List CountedTail) → FitTails d todo → AllByRecursion IsPlainLine (map (tail_words d.names) todo)
+tails_plain d todo fits = group_plain (tail_words d.names) put_tail (λ (x : Draft) (todo : List CountedTail). FitTails x todo × (x.names ≡ d.names)) (tail_next d.names) d todo (fits, refl)
+
 pub ensembles_group : (lines : ℕ) (d : Draft) (todo : List CountedEnsemble) (parts : Line) → FitEnsembles d todo → 0 < length parts
     → body_at lines d (map spaced (map (ensemble_words d.names) todo) ++ parts) ≡ body_at (lines + length todo) (record d { ensembles = d.ensembles ++ todo }) parts
 ensembles_group lines d todo parts fits some =
     group_again (ensemble_words d.names) put_ensemble (λ (x : Draft) (todo : List CountedEnsemble). FitEnsembles x todo × (x.names ≡ d.names)) (ensemble_next d.names) lines d todo parts (fits, refl) some
     ∙ ap (λ x. body_at (lines + length todo) x parts) (put_all_ensembles d todo)
+
+pub ensembles_plain : (d : Draft) (todo : List CountedEnsemble) → FitEnsembles d todo → AllByRecursion IsPlainLine (map (ensemble_words d.names) todo)
+ensembles_plain d todo fits = group_plain (ensemble_words d.names) put_ensemble (λ (x : Draft) (todo : List CountedEnsemble). FitEnsembles x todo × (x.names ≡ d.names)) (ensemble_next d.names) d todo (fits, refl)
 
 -- Bookies
 
@@ -448,7 +462,14 @@ bookies_group racks lines d todo parts fits some =
     group_again (λ (p : List ℕ × Bookie). bookie_words racks p.0 p.1) (put_bookie racks) (FitBookies racks) (bookie_next racks) lines d todo parts fits some
     ∙ ap (λ x. body_at (lines + length todo) x parts) (put_all_bookies racks d todo fits)
 
+pub bookies_plain : (racks : Line) (d : Draft) (todo : List (List ℕ × Bookie)) → FitBookies racks d todo → AllByRecursion IsPlainLine (map (λ (p : List ℕ × Bookie). bookie_words racks p.0 p.1) todo)
+bookies_plain racks d todo fits = group_plain (λ (p : List ℕ × Bookie). bookie_words racks p.0 p.1) (put_bookie racks) (FitBookies racks) (bookie_next racks) d todo fits
+
 -- Ledgers
+
+pub judged_plain : (j : Judged) → IsJudged j → IsPlainLine (judged_words j)
+judged_plain j fits =
+    (refl, (decimal-plain j.ledgers fits.ledgers, (refl, (decimal-plain j.assumed fits.assumed, (refl, (decimal-plain j.unread (omega (arith, fits.not_judged)), (refl, (decimal-plain j.missing (omega (arith, fits.not_judged)), tt))))))))
 
 pub judged_line_again : (lines : ℕ) (d : Draft) (j : Judged) (parts : Line) → d.judged ≡ None → IsJudged j → 0 < length parts → body_at lines d (spaced (judged_words j) ∷ parts) ≡ body_at (lines + 1) (record d { judged = Some j }) parts
 unfolding step judged_step add_judged
@@ -461,7 +482,7 @@ judged_line_again lines d j parts early fits some =
       first = codes "ledgers";
       words = behind_ledgers j;
       is = refl;
-      plain = (refl, (decimal-plain j.ledgers fits.ledgers, (refl, (decimal-plain j.assumed fits.assumed, (refl, (decimal-plain j.unread unread, (refl, (decimal-plain j.missing missing, tt))))))));
+      plain = judged_plain j fits;
       other = refl;
       stepped = rw (ap is_some early, read, few) refl;
     }) some

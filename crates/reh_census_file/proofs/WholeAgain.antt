@@ -2,7 +2,8 @@
 use Rattle.std.proofs.Common.{◌≡◌, ℕ, zero, suc, ◌+◌, ◌^◌, ◌<◌, ◌≤◌, Bool, true, false, cond, not, List, [], ◌∷◌, ◌++◌, length, map, min, Option, Some, None, Result, Ok, Err, refl, sym, ap, subst, ◌∙◌, arith, length-append}
 use Rattle.std.specs.Prelude.{codes, ◌&&◌, ◌==◌, IfSome, is_some}
 use Rattle.std.specs.Fmt.{decimal}
-use Rattle.std.specs.List.{AllByRecursion, zip}
+use Rattle.std.specs.List.{AllByRecursion, IsDistinct, sum_by, zip}
+use Rattle.std.proofs.lemmas.List.Sums.{sum_by-cons}
 use Rattle.std.specs.Str.{bytes_eq}
 use Rattle.std.proofs.lemmas.Bool.Decides.{nat_tests}
 use Rattle.std.proofs.lemmas.List.{append-nil, length-map}
@@ -14,7 +15,9 @@ use Rattle.reh_census_file.specs.declared.faults.CensusFault.{CensusFault}
 use Rattle.reh_census_file.specs.declared.faults.Expected.{Expected}
 use Rattle.reh_census_file.specs.declared.faults.Expected.TheVariants as expected
 use Rattle.reh_census_file.specs.declared.faults.Word.TheVariants as word
-use Rattle.reh_census_file.specs.Canonical.{IsCanonical, is_name, is_time}
+use Rattle.reh_census_file.specs.Canonical.{IsCanonical, AreNumbered, is_name, is_time}
+use Rattle.reh_census.specs.Order.{InOrder, names_cmp}
+use Rattle.reh_census_file.specs.declared.lists.TheConstants.{MAX_NAMES}
 use Rattle.reh_census_file.specs.Drafts.{Draft, no_lines}
 use Rattle.reh_census_file.specs.Lines.{line_of, lines_of}
 use Rattle.reh_census_file.specs.Reading.{◌>>=◌, words_of, choice_at, time_at, no_more, version_at, lines_at}
@@ -22,9 +25,9 @@ use Rattle.reh_census_file.specs.Texts.{text_of, body_words, head_words, bookie_
 use Rattle.reh_census_file.specs.Values.{NamedCensus}
 use Rattle.reh_census_file.specs.Whole.{GivesAll, placed, parts_of, version_line, strict_line, taken_line, line_by, end_line, text_end, last_at, body_at, census_in, census_at, read}
 use Rattle.reh_census_file.proofs.BodyLaws.{body_at-end}
-use Rattle.reh_census_file.proofs.PlainLaws.{ArePlain, IsPlain, IsPlainLine, Line, decimal-plain, name-plain, spaced, words_of-spaced, parts_of-line, parts_of-lines}
-use Rattle.reh_census_file.proofs.StepAgain.{bookies_group, judged_line_again, entries_group, tails_group, ensembles_group, firsts, seconds, IsBase}
-use Rattle.reh_census_file.proofs.TextLaws.{lines_of-append}
+use Rattle.reh_census_file.proofs.PlainLaws.{ArePlain, IsPlain, IsPlainLine, Line, decimal-plain_wide, name-plain, spaced, words_of-spaced, parts_of-line, parts_of-lines}
+use Rattle.reh_census_file.proofs.StepAgain.{FitBookies, FitEntries, FitTails, FitEnsembles, bookies_group, bookies_plain, judged_line_again, judged_plain, entries_group, entries_plain, tails_group, tails_plain, ensembles_group, ensembles_plain, firsts, seconds}
+use Rattle.reh_census_file.proofs.TextLaws.{lines_of-append, body_len_is}
 use Rattle.reh_census_file.proofs.TokenAgain.{same_word, word_again, choice_again}
 
 -- The head
@@ -77,9 +80,99 @@ taken_plain (Some time) fits = name-plain time (and_true (is_name time) (not (by
 
 -- The end
 
-end_again : (lines : ℕ) (d : Draft) → lines ≤ 2 ^ 63 → is_some d.judged ≡ true → body_at lines d (spaced (end_words lines) ∷ [] ∷ []) ≡ Ok d
+end_again : (lines : ℕ) (d : Draft) → lines < 10 ^ 64 → is_some d.judged ≡ true → body_at lines d (spaced (end_words lines) ∷ [] ∷ []) ≡ Ok d
 unfolding end_line lines_at
 end_again lines d small judged =
-    let plain : ArePlain (end_words lines) = (refl, (decimal-plain lines small, tt)) in
+    let plain : ArePlain (end_words lines) = (refl, (decimal-plain_wide lines small, tt)) in
     body_at-end lines d (spaced (end_words lines) ∷ [] ∷ []) ([] ∷ []) (spaced (end_words lines)) (codes "end") (decimal lines ∷ []) refl (omega arith) (words_of-spaced (codes "end") (decimal lines ∷ []) plain) refl
     ∙ rw (judged, same_word (decimal lines)) refl
+
+-- The whole text
+
+-- what has been read once the bookies are, and once the ledgers' line is
+abbrev bookies_of : NamedCensus → Draft
+bookies_of c = record no_lines { names = c.names; racks = c.racks; bookies = c.bookies }
+
+abbrev judged_of : NamedCensus → Draft
+judged_of c = record (bookies_of c) { judged = Some c.census.judged }
+
+abbrev entries_of : NamedCensus → Draft
+entries_of c = record (judged_of c) { entries = c.census.entries }
+
+abbrev tails_of : NamedCensus → Draft
+tails_of c = record (entries_of c) { tails = c.census.tails }
+
+abbrev all_of : NamedCensus → Draft
+all_of c = record (tails_of c) { ensembles = c.census.ensembles }
+
+module _ (c : NamedCensus) (fits : IsCanonical c) where
+  pairs : List (List ℕ × Bookie)
+  pairs = zip c.names c.bookies
+
+  names_are : firsts (zip c.names c.bookies) ≡ c.names
+  names_are = firsts-zip c.names c.bookies fits.bookies.each
+
+  bookies_are : seconds (zip c.names c.bookies) ≡ c.bookies
+  bookies_are = seconds-zip c.names c.bookies fits.bookies.each
+
+  fit_bookies : FitBookies c.racks no_lines (zip c.names c.bookies)
+  fit_bookies = record {
+    early = refl;
+    few = subst (λ (names : Line). length names ≤ MAX_NAMES) (sym names_are) fits.bookies.few_names.few;
+    apart = subst (λ (names : Line). IsDistinct bytes_eq names) (sym names_are) fits.bookies.few_names.different;
+    named = subst (λ (names : Line). AllByRecursion (λ (name : List ℕ). is_name name ≡ true) names) (sym names_are) fits.bookies.named;
+    order = subst (λ (names : Line). InOrder names_cmp names) (sym names_are) fits.bookies.order;
+    racks_apart = fits.bookies.few_racks.different;
+    racks_named = fits.bookies.racked;
+    count = 0;
+    so_far = refl;
+    within = omega arith;
+    numbered = subst (λ (bookies : List Bookie). AreNumbered 0 bookies (length c.racks)) (sym bookies_are) fits.bookies.numbered;
+  }
+
+  fit_entries : FitEntries (judged_of c) c.census.entries
+  fit_entries = record {
+    base = record { judged = refl; distinct = fits.bookies.few_names.different; named = fits.bookies.named; each = fits.bookies.each };
+    no_tails = refl;
+    no_ensembles = refl;
+    entries = fits.entries;
+  }
+
+  fit_tails : FitTails (entries_of c) c.census.tails
+  fit_tails = record {
+    base = record { judged = refl; distinct = fits.bookies.few_names.different; named = fits.bookies.named; each = fits.bookies.each };
+    no_ensembles = refl;
+    tails = fits.tails;
+  }
+
+  fit_ensembles : FitEnsembles (tails_of c) c.census.ensembles
+  fit_ensembles = record {
+    base = record { judged = refl; distinct = fits.bookies.few_names.different; named = fits.bookies.named; each = fits.bookies.each };
+    ensembles = fits.ensembles;
+  }
+
+  -- how many lines there are
+  few_lines : length (body_words c) < 10 ^ 64
+  few_lines =
+      let named = min (length c.names) (length c.bookies) in
+      omega (arith, body_len_is c named refl, fits.bookies.few_names.few,
+        counts_many (λ x. x.count) c.census.entries fits.entries.some, fits.entries.within,
+        counts_many (λ x. x.count) c.census.tails fits.tails.some, fits.tails.within,
+        counts_many (λ x. x.count) c.census.ensembles fits.ensembles.some, fits.ensembles.within)
+    where
+      counts_many : {X : Type 0} (count : X → ℕ) (xs : List X) → AllByRecursion (λ x. 1 ≤ count x) xs → length xs ≤ sum_by count xs
+      counts_many count [] some = omega arith
+      counts_many count (x ∷ xs) some = omega (arith, sum_by-cons count x xs, counts_many count xs some.1, some.0)
+
+  body_plain : AllByRecursion IsPlainLine (body_words c)
+  body_plain =
+      plain_append (head_words c) _ ((refl, (refl, tt)), ((refl, (strict_plain c.is_strict, tt)), ((refl, (taken_plain c.taken fits.taken, tt)), tt)))
+      (plain_append (bookie_lines c) _ (bookies_plain c.racks no_lines (zip c.names c.bookies) fit_bookies)
+      (judged_plain c.census.judged fits.judged,
+      plain_append (map (entries_words c.names) c.census.entries) _ (entries_plain (judged_of c) c.census.entries fit_entries)
+      (plain_append (map (tail_words c.names) c.census.tails) _ (tails_plain (entries_of c) c.census.tails fit_tails)
+      (ensembles_plain (tails_of c) c.census.ensembles fit_ensembles))))
+    where
+      plain_append : (xs ys : List Line) → AllByRecursion IsPlainLine xs → AllByRecursion IsPlainLine ys → AllByRecursion IsPlainLine (xs ++ ys)
+      plain_append [] ys left right = right
+      plain_append (x ∷ xs) ys left right = (left.0, plain_append xs ys left.1 right)
