@@ -6,7 +6,7 @@ use Rattle.std.specs.List.{AllByRecursion, IsDistinct, sum_by, zip}
 use Rattle.std.proofs.lemmas.List.Sums.{sum_by-cons}
 use Rattle.std.specs.Str.{bytes_eq}
 use Rattle.std.proofs.lemmas.Bool.Decides.{nat_tests}
-use Rattle.std.proofs.lemmas.List.{append-nil, length-map}
+use Rattle.std.proofs.lemmas.List.{append-nil, map-append}
 use Rattle.std.proofs.lemmas.Slice.Zip.{firsts-zip, seconds-zip, length-zip}
 use mathlib.Core.List.{append_assoc}
 use Rattle.reh_census.specs.declared.bookies.Bookie.{Bookie}
@@ -105,10 +105,26 @@ tails_of c = record (entries_of c) { tails = c.census.tails }
 abbrev all_of : NamedCensus → Draft
 all_of c = record (tails_of c) { ensembles = c.census.ensembles }
 
-module _ (c : NamedCensus) (fits : IsCanonical c) where
-  pairs : List (List ℕ × Bookie)
-  pairs = zip c.names c.bookies
+-- the parts of a text from each group on
+abbrev last_part : NamedCensus → Line
+last_part c = spaced (end_words (length (body_words c))) ∷ [] ∷ []
 
+abbrev ensemble_parts : NamedCensus → Line
+ensemble_parts c = map spaced (map (ensemble_words c.names) c.census.ensembles) ++ last_part c
+
+abbrev tail_parts : NamedCensus → Line
+tail_parts c = map spaced (map (tail_words c.names) c.census.tails) ++ ensemble_parts c
+
+abbrev entry_parts : NamedCensus → Line
+entry_parts c = map spaced (map (entries_words c.names) c.census.entries) ++ tail_parts c
+
+abbrev bookie_parts : NamedCensus → Line
+bookie_parts c = map spaced (bookie_lines c) ++ (spaced (judged_words c.census.judged) ∷ entry_parts c)
+
+some_behind : (front parts : Line) → 0 < length parts → 0 < length (front ++ parts)
+some_behind front parts some = omega (arith, length-append front parts)
+
+module _ (c : NamedCensus) (fits : IsCanonical c) where
   names_are : firsts (zip c.names c.bookies) ≡ c.names
   names_are = firsts-zip c.names c.bookies fits.bookies.each
 
@@ -176,3 +192,74 @@ module _ (c : NamedCensus) (fits : IsCanonical c) where
       plain_append : (xs ys : List Line) → AllByRecursion IsPlainLine xs → AllByRecursion IsPlainLine ys → AllByRecursion IsPlainLine (xs ++ ys)
       plain_append [] ys left right = right
       plain_append (x ∷ xs) ys left right = (left.0, plain_append xs ys left.1 right)
+
+  text_parts : parts_of (text_of c) ≡ map spaced (body_words c) ++ last_part c
+  text_parts =
+      let end = end_words (length (body_words c)) in
+      parts_of-lines (body_words c) (line_of end) body_plain
+      ∙ ap (λ ps. map spaced (body_words c) ++ ps) (ap parts_of (sym (append-nil (line_of end))) ∙ parts_of-line end [] (refl, (decimal-plain_wide (length (body_words c)) few_lines, tt)))
+
+  some_ensembles : 0 < length (ensemble_parts c)
+  some_ensembles = some_behind (map spaced (map (ensemble_words c.names) c.census.ensembles)) (last_part c) (omega arith)
+
+  some_tails : 0 < length (tail_parts c)
+  some_tails = some_behind (map spaced (map (tail_words c.names) c.census.tails)) (ensemble_parts c) some_ensembles
+
+  some_entries : 0 < length (entry_parts c)
+  some_entries = some_behind (map spaced (map (entries_words c.names) c.census.entries)) (tail_parts c) some_tails
+
+  -- the lines behind the head
+  body_again : body_at 3 no_lines (bookie_parts c) ≡ Ok (all_of c)
+  body_again =
+      let pairs = zip c.names c.bookies in
+      let n1 = 3 + length pairs in
+      let n2 = n1 + 1 in
+      let n3 = n2 + length c.census.entries in
+      let n4 = n3 + length c.census.tails in
+      let n5 = n4 + length c.census.ensembles in
+      let names = names_are in
+      let bookies = bookies_are in
+      let whole : n5 ≡ length (body_words c) = omega (arith, length-zip c.names c.bookies, body_len_is c (min (length c.names) (length c.bookies)) refl) in
+      bookies_group c.racks 3 no_lines pairs (spaced (judged_words c.census.judged) ∷ entry_parts c) fit_bookies (omega arith)
+      ∙ (λ i. body_at n1 (record no_lines { names = names i; racks = c.racks; bookies = bookies i }) (spaced (judged_words c.census.judged) ∷ entry_parts c))
+      ∙ judged_line_again n1 (bookies_of c) c.census.judged (entry_parts c) refl fits.judged some_entries
+      ∙ entries_group n2 (judged_of c) c.census.entries (tail_parts c) fit_entries some_tails
+      ∙ tails_group n3 (entries_of c) c.census.tails (ensemble_parts c) fit_tails some_ensembles
+      ∙ ensembles_group n4 (tails_of c) c.census.ensembles (last_part c) fit_ensembles (omega arith)
+      ∙ ap (λ n. body_at n (all_of c) (last_part c)) whole
+      ∙ end_again (length (body_words c)) (all_of c) few_lines refl
+
+  -- the parts of the text, group by group
+  parts_are : map spaced (body_words c) ++ last_part c ≡ spaced (codes "census" ∷ codes "1" ∷ []) ∷ spaced (codes "strict" ∷ strict_word c.is_strict ∷ []) ∷ spaced (codes "taken" ∷ taken_word c.taken ∷ []) ∷ bookie_parts c
+  parts_are =
+      let bookies = bookie_lines c in
+      let judged = judged_words c.census.judged in
+      let entries = map (entries_words c.names) c.census.entries in
+      let tails = map (tail_words c.names) c.census.tails in
+      let ensembles = map (ensemble_words c.names) c.census.ensembles in
+      ap (λ ps. spaced (codes "census" ∷ codes "1" ∷ []) ∷ spaced (codes "strict" ∷ strict_word c.is_strict ∷ []) ∷ spaced (codes "taken" ∷ taken_word c.taken ∷ []) ∷ ps)
+      (mapped bookies (judged ∷ (entries ++ (tails ++ ensembles))) (last_part c)
+      ∙ ap (λ ps. map spaced bookies ++ (spaced judged ∷ ps)) (mapped entries (tails ++ ensembles) (last_part c) ∙ ap (λ ps. map spaced entries ++ ps) (mapped tails ensembles (last_part c))))
+    where
+      mapped : (xs ys : List Line) (parts : Line) → map spaced (xs ++ ys) ++ parts ≡ map spaced xs ++ (map spaced ys ++ parts)
+      mapped xs ys parts = ap (λ ps. ps ++ parts) (map-append spaced xs ys) ∙ append_assoc (map spaced xs) (map spaced ys) parts
+
+  pub read_again : read (text_of c) ≡ Ok c
+  unfolding census_at
+  read_again =
+      let rest3 = bookie_parts c in
+      let rest2 = spaced (codes "taken" ∷ taken_word c.taken ∷ []) ∷ rest3 in
+      let rest1 = spaced (codes "strict" ∷ strict_word c.is_strict ∷ []) ∷ rest2 in
+      let some3 : 0 < length rest3 = some_behind (map spaced (bookie_lines c)) (spaced (judged_words c.census.judged) ∷ entry_parts c) (omega arith) in
+      ap census_at (text_parts ∙ parts_are)
+      ∙ ap (λ r. r >>= λ version. line_by strict_line 2 version.1 >>= λ strict. line_by taken_line 3 strict.1 >>= λ taken. body_at 3 no_lines taken.1 >>= λ draft. Ok (census_in strict.0 taken.0 draft))
+        (line_again version_line 1 (codes "census") (codes "1" ∷ []) tt rest1 (refl, (refl, tt)) version_again (omega arith))
+      ∙ ap (λ r. r >>= λ strict. line_by taken_line 3 strict.1 >>= λ taken. body_at 3 no_lines taken.1 >>= λ draft. Ok (census_in strict.0 taken.0 draft))
+        (line_again strict_line 2 (codes "strict") (strict_word c.is_strict ∷ []) c.is_strict rest2 (refl, (strict_plain c.is_strict, tt)) (strict_again c.is_strict) (omega arith))
+      ∙ ap (λ r. r >>= λ taken. body_at 3 no_lines taken.1 >>= λ draft. Ok (census_in c.is_strict taken.0 draft))
+        (line_again taken_line 3 (codes "taken") (taken_word c.taken ∷ []) c.taken rest3 (refl, (taken_plain c.taken fits.taken, tt)) (taken_again c.taken fits.taken) some3)
+      ∙ ap (λ r. r >>= λ draft. Ok (census_in c.is_strict c.taken draft)) body_again
+
+-- what has the text of a canonical census is read as that census, unless memory runs out
+pub found_again : (bytes : List ℕ) (r : Result NamedCensus CensusFault) → GivesAll (λ (c : NamedCensus). c) r (read bytes) → (c : NamedCensus) → IsCanonical c → text_of c ≡ bytes → GivesAll (λ (c : NamedCensus). c) r (Ok c)
+found_again bytes r gives c fits is = subst (λ (x : Result NamedCensus CensusFault). GivesAll (λ (c : NamedCensus). c) r x) (ap read (sym is) ∙ read_again c fits) gives
