@@ -1,5 +1,5 @@
 -- A line that is written is read again.
-use Rattle.std.proofs.Common.{◌≡◌, ℕ, suc, ◌+◌, ◌^◌, ◌<◌, ◌≤◌, Bool, true, false, cond, List, [], ◌∷◌, ◌++◌, length, map, Option, Some, None, Result, Ok, Err, refl, sym, ap, subst, ◌∙◌, arith}
+use Rattle.std.proofs.Common.{◌≡◌, ℕ, ◌^◌, ◌<◌, ◌≤◌, Bool, true, false, List, [], ◌∷◌, ◌++◌, length, Option, Some, None, Ok, refl, sym, ap, ◌∙◌}
 use Rattle.std.specs.Prelude.{codes, IfSome}
 use Rattle.std.specs.Fmt.{decimal}
 use Rattle.std.specs.List.{AllByRecursion, IsDistinct}
@@ -9,12 +9,11 @@ use Rattle.reh_census.specs.declared.censuses.CountedEnsemble.{CountedEnsemble}
 use Rattle.reh_census.specs.declared.censuses.CountedTail.{CountedTail}
 use Rattle.reh_census.specs.declared.censuses.Judged.{Judged}
 use Rattle.reh_census.specs.declared.classes.Counted.{Counted}
-use Rattle.reh_census_file.specs.declared.faults.Expected.{Expected}
 use Rattle.reh_census_file.specs.declared.faults.Expected.TheVariants as expected
 use Rattle.reh_census_file.specs.declared.faults.Word.TheVariants as word
 use Rattle.reh_census_file.specs.Canonical.{is_name}
 use Rattle.reh_census_file.specs.LineReading.{BookieLine, rack_behind, rack_at, bookie_line_at, judged_at, entries_at, tail_at, ensemble_at}
-use Rattle.reh_census_file.specs.Reading.{◌>>=◌, flag_at, choice_at, number_at, count_at, number_behind, name_at, bookies_at, bookies_behind, no_more}
+use Rattle.reh_census_file.specs.Reading.{◌>>=◌, flag_at, choice_at, number_behind, bookies_at, bookies_behind, no_more}
 use Rattle.reh_census_file.specs.Texts.{up_word, word_if, state_word, names_of, name_of}
 use Rattle.reh_census_file.proofs.LineTakes.{racked}
 use Rattle.reh_census_file.proofs.TokenAgain.{begins_apart, flag_again, choice_again, number_again, count_again, number_behind_again, name_again, bookies_again, bookies_behind_again}

@@ -1,6 +1,6 @@
 -- Words without spaces and line ends: their lines are parted again.
-use Rattle.std.proofs.Common.{◌≡◌, ℕ, zero, suc, ◌+◌, ◌^◌, ◌<◌, ◌≤◌, Bool, true, false, cond, not, List, [], ◌∷◌, ◌++◌, length, map, Option, Some, None, get_or, refl, sym, ap, subst, ◌∙◌, arith}
-use Rattle.std.specs.Prelude.{codes, ◌&&◌, ◌==◌, nat_lt, nat_le, IfSome}
+use Rattle.std.proofs.Common.{◌≡◌, ℕ, ◌^◌, ◌<◌, ◌≤◌, Bool, true, false, cond, not, List, [], ◌∷◌, ◌++◌, length, map, get_or, refl, sym, ap, subst, ◌∙◌, arith}
+use Rattle.std.specs.Prelude.{◌&&◌, ◌==◌, nat_lt, nat_le}
 use Rattle.std.specs.Char.{is_ascii_graphic, digit_value}
 use Rattle.std.specs.Fmt.{decimal}
 use Rattle.std.specs.List.{AllByRecursion, list_all, slice_split, onto_first}
@@ -14,7 +14,7 @@ use mathlib.Core.List.{append_assoc}
 use Rattle.reh_census_file.specs.Canonical.{is_name}
 use Rattle.reh_census_file.specs.Lines.{behind_spaces, line_of, lines_of}
 use Rattle.reh_census_file.specs.Reading.{is_space, words_of}
-use Rattle.reh_census_file.specs.Texts.{name_of, names_of}
+use Rattle.reh_census_file.specs.Texts.{names_of}
 use Rattle.reh_census_file.specs.Whole.{is_line_end, parts_of}
 use Rattle.reh_census_file.proofs.TokenAgain.{all_get}
 
@@ -132,7 +132,7 @@ parts_of-line [] rest plain = absurd plain
 parts_of-line (word ∷ words) rest plain =
     let clean = all_append (λ b. not (is_line_end b)) word (behind_spaces words) (implied is_plain (λ b. not (is_line_end b)) no_end word plain.0) (spaces_no_end words plain.1) in
     let grouped : (word ++ (behind_spaces words ++ 10 ∷ [])) ++ rest ≡ (word ++ behind_spaces words) ++ 10 ∷ rest =
-      ap (λ t. t ++ rest) (sym (append_assoc word (behind_spaces words) (10 ∷ []))) ∙ append_assoc (word ++ behind_spaces words) (10 ∷ []) rest in
+    ap (λ t. t ++ rest) (sym (append_assoc word (behind_spaces words) (10 ∷ []))) ∙ append_assoc (word ++ behind_spaces words) (10 ∷ []) rest in
     ap parts_of grouped ∙ split_at is_line_end (word ++ behind_spaces words) 10 rest clean refl
 
 pub parts_of-lines : (lines : List Line) (rest : List ℕ) → AllByRecursion IsPlainLine lines → parts_of (lines_of lines ++ rest) ≡ map spaced lines ++ parts_of rest

@@ -1,5 +1,5 @@
 -- Racks that are written by their names get their numbers again.
-use Rattle.std.proofs.Common.{◌≡◌, ℕ, zero, suc, ◌+◌, ◌<◌, ◌≤◌, Bool, true, false, cond, max, List, [], ◌∷◌, ◌++◌, length, map, take, drop, Option, Some, None, get_or, position, unwrap_or, refl, sym, ap, subst, ◌∙◌, arith, inl, inr}
+use Rattle.std.proofs.Common.{◌≡◌, ℕ, ◌+◌, ◌<◌, ◌≤◌, Bool, false, cond, List, [], ◌∷◌, ◌++◌, length, take, drop, Option, Some, None, get_or, position, unwrap_or, refl, sym, ap, subst, ◌∙◌, arith, inl, inr}
 use Rattle.std.specs.Prelude.{IfSome}
 use Rattle.std.specs.List.{IsDistinct, AllByRecursion, list_any}
 use Rattle.std.specs.Option.{option_map}
@@ -11,10 +11,9 @@ use Rattle.std.proofs.lemmas.List.Quantifiers.{position-Some}
 use Rattle.std.proofs.lemmas.Option.{unwrap_or-slice_get}
 use Rattle.reh_census_file.specs.Canonical.{next_rack}
 use Rattle.reh_census_file.specs.Drafts.{rack_number, racks_with}
-use Rattle.reh_census_file.specs.Names.{with_name}
 use Rattle.reh_census_file.specs.Texts.{name_of}
 use Rattle.reh_census_file.proofs.OrderLaws.{new-before}
-use Rattle.reh_census_file.proofs.TokenAgain.{found_again, same_word}
+use Rattle.reh_census_file.proofs.TokenAgain.{found_again}
 
 abbrev Names : Type 0
 Names = List (List ℕ)

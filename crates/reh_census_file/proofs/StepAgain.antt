@@ -1,7 +1,7 @@
 -- Lines that are written one after another are read again.
-use Rattle.std.proofs.Common.{◌≡◌, ℕ, zero, suc, ◌+◌, ◌^◌, ◌<◌, ◌≤◌, Bool, true, false, cond, not, max, List, [], ◌∷◌, ◌++◌, length, map, take, Option, Some, None, Result, Ok, Err, refl, sym, ap, subst, ◌∙◌, arith, length-append, inl, inr}
-use Rattle.std.specs.Prelude.{codes, ◌&&◌, ◌==◌, nat_le, nat_lt, IfSome, is_some, slice_get}
-use Rattle.std.specs.List.{AllByRecursion, IsDistinct, list_all, list_any, sum_by, zip}
+use Rattle.std.proofs.Common.{◌≡◌, ℕ, ◌+◌, ◌^◌, ◌<◌, ◌≤◌, Bool, true, false, not, List, [], ◌∷◌, ◌++◌, length, map, take, Option, Some, None, Ok, refl, sym, ap, subst, ◌∙◌, arith, length-append, inl, inr}
+use Rattle.std.specs.Prelude.{codes, ◌&&◌, ◌==◌, nat_le, nat_lt, IfSome, is_some}
+use Rattle.std.specs.List.{AllByRecursion, IsDistinct, list_all, list_any, sum_by}
 use Rattle.std.specs.Option.{option_map, option_map_or}
 use Rattle.std.specs.Ordering.{on}
 use Rattle.std.specs.Str.{bytes_eq}
@@ -23,22 +23,20 @@ use Rattle.reh_census.specs.Bookies.{bookies_of, is_holder}
 use Rattle.reh_census.specs.Copies.{is_in}
 use Rattle.reh_census.specs.Counting.{ensembles_in, entries_in, not_judged, tails_in}
 use Rattle.reh_census.specs.Order.{InOrder, class_cmp, names_cmp, tail_cmp}
-use Rattle.reh_census_file.specs.declared.faults.CensusFault.{CensusFault}
 use Rattle.reh_census_file.specs.declared.lists.TheConstants.{MAX_NAMES}
-use Rattle.reh_census_file.specs.Canonical.{AreBookies, AreEnsembles, AreEntries, AreNumbered, AreTails, IsJudged, is_name, are_rising, are_quorums, are_copies, are_sizes, are_members, next_rack}
-use Rattle.reh_census_file.specs.Drafts.{Draft, add_bookie, add_judged, add_entries, add_tail, add_ensemble, bookie_step, judged_step, entries_step, tail_step, ensemble_step, step, is_later, rack_number, racks_with, with_bookie}
+use Rattle.reh_census_file.specs.Canonical.{AreEnsembles, AreEntries, AreNumbered, AreTails, IsJudged, is_name, are_rising, are_quorums, are_copies, are_sizes, are_members, next_rack}
+use Rattle.reh_census_file.specs.Drafts.{Draft, add_bookie, add_judged, add_entries, add_tail, add_ensemble, bookie_step, judged_step, entries_step, tail_step, ensemble_step, step, rack_number, racks_with, with_bookie}
 use Rattle.reh_census_file.specs.LineReading.{BookieLine}
-use Rattle.reh_census_file.specs.Names.{IsNameList}
 use Rattle.std.specs.Fmt.{decimal}
 use Rattle.reh_census_file.specs.Reading.{◌>>=◌, words_of}
-use Rattle.reh_census_file.specs.Texts.{name_of, names_of, bookie_words, judged_words, entries_words, tail_words, ensemble_words, word_if, up_word, rack_words, state_word}
+use Rattle.reh_census_file.specs.Texts.{names_of, bookie_words, judged_words, entries_words, tail_words, ensemble_words, word_if, up_word, rack_words, state_word}
 use Rattle.reh_census_file.specs.Whole.{body_at, placed}
 use Rattle.reh_census_file.proofs.BodyLaws.{body_at-more}
 use Rattle.reh_census_file.proofs.LineAgain.{AreSmall, IsSmallTail, behind_bookie, behind_ledgers, behind_entries, behind_tail, behind_ensemble, bookie_line_again, judged_again, entries_again, tail_again, ensemble_again}
 use Rattle.reh_census_file.proofs.LineTakes.{racked}
-use Rattle.reh_census_file.proofs.OrderLaws.{All-at, InOrder-front, is_later-before, new-before}
+use Rattle.reh_census_file.proofs.OrderLaws.{All-at, is_later-before, new-before}
 use Rattle.reh_census_file.proofs.PlainLaws.{ArePlain, ArePlain-append, IsPlain, IsPlainLine, Line, decimal-plain, name-plain, names-plain, spaced, words_of-spaced}
-use Rattle.reh_census_file.proofs.RackAgain.{IsRackAgain, rack_again, rack_told}
+use Rattle.reh_census_file.proofs.RackAgain.{rack_again, rack_told}
 use Rattle.reh_census_file.proofs.RackLaws.{numbered-up}
 use Rattle.reh_census_file.proofs.TokenAgain.{all_get}
 
@@ -177,26 +175,51 @@ entries_next names d c todo fits =
     let fit : AreSmall c = record { some = some; count = count; write = omega (arith, small.write); ack = omega (arith, small.ack); known = omega (arith, are.few, small.write); untold = omega (arith, are.few, small.write) } in
     let read = entries_again d.names c f.base.distinct fit known untold in
     let guard : (is_some d.judged && ((length d.tails == 0) && (length d.ensembles == 0))) ≡ true =
-      ap (λ t. t && ((length d.tails == 0) && (length d.ensembles == 0))) f.base.judged ∙ ap (λ ts. (length ts == 0) && (length d.ensembles == 0)) f.no_tails ∙ ap (λ es. length es == 0) f.no_ensembles in
+    ap (λ t. t && ((length d.tails == 0) && (length d.ensembles == 0))) f.base.judged ∙ ap (λ ts. (length ts == 0) && (length d.ensembles == 0)) f.no_tails ∙ ap (λ es. length es == 0) f.no_ensembles in
     let lines : entries_words names c ≡ entries_words d.names c = ap (λ ns. entries_words ns c) (sym fits.1) in
     record {
       step = record {
         first = codes "entries";
         words = behind_entries d.names c;
         is = lines;
-        plain = subst IsPlainLine (sym lines)
-          (refl, (decimal-plain c.count count, (refl, (decimal-plain c.class.write_quorum (omega (arith, small.write)), (refl, (decimal-plain c.class.ack_quorum (omega (arith, small.ack)), (refl, (decimal-plain (length c.class.known) (omega (arith, are.few, small.write)),
-          ArePlain-append (names_of d.names c.class.known) (codes "untold" ∷ decimal (length c.class.untold) ∷ names_of d.names c.class.untold) (names-plain d.names c.class.known f.base.named known)
-          (refl, (decimal-plain (length c.class.untold) (omega (arith, are.few, small.write)), names-plain d.names c.class.untold f.base.named untold))))))))));
+        plain = subst IsPlainLine (sym lines) (
+          refl,
+          (
+            decimal-plain c.count count,
+            (
+              refl,
+              (
+                decimal-plain c.class.write_quorum (omega (arith, small.write)),
+                (
+                  refl,
+                  (
+                    decimal-plain c.class.ack_quorum (omega (arith, small.ack)),
+                    (
+                      refl,
+                      (
+                        decimal-plain (length c.class.known) (omega (arith, are.few, small.write)),
+                        ArePlain-append (names_of d.names c.class.known) (codes "untold" ∷ decimal (length c.class.untold) ∷ names_of d.names c.class.untold) (names-plain d.names c.class.known f.base.named known)
+                            (refl, (decimal-plain (length c.class.untold) (omega (arith, are.few, small.write)), names-plain d.names c.class.untold f.base.named untold)),
+                      ),
+                    ),
+                  ),
+                ),
+              ),
+            ),
+          ),
+        );
         other = refl;
         stepped = rw (guard, read, quorums, copies, later, not_above (entries_in d.entries + c.count) sum) refl;
       };
-      fits = (record {
-        base = record { judged = f.base.judged; distinct = f.base.distinct; named = f.base.named; each = f.base.each };
-        no_tails = f.no_tails;
-        no_ensembles = f.no_ensembles;
-        entries = subst (λ (es : List Counted). AreEntries d.bookies es) (sym (append_assoc d.entries (c ∷ []) todo)) e;
-      }, fits.1);
+      fits = (
+        record {
+          base = record { judged = f.base.judged; distinct = f.base.distinct; named = f.base.named; each = f.base.each };
+          no_tails = f.no_tails;
+          no_ensembles = f.no_ensembles;
+          entries = subst (λ (es : List Counted). AreEntries d.bookies es) (sym (append_assoc d.entries (c ∷ []) todo)) e;
+        },
+        fits.1,
+      );
     }
 
 -- Tails
@@ -250,17 +273,45 @@ tail_next names d t todo fits =
         first = codes "tail";
         words = behind_tail d.names t;
         is = lines;
-        plain = subst IsPlainLine (sym lines)
-          (refl, (decimal-plain t.count count, (state_plain t.tail.is_open, (refl, (decimal-plain t.tail.size (omega (arith, small.size)), (refl, (decimal-plain t.tail.write_quorum (omega (arith, small.write)), (refl, (decimal-plain t.tail.ack_quorum (omega (arith, small.ack)),
-          names-plain d.names t.tail.ensemble f.base.named within)))))))));
+        plain = subst IsPlainLine (sym lines) (
+          refl,
+          (
+            decimal-plain t.count count,
+            (
+              state_plain t.tail.is_open,
+              (
+                refl,
+                (
+                  decimal-plain t.tail.size (omega (arith, small.size)),
+                  (
+                    refl,
+                    (
+                      decimal-plain t.tail.write_quorum (omega (arith, small.write)),
+                      (
+                        refl,
+                        (
+                          decimal-plain t.tail.ack_quorum (omega (arith, small.ack)),
+                          names-plain d.names t.tail.ensemble f.base.named within,
+                        ),
+                      ),
+                    ),
+                  ),
+                ),
+              ),
+            ),
+          ),
+        );
         other = refl;
         stepped = rw (guard, read, sizes, later, not_above (tails_in d.tails + t.count) sum) refl;
       };
-      fits = (record {
-        base = record { judged = f.base.judged; distinct = f.base.distinct; named = f.base.named; each = f.base.each };
-        no_ensembles = f.no_ensembles;
-        tails = subst (λ (ts : List CountedTail). AreTails (length d.names) ts) (sym (append_assoc d.tails (t ∷ []) todo)) e;
-      }, fits.1);
+      fits = (
+        record {
+          base = record { judged = f.base.judged; distinct = f.base.distinct; named = f.base.named; each = f.base.each };
+          no_ensembles = f.no_ensembles;
+          tails = subst (λ (ts : List CountedTail). AreTails (length d.names) ts) (sym (append_assoc d.tails (t ∷ []) todo)) e;
+        },
+        fits.1,
+      );
     }
 
 -- Ensembles
@@ -294,10 +345,13 @@ ensemble_next names d c todo fits =
         other = refl;
         stepped = rw (f.base.judged, read, members, later, not_above (ensembles_in d.ensembles + c.count) sum) refl;
       };
-      fits = (record {
-        base = record { judged = f.base.judged; distinct = f.base.distinct; named = f.base.named; each = f.base.each };
-        ensembles = subst (λ (es : List CountedEnsemble). AreEnsembles (length d.names) es) (sym (append_assoc d.ensembles (c ∷ []) todo)) e;
-      }, fits.1);
+      fits = (
+        record {
+          base = record { judged = f.base.judged; distinct = f.base.distinct; named = f.base.named; each = f.base.each };
+          ensembles = subst (λ (es : List CountedEnsemble). AreEnsembles (length d.names) es) (sym (append_assoc d.ensembles (c ∷ []) todo)) e;
+        },
+        fits.1,
+      );
     }
 
 -- The drafts with these
@@ -412,15 +466,23 @@ bookie_next racks d p todo fits =
     let new : list_any (bytes_eq name) d.names ≡ false = new-before d.names name (firsts todo) fits.apart in
     let grouped = append_assoc d.names (name ∷ []) (firsts todo) in
     let words : bookie_words racks name b ≡ codes "bookie" ∷ behind_bookie line =
-      ap (λ ws. codes "bookie" ∷ name ∷ up_word b.is_registered ∷ (word_if b.is_read_only (codes "read-only") ++ (word_if b.is_empty (codes "empty") ++ ws))) (rack_words_told racks b.rack) in
+    ap (λ ws. codes "bookie" ∷ name ∷ up_word b.is_registered ∷ (word_if b.is_read_only (codes "read-only") ++ (word_if b.is_empty (codes "empty") ++ ws))) (rack_words_told racks b.rack) in
     record {
       step = record {
         first = codes "bookie";
         words = behind_bookie line;
         is = words;
-        plain = subst IsPlainLine (sym words)
-          (refl, (name-plain name named, (up_plain b.is_registered, ArePlain-append (word_if b.is_read_only (codes "read-only")) (word_if b.is_empty (codes "empty") ++ racked line.rack) (flag_plain b.is_read_only (codes "read-only") refl)
-          (ArePlain-append (word_if b.is_empty (codes "empty")) (racked line.rack) (flag_plain b.is_empty (codes "empty") refl) (racked_plain line.rack rack_fits)))));
+        plain = subst IsPlainLine (sym words) (
+          refl,
+          (
+            name-plain name named,
+            (
+              up_plain b.is_registered,
+              ArePlain-append (word_if b.is_read_only (codes "read-only")) (word_if b.is_empty (codes "empty") ++ racked line.rack) (flag_plain b.is_read_only (codes "read-only") refl)
+                  (ArePlain-append (word_if b.is_empty (codes "empty")) (racked line.rack) (flag_plain b.is_empty (codes "empty") refl) (racked_plain line.rack rack_fits)),
+            ),
+          ),
+        );
         other = refl;
         stepped = rw (ap is_some fits.early, read, room, later, new) refl;
       };
@@ -453,7 +515,7 @@ put_all_bookies racks d (p ∷ todo) fits =
     let made : Bookie = record { is_registered = p.1.is_registered; is_read_only = p.1.is_read_only; is_empty = p.1.is_empty; rack = option_map (rack_number d.racks) (rack_told racks p.1.rack) } in
     let names : (d.names ++ p.0 ∷ []) ++ firsts todo ≡ d.names ++ p.0 ∷ firsts todo = append_assoc d.names (p.0 ∷ []) (firsts todo) in
     let bookies : (d.bookies ++ made ∷ []) ++ seconds todo ≡ d.bookies ++ p.1 ∷ seconds todo =
-      append_assoc d.bookies (made ∷ []) (seconds todo) ∙ ap (λ r. d.bookies ++ (record { is_registered = p.1.is_registered; is_read_only = p.1.is_read_only; is_empty = p.1.is_empty; rack = r }) ∷ seconds todo) number in
+    append_assoc d.bookies (made ∷ []) (seconds todo) ∙ ap (λ r. d.bookies ++ (record { is_registered = p.1.is_registered; is_read_only = p.1.is_read_only; is_empty = p.1.is_empty; rack = r }) ∷ seconds todo) number in
     put_all_bookies racks (put_bookie racks d p) todo (bookie_next racks d p todo fits).fits ∙ (λ i. record d { names = names i; racks = racks; bookies = bookies i })
 
 pub bookies_group : (racks : Line) (lines : ℕ) (d : Draft) (todo : List (List ℕ × Bookie)) (parts : Line) → FitBookies racks d todo → 0 < length parts

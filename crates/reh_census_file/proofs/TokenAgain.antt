@@ -1,6 +1,6 @@
 -- What is written as words is read again.
-use Rattle.std.proofs.Common.{◌≡◌, ℕ, zero, suc, ◌+◌, ◌^◌, ◌<◌, ◌≤◌, Bool, true, false, cond, not, List, [], ◌∷◌, ◌++◌, length, map, Option, Some, None, Result, Ok, Err, get_or, position, refl, sym, ap, subst, ◌∙◌, arith}
-use Rattle.std.specs.Prelude.{codes, nat_lt, IfSome}
+use Rattle.std.proofs.Common.{◌≡◌, ℕ, zero, suc, ◌+◌, ◌^◌, ◌<◌, ◌≤◌, Bool, true, false, cond, not, List, [], ◌∷◌, ◌++◌, length, Some, None, Ok, get_or, position, refl, ap, ◌∙◌, arith}
+use Rattle.std.specs.Prelude.{nat_lt}
 use Rattle.std.specs.Fmt.{decimal}
 use Rattle.std.specs.List.{AllByRecursion, IsDistinct, position_or_len}
 use Rattle.std.specs.Str.{bytes_eq}
@@ -8,11 +8,10 @@ use Rattle.std.proofs.lemmas.Bool.Decides.{nat_tests}
 use Rattle.std.proofs.lemmas.Option.{unwrap_or-slice_get}
 use Rattle.std.proofs.lemmas.Slice.Eq.{bytes_eq-Decides}
 use Rattle.reh_census_file.specs.declared.faults.Expected.{Expected}
-use Rattle.reh_census_file.specs.declared.faults.Expected.TheVariants as expected
 use Rattle.reh_census_file.specs.declared.faults.Word.{Word}
 use Rattle.reh_census_file.specs.Canonical.{is_name}
 use Rattle.reh_census_file.specs.Faults.{word_text}
-use Rattle.reh_census_file.specs.Reading.{◌>>=◌, number_of, number_or, count_or, bookie_or, word_at, flag_at, choice_at, number_at, count_at, number_behind, name_at, bookie_at, bookies_at, bookies_behind, no_more}
+use Rattle.reh_census_file.specs.Reading.{◌>>=◌, number_or, count_or, bookie_or, word_at, flag_at, choice_at, number_at, count_at, number_behind, name_at, bookie_at, bookies_at, bookies_behind}
 use Rattle.reh_census_file.specs.Texts.{name_of, names_of, word_if}
 use Rattle.reh_census_file.proofs.NumberLaws.{number_of-decimal}
 use Rattle.reh_census_file.proofs.OrderLaws.{names_sym}

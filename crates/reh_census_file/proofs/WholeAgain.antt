@@ -1,5 +1,5 @@
 -- The text of a canonical census is read as that census.
-use Rattle.std.proofs.Common.{◌≡◌, ℕ, zero, suc, ◌+◌, ◌^◌, ◌<◌, ◌≤◌, Bool, true, false, cond, not, List, [], ◌∷◌, ◌++◌, length, map, min, Option, Some, None, Result, Ok, Err, refl, sym, ap, subst, ◌∙◌, arith, length-append}
+use Rattle.std.proofs.Common.{◌≡◌, ℕ, ◌+◌, ◌^◌, ◌<◌, ◌≤◌, Bool, true, false, not, List, [], ◌∷◌, ◌++◌, length, map, min, Option, Some, None, Result, Ok, refl, sym, ap, subst, ◌∙◌, arith, length-append}
 use Rattle.std.specs.Prelude.{codes, ◌&&◌, ◌==◌, IfSome, is_some}
 use Rattle.std.specs.Fmt.{decimal}
 use Rattle.std.specs.List.{AllByRecursion, IsDistinct, sum_by, zip}
@@ -10,7 +10,6 @@ use Rattle.std.proofs.lemmas.List.{append-nil, map-append}
 use Rattle.std.proofs.lemmas.Slice.Zip.{firsts-zip, seconds-zip, length-zip}
 use mathlib.Core.List.{append_assoc}
 use Rattle.reh_census.specs.declared.bookies.Bookie.{Bookie}
-use Rattle.reh_census.specs.declared.censuses.Judged.{Judged}
 use Rattle.reh_census_file.specs.declared.faults.CensusFault.{CensusFault}
 use Rattle.reh_census_file.specs.declared.faults.Expected.{Expected}
 use Rattle.reh_census_file.specs.declared.faults.Expected.TheVariants as expected
@@ -19,15 +18,15 @@ use Rattle.reh_census_file.specs.Canonical.{IsCanonical, AreNumbered, is_name, i
 use Rattle.reh_census.specs.Order.{InOrder, names_cmp}
 use Rattle.reh_census_file.specs.declared.lists.TheConstants.{MAX_NAMES}
 use Rattle.reh_census_file.specs.Drafts.{Draft, no_lines}
-use Rattle.reh_census_file.specs.Lines.{line_of, lines_of}
-use Rattle.reh_census_file.specs.Reading.{◌>>=◌, words_of, choice_at, time_at, no_more, version_at, lines_at}
-use Rattle.reh_census_file.specs.Texts.{text_of, body_words, head_words, bookie_lines, end_words, judged_words, entries_words, tail_words, ensemble_words, bookie_words, strict_word, taken_word}
+use Rattle.reh_census_file.specs.Lines.{line_of}
+use Rattle.reh_census_file.specs.Reading.{◌>>=◌, choice_at, time_at, no_more, version_at, lines_at}
+use Rattle.reh_census_file.specs.Texts.{text_of, body_words, head_words, bookie_lines, end_words, judged_words, entries_words, tail_words, ensemble_words, strict_word, taken_word}
 use Rattle.reh_census_file.specs.Values.{NamedCensus}
-use Rattle.reh_census_file.specs.Whole.{GivesAll, placed, parts_of, version_line, strict_line, taken_line, line_by, end_line, text_end, last_at, body_at, census_in, census_at, read}
+use Rattle.reh_census_file.specs.Whole.{GivesAll, parts_of, version_line, strict_line, taken_line, line_by, end_line, body_at, census_in, census_at, read}
 use Rattle.reh_census_file.proofs.BodyLaws.{body_at-end}
 use Rattle.reh_census_file.proofs.PlainLaws.{ArePlain, IsPlain, IsPlainLine, Line, decimal-plain_wide, name-plain, spaced, words_of-spaced, parts_of-line, parts_of-lines}
 use Rattle.reh_census_file.proofs.StepAgain.{FitBookies, FitEntries, FitTails, FitEnsembles, bookies_group, bookies_plain, judged_line_again, judged_plain, entries_group, entries_plain, tails_group, tails_plain, ensembles_group, ensembles_plain, firsts, seconds}
-use Rattle.reh_census_file.proofs.TextLaws.{lines_of-append, body_len_is}
+use Rattle.reh_census_file.proofs.TextLaws.{body_len_is}
 use Rattle.reh_census_file.proofs.TokenAgain.{same_word, word_again, choice_again}
 
 -- The head
@@ -171,10 +170,17 @@ module _ (c : NamedCensus) (fits : IsCanonical c) where
   few_lines : length (body_words c) < 10 ^ 64
   few_lines =
       let named = min (length c.names) (length c.bookies) in
-      omega (arith, body_len_is c named refl, fits.bookies.few_names.few,
-        counts_many (λ x. x.count) c.census.entries fits.entries.some, fits.entries.within,
-        counts_many (λ x. x.count) c.census.tails fits.tails.some, fits.tails.within,
-        counts_many (λ x. x.count) c.census.ensembles fits.ensembles.some, fits.ensembles.within)
+      omega (
+        arith,
+        body_len_is c named refl,
+        fits.bookies.few_names.few,
+        counts_many (λ x. x.count) c.census.entries fits.entries.some,
+        fits.entries.within,
+        counts_many (λ x. x.count) c.census.tails fits.tails.some,
+        fits.tails.within,
+        counts_many (λ x. x.count) c.census.ensembles fits.ensembles.some,
+        fits.ensembles.within,
+      )
     where
       counts_many : {X : Type 0} (count : X → ℕ) (xs : List X) → AllByRecursion (λ x. 1 ≤ count x) xs → length xs ≤ sum_by count xs
       counts_many count [] some = omega arith
@@ -183,11 +189,12 @@ module _ (c : NamedCensus) (fits : IsCanonical c) where
   body_plain : AllByRecursion IsPlainLine (body_words c)
   body_plain =
       plain_append (head_words c) _ ((refl, (refl, tt)), ((refl, (strict_plain c.is_strict, tt)), ((refl, (taken_plain c.taken fits.taken, tt)), tt)))
-      (plain_append (bookie_lines c) _ (bookies_plain c.racks no_lines (zip c.names c.bookies) fit_bookies)
-      (judged_plain c.census.judged fits.judged,
-      plain_append (map (entries_words c.names) c.census.entries) _ (entries_plain (judged_of c) c.census.entries fit_entries)
-      (plain_append (map (tail_words c.names) c.census.tails) _ (tails_plain (entries_of c) c.census.tails fit_tails)
-      (ensembles_plain (tails_of c) c.census.ensembles fit_ensembles))))
+      (plain_append (bookie_lines c) _ (bookies_plain c.racks no_lines (zip c.names c.bookies) fit_bookies) (
+        judged_plain c.census.judged fits.judged,
+        plain_append (map (entries_words c.names) c.census.entries) _ (entries_plain (judged_of c) c.census.entries fit_entries)
+            (plain_append (map (tail_words c.names) c.census.tails) _ (tails_plain (entries_of c) c.census.tails fit_tails)
+            (ensembles_plain (tails_of c) c.census.ensembles fit_ensembles)),
+      ))
     where
       plain_append : (xs ys : List Line) → AllByRecursion IsPlainLine xs → AllByRecursion IsPlainLine ys → AllByRecursion IsPlainLine (xs ++ ys)
       plain_append [] ys left right = right
@@ -253,13 +260,23 @@ module _ (c : NamedCensus) (fits : IsCanonical c) where
       let some3 : 0 < length rest3 = some_behind (map spaced (bookie_lines c)) (spaced (judged_words c.census.judged) ∷ entry_parts c) (omega arith) in
       ap census_at (text_parts ∙ parts_are)
       ∙ ap (λ r. r >>= λ version. line_by strict_line 2 version.1 >>= λ strict. line_by taken_line 3 strict.1 >>= λ taken. body_at 3 no_lines taken.1 >>= λ draft. Ok (census_in strict.0 taken.0 draft))
-        (line_again version_line 1 (codes "census") (codes "1" ∷ []) tt rest1 (refl, (refl, tt)) version_again (omega arith))
+      (line_again version_line 1 (codes "census") (codes "1" ∷ []) tt rest1 (refl, (refl, tt)) version_again (omega arith))
       ∙ ap (λ r. r >>= λ strict. line_by taken_line 3 strict.1 >>= λ taken. body_at 3 no_lines taken.1 >>= λ draft. Ok (census_in strict.0 taken.0 draft))
-        (line_again strict_line 2 (codes "strict") (strict_word c.is_strict ∷ []) c.is_strict rest2 (refl, (strict_plain c.is_strict, tt)) (strict_again c.is_strict) (omega arith))
+      (line_again strict_line 2 (codes "strict") (strict_word c.is_strict ∷ []) c.is_strict rest2 (refl, (strict_plain c.is_strict, tt)) (strict_again c.is_strict) (omega arith))
       ∙ ap (λ r. r >>= λ taken. body_at 3 no_lines taken.1 >>= λ draft. Ok (census_in c.is_strict taken.0 draft))
-        (line_again taken_line 3 (codes "taken") (taken_word c.taken ∷ []) c.taken rest3 (refl, (taken_plain c.taken fits.taken, tt)) (taken_again c.taken fits.taken) some3)
+      (line_again taken_line 3 (codes "taken") (taken_word c.taken ∷ []) c.taken rest3 (refl, (taken_plain c.taken fits.taken, tt)) (taken_again c.taken fits.taken) some3)
       ∙ ap (λ r. r >>= λ draft. Ok (census_in c.is_strict c.taken draft)) body_again
 
 -- what has the text of a canonical census is read as that census, unless memory runs out
 pub found_again : (bytes : List ℕ) (r : Result NamedCensus CensusFault) → GivesAll (λ (c : NamedCensus). c) r (read bytes) → (c : NamedCensus) → IsCanonical c → text_of c ≡ bytes → GivesAll (λ (c : NamedCensus). c) r (Ok c)
 found_again bytes r gives c fits is = subst (λ (x : Result NamedCensus CensusFault). GivesAll (λ (c : NamedCensus). c) r x) (ap read (sym is) ∙ read_again c fits) gives
+
+abbrev ok : NamedCensus → Result NamedCensus CensusFault
+ok c = Ok c
+
+-- each canonical census has a text of its own
+pub texts_apart : (one other : NamedCensus) → IsCanonical one → IsCanonical other → text_of one ≡ text_of other → one ≡ other
+texts_apart one other fits fit same = is (sym (read_again one fits) ∙ ap read same ∙ read_again other fit)
+  where
+    is : ok one ≡ ok other → one ≡ other
+    is e = cc

@@ -4,6 +4,7 @@
 mod checks;
 mod drafts;
 mod faults;
+mod laws;
 mod lines;
 mod lists;
 mod reading;
@@ -12,6 +13,7 @@ mod values;
 mod words;
 
 pub use faults::{CensusFault, Expected, Part, Word};
+pub use laws::texts_tell_censuses_apart;
 pub use lists::{MAX_NAMES, NameList};
 pub use reading::{is_census, read_census};
 pub use texts::census_text;

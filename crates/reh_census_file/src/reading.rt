@@ -7,6 +7,7 @@ ghost use Rattle.reh_census_file.specs.Drafts as drafts;
 ghost use Rattle.reh_census_file.specs.Reading.{Gives, words_after, words_of};
 ghost use Rattle.reh_census_file.specs.Canonical.{IsCanonical};
 ghost use Rattle.reh_census_file.specs.Texts.{text_of};
+ghost use Rattle.reh_census_file.specs.Values.{NamedCensus as NamedCensusValue};
 ghost use Rattle.reh_census_file.specs.Whole as whole;
 ghost use Rattle.reh_census_file.specs.Whole.{GivesAll, parts_of};
 ghost use Rattle.std.specs.Option.{option_map};
@@ -232,6 +233,8 @@ pub fn read_census(alloc: Global, bytes: &[u8]) -> Result<NamedCensus, CensusFau
     // What is read has this text, each byte of it.
     ensures text { IfOk result (λ c. text_of c ≡ bytes.now) }
     ensures canonical { IfOk result IsCanonical }
+    // What has the text of a canonical census is read as that census, unless memory runs out.
+    ensures only { (c : NamedCensusValue) → IsCanonical c → text_of c ≡ bytes.now → GivesAll (λ c. c) result (Ok c) }
     // Which fault it is.
     ensures exact { GivesAll (λ c. c) result (whole.read bytes.now) }
 {
