@@ -51,7 +51,7 @@ rack_takes : (words : List (List ℕ)) (rack : Option (List ℕ)) → rack_at wo
 unfolding rack_at
 rack_takes [] rack e = subst (λ (r : Option (List ℕ)). IsRack r []) (ok_is None rack e) (refl, tt)
 rack_takes (first ∷ words) rack e =
-    let p = passed (bytes_eq first (codes "rack")) (expected.Word word.Rack) (rack_behind words) rack e in
+    let p = passed (bytes_eq first (codes "rack")) expected.BookieEnd (rack_behind words) rack e in
     subst (λ (w : List ℕ). IsRack rack (w ∷ words)) (sym ((bytes_eq-Decides first (codes "rack")).0 p.0)) (rack_behind_takes words rack p.1)
 
 pub bookie_line_takes : (words : List (List ℕ)) (line : BookieLine) → bookie_line_at words ≡ Ok line → IsBookieLine line words

@@ -41,7 +41,7 @@ rack_behind words = do
 unfoldable pub rack_at : List (List ℕ) → Result (Option (List ℕ)) Expected
 rack_at [] = Ok None
 rack_at (first ∷ words) =
-    if bytes_eq first (codes "rack") then rack_behind words else Err (expected.Word word.Rack)
+    if bytes_eq first (codes "rack") then rack_behind words else Err expected.BookieEnd
 
 unfoldable pub bookie_line_at : List (List ℕ) → Result BookieLine Expected
 bookie_line_at words = do

@@ -3,29 +3,22 @@ use std::alloc::{AllocError, AllocFailed};
 use std::fmt;
 use thiserror::Error;
 
-/// A word that stands in each census, or before a value.
+/// A word that stands before a value.
 #[derive(Clone, Copy, PartialEq, Eq, Debug)]
 pub enum Word {
     Census,
     Strict,
     Taken,
-    Bookie,
     ReadOnly,
     Empty,
-    Rack,
-    Ledgers,
     Assumed,
     Unread,
     Missing,
-    Entries,
     Write,
     Ack,
     Known,
     Untold,
-    Tail,
     Size,
-    Ensemble,
-    End,
 }
 
 impl Word {
@@ -40,23 +33,16 @@ impl Word {
             Word::Census => "census",
             Word::Strict => "strict",
             Word::Taken => "taken",
-            Word::Bookie => "bookie",
             Word::ReadOnly => "read-only",
             Word::Empty => "empty",
-            Word::Rack => "rack",
-            Word::Ledgers => "ledgers",
             Word::Assumed => "assumed",
             Word::Unread => "unread",
             Word::Missing => "missing",
-            Word::Entries => "entries",
             Word::Write => "write",
             Word::Ack => "ack",
             Word::Known => "known",
             Word::Untold => "untold",
-            Word::Tail => "tail",
             Word::Size => "size",
-            Word::Ensemble => "ensemble",
-            Word::End => "end",
         }
     }
 }
@@ -111,6 +97,8 @@ pub enum Expected {
     Count,
     /// The name of a bookie that has a line.
     KnownBookie,
+    /// What may follow a bookie's name and whether it is up.
+    BookieEnd,
     /// No further word.
     LineEnd,
     /// A line of another kind.
@@ -163,6 +151,8 @@ impl Expected {
             Expected::Number => "a number from 0 to 9223372036854775808 in decimal digits",
             Expected::Count => "a number from 1 to 9223372036854775808 in decimal digits",
             Expected::KnownBookie => "the name of a bookie that has a line",
+            Expected::BookieEnd =>
+                "`read-only`, `empty`, `rack` or the end of the line, in this order",
             Expected::LineEnd => "the end of the line",
             Expected::FewBookies => "no more than 4096 bookies",
             Expected::LaterBookie => "a bookie whose name comes after the one before it",

@@ -60,7 +60,7 @@ fn rack_at(rest: &[u8]) -> Result<Option<&str>, Stop>
     match next_word(rest) {
         None => Ok(None),
         Some((word, after)) if word == b"rack".as_slice() => rack_behind(after),
-        Some(_) => Err(Stop::At(Expected::Word(Word::Rack))),
+        Some(_) => Err(Stop::At(Expected::BookieEnd)),
     }
 }
 
