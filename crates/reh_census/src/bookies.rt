@@ -51,6 +51,14 @@ impl Bookies {
         Bookies { items }
     }
 
+    /// The bookies, as a slice.
+    pub fn as_slice(&self) -> &[Bookie]
+        ensures bookies { result.now ≡ self.now }
+        ensures few { length result.now ≤ 4096 }
+    {
+        &self.items
+    }
+
     /// How many bookies have a number.
     pub fn len(&self) -> u16
         ensures { result ≡ length self.now }

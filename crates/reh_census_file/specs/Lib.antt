@@ -1,0 +1,12 @@
+pub mod Canonical
+pub mod Drafts
+pub mod DraftsInside
+pub mod Faults
+pub mod Inside
+pub mod LineReading
+pub mod Lines
+pub mod Names
+pub mod Reading
+pub mod Texts
+pub mod Values
+pub mod Whole
