@@ -112,8 +112,11 @@ def stop_of(ledger: Ledger, number: int) -> int:
 
 
 def is_told(ledger: Ledger, name: str, question: Question) -> bool:
+    """Whether what the bookie holds counts as told: what is assumed does of a closed ledger, where nobody is strict."""
     content = ledger.contents.get(name)
-    return content is not None and not (question.is_strict and content.is_assumed)
+    if content is None:
+        return False
+    return not content.is_assumed or (ledger.state == "CLOSED" and not question.is_strict)
 
 
 def entry_of(cluster: Cluster, ledger: Ledger, members: FrozenSet[str], entry: int, question: Question) -> Entry:
