@@ -19,7 +19,7 @@ mod waves;
 pub use lines::waves_text;
 pub use losses::{Loss, Lost};
 pub use objects::waves_json;
-pub use orders::order_by_name;
+pub use orders::{order_by_name, order_of};
 pub use printable::are_printable;
 pub use risk::{Risk, risk_of};
 pub use risk_lines::risk_text;

@@ -1,9 +1,11 @@
 // Names in their order.
-ghost use Rattle.std.specs.Prelude.{◌≡◌, ◌≤◌, IfOk, length, map};
+ghost use Rattle.std.specs.Prelude.{◌≡◌, ◌≤◌, IfOk, IfSome, length, map};
+ghost use Rattle.std.specs.List.Sorted.{IsPermutation};
 ghost use Rattle.reh_census.specs.Striping.{range};
 ghost use Rattle.reh_waves.specs.Orders as model;
 ghost use Rattle.reh_waves.specs.Orders.{IsNameOrder};
 
+use reh_census::Bookies;
 use std::alloc::{AllocError, Global};
 
 /// The bytes of the name of this number; none, where there is no such name.
@@ -35,4 +37,21 @@ pub fn order_by_name(alloc: Global, names: &[String]) -> Result<Vec<u16>, AllocE
     let mut order = numbers_of(alloc, names.len() as u16)?;
     order.sort_by(|number, other| name_at(names, *number).cmp(name_at(names, *other)))?;
     Ok(order)
+}
+
+/// The order of these bookies by their names; none where there aren't as many names as bookies.
+pub fn order_of(
+    alloc: Global,
+    names: &[String],
+    bookies: &Bookies,
+) -> Result<Option<Vec<u16>>, AllocError>
+    ensures order { IfOk result (λ order. IfSome order (λ order. IsNameOrder names.now order.items)) }
+    ensures all { IfOk result (λ order. IfSome order
+        (λ order. IsPermutation (range 0 (length bookies.now)) order.items)) }
+{
+    if names.len() != bookies.count() as usize {
+        return Ok(None);
+    }
+    let order = order_by_name(alloc, names)?;
+    Ok(Some(order))
 }

@@ -21,7 +21,9 @@ pub(crate) fn waves_over<R: thread::Threads + Wait + Sync>(
 ) -> Result<(), RunFault> {
     let gathered = gather_files(rt, threads, &words.inputs)?;
     let names = gathered.cluster.names().as_slice();
-    let order = order_by_name(rt.alloc(), names)?;
+    let Some(order) = order_of(rt.alloc(), names, &gathered.bookies)? else {
+        return Err(nameless(rt.alloc()));
+    };
     let waves = waves_of(
         rt.alloc(),
         &gathered.census,
@@ -48,7 +50,9 @@ pub(crate) fn risk_over<R: thread::Threads + Wait + Sync>(
     let gathered = gather_files(rt, threads, &words.inputs)?;
     let names = gathered.cluster.names().as_slice();
     let racks = gathered.cluster.racks(rt.alloc())?;
-    let order = order_by_name(rt.alloc(), names)?;
+    let Some(order) = order_of(rt.alloc(), names, &gathered.bookies)? else {
+        return Err(nameless(rt.alloc()));
+    };
     let numbers = gathered.cluster.rack_numbers(rt.alloc())?;
     let risk = risk_of(
         rt.alloc(),
@@ -77,4 +81,9 @@ fn check_names(alloc: Global, names: &[String]) -> Result<(), RunFault>
         return Ok(());
     }
     Err(unfit(format!(in alloc; "a name has a byte that can't be printed")))
+}
+
+/// That not every bookie has a name: what inputs show together always has.
+fn nameless(alloc: Global) -> RunFault {
+    unfit(format!(in alloc; "not every bookie has a name"))
 }
