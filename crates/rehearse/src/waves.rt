@@ -6,7 +6,7 @@ use crate::checks::write_text;
 use crate::faults::RunFault;
 use crate::inputs::{gather_files, unfit};
 use reh_waves::{
-    are_printable, order_by_name, risk_json, risk_of, risk_text, waves_json, waves_of, waves_text,
+    are_printable, order_of, risk_json, risk_of, risk_text, waves_json, waves_of, waves_text,
 };
 use reh_words::{RiskWords, WaveWords};
 use std::alloc::Global;
