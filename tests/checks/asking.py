@@ -258,7 +258,8 @@ def may_lose_acknowledged(cluster: Cluster, ledger: Ledger, question: Question) 
     what a yes promises. What was written to an empty bookie since it came back isn't promised, so such members are left out.
     """
     for members in write_sets(ledger) if ledger.state != "CLOSED" else []:
-        may_hold = sorted(name for name in members if not is_told(ledger, name, question) and not cluster.bookies[name].is_empty)
+        full = {name for name in members if not cluster.bookies[name].is_empty}
+        may_hold = sorted(name for name in full if not is_told(ledger, name, question))
         for number in range(ledger.ack, len(may_hold) + 1):
             for holders in map(frozenset, combinations(may_hold, number)):
                 up = frozenset(name for name in holders if cluster.bookies[name].is_up)
@@ -324,8 +325,8 @@ def against(cluster: Cluster, question: Question, verdict: str, rule: Optional[s
 
 
 def notes_of(cluster: Cluster, question: Question) -> List[str]:
-    notes = [f"{name} is not registered" for name, bookie in cluster.bookies.items() if name in question.stopped and not bookie.is_up]
     up = {name for name in question.stopped if cluster.bookies[name].is_up}
+    notes = [f"{name} is not registered" for name in cluster.bookies if name in question.stopped - up]
     if any(ledger.state == "OPEN" and up & set(ledger.fragments[-1][1]) for ledger in cluster.ledgers):
         notes.append("writers pause until they have changed their ensembles")
     counted = [ledger for ledger in cluster.ledgers if ledger.state != "CLOSED" or ledger.last >= 0]
