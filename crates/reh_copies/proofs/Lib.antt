@@ -1,0 +1,6 @@
+pub mod EventLaws
+pub mod CopyLaws
+pub mod UnitedLaws
+pub mod ReadableLaws
+pub mod ShownLaws
+pub mod LostLaws

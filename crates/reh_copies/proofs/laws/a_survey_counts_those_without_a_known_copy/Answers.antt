@@ -1,0 +1,24 @@
+use Rattle.std.proofs.Common.{sym, ◌∙◌}
+use Rattle.reh_inputs.specs.declared.ledgers.Reading.TheVariants as reading
+use Rattle.reh_inputs.specs.Gathered.{reading_of}
+use Rattle.reh_copies.specs.Alone.{has_no_copy}
+use Rattle.reh_copies.proofs.LostLaws.{lost-closed, lost-picture, lost-stop}
+use Rattle.reh_copies.proofs.ReadableLaws.{IsTold-closed, IsTold-sure}
+use Rattle.reh_copies.proofs.ShownLaws.{IsAlike-read}
+use Rattle.reh_copies.proofs.laws.a_survey_counts_those_without_a_known_copy.Goals as goal
+
+pub returns-clause-closed : goal.returns-clause-closed
+returns-clause-closed c =
+    λ bytes s l read none g f fragment closed there.
+    lost-closed s l (IsAlike-read bytes s l read) none reading.All g (IsTold-closed l g closed) closed f fragment there
+
+pub returns-clause-told : goal.returns-clause-told
+returns-clause-told c =
+    λ bytes s l read none strict g f fragment stop sure there is.
+    lost-stop s l (IsAlike-read bytes s l read) none (reading_of strict) g (IsTold-sure strict l g sure) f fragment stop
+    there is
+
+pub returns-clause-picture : goal.returns-clause-picture
+returns-clause-picture c =
+    λ bytes s l read none closed gathered gathers.
+    lost-picture s l (IsAlike-read bytes s l read) none closed ∙ sym (gathers.census.entries has_no_copy)
