@@ -22,15 +22,10 @@ use Rattle.reh_inputs.specs.declared.ledgers.Reading.TheVariants as readings
 use Rattle.reh_inputs.specs.Gathered.{holders_of, ledgers_of}
 use Rattle.reh_inputs.specs.Ledgers.{end_told, first_of}
 use Rattle.reh_copies.specs.Alone.{NoneEmpty, fragment_alone, has_no_copy, ledger_alone, lost_in, without_copy}
+use Rattle.reh_copies.proofs.CountLaws.{sum_by-map}
 use Rattle.reh_copies.proofs.ReadableLaws.{IsAlike, IsTold, IsTold-closed, readable-known}
 
 -- Sums
-
-sum_by-map : {X Y : Type 0} (f : Y → ℕ) (h : X → Y) (xs : List X) → sum_by f (map h xs) ≡ sum_by (λ x. f (h x)) xs
-sum_by-map f h [] = refl
-sum_by-map f h (x ∷ xs) =
-    sum_by-cons f (h x) (map h xs) ∙ ap (λ n. f (h x) + n) (sum_by-map f h xs)
-    ∙ sym (sum_by-cons (λ x. f (h x)) x xs)
 
 sum_by-flat_map : {X Y : Type 0} (f : Y → ℕ) (h : X → List Y) (xs : List X)
     → sum_by f (flat_map h xs) ≡ sum_by (λ x. sum_by f (h x)) xs

@@ -1,18 +1,18 @@
 -- What can be read of a picture, and what is known of its copies.
-use Rattle.std.proofs.Common.{◌≡◌, ℕ, ◌<◌, ◌≤◌, Bool, true, false, ◌&&◌, List, [], ◌∷◌, map, length, Option, Some, is_none, refl, sym, ap, ◌∙◌, arith, nat_lt, inl, inr}
-use Rattle.std.specs.Prelude.{◌==◌, All, slice_get, slice_index}
+use Rattle.std.proofs.Common.{◌≡◌, ℕ, ◌<◌, ◌≤◌, Bool, true, false, ◌&&◌, List, [], ◌∷◌, map, length, Option, Some, is_none, refl, sym, ap, ◌∙◌, subst, arith, nat_lt, inl, inr}
+use Rattle.std.specs.Prelude.{count_by, Contains, ◌==◌, All, slice_get, slice_index}
 use Rattle.std.specs.List.{IsDistinct, filter, list_any}
 use Rattle.std.specs.Option.{option_map_or}
 use Rattle.std.specs.Str.{bytes_eq}
 use Rattle.std.proofs.lemmas.Bool.{cases_lt}
 use Rattle.std.proofs.lemmas.Bool.Decides.{nat_tests}
 use Rattle.std.proofs.lemmas.List.Elements.{All-head, All-tail}
-use Rattle.std.proofs.lemmas.Option.{slice_get_past}
+use Rattle.std.proofs.lemmas.Option.{get_or_from_slice_get, slice_get_past, slice_get_within}
 use Rattle.reh_types.specs.declared.names.LedgerState.{LedgerState}
 use Rattle.reh_types.specs.declared.names.LedgerState.TheVariants.{Open, InRecovery, Closed}
 use Rattle.reh_model.specs.Contents.{Contents, has}
-use Rattle.reh_model.specs.Metadata.{Fragment, writes}
-use Rattle.reh_model.specs.Cluster.{Cluster, Ledger, is_readable, is_up}
+use Rattle.reh_model.specs.Metadata.{Fragment, IsEnsemble, IsMetadata, writes}
+use Rattle.reh_model.specs.Cluster.{Cluster, Ledger, is_readable, is_source, is_up}
 use Rattle.reh_census.specs.Bookies.{bookies_of as census_bookies, is_holder}
 use Rattle.reh_census.specs.Ledgers as census
 use Rattle.reh_census.specs.declared.ledgers.Told.TheVariants.{Holds}
@@ -28,6 +28,7 @@ use Rattle.reh_inputs.specs.Ledgers.{number_in, range_of, reading_in, rest_of, t
 use Rattle.reh_inputs.specs.United.{number_of, united}
 use Rattle.reh_copies.specs.Alone.{NoneAssumed, NoneEmpty, class_alone, fragment_alone, ledger_alone, numbers_alone}
 use Rattle.reh_copies.proofs.CopyLaws.{AreTold, has-says, pair, some_known, told-says}
+use Rattle.reh_copies.proofs.CountLaws.{EachOnce-writes, known_counted}
 use Rattle.reh_copies.proofs.UnitedLaws.{alone, holders-alone, may_hold, numbered, numbered_members}
 
 -- a state, and what is listed of the same picture
@@ -39,6 +40,7 @@ pub record IsAlike (s : Cluster) (l : Listed) : Type 0 where
   pub ledgers : s.parts.ledgers ≡ l.listing.ledgers.items
   pub held : s.parts.held ≡ held_in l.listing.holdings.items
   pub once : IsDistinct is_pair (map pair l.listing.holdings.items)
+  pub formed : All (λ g. IsMetadata g.metadata) s.parts.ledgers
 
 -- How contents are taken
 
@@ -158,3 +160,22 @@ module _ (s : Cluster) (l : Listed) (alike : IsAlike s l) (none_empty : NoneEmpt
       ∙ some_known (length l.listing.names) (is_up s) (λ b. has s.parts.held b g.id entry)
       (writes g.metadata fragment entry) low (is_holder (census_bookies (bookies_of (united (l ∷ []))))) carried held
       may_kept carries_kept held_kept)
+
+  -- and as many copies of it are known as registered members hold it
+  pub held-known : Contains s.parts.ledgers g
+      → length (class_alone reading l g f entry).known ≡ count_by (is_source s g.id entry) (writes g.metadata fragment entry)
+  held-known among =
+      let carried = census.carries (ledger_alone reading l g) (fragment_alone l g f) entry in
+      let held : ℕ → Bool = λ b. census.is_held entry (census.told_of (ledger_alone reading l g) b) in
+      let formed : IsMetadata g.metadata =
+      subst (λ (h : Ledger). IsMetadata h.metadata) among.2 (alike.formed among.0 g among.1) in
+      let ensemble : IsEnsemble g.metadata.size fragment.ensemble =
+      subst (λ (h : Fragment). IsEnsemble g.metadata.size h.ensemble)
+      (get_or_from_slice_get g.metadata.fragments f fragment fragment there)
+      (formed.ensembles f fragment (slice_get_within g.metadata.fragments f fragment there)) in
+      ap (λ (bs : List ℕ). length (filter (λ b. carried b && held b) bs)) (holders-alone l alike.different)
+      ∙ known_counted (length l.listing.names) (is_up s) (λ b. has s.parts.held b g.id entry)
+      (writes g.metadata fragment entry)
+      (EachOnce-writes g.metadata fragment entry ensemble
+      (omega (arith, formed.some_acks, formed.acks_within, formed.writes_within)) formed.writes_within)
+      low (is_holder (census_bookies (bookies_of (united (l ∷ []))))) carried held may_kept carries_kept held_kept

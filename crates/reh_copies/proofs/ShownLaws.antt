@@ -121,6 +121,7 @@ IsAlike-pictured d l none lists =
       once = subst (λ (hs : List Holding). IsDistinct is_pair (map pair hs)) (sym is.holdings_are)
           (subst (λ (ps : List (ℕ × ℕ)). IsDistinct is_pair ps) (sym (pairs_made (names_of d) (list_of d field.Contents)))
           (all_differ (names_of d) (ids_of d) (list_of d field.Contents) good.each_content));
+      formed = λ k g within. (formed.ledgers.each k g within).metadata;
     }
 
 module _ (s : Cluster) (l : Listed) where

@@ -1,9 +1,10 @@
 // What holds of the state that a rehearsal reads of a picture, and of what a question about the same picture counts.
-ghost use Rattle.std.specs.Prelude.{◌≡◌, ℕ, Bool, true, false, All, List, [], ◌∷◌, Some, slice_get, sum_by};
+ghost use Rattle.std.specs.Prelude.{◌≡◌, ℕ, Bool, true, false, All, List, [], ◌∷◌, Some, count_by, length, slice_get, sum_by};
+ghost use Rattle.std.specs.List.{Contains};
 ghost use Rattle.reh_census.specs.Counting.{count_in};
 ghost use Rattle.reh_types.specs.declared.moves.Event.TheVariants.{Lose, Join};
-ghost use Rattle.reh_model.specs.Metadata.{Fragment, stop_of};
-ghost use Rattle.reh_model.specs.Cluster.{Cluster, Ledger, is_readable, is_up};
+ghost use Rattle.reh_model.specs.Metadata.{Fragment, stop_of, writes};
+ghost use Rattle.reh_model.specs.Cluster.{Cluster, Ledger, is_readable, is_source, is_up};
 ghost use Rattle.reh_model.specs.Step.{after};
 ghost use Rattle.reh_model.specs.Survey.{lost_of, survey};
 ghost use Rattle.reh_picture.specs.declared.listings.Listed.{Listed};
@@ -25,6 +26,21 @@ pub fn an_entry_can_be_read_where_a_copy_is_known()
         → (strict : Bool) (g : Ledger) (f : ℕ) (fragment : Fragment) (entry : ℕ)
         → NoneAssumed l g.id → slice_get g.metadata.fragments f ≡ Some fragment
         → is_readable s g fragment entry ≡ is_held (class_alone (reading_of strict) l g f entry) }
+{}
+
+/// And as many copies of it are known as registered members of its write set hold it, where its ledger is one of the
+/// picture's: in the same two cases.
+pub fn as_many_copies_are_known_as_members_hold_the_entry()
+    ensures closed { (bytes : List ℕ) (s : Cluster) (l : Listed) → IsRead bytes s l → NoneEmpty l
+        → (g : Ledger) (f : ℕ) (fragment : Fragment) (entry : ℕ) → Contains s.parts.ledgers g
+        → is_closed g.metadata.state ≡ true → slice_get g.metadata.fragments f ≡ Some fragment
+        → length (class_alone reading.All l g f entry).known
+        ≡ count_by (is_source s g.id entry) (writes g.metadata fragment entry) }
+    ensures told { (bytes : List ℕ) (s : Cluster) (l : Listed) → IsRead bytes s l → NoneEmpty l
+        → (strict : Bool) (g : Ledger) (f : ℕ) (fragment : Fragment) (entry : ℕ) → Contains s.parts.ledgers g
+        → NoneAssumed l g.id → slice_get g.metadata.fragments f ≡ Some fragment
+        → length (class_alone (reading_of strict) l g f entry).known
+        ≡ count_by (is_source s g.id entry) (writes g.metadata fragment entry) }
 {}
 
 /// So the entries that a survey calls lost are as many as those with no known copy: in a fragment of a closed ledger
