@@ -13,6 +13,7 @@ use Rattle.reh_census.proofs.OnceLaws.{once-first}
 use Rattle.reh_model.specs.Metadata.{Fragment, IsEnsemble, Metadata, writes}
 use Rattle.reh_model.specs.Striping.{index_at, range, write_set}
 use Rattle.reh_model.proofs.StripingLaws.{rank_of-index_at}
+use Rattle.reh_copies.proofs.CopyLaws.{and_false, first_true, second_true}
 
 pub sum_by-map : {X Y : Type 0} (f : Y → ℕ) (h : X → Y) (xs : List X) → sum_by f (map h xs) ≡ sum_by (λ x. f (h x)) xs
 sum_by-map f h [] = refl
@@ -80,17 +81,9 @@ either true true later apart = sym (ap (λ c. 1 + cond c 1 0) (apart refl))
 either true false true apart = refl
 either true false false apart = refl
 
-and_false : (a : Bool) → (a && false) ≡ false
-and_false true = refl
-and_false false = refl
-
 and_true : (a : Bool) → (a && true) ≡ a
 and_true true = refl
 and_true false = refl
-
-second_true : (a b : Bool) → (a && b) ≡ true → b ≡ true
-second_true true b is = is
-second_true false b is = cc
 
 -- of the first n numbers, among which are all that pass a test
 module _ (n : ℕ) (q : ℕ → Bool) (low : (b : ℕ) → q b ≡ true → b < n) where
@@ -146,10 +139,7 @@ known_counted n up holds members once low may carries told same_up same_members 
     let below : b < n = omega (arith, inside) in
     (λ i. same_up b below i && (same_members b below i && same_held b below i))
     ∙ turned (up b) (list_any (λ m. m == b) members) (holds b))
-    ∙ members_counted n (λ b. up b && holds b) (λ b both. low b (first_true (up b) (holds b) both)) members once where
-      first_true : (a b : Bool) → (a && b) ≡ true → a ≡ true
-      first_true true b is = refl
-      first_true false b is = cc
+    ∙ members_counted n (λ b. up b && holds b) (λ b both. low b (first_true (up b) (holds b) both)) members once
 
 -- Write sets
 

@@ -32,9 +32,9 @@ use Rattle.reh_copies.proofs.ReadableLaws.{IsAlike}
 
 -- Contents without a fault name no bookie and ledger twice
 
-both_true : (a b : Bool) → (a && b) ≡ true → (a ≡ true) × (b ≡ true)
-both_true true b is = (refl, is)
-both_true false b is = cc
+and-true : (a b : Bool) → (a && b) ≡ true → (a ≡ true) × (b ≡ true)
+and-true true b is = (refl, is)
+and-true false b is = cc
 
 not_false : (b : Bool) → not b ≡ true → b ≡ false
 not_false true is = cc
@@ -45,7 +45,7 @@ is_pair_equiv = record {
   refl = λ p. λ i. itself p.0 i && itself p.1 i;
   symm = λ p q. λ i. nat_eq_equiv.symm p.0 q.0 i && nat_eq_equiv.symm p.1 q.1 i;
   congr = λ p q r tie.
-      let both = both_true (nat_eq p.0 q.0) (nat_eq p.1 q.1) tie in
+      let both = and-true (nat_eq p.0 q.0) (nat_eq p.1 q.1) tie in
       λ i. nat_eq_equiv.congr p.0 q.0 r.0 both.0 i && nat_eq_equiv.congr p.1 q.1 r.1 both.1 i;
 } where
   itself : (n : ℕ) → nat_eq n n ≡ true
