@@ -201,10 +201,10 @@ module _ (bookies : Bookies) (question : Question) (stopped holds : ℕ → Bool
       omega (
         arith,
         sum-le-plus (λ b. cond (holds b && (bookies.is_registered b || takes_disk bookies question stopped b)) 1 0)
-        (λ b. cond (holds b && is_at_stake bookies question stopped b) 1 0) (λ b. cond (holds b && is_up bookies stopped b) 1 0) (members tail entry)
-        (λ b. cond_le (holds b && (bookies.is_registered b || takes_disk bookies question stopped b)) (holds b && is_at_stake bookies question stopped b)
-        (holds b && is_up bookies stopped b) 1
-        (stake_or_up (holds b) (bookies.is_registered b) (takes_disk bookies question stopped b) (bookies.is_empty b) (stopped b))),
+            (λ b. cond (holds b && is_at_stake bookies question stopped b) 1 0) (λ b. cond (holds b && is_up bookies stopped b) 1 0) (members tail entry)
+            (λ b. cond_le (holds b && (bookies.is_registered b || takes_disk bookies question stopped b)) (holds b && is_at_stake bookies question stopped b)
+            (holds b && is_up bookies stopped b) 1
+            (stake_or_up (holds b) (bookies.is_registered b) (takes_disk bookies question stopped b) (bookies.is_empty b) (stopped b))),
       ) in
       any-count (λ b. holds b && is_up bookies stopped b) (members tail entry)
       ∙ some_of (count_by (λ b. holds b && (bookies.is_registered b || takes_disk bookies question stopped b)) (members tail entry))
