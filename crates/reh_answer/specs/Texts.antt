@@ -1,5 +1,5 @@
 -- What is printed of a stop. Each line ends with its LF.
-use Rattle.std.specs.Prelude.{ℕ, ◌+◌, ◌-◌, Bool, true, ◌&&◌, ◌==◌, nat_lt, if◌then◌else◌, List, [], ◌∷◌, ◌++◌, map}
+use Rattle.std.specs.Prelude.{ℕ, ◌+◌, ◌-◌, Bool, ◌&&◌, ◌==◌, if◌then◌else◌, List, [], ◌∷◌, ◌++◌, map}
 use Rattle.std.specs.Prelude.{flat_map, length, replicate, slice_get, unwrap_or, string_bytes, codes}
 use Rattle.std.specs.Fmt.{decimal}
 use Rattle.reh_census.specs.declared.answers.Answer.{Answer}

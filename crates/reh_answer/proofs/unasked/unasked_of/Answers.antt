@@ -1,5 +1,4 @@
-use Rattle.std.proofs.Common.{◌∙◌, ap, Bool, false, List}
-use Rattle.std.specs.Option.{option_map_or}
+use Rattle.std.proofs.Common.{◌∙◌, ap, Bool, List}
 use Rattle.reh_census.specs.Bookies.{bookies_of, is_flagged}
 use Rattle.reh_census.specs.Tails.{lacks_racks}
 use Rattle.reh_answer.proofs.unasked.unasked_of.Goals as goal
