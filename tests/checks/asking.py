@@ -160,9 +160,11 @@ def is_fallen(copies: FrozenSet[str], question: Question, ack: int) -> bool:
     return len(copies - question.stopped) < min(len(copies), copies_to_keep(question, ack))
 
 
-def disks_go(cluster: Cluster, question: Question) -> bool:
-    """Whether a bookie that is down goes for good: an entry without a known copy may have its last one there."""
-    return question.is_for_good and any(not cluster.bookies[name].is_up for name in question.stopped)
+def may_be_on_disks(cluster: Cluster, entry: Entry, question: Question) -> bool:
+    """Whether a bookie that is down goes for good, and may have a copy that the entry lacks of those that it is to keep."""
+    if not question.is_for_good or all(cluster.bookies[name].is_up for name in question.stopped):
+        return False
+    return len(entry.known) < copies_to_keep(question, entry.ack)
 
 
 # Ledgers that aren't closed.
@@ -180,16 +182,18 @@ def write_sets(ledger: Ledger) -> List[FrozenSet[str]]:
 def loses_its_tail(cluster: Cluster, ledger: Ledger, question: Question) -> bool:
     """Whether too few members of some write set are left of those that may have acknowledged an entry nobody told of.
 
-    What is down and goes for good counts among those that there are now, whether its disk is empty or not.
+    What is down and goes for good counts among those that there are now, whether its disk is empty or not; and so does an
+    empty bookie that is up and stopped, with what was written to it since it came back. That recovery may be blocked lowers
+    what has to be left only where the bookies come back.
     """
     least = copies_to_keep(question, ledger.ack)
-    if not question.may_block_recovery:
+    if question.is_for_good or not question.may_block_recovery:
         least = max(least, ledger.write - ledger.ack + 1)
     for members in write_sets(ledger):
-        now = {name for name in members if cluster.bookies[name].is_up and not cluster.bookies[name].is_empty}
-        down = {name for name in members if not cluster.bookies[name].is_up}
-        going = down & question.stopped if question.is_for_good else set()
-        if len(now - question.stopped) < min(len(now | going), least):
+        full = {name for name in members if cluster.bookies[name].is_up and not cluster.bookies[name].is_empty}
+        left = full - question.stopped
+        going = {name for name in members & question.stopped if cluster.bookies[name].is_up or question.is_for_good}
+        if len(left) < min(len(full | going), least):
             return True
     return False
 
@@ -204,11 +208,19 @@ def gets_blocked(cluster: Cluster, ledger: Ledger, question: Question) -> bool:
     return is_blocked(cluster, ledger, question.stopped) and not is_blocked(cluster, ledger, frozenset())
 
 
+def loses_its_ensemble(cluster: Cluster, ledger: Ledger, question: Question) -> bool:
+    """Whether a recovery that has begun finds an ensemble now and wouldn't: one failed write makes it look for one."""
+    now = writable(cluster)
+    return ledger.state == "IN_RECOVERY" and len(now - question.stopped) < ledger.size <= len(now)
+
+
 def is_unrecoverable(cluster: Cluster, ledger: Ledger, question: Question) -> bool:
     if ledger.state == "CLOSED":
         return False
-    is_newly_blocked = not question.may_block_recovery and gets_blocked(cluster, ledger, question)
-    return loses_its_tail(cluster, ledger, question) or is_newly_blocked
+    if loses_its_tail(cluster, ledger, question):
+        return True
+    is_blocked_then = gets_blocked(cluster, ledger, question) or loses_its_ensemble(cluster, ledger, question)
+    return is_blocked_then and not question.may_block_recovery
 
 
 def finds_no_ensemble(cluster: Cluster, size: int, question: Question) -> bool:
@@ -254,12 +266,13 @@ def unplaced(cluster: Cluster, ledger: Ledger, question: Question) -> int:
 def may_lose_acknowledged(cluster: Cluster, ledger: Ledger, question: Question) -> bool:
     """Whether some entry that was acknowledged, and of which nobody told, may have a copy now and none then.
 
-    Any ack quorum of those members of a write set may have it of whom nobody told that they don't. This asks no rule: it is
-    what a yes promises. What was written to an empty bookie since it came back isn't promised, so such members are left out.
+    Any ack quorum of those members of a write set may have it of whom nobody told that they don't, and an empty bookie may
+    whatever is told of it, since it was written to. This asks no rule: it is what a yes promises.
     """
     for members in write_sets(ledger) if ledger.state != "CLOSED" else []:
-        full = {name for name in members if not cluster.bookies[name].is_empty}
-        may_hold = sorted(name for name in full if not is_told(ledger, name, question))
+        may_hold = sorted(
+            name for name in members if cluster.bookies[name].is_empty or not is_told(ledger, name, question)
+        )
         for number in range(ledger.ack, len(may_hold) + 1):
             for holders in map(frozenset, combinations(may_hold, number)):
                 up = frozenset(name for name in holders if cluster.bookies[name].is_up)
@@ -284,7 +297,7 @@ def numbers_of(cluster: Cluster, ledgers: List[Ledger], question: Question) -> N
     no, unknown, disks = Counter(dict.fromkeys(RULES, 0)), Counter(), 0
     for ledger in ledgers:
         for entry, count in Counter(entries_of(cluster, ledger, question)).items():
-            disks += count * (not entry.known and disks_go(cluster, question))
+            disks += count * may_be_on_disks(cluster, entry, question)
             for rule, broken in (
                 ("readable", [is_lost(copies, question) for copies in completions(entry)]),
                 ("kept", [is_fallen(copies, question, entry.ack) for copies in completions(entry)]),
@@ -335,6 +348,25 @@ def notes_of(cluster: Cluster, question: Question) -> List[str]:
             "a ledger created since the input was taken may have all its copies on these bookies: "
             "make them read-only, take a new input, ask again"
         )
+    return notes + unasked_notes(cluster, question)
+
+
+def unasked_notes(cluster: Cluster, question: Question) -> List[str]:
+    """The notes on words that ask nothing of this stop."""
+    now = writable(cluster)
+    notes = []
+    if question.racks and not question.ensemble and all(ledger.state != "OPEN" for ledger in cluster.ledgers):
+        notes.append("--min-racks asks nothing here: no ledger is open, and --ensemble is not given")
+    if question.racks and len({cluster.bookies[name].rack for name in now} - {None}) < question.racks:
+        notes.append(
+            "the bookies that can be written to stand in too few racks for --min-racks already, with or without this stop"
+        )
+    if question.ensemble and len(now) < question.ensemble:
+        notes.append(
+            "new ledgers of the size that --ensemble gives find too few bookies already, with or without this stop"
+        )
+    if question.may_block_writers and (question.ensemble or question.racks):
+        notes.append("--ensemble and --min-racks ask nothing where --allow-blocked-writers is given")
     return notes
 
 

@@ -123,7 +123,7 @@ abbrev pub answer_words : Answer → ℕ → List ℕ
 answer_words Yes weight = []
 answer_words (No rule count) weight = rule_words rule weight
 answer_words (Unknown rule count) weight = []
-answer_words (UnknownDisks count) weight = codes "the last copy may be on a disk that goes for good"
+answer_words (UnknownDisks count) weight = codes "fewer known copies than are to be kept, and a disk that goes for good may have more"
 answer_words (NotJudged count) weight = []
 
 -- by these entries of the ledger

@@ -30,9 +30,9 @@ fn push_answer(text: &mut String, answer: &Answer, weight: u64) -> Result<(), Al
     match answer {
         Answer::Yes | Answer::Unknown(..) | Answer::NotJudged(_) => Ok(()),
         Answer::No(rule, _) => push_rule(text, *rule, weight),
-        Answer::UnknownDisks(_) => {
-            text.push_str("the last copy may be on a disk that goes for good")
-        }
+        Answer::UnknownDisks(_) => text.push_str(
+            "fewer known copies than are to be kept, and a disk that goes for good may have more",
+        ),
     }
 }
 

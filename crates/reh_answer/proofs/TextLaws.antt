@@ -13,7 +13,7 @@ abbrev pub Done : Type 0
 Done = Result (Unit {0}) AllocError
 
 -- what is added before the rest
-pub before : (r : Done) (end first next part rest : List ℕ) → next ≡ first ++ part
+pub before : {X : Type 0} (r : Done) (end first next part rest : List X) → next ≡ first ++ part
     → OnOk r (end ≡ next ++ rest) → OnOk r (end ≡ first ++ (part ++ rest))
 before (Ok u) end first next part rest added is = is ∙ ap (λ t. t ++ rest) added ∙ append_assoc first part rest
 before (Err e) end first next part rest added is = is

@@ -1,5 +1,5 @@
 -- What is printed of a stop. Each line ends with its LF.
-use Rattle.std.specs.Prelude.{ℕ, ◌+◌, ◌-◌, Bool, true, ◌&&◌, ◌==◌, nat_lt, if◌then◌else◌, List, [], ◌∷◌, ◌++◌, map}
+use Rattle.std.specs.Prelude.{ℕ, ◌+◌, ◌-◌, Bool, ◌&&◌, ◌==◌, if◌then◌else◌, List, [], ◌∷◌, ◌++◌, map}
 use Rattle.std.specs.Prelude.{flat_map, length, replicate, slice_get, unwrap_or, string_bytes, codes}
 use Rattle.std.specs.Fmt.{decimal}
 use Rattle.reh_census.specs.declared.answers.Answer.{Answer}
@@ -14,6 +14,7 @@ use Rattle.reh_census.specs.Striping.{range}
 use Rattle.reh_answer.specs.declared.against.Against.{Against}
 use Rattle.reh_answer.specs.declared.facts.Facts.{Facts}
 use Rattle.reh_answer.specs.declared.nouns.Noun.{Noun}
+use Rattle.reh_answer.specs.declared.unasked.Unasked.{Unasked}
 use Rattle.reh_answer.specs.declared.nouns.Noun.TheVariants.{Entry, Ledger, OpenLedger, Fragment}
 
 -- Numbers of things
@@ -81,7 +82,8 @@ rules_line numbers for_good = rules_words numbers ++ (replaceable_words numbers.
 abbrev pub some_words : List ℕ → ℕ → List ℕ
 some_words label number = if number == 0 then [] else label ++ decimal number
 
--- whether all is told of all entries, each has a known copy or no disk goes, and all ledgers were judged
+-- whether all is told of all entries, each has as many known copies as are to be kept or no disk goes, and all ledgers were
+-- judged
 abbrev pub is_all_known : Facts → Bool
 is_all_known facts = (facts.unknown == 0) && ((facts.numbers.disks == 0) && (facts.numbers.not_judged == 0))
 
@@ -126,10 +128,32 @@ abbrev pub new_ledger_note : List ℕ
 new_ledger_note =
     codes "a ledger created since the input was taken may have all its copies on these bookies: make them read-only, take a new input, ask again"
 
+abbrev pub racks_note : List ℕ
+racks_note = codes "--min-racks asks nothing here: no ledger is open, and --ensemble is not given"
+
+abbrev pub racks_now_note : List ℕ
+racks_now_note =
+    codes "the bookies that can be written to stand in too few racks for --min-racks already, with or without this stop"
+
+abbrev pub ensemble_now_note : List ℕ
+ensemble_now_note =
+    codes "new ledgers of the size that --ensemble gives find too few bookies already, with or without this stop"
+
+abbrev pub writers_note : List ℕ
+writers_note = codes "--ensemble and --min-racks ask nothing where --allow-blocked-writers is given"
+
+-- those on words that ask nothing
+abbrev pub unasked_notes : Unasked → List (List ℕ)
+unasked_notes unasked =
+    note_if unasked.racks racks_note
+    ++ (note_if unasked.racks_now racks_now_note
+    ++ (note_if unasked.ensemble_now ensemble_now_note ++ note_if unasked.writers writers_note))
+
 abbrev pub notes_of : Facts → List (List ℕ) → List (List ℕ)
 notes_of facts names =
     map (λ b. name_of names b ++ codes " is not registered") facts.unregistered
-    ++ (note_if facts.writers_pause pause_note ++ note_if facts.may_hold_a_new_ledger new_ledger_note)
+    ++ (note_if facts.writers_pause pause_note
+    ++ (note_if facts.may_hold_a_new_ledger new_ledger_note ++ unasked_notes facts.unasked))
 
 abbrev pub note_line : List ℕ → List ℕ
 note_line note = codes "note: " ++ (note ++ codes "\n")
@@ -142,18 +166,9 @@ asked AckQuorum number = whose number ++ codes " ack quorum's copies"
 asked (Copies copies) number = decimal copies ++ codes " copies"
 asked AckLessOne number = codes "one less than " ++ (whose number ++ codes " ack quorum's copies")
 
--- whether `--keep 1` asks for less
-abbrev pub asks_for_more : Keep → Bool
-asks_for_more AckQuorum = true
-asks_for_more (Copies copies) = nat_lt 1 copies
-asks_for_more AckLessOne = true
-
--- the question with `--keep 1`
-abbrev pub with_keep_1 : Question → Question
-with_keep_1 question = record question { keep = Copies 1 }
-
-abbrev pub hint : Keep → List ℕ
-hint keep = if asks_for_more keep then codes " (--keep 1 allows it)" else []
+-- what is said where the stop is a yes with `--keep 1`
+abbrev pub hint : Bool → List ℕ
+hint keep_1_allows = if keep_1_allows then codes " (--keep 1 allows it)" else []
 
 -- new ledgers find no ensemble, and so many others
 abbrev pub new_ledgers_words : ℕ → List ℕ
@@ -167,16 +182,16 @@ no_ensemble new_ledgers number =
     if new_ledgers then new_ledgers_words (number - 1)
     else amount number OpenLedger ++ codes " would find no ensemble to go on with"
 
-abbrev pub no_words : Bool → Keep → Rule → ℕ → List ℕ
-no_words new_ledgers keep Readable number = amount number Entry ++ codes " could not be read"
-no_words new_ledgers keep Kept number =
+abbrev pub no_words : Bool → Bool → Keep → Rule → ℕ → List ℕ
+no_words new_ledgers keep_1_allows keep Readable number = amount number Entry ++ codes " could not be read"
+no_words new_ledgers keep_1_allows keep Kept number =
     amount number Entry
-    ++ (codes " would have fewer than " ++ (asked keep number ++ (codes ", and fewer than now" ++ hint keep)))
-no_words new_ledgers keep Recoverable number =
+    ++ (codes " would have fewer than " ++ (asked keep number ++ (codes ", and fewer than now" ++ hint keep_1_allows)))
+no_words new_ledgers keep_1_allows keep Recoverable number =
     amount number Ledger
     ++ (codes " could not be recovered, or " ++ (whose number ++ codes " last entries would have fewer copies than now"))
-no_words new_ledgers keep Writable number = no_ensemble new_ledgers number
-no_words new_ledgers keep Replaceable number =
+no_words new_ledgers keep_1_allows keep Writable number = no_ensemble new_ledgers number
+no_words new_ledgers keep_1_allows keep Replaceable number =
     amount number Fragment ++ (codes " would find no bookies for " ++ (whose number ++ codes " places"))
 
 -- what a rule counts
@@ -205,8 +220,7 @@ disks_words number =
     amount number Entry
     ++ (codes " "
     ++ (has number
-    ++ (codes " no copy on a bookie that is up, and "
-    ++ (whose number ++ codes " last one may be on a disk that goes for good"))))
+    ++ codes " fewer known copies than are to be kept, and a bookie that is down and goes for good may have more"))
 
 abbrev pub not_judged_words : ℕ → ℕ → List ℕ
 not_judged_words ledgers number =
@@ -214,17 +228,20 @@ not_judged_words ledgers number =
     ++ (codes " of "
     ++ (decimal (ledgers + number) ++ (codes " ledgers " ++ (were number ++ codes " not judged"))))
 
-abbrev pub answer_words : Bool → Keep → ℕ → Answer → List ℕ
-answer_words new_ledgers keep ledgers Yes = codes "yes"
-answer_words new_ledgers keep ledgers (No rule number) = codes "no, " ++ no_words new_ledgers keep rule number
-answer_words new_ledgers keep ledgers (Unknown rule number) = codes "unknown, " ++ may_words keep rule number
-answer_words new_ledgers keep ledgers (UnknownDisks number) = codes "unknown, " ++ disks_words number
-answer_words new_ledgers keep ledgers (NotJudged number) = codes "unknown, " ++ not_judged_words ledgers number
+abbrev pub answer_by : Bool → Bool → Keep → ℕ → Answer → List ℕ
+answer_by new_ledgers keep_1_allows keep ledgers Yes = codes "yes"
+answer_by new_ledgers keep_1_allows keep ledgers (No rule number) =
+    codes "no, " ++ no_words new_ledgers keep_1_allows keep rule number
+answer_by new_ledgers keep_1_allows keep ledgers (Unknown rule number) = codes "unknown, " ++ may_words keep rule number
+answer_by new_ledgers keep_1_allows keep ledgers (UnknownDisks number) = codes "unknown, " ++ disks_words number
+answer_by new_ledgers keep_1_allows keep ledgers (NotJudged number) = codes "unknown, " ++ not_judged_words ledgers number
+
+abbrev pub answer_words : Facts → Keep → List ℕ
+answer_words facts keep = answer_by facts.breaks_new_ledgers facts.keep_1_allows keep facts.judged.ledgers facts.answer
 
 abbrev pub verdict_line : Facts → Question → List ℕ
 verdict_line facts question =
-    codes "ok-to-stop: "
-    ++ (answer_words facts.breaks_new_ledgers question.keep facts.judged.ledgers facts.answer ++ codes "\n")
+    codes "ok-to-stop: " ++ (answer_words facts question.keep ++ codes "\n")
 
 -- All lines
 

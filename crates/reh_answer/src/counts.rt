@@ -77,6 +77,18 @@ pub(crate) fn count_acked_tails(tails: &[CountedTail], most: u64) -> u64
     ledgers
 }
 
+/// How many of them are OPEN.
+pub(crate) fn count_open(tails: &[CountedTail]) -> u64
+    requires { tails_in tails.now ≤ 2 ^ 63 }
+    ensures { result ≡ count_tails_in tails.now (λ tail. tail.is_open) }
+{
+    let mut ledgers = 0;
+    for counted in tails {
+        ledgers += count_if(counted.tail.is_open, counted.count);
+    }
+    ledgers
+}
+
 /// Whether the bookie is to be stopped, and registered.
 fn is_stopped_up(bookies: &Bookies, stopped: &BookieSet, bookie: u16) -> bool
     ensures { result ≡ model.is_stopped_up (bookies_of bookies.now) (is_flagged stopped.now) bookie }

@@ -6,7 +6,9 @@ ghost use Rattle.reh_census.specs.Ledgers.{Ledger as LedgerValue};
 ghost use Rattle.reh_answer.specs.Facts as model;
 
 use crate::counts::{count_entries, count_unknown};
+use crate::keeps::keep_1_allows;
 use crate::tables::{Counts, most_copies, table_of};
+use crate::unasked::{Unasked, unasked_of};
 use crate::writers::{may_hold_a_new_ledger, unregistered_in, writable_stopped, writers_pause};
 use reh_census::{Answer, BookieSet, Bookies, Census, Judged, Names, Numbers, Question, answer_by};
 use reh_rules::{breaks_new_ledgers, numbers_of};
@@ -24,6 +26,8 @@ pub struct Facts {
     pub answer: Answer,
     /// Whether one of those that find no ensemble stands for new ledgers.
     pub breaks_new_ledgers: bool,
+    /// Whether the stop is a yes with `--keep 1`.
+    pub keep_1_allows: bool,
     /// How many entries have 0, 1, .. known copies now.
     pub copies_now: Counts,
     /// And without the bookies.
@@ -34,6 +38,8 @@ pub struct Facts {
     pub writers_pause: bool,
     /// Whether the bookies may be all that have copies of a ledger that nobody counted.
     pub may_hold_a_new_ledger: bool,
+    /// Which words of the question ask nothing.
+    pub unasked: Unasked,
 }
 
 /// What is said of a stop of these bookies, by the census: and whatever ledgers it counts, that holds of them.
@@ -67,10 +73,12 @@ pub fn facts_of(
         numbers,
         answer: answer_by(&numbers),
         breaks_new_ledgers: breaks_new_ledgers(alloc, bookies, question, stopped),
+        keep_1_allows: keep_1_allows(alloc, census, bookies, question, stopped),
         copies_now,
         copies_without,
         unregistered,
         writers_pause: writers_pause(bookies, stopped, census.tails()),
         may_hold_a_new_ledger: may_hold_a_new_ledger(census, writable),
+        unasked: unasked_of(census, bookies, question, &none),
     })
 }

@@ -1,18 +1,22 @@
 // Laws: of what is printed.
-ghost use Rattle.std.specs.Prelude.{◌≡◌, ℕ, Bool};
-ghost use Rattle.reh_census.specs.declared.answers.Answer.TheVariants.{No};
-ghost use Rattle.reh_census.specs.declared.answers.Rule.TheVariants.{Kept};
+ghost use Rattle.std.specs.Prelude.{◌≡◌, ℕ, Bool, [], true};
+ghost use Rattle.reh_census.specs.declared.censuses.Judged.{Judged};
 ghost use Rattle.reh_census.specs.declared.questions.Question.{Question};
-ghost use Rattle.reh_census.specs.Answers.{answer_on, numbers_on};
+ghost use Rattle.reh_census.specs.Answers.{answer_on, is_yes};
 ghost use Rattle.reh_census.specs.Bookies.{Bookies};
-ghost use Rattle.reh_census.specs.Counting.{Counting};
+ghost use Rattle.reh_census.specs.Counting.{Counting, not_judged};
+ghost use Rattle.reh_answer.specs.Facts as model;
 ghost use Rattle.reh_answer.specs.Texts as texts;
 
-/// Where the answer is that entries would have too few copies, `--keep 1` asks for less, and no entry breaks the rule then
-/// whatever the untold bookies hold.
+/// Where the verdict says that `--keep 1` allows the stop, the answer with `--keep 1` is a yes (`only`), and it says so of
+/// each entry's too few copies where that is so (`each`).
 pub fn keep_1_allows_it()
-    ensures { (counting : Counting) (bookies : Bookies) (question : Question) (not_judged count : ℕ) (stopped : ℕ
-        → Bool)
-        → answer_on counting bookies question not_judged stopped ≡ No Kept count
-        → (numbers_on counting bookies (texts.with_keep_1 question) not_judged stopped).kept.no ≡ 0 }
+    ensures only { (counting : Counting) (most : ℕ) (bookies : Bookies) (question : Question) (judged : Judged)
+        (stopped : ℕ → Bool)
+        → (texts.hint (model.facts_on counting most bookies question judged stopped).keep_1_allows ≡ [] → ⊥)
+        → is_yes (answer_on counting bookies (model.with_keep_1 question) (not_judged judged) stopped) ≡ true }
+    ensures each { (counting : Counting) (most : ℕ) (bookies : Bookies) (question : Question) (judged : Judged)
+        (stopped : ℕ → Bool)
+        → is_yes (answer_on counting bookies (model.with_keep_1 question) (not_judged judged) stopped) ≡ true
+        → texts.hint (model.facts_on counting most bookies question judged stopped).keep_1_allows ≡ texts.hint true }
 {}

@@ -4,6 +4,7 @@
 mod against;
 mod counts;
 mod facts;
+mod keeps;
 mod laws;
 mod members;
 mod notes;
@@ -13,6 +14,7 @@ mod rows;
 mod rules;
 mod tables;
 mod texts;
+mod unasked;
 mod verdicts;
 mod writers;
 
@@ -23,4 +25,5 @@ pub use notes::notes_of;
 pub use objects::json_of;
 pub use tables::Counts;
 pub use texts::{push_text, text_of};
+pub use unasked::Unasked;
 pub use verdicts::status_of;

@@ -3,6 +3,7 @@ ghost use Rattle.std.specs.Prelude.{◌≡◌, ◌++◌, IfOk, OnOk, codes, flat
 ghost use Rattle.reh_answer.specs.Texts as texts;
 
 use crate::facts::Facts;
+use crate::unasked::Unasked;
 use std::alloc::{AllocError, Global};
 
 /// The note that a bookie isn't registered.
@@ -33,6 +34,37 @@ fn note_if(
     Ok(())
 }
 
+/// Adds the notes on words that ask nothing.
+fn push_unasked(alloc: Global, notes: &mut Vec<String>, unasked: Unasked) -> Result<(), AllocError>
+    ensures { OnOk result (map string_bytes notes.new.items
+        ≡ map string_bytes notes.old.items ++ texts.unasked_notes unasked) }
+{
+    note_if(
+        alloc,
+        notes,
+        unasked.racks,
+        "--min-racks asks nothing here: no ledger is open, and --ensemble is not given",
+    )?;
+    note_if(
+        alloc,
+        notes,
+        unasked.racks_now,
+        "the bookies that can be written to stand in too few racks for --min-racks already, with or without this stop",
+    )?;
+    note_if(
+        alloc,
+        notes,
+        unasked.ensemble_now,
+        "new ledgers of the size that --ensemble gives find too few bookies already, with or without this stop",
+    )?;
+    note_if(
+        alloc,
+        notes,
+        unasked.writers,
+        "--ensemble and --min-racks ask nothing where --allow-blocked-writers is given",
+    )
+}
+
 /// The notes that apply, where the bookies have these names, by number.
 pub fn notes_of(alloc: Global, facts: &Facts, names: &[String]) -> Result<Vec<String>, AllocError>
     ensures { IfOk result (λ notes. map string_bytes notes.items
@@ -54,6 +86,7 @@ pub fn notes_of(alloc: Global, facts: &Facts, names: &[String]) -> Result<Vec<St
         facts.may_hold_a_new_ledger,
         "a ledger created since the input was taken may have all its copies on these bookies: make them read-only, take a new input, ask again",
     )?;
+    push_unasked(alloc, &mut notes, facts.unasked)?;
     Ok(notes)
 }
 

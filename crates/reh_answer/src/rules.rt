@@ -43,7 +43,8 @@ fn push_some(text: &mut String, label: &str, number: u64) -> Result<(), AllocErr
     write!(text, "{label}{number}")
 }
 
-/// Whether all is told of all entries, each has a known copy or no disk goes, and all ledgers were judged.
+/// Whether all is told of all entries, each has as many known copies as are to be kept or no disk goes, and all ledgers were
+/// judged.
 fn is_all_known(facts: &Facts) -> bool
     ensures { result ≡ texts.is_all_known facts.now }
 {

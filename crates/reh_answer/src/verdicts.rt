@@ -41,13 +41,14 @@ impl fmt::Display for Asked {
     }
 }
 
-/// What `--keep 1` would allow.
-fn hint(keep: Keep) -> &'static str
-    ensures { result.now ≡ texts.hint keep }
+/// What is said where the stop is a yes with `--keep 1`.
+fn hint(keep_1_allows: bool) -> &'static str
+    ensures { result.now ≡ texts.hint keep_1_allows }
 {
-    match keep {
-        Keep::Copies(0 | 1) => "",
-        Keep::AckQuorum | Keep::Copies(_) | Keep::AckLessOne => " (--keep 1 allows it)",
+    if keep_1_allows {
+        " (--keep 1 allows it)"
+    } else {
+        ""
     }
 }
 
@@ -97,13 +98,13 @@ fn push_no_ensemble(text: &mut String, new_ledgers: bool, number: u64) -> Result
 /// Adds which rule is broken, and how often.
 fn push_no(
     text: &mut String,
-    new_ledgers: bool,
+    facts: &Facts,
     keep: Keep,
     rule: Rule,
     number: u64,
 ) -> Result<(), AllocError>
-    ensures { OnOk result (string_bytes text.new
-        ≡ string_bytes text.old ++ texts.no_words new_ledgers keep rule number) }
+    ensures { OnOk result (string_bytes text.new ≡ string_bytes text.old
+        ++ texts.no_words facts.now.breaks_new_ledgers facts.now.keep_1_allows keep rule number) }
 {
     let noun = noun_of(rule);
     let amount = Amount { number, noun };
@@ -112,7 +113,7 @@ fn push_no(
         Rule::Readable => write!(text, "{amount} could not be read"),
         Rule::Kept => {
             let asked = Asked { keep, number };
-            let hint = hint(keep);
+            let hint = hint(facts.keep_1_allows);
             write!(
                 text,
                 "{amount} would have fewer than {asked}, and fewer than now{hint}"
@@ -122,7 +123,7 @@ fn push_no(
             text,
             "{amount} could not be recovered, or {whose} last entries would have fewer copies than now"
         ),
-        Rule::Writable => push_no_ensemble(text, new_ledgers, number),
+        Rule::Writable => push_no_ensemble(text, facts.breaks_new_ledgers, number),
         Rule::Replaceable => { write!(text, "{amount} would find no bookies for {whose} places") }
     }
 }
@@ -167,17 +168,16 @@ fn push_may(text: &mut String, keep: Keep, rule: Rule, number: u64) -> Result<()
     )
 }
 
-/// Adds how many entries may have their last copy on a disk that goes for good.
+/// Adds how many entries may have copies on disks that go for good, and have too few elsewhere.
 fn push_disks(text: &mut String, number: u64) -> Result<(), AllocError>
     ensures { OnOk result (string_bytes text.new ≡ string_bytes text.old ++ texts.disks_words number) }
 {
     let noun = Noun::Entry;
     let entries = Amount { number, noun };
     let has = has(number);
-    let whose = whose(number);
     write!(
         text,
-        "{entries} {has} no copy on a bookie that is up, and {whose} last one may be on a disk that goes for good"
+        "{entries} {has} fewer known copies than are to be kept, and a bookie that is down and goes for good may have more"
     )
 }
 
@@ -193,13 +193,13 @@ fn push_not_judged(text: &mut String, ledgers: u64, number: u64) -> Result<(), A
 /// Adds the answer.
 fn push_answer(text: &mut String, facts: &Facts, keep: Keep) -> Result<(), AllocError>
     ensures { OnOk result (string_bytes text.new ≡ string_bytes text.old
-        ++ texts.answer_words facts.now.breaks_new_ledgers keep facts.now.judged.ledgers facts.now.answer) }
+        ++ texts.answer_words facts.now keep) }
 {
     match facts.answer {
         Answer::Yes => text.push_str("yes"),
         Answer::No(rule, number) => {
             text.push_str("no, ")?;
-            push_no(text, facts.breaks_new_ledgers, keep, rule, number)
+            push_no(text, facts, keep, rule, number)
         }
         Answer::Unknown(rule, number) => {
             text.push_str("unknown, ")?;

@@ -43,6 +43,10 @@ abbrev open_on : List ℕ → ℕ → ℕ → ℕ → Tail
 open_on ensemble size write_quorum ack_quorum =
     record { size = size; write_quorum = write_quorum; ack_quorum = ack_quorum; is_open = true; ensemble = ensemble }
 
+abbrev recovering_on : List ℕ → ℕ → ℕ → ℕ → Tail
+recovering_on ensemble size write_quorum ack_quorum =
+    record { size = size; write_quorum = write_quorum; ack_quorum = ack_quorum; is_open = false; ensemble = ensemble }
+
 abbrev with_tail : List Counted → Tail → Census
 with_tail counted tail = record {
   entries = counted;
@@ -164,6 +168,14 @@ read_only_spare = refl
 empty_member : answer (with_tail [] (open_on (1 ∷ 2 ∷ 3 ∷ []) 3 3 2)) (bookies_but (1 ∷ 2 ∷ 3 ∷ 4 ∷ 5 ∷ []) [] [] (3 ∷ [])) plainly (1 ∷ []) ≡ No Recoverable 1
 empty_member = refl
 
+-- what was written to it since may be there alone
+refilled_alone : answer (with_tail [] (open_on (1 ∷ 2 ∷ []) 2 2 1)) (bookies_but (1 ∷ 2 ∷ 3 ∷ []) [] [] (1 ∷ [])) plainly (1 ∷ []) ≡ No Recoverable 1
+refilled_alone = refl
+
+-- and isn't, where two of three members acknowledge
+refilled : answer (with_tail [] (open_on (1 ∷ 2 ∷ 3 ∷ []) 3 3 2)) (bookies_but (1 ∷ 2 ∷ 3 ∷ 4 ∷ []) [] [] (3 ∷ [])) plainly (3 ∷ []) ≡ Yes
+refilled = refl
+
 -- and may be written to
 empty_spare : answer (with_tail (entries 4 (1 ∷ 2 ∷ 3 ∷ []) [] 3 2 ∷ []) (open_on (1 ∷ 2 ∷ 3 ∷ []) 3 3 2)) (bookies_but (1 ∷ 2 ∷ 3 ∷ 4 ∷ []) [] [] (4 ∷ [])) plainly (3 ∷ []) ≡ Yes
 empty_spare = refl
@@ -176,7 +188,29 @@ stuck = refl
 stuck_writer : answer (with_tail [] (open_on (1 ∷ 2 ∷ 3 ∷ []) 3 3 2)) (bookies_but (1 ∷ 2 ∷ 3 ∷ []) [] (3 ∷ []) []) (asking AckQuorum true false false) (2 ∷ []) ≡ No Writable 1
 stuck_writer = refl
 
+-- A ledger in recovery
+
+-- it writes at once, and finds no third bookie
+no_ensemble : answer (with_tail [] (recovering_on (1 ∷ 2 ∷ 3 ∷ []) 3 3 2)) (all_of (1 ∷ 2 ∷ 3 ∷ [])) plainly (3 ∷ []) ≡ No Recoverable 1
+no_ensemble = refl
+
+-- and may wait
+no_ensemble_allowed : answer (with_tail [] (recovering_on (1 ∷ 2 ∷ 3 ∷ []) 3 3 2)) (all_of (1 ∷ 2 ∷ 3 ∷ [])) (asking AckQuorum true false false) (3 ∷ []) ≡ Yes
+no_ensemble_allowed = refl
+
+-- a fourth takes its place
+some_ensemble : answer (with_tail [] (recovering_on (1 ∷ 2 ∷ 3 ∷ []) 3 3 2)) (all_of (1 ∷ 2 ∷ 3 ∷ 4 ∷ [])) plainly (3 ∷ []) ≡ Yes
+some_ensemble = refl
+
+-- where it finds none now either, a write set would lack acknowledgements
+stuck_recovery : answer (with_tail [] (recovering_on (1 ∷ 2 ∷ 3 ∷ []) 3 3 2)) (bookies_but (1 ∷ 2 ∷ 3 ∷ []) [] (3 ∷ []) []) plainly (2 ∷ []) ≡ No Recoverable 1
+stuck_recovery = refl
+
 -- For good
+
+-- where recovery may wait: what one bookie alone acknowledged goes with it
+acked_for_good : answer (with_tail [] (open_on (1 ∷ 2 ∷ []) 2 2 1)) (all_of (1 ∷ 2 ∷ 3 ∷ 4 ∷ [])) (asking AckQuorum true false true) (1 ∷ []) ≡ No Recoverable 1
+acked_for_good = refl
 
 -- a place that finds no other bookie
 no_place : answer (closed_on (entries 4 (1 ∷ 2 ∷ 3 ∷ []) [] 3 2 ∷ []) (1 ∷ 2 ∷ 3 ∷ [])) (all_of (1 ∷ 2 ∷ 3 ∷ [])) stop_for_good (3 ∷ []) ≡ No Replaceable 1
@@ -198,8 +232,12 @@ last_disk = refl
 last_disk_back : answer (closed_on (entries 4 [] [] 1 1 ∷ []) (1 ∷ [])) (bookies_but (1 ∷ 2 ∷ 3 ∷ []) (1 ∷ []) [] []) plainly (1 ∷ []) ≡ Yes
 last_disk_back = refl
 
--- a dead disk, of whose entries each has a copy elsewhere
-dead_disk : answer (closed_on (entries 4 (2 ∷ []) [] 2 2 ∷ []) (1 ∷ 2 ∷ [])) (bookies_but (1 ∷ 2 ∷ 3 ∷ []) (1 ∷ []) [] []) stop_for_good (1 ∷ []) ≡ Yes
+-- a disk may have the second copy of entries that are to keep two
+second_disk : answer (closed_on (entries 4 (2 ∷ []) [] 2 2 ∷ []) (1 ∷ 2 ∷ [])) (bookies_but (1 ∷ 2 ∷ 3 ∷ []) (1 ∷ []) [] []) stop_for_good (1 ∷ []) ≡ UnknownDisks 4
+second_disk = refl
+
+-- and of which one is enough
+dead_disk : answer (closed_on (entries 4 (2 ∷ []) [] 2 2 ∷ []) (1 ∷ 2 ∷ [])) (bookies_but (1 ∷ 2 ∷ 3 ∷ []) (1 ∷ []) [] []) (asking (Copies 1) false false true) (1 ∷ []) ≡ Yes
 dead_disk = refl
 
 -- a ledger that isn't closed could be recovered once the bookie is back

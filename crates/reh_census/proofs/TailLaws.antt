@@ -1,6 +1,6 @@
 -- Ledgers that aren't closed, writers, and places of fragments.
 use Rattle.std.proofs.Common.{◌≡◌, ◌∙◌, ◌+◌, ◌-◌, ◌%◌, ◌<◌, ◌≤◌, ◌&&◌, ◌||◌, not, cond, ℕ, zero, suc, Bool, true, false, List, [], ◌∷◌, Option, None, Some}
-use Rattle.std.proofs.Common.{refl, ap, sym, map, length, nat_lt, nat_le, arith, inl, inr}
+use Rattle.std.proofs.Common.{refl, ap, sym, map, length, nat_lt, nat_le, arith, ◌⊎◌, inl, inr, true≢false}
 use Rattle.std.specs.Prelude.{count_by, min, max, ◌==◌, slice_index}
 use Rattle.std.specs.List.{list_all, list_any, range_with_len}
 use Rattle.std.specs.Option.{option_map_or}
@@ -15,8 +15,8 @@ use Rattle.reh_census.specs.Bookies.{Bookies, is_holder, is_holder_left, is_up, 
 use Rattle.reh_census.specs.Copies.{IsPart, is_in}
 use Rattle.reh_census.specs.Rules.{copies_to_keep}
 use Rattle.reh_census.specs.Striping.{range}
-use Rattle.reh_census.specs.Tails.{is_new, takes_disk, needs_disk, members, quorum_of_recovery, members_to_keep, is_at_stake, keeps_members, all_keep_members, lacks_bookies, lacks_acks, is_stuck, breaks_recoverable, has_writable, racks, lacks_racks, loses_ensemble, breaks_writable, breaks_new_ledgers, spares, down, unplaced, breaks_replaceable}
-use Rattle.reh_census.proofs.CountLaws.{any-count, count-both, count-le}
+use Rattle.reh_census.specs.Tails.{is_new, takes_disk, needs_disk, members, quorum_of_recovery, may_wait, members_to_keep, takes_refilled, is_at_stake, keeps_members, all_keep_members, lacks_bookies, lacks_acks, is_stuck, lacks_ensemble, blocks_recovery, breaks_recoverable, has_writable, racks, lacks_racks, loses_ensemble, breaks_writable, breaks_new_ledgers, spares, down, unplaced, breaks_replaceable}
+use Rattle.reh_census.proofs.CountLaws.{any-count, cond_le, count-both, count-le, count-split, sum-le-plus}
 
 -- Tests
 
@@ -82,45 +82,141 @@ members-rest tail entry =
     ap (λ (f : ℕ → ℕ). map (λ i. slice_index tail.ensemble i) (map f (range 0 tail.write_quorum)))
     (λ i j. mod-add-mod entry tail.size j i)
 
+at_most : (n m : ℕ) → nat_le n m ≡ true → n ≤ m
+at_most n m is = grind (arith, nat_tests)
+
 enough : (w a held left both : ℕ) → a ≤ held → (w - a) + 1 ≤ left → held + left ≤ w + both → nat_lt 0 both ≡ true
 enough w a held left both acked there overlap = grind (arith, nat_tests)
-
--- so many stay, where so many are at stake
-stay : (stake least keep quorum left : ℕ) → least ≡ max keep quorum → quorum ≤ stake → nat_le (min stake least) left ≡ true → quorum ≤ left
-stay stake least keep quorum left is coverable keeps = grind (arith, nat_tests)
 
 first_fails : (a b : Bool) → (not a || b) ≡ false → a ≡ true
 first_fails true b fails = refl
 first_fails false b fails = sym fails
 
-pub acknowledged : (bookies : Bookies) (question : Question) (stopped holds : ℕ → Bool) (tail : Tail) (entry : ℕ)
-    → 1 ≤ tail.size
-    → length (members tail entry) ≡ tail.write_quorum
-    → tail.ack_quorum ≤ count_by holds (members tail entry)
-    → quorum_of_recovery tail.write_quorum tail.ack_quorum ≤ count_by (is_at_stake bookies question stopped) (members tail entry)
-    → question.allow_blocked_recovery ≡ false
-    → breaks_recoverable bookies question stopped tail ≡ false
-    → list_any (λ b. holds b && is_holder_left bookies stopped b) (members tail entry) ≡ true
-acknowledged bookies question stopped holds tail entry some whole acked coverable strict recovers =
-    let below : entry % tail.size < 0 + (tail.size - 0) = omega (arith, mod_below entry tail.size some) in
-    let all : all_keep_members bookies question stopped tail ≡ true =
-    first_fails (all_keep_members bookies question stopped tail)
-    (not question.allow_blocked_recovery && is_new (is_stuck bookies none tail) (is_stuck bookies stopped tail)) recovers in
-    let at_rest : keeps_members bookies question stopped tail (entry % tail.size) ≡ true =
-    list_all-at (keeps_members bookies question stopped tail) 0 (tail.size - 0) (entry % tail.size) (omega arith) below all in
-    let keeps : keeps_members bookies question stopped tail entry ≡ true =
-    ap (λ (ms : List ℕ). nat_le (min (count_by (is_at_stake bookies question stopped) ms) (members_to_keep question tail)) (count_by (is_holder_left bookies stopped) ms))
-    (sym (members-rest tail entry)) ∙ at_rest in
-    let least : members_to_keep question tail
-    ≡ max (copies_to_keep question.keep tail.ack_quorum) (quorum_of_recovery tail.write_quorum tail.ack_quorum) =
-    ap (λ a. cond a (copies_to_keep question.keep tail.ack_quorum) (max (copies_to_keep question.keep tail.ack_quorum) (quorum_of_recovery tail.write_quorum tail.ack_quorum))) strict in
-    let there : quorum_of_recovery tail.write_quorum tail.ack_quorum ≤ count_by (is_holder_left bookies stopped) (members tail entry) =
-    stay (count_by (is_at_stake bookies question stopped) (members tail entry)) (members_to_keep question tail) (copies_to_keep question.keep tail.ack_quorum)
-    (quorum_of_recovery tail.write_quorum tail.ack_quorum) (count_by (is_holder_left bookies stopped) (members tail entry)) least coverable keeps in
-    any-count (λ b. holds b && is_holder_left bookies stopped b) (members tail entry)
-    ∙ enough tail.write_quorum tail.ack_quorum (count_by holds (members tail entry)) (count_by (is_holder_left bookies stopped) (members tail entry))
-    (count_by (λ b. holds b && is_holder_left bookies stopped b) (members tail entry)) acked there
-    (omega (arith, whole, count-both holds (is_holder_left bookies stopped) (members tail entry)))
+-- either so many stay as a recovery needs, or all that are at stake
+stay : (stake least keep quorum left : ℕ) → least ≡ max keep quorum → nat_le (min stake least) left ≡ true
+    → (nat_le quorum left || nat_le stake left) ≡ true
+stay stake least keep quorum left is keeps = grind (arith, nat_tests)
+
+either_of : (a b : Bool) → (a || b) ≡ true → (a ≡ true) ⊎ (b ≡ true)
+either_of true b is = inl refl
+either_of false b is = inr is
+
+some_of : (n m k : ℕ) → n ≤ m + k → k ≡ 0 → nat_lt 0 n ≡ true → nat_lt 0 m ≡ true
+some_of n m k within none some = grind (arith, nat_tests)
+
+in_or_out : (h p q : Bool) → (h && q) ≡ true → ((h && p) || (q && not p)) ≡ true
+in_or_out true true q is = refl
+in_or_out true false true is = refl
+in_or_out true false false is = is
+in_or_out false p q is = absurd (true≢false (sym is))
+
+-- where no fewer pass a test than a wider one, what passes the wider one passes it
+all-of : (h p q : ℕ → Bool) (xs : List ℕ) → ((b : ℕ) → p b ≡ true → q b ≡ true) → count_by q xs ≤ count_by p xs
+    → list_any (λ b. h b && q b) xs ≡ true → list_any (λ b. h b && p b) xs ≡ true
+all-of h p q xs implies within any =
+    let inside : count_by p xs ≤ count_by (λ b. q b && p b) xs =
+    count-le p (λ b. q b && p b) xs (λ b is. and-both (q b) (p b) (implies b is) is) in
+    let others : count_by (λ b. q b && not (p b)) xs ≡ 0 = omega (arith, within, inside, count-split q p xs) in
+    let parts : count_by (λ b. h b && q b) xs ≤ count_by (λ b. h b && p b) xs + count_by (λ b. q b && not (p b)) xs =
+    sum-le-plus (λ b. cond (h b && q b) 1 0) (λ b. cond (h b && p b) 1 0) (λ b. cond (q b && not (p b)) 1 0) xs
+    (λ b. cond_le (h b && q b) (h b && p b) (q b && not (p b)) 1 (in_or_out (h b) (p b) (q b))) in
+    any-count (λ b. h b && p b) xs
+    ∙ some_of (count_by (λ b. h b && q b) xs) (count_by (λ b. h b && p b) xs) (count_by (λ b. q b && not (p b)) xs) parts others
+    (sym (any-count (λ b. h b && q b) xs) ∙ any)
+
+or-first : (a b : Bool) → a ≡ true → (a || b) ≡ true
+or-first true b is = refl
+or-first false b is = absurd (true≢false (sym is))
+
+stake_or_up : (h r d e s : Bool) → (h && (r || d)) ≡ true
+    → ((h && ((r && not e) || (d || (s && (r && e))))) || (h && (r && not s))) ≡ true
+stake_or_up true true d false s is = refl
+stake_or_up true true true true true is = refl
+stake_or_up true true false true true is = refl
+stake_or_up true true true true false is = refl
+stake_or_up true true false true false is = refl
+stake_or_up true false true e s is = refl
+stake_or_up true false false e s is = absurd (true≢false (sym is))
+stake_or_up false r d e s is = absurd (true≢false (sym is))
+
+none_of : (n : ℕ) → nat_lt 0 n ≡ false → n ≡ 0
+none_of n none = grind (arith, nat_tests)
+
+module _ (bookies : Bookies) (question : Question) (stopped holds : ℕ → Bool) (tail : Tail) (entry : ℕ)
+    (some : 1 ≤ tail.size)
+    (whole : length (members tail entry) ≡ tail.write_quorum)
+    (acked : tail.ack_quorum ≤ count_by holds (members tail entry))
+    (strict : may_wait question ≡ false)
+    (recovers : breaks_recoverable bookies question stopped tail ≡ false) where
+  kept : (nat_le (quorum_of_recovery tail.write_quorum tail.ack_quorum) (count_by (is_holder_left bookies stopped) (members tail entry))
+      || nat_le (count_by (is_at_stake bookies question stopped) (members tail entry)) (count_by (is_holder_left bookies stopped) (members tail entry))) ≡ true
+  kept =
+      let below : entry % tail.size < 0 + (tail.size - 0) = omega (arith, mod_below entry tail.size some) in
+      let all : all_keep_members bookies question stopped tail ≡ true =
+      first_fails (all_keep_members bookies question stopped tail)
+      (not question.allow_blocked_recovery && blocks_recovery bookies stopped tail) recovers in
+      let at_rest : keeps_members bookies question stopped tail (entry % tail.size) ≡ true =
+      list_all-at (keeps_members bookies question stopped tail) 0 (tail.size - 0) (entry % tail.size) (omega arith) below all in
+      let keeps : keeps_members bookies question stopped tail entry ≡ true =
+      ap (λ (ms : List ℕ). nat_le (min (count_by (is_at_stake bookies question stopped) ms) (members_to_keep question tail)) (count_by (is_holder_left bookies stopped) ms))
+      (sym (members-rest tail entry)) ∙ at_rest in
+      let least : members_to_keep question tail
+      ≡ max (copies_to_keep question.keep tail.ack_quorum) (quorum_of_recovery tail.write_quorum tail.ack_quorum) =
+      ap (λ a. cond a (copies_to_keep question.keep tail.ack_quorum) (max (copies_to_keep question.keep tail.ack_quorum) (quorum_of_recovery tail.write_quorum tail.ack_quorum))) strict in
+      stay (count_by (is_at_stake bookies question stopped) (members tail entry)) (members_to_keep question tail) (copies_to_keep question.keep tail.ack_quorum)
+      (quorum_of_recovery tail.write_quorum tail.ack_quorum) (count_by (is_holder_left bookies stopped) (members tail entry)) least keeps
+
+  pub acknowledged : list_any (λ b. holds b && is_at_stake bookies question stopped b) (members tail entry) ≡ true
+      → list_any (λ b. holds b && is_holder_left bookies stopped b) (members tail entry) ≡ true
+  acknowledged staked =
+      elim (either_of (nat_le (quorum_of_recovery tail.write_quorum tail.ack_quorum) (count_by (is_holder_left bookies stopped) (members tail entry)))
+      (nat_le (count_by (is_at_stake bookies question stopped) (members tail entry)) (count_by (is_holder_left bookies stopped) (members tail entry))) kept) [
+        | inl there ↦
+            any-count (λ b. holds b && is_holder_left bookies stopped b) (members tail entry)
+            ∙ enough tail.write_quorum tail.ack_quorum (count_by holds (members tail entry)) (count_by (is_holder_left bookies stopped) (members tail entry))
+            (count_by (λ b. holds b && is_holder_left bookies stopped b) (members tail entry)) acked
+            (at_most (quorum_of_recovery tail.write_quorum tail.ack_quorum) (count_by (is_holder_left bookies stopped) (members tail entry)) there)
+            (omega (arith, whole, count-both holds (is_holder_left bookies stopped) (members tail entry)))
+        | inr all ↦
+            all-of holds (is_holder_left bookies stopped) (is_at_stake bookies question stopped) (members tail entry)
+            (λ b is. or-first (is_holder bookies b) (takes_disk bookies question stopped b || takes_refilled bookies stopped b) (and-first (is_holder bookies b) (not (stopped b)) is))
+            (at_most (count_by (is_at_stake bookies question stopped) (members tail entry)) (count_by (is_holder_left bookies stopped) (members tail entry)) all)
+            staked
+      ]
+
+  left-up : (b : ℕ) → (holds b && is_holder_left bookies stopped b) ≡ true → (holds b && is_up bookies stopped b) ≡ true
+  left-up b =
+      and-wider_second (holds b) (is_holder_left bookies stopped b) (is_up bookies stopped b)
+      (and-wider_first (is_holder bookies b) (bookies.is_registered b) (not (stopped b)) (and-first (bookies.is_registered b) (not (bookies.is_empty b))))
+
+  up-by : (staked : Bool) → list_any (λ b. holds b && is_at_stake bookies question stopped b) (members tail entry) ≡ staked
+      → list_any (λ b. holds b && (bookies.is_registered b || takes_disk bookies question stopped b)) (members tail entry) ≡ true
+      → list_any (λ b. holds b && is_up bookies stopped b) (members tail entry) ≡ true
+  up-by true staked there =
+      list_any-implied (λ b. holds b && is_holder_left bookies stopped b) (λ b. holds b && is_up bookies stopped b) (members tail entry) left-up (acknowledged staked)
+  up-by false staked there =
+      let parts : count_by (λ b. holds b && (bookies.is_registered b || takes_disk bookies question stopped b)) (members tail entry)
+      ≤ count_by (λ b. holds b && is_up bookies stopped b) (members tail entry)
+      + count_by (λ b. holds b && is_at_stake bookies question stopped b) (members tail entry) =
+      omega (
+        arith,
+        sum-le-plus (λ b. cond (holds b && (bookies.is_registered b || takes_disk bookies question stopped b)) 1 0)
+            (λ b. cond (holds b && is_at_stake bookies question stopped b) 1 0) (λ b. cond (holds b && is_up bookies stopped b) 1 0) (members tail entry)
+            (λ b. cond_le (holds b && (bookies.is_registered b || takes_disk bookies question stopped b)) (holds b && is_at_stake bookies question stopped b)
+            (holds b && is_up bookies stopped b) 1
+            (stake_or_up (holds b) (bookies.is_registered b) (takes_disk bookies question stopped b) (bookies.is_empty b) (stopped b))),
+      ) in
+      any-count (λ b. holds b && is_up bookies stopped b) (members tail entry)
+      ∙ some_of (count_by (λ b. holds b && (bookies.is_registered b || takes_disk bookies question stopped b)) (members tail entry))
+      (count_by (λ b. holds b && is_up bookies stopped b) (members tail entry))
+      (count_by (λ b. holds b && is_at_stake bookies question stopped b) (members tail entry)) parts
+      (none_of (count_by (λ b. holds b && is_at_stake bookies question stopped b) (members tail entry))
+      (sym (any-count (λ b. holds b && is_at_stake bookies question stopped b) (members tail entry)) ∙ staked))
+      (sym (any-count (λ b. holds b && (bookies.is_registered b || takes_disk bookies question stopped b)) (members tail entry)) ∙ there)
+
+  pub acknowledged-up : list_any (λ b. holds b && (bookies.is_registered b || takes_disk bookies question stopped b)) (members tail entry) ≡ true
+      → list_any (λ b. holds b && is_up bookies stopped b) (members tail entry) ≡ true
+  acknowledged-up = up-by (list_any (λ b. holds b && is_at_stake bookies question stopped b) (members tail entry)) refl
 
 copies : (members : List ℕ) (holds left : ℕ → Bool) (write_quorum ack_quorum : ℕ) → length members ≡ write_quorum
     → ack_quorum ≤ write_quorum → ack_quorum ≤ count_by holds members
@@ -162,14 +258,19 @@ module _ (bookies : Bookies) (question : Question) (part whole : ℕ → Bool) (
       and-wider_second question.for_good (part b && not (bookies.is_registered b)) (whole b && not (bookies.is_registered b))
       (and-wider_first (part b) (whole b) (not (bookies.is_registered b)) (within b))
 
+  takes_refilled-part : (b : ℕ) → takes_refilled bookies part b ≡ true → takes_refilled bookies whole b ≡ true
+  takes_refilled-part b = and-wider_first (part b) (whole b) (bookies.is_registered b && bookies.is_empty b) (within b)
+
   is_at_stake-part : (b : ℕ) → is_at_stake bookies question part b ≡ true → is_at_stake bookies question whole b ≡ true
   is_at_stake-part b =
-      or-wider (is_holder bookies b) (takes_disk bookies question part b) (is_holder bookies b) (takes_disk bookies question whole b)
-      (λ is. is) (takes_disk-part b)
+      or-wider (is_holder bookies b) (takes_disk bookies question part b || takes_refilled bookies part b) (is_holder bookies b)
+      (takes_disk bookies question whole b || takes_refilled bookies whole b) (λ is. is)
+      (or-wider (takes_disk bookies question part b) (takes_refilled bookies part b) (takes_disk bookies question whole b) (takes_refilled bookies whole b)
+      (takes_disk-part b) (takes_refilled-part b))
 
   pub needs_disk-part : (class : Class) → needs_disk bookies question part class ≡ true → needs_disk bookies question whole class ≡ true
   needs_disk-part class =
-      and-wider_second (length class.known == 0) (list_any (takes_disk bookies question part) bookies.names) (list_any (takes_disk bookies question whole) bookies.names)
+      and-wider_second (nat_lt (length class.known) (copies_to_keep question.keep class.ack_quorum)) (list_any (takes_disk bookies question part) bookies.names) (list_any (takes_disk bookies question whole) bookies.names)
       (list_any-implied (takes_disk bookies question part) (takes_disk bookies question whole) bookies.names takes_disk-part)
 
   keeps_members-part : (tail : Tail) (entry : ℕ) → keeps_members bookies question whole tail entry ≡ true → keeps_members bookies question part tail entry ≡ true
@@ -209,15 +310,24 @@ module _ (bookies : Bookies) (question : Question) (part whole : ℕ → Bool) (
       → is_new (is_stuck bookies none tail) (is_stuck bookies whole tail) ≡ true
   newly_stuck-part tail = is_new-part (is_stuck bookies none tail) (is_stuck bookies part tail) (is_stuck bookies whole tail) (is_stuck-part tail)
 
+  lacks_ensemble-part : (tail : Tail) → lacks_ensemble bookies part tail ≡ true → lacks_ensemble bookies whole tail ≡ true
+  lacks_ensemble-part tail =
+      and-wider_second (not tail.is_open) (lacks_bookies bookies part tail.size) (lacks_bookies bookies whole tail.size) (lacks_bookies-part tail.size)
+
+  blocks_recovery-part : (tail : Tail) → blocks_recovery bookies part tail ≡ true → blocks_recovery bookies whole tail ≡ true
+  blocks_recovery-part tail =
+      or-wider (is_new (is_stuck bookies none tail) (is_stuck bookies part tail)) (is_new (lacks_ensemble bookies none tail) (lacks_ensemble bookies part tail))
+      (is_new (is_stuck bookies none tail) (is_stuck bookies whole tail)) (is_new (lacks_ensemble bookies none tail) (lacks_ensemble bookies whole tail))
+      (newly_stuck-part tail)
+      (is_new-part (lacks_ensemble bookies none tail) (lacks_ensemble bookies part tail) (lacks_ensemble bookies whole tail) (lacks_ensemble-part tail))
+
   pub breaks_recoverable-part : (tail : Tail) → breaks_recoverable bookies question part tail ≡ true → breaks_recoverable bookies question whole tail ≡ true
   breaks_recoverable-part tail =
-      or-wider (not (all_keep_members bookies question part tail))
-      (not question.allow_blocked_recovery && is_new (is_stuck bookies none tail) (is_stuck bookies part tail))
-      (not (all_keep_members bookies question whole tail))
-      (not question.allow_blocked_recovery && is_new (is_stuck bookies none tail) (is_stuck bookies whole tail))
+      or-wider (not (all_keep_members bookies question part tail)) (not question.allow_blocked_recovery && blocks_recovery bookies part tail)
+      (not (all_keep_members bookies question whole tail)) (not question.allow_blocked_recovery && blocks_recovery bookies whole tail)
       (not-implied (all_keep_members bookies question whole tail) (all_keep_members bookies question part tail) (all_keep_members-part tail))
-      (and-wider_second (not question.allow_blocked_recovery) (is_new (is_stuck bookies none tail) (is_stuck bookies part tail))
-      (is_new (is_stuck bookies none tail) (is_stuck bookies whole tail)) (newly_stuck-part tail))
+      (and-wider_second (not question.allow_blocked_recovery) (blocks_recovery bookies part tail) (blocks_recovery bookies whole tail)
+      (blocks_recovery-part tail))
 
   has_writable-part : (rack : ℕ) → has_writable bookies whole rack ≡ true → has_writable bookies part rack ≡ true
   has_writable-part rack =

@@ -1,7 +1,7 @@
 -- What a yes says of each entry, ledger and fragment.
-use Rattle.std.proofs.Common.{◌≡◌, ◌∙◌, ◌+◌, ◌-◌, ◌<◌, ◌≤◌, ◌&&◌, not, cond, ℕ, zero, suc, Bool, true, false, List, length, get_or, min, refl, ap, sym, subst, arith, inl, inr, nat_lt, true≢false}
+use Rattle.std.proofs.Common.{◌≡◌, ◌∙◌, ◌+◌, ◌-◌, ◌<◌, ◌≤◌, ◌&&◌, not, cond, ℕ, zero, suc, Bool, true, false, List, length, length-append, get_or, min, refl, ap, sym, subst, arith, inl, inr, nat_lt, true≢false}
 use Rattle.std.specs.Prelude.{◌==◌, count_by, sum_by}
-use Rattle.std.specs.List.{Contains, range_with_len}
+use Rattle.std.specs.List.{Contains, filter, list_any, range_with_len}
 use Rattle.std.proofs.lemmas.Bool.{cases_lt}
 use Rattle.std.proofs.lemmas.Bool.Decides.{nat_tests}
 use Rattle.std.proofs.lemmas.List.Sums.{sum_by_more_le}
@@ -15,7 +15,7 @@ use Rattle.reh_census.specs.Copies.{EachOnce, completion, in_order, is_in, left}
 use Rattle.reh_census.specs.Counting.{IsEntry, count_entries, count_fragment, count_ledger, count_tails, counting_of, tail_of}
 use Rattle.reh_census.specs.Ledgers.{Ledger, class_of}
 use Rattle.reh_census.specs.Rules.{breaks_kept, breaks_readable, copies_to_keep, falls, loses, may_fall, may_lose, not_sure}
-use Rattle.reh_census.specs.Tails.{breaks_new_ledgers, breaks_recoverable, breaks_replaceable, breaks_writable, needs_disk, spares, unplaced}
+use Rattle.reh_census.specs.Tails.{breaks_new_ledgers, breaks_recoverable, breaks_replaceable, breaks_writable, needs_disk, spares, takes_disk, unplaced}
 use Rattle.reh_census.proofs.AnswerLaws.{yes-zero}
 use Rattle.reh_census.proofs.CountLaws.{count-alike, count-cons}
 use Rattle.reh_census.proofs.InOrderLaws.{count-in_order, is_in-in_order}
@@ -72,6 +72,14 @@ some_left copies stay spared some = grind (arith, nat_tests)
 enough_left : (stay least : ℕ) → nat_lt stay least ≡ false → least ≤ stay
 enough_left stay least spared = grind (arith, nat_tests)
 
+first_not : (a b : Bool) → (a && b) ≡ false → b ≡ true → a ≡ false
+first_not true b none is = absurd (true≢false (sym is ∙ none))
+first_not false b none is = refl
+
+-- so many copies are left as are to be kept, where so many are known
+kept_all : (known copies keep stay : ℕ) → nat_lt known keep ≡ false → known ≤ copies → min copies keep ≤ stay → keep ≤ stay
+kept_all known copies keep stay short more kept = grind (arith, nat_tests)
+
 -- the members of an ensemble lack as many places in order as before
 unplaced-in_order : (bookies : Bookies) (stopped : ℕ → Bool) (ensemble : List ℕ) → EachOnce ensemble
     → unplaced bookies stopped (in_order ensemble) ≡ unplaced bookies stopped ensemble
@@ -114,9 +122,16 @@ module _ (holders : List ℕ) (ledgers : List Ledger) (bookies : Bookies) (quest
       (implied (breaks_kept (copies_to_keep question.keep g.ack_quorum) stopped (completion class holds)) (may_fall question.keep stopped class)
       (kept-some (copies_to_keep question.keep g.ack_quorum) stopped holds class) worst)
 
-  pub yes-disks : (g : Ledger) (f : Fragment) (entry : ℕ) → IsEntry ledgers g f entry
-      → needs_disk bookies question stopped (class_of holders g f entry) ≡ false
-  yes-disks g f entry is = entry-fails holders ledgers (needs_disk bookies question stopped) g f entry zero-all.disks is
+  pub yes-disks : (g : Ledger) (f : Fragment) (entry : ℕ) (holds : ℕ → Bool) → IsEntry ledgers g f entry
+      → list_any (takes_disk bookies question stopped) bookies.names ≡ true
+      → copies_to_keep question.keep g.ack_quorum ≤ left stopped (completion (class_of holders g f entry) holds)
+  yes-disks g f entry holds is goes_disk =
+      let class : Class = class_of holders g f entry in
+      let short : nat_lt (length class.known) (copies_to_keep question.keep g.ack_quorum) ≡ false =
+      first_not (nat_lt (length class.known) (copies_to_keep question.keep g.ack_quorum)) (list_any (takes_disk bookies question stopped) bookies.names)
+      (entry-fails holders ledgers (needs_disk bookies question stopped) g f entry zero-all.disks is) goes_disk in
+      kept_all (length class.known) (length (completion class holds)) (copies_to_keep question.keep g.ack_quorum) (left stopped (completion class holds)) short
+      (omega (arith, length-append class.known (filter holds class.untold))) (yes-kept g f entry holds is)
 
   tail-fails : (test : Tail → Bool) (g : Ledger) (tail : Tail) → count_tails ledgers test ≡ 0 → Contains ledgers g → Contains (tail_of g) tail
       → test tail ≡ false

@@ -19,10 +19,11 @@ is_new before after = after && not before
 abbrev pub takes_disk : Bookies → Question → (ℕ → Bool) → ℕ → Bool
 takes_disk bookies question stopped b = question.for_good && (stopped b && not (bookies.is_registered b))
 
--- an entry without a known copy, where a disk would go for good that may have the last one
+-- an entry with fewer known copies than are to be kept, where a disk would go for good that may have one more
 abbrev pub needs_disk : Bookies → Question → (ℕ → Bool) → Class → Bool
 needs_disk bookies question stopped class =
-    (length class.known == 0) && list_any (takes_disk bookies question stopped) bookies.names
+    nat_lt (length class.known) (copies_to_keep question.keep class.ack_quorum)
+    && list_any (takes_disk bookies question stopped) bookies.names
 
 -- Recoverable
 
@@ -34,15 +35,24 @@ members tail entry = map (λ i. slice_index tail.ensemble i) (write_set entry ta
 abbrev pub quorum_of_recovery : ℕ → ℕ → ℕ
 quorum_of_recovery write_quorum ack_quorum = write_quorum - ack_quorum + 1
 
+-- whether acknowledged entries may be out of a recovery's reach: until the bookies are back
+abbrev pub may_wait : Question → Bool
+may_wait question = question.allow_blocked_recovery && not question.for_good
+
 -- how many members of each write set are to stay
 abbrev pub members_to_keep : Question → Tail → ℕ
 members_to_keep question tail =
-    if question.allow_blocked_recovery then copies_to_keep question.keep tail.ack_quorum
+    if may_wait question then copies_to_keep question.keep tail.ack_quorum
     else max (copies_to_keep question.keep tail.ack_quorum) (quorum_of_recovery tail.write_quorum tail.ack_quorum)
 
--- whether the bookie may have copies that a recovery could read, now or once it is back
+-- whether a bookie that came back without its disk would be stopped, with what was written to it since
+abbrev pub takes_refilled : Bookies → (ℕ → Bool) → ℕ → Bool
+takes_refilled bookies stopped b = stopped b && (bookies.is_registered b && bookies.is_empty b)
+
+-- whether the bookie may have copies that count for a recovery: now, once it is back, or until it is stopped
 abbrev pub is_at_stake : Bookies → Question → (ℕ → Bool) → ℕ → Bool
-is_at_stake bookies question stopped b = is_holder bookies b || takes_disk bookies question stopped b
+is_at_stake bookies question stopped b =
+    is_holder bookies b || (takes_disk bookies question stopped b || takes_refilled bookies stopped b)
 
 -- whether the entry's write set keeps so many members, or all that it has
 abbrev pub keeps_members : Bookies → Question → (ℕ → Bool) → Tail → ℕ → Bool
@@ -70,11 +80,21 @@ abbrev pub is_stuck : Bookies → (ℕ → Bool) → Tail → Bool
 is_stuck bookies stopped tail =
     lacks_bookies bookies stopped tail.size && list_any (lacks_acks bookies stopped tail) (range 0 tail.size)
 
+-- whether a recovery that has begun finds no ensemble: it writes at once, and a write that fails makes it look for one
+abbrev pub lacks_ensemble : Bookies → (ℕ → Bool) → Tail → Bool
+lacks_ensemble bookies stopped tail = not tail.is_open && lacks_bookies bookies stopped tail.size
+
+-- whether the last entries can't be written again, and can now
+abbrev pub blocks_recovery : Bookies → (ℕ → Bool) → Tail → Bool
+blocks_recovery bookies stopped tail =
+    is_new (is_stuck bookies none tail) (is_stuck bookies stopped tail)
+    || is_new (lacks_ensemble bookies none tail) (lacks_ensemble bookies stopped tail)
+
 -- some write set keeps too few members, or the last entries can't be written again, and can now
 abbrev pub breaks_recoverable : Bookies → Question → (ℕ → Bool) → Tail → Bool
 breaks_recoverable bookies question stopped tail =
     not (all_keep_members bookies question stopped tail)
-    || (not question.allow_blocked_recovery && is_new (is_stuck bookies none tail) (is_stuck bookies stopped tail))
+    || (not question.allow_blocked_recovery && blocks_recovery bookies stopped tail)
 
 -- Writable
 

@@ -35,7 +35,8 @@ pub struct Numbers {
     pub writable: u64,
     /// Fragments.
     pub replaceable: u64,
-    /// Entries without a known copy, where bookies that are down would go for good: their disks may have the last copy.
+    /// Entries with fewer known copies than are to be kept, where bookies that are down would go for good: their disks may
+    /// have more.
     pub disks: u64,
     /// Ledgers that were not judged.
     pub not_judged: u64,

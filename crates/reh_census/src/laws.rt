@@ -7,7 +7,7 @@ ghost use Rattle.reh_census.specs.declared.ledgers.Fragment.{Fragment};
 ghost use Rattle.reh_census.specs.declared.questions.Keep.{Keep};
 ghost use Rattle.reh_census.specs.declared.questions.Question.{Question};
 ghost use Rattle.reh_census.specs.Answers.{IsAllZero, answer_by, answer_on, is_yes, numbers_on};
-ghost use Rattle.reh_census.specs.Bookies.{Bookies, is_holder_left};
+ghost use Rattle.reh_census.specs.Bookies.{Bookies, is_holder_left, is_up};
 ghost use Rattle.reh_census.specs.Copies.{EachOnce, IsPart, Rising, best, completion, in_order, is_in, left, worst};
 ghost use Rattle.reh_census.specs.Counting.{Census, IsCensus, IsEntry, census_sum, counting_in, counting_of, tail_of};
 ghost use Rattle.reh_census.specs.declared.answers.Numbers.{Numbers};
@@ -114,18 +114,28 @@ pub fn acknowledged_entries_keep_copies()
         + (tail.write_quorum - tail.ack_quorum) }
 {}
 
-/// An entry that its ack quorum's members have acknowledged has a copy on a member that is left, where its ledger could
-/// be recovered and still can, though nothing is told of the entry.
+/// An entry of a ledger that isn't closed, which at least its ack quorum's members have acknowledged, though nothing is told
+/// of it: where the stop doesn't break the ledger's recovery, and that may not wait, one of these members holds it and is
+/// left, if the copy of one of them is at stake (`left`). So one of them is up, if one is up now, or if the disk of one would
+/// go for good (`up`).
 pub fn acknowledged_entries_stay_readable()
-    ensures { (bookies : Bookies) (question : Question) (stopped holds : ℕ → Bool) (tail : Tail) (entry : ℕ)
+    ensures left { (bookies : Bookies) (question : Question) (stopped holds : ℕ → Bool) (tail : Tail) (entry : ℕ)
         → 1 ≤ tail.size
         → length (tails.members tail entry) ≡ tail.write_quorum
         → tail.ack_quorum ≤ count_by holds (tails.members tail entry)
-        → tails.quorum_of_recovery tail.write_quorum tail.ack_quorum
-        ≤ count_by (tails.is_at_stake bookies question stopped) (tails.members tail entry)
-        → question.allow_blocked_recovery ≡ false
+        → tails.may_wait question ≡ false
         → tails.breaks_recoverable bookies question stopped tail ≡ false
+        → list_any (λ b. holds b && tails.is_at_stake bookies question stopped b) (tails.members tail entry) ≡ true
         → list_any (λ b. holds b && is_holder_left bookies stopped b) (tails.members tail entry) ≡ true }
+    ensures up { (bookies : Bookies) (question : Question) (stopped holds : ℕ → Bool) (tail : Tail) (entry : ℕ)
+        → 1 ≤ tail.size
+        → length (tails.members tail entry) ≡ tail.write_quorum
+        → tail.ack_quorum ≤ count_by holds (tails.members tail entry)
+        → tails.may_wait question ≡ false
+        → tails.breaks_recoverable bookies question stopped tail ≡ false
+        → list_any (λ b. holds b && (bookies.is_registered b || tails.takes_disk bookies question stopped b))
+        (tails.members tail entry) ≡ true
+        → list_any (λ b. holds b && is_up bookies stopped b) (tails.members tail entry) ≡ true }
 {}
 
 /// A yes is where no rule is broken, and nothing is unknown.
@@ -170,8 +180,8 @@ pub fn a_census_gives_the_answer_of_its_ledgers()
 {}
 
 /// A yes spares each entry of the ledgers, whatever the untold bookies hold: one that has a copy keeps one, and each keeps as
-/// many as are to be kept, or all that it has; and where the disk of a bookie that is down goes for good, each has a known
-/// copy.
+/// many as are to be kept, or all that it has; and where the disk of a bookie that is down goes for good, each keeps as many
+/// as are to be kept.
 pub fn a_yes_spares_each_entry()
     ensures readable { (holders : List ℕ) (ledgers : List Ledger) (bookies : Bookies) (question : Question) (not_judged : ℕ)
         (stopped holds : ℕ → Bool) (g : Ledger) (fragment : Fragment) (entry : ℕ)
@@ -186,10 +196,12 @@ pub fn a_yes_spares_each_entry()
         → let copies = completion (class_of holders g fragment entry) holds in
         min (length copies) (copies_to_keep question.keep g.ack_quorum) ≤ left stopped copies }
     ensures disks { (holders : List ℕ) (ledgers : List Ledger) (bookies : Bookies) (question : Question) (not_judged : ℕ)
-        (stopped : ℕ → Bool) (g : Ledger) (fragment : Fragment) (entry : ℕ)
+        (stopped holds : ℕ → Bool) (g : Ledger) (fragment : Fragment) (entry : ℕ)
         → is_yes (answer_on (counting_of holders ledgers) bookies question not_judged stopped) ≡ true
         → IsEntry ledgers g fragment entry
-        → tails.needs_disk bookies question stopped (class_of holders g fragment entry) ≡ false }
+        → list_any (tails.takes_disk bookies question stopped) bookies.names ≡ true
+        → copies_to_keep question.keep g.ack_quorum
+        ≤ left stopped (completion (class_of holders g fragment entry) holds) }
 {}
 
 /// A yes spares each ledger: one that isn't closed can be recovered, and its writer goes on, as far as that is so now; and

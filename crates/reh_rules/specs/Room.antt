@@ -26,10 +26,20 @@ abbrev pub breaks_new_ledgers : Room → Question → Bool
 breaks_new_ledgers room question =
     not question.allow_blocked_writers && option_map_or (loses_ensemble room) question.ensemble false
 
--- a ledger breaks a rule, where its last entries can't be written again, or can
-abbrev pub breaks_recoverable : Bookies → Question → (ℕ → Bool) → Bool → Tail → Bool
-breaks_recoverable bookies question stopped newly_stuck tail =
-    not (tails.all_keep_members bookies question stopped tail) || (not question.allow_blocked_recovery && newly_stuck)
+-- a recovery that has begun finds no ensemble, where so many bookies may be written to
+abbrev pub lacks_ensemble : ℕ → Tail → Bool
+lacks_ensemble writable_bookies tail = not tail.is_open && nat_lt writable_bookies tail.size
+
+-- the last entries can't be written again, and can now; some entry can't be written, and could, or that isn't so
+abbrev pub blocks_recovery : Room → Bool → Tail → Bool
+blocks_recovery room newly_stuck tail =
+    newly_stuck || tails.is_new (lacks_ensemble room.writable_now tail) (lacks_ensemble room.writable_then tail)
+
+-- a ledger breaks a rule
+abbrev pub breaks_recoverable : Bookies → Question → (ℕ → Bool) → Room → Bool → Tail → Bool
+breaks_recoverable bookies question stopped room newly_stuck tail =
+    not (tails.all_keep_members bookies question stopped tail)
+    || (not question.allow_blocked_recovery && blocks_recovery room newly_stuck tail)
 
 abbrev pub breaks_writable : Question → Room → Bool → Tail → Bool
 breaks_writable question room newly_stuck tail =

@@ -1,5 +1,5 @@
 // How many entries of a census break the rules.
-ghost use Rattle.std.specs.Prelude.{◌≡◌, ◌==◌, ◌^◌, ◌≤◌, ◌&&◌, not, nat_lt, min, cond, length, count_by};
+ghost use Rattle.std.specs.Prelude.{◌≡◌, ◌^◌, ◌≤◌, ◌&&◌, not, nat_lt, min, cond, length, count_by};
 ghost use Rattle.reh_census.specs.Bookies.{is_flagged};
 ghost use Rattle.reh_census.specs.Counting.{count_in, entries_in};
 ghost use Rattle.reh_census.specs.Rules as rules;
@@ -66,11 +66,11 @@ fn not_sure(every: bool, some: bool) -> bool
     some && !every
 }
 
-/// Whether there is no known copy, where disks go for good.
-fn is_on_disk(known: usize, takes_disk: bool) -> bool
-    ensures { result ≡ ((known == 0) && takes_disk) }
+/// Whether fewer copies are known than are to be kept, where disks go for good.
+fn is_on_disk(known: usize, keep: u64, takes_disk: bool) -> bool
+    ensures { result ≡ (nat_lt known keep && takes_disk) }
 {
-    known == 0 && takes_disk
+    (known as u64) < keep && takes_disk
 }
 
 /// Which rules an entry of this class breaks, where disks go for good or not.
@@ -89,7 +89,7 @@ pub fn breaks_of(keep: Keep, takes_disk: bool, stopped: &BookieSet, class: &Clas
     let may_fall = is_broken(left, known + stopped_untold, least);
     let may_be_lost = not_sure(lost, may_lose);
     let may_be_fallen = not_sure(fallen, may_fall);
-    let on_disk = is_on_disk(known, takes_disk);
+    let on_disk = is_on_disk(known, least, takes_disk);
     Breaks {
         lost,
         may_be_lost,

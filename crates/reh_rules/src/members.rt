@@ -44,11 +44,20 @@ fn takes_disk(bookies: &Bookies, question: &Question, stopped: &BookieSet, booki
     question.for_good && (stopped.contains(bookie) && !bookies.is_registered(bookie))
 }
 
-/// Whether the bookie may have copies that a recovery could read, now or once it is back.
+/// Whether the bookie came back without its disk, and would be stopped with what was written to it since.
+fn takes_refilled(bookies: &Bookies, stopped: &BookieSet, bookie: u16) -> bool
+    ensures { result ≡ model.takes_refilled (bookies_of bookies.now) (is_flagged stopped.now) bookie }
+{
+    stopped.contains(bookie) && (bookies.is_registered(bookie) && bookies.is_empty(bookie))
+}
+
+/// Whether the bookie may have copies that count for a recovery: now, once it is back, or until it is stopped.
 fn is_at_stake(bookies: &Bookies, question: &Question, stopped: &BookieSet, bookie: u16) -> bool
     ensures { result ≡ model.is_at_stake (bookies_of bookies.now) question.now (is_flagged stopped.now) bookie }
 {
-    bookies.is_holder(bookie) || takes_disk(bookies, question, stopped, bookie)
+    bookies.is_holder(bookie)
+        || (takes_disk(bookies, question, stopped, bookie)
+            || takes_refilled(bookies, stopped, bookie))
 }
 
 /// Whether some bookie's disk would go for good with it.

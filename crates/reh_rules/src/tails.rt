@@ -21,13 +21,20 @@ pub struct Tails {
     pub writable: u64,
 }
 
+/// Whether acknowledged entries may be out of a recovery's reach: until the bookies are back.
+fn may_wait(question: &Question) -> bool
+    ensures { result ≡ model.may_wait question.now }
+{
+    question.allow_blocked_recovery && !question.for_good
+}
+
 /// How many members of each write set are to stay.
 fn members_to_keep(question: &Question, tail: &Tail) -> u64
     requires { IsTail tail.now }
     ensures { result ≡ model.members_to_keep question.now tail.now }
 {
     let copies = copies_to_keep(question.keep, tail.ack_quorum);
-    if question.allow_blocked_recovery {
+    if may_wait(question) {
         copies
     } else {
         copies.max(tail.write_quorum - tail.ack_quorum + 1)
@@ -120,19 +127,35 @@ fn is_newly_stuck(
         && !is_stuck_now(bookies, none, room.writable_now, tail)
 }
 
-/// Whether the ledger's recovery is broken, where its last entries can't be written again, or can.
+/// Whether a recovery that has begun finds no ensemble, where so many bookies may be written to.
+fn lacks_ensemble(writable: u64, tail: &Tail) -> bool
+    ensures { result ≡ rooms.lacks_ensemble writable tail.now }
+{
+    !tail.is_open && writable < tail.size
+}
+
+/// Whether the ledger's last entries can't be written again, and can now.
+fn blocks_recovery(room: &Room, newly_stuck: bool, tail: &Tail) -> bool
+    ensures { result ≡ rooms.blocks_recovery room.now newly_stuck tail.now }
+{
+    newly_stuck
+        || (lacks_ensemble(room.writable_then, tail) && !lacks_ensemble(room.writable_now, tail))
+}
+
+/// Whether the ledger's recovery is broken.
 fn breaks_recoverable(
     bookies: &Bookies,
     question: &Question,
     stopped: &BookieSet,
+    room: &Room,
     newly_stuck: bool,
     tail: &Tail,
 ) -> bool
     requires { IsTail tail.now }
-    ensures { result ≡ rooms.breaks_recoverable (bookies_of bookies.now) question.now (is_flagged stopped.now) newly_stuck tail.now }
+    ensures { result ≡ rooms.breaks_recoverable (bookies_of bookies.now) question.now (is_flagged stopped.now) room.now newly_stuck tail.now }
 {
     !all_keep_members(bookies, question, stopped, tail)
-        || (!question.allow_blocked_recovery && newly_stuck)
+        || (!question.allow_blocked_recovery && blocks_recovery(room, newly_stuck, tail))
 }
 
 /// Whether its writer is.
@@ -163,7 +186,7 @@ pub(crate) fn count_tails(
     for counted in tails {
         let tail = &counted.tail;
         let stuck = is_newly_stuck(bookies, none, stopped, room, tail);
-        let unrecoverable = breaks_recoverable(bookies, question, stopped, stuck, tail);
+        let unrecoverable = breaks_recoverable(bookies, question, stopped, room, stuck, tail);
         let unwritable = breaks_writable(question, room, stuck, tail);
         recoverable += count_if(unrecoverable, counted.count);
         writable += count_if(unwritable, counted.count);

@@ -15,7 +15,7 @@ use Rattle.reh_census.specs.Copies.{IsPart, is_in, left}
 use Rattle.reh_census.specs.Counting.{Census, count_ensembles_in, count_in, count_tails_in, counting_in, not_judged}
 use Rattle.reh_census.specs.Rules.{copies_to_keep, falls, loses, may_fall, may_lose, not_sure}
 use Rattle.reh_census.specs.Striping.{index_at, range}
-use Rattle.reh_census.specs.Tails.{IsTail, all_keep_members, breaks_new_ledgers, breaks_recoverable, breaks_replaceable, breaks_writable, is_at_stake, is_new, is_stuck, keeps_members, lacks_acks, lacks_bookies, lacks_racks, loses_ensemble, members, members_to_keep, needs_disk, takes_disk, unplaced}
+use Rattle.reh_census.specs.Tails.{IsTail, all_keep_members, blocks_recovery, breaks_new_ledgers, breaks_recoverable, breaks_replaceable, breaks_writable, is_at_stake, is_new, is_stuck, keeps_members, lacks_acks, lacks_bookies, lacks_ensemble, lacks_racks, loses_ensemble, members, members_to_keep, needs_disk, takes_disk, takes_refilled, unplaced}
 use Rattle.reh_census.specs.declared.bookies.Bookie.{Bookie}
 use Rattle.reh_census.specs.declared.censuses.CountedEnsemble.{CountedEnsemble}
 use Rattle.reh_census.specs.declared.censuses.CountedTail.{CountedTail}
@@ -209,7 +209,8 @@ module _ (base stopped among : ℕ → Bool) (part : IsPart base stopped) (withi
     at-stake entry =
         count-members (is_at_stake bookies question stopped) entry
         ∙ (λ i. count_by (λ r. let b = slice_index tail.ensemble (index_at entry tail.size r) in
-        is_holder bookies b || (question.for_good && (same-at b (member-off entry r) i && not (bookies.is_registered b)))) (range 0 tail.write_quorum))
+        is_holder bookies b || ((question.for_good && (same-at b (member-off entry r) i && not (bookies.is_registered b)))
+        || (same-at b (member-off entry r) i && (bookies.is_registered b && bookies.is_empty b)))) (range 0 tail.write_quorum))
         ∙ sym (count-members (is_at_stake bookies question base) entry)
 
     holders-left : (entry : ℕ)
@@ -239,11 +240,15 @@ module _ (base stopped among : ℕ → Bool) (part : IsPart base stopped) (withi
         → breaks_recoverable bookies question stopped tail ≡ true → breaks_recoverable bookies question base tail ≡ true
     recoverable-same room breaks =
         let blocked : Bool = not question.allow_blocked_recovery in
-        let quiet : (blocked && is_new (is_stuck bookies none tail) (is_stuck bookies stopped tail)) ≡ false =
-        ap (λ t. blocked && t) (not_new (is_stuck bookies none tail) (is_stuck bookies stopped tail) (not_stuck room)) ∙ and_false blocked in
-        wider (not (all_keep_members bookies question base tail)) (blocked && is_new (is_stuck bookies none tail) (is_stuck bookies base tail))
+        let found : lacks_ensemble bookies stopped tail ≡ false = ap (λ t. not tail.is_open && t) room ∙ and_false (not tail.is_open) in
+        let quiet : (blocked && blocks_recovery bookies stopped tail) ≡ false =
+        (λ i. blocked
+        && (not_new (is_stuck bookies none tail) (is_stuck bookies stopped tail) (not_stuck room) i
+        || not_new (lacks_ensemble bookies none tail) (lacks_ensemble bookies stopped tail) found i))
+        ∙ and_false blocked in
+        wider (not (all_keep_members bookies question base tail)) (blocked && blocks_recovery bookies base tail)
         (sym (ap (λ t. not t) keeps-same)
-        ∙ or_false (not (all_keep_members bookies question stopped tail)) (blocked && is_new (is_stuck bookies none tail) (is_stuck bookies stopped tail)) quiet breaks)
+        ∙ or_false (not (all_keep_members bookies question stopped tail)) (blocked && blocks_recovery bookies stopped tail) quiet breaks)
 
 -- a writer finds an ensemble, where there is room
 fresh : (before after : Bool) → after ≡ false → is_new before after ≡ false
@@ -274,7 +279,9 @@ no-places census bookies question stopped l =
 
 no-disk : (bookies : Bookies) (question : Question) (stopped : ℕ → Bool) (class : Class)
     → list_any (takes_disk bookies question stopped) bookies.names ≡ false → needs_disk bookies question stopped class ≡ false
-no-disk bookies question stopped class off = ap (λ t. (length class.known == 0) && t) off ∙ and_false (length class.known == 0)
+no-disk bookies question stopped class off =
+    ap (λ t. nat_lt (length class.known) (copies_to_keep question.keep class.ack_quorum) && t) off
+    ∙ and_false (nat_lt (length class.known) (copies_to_keep question.keep class.ack_quorum))
 
 pub near-numbers : (census near : Census) (bookies : Bookies) (question : Question) (not_judged : ℕ) (stopped : ℕ → Bool)
     → IsEnough census near bookies question stopped
@@ -487,7 +494,7 @@ keeps-none : (bookies : Bookies) (question : Question) (tail : Tail) → all_kee
 keeps-none bookies question tail =
     all_pass (keeps_members bookies question none tail) 0 (tail.size - 0)
     (λ entry from below.
-    (λ i. nat_le (min (count_by (λ b. (ap (λ t. is_holder bookies b || t) (nobody question bookies b) ∙ or_never (is_holder bookies b)) i) (members tail entry))
+    (λ i. nat_le (min (count_by (λ b. (ap (λ t. is_holder bookies b || (t || takes_refilled bookies none b)) (nobody question bookies b) ∙ or_never (is_holder bookies b)) i) (members tail entry))
     (members_to_keep question tail))
     (count_by (λ b. and_true (is_holder bookies b) i) (members tail entry)))
     ∙ keeps-all (count_by (is_holder bookies) (members tail entry)) (members_to_keep question tail))
@@ -495,7 +502,8 @@ keeps-none bookies question tail =
 recoverable-none : (bookies : Bookies) (question : Question) (tail : Tail) → breaks_recoverable bookies question none tail ≡ false
 recoverable-none bookies question tail =
     (λ i. not (keeps-none bookies question tail i)
-    || (not question.allow_blocked_recovery && itself-not-new (is_stuck bookies none tail) i))
+    || (not question.allow_blocked_recovery
+    && (itself-not-new (is_stuck bookies none tail) i || itself-not-new (lacks_ensemble bookies none tail) i)))
     ∙ and_false (not question.allow_blocked_recovery)
 
 loses_none : (bookies : Bookies) (question : Question) (size : ℕ) → loses_ensemble bookies question none size ≡ false

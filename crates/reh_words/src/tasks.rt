@@ -434,9 +434,8 @@ fn with_question<'a>(alloc: Global, command: Command<'a>) -> Result<Command<'a>,
         .long("keep")
         .value_name("COPIES")
         .value_parser(KEEPS)
-        .help(
-            "How many copies each entry is to keep, or ack-1; by default its ledger's ack quorum",
-        );
+        .help("How many copies each entry is to keep, or ack-1; by default its ledger's ack quorum")
+        .conflicts_with("allow-under-ack")?;
     let ensemble = Arg::new(alloc, "ensemble")
         .long("ensemble")
         .value_name("SIZE")

@@ -26,6 +26,7 @@ returns-clause-census c =
       numbers = c.numbers_of-numbers.ensures.census i;
       answer = (c.answer_by.ensures ∙ ap (λ (n : Numbers). answer_by n) c.numbers_of-numbers.ensures.census) i;
       breaks_new_ledgers = c.breaks_new_ledgers.ensures i;
+      keep_1_allows = c.keep_1_allows.ensures i;
       copies_now =
           (c.in_ok-copies_now.ensures
           ∙ (λ k. model.table counting (λ b. is_flagged (c.none-none.ensures k) b) (most k))) i;
@@ -37,6 +38,7 @@ returns-clause-census c =
       may_hold_a_new_ledger =
           (c.may_hold_a_new_ledger.ensures
           ∙ ap (λ (n : ℕ). model.may_hold_a_new_ledger counting n) c.writable_stopped-writable.ensures) i;
+      unasked = c.unasked_of.ensures i;
     }
 
 pub returns-clause-ledgers : goal.returns-clause-ledgers

@@ -1,4 +1,4 @@
 use Rattle.reh_answer.proofs.verdicts.push_disks.Goals as goal
 
 pub returns : goal.returns
-returns c = rw (← c.has-has.ensures, ← c.whose-whose.ensures) c.write.ensures.bytes
+returns c = rw (← c.has-has.ensures) c.write.ensures.bytes

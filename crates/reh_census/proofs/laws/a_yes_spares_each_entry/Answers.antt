@@ -10,5 +10,5 @@ returns-clause-kept c holders ledgers bookies question not_judged stopped holds 
     yes-kept holders ledgers bookies question not_judged stopped goes g fragment entry holds
 
 pub returns-clause-disks : goal.returns-clause-disks
-returns-clause-disks c holders ledgers bookies question not_judged stopped g fragment entry goes =
-    yes-disks holders ledgers bookies question not_judged stopped goes g fragment entry
+returns-clause-disks c holders ledgers bookies question not_judged stopped holds g fragment entry goes =
+    yes-disks holders ledgers bookies question not_judged stopped goes g fragment entry holds

@@ -1,5 +1,5 @@
 use Rattle.std.proofs.Common.{◌≡◌, ◌∙◌, ◌+◌, ◌-◌, ◌&&◌, not, ℕ, Bool, List, ap, sym, length, nat_lt, arith}
-use Rattle.std.specs.Prelude.{count_by, min, ◌==◌}
+use Rattle.std.specs.Prelude.{count_by, min}
 use Rattle.reh_census.specs.declared.classes.Class.{Class}
 use Rattle.reh_census.specs.Bookies.{is_flagged}
 use Rattle.reh_census.specs.Copies.{left}
@@ -38,5 +38,5 @@ returns c =
       may_be_lost = (c.not_sure-may_be_lost.ensures ∙ (λ j. may_be_lost j && not (lost j))) i;
       fallen = fallen i;
       may_be_fallen = (c.not_sure-may_be_fallen.ensures ∙ (λ j. may_be_fallen j && not (fallen j))) i;
-      on_disk = (c.is_on_disk-on_disk.ensures ∙ (λ j. (many j == 0) && c.args.takes_disk)) i;
+      on_disk = (c.is_on_disk-on_disk.ensures ∙ (λ j. nat_lt (many j) (least j) && c.args.takes_disk)) i;
     }

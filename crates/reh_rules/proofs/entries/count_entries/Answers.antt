@@ -63,5 +63,5 @@ overflow_add-on_disk c =
       c.count_if-on_disk.ensures,
       some_count c.breaks_of-breaks.result.on_disk c.counted-item.result.count,
       ap (λ (x : Counted). x.count) c.counted-item.is,
-      counted-fits c.args.census.now (λ x. x.count) (λ x. (on_disk c.args.takes_disk) x.class) c.loop-counted.counted-index c.counted-item.result c.loop-counted-test.true,
+      counted-fits c.args.census.now (λ x. x.count) (λ x. (on_disk c.args.keep c.args.takes_disk) x.class) c.loop-counted.counted-index c.counted-item.result c.loop-counted-test.true,
     )

@@ -12,5 +12,5 @@ invariant-loop-counted l = record {
   may_be_lost : l.may_be_lost ≡ count_in (take l.counted-index l.census) (rules.not_sure (rules.loses (is_flagged l.stopped)) (rules.may_lose (is_flagged l.stopped)));
   fallen : l.fallen ≡ count_in (take l.counted-index l.census) (rules.falls l.keep (is_flagged l.stopped));
   may_be_fallen : l.may_be_fallen ≡ count_in (take l.counted-index l.census) (rules.not_sure (rules.falls l.keep (is_flagged l.stopped)) (rules.may_fall l.keep (is_flagged l.stopped)));
-  on_disk : l.on_disk ≡ count_in (take l.counted-index l.census) (on_disk l.takes_disk);
+  on_disk : l.on_disk ≡ count_in (take l.counted-index l.census) (on_disk l.keep l.takes_disk);
 }

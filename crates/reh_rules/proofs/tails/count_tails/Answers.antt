@@ -54,7 +54,7 @@ loop-counted-preserved c =
     let written : CountedTail → ℕ = λ x. cond (breaks_writable bookies question s x.tail) x.count 0 in
     let unrecoverable : c.breaks_recoverable-unrecoverable.result ≡ breaks_recoverable bookies question s tail =
     c.breaks_recoverable-unrecoverable.ensures
-    ∙ ap (λ stuck. rooms.breaks_recoverable bookies question s stuck tail) c.is_newly_stuck-stuck.ensures in
+    ∙ (λ i. rooms.breaks_recoverable bookies question s (c.requires.room i) (c.is_newly_stuck-stuck.ensures i) tail) in
     let unwritable : c.breaks_writable-unwritable.result ≡ breaks_writable bookies question s tail =
     c.breaks_writable-unwritable.ensures
     ∙ (λ i. rooms.breaks_writable question (c.requires.room i) (c.is_newly_stuck-stuck.ensures i) tail) in
