@@ -58,8 +58,8 @@ fn without_new(question: &Question) -> Question
     }
 }
 
-/// How much of a ledger speaks against the stop.
-pub(crate) fn weight_of(alloc: Global, ledger: &Ledger, stop: &Stop<'_>) -> Result<u64, TallyFault>
+/// How much of a ledger speaks against the stop, by a census of it.
+fn counted_weight(alloc: Global, ledger: &Ledger, stop: &Stop<'_>) -> Result<u64, TallyFault>
     ensures weight { IfOk result (λ weight. weight ≡ model.weight
         (bookies_of stop.now.bookies.now) stop.now.question.now
         (is_flagged stop.now.stopped.now) stop.now.answer.now ledger.now) }
@@ -75,6 +75,21 @@ pub(crate) fn weight_of(alloc: Global, ledger: &Ledger, stop: &Stop<'_>) -> Resu
     let question = without_new(stop.question);
     let numbers = numbers_of(alloc, &census, stop.bookies, &question, stop.stopped);
     Ok(weight_by(stop.answer, &numbers))
+}
+
+/// How much of a ledger speaks against the stop: nothing against a yes.
+pub(crate) fn weight_of(alloc: Global, ledger: &Ledger, stop: &Stop<'_>) -> Result<u64, TallyFault>
+    ensures weight { IfOk result (λ weight. weight ≡ model.weight
+        (bookies_of stop.now.bookies.now) stop.now.question.now
+        (is_flagged stop.now.stopped.now) stop.now.answer.now ledger.now) }
+    ensures too_many { result ≡ Err TooMany → AreFew (holders (bookies_of stop.now.bookies.now)) (ledger.now ∷ []) → ⊥ }
+{
+    match stop.answer {
+        Answer::Yes | Answer::NotJudged(_) => Ok(0),
+        Answer::No(..) | Answer::Unknown(..) | Answer::UnknownDisks(_) => {
+            counted_weight(alloc, ledger, stop)
+        }
+    }
 }
 
 /// Whether the rule counts entries.

@@ -1,2 +1,4 @@
+pub mod AssumedLaws
+pub mod ByLedgerLaws
 pub mod NamesLemmas
 pub mod RangeLaws

@@ -1,4 +1,6 @@
+pub mod ByLedger
 pub mod Cluster
+pub mod Empties
 pub mod Inside
 pub mod Ledgers
 pub mod Shown

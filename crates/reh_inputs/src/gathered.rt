@@ -1,13 +1,19 @@
 // What inputs show together, as a census counts it.
-ghost use Rattle.std.specs.Prelude.{◌≡◌, ◌≤◌, ◌^◌, ◌++◌, ◌∷◌, [], length, map, nat_eq, IfOk, OnOk};
-ghost use Rattle.std.specs.List.{flat_map, IsDistinct};
+ghost use Rattle.std.specs.Prelude.{◌≡◌, ◌≤◌, ◌^◌, All, ◌++◌, ◌∷◌, [], length, map, nat_eq, IfOk, OnOk};
+ghost use Rattle.std.specs.List.{flat_map, list_any, IsDistinct};
 ghost use Rattle.reh_census.specs.Bookies.{bookies_of, holders};
 ghost use Rattle.reh_census.specs.Counting.{IsCensus, count_in, entries_in};
 ghost use Rattle.reh_census.specs.Order.{IsInOrder};
+ghost use Rattle.std.specs.BTreeMap.{get};
+ghost use Rattle.std.specs.Ordering.{nat_cmp};
+ghost use Rattle.reh_inputs.specs.ByLedger.{AreOf};
+ghost use Rattle.reh_inputs.specs.Empties.{EmptyHoldNothing};
 ghost use Rattle.reh_inputs.specs.Gathered as model;
 ghost use Rattle.reh_inputs.specs.United.{united};
 
+use crate::by_ledger::{ByLedger, group_by_ledger};
 use crate::cluster::{Cluster, ClusterFault};
+use crate::empties::{EmptyHolds, check_empties};
 use crate::ledgers::{Reading, ledger_of};
 use crate::names::ClusterNames;
 use crate::together::Gathered;
@@ -26,6 +32,8 @@ pub enum GatherFault {
     Differs { input: usize, bookie: usize },
     /// With this bookie of this input the cluster has more bookies than it can have.
     TooManyBookies { input: usize, bookie: usize },
+    /// This input shows this bookie as empty, and says that it holds entries of this ledger.
+    HoldsThoughEmpty { input: usize, held: EmptyHolds },
     /// This ledger of this input stands in an input before, too.
     Twice { input: usize, ledger: u64 },
     /// This ledger of this input can't be counted.
@@ -96,6 +104,18 @@ fn cluster_of(alloc: Global, inputs: &[Listed]) -> Result<Cluster, GatherFault>
     Ok(cluster)
 }
 
+/// That no empty bookie of the inputs is said to hold entries.
+fn check_inputs(inputs: &[Listed]) -> Result<(), GatherFault>
+    ensures { OnOk result (All EmptyHoldNothing inputs.now) }
+{
+    for (input, listed) in inputs.iter().enumerate() {
+        if let Err(held) = check_empties(listed) {
+            return Err(GatherFault::HoldsThoughEmpty { input, held });
+        }
+    }
+    Ok(())
+}
+
 /// Adds the ids of an input's ledgers. After an `Err` some of them may be there.
 fn add_ids(
     ids: &mut IndexSet<u64>,
@@ -131,13 +151,15 @@ fn add_ledger(
     reading: Reading,
     input: usize,
     listed: &Listed,
+    held: &ByLedger<'_>,
     ledger: &PicturedLedger,
     ledgers: &mut Vec<Ledger>,
 ) -> Result<(), GatherFault>
+    requires { AreOf listed.now.listing.holdings.items (get nat_cmp held.now) }
     ensures { OnOk result (ledgers.new.items
         ≡ ledgers.old.items ++ model.ledger_in numbers.now reading listed.now ledger.now ∷ []) }
 {
-    match ledger_of(alloc, numbers, reading, &listed.listing.holdings, ledger)? {
+    match ledger_of(alloc, numbers, reading, held, ledger)? {
         Some(made) => {
             ledgers.push(made)?;
             Ok(())
@@ -161,8 +183,11 @@ fn add_ledgers(
     ensures { OnOk result (ledgers.new.items
         ≡ ledgers.old.items ++ map (model.ledger_in numbers.now reading listed.now) listed.now.listing.ledgers.items) }
 {
+    let held = group_by_ledger(alloc, &listed.listing.holdings)?;
     for ledger in &listed.listing.ledgers {
-        add_ledger(alloc, numbers, reading, input, listed, ledger, ledgers)?;
+        add_ledger(
+            alloc, numbers, reading, input, listed, &held, ledger, ledgers,
+        )?;
     }
     Ok(())
 }
@@ -199,6 +224,24 @@ fn count_held(entries: &[Counted]) -> u64
     held
 }
 
+/// Whether something is assumed in a picture.
+fn is_assumed_in(listed: &Listed) -> bool
+    ensures { result ≡ list_any (λ h. h.is_assumed) listed.now.listing.holdings.items }
+{
+    listed
+        .listing
+        .holdings
+        .iter()
+        .any(|holding| holding.is_assumed())
+}
+
+/// Whether something is assumed in any of them.
+fn is_assumed_in_any(inputs: &[Listed]) -> bool
+    ensures { result ≡ list_any (λ l. list_any (λ h. h.is_assumed) l.listing.holdings.items) inputs.now }
+{
+    inputs.iter().any(|listed| is_assumed_in(listed))
+}
+
 /// How many entries rest on an assumption: some bookie that may hold copies is assumed to hold them.
 fn count_assumed(
     alloc: Global,
@@ -209,6 +252,9 @@ fn count_assumed(
     ensures { IfOk result (λ assumed. assumed
         ≡ model.assumed_among (holders (bookies_of bookies.now)) names.now inputs.now) }
 {
+    if !is_assumed_in_any(inputs) {
+        return Ok(0);
+    }
     let ledgers = ledgers_of(alloc, names, Reading::Assumed, inputs)?;
     let census = counted(alloc, bookies, &ledgers, 0)?;
     Ok(count_held(census.entries()))
@@ -274,9 +320,11 @@ fn counted(
 
 /// What inputs show together. With `strict`, what is assumed counts as untold.
 pub fn gather(alloc: Global, inputs: &[Listed], strict: bool) -> Result<Gathered, GatherFault>
-    ensures { IfOk result (λ gathered. model.Gathers inputs.now strict gathered) }
+    ensures gathers { IfOk result (λ gathered. model.Gathers inputs.now strict gathered) }
+    ensures empties { OnOk result (All EmptyHoldNothing inputs.now) }
 {
     let cluster = cluster_of(alloc, inputs)?;
+    check_inputs(inputs)?;
     let bookies = cluster.bookies(alloc)?;
     let ids = each_id(alloc, inputs)?;
     let ledgers = ledgers_of(alloc, cluster.names(), reading_of(strict), inputs)?;

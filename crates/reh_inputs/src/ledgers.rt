@@ -1,8 +1,14 @@
 // The ledgers of a picture, as a census counts them.
-ghost use Rattle.std.specs.Prelude.{◌≡◌, ◌<◌, ◌++◌, ◌∷◌, [], IfOk, IfSome, OnOk, fold, length, map};
+ghost use Rattle.std.specs.Prelude.{◌≡◌, ◌<◌, ◌++◌, ◌∷◌, [], ◌==◌, IfOk, IfSome, OnOk, List, fold, length, map};
+ghost use Rattle.std.specs.BTreeMap.{get};
+ghost use Rattle.std.specs.List.{filter};
+ghost use Rattle.std.specs.Ordering.{nat_cmp};
 ghost use Rattle.reh_census.specs.Striping.{range};
+ghost use Rattle.reh_picture.specs.Contents.{Holding as HoldingValue};
+ghost use Rattle.reh_inputs.specs.ByLedger.{AreOf};
 ghost use Rattle.reh_inputs.specs.Ledgers as model;
 
+use crate::by_ledger::ByLedger;
 use reh_census::{Content, Fragment, Ledger, LedgerState, Names, Range, Ranges, Told};
 use reh_cluster::Ledger as Listed;
 use reh_meta::LedgerMeta;
@@ -42,15 +48,13 @@ fn end_of(ranges: &[(u32, u32)], least: u64) -> u64
     end
 }
 
-/// One past the greatest entry of the ledger that any bookie is told or assumed to hold; 0 where there is none.
-fn end_told(ledger: LedgerId, holdings: &[Holding]) -> u64
-    ensures { result ≡ model.end_told ledger holdings.now }
+/// One past the greatest entry that these say to be held or assumed; 0 where there is none.
+fn end_told(held: &[&Holding]) -> u64
+    ensures { result ≡ fold (λ end h. fold model.end_after end h.now.ranges) 0 held.now }
 {
     let mut end = 0;
-    for holding in holdings {
-        if holding.ledger() == ledger {
-            end = end_of(holding.ranges(), end);
-        }
+    for holding in held {
+        end = end_of(holding.ranges(), end);
     }
     end
 }
@@ -138,22 +142,19 @@ fn add_content(
     Ok(())
 }
 
-/// What is told of the ledger's entries.
+/// What these holdings of a ledger tell.
 fn contents_of(
     alloc: Global,
     numbers: &[u16],
     reading: Reading,
-    ledger: LedgerId,
-    holdings: &[Holding],
+    held: &[&Holding],
 ) -> Result<Vec<Content>, AllocError>
     ensures { IfOk result (λ contents. contents.items
-        ≡ model.contents_of numbers.now reading ledger holdings.now) }
+        ≡ map (λ h. model.content_by numbers.now reading h.now) held.now) }
 {
     let mut contents = Vec::new(alloc);
-    for holding in holdings {
-        if holding.ledger() == ledger {
-            add_content(alloc, numbers, reading, holding, &mut contents)?;
-        }
+    for holding in held {
+        add_content(alloc, numbers, reading, holding, &mut contents)?;
     }
     Ok(contents)
 }
@@ -212,23 +213,23 @@ fn state_of(state: State) -> LedgerState
     }
 }
 
-/// A ledger of a picture whose bookies have these numbers in the cluster, as a census counts it; none where a census can't
-/// count it.
-pub fn ledger_of(
+/// A ledger that has these holdings, as a census counts it.
+fn ledger_with(
     alloc: Global,
     numbers: &[u16],
     reading: Reading,
-    holdings: &[Holding],
+    held: &[&Holding],
     listed: &Listed,
 ) -> Result<Option<Ledger>, AllocError>
-    ensures made { IfOk result (λ made. IfSome made (λ ledger. ledger
-        ≡ model.ledger_of numbers.now reading holdings.now listed.now.id listed.now.metadata)) }
+    ensures made { IfOk result (λ made. IfSome made (λ ledger. (holdings : List HoldingValue)
+        → map (λ h. h.now) held.now ≡ filter (λ h. h.ledger == listed.now.id) holdings → ledger
+        ≡ model.ledger_of numbers.now reading holdings listed.now.id listed.now.metadata)) }
 {
     let metadata = listed.metadata();
     let reading = reading_in(metadata.state(), reading);
-    let end = end_told(listed.id(), holdings);
+    let end = end_told(held);
     let fragments = fragments_of(alloc, numbers, end, metadata)?;
-    let contents = contents_of(alloc, numbers, reading, listed.id(), holdings)?;
+    let contents = contents_of(alloc, numbers, reading, held)?;
     let state = state_of(metadata.state());
     let size = metadata.size() as u64;
     let write_quorum = metadata.write_quorum() as u64;
@@ -243,4 +244,23 @@ pub fn ledger_of(
         contents,
         rest,
     ))
+}
+
+/// A ledger of a picture whose bookies have these numbers in the cluster, as a census counts it; none where a census can't
+/// count it.
+pub(crate) fn ledger_of(
+    alloc: Global,
+    numbers: &[u16],
+    reading: Reading,
+    by_ledger: &ByLedger<'_>,
+    listed: &Listed,
+) -> Result<Option<Ledger>, AllocError>
+    ensures made { IfOk result (λ made. IfSome made (λ ledger. (holdings : List HoldingValue)
+        → AreOf holdings (get nat_cmp by_ledger.now) → ledger
+        ≡ model.ledger_of numbers.now reading holdings listed.now.id listed.now.metadata)) }
+{
+    match by_ledger.get(&listed.id()) {
+        Some(held) => ledger_with(alloc, numbers, reading, held, listed),
+        None => ledger_with(alloc, numbers, reading, &[], listed),
+    }
 }

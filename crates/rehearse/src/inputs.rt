@@ -113,6 +113,14 @@ fn fault_of(alloc: Global, files: &[&str], listed: &[Listed], fault: GatherFault
             let path = path_of(files, input);
             format!(in alloc; "with {path} there are more than 4096 bookies")
         }
+        GatherFault::HoldsThoughEmpty { input, held } => {
+            let path = path_of(files, input);
+            let name = name_of(listed, input, held.bookie);
+            let ledger = held.ledger;
+            format!(in alloc;
+                "{path} shows bookie '{name}' as empty, but says that it holds entries of ledger {ledger}: leave out one of the two"
+            )
+        }
         GatherFault::Twice { input, ledger } => {
             let path = path_of(files, input);
             format!(in alloc; "ledger {ledger} of {path} is in a file before it, too")

@@ -1,36 +1,31 @@
--- The ledger is made of what was found of each of its parts.
-use Rattle.std.proofs.Common.{◌≡◌, ◌∙◌, ap, subst, map, length}
-use Rattle.std.specs.Prelude.{IfSome}
-use Rattle.reh_census.specs.Striping.{range}
-use Rattle.reh_model.specs.Metadata.{Metadata}
-use Rattle.reh_census.specs.Ledgers.{Ledger, ledger_by}
-use Rattle.reh_inputs.specs.Ledgers.{contents_of, end_told, fragment_of, ledger_of, reading_in, rest_of, state_of}
+-- The holdings of the ledger are those that were found by its id, and none where none was.
+use Rattle.std.proofs.Common.{rules, ◌≡◌, ◌∙◌, Bor, None, Some, ap, map, sym}
+use Rattle.std.proofs.lemmas.Option.{IfSome_then}
+use Rattle.std.proofs.lemmas.Result.{MatchResult-weaker}
+use Rattle.std.specs.BTreeMap.{get}
+use Rattle.std.specs.Ordering.{nat_cmp}
+use Rattle.reh_picture.specs.Contents.{Holding}
+use Rattle.reh_inputs.specs.ByLedger.{held_in}
 use Rattle.reh_inputs.proofs.ledgers.ledger_of.Goals as goal
 
-pub returns : goal.returns
-returns c =
-    let listed = c.args.listed.now in
-    let reading : c.reading_in-reading.result ≡ reading_in listed.metadata.state c.args.reading =
-    c.reading_in-reading.ensures
-    ∙ ap (λ state. reading_in state c.args.reading)
-    (c.state.ensures ∙ ap (λ (m : Metadata). m.state) c.metadata-metadata.ensures) in
-    let same : ledger_by c.state_of-state.result c.size-size.result c.write_quorum-write_quorum.result
-    c.ack_quorum-ack_quorum.result c.in_ok-fragments.fragments.items c.in_ok-contents.contents.items c.rest_of-rest.result
-    ≡ ledger_of c.args.numbers.now c.args.reading c.args.holdings.now listed.id listed.metadata =
-    (λ i.
-    ledger_by
-    ((c.state_of-state.ensures ∙ ap state_of (c.state-2.ensures ∙ ap (λ (m : Metadata). m.state) c.metadata-metadata.ensures)) i)
-    ((c.size-size.ensures.size ∙ ap (λ (m : Metadata). m.size) c.metadata-metadata.ensures) i)
-    ((c.write_quorum-write_quorum.ensures ∙ ap (λ (m : Metadata). m.write_quorum) c.metadata-metadata.ensures) i)
-    ((c.ack_quorum-ack_quorum.ensures ∙ ap (λ (m : Metadata). m.ack_quorum) c.metadata-metadata.ensures) i)
-    ((c.in_ok-fragments.ensures
-    ∙ (λ j. map
-    (fragment_of c.args.numbers.now
-    ((c.end_told-end.ensures ∙ ap (λ id. end_told id c.args.holdings.now) c.id.ensures) j) (c.metadata-metadata.ensures j))
-    (range 0 (length (c.metadata-metadata.ensures j).fragments)))) i)
-    ((c.in_ok-contents.ensures
-    ∙ (λ j. contents_of c.args.numbers.now (reading j) (c.id-2.ensures j) c.args.holdings.now)) i)
-    ((c.rest_of-rest.ensures ∙ ap rest_of reading) i)) in
+pub returns-in-Some : goal.returns-in-Some
+returns-in-Some c =
+    let id = c.args.listed.now.id in
+    let found : get nat_cmp c.args.by_ledger.now id ≡ Some c.in-Some.held.now = search rules in
     record {
-      made = subst (λ (g : Ledger). IfSome c.try_new.result (λ ledger. ledger ≡ g)) same c.try_new.ensures.made;
+      made = MatchResult-weaker c.ledger_with.result c.ledger_with.ensures.made (λ made is.
+          IfSome_then made is (λ ledger is holdings are.
+          is holdings
+          (ap (map (λ (h : Bor Holding). h.now)) c.deref.ensures.value ∙ ap held_in (sym found) ∙ are id)))
+          (λ _ nothing. nothing);
+    }
+
+pub returns-in-None : goal.returns-in-None
+returns-in-None c =
+    let id = c.args.listed.now.id in
+    let none : get nat_cmp c.args.by_ledger.now id ≡ None = search rules in
+    record {
+      made = MatchResult-weaker c.ledger_with-in-None.result c.ledger_with-in-None.ensures.made (λ made is.
+          IfSome_then made is (λ ledger is holdings are. is holdings (ap held_in (sym none) ∙ are id)))
+          (λ _ nothing. nothing);
     }

@@ -6,7 +6,7 @@ use Rattle.reh_census.specs.Bookies.{Bookies, bookies_of, holders, is_flagged}
 use Rattle.reh_census.specs.Counting.{IsCensus, counting_of, not_judged}
 use Rattle.reh_census.specs.Ledgers.{Ledger}
 use Rattle.reh_against.specs.Weights as model
-use Rattle.reh_against.proofs.weights.weight_of.Goals as goal
+use Rattle.reh_against.proofs.weights.counted_weight.Goals as goal
 
 pub returns-clause-weight : goal.returns-clause-weight
 returns-clause-weight c =
