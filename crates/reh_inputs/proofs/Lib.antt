@@ -1,2 +1,6 @@
 pub mod NamesLemmas
 pub mod RangeLaws
+pub mod NameOrder
+pub mod AddLaws
+pub mod TailLaws
+pub mod UnitedLaws

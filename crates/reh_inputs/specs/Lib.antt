@@ -1,7 +1,10 @@
 pub mod Cluster
 pub mod Inside
+pub mod Inputs
 pub mod Ledgers
+pub mod Renumbered
 pub mod Shown
+pub mod Named
 pub mod Names
 pub mod United
 pub mod Gathered

@@ -2,8 +2,11 @@
 #![tactic(auto)]
 
 mod cluster;
+mod files;
 mod gathered;
+mod inputs;
 mod ledgers;
+mod named;
 mod names;
 mod shown;
 mod together;
@@ -11,7 +14,9 @@ mod united;
 
 pub use cluster::{Cluster, ClusterFault};
 pub use gathered::{GatherFault, gather};
+pub use inputs::{Input, InputFault, read_input};
 pub use ledgers::{Reading, ledger_of};
+pub use named::{named_of, taken_of};
 pub use names::{ClusterNames, MAX_CLUSTER_BOOKIES};
 pub use shown::Shown;
 pub use together::Gathered;

@@ -5,7 +5,7 @@ use Rattle.reh_census.specs.Striping.{range}
 use Rattle.reh_inputs.specs.Cluster.{Cluster}
 use Rattle.reh_inputs.specs.United.{with_listed}
 use Rattle.reh_inputs.proofs.RangeLaws.{range-more}
-use Rattle.reh_inputs.proofs.united.unite.Goals as goal
+use Rattle.reh_inputs.proofs.united.unite_picture.Goals as goal
 
 pub loop-number-preserved : goal.loop-number-preserved
 loop-number-preserved c =
