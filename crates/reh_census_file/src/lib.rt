@@ -18,3 +18,4 @@ pub use lists::{MAX_NAMES, NameList};
 pub use reading::{is_census, read_census};
 pub use texts::census_text;
 pub use values::NamedCensus;
+pub use words::MAX_COUNT;

@@ -2,7 +2,7 @@
 use Rattle.std.proofs.Common.{◌≡◌, ◌∙◌, ◌+◌, ◌==◌, ◌&&◌, ◌||◌, refl, ap, ℕ, Bool, true, false, cond, if◌then◌else◌, nat_lt, List, [], ◌∷◌, length, map}
 use Rattle.std.proofs.lemmas.List.Folds.{fold-map, fold_stays}
 use Rattle.std.proofs.lemmas.List.Sums.{sum_by-append}
-use Rattle.std.specs.List.{filter, flat_map, list_any, sum_by}
+use Rattle.std.specs.List.{filter, list_any, sum_by}
 use Rattle.reh_census.specs.declared.ledgers.Fragment.{Fragment}
 use Rattle.reh_census.specs.declared.ledgers.Told.{Told as ToldOf}
 use Rattle.reh_census.specs.declared.ledgers.Told.TheVariants.{Holds}
@@ -15,7 +15,9 @@ use Rattle.reh_picture.specs.declared.listings.Listed.{Listed}
 use Rattle.reh_types.specs.declared.names.LedgerState.{LedgerState as State}
 use Rattle.reh_types.specs.declared.names.LedgerState.TheVariants.{Open, InRecovery, Closed}
 use Rattle.reh_inputs.specs.declared.ledgers.Reading.TheVariants.{Assumed}
-use Rattle.reh_inputs.specs.Gathered.{is_held, ledger_in, ledgers_in}
+use Rattle.reh_inputs.specs.declared.inputs.Input.{Input}
+use Rattle.reh_inputs.specs.declared.inputs.Input.TheVariants.{Picture, Census}
+use Rattle.reh_inputs.specs.Gathered.{is_assumed_in, is_held, ledger_in, ledgers_among, ledgers_in}
 use Rattle.reh_inputs.specs.Ledgers.{content_by, contents_of, number_in, range_of, reading_in, rest_of, told_by}
 use Rattle.reh_inputs.specs.United.{number_of}
 
@@ -105,12 +107,12 @@ module _ (holders : List ℕ) (names : List (List ℕ)) where
       (λ g. ap (λ (n : ℕ). 0 + n) (none_in_ledger (made g) (nothing g) holders)) l.listing.ledgers.items
 
   -- and none of any input
-  pub none_assumed : (inputs : List Listed)
-      → list_any (λ l. list_any (λ h. h.is_assumed) l.listing.holdings.items) inputs ≡ false
-      → count_entries holders (flat_map (ledgers_in names Assumed) inputs) is_held ≡ 0
+  pub none_assumed : (inputs : List Input) → list_any is_assumed_in inputs ≡ false
+      → count_entries holders (ledgers_among names Assumed inputs) is_held ≡ 0
   none_assumed [] fails = refl
-  none_assumed (l ∷ ls) fails =
+  none_assumed (Picture l ∷ ls) fails =
       let first = list_any (λ h. h.is_assumed) l.listing.holdings.items in
-      let rest = list_any (λ (l : Listed). list_any (λ h. h.is_assumed) l.listing.holdings.items) ls in
-      sum_by-append (count_ledger holders is_held) (ledgers_in names Assumed l) (flat_map (ledgers_in names Assumed) ls)
+      let rest = list_any is_assumed_in ls in
+      sum_by-append (count_ledger holders is_held) (ledgers_in names Assumed l) (ledgers_among names Assumed ls)
       ∙ (λ i. none_in_input l (neither_first first rest fails) i + none_assumed ls (neither_second first rest fails) i)
+  none_assumed (Census c ∷ ls) fails = none_assumed ls fails

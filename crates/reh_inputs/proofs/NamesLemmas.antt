@@ -1,18 +1,7 @@
--- Names by their bytes are few and different.
-use Rattle.std.proofs.Common.{◌≡◌, ℕ, suc, ◌+◌, Bool, true, false, not, ◌||◌, nat_lt, cond, List, [], ◌∷◌, map, length, position, Some, None, ◌≤◌, arith, refl, ap, ◌∙◌, String}
-use Rattle.std.specs.List.{IsDistinct, list_any, prefix_len}
+-- What is found among elements.
+use Rattle.std.proofs.Common.{◌≡◌, ℕ, suc, ◌+◌, Bool, true, false, not, ◌||◌, nat_lt, cond, List, [], ◌∷◌, length, position, Some, None, arith, refl, ap, ◌∙◌}
+use Rattle.std.specs.List.{list_any, prefix_len}
 use Rattle.std.specs.Option.{is_some}
-use Rattle.std.specs.Str.{bytes_eq}
-use Rattle.std.specs.String.{string_bytes}
-use Rattle.std.proofs.lemmas.List.{length-map}
-use Rattle.reh_cluster.proofs.NamesLemmas.{IsDistinct-map}
-use Rattle.reh_inputs.specs.Names.{IsNames}
-use Rattle.reh_inputs.specs.declared.names.TheConstants.{MAX_CLUSTER_BOOKIES}
-
-pub IsNames-keys : {Z : Type 0} (keys : List (String Z)) → length keys ≤ MAX_CLUSTER_BOOKIES
-    → IsDistinct (λ a b. bytes_eq (string_bytes a) (string_bytes b)) keys → IsNames (map string_bytes keys)
-IsNames-keys keys few different =
-    record { few = omega (arith, length-map keys string_bytes); different = IsDistinct-map string_bytes bytes_eq keys different }
 
 -- an element is found where there is one
 module _ {A : Type 0} (p : A → Bool) where

@@ -1,12 +1,14 @@
 -- The bookies of a cluster, as its inputs show them together.
-use Rattle.std.specs.Prelude.{ℕ, Bool, false, not, List, [], ◌∷◌, ◌++◌, map, if◌then◌else◌, Option}
+use Rattle.std.specs.Prelude.{ℕ, Bool, false, not, List, [], map, if◌then◌else◌, Option}
 use Rattle.std.specs.Prelude.{position, slice_get, unwrap_or, ◌==◌}
+use Rattle.std.specs.List.{insert}
 use Rattle.std.specs.Option.{is_some, option_and_then, option_map_or}
 use Rattle.std.specs.Str.{bytes_eq}
 use Rattle.reh_census.specs.declared.bookies.Bookie.{Bookie}
+use Rattle.reh_inputs.specs.Names.{place_of}
 use Rattle.reh_inputs.specs.Shown.{Shown, is_in, is_like}
 
--- the names of the bookies, each once, and how inputs show them
+-- the names of the bookies, each once, in their order, and how inputs show them
 pub record Cluster : Type 0 where
   pub names : List (List ℕ)
   pub shown : List Shown
@@ -25,11 +27,16 @@ shown_as cluster name = option_and_then (slice_get cluster.shown) (position (byt
 abbrev pub is_shown_otherwise : Cluster → List ℕ → Shown → Bool
 is_shown_otherwise cluster name shown = option_map_or (λ before. not (is_like before shown)) (shown_as cluster name) false
 
+-- the cluster with a bookie more, at the place of its name
+abbrev pub with_new : Cluster → List ℕ → Shown → Cluster
+with_new cluster name shown = record {
+  names = insert cluster.names (place_of cluster.names name) name;
+  shown = insert cluster.shown (place_of cluster.names name) shown;
+}
+
 -- the cluster with this bookie, which it may have already
 abbrev pub with_bookie : Cluster → List ℕ → Shown → Cluster
-with_bookie cluster name shown =
-    if has_bookie cluster name then cluster
-    else (record { names = cluster.names ++ name ∷ []; shown = cluster.shown ++ shown ∷ [] })
+with_bookie cluster name shown = if has_bookie cluster name then cluster else with_new cluster name shown
 
 -- the bookie as a census sees it: a rack has the number of the first bookie in it
 abbrev pub bookie_of : List Shown → Shown → Bookie

@@ -2,8 +2,11 @@ pub mod ByLedger
 pub mod Cluster
 pub mod Empties
 pub mod Inside
+pub mod Inputs
 pub mod Ledgers
+pub mod Renumbered
 pub mod Shown
+pub mod Named
 pub mod Names
 pub mod United
 pub mod Gathered

@@ -1,10 +1,14 @@
 -- The cluster of several inputs.
 use Rattle.std.specs.Prelude.{ℕ, false, List, length, fold, None, slice_get, position, unwrap_or}
-use Rattle.std.specs.Option.{is_none, option_map_or}
+use Rattle.std.specs.Option.{is_none, option_and_then, option_map_or}
 use Rattle.std.specs.Str.{bytes_eq}
+use Rattle.reh_census.specs.declared.bookies.Bookie.{Bookie}
 use Rattle.reh_census.specs.Striping.{range}
+use Rattle.reh_census_file.specs.Values.{NamedCensus}
 use Rattle.reh_picture.specs.Marks.{BookieMarks}
 use Rattle.reh_picture.specs.declared.listings.Listed.{Listed}
+use Rattle.reh_inputs.specs.declared.inputs.Input.{Input}
+use Rattle.reh_inputs.specs.declared.inputs.Input.TheVariants.{Picture, Census}
 use Rattle.reh_inputs.specs.Cluster.{Cluster, no_bookies, with_bookie}
 use Rattle.reh_inputs.specs.Shown.{Shown, shown_by}
 
@@ -20,12 +24,27 @@ abbrev pub with_listed : Listed → Cluster → ℕ → Cluster
 with_listed l cluster n =
     option_map_or (λ name. with_bookie cluster name (shown_at l n)) (slice_get l.listing.names n) cluster
 
--- with all bookies of a picture
-abbrev pub with_input : Cluster → Listed → Cluster
-with_input cluster l = fold (with_listed l) cluster (range 0 (length l.listing.names))
+-- how a census shows a bookie
+abbrev pub shown_as : List (List ℕ) → Bookie → Shown
+shown_as racks b =
+    shown_by b.is_registered b.is_read_only b.is_empty (option_and_then (λ rack. slice_get racks rack) b.rack)
 
--- the cluster of pictures
-abbrev pub united : List Listed → Cluster
+-- how a census shows the bookie of that number
+abbrev pub counted_at : NamedCensus → ℕ → Shown
+counted_at c n = option_map_or (shown_as c.racks) (slice_get c.bookies n) (shown_by false false false None)
+
+-- the cluster with that bookie
+abbrev pub with_counted : NamedCensus → Cluster → ℕ → Cluster
+with_counted c cluster n =
+    option_map_or (λ name. with_bookie cluster name (counted_at c n)) (slice_get c.names n) cluster
+
+-- with all bookies of an input
+abbrev pub with_input : Cluster → Input → Cluster
+with_input cluster (Picture l) = fold (with_listed l) cluster (range 0 (length l.listing.names))
+with_input cluster (Census c) = fold (with_counted c) cluster (range 0 (length c.names))
+
+-- the cluster of inputs
+abbrev pub united : List Input → Cluster
 united inputs = fold with_input no_bookies inputs
 
 -- the number of a bookie; one that the cluster doesn't have has a number past all

@@ -36,7 +36,7 @@ impl From<AllocError> for ClusterFault {
     }
 }
 
-/// The bookies of a cluster, by number: their names, each once, and how inputs show them.
+/// The bookies of a cluster, by number: their names, each once, in their order, and how inputs show them.
 #[derive(Drop)]
 pub struct Cluster {
     names: ClusterNames,
@@ -152,20 +152,21 @@ impl Cluster {
         if self.names.len() >= MAX_CLUSTER_BOOKIES {
             return Err(ClusterFault::TooMany);
         }
-        self.append(name, shown)?;
+        self.insert(name, shown)?;
         Ok(())
     }
 
-    /// Appends a bookie.
-    fn append(&mut self, name: &str, shown: Shown) -> Result<(), AllocError>
+    /// Puts a bookie more at the place of its name.
+    fn insert(&mut self, name: &str, shown: Shown) -> Result<(), AllocError>
         requires new { model.has_bookie self.old name.now ≡ false }
         requires few { length self.old.names < MAX_CLUSTER_BOOKIES }
-        ensures added { OnOk result (self.new ≡ model.with_bookie self.old name.now shown) }
+        ensures added { OnOk result (self.new ≡ model.with_new self.old name.now shown) }
         ensures err { OnErr result (self.new ≡ self.old) }
     {
+        let place = self.names.place_of(name);
         self.shown.reserve(1)?;
-        self.names.add(name)?;
-        self.shown.push(shown)?;
+        self.names.insert(place, name)?;
+        self.shown.insert(place, shown)?;
         Ok(())
     }
 }

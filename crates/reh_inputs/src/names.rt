@@ -1,21 +1,23 @@
 // The names of a cluster's bookies.
-ghost use Rattle.std.specs.Prelude.{◌≡◌, ◌<◌, ◌≤◌, [], ◌∷◌, ◌++◌, length, position, slice_get, map, option_map, string_bytes, IfOk, OnErr};
-ghost use Rattle.std.specs.Prelude.{if◌then◌else◌, not};
-ghost use Rattle.std.specs.List.{list_any};
+ghost use Rattle.std.specs.Prelude.{◌≡◌, ◌<◌, ◌≤◌, [], false, length, position, slice_get, map, option_map, string_bytes, is_some, OnOk, OnErr};
+ghost use Rattle.std.specs.List.{insert};
+ghost use Rattle.std.specs.Option.{option_map_or};
+ghost use Rattle.std.specs.Ordering.{is_lt};
 ghost use Rattle.std.specs.Str.{bytes_eq};
+ghost use Rattle.reh_census.specs.Order.{InOrder, names_cmp};
+ghost use Rattle.reh_inputs.specs.Names as model;
 ghost use Rattle.reh_inputs.specs.declared.names.TheConstants.{MAX_CLUSTER_BOOKIES};
 
-use indexmap::IndexSet;
 use std::alloc::{AllocError, Global};
 use std::marker::Model;
 
 /// How many bookies a cluster has at most.
 pub const MAX_CLUSTER_BOOKIES: usize = 4096;
 
-/// The names of at most 4,096 bookies, each once, in the order in which they came; contracts see the list of their bytes.
+/// The names of at most 4,096 bookies, each once, in their order, byte by byte; contracts see the list of their bytes.
 #[derive(Drop)]
 pub struct ClusterNames {
-    names: IndexSet<String>,
+    names: Vec<String>,
 }
 
 impl Model for ClusterNames {
@@ -24,9 +26,9 @@ impl Model for ClusterNames {
 
     ghost Value = { List (List ℕ) };
 
-    ghost view = { λ n. map string_bytes n.names.keys };
+    ghost view = { λ n. map string_bytes n.names.items };
 
-    ghost invariant = { λ n. IsNames (map string_bytes n.names.keys) };
+    ghost invariant = { λ n. IsNames (map string_bytes n.names.items) };
 }
 
 impl ClusterNames {
@@ -35,7 +37,7 @@ impl ClusterNames {
         ensures { result ≡ [] }
     {
         ClusterNames {
-            names: IndexSet::new(alloc),
+            names: Vec::new(alloc),
         }
     }
 
@@ -43,6 +45,7 @@ impl ClusterNames {
     pub fn len(&self) -> usize
         ensures count { result ≡ length self.now }
         ensures limit { length self.now ≤ MAX_CLUSTER_BOOKIES }
+        ensures order { InOrder names_cmp self.now }
     {
         self.names.len()
     }
@@ -51,35 +54,67 @@ impl ClusterNames {
     pub fn as_slice(&self) -> &[String]
         ensures { map string_bytes result.now ≡ self.now }
     {
-        self.names.as_slice()
+        &self.names
     }
 
-    /// Adds a name as the last, and says whether it was new; one that is there already changes nothing.
-    pub(crate) fn add(&mut self, name: &str) -> Result<bool, AllocError>
-        requires { length self.old < MAX_CLUSTER_BOOKIES }
-        ensures new { IfOk result (λ new. new ≡ not (list_any (bytes_eq name.now) self.old)) }
-        ensures added { IfOk result
-            (λ new. self.new ≡ (if new then self.old ++ name.now ∷ [] else self.old)) }
+    /// The place of the name: so many come before it.
+    pub(crate) fn place_of(&self, name: &str) -> usize
+        ensures place { result ≡ model.place_of self.now name.now }
+        ensures within { result ≤ length self.now }
+        ensures limit { length self.now ≤ MAX_CLUSTER_BOOKIES }
+        ensures order { InOrder names_cmp self.now }
+    {
+        self.names.partition_point(|own| comes_before(own, name))
+    }
+
+    /// Adds a name that isn't there, at its place.
+    pub(crate) fn insert(&mut self, place: usize, name: &str) -> Result<(), AllocError>
+        requires new { is_some (position (bytes_eq name.now) self.old) ≡ false }
+        requires place { place ≡ model.place_of self.old name.now }
+        requires few { length self.old < MAX_CLUSTER_BOOKIES }
+        ensures added { OnOk result (self.new ≡ insert self.old place name.now) }
         ensures err { OnErr result (self.new ≡ self.old) }
     {
-        let owned = String::from_str(self.names.allocator().clone()?, name)?;
-        let added = self.names.insert(owned)?;
-        Ok(added)
+        let alloc = self.names.allocator().clone()?;
+        let owned = String::from_str(alloc, name)?;
+        self.names.insert(place, owned)?;
+        Ok(())
+    }
+
+    /// Whether the name stands at this place.
+    fn is_at(&self, place: usize, name: &str) -> bool
+        ensures { result ≡ option_map_or (bytes_eq name.now) (slice_get self.now place) false }
+    {
+        match self.names.get(place) {
+            Some(own) => name.as_bytes() == own.as_bytes(),
+            None => false,
+        }
     }
 
     /// The number of the bookie of that name, if there is one.
     pub fn find(&self, name: &str) -> Option<u16>
         ensures { result ≡ position (bytes_eq name.now) self.now }
     {
-        let number = self.names.get_index_of(name)?;
-        Some(number as u16)
+        let place = self.place_of(name);
+        if self.is_at(place, name) {
+            Some(place as u16)
+        } else {
+            None
+        }
     }
 
     /// The name of a bookie, if there is such a bookie.
     pub fn name(&self, bookie: u16) -> Option<&str>
         ensures { option_map (λ name. name.now) result ≡ slice_get self.now bookie }
     {
-        let name = self.names.get_index(bookie as usize)?;
+        let name = self.names.get(bookie as usize)?;
         Some(name.as_str())
     }
+}
+
+/// Whether a name comes before another.
+fn comes_before(own: &String, name: &str) -> bool
+    ensures { result ≡ is_lt (names_cmp (string_bytes own.now) name.now) }
+{
+    own.as_bytes().cmp(name.as_bytes()).is_lt()
 }

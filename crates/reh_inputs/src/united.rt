@@ -1,12 +1,16 @@
 // The cluster of several inputs.
-ghost use Rattle.std.specs.Prelude.{◌≡◌, ◌<◌, map, slice_get, IfOk, OnOk, string_bytes};
-ghost use Rattle.std.specs.Option.{option_map, option_map_or};
+ghost use Rattle.std.specs.Prelude.{◌≡◌, ◌<◌, fold, length, map, slice_get, IfOk, OnOk, string_bytes};
+ghost use Rattle.std.specs.Option.{option_and_then, option_map, option_map_or};
+ghost use Rattle.reh_census.specs.Striping.{range};
+ghost use Rattle.reh_census_file.specs.declared.lists.TheConstants.{MAX_NAMES};
 ghost use Rattle.reh_types.specs.declared.limits.TheConstants.{MAX_BOOKIES};
 ghost use Rattle.reh_inputs.specs.United as model;
 
 use crate::cluster::{Cluster, ClusterFault};
+use crate::inputs::Input;
 use crate::names::ClusterNames;
 use crate::shown::Shown;
+use reh_census_file::{MAX_NAMES, NameList, NamedCensus};
 use reh_cluster::Names;
 use reh_picture::Listed;
 use reh_types::BookieIx;
@@ -62,9 +66,10 @@ fn add_listed(
     cluster.add(name, shown)
 }
 
-/// Adds the bookies of a picture. After an `Err` some of them may be there.
-pub fn unite(alloc: Global, cluster: &mut Cluster, listed: &Listed) -> Result<(), UniteFault>
-    ensures { OnOk result (cluster.new ≡ model.with_input cluster.old listed.now) }
+/// Adds the bookies of a picture.
+fn unite_picture(alloc: Global, cluster: &mut Cluster, listed: &Listed) -> Result<(), UniteFault>
+    ensures { OnOk result (cluster.new
+        ≡ fold (model.with_listed listed.now) cluster.old (range 0 (length listed.now.listing.names))) }
 {
     for number in 0..listed.listing.names.len() {
         match add_listed(alloc, cluster, listed, number) {
@@ -78,6 +83,86 @@ pub fn unite(alloc: Global, cluster: &mut Cluster, listed: &Listed) -> Result<()
         }
     }
     Ok(())
+}
+
+/// A copy of a rack's name, if the bookie is in one.
+fn rack_in(alloc: Global, racks: &NameList, rack: Option<u16>) -> Result<Option<String>, AllocError>
+    ensures { IfOk result (λ copy. option_map string_bytes copy
+        ≡ option_and_then (λ rack. slice_get racks.now rack) rack) }
+{
+    match rack {
+        Some(rack) => {
+            let copy = rack_of(alloc, racks.name(rack))?;
+            Ok(copy)
+        }
+        None => Ok(None),
+    }
+}
+
+/// How a census shows the bookie of that number.
+fn counted_at(alloc: Global, census: &NamedCensus, number: usize) -> Result<Shown, AllocError>
+    ensures { IfOk result (λ shown. shown ≡ model.counted_at census.now number) }
+{
+    let Some(bookie) = census.bookies().as_slice().get(number) else {
+        return Ok(Shown::new(false, false, false, None));
+    };
+    let rack = rack_in(alloc, census.racks(), bookie.rack)?;
+    Ok(Shown::new(
+        bookie.is_registered,
+        bookie.is_read_only,
+        bookie.is_empty,
+        rack,
+    ))
+}
+
+/// Adds the bookie of that number.
+fn add_counted(
+    alloc: Global,
+    cluster: &mut Cluster,
+    census: &NamedCensus,
+    number: usize,
+) -> Result<(), ClusterFault>
+    requires { number < MAX_NAMES }
+    ensures { OnOk result (cluster.new ≡ model.with_counted census.now cluster.old number) }
+{
+    let Some(name) = census.names().name(number as u16) else {
+        return Ok(());
+    };
+    let shown = counted_at(alloc, census, number)?;
+    cluster.add(name, shown)
+}
+
+/// Adds the bookies of a census.
+fn unite_census(
+    alloc: Global,
+    cluster: &mut Cluster,
+    census: &NamedCensus,
+) -> Result<(), UniteFault>
+    ensures { OnOk result (cluster.new
+        ≡ fold (model.with_counted census.now) cluster.old (range 0 (length census.now.names))) }
+{
+    for number in 0..census.names().len() {
+        match add_counted(alloc, cluster, census, number) {
+            Ok(()) => {}
+            Err(fault) => {
+                return Err(UniteFault {
+                    bookie: number,
+                    fault,
+                });
+            }
+        }
+    }
+    Ok(())
+}
+
+/// Adds the bookies of an input. After an `Err` some of them may be there.
+pub fn unite(alloc: Global, cluster: &mut Cluster, input: &Input) -> Result<(), UniteFault>
+    ensures { OnOk result (cluster.new ≡ model.with_input cluster.old input.now) }
+{
+    match input {
+        Input::Picture(listed) => unite_picture(alloc, cluster, listed),
+        Input::Census(census) => unite_census(alloc, cluster, census),
+    }
 }
 
 /// The number of each bookie of a picture in the cluster.

@@ -1,5 +1,5 @@
 // Whether bookies may be stopped.
-ghost use Rattle.std.specs.Prelude.{◌≡◌, ℕ, Bool, List, Err, Some, true, not, length, map, position, string_bytes, IfOk, OnOk};
+ghost use Rattle.std.specs.Prelude.{◌≡◌, ◌++◌, ℕ, Bool, List, Err, Some, true, not, length, map, position, string_bytes, IfOk, OnOk};
 ghost use Rattle.std.specs.List.{list_any};
 ghost use Rattle.reh_census.specs.Answers.{answer_on};
 ghost use Rattle.reh_census.specs.Bookies.{bookies_of as census_bookies, holders, is_flagged};
@@ -7,7 +7,10 @@ ghost use Rattle.reh_census.specs.Counting.{IsCensus, counting_of, not_judged};
 ghost use Rattle.reh_census.specs.Ledgers.{Ledger as LedgerValue};
 ghost use Rattle.reh_answer.specs.Texts.{status_number};
 ghost use Rattle.reh_picture.specs.declared.listings.Listed.{Listed};
+ghost use Rattle.reh_inputs.specs.declared.inputs.Input.{Input};
+ghost use Rattle.reh_inputs.specs.declared.inputs.Input.TheVariants.{Picture};
 ghost use Rattle.reh_inputs.specs.Gathered.{Gathers, ledgers_of, reading_of};
+ghost use Rattle.reh_inputs.specs.Renumbered.{files_of};
 ghost use Rattle.reh_inputs.specs.Shown.{is_in};
 ghost use Rattle.reh_stop.specs.Named.{is_name, is_repeated};
 ghost use Rattle.reh_stop.specs.declared.stops.StopFault.TheVariants.{Nobody, Twice, UnknownBookie, UnknownRack};
@@ -167,7 +170,15 @@ pub fn answer_stop(alloc: Global, gathered: &Gathered, asked: &Asked<'_>) -> Res
     ensures named { OnOk result (model.AreNamed gathered.now.cluster asked.now) }
     ensures said { IfOk result (λ said. model.IsSaid gathered.now asked.now
         (model.stopped_by gathered.now.cluster asked.now) said) }
-    ensures ledgers { IfOk result (λ said. (inputs : List Listed) (strict : Bool) → Gathers inputs strict gathered.now
+    // Whatever ledgers the census files among the inputs counted.
+    ensures ledgers { IfOk result (λ said. (inputs : List Input) (strict : Bool) (others : List LedgerValue)
+        → Gathers inputs strict gathered.now
+        → IsCensus (files_of gathered.now.cluster.names inputs) (holders (census_bookies gathered.now.bookies)) others
+        → said.status ≡ status_number (answer_on (counting_of (holders (census_bookies gathered.now.bookies))
+        (ledgers_of (reading_of strict) inputs ++ others)) (census_bookies gathered.now.bookies) asked.now.question
+        (not_judged gathered.now.census.judged) (is_flagged (model.stopped_by gathered.now.cluster asked.now)))) }
+    ensures pictures { IfOk result (λ said. (pictures : List Listed) (strict : Bool) → let inputs = map (λ l. Picture l) pictures in
+        Gathers inputs strict gathered.now
         → said.status ≡ status_number (answer_on (counting_of (holders (census_bookies gathered.now.bookies))
         (ledgers_of (reading_of strict) inputs)) (census_bookies gathered.now.bookies) asked.now.question 0
         (is_flagged (model.stopped_by gathered.now.cluster asked.now)))) }

@@ -7,7 +7,7 @@ ghost use Rattle.reh_tally.specs.Few.{AreFew, capped};
 use reh_census::{Fragment, Ledger, LedgerState};
 
 /// How far a census counts.
-const MOST: u64 = 1 << 63;
+pub(crate) const MOST: u64 = 1 << 63;
 
 /// How many entries the fragments have.
 fn entries_among(fragments: &[Fragment]) -> u64

@@ -3,6 +3,7 @@
 
 mod census;
 mod classes;
+mod counts;
 mod cursors;
 mod few;
 mod joins;
@@ -16,6 +17,7 @@ mod segments;
 mod tails;
 
 pub use census::{TallyFault, census_of, census_of_few};
+pub use counts::census_of_counts;
 pub use few::are_few;
 pub use merge::{merged, merged_ensembles, merged_tails};
 pub use segments::entries_of;

@@ -25,6 +25,8 @@ pub enum Task<'a> {
     Waves(WaveWords<'a>),
     /// Says what the next losses cost.
     Risk(RiskWords<'a>),
+    /// Prints the census of files.
+    Census(Inputs<'a>),
     /// Plans what is to be done without some bookies of a picture.
     Plan(PlanWords<'a>),
 }
@@ -153,6 +155,7 @@ fn asked_task<'a>(alloc: Global, matches: &ArgMatches<'a>) -> Result<Task<'a>, A
         "ok-to-stop" => return asked_stop(alloc, given),
         "waves" => return asked_waves(alloc, given),
         "risk" => return asked_risk(alloc, given),
+        "census" => return Ok(Task::Census(asked_inputs(alloc, given)?)),
         "plan" => return asked_plan(alloc, given),
         _ => {}
     }
@@ -296,7 +299,7 @@ fn all_ways(alloc: Global) -> Result<String, AllocError> {
 }
 
 /// The command line: no word, `run PICTURE SCRIPT --workers N`, `talk PICTURE`, `check PICTURE`,
-/// `drill PICTURE SCRIPT..`, `ok-to-stop --lose BOOKIE,.. FILE..`, `waves FILE..`, `risk FILE..`, or
+/// `drill PICTURE SCRIPT..`, `ok-to-stop --lose BOOKIE,.. FILE..`, `waves FILE..`, `risk FILE..`, `census FILE..`, or
 /// `plan --lose BOOKIE,.. --to BOOKIE,.. PICTURE`.
 fn command<'a>(alloc: Global, ways: &'a str) -> Result<Command<'a>, Error> {
     let command = Command::new(alloc, "rehearse")
@@ -311,6 +314,7 @@ fn command<'a>(alloc: Global, ways: &'a str) -> Result<Command<'a>, Error> {
         .subcommand(stop_command(alloc)?)?
         .subcommand(waves_command(alloc)?)?
         .subcommand(risk_command(alloc)?)?
+        .subcommand(census_command(alloc)?)?
         .subcommand(plan_command(alloc)?)?;
     Ok(command)
 }
@@ -420,6 +424,14 @@ fn risk_command<'a>(alloc: Global) -> Result<Command<'a>, Error> {
     with_inputs(alloc, with_question(alloc, command)?)
 }
 
+/// The command `census`.
+fn census_command<'a>(alloc: Global) -> Result<Command<'a>, Error> {
+    let command = Command::new(alloc, "census").about(
+        "Prints the census of files, which is read in their place",
+    );
+    with_files(alloc, command)
+}
+
 /// What `--keep` may be: one less than the ack quorum, or so many copies.
 const KEEPS: &[&str] = &[
     "ack-1", "1", "2", "3", "4", "5", "6", "7", "8", "9", "10", "11", "12", "13", "14", "15", "16",
@@ -459,22 +471,28 @@ fn with_question<'a>(alloc: Global, command: Command<'a>) -> Result<Command<'a>,
     Ok(command)
 }
 
-/// The command with the arguments for the files of a cluster.
+/// The command with the arguments for the files of a cluster, and for the form of the answer.
 fn with_inputs<'a>(alloc: Global, command: Command<'a>) -> Result<Command<'a>, Error> {
     let format = Arg::new(alloc, "format")
         .long("format")
         .value_name("FORMAT")
         .value_parser(FORMATS)
         .help("How the answer is printed; by default text");
+    with_files(alloc, command.arg(format)?)
+}
+
+/// The command with the arguments for the files of a cluster.
+fn with_files<'a>(alloc: Global, command: Command<'a>) -> Result<Command<'a>, Error> {
     let workers = workers_arg(alloc)?.help("How many workers read files, 1 to 8; by default 1");
     let files = Arg::new(alloc, "FILE")
         .required(true)
         .num_args(1..=MAX_FILES)
-        .help("Files with pictures of one cluster, which are judged as one");
+        .help(
+            "Files with pictures of one cluster, or with censuses of them, which are judged as one",
+        );
     let command = command
         .arg(flag_arg(alloc, "strict").help("What is assumed counts as untold"))?
         .arg(workers)?
-        .arg(format)?
         .arg(files)?;
     Ok(command)
 }

@@ -1,5 +1,6 @@
 // A picture that is checked, and nothing played on it.
 use crate::faults::RunFault;
+use reh_census_file::is_census;
 use reh_picture::{Counts, check_picture};
 use reh_types::MAX_PICTURE_BYTES;
 use std::alloc::{AllocError, Global};
@@ -29,6 +30,25 @@ pub(crate) fn read_picture_file(rt: &HostRuntime, path: &str) -> Result<Vec<u8>,
     file.take(MAX_PICTURE_BYTES as u64 + 1)
         .read_to_end(&mut bytes)
         .map_err(|error| unread(rt.alloc(), "read", path, error))?;
+    Ok(bytes)
+}
+
+/// How many bytes of a census are read behind as many as a picture may have: a longer one is cut.
+const MORE_CENSUS_BYTES: u64 = 1 << 28;
+
+/// The bytes of an input's file: all of a census, and of a picture that is too long a byte more than one may have.
+pub(crate) fn read_input_file(rt: &HostRuntime, path: &str) -> Result<Vec<u8>, RunFault> {
+    let file = fs::open(rt, path).map_err(|error| unread(rt.alloc(), "open", path, error))?;
+    let mut bytes = Vec::new(rt.alloc());
+    let mut head = file.take(MAX_PICTURE_BYTES as u64 + 1);
+    head.read_to_end(&mut bytes)
+        .map_err(|error| unread(rt.alloc(), "read", path, error))?;
+    if is_census(&bytes) {
+        head.into_inner()
+            .take(MORE_CENSUS_BYTES)
+            .read_to_end(&mut bytes)
+            .map_err(|error| unread(rt.alloc(), "read", path, error))?;
+    }
     Ok(bytes)
 }
 

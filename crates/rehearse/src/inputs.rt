@@ -1,11 +1,14 @@
-// The files of a cluster, read by several workers, and what they show together.
+// The files of a cluster, read by several workers, what they show together, and their census.
 ghost use Rattle.std.specs.Prelude.{◌≡◌, ◌+◌, ◌<◌, All, vec_len, length, IfOk, OnOk};
 ghost use Rattle.std.specs.Option.{IsSome};
 
-use crate::checks::read_picture_file;
+use crate::checks::{read_input_file, write_text};
 use crate::faults::RunFault;
-use reh_inputs::{GatherFault, Gathered, gather};
-use reh_picture::{Listed, LocatedFault, PictureFault, list_picture};
+use reh_census_file::{CensusFault, census_text};
+use reh_inputs::{
+    GatherFault, Gathered, Input, InputFault, gather, named_of, read_input, taken_of,
+};
+use reh_picture::{LocatedFault, PictureFault};
 use reh_types::BookieIx;
 use reh_words::Inputs;
 use std::alloc::{AllocError, Global};
@@ -18,23 +21,46 @@ pub(crate) fn gather_files<R: thread::Threads + Wait + Sync>(
     threads: &R,
     inputs: &Inputs<'_>,
 ) -> Result<Gathered, RunFault> {
-    let listed = list_files(rt, threads, inputs)?;
-    match gather(rt.alloc(), &listed, inputs.strict) {
+    let read = read_files(rt, threads, inputs)?;
+    gather_read(rt.alloc(), inputs, &read)
+}
+
+/// What these inputs show together, once they are read.
+fn gather_read(alloc: Global, inputs: &Inputs<'_>, read: &[Input]) -> Result<Gathered, RunFault> {
+    match gather(alloc, read, inputs.strict) {
         Ok(gathered) => Ok(gathered),
-        Err(fault) => Err(fault_of(rt.alloc(), &inputs.files, &listed, fault)),
+        Err(fault) => Err(fault_of(alloc, inputs, read, fault)),
     }
 }
 
-/// What a file lists, once it is read.
-type Slot = Option<Result<Listed, RunFault>>;
-
-/// What each file lists, in order, read by the workers; or the first fault, also in that order.
-fn list_files<R: thread::Threads + Wait + Sync>(
+/// Says to standard output what the census of the files is.
+pub(crate) fn census_over<R: thread::Threads + Wait + Sync>(
     rt: &HostRuntime,
     threads: &R,
     inputs: &Inputs<'_>,
-) -> Result<Vec<Listed>, RunFault>
-    ensures { IfOk result (λ listed. length listed.items ≡ vec_len inputs.now.files) }
+) -> Result<(), RunFault> {
+    let alloc = rt.alloc();
+    let read = read_files(rt, threads, inputs)?;
+    let gathered = gather_read(alloc, inputs, &read)?;
+    let taken = match taken_of(&read) {
+        Some(time) => Some(String::from_str(alloc, time)?),
+        None => None,
+    };
+    let census = named_of(alloc, gathered, inputs.strict, taken)?;
+    let text = census_text(alloc, &census)?;
+    write_text(rt, text.as_str()).map_err(|_| RunFault::WriteFault)
+}
+
+/// What a file shows, once it is read.
+type Slot = Option<Result<Input, RunFault>>;
+
+/// What each file shows, in order, read by the workers; or the first fault, also in that order.
+fn read_files<R: thread::Threads + Wait + Sync>(
+    rt: &HostRuntime,
+    threads: &R,
+    inputs: &Inputs<'_>,
+) -> Result<Vec<Input>, RunFault>
+    ensures { IfOk result (λ read. length read.items ≡ vec_len inputs.now.files) }
 {
     let files = inputs.files.as_slice();
     let mut slots = slots_of(rt.alloc(), files)?;
@@ -46,10 +72,10 @@ fn list_files<R: thread::Threads + Wait + Sync>(
             requires { number < length files.now }
             ensures { IsSome slot.exit.now }
         {
-            *slot = Some(list_file(rt, files[number]));
+            *slot = Some(read_one(rt, files[number]));
         },
     );
-    listed_of(rt.alloc(), slots)
+    read_of(rt.alloc(), slots)
 }
 
 /// A slot for each file.
@@ -63,33 +89,37 @@ fn slots_of(alloc: Global, files: &[&str]) -> Result<Vec<Slot>, AllocError>
     Ok(slots)
 }
 
-/// What each file lists, all of which are read, or the first fault.
-fn listed_of(alloc: Global, slots: Vec<Slot>) -> Result<Vec<Listed>, RunFault>
+/// What each file shows, all of which are read, or the first fault.
+fn read_of(alloc: Global, slots: Vec<Slot>) -> Result<Vec<Input>, RunFault>
     requires { All (λ slot. IsSome slot) slots.items }
-    ensures { IfOk result (λ listed. length listed.items ≡ length slots.items) }
+    ensures { IfOk result (λ read. length read.items ≡ length slots.items) }
 {
-    let mut listed = Vec::new(alloc);
+    let mut read = Vec::new(alloc);
     for slot in slots {
         let Some(one) = slot else { unreachable!() };
-        push_listed(&mut listed, one?)?;
+        push_read(&mut read, one?)?;
     }
-    Ok(listed)
+    Ok(read)
 }
 
-/// Adds what a file lists.
-fn push_listed(listed: &mut Vec<Listed>, one: Listed) -> Result<(), AllocError>
-    ensures { OnOk result (length listed.new.items ≡ length listed.old.items + 1) }
+/// Adds what a file shows.
+fn push_read(read: &mut Vec<Input>, one: Input) -> Result<(), AllocError>
+    ensures { OnOk result (length read.new.items ≡ length read.old.items + 1) }
 {
-    listed.push(one)?;
+    read.push(one)?;
     Ok(())
 }
 
-/// What the picture in a file lists.
-fn list_file(rt: &HostRuntime, path: &str) -> Result<Listed, RunFault> {
-    let picture = read_picture_file(rt, path)?;
-    match list_picture(rt.alloc(), &picture) {
-        Ok(listed) => Ok(listed),
-        Err(located) => Err(refused(rt.alloc(), path, located)?),
+/// What a file shows.
+fn read_one(rt: &HostRuntime, path: &str) -> Result<Input, RunFault> {
+    let bytes = read_input_file(rt, path)?;
+    match read_input(rt.alloc(), &bytes) {
+        Ok(input) => Ok(input),
+        Err(InputFault::Picture(located)) => Err(refused(rt.alloc(), path, located)?),
+        Err(InputFault::Census(CensusFault::NoMemory)) => Err(RunFault::NoMemory),
+        Err(InputFault::Census(fault)) => {
+            Err(unfit(format!(in rt.alloc(); "census {path}: {fault}")))
+        }
     }
 }
 
@@ -102,11 +132,12 @@ fn refused(alloc: Global, path: &str, located: LocatedFault) -> Result<RunFault,
 }
 
 /// The fault of a run whose inputs can't be judged together.
-fn fault_of(alloc: Global, files: &[&str], listed: &[Listed], fault: GatherFault) -> RunFault {
+fn fault_of(alloc: Global, inputs: &Inputs<'_>, read: &[Input], fault: GatherFault) -> RunFault {
+    let files = inputs.files.as_slice();
     let text = match fault {
         GatherFault::Differs { input, bookie } => {
             let path = path_of(files, input);
-            let name = name_of(listed, input, bookie);
+            let name = name_of(read, input, bookie);
             format!(in alloc; "{path} shows bookie '{name}' otherwise than a file before it")
         }
         GatherFault::TooManyBookies { input, .. } => {
@@ -128,6 +159,14 @@ fn fault_of(alloc: Global, files: &[&str], listed: &[Listed], fault: GatherFault
         GatherFault::Unfit { input, ledger } => {
             let path = path_of(files, input);
             format!(in alloc; "ledger {ledger} of {path} can't be counted")
+        }
+        GatherFault::OtherStrict { input } => {
+            let path = path_of(files, input);
+            if inputs.strict {
+                format!(in alloc; "{path} is a census without --strict, and --strict is given")
+            } else {
+                format!(in alloc; "{path} is a census with --strict, and --strict isn't given")
+            }
         }
         GatherFault::TooMany => return too_many(alloc),
         GatherFault::NoMemory => return RunFault::NoMemory,
@@ -157,12 +196,11 @@ fn path_of<'a>(files: &[&'a str], input: usize) -> &'a str {
 }
 
 /// The name of a bookie of an input.
-fn name_of(listed: &[Listed], input: usize, bookie: usize) -> &str {
-    let Some(listed) = listed.get(input) else {
-        return "";
+fn name_of(read: &[Input], input: usize, bookie: usize) -> &str {
+    let name = match read.get(input) {
+        Some(Input::Picture(listed)) => { listed.listing.names.name(BookieIx((bookie % 64) as u8)) }
+        Some(Input::Census(census)) => census.names().name((bookie % 4096) as u16),
+        None => None,
     };
-    match listed.listing.names.name(BookieIx((bookie % 64) as u8)) {
-        Some(name) => name,
-        None => "",
-    }
+    name.unwrap_or("")
 }

@@ -18,6 +18,7 @@ use checks::check_file;
 use clap::Error;
 use faults::{RunFault, after_flush, status_of, want_of_memory};
 use files::{LateFile, read_file, read_scripts};
+use inputs::census_over;
 use plans::plan_file;
 use reh_crew::{OpenGate, Plain};
 use reh_drill::drill_over;
@@ -47,6 +48,7 @@ fn main(rt: HostRuntime) -> ExitCode {
         },
         Ok(Task::Waves(words)) => end(&rt, waves_over(&rt, &rt, &words)),
         Ok(Task::Risk(words)) => end(&rt, risk_over(&rt, &rt, &words)),
+        Ok(Task::Census(inputs)) => end(&rt, census_over(&rt, &rt, &inputs)),
         Ok(Task::Plan(words)) => end(&rt, plan_file(&rt, &words)),
         Err(error) => show(&rt, &error),
     }
