@@ -1,6 +1,7 @@
 // The files of a cluster, read by several workers, and what they show together.
-ghost use Rattle.std.specs.Prelude.{◌≡◌, ◌+◌, ◌<◌, All, vec_len, length, IfOk, OnOk};
-ghost use Rattle.std.specs.Option.{IsSome};
+ghost use Rattle.std.specs.Prelude.{◌≡◌, ◌<◌, ◌++◌, ◌∷◌, [], All, vec_len, length, IfErr, IfOk, OnOk};
+ghost use Rattle.rehearse.specs.Inputs as model;
+ghost use Rattle.rehearse.specs.declared.faults.RunFault.TheVariants.{NoMemory, Unfit};
 
 use crate::checks::read_picture_file;
 use crate::faults::RunFault;
@@ -17,7 +18,9 @@ pub(crate) fn gather_files<R: thread::Threads + Wait + Sync>(
     rt: &HostRuntime,
     threads: &R,
     inputs: &Inputs<'_>,
-) -> Result<Gathered, RunFault> {
+) -> Result<Gathered, RunFault>
+    ensures { IfOk result (λ gathered. model.IsOfFiles inputs.now gathered) }
+{
     let listed = list_files(rt, threads, inputs)?;
     match gather(rt.alloc(), &listed, inputs.strict) {
         Ok(gathered) => Ok(gathered),
@@ -34,7 +37,8 @@ fn list_files<R: thread::Threads + Wait + Sync>(
     threads: &R,
     inputs: &Inputs<'_>,
 ) -> Result<Vec<Listed>, RunFault>
-    ensures { IfOk result (λ listed. length listed.items ≡ vec_len inputs.now.files) }
+    ensures each { IfOk result (λ listed. length listed.items ≡ vec_len inputs.now.files) }
+    ensures pictures { IfOk result (λ listed. All model.IsOfPicture listed.items) }
 {
     let files = inputs.files.as_slice();
     let mut slots = slots_of(rt.alloc(), files)?;
@@ -44,7 +48,7 @@ fn list_files<R: thread::Threads + Wait + Sync>(
         inputs.crew.workers,
         &|number, slot: &mut Slot|
             requires { number < length files.now }
-            ensures { IsSome slot.exit.now }
+            ensures { model.IsRead slot.exit.now }
         {
             *slot = Some(list_file(rt, files[number]));
         },
@@ -65,8 +69,9 @@ fn slots_of(alloc: Global, files: &[&str]) -> Result<Vec<Slot>, AllocError>
 
 /// What each file lists, all of which are read, or the first fault.
 fn listed_of(alloc: Global, slots: Vec<Slot>) -> Result<Vec<Listed>, RunFault>
-    requires { All (λ slot. IsSome slot) slots.items }
-    ensures { IfOk result (λ listed. length listed.items ≡ length slots.items) }
+    requires { All model.IsRead slots.items }
+    ensures each { IfOk result (λ listed. length listed.items ≡ length slots.items) }
+    ensures pictures { IfOk result (λ listed. All model.IsOfPicture listed.items) }
 {
     let mut listed = Vec::new(alloc);
     for slot in slots {
@@ -78,14 +83,16 @@ fn listed_of(alloc: Global, slots: Vec<Slot>) -> Result<Vec<Listed>, RunFault>
 
 /// Adds what a file lists.
 fn push_listed(listed: &mut Vec<Listed>, one: Listed) -> Result<(), AllocError>
-    ensures { OnOk result (length listed.new.items ≡ length listed.old.items + 1) }
+    ensures { OnOk result (listed.new.items ≡ listed.old.items ++ one ∷ []) }
 {
     listed.push(one)?;
     Ok(())
 }
 
 /// What the picture in a file lists.
-fn list_file(rt: &HostRuntime, path: &str) -> Result<Listed, RunFault> {
+fn list_file(rt: &HostRuntime, path: &str) -> Result<Listed, RunFault>
+    ensures { IfOk result model.IsOfPicture }
+{
     let picture = read_picture_file(rt, path)?;
     match list_picture(rt.alloc(), &picture) {
         Ok(listed) => Ok(listed),
@@ -102,7 +109,9 @@ fn refused(alloc: Global, path: &str, located: LocatedFault) -> Result<RunFault,
 }
 
 /// The fault of a run whose inputs can't be judged together.
-fn fault_of(alloc: Global, files: &[&str], listed: &[Listed], fault: GatherFault) -> RunFault {
+fn fault_of(alloc: Global, files: &[&str], listed: &[Listed], fault: GatherFault) -> RunFault
+    ensures { model.TellsOf files.now listed.now fault result }
+{
     let text = match fault {
         GatherFault::Differs { input, bookie } => {
             let path = path_of(files, input);
@@ -128,12 +137,17 @@ fn fault_of(alloc: Global, files: &[&str], listed: &[Listed], fault: GatherFault
 }
 
 /// That there is more than a census counts.
-pub(crate) fn too_many(alloc: Global) -> RunFault {
+pub(crate) fn too_many(alloc: Global) -> RunFault
+    ensures { model.IsUnfit model.too_many_text result }
+{
     unfit(format!(in alloc; "there are more entries, ledgers or fragments than can be counted"))
 }
 
 /// The fault with this text.
-pub(crate) fn unfit(text: Result<String, AllocError>) -> RunFault {
+pub(crate) fn unfit(text: Result<String, AllocError>) -> RunFault
+    ensures text { IfOk text (λ text. result ≡ Unfit text) }
+    ensures none { IfErr text (λ _. result ≡ NoMemory) }
+{
     match text {
         Ok(text) => RunFault::Unfit(text),
         Err(want) => RunFault::from(want),
@@ -141,7 +155,9 @@ pub(crate) fn unfit(text: Result<String, AllocError>) -> RunFault {
 }
 
 /// The path of an input.
-fn path_of<'a>(files: &[&'a str], input: usize) -> &'a str {
+fn path_of<'a>(files: &[&'a str], input: usize) -> &'a str
+    ensures { result.now ≡ model.path_of files.now input }
+{
     match files.get(input) {
         Some(path) => *path,
         None => "",
@@ -149,7 +165,9 @@ fn path_of<'a>(files: &[&'a str], input: usize) -> &'a str {
 }
 
 /// The name of a bookie of an input.
-fn name_of(listed: &[Listed], input: usize, bookie: usize) -> &str {
+fn name_of(listed: &[Listed], input: usize, bookie: usize) -> &str
+    ensures { result.now ≡ model.name_of listed.now input bookie }
+{
     let Some(listed) = listed.get(input) else {
         return "";
     };

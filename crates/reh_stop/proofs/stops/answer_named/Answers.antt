@@ -7,7 +7,7 @@ use Rattle.reh_census.specs.Bookies.{bookies_of, holders, is_flagged}
 use Rattle.reh_census.specs.Counting.{IsCensus, counting_of, not_judged}
 use Rattle.reh_answer.specs.Texts.{status_number}
 use Rattle.reh_inputs.specs.Gathered.{ledgers_of, reading_of}
-use Rattle.reh_stop.proofs.stops.answer_stop.Goals as goal
+use Rattle.reh_stop.proofs.stops.answer_named.Goals as goal
 
 pub returns-clause-ledgers : goal.returns-clause-ledgers
 returns-clause-ledgers c = λ inputs strict gathers.
@@ -18,5 +18,5 @@ returns-clause-ledgers c = λ inputs strict gathers.
     gathers.census in
     c.in_ok-said.ensures.ledgers ledgers counted
     ∙ (λ i.
-    status_number (answer_on (counting_of (holders (bookies_of g.bookies)) ledgers) (bookies_of g.bookies) c.args.asked.now.question
+    status_number (answer_on (counting_of (holders (bookies_of g.bookies)) ledgers) (bookies_of g.bookies) c.args.named.now.question
     (ap (λ (judged : Judged). not_judged judged) gathers.judged i) (is_flagged (c.in_ok-stopped.ensures i))))

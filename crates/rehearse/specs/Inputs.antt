@@ -1,0 +1,101 @@
+-- What is read of the files of a cluster, and what is said of it.
+use Rattle.std.specs.Prelude.{◌≡◌, ℕ, ◌%◌, List, [], ◌++◌, All, Option, Result, String, codes, length, slice_get, string_bytes, vec_len, IfOk}
+use Rattle.std.specs.Borrow.{Bor}
+use Rattle.std.specs.Fmt.{decimal}
+use Rattle.std.specs.Option.{IsSomeAnd, option_and_then, option_map_or}
+use Rattle.std.specs.declared.alloc.Global.{Global}
+use Rattle.reh_picture.specs.declared.listings.Listed.{Listed}
+use Rattle.reh_picture.specs.Listings.{Lists}
+use Rattle.reh_inputs.specs.Gathered.{Gathers}
+use Rattle.reh_inputs.specs.declared.gathered.GatherFault.{GatherFault}
+use Rattle.reh_inputs.specs.declared.gathered.GatherFault.TheVariants as gather
+use Rattle.reh_inputs.specs.declared.together.Gathered.{Gathered}
+use Rattle.reh_stop.specs.Rounds.{SaysCost, SaysRounds}
+use Rattle.reh_stop.specs.Stops.{IsAnswered}
+use Rattle.reh_stop.specs.declared.rounds.AskedRisk.{AskedRisk}
+use Rattle.reh_stop.specs.declared.rounds.AskedWaves.{AskedWaves}
+use Rattle.reh_stop.specs.declared.stops.Asked.{Asked}
+use Rattle.reh_stop.specs.declared.stops.Said.{Said}
+use Rattle.reh_words.specs.declared.tasks.Inputs.{Inputs}
+use Rattle.reh_words.specs.declared.tasks.RiskWords.{RiskWords}
+use Rattle.reh_words.specs.declared.tasks.Stop.{Stop}
+use Rattle.reh_words.specs.declared.tasks.WaveWords.{WaveWords}
+use Rattle.rehearse.specs.declared.faults.RunFault.{RunFault}
+use Rattle.rehearse.specs.declared.faults.RunFault.TheVariants.{NoMemory, Unfit}
+
+-- it is what some bytes list as a picture
+abbrev pub IsOfPicture : Listed → Type 0
+IsOfPicture listed = (bytes : List ℕ) × Lists bytes listed
+
+-- a file was read: what it lists is there, or its fault
+abbrev pub IsRead : Option (Result Listed RunFault) → Type 0
+IsRead slot = IsSomeAnd slot (λ read. IfOk read IsOfPicture)
+
+-- what all files show together, each a picture
+pub record IsOfFiles (words : Inputs) (gathered : Gathered) : Type 0 where
+  pub inputs : List Listed
+  pub each_file : length inputs ≡ vec_len words.files
+  pub pictures : All IsOfPicture inputs
+  pub gathers : Gathers inputs words.strict gathered
+
+-- what is said of a stop, by all files
+pub record SaysStop (words : Stop) (said : Said) : Type 0 where
+  pub gathered : Gathered
+  pub of_files : IsOfFiles words.inputs gathered
+  pub asked : Asked
+  pub same_bookies : asked.bookies.now ≡ words.bookies.items
+  pub same_racks : asked.racks.now ≡ words.racks.items
+  pub same_question : asked.question ≡ words.question
+  pub same_form : asked.as_json ≡ words.as_json
+  pub answered : IsAnswered gathered asked said
+
+-- what is said of rounds
+abbrev pub waves_asked : WaveWords → AskedWaves
+waves_asked words = record { question = words.question; by_rack = words.by_rack; as_json = words.as_json }
+
+pub record SaysWaves (words : WaveWords) (text : String Global) : Type 0 where
+  pub gathered : Gathered
+  pub of_files : IsOfFiles words.inputs gathered
+  pub says : SaysRounds gathered (waves_asked words) text
+
+-- and of the next losses
+abbrev pub risk_asked : RiskWords → AskedRisk
+risk_asked words = record { question = words.question; with_pairs = words.with_pairs; as_json = words.as_json }
+
+pub record SaysRisk (words : RiskWords) (text : String Global) : Type 0 where
+  pub gathered : Gathered
+  pub of_files : IsOfFiles words.inputs gathered
+  pub says : SaysCost gathered (risk_asked words) text
+
+-- Inputs that can't be judged together
+
+-- the path of an input, and the name of a bookie of it
+abbrev pub path_of : List (Bor (List ℕ)) → ℕ → List ℕ
+path_of files input = option_map_or (λ path. path.now) (slice_get files input) []
+
+abbrev pub name_of : List Listed → ℕ → ℕ → List ℕ
+name_of listed input bookie =
+    option_map_or (λ name. name) (option_and_then (λ l. slice_get l.listing.names (bookie % 64)) (slice_get listed input)) []
+
+-- the fault has this text, or there is no memory for it
+abbrev pub IsUnfit : List ℕ → RunFault → Type 0
+IsUnfit text (Unfit reason) = string_bytes reason ≡ text
+IsUnfit text NoMemory = Unit {0}
+IsUnfit text other = ⊥
+
+abbrev pub too_many_text : List ℕ
+too_many_text = codes "there are more entries, ledgers or fragments than can be counted"
+
+-- which fault of a run tells of this one: it names the file
+abbrev pub TellsOf : List (Bor (List ℕ)) → List Listed → GatherFault → RunFault → Type 0
+TellsOf files listed (gather.Differs input bookie) run =
+    IsUnfit (path_of files input
+    ++ (codes " shows bookie '" ++ (name_of listed input bookie ++ codes "' otherwise than a file before it"))) run
+TellsOf files listed (gather.TooManyBookies input bookie) run =
+    IsUnfit (codes "with " ++ (path_of files input ++ codes " there are more than 4096 bookies")) run
+TellsOf files listed (gather.Twice input ledger) run =
+    IsUnfit (codes "ledger " ++ (decimal ledger ++ (codes " of " ++ (path_of files input ++ codes " is in a file before it, too")))) run
+TellsOf files listed (gather.Unfit input ledger) run =
+    IsUnfit (codes "ledger " ++ (decimal ledger ++ (codes " of " ++ (path_of files input ++ codes " can't be counted")))) run
+TellsOf files listed gather.TooMany run = IsUnfit too_many_text run
+TellsOf files listed gather.NoMemory run = run ≡ NoMemory
