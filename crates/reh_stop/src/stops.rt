@@ -20,9 +20,9 @@ use std::alloc::{AllocError, Global};
 /// What is asked: may these bookies be stopped, and those of these racks; and whether the answer is to be JSON. A word that
 /// is no bookie's name is a list of names with commas between them.
 #[derive(Clone, Copy)]
-pub struct Asked<'a> {
-    pub bookies: &'a [&'a str],
-    pub racks: &'a [&'a str],
+pub struct Asked<'w, 'a> {
+    pub bookies: &'w [&'a str],
+    pub racks: &'w [&'a str],
     pub question: Question,
     pub as_json: bool,
 }
@@ -79,7 +79,7 @@ impl<'a> From<TallyFault> for StopFault<'a> {
 }
 
 /// The first fault of the names.
-fn check_names<'a>(cluster: &Cluster, asked: &Asked<'a>) -> Result<(), StopFault<'a>>
+fn check_names<'a>(cluster: &Cluster, asked: &Asked<'_, 'a>) -> Result<(), StopFault<'a>>
     ensures named { OnOk result (model.AreNamed cluster.now asked.now) }
     ensures fault { IfErr result (λ fault. model.IsFaultOf cluster.now asked.now fault) }
 {
@@ -98,7 +98,7 @@ fn check_names<'a>(cluster: &Cluster, asked: &Asked<'a>) -> Result<(), StopFault
 /// The facts as text, or as JSON.
 fn text_by(
     alloc: Global,
-    asked: &Asked<'_>,
+    asked: &Asked<'_, '_>,
     facts: &Facts,
     names: &[String],
     against: &[Against],
@@ -118,7 +118,7 @@ fn text_by(
 fn say(
     alloc: Global,
     gathered: &Gathered,
-    asked: &Asked<'_>,
+    asked: &Asked<'_, '_>,
     stopped: &BookieSet,
 ) -> Result<Said, TallyFault>
     ensures said { IfOk result (λ said. model.IsSaid gathered.now asked.now stopped.now said) }
@@ -157,7 +157,7 @@ fn say(
 fn answer_named<'a>(
     alloc: Global,
     gathered: &Gathered,
-    named: &Asked<'a>,
+    named: &Asked<'_, 'a>,
 ) -> Result<Said, StopFault<'a>>
     ensures named { OnOk result (model.AreNamed gathered.now.cluster named.now) }
     ensures said { IfOk result (λ said. model.IsSaid gathered.now named.now
@@ -176,7 +176,7 @@ fn answer_named<'a>(
 pub fn answer_stop<'a>(
     alloc: Global,
     gathered: &Gathered,
-    asked: &Asked<'a>,
+    asked: &Asked<'_, 'a>,
 ) -> Result<Said, StopFault<'a>>
     ensures answered { IfOk result (λ said. model.IsAnswered gathered.now asked.now said) }
     ensures fault { IfErr result (λ fault. model.IsRefused gathered.now.cluster asked.now fault) }
