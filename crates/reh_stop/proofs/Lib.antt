@@ -1,1 +1,2 @@
 mod FaultLaws
+mod WordLaws

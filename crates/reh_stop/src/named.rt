@@ -57,18 +57,25 @@ fn parts_of<'a>(alloc: Global, word: &'a str) -> Result<Vec<&'a str>, AllocError
     word.split(',').collect(alloc)
 }
 
+/// Whether the word is a bookie's name.
+fn is_name(names: &ClusterNames, word: &str) -> bool
+    ensures { result ≡ model.is_name names.now word.now }
+{
+    names.find(word).is_some()
+}
+
 /// Whether each of the words is a bookie's name.
 fn are_names(names: &ClusterNames, words: &[&str]) -> bool
     ensures { result ≡ list_all (λ word. model.is_name names.now word.now) words.now }
 {
-    words.iter().all(|word| names.find(word).is_some())
+    words.iter().all(|word| is_name(names, word))
 }
 
 /// Whether the word is a bookie's name, and a list of bookies' names too.
 fn is_ambiguous(alloc: Global, names: &ClusterNames, word: &str) -> Result<bool, AllocError>
     ensures { IfOk result (λ is. is ≡ model.is_ambiguous names.now word.now) }
 {
-    if names.find(word).is_none() {
+    if !is_name(names, word) {
         return Ok(false);
     }
     let parts = parts_of(alloc, word)?;

@@ -171,6 +171,13 @@ fn answer_named<'a>(
     Ok(said)
 }
 
+/// Whether some bookie or rack is named.
+fn has_words(asked: &Asked<'_, '_>) -> bool
+    ensures { result ≡ model.has_words asked.now }
+{
+    0 < asked.bookies.len() || 0 < asked.racks.len()
+}
+
 /// Whether the bookies that the words name may be stopped, by what inputs show together: the text that says so, and the
 /// exit status.
 pub fn answer_stop<'a>(
@@ -181,7 +188,7 @@ pub fn answer_stop<'a>(
     ensures answered { IfOk result (λ said. model.IsAnswered gathered.now asked.now said) }
     ensures fault { IfErr result (λ fault. model.IsRefused gathered.now.cluster asked.now fault) }
 {
-    if asked.bookies.is_empty() && asked.racks.is_empty() {
+    if !has_words(asked) {
         return Err(StopFault::Nobody);
     }
     let names = gathered.cluster.names();
