@@ -1,5 +1,5 @@
 -- Words, and what stands between their commas.
-use Rattle.std.proofs.Common.{◌≡◌, ◌∙◌, ◌<◌, ◌≤◌, ◌+◌, ◌++◌, ◌∷◌, ◌&&◌, [], ap, sym, append-nil, ℕ, Bool, true, false, List, get_or, length, map, take, arith}
+use Rattle.std.proofs.Common.{◌≡◌, ◌∙◌, ◌<◌, ◌≤◌, ◌+◌, ◌++◌, ◌∷◌, ◌&&◌, [], ap, sym, append-nil, ℕ, true, false, List, get_or, length, take, arith}
 use Rattle.std.specs.Borrow.{Bor}
 use Rattle.std.specs.List.{flat_map, list_all}
 use Rattle.std.specs.Prelude.{nat_lt}
@@ -10,16 +10,17 @@ use Rattle.std.proofs.lemmas.List.Folds.{list_all-map}
 use Rattle.reh_stop.specs.Named.{is_ambiguous, is_name, parts_of, texts}
 
 -- one word more
-pub flat_map_at : {A B : Type 0} (f : A → List B) (xs : List A) (k : ℕ) (d : A) → k < length xs
-    → flat_map f (take (k + 1) xs) ≡ flat_map f (take k xs) ++ f (get_or xs k d)
-flat_map_at f xs k d within =
-    ap (flat_map f) (take_more xs k d within) ∙ flat_map-append f (take k xs) (get_or xs k d ∷ [])
-    ∙ ap (λ ys. flat_map f (take k xs) ++ ys) (append-nil (f (get_or xs k d)))
+pub with_word : {A B : Type 0} (f : A → List B) (xs : List A) (k : ℕ) (d : A) (before after : List B) → k < length xs
+    → before ≡ flat_map f (take k xs) → after ≡ before ++ f (get_or xs k d) → after ≡ flat_map f (take (k + 1) xs)
+with_word f xs k d before after within passed more =
+    more ∙ ap (λ ys. ys ++ f (get_or xs k d)) passed
+    ∙ sym (ap (flat_map f) (take_more xs k d within) ∙ flat_map-append f (take k xs) (get_or xs k d ∷ [])
+    ∙ ap (λ ys. flat_map f (take k xs) ++ ys) (append-nil (f (get_or xs k d))))
 
 more-than-one : (n : ℕ) → 1 < n → nat_lt 1 n ≡ true
 more-than-one n more = grind (arith, nat_tests)
 
-no-more : (n : ℕ) → n ≤ 1 → nat_lt 1 n ≡ false
+pub no-more : (n : ℕ) → n ≤ 1 → nat_lt 1 n ≡ false
 no-more n few = grind (arith, nat_tests)
 
 module _ (names : List (List ℕ)) (word : List ℕ) (parts : List (Bor (List ℕ))) (named : is_name names word ≡ true) (are : texts parts ≡ parts_of word) where

@@ -74,11 +74,7 @@ fn check_names(names: &[String]) -> Result<(), RoundFault>
 }
 
 /// The rounds, by what inputs show together.
-fn rounds_of(
-    alloc: Global,
-    gathered: &Gathered,
-    asked: &AskedWaves,
-) -> Result<Waves, AllocError>
+fn rounds_of(alloc: Global, gathered: &Gathered, asked: &AskedWaves) -> Result<Waves, AllocError>
     requires { length gathered.now.bookies ≡ length gathered.now.cluster.shown }
     ensures { IfOk result (λ waves. model.AreRounds gathered.now asked.now waves) }
 {

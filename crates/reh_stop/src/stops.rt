@@ -200,6 +200,5 @@ pub fn answer_stop<'a>(
         bookies: &bookies,
         ..*asked
     };
-    let said = answer_named(alloc, gathered, &named)?;
-    Ok(said)
+    answer_named(alloc, gathered, &named)
 }

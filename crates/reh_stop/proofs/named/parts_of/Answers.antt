@@ -1,5 +1,5 @@
 -- A word, cut at each comma.
-use Rattle.std.proofs.Common.{◌<◌, lit<}
+use Rattle.std.proofs.Common.{lit<}
 use Rattle.std.proofs.lemmas.Iterator.Consumers.{map_from_collect}
 use Rattle.std.proofs.lemmas.Iterator.Splits.{YieldsList-from_str_split}
 use Rattle.reh_stop.proofs.named.parts_of.Goals as goal

@@ -1,14 +1,14 @@
 -- The names that the words give are those that are asked of.
-use Rattle.std.proofs.Common.{◌∙◌, ap, sym, refl, subst, rules, ℕ, List}
+use Rattle.std.proofs.Common.{◌∙◌, ap, sym, refl, subst, rules}
 use Rattle.reh_stop.specs.Named.{AreClear, names_in, texts}
 use Rattle.reh_stop.specs.declared.stops.Asked.{Asked}
-use Rattle.reh_stop.specs.Stops.{IsByNames, IsRefused}
-use Rattle.reh_stop.proofs.FaultLaws.{refused}
+use Rattle.reh_stop.specs.Stops.{IsByNames}
+use Rattle.reh_stop.proofs.FaultLaws.{answered-by, refused-by}
 use Rattle.reh_stop.proofs.stops.answer_stop.Goals as goal
 
-pub returns-in_err-said-clause-fault : goal.returns-in_err-said-clause-fault
-returns-in_err-said-clause-fault c =
-    let cluster = c.args.gathered.now.cluster in
+pub returns-clause-fault : goal.returns-clause-fault
+returns-clause-fault c =
+    let g = c.args.gathered.now in
     let asked = c.args.asked.now in
     let named : Asked = record {
       bookies = c.deref.result;
@@ -16,38 +16,32 @@ returns-in_err-said-clause-fault c =
       question = asked.question;
       as_json = asked.as_json;
     } in
-    let by : IsByNames cluster asked named = record {
+    let by : IsByNames g.cluster asked named = record {
       bookies = ap texts c.deref.ensures.value ∙ c.in_ok-bookies.ensures
           ∙ ap (λ names. names_in names asked.bookies.now) c.names-names.ensures;
       racks = refl;
       question = refl;
       as_json = refl;
     } in
-    rw c.from_residual-in_err-said.ensures
-    (refused cluster asked named (sym c.if-not-has_words.ensures) by c.in_err-said.field-0.0 c.in_err-said.ensures.fault)
+    refused-by g asked named (sym c.if-not-has_words.ensures) by c.answer_named.result c.answer_named.ensures.fault
 
 pub returns-clause-answered : goal.returns-clause-answered
 returns-clause-answered c =
-    let cluster = c.args.gathered.now.cluster in
+    let g = c.args.gathered.now in
     let asked = c.args.asked.now in
-    record {
-      some = sym c.if-not-has_words.ensures;
-      clear =
-          subst (λ names. AreClear names asked.bookies.now) c.names-names.ensures (c.in_ok-word.ensures.none (search rules));
-      named = record {
-        bookies = c.deref.result;
-        racks = asked.racks;
-        question = asked.question;
-        as_json = asked.as_json;
-      };
-      by_names = record {
-        bookies = ap texts c.deref.ensures.value ∙ c.in_ok-bookies.ensures
-            ∙ ap (λ names. names_in names asked.bookies.now) c.names-names.ensures;
-        racks = refl;
-        question = refl;
-        as_json = refl;
-      };
-      are_named = c.in_ok-said.ensures.named;
-      says = c.in_ok-said.ensures.said;
-      ledgers = c.in_ok-said.ensures.ledgers;
-    }
+    let named : Asked = record {
+      bookies = c.deref.result;
+      racks = asked.racks;
+      question = asked.question;
+      as_json = asked.as_json;
+    } in
+    let by : IsByNames g.cluster asked named = record {
+      bookies = ap texts c.deref.ensures.value ∙ c.in_ok-bookies.ensures
+          ∙ ap (λ names. names_in names asked.bookies.now) c.names-names.ensures;
+      racks = refl;
+      question = refl;
+      as_json = refl;
+    } in
+    answered-by g asked named (sym c.if-not-has_words.ensures) by
+    (subst (λ names. AreClear names asked.bookies.now) c.names-names.ensures (c.in_ok-word.ensures.none (search rules)))
+    c.answer_named.result c.answer_named.ensures.named c.answer_named.ensures.said c.answer_named.ensures.ledgers
