@@ -1,5 +1,5 @@
 -- What is read of the files of a cluster, and what is said of it.
-use Rattle.std.specs.Prelude.{◌≡◌, ℕ, ◌%◌, List, [], ◌++◌, All, Option, Result, String, codes, length, slice_get, string_bytes, vec_len, IfOk}
+use Rattle.std.specs.Prelude.{◌≡◌, ℕ, ◌%◌, List, [], ◌++◌, All, Option, Result, Ok, Err, String, codes, length, slice_get, string_bytes, vec_len, IfOk}
 use Rattle.std.specs.Borrow.{Bor}
 use Rattle.std.specs.Fmt.{decimal}
 use Rattle.std.specs.Option.{IsSomeAnd, option_and_then, option_map_or}
@@ -86,16 +86,32 @@ IsUnfit text other = ⊥
 abbrev pub too_many_text : List ℕ
 too_many_text = codes "there are more entries, ledgers or fragments than can be counted"
 
+-- the fault has the text that could be made
+abbrev pub TellsText : {E : Type 0} → Result (String Global) E → RunFault → Type 0
+TellsText (Ok text) run = run ≡ Unfit text
+TellsText (Err want) run = run ≡ NoMemory
+
+abbrev pub differs_text : List ℕ → List ℕ → List ℕ
+differs_text path name =
+    path ++ (codes " shows bookie '" ++ (name ++ codes "' otherwise than a file before it"))
+
+abbrev pub bookies_text : List ℕ → List ℕ
+bookies_text path = codes "with " ++ (path ++ codes " there are more than 4096 bookies")
+
+abbrev pub twice_text : List ℕ → ℕ → List ℕ
+twice_text path ledger =
+    codes "ledger " ++ (decimal ledger ++ (codes " of " ++ (path ++ codes " is in a file before it, too")))
+
+abbrev pub uncounted_text : List ℕ → ℕ → List ℕ
+uncounted_text path ledger =
+    codes "ledger " ++ (decimal ledger ++ (codes " of " ++ (path ++ codes " can't be counted")))
+
 -- which fault of a run tells of this one: it names the file
 abbrev pub TellsOf : List (Bor (List ℕ)) → List Listed → GatherFault → RunFault → Type 0
 TellsOf files listed (gather.Differs input bookie) run =
-    IsUnfit (path_of files input
-    ++ (codes " shows bookie '" ++ (name_of listed input bookie ++ codes "' otherwise than a file before it"))) run
-TellsOf files listed (gather.TooManyBookies input bookie) run =
-    IsUnfit (codes "with " ++ (path_of files input ++ codes " there are more than 4096 bookies")) run
-TellsOf files listed (gather.Twice input ledger) run =
-    IsUnfit (codes "ledger " ++ (decimal ledger ++ (codes " of " ++ (path_of files input ++ codes " is in a file before it, too")))) run
-TellsOf files listed (gather.Unfit input ledger) run =
-    IsUnfit (codes "ledger " ++ (decimal ledger ++ (codes " of " ++ (path_of files input ++ codes " can't be counted")))) run
+    IsUnfit (differs_text (path_of files input) (name_of listed input bookie)) run
+TellsOf files listed (gather.TooManyBookies input bookie) run = IsUnfit (bookies_text (path_of files input)) run
+TellsOf files listed (gather.Twice input ledger) run = IsUnfit (twice_text (path_of files input) ledger) run
+TellsOf files listed (gather.Unfit input ledger) run = IsUnfit (uncounted_text (path_of files input) ledger) run
 TellsOf files listed gather.TooMany run = IsUnfit too_many_text run
 TellsOf files listed gather.NoMemory run = run ≡ NoMemory

@@ -1,7 +1,6 @@
 // The files of a cluster, read by several workers, and what they show together.
-ghost use Rattle.std.specs.Prelude.{◌≡◌, ◌<◌, ◌++◌, ◌∷◌, [], All, vec_len, length, IfErr, IfOk, OnOk};
+ghost use Rattle.std.specs.Prelude.{◌≡◌, ◌<◌, ◌++◌, ◌∷◌, [], All, vec_len, length, IfOk, OnOk};
 ghost use Rattle.rehearse.specs.Inputs as model;
-ghost use Rattle.rehearse.specs.declared.faults.RunFault.TheVariants.{NoMemory, Unfit};
 
 use crate::checks::read_picture_file;
 use crate::faults::RunFault;
@@ -112,28 +111,51 @@ fn refused(alloc: Global, path: &str, located: LocatedFault) -> Result<RunFault,
 fn fault_of(alloc: Global, files: &[&str], listed: &[Listed], fault: GatherFault) -> RunFault
     ensures { model.TellsOf files.now listed.now fault result }
 {
-    let text = match fault {
-        GatherFault::Differs { input, bookie } => {
-            let path = path_of(files, input);
-            let name = name_of(listed, input, bookie);
-            format!(in alloc; "{path} shows bookie '{name}' otherwise than a file before it")
-        }
-        GatherFault::TooManyBookies { input, .. } => {
-            let path = path_of(files, input);
-            format!(in alloc; "with {path} there are more than 4096 bookies")
-        }
-        GatherFault::Twice { input, ledger } => {
-            let path = path_of(files, input);
-            format!(in alloc; "ledger {ledger} of {path} is in a file before it, too")
-        }
-        GatherFault::Unfit { input, ledger } => {
-            let path = path_of(files, input);
-            format!(in alloc; "ledger {ledger} of {path} can't be counted")
-        }
-        GatherFault::TooMany => return too_many(alloc),
-        GatherFault::NoMemory => return RunFault::NoMemory,
-    };
-    unfit(text)
+    match fault {
+        GatherFault::Differs { input, bookie } => differs(alloc, files, listed, input, bookie),
+        GatherFault::TooManyBookies { input, .. } => too_many_bookies(alloc, path_of(files, input)),
+        GatherFault::Twice { input, ledger } => listed_twice(alloc, path_of(files, input), ledger),
+        GatherFault::Unfit { input, ledger } => uncounted(alloc, path_of(files, input), ledger),
+        GatherFault::TooMany => too_many(alloc),
+        GatherFault::NoMemory => RunFault::NoMemory,
+    }
+}
+
+/// That an input shows a bookie otherwise than one before it.
+fn differs(
+    alloc: Global,
+    files: &[&str],
+    listed: &[Listed],
+    input: usize,
+    bookie: usize,
+) -> RunFault
+    ensures { model.IsUnfit (model.differs_text (model.path_of files.now input)
+        (model.name_of listed.now input bookie)) result }
+{
+    let path = path_of(files, input);
+    let name = name_of(listed, input, bookie);
+    unfit(format!(in alloc; "{path} shows bookie '{name}' otherwise than a file before it"))
+}
+
+/// That there are too many bookies.
+fn too_many_bookies(alloc: Global, path: &str) -> RunFault
+    ensures { model.IsUnfit (model.bookies_text path.now) result }
+{
+    unfit(format!(in alloc; "with {path} there are more than 4096 bookies"))
+}
+
+/// That a ledger stands in two inputs.
+fn listed_twice(alloc: Global, path: &str, ledger: u64) -> RunFault
+    ensures { model.IsUnfit (model.twice_text path.now ledger) result }
+{
+    unfit(format!(in alloc; "ledger {ledger} of {path} is in a file before it, too"))
+}
+
+/// That a ledger can't be counted.
+fn uncounted(alloc: Global, path: &str, ledger: u64) -> RunFault
+    ensures { model.IsUnfit (model.uncounted_text path.now ledger) result }
+{
+    unfit(format!(in alloc; "ledger {ledger} of {path} can't be counted"))
 }
 
 /// That there is more than a census counts.
@@ -145,8 +167,7 @@ pub(crate) fn too_many(alloc: Global) -> RunFault
 
 /// The fault with this text.
 pub(crate) fn unfit(text: Result<String, AllocError>) -> RunFault
-    ensures text { IfOk text (λ text. result ≡ Unfit text) }
-    ensures none { IfErr text (λ _. result ≡ NoMemory) }
+    ensures { model.TellsText text result }
 {
     match text {
         Ok(text) => RunFault::Unfit(text),

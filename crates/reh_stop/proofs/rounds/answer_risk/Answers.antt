@@ -5,8 +5,8 @@ use Rattle.reh_census.specs.Striping.{range}
 use Rattle.reh_stop.specs.Rounds.{IsCost, risk_by}
 use Rattle.reh_stop.proofs.rounds.answer_risk.Goals as goal
 
-pub cost_of-risk-requires : goal.cost_of-risk-requires
-cost_of-risk-requires c =
+pub cost_of-requires : goal.cost_of-requires
+cost_of-requires c =
     let names = c.names_of-names.result.now in
     let count : length names ≡ length c.args.gathered.now.bookies = c.names_of-names.ensures.each ∙ sym c.requires in
     subst (λ (n : ℕ). IsPermutation (range 0 n) c.deref.result.now) count

@@ -11,10 +11,12 @@ use Rattle.reh_inputs.specs.Gathered.{ledgers_of, reading_of}
 use Rattle.reh_waves.specs.Waves.{AreWaves}
 use Rattle.reh_stop.proofs.rounds.rounds_of.Goals as goal
 
-pub waves_of-waves-requires : goal.waves_of-waves-requires
-waves_of-waves-requires c =
+pub waves_of-requires : goal.waves_of-requires
+waves_of-requires c =
     let count : length c.names_of.result.now ≡ length c.args.gathered.now.bookies = c.names_of.ensures.each ∙ sym c.requires in
-    subst (λ (n : ℕ). IsPermutation (range 0 n) c.in_ok-order.order.items) count c.in_ok-order.ensures.permutation
+    subst (λ (n : ℕ). IsPermutation (range 0 n) c.deref.result.now) count
+    (subst (λ (order : List ℕ). IsPermutation (range 0 (length c.names_of.result.now)) order) (sym c.deref.ensures.value)
+    c.in_ok-order.ensures.permutation)
 
 pub returns : goal.returns
 returns c = record {
