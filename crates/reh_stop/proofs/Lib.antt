@@ -1,2 +1,3 @@
 mod FaultLaws
+pub mod GatheredLaws
 mod WordLaws

@@ -74,10 +74,19 @@ fn listed_of(alloc: Global, slots: Vec<Slot>) -> Result<Vec<Listed>, RunFault>
 {
     let mut listed = Vec::new(alloc);
     for slot in slots {
-        let Some(one) = slot else { unreachable!() };
-        push_listed(&mut listed, one?)?;
+        let one = taken(slot)?;
+        push_listed(&mut listed, one)?;
     }
     Ok(listed)
+}
+
+/// What a file that was read lists.
+fn taken(slot: Slot) -> Result<Listed, RunFault>
+    requires { model.IsRead slot }
+    ensures { IfOk result model.IsOfPicture }
+{
+    let Some(read) = slot else { unreachable!() };
+    read
 }
 
 /// Adds what a file lists.
