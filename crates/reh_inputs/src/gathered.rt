@@ -299,16 +299,23 @@ fn count_held(entries: &[Counted]) -> u64
     held
 }
 
+/// Whether something is assumed in a picture.
+fn is_assumed_in_picture(listed: &Listed) -> bool
+    ensures { result ≡ list_any (λ h. h.is_assumed) listed.now.listing.holdings.items }
+{
+    listed
+        .listing
+        .holdings
+        .iter()
+        .any(|holding| holding.is_assumed())
+}
+
 /// Whether something is assumed in an input.
 fn is_assumed_in(input: &Input) -> bool
     ensures { result ≡ model.is_assumed_in input.now }
 {
     match input {
-        Input::Picture(listed) => listed
-            .listing
-            .holdings
-            .iter()
-            .any(|holding| holding.is_assumed()),
+        Input::Picture(listed) => is_assumed_in_picture(listed),
         Input::Census(_) => false,
     }
 }

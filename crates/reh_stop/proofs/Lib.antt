@@ -1,0 +1,3 @@
+mod FaultLaws
+pub mod GatheredLaws
+mod WordLaws

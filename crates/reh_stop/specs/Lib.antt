@@ -1,2 +1,4 @@
 pub mod Named
+pub mod Rounds
 pub mod Stops
+pub mod Together

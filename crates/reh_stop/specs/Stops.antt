@@ -1,9 +1,11 @@
 -- What is said of a stop.
-use Rattle.std.specs.Prelude.{◌≡◌, ◌<◌, ℕ, Bool, false, not, None, List, [], length, map, position, if◌then◌else◌, string_bytes}
+use Rattle.std.specs.Prelude.{◌≡◌, ◌<◌, ◌||◌, ℕ, Bool, true, false, not, nat_lt, Option, None, Some, List, [], length, map, position, slice_get, if◌then◌else◌, string_bytes}
 use Rattle.std.specs.List.{list_any}
-use Rattle.reh_census.specs.Bookies.{bookies_of, is_flagged}
+use Rattle.reh_census.specs.Bookies.{bookies_of, holders, is_flagged}
 use Rattle.reh_census.specs.Striping.{range}
-use Rattle.reh_census.specs.Counting.{counting_in}
+use Rattle.reh_census.specs.Answers.{answer_on}
+use Rattle.reh_census.specs.Counting.{counting_in, counting_of, not_judged}
+use Rattle.reh_census.specs.Ledgers.{Ledger}
 use Rattle.reh_against.specs.Worst.{SaysAgainst}
 use Rattle.reh_answer.specs.declared.against.Against.{Against}
 use Rattle.reh_answer.specs.declared.facts.Facts.{Facts}
@@ -14,7 +16,8 @@ use Rattle.reh_tally.specs.declared.census.TallyFault.{TallyFault}
 use Rattle.reh_tally.specs.declared.census.TallyFault.TheVariants as tally
 use Rattle.reh_inputs.specs.Cluster.{Cluster}
 use Rattle.reh_inputs.specs.Shown.{is_in}
-use Rattle.reh_stop.specs.Named.{is_name, is_repeated, is_stopped}
+use Rattle.reh_stop.specs.Named.{AreClear, is_ambiguous, is_name, is_repeated, is_stopped, names_in, texts}
+use Rattle.reh_stop.specs.Together.{AreLedgersOf}
 use Rattle.reh_inputs.specs.declared.together.Gathered.{Gathered}
 use Rattle.reh_stop.specs.declared.stops.Asked.{Asked}
 use Rattle.reh_stop.specs.declared.stops.Said.{Said}
@@ -43,13 +46,74 @@ pub record IsSaid (g : Gathered) (asked : Asked) (flags : List Bool) (said : Sai
   pub text : string_bytes said.text ≡ text_by asked (facts_of g asked flags) g.cluster.names against
   pub status : said.status ≡ status_number (facts_of g asked flags).answer
 
--- each word is a bookie's name, and no word is one before it; each rack is some bookie's; and there are some
-pub record AreNamed (cluster : Cluster) (asked : Asked) : Type 0 where
-  pub bookies : position (λ word. not (is_name cluster.names word.now)) asked.bookies.now ≡ None
-  pub once : (word : ℕ) → word < length asked.bookies.now → is_repeated asked.bookies.now word ≡ false
-  pub racks : position (λ word. not (list_any (is_in word.now) cluster.shown)) asked.racks.now ≡ None
-
 -- the bookies that are asked of, as flags
 abbrev pub stopped_by : Cluster → Asked → List Bool
 stopped_by cluster asked =
     map (is_stopped cluster asked.bookies.now asked.racks.now) (range 0 (length cluster.names))
+
+-- the status is the answer's on the ledgers of all inputs
+abbrev pub IsOfLedgers : Gathered → Asked → Said → Type 0
+IsOfLedgers g asked said =
+    (ledgers : List Ledger) → AreLedgersOf g ledgers
+    → said.status
+    ≡ status_number (answer_on (counting_of (holders (bookies_of g.bookies)) ledgers) (bookies_of g.bookies) asked.question
+    (not_judged g.census.judged) (is_flagged (stopped_by g.cluster asked)))
+
+-- the first name that is no bookie's, and the first rack
+abbrev pub first_unknown : Cluster → Asked → Option ℕ
+first_unknown cluster asked = position (λ word. not (is_name cluster.names word.now)) asked.bookies.now
+
+abbrev pub first_unknown_rack : Cluster → Asked → Option ℕ
+first_unknown_rack cluster asked = position (λ word. not (list_any (is_in word.now) cluster.shown)) asked.racks.now
+
+-- each name is a bookie's, and none is one before it; each rack is some bookie's
+pub record AreNamed (cluster : Cluster) (asked : Asked) : Type 0 where
+  pub bookies : first_unknown cluster asked ≡ None
+  pub once : (word : ℕ) → word < length asked.bookies.now → is_repeated asked.bookies.now word ≡ false
+  pub racks : first_unknown_rack cluster asked ≡ None
+
+-- when the names have this fault: the first name that is no bookie's; and where all are, one that is named before; and
+-- where none is, the first rack that is no bookie's
+abbrev pub IsFaultOf : Cluster → Asked → StopFault → Type 0
+IsFaultOf cluster asked (fault.UnknownBookie name) =
+    (word : ℕ) × (first_unknown cluster asked ≡ Some word) × (slice_get asked.bookies.now word ≡ Some name)
+IsFaultOf cluster asked (fault.Twice name) =
+    (word : ℕ) × (first_unknown cluster asked ≡ None) × (is_repeated asked.bookies.now word ≡ true)
+    × (slice_get asked.bookies.now word ≡ Some name)
+IsFaultOf cluster asked (fault.UnknownRack name) =
+    (word : ℕ) × (first_unknown cluster asked ≡ None) × (first_unknown_rack cluster asked ≡ Some word)
+    × (slice_get asked.racks.now word ≡ Some name)
+IsFaultOf cluster asked fault.TooMany = Unit {0}
+IsFaultOf cluster asked fault.NoMemory = Unit {0}
+IsFaultOf cluster asked other = ⊥
+
+-- the same question, in which the words are the names that they give
+pub record IsByNames (cluster : Cluster) (asked named : Asked) : Type 0 where
+  pub bookies : texts named.bookies.now ≡ names_in cluster.names asked.bookies.now
+  pub racks : named.racks.now ≡ asked.racks.now
+  pub question : named.question ≡ asked.question
+  pub as_json : named.as_json ≡ asked.as_json
+
+-- some bookie or rack is named
+abbrev pub has_words : Asked → Bool
+has_words asked = nat_lt 0 (length asked.bookies.now) || nat_lt 0 (length asked.racks.now)
+
+-- what is said of the bookies that the words name, of which each is clear and known
+pub record IsAnswered (g : Gathered) (asked : Asked) (said : Said) : Type 0 where
+  pub some : has_words asked ≡ true
+  pub clear : AreClear g.cluster.names asked.bookies.now
+  pub named : Asked
+  pub by_names : IsByNames g.cluster asked named
+  pub are_named : AreNamed g.cluster named
+  pub says : IsSaid g named (stopped_by g.cluster named) said
+  pub ledgers : IsOfLedgers g named said
+
+-- when nothing is said, for this reason: there is no word; or a word is ambiguous; or the names have the fault
+abbrev pub IsRefused : Cluster → Asked → StopFault → Type 0
+IsRefused cluster asked fault.Nobody = has_words asked ≡ false
+IsRefused cluster asked (fault.Ambiguous word) =
+    (has_words asked ≡ true) × (is_ambiguous cluster.names word.now ≡ true)
+IsRefused cluster asked fault.TooMany = Unit {0}
+IsRefused cluster asked fault.NoMemory = Unit {0}
+IsRefused cluster asked other =
+    (has_words asked ≡ true) × (named : Asked) × IsByNames cluster asked named × IsFaultOf cluster named other

@@ -1,8 +1,10 @@
-// Whether bookies may be stopped, asked by their names of what inputs show together.
+// Whether bookies may be stopped, asked by their names of what inputs show together; in which rounds; and what the next
+// losses cost.
 #![tactic(auto)]
 
 mod named;
+mod rounds;
 mod stops;
 
-pub use named::{first_twice, first_unknown, first_unknown_rack, names_in, stopped_of};
+pub use rounds::{AskedRisk, AskedWaves, RoundFault, answer_risk, answer_waves};
 pub use stops::{Asked, Said, StopFault, answer_stop};

@@ -1,22 +1,15 @@
 // Whether bookies may be stopped.
-ghost use Rattle.std.specs.Prelude.{◌≡◌, ◌++◌, ℕ, Bool, List, Err, Some, true, not, length, map, position, string_bytes, IfOk, OnOk};
-ghost use Rattle.std.specs.List.{list_any};
+ghost use Rattle.std.specs.Prelude.{◌≡◌, List, map, string_bytes, IfErr, IfOk, OnOk};
 ghost use Rattle.reh_census.specs.Answers.{answer_on};
 ghost use Rattle.reh_census.specs.Bookies.{bookies_of as census_bookies, holders, is_flagged};
 ghost use Rattle.reh_census.specs.Counting.{IsCensus, counting_of, not_judged};
 ghost use Rattle.reh_census.specs.Ledgers.{Ledger as LedgerValue};
 ghost use Rattle.reh_answer.specs.Texts.{status_number};
-ghost use Rattle.reh_picture.specs.declared.listings.Listed.{Listed};
-ghost use Rattle.reh_inputs.specs.declared.inputs.Input.{Input};
-ghost use Rattle.reh_inputs.specs.declared.inputs.Input.TheVariants.{Picture};
-ghost use Rattle.reh_inputs.specs.Gathered.{Gathers, ledgers_of, reading_of};
-ghost use Rattle.reh_inputs.specs.Renumbered.{files_of};
-ghost use Rattle.reh_inputs.specs.Shown.{is_in};
-ghost use Rattle.reh_stop.specs.Named.{is_name, is_repeated};
-ghost use Rattle.reh_stop.specs.declared.stops.StopFault.TheVariants.{Nobody, Twice, UnknownBookie, UnknownRack};
 ghost use Rattle.reh_stop.specs.Stops as model;
 
-use crate::named::{first_twice, first_unknown, first_unknown_rack, stopped_of};
+use crate::named::{
+    first_ambiguous, first_twice, first_unknown, first_unknown_rack, names_in, stopped_of,
+};
 use reh_against::{Stop, against_of};
 use reh_answer::{Against, Facts, facts_of, json_of, status_of, text_of};
 use reh_census::{BookieSet, Question};
@@ -24,11 +17,12 @@ use reh_inputs::{Cluster, Gathered};
 use reh_tally::TallyFault;
 use std::alloc::{AllocError, Global};
 
-/// What is asked: may these bookies be stopped, and those of these racks; and whether the answer is to be JSON.
+/// What is asked: may these bookies be stopped, and those of these racks; and whether the answer is to be JSON. A word that
+/// is no bookie's name is a list of names with commas between them.
 #[derive(Clone, Copy)]
-pub struct Asked<'a> {
-    pub bookies: &'a [&'a str],
-    pub racks: &'a [&'a str],
+pub struct Asked<'w, 'a> {
+    pub bookies: &'w [&'a str],
+    pub racks: &'w [&'a str],
     pub question: Question,
     pub as_json: bool,
 }
@@ -42,39 +36,41 @@ pub struct Said {
 
 /// Why nothing is said.
 #[derive(Clone, Copy, PartialEq, Eq, Debug)]
-pub enum StopFault {
+pub enum StopFault<'a> {
     /// No bookie and no rack is named.
     Nobody,
-    /// The word of this number is no bookie's name.
-    UnknownBookie(usize),
-    /// It is a word before it, too.
-    Twice(usize),
-    /// The word of this number is no bookie's rack.
-    UnknownRack(usize),
+    /// The word is a bookie's name, and a list of bookies' names too.
+    Ambiguous(&'a str),
+    /// The name is no bookie's.
+    UnknownBookie(&'a str),
+    /// The bookie is named before, too.
+    Twice(&'a str),
+    /// The rack is no bookie's.
+    UnknownRack(&'a str),
     /// A ledger has more entries than a census counts.
     TooMany,
     /// Out of memory.
     NoMemory,
 }
 
-impl From<AllocError> for StopFault {
+impl<'a> From<AllocError> for StopFault<'a> {
     ghost use Rattle.std.specs.Prelude.{◌≡◌};
     ghost use Rattle.reh_stop.specs.declared.stops.StopFault.TheVariants.{NoMemory};
 
     ghost from_gives = { λ _ fault. fault ≡ NoMemory };
 
-    fn from(_want: AllocError) -> StopFault {
+    fn from(_want: AllocError) -> StopFault<'a> {
         StopFault::NoMemory
     }
 }
 
-impl From<TallyFault> for StopFault {
+impl<'a> From<TallyFault> for StopFault<'a> {
     ghost use Rattle.std.specs.Prelude.{◌≡◌};
     ghost use Rattle.reh_stop.specs.Stops.{fault_of_tally};
 
     ghost from_gives = { λ tally fault. fault ≡ fault_of_tally tally };
 
-    fn from(fault: TallyFault) -> StopFault {
+    fn from(fault: TallyFault) -> StopFault<'a> {
         match fault {
             TallyFault::TooMany => StopFault::TooMany,
             TallyFault::NoMemory => StopFault::NoMemory,
@@ -82,27 +78,19 @@ impl From<TallyFault> for StopFault {
     }
 }
 
-/// The first fault of the words.
-fn check_words(cluster: &Cluster, asked: &Asked<'_>) -> Result<(), StopFault>
+/// The first fault of the names.
+fn check_names<'a>(cluster: &Cluster, asked: &Asked<'_, 'a>) -> Result<(), StopFault<'a>>
     ensures named { OnOk result (model.AreNamed cluster.now asked.now) }
-    ensures nobody { result ≡ Err Nobody → (length asked.now.bookies.now ≡ 0) × (length asked.now.racks.now ≡ 0) }
-    ensures unknown { (word : ℕ) → result ≡ Err (UnknownBookie word)
-        → position (λ given. not (is_name cluster.now.names given.now)) asked.now.bookies.now ≡ Some word }
-    ensures twice { (word : ℕ) → result ≡ Err (Twice word) → is_repeated asked.now.bookies.now word ≡ true }
-    ensures rack { (word : ℕ) → result ≡ Err (UnknownRack word)
-        → position (λ given. not (list_any (is_in given.now) cluster.now.shown)) asked.now.racks.now ≡ Some word }
+    ensures fault { IfErr result (λ fault. model.IsFaultOf cluster.now asked.now fault) }
 {
-    if asked.bookies.is_empty() && asked.racks.is_empty() {
-        return Err(StopFault::Nobody);
-    }
     if let Some(word) = first_unknown(cluster.names(), asked.bookies) {
-        return Err(StopFault::UnknownBookie(word));
+        return Err(StopFault::UnknownBookie(asked.bookies[word]));
     }
     if let Some(word) = first_twice(asked.bookies) {
-        return Err(StopFault::Twice(word));
+        return Err(StopFault::Twice(asked.bookies[word]));
     }
     if let Some(word) = first_unknown_rack(cluster.shown(), asked.racks) {
-        return Err(StopFault::UnknownRack(word));
+        return Err(StopFault::UnknownRack(asked.racks[word]));
     }
     Ok(())
 }
@@ -110,7 +98,7 @@ fn check_words(cluster: &Cluster, asked: &Asked<'_>) -> Result<(), StopFault>
 /// The facts as text, or as JSON.
 fn text_by(
     alloc: Global,
-    asked: &Asked<'_>,
+    asked: &Asked<'_, '_>,
     facts: &Facts,
     names: &[String],
     against: &[Against],
@@ -130,7 +118,7 @@ fn text_by(
 fn say(
     alloc: Global,
     gathered: &Gathered,
-    asked: &Asked<'_>,
+    asked: &Asked<'_, '_>,
     stopped: &BookieSet,
 ) -> Result<Said, TallyFault>
     ensures said { IfOk result (λ said. model.IsSaid gathered.now asked.now stopped.now said) }
@@ -165,31 +153,52 @@ fn say(
     })
 }
 
-/// Whether the bookies may be stopped, by what inputs show together: the text that says so, and the exit status.
-pub fn answer_stop(alloc: Global, gathered: &Gathered, asked: &Asked<'_>) -> Result<Said, StopFault>
-    ensures named { OnOk result (model.AreNamed gathered.now.cluster asked.now) }
-    ensures said { IfOk result (λ said. model.IsSaid gathered.now asked.now
-        (model.stopped_by gathered.now.cluster asked.now) said) }
-    // Whatever ledgers the census files among the inputs counted.
-    ensures ledgers { IfOk result (λ said. (inputs : List Input) (strict : Bool) (others : List LedgerValue)
-        → Gathers inputs strict gathered.now
-        → IsCensus (files_of gathered.now.cluster.names inputs) (holders (census_bookies gathered.now.bookies)) others
-        → said.status ≡ status_number (answer_on (counting_of (holders (census_bookies gathered.now.bookies))
-        (ledgers_of (reading_of strict) inputs ++ others)) (census_bookies gathered.now.bookies) asked.now.question
-        (not_judged gathered.now.census.judged) (is_flagged (model.stopped_by gathered.now.cluster asked.now)))) }
-    ensures pictures { IfOk result (λ said. (pictures : List Listed) (strict : Bool) → let inputs = map (λ l. Picture l) pictures in
-        Gathers inputs strict gathered.now
-        → said.status ≡ status_number (answer_on (counting_of (holders (census_bookies gathered.now.bookies))
-        (ledgers_of (reading_of strict) inputs)) (census_bookies gathered.now.bookies) asked.now.question 0
-        (is_flagged (model.stopped_by gathered.now.cluster asked.now)))) }
-    ensures unknown { (word : ℕ) → result ≡ Err (UnknownBookie word)
-        → position (λ given. not (is_name gathered.now.cluster.names given.now)) asked.now.bookies.now ≡ Some word }
-    ensures twice { (word : ℕ) → result ≡ Err (Twice word) → is_repeated asked.now.bookies.now word ≡ true }
-    ensures rack { (word : ℕ) → result ≡ Err (UnknownRack word)
-        → position (λ given. not (list_any (is_in given.now) gathered.now.cluster.shown)) asked.now.racks.now ≡ Some word }
+/// Whether the bookies of these names may be stopped, by what inputs show together.
+fn answer_named<'a>(
+    alloc: Global,
+    gathered: &Gathered,
+    named: &Asked<'_, 'a>,
+) -> Result<Said, StopFault<'a>>
+    ensures named { OnOk result (model.AreNamed gathered.now.cluster named.now) }
+    ensures said { IfOk result (λ said. model.IsSaid gathered.now named.now
+        (model.stopped_by gathered.now.cluster named.now) said) }
+    ensures ledgers { IfOk result (λ said. model.IsOfLedgers gathered.now named.now said) }
+    ensures fault { IfErr result (λ fault. model.IsFaultOf gathered.now.cluster named.now fault) }
 {
-    check_words(&gathered.cluster, asked)?;
-    let stopped = stopped_of(alloc, &gathered.cluster, asked.bookies, asked.racks)?;
-    let said = say(alloc, gathered, asked, &stopped)?;
+    check_names(&gathered.cluster, named)?;
+    let stopped = stopped_of(alloc, &gathered.cluster, named.bookies, named.racks)?;
+    let said = say(alloc, gathered, named, &stopped)?;
     Ok(said)
+}
+
+/// Whether some bookie or rack is named.
+fn has_words(asked: &Asked<'_, '_>) -> bool
+    ensures { result ≡ model.has_words asked.now }
+{
+    0 < asked.bookies.len() || 0 < asked.racks.len()
+}
+
+/// Whether the bookies that the words name may be stopped, by what inputs show together: the text that says so, and the
+/// exit status.
+pub fn answer_stop<'a>(
+    alloc: Global,
+    gathered: &Gathered,
+    asked: &Asked<'_, 'a>,
+) -> Result<Said, StopFault<'a>>
+    ensures answered { IfOk result (λ said. model.IsAnswered gathered.now asked.now said) }
+    ensures fault { IfErr result (λ fault. model.IsRefused gathered.now.cluster asked.now fault) }
+{
+    if !has_words(asked) {
+        return Err(StopFault::Nobody);
+    }
+    let names = gathered.cluster.names();
+    if let Some(word) = first_ambiguous(alloc, names, asked.bookies)? {
+        return Err(StopFault::Ambiguous(word));
+    }
+    let bookies = names_in(alloc, names, asked.bookies)?;
+    let named = Asked {
+        bookies: &bookies,
+        ..*asked
+    };
+    answer_named(alloc, gathered, &named)
 }

@@ -1,6 +1,7 @@
 // The command line: what its words ask for.
 #![tactic(auto)]
 
+mod questions;
 mod tasks;
 
 pub use tasks::{

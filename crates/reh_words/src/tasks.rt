@@ -3,9 +3,10 @@ ghost use Rattle.std.specs.Prelude.{◌<◌, ◌≤◌, vec_len};
 ghost use Rattle.reh_crew.specs.declared.threads.TheConstants.{MAX_WORKERS};
 ghost use Rattle.reh_words.specs.declared.tasks.TheConstants.{MAX_FILES};
 
+use crate::questions::asked_of_files;
 use clap::error::ErrorKind;
 use clap::{Arg, ArgAction, ArgMatches, Command, Error, value_parser};
-use reh_census::{Keep, Question};
+use reh_census::Question;
 use reh_crew::{MAX_OPERATORS, MAX_WORKERS};
 use reh_script::Verb;
 use std::alloc::{AllocError, Global};
@@ -151,13 +152,11 @@ fn asked_task<'a>(alloc: Global, matches: &ArgMatches<'a>) -> Result<Task<'a>, A
     let Some((name, given)) = matches.subcommand() else {
         return Ok(Task::Play(Input::Pipe));
     };
-    match name {
-        "ok-to-stop" => return asked_stop(alloc, given),
-        "waves" => return asked_waves(alloc, given),
-        "risk" => return asked_risk(alloc, given),
-        "census" => return Ok(Task::Census(asked_inputs(alloc, given)?)),
-        "plan" => return asked_plan(alloc, given),
-        _ => {}
+    if let Some(task) = asked_of_files(alloc, name, given)? {
+        return Ok(task);
+    }
+    if name == "plan" {
+        return asked_plan(alloc, given);
     }
     let scripts = given.get_strs("SCRIPT").unwrap_or(&[]);
     let workers = given.get_one("workers").unwrap_or(1);
@@ -179,91 +178,6 @@ fn asked_task<'a>(alloc: Global, matches: &ArgMatches<'a>) -> Result<Task<'a>, A
         // All files are required, so that a run and a drill have both, and a talk and a check their one; and the parser
         // lets no other number of workers through.
         _ => Ok(Task::Play(Input::Pipe)),
-    }
-}
-
-/// What these matches of `ok-to-stop` ask for.
-fn asked_stop<'a>(alloc: Global, given: &ArgMatches<'a>) -> Result<Task<'a>, AllocError> {
-    Ok(Task::Stop(Stop {
-        inputs: asked_inputs(alloc, given)?,
-        bookies: words_of(alloc, given, "lose")?,
-        racks: words_of(alloc, given, "lose-rack")?,
-        question: asked_question(given),
-        as_json: is_json(given),
-    }))
-}
-
-/// What these matches of `waves` ask for.
-fn asked_waves<'a>(alloc: Global, given: &ArgMatches<'a>) -> Result<Task<'a>, AllocError> {
-    Ok(Task::Waves(WaveWords {
-        inputs: asked_inputs(alloc, given)?,
-        question: asked_question(given),
-        by_rack: given.get_flag("racks"),
-        as_json: is_json(given),
-    }))
-}
-
-/// What these matches of `risk` ask for.
-fn asked_risk<'a>(alloc: Global, given: &ArgMatches<'a>) -> Result<Task<'a>, AllocError> {
-    Ok(Task::Risk(RiskWords {
-        inputs: asked_inputs(alloc, given)?,
-        question: asked_question(given),
-        with_pairs: given.get_flag("pairs"),
-        as_json: is_json(given),
-    }))
-}
-
-/// The words of an argument.
-fn words_of<'a>(
-    alloc: Global,
-    given: &ArgMatches<'a>,
-    argument: &str,
-) -> Result<Vec<&'a str>, AllocError> {
-    given.get_strs(argument).unwrap_or(&[]).to_vec(alloc)
-}
-
-/// Whether the answer is to be JSON.
-fn is_json(given: &ArgMatches<'_>) -> bool {
-    given.get_str("format") == Some("json")
-}
-
-/// The files, and who reads them. The parser lets no other number of files or workers through; if it did, they would be
-/// passed over.
-fn asked_inputs<'a>(alloc: Global, given: &ArgMatches<'a>) -> Result<Inputs<'a>, AllocError> {
-    let mut files = words_of(alloc, given, "FILE")?;
-    files.truncate(MAX_FILES);
-    let workers: u64 = given.get_one("workers").unwrap_or(1);
-    let workers = workers.max(1).min(MAX_WORKERS as u64) as usize;
-    Ok(Inputs {
-        files,
-        strict: given.get_flag("strict"),
-        crew: Crew { workers },
-    })
-}
-
-/// How many copies entries are to keep.
-fn asked_keep(given: &ArgMatches<'_>) -> Keep {
-    if given.get_flag("allow-under-ack") {
-        return Keep::Copies(1);
-    }
-    let Some(word) = given.get_str("keep") else {
-        return Keep::AckQuorum;
-    };
-    match KEEPS.iter().position(|keep| *keep == word) {
-        Some(0) | None => Keep::AckLessOne,
-        Some(copies) => Keep::Copies(copies as u64),
-    }
-}
-
-/// What a stop may break.
-fn asked_question(given: &ArgMatches<'_>) -> Question {
-    Question {
-        keep: asked_keep(given),
-        ensemble: given.get_one("ensemble"),
-        min_racks: given.get_one("min-racks"),
-        allow_blocked_recovery: given.get_flag("allow-blocked-recovery"),
-        allow_blocked_writers: given.get_flag("allow-blocked-writers"),
-        for_good: given.get_flag("for-good"),
     }
 }
 

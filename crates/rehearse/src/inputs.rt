@@ -1,12 +1,15 @@
 // The files of a cluster, read by several workers, what they show together, and their census.
-ghost use Rattle.std.specs.Prelude.{◌≡◌, ◌+◌, ◌<◌, All, vec_len, length, IfOk, OnOk};
-ghost use Rattle.std.specs.Option.{IsSome};
+ghost use Rattle.std.specs.Prelude.{◌≡◌, ◌<◌, ◌++◌, ◌∷◌, [], All, vec_len, length, IfOk, OnOk, string_bytes};
+ghost use Rattle.std.specs.Option.{option_map};
+ghost use Rattle.reh_inputs.specs.Gathered.{Gathers};
+ghost use Rattle.reh_inputs.specs.Named.{taken_of as model_taken};
+ghost use Rattle.rehearse.specs.Inputs as model;
 
 use crate::checks::{read_input_file, write_text};
 use crate::faults::RunFault;
 use reh_census_file::{CensusFault, census_text};
 use reh_inputs::{
-    GatherFault, Gathered, Input, InputFault, gather, named_of, read_input, taken_of,
+    EmptyHolds, GatherFault, Gathered, Input, InputFault, gather, named_of, read_input, taken_of,
 };
 use reh_picture::{LocatedFault, PictureFault};
 use reh_types::BookieIx;
@@ -20,13 +23,18 @@ pub(crate) fn gather_files<R: thread::Threads + Wait + Sync>(
     rt: &HostRuntime,
     threads: &R,
     inputs: &Inputs<'_>,
-) -> Result<Gathered, RunFault> {
+) -> Result<Gathered, RunFault>
+    ensures { IfOk result (λ gathered. model.IsOfFiles inputs.now gathered) }
+{
     let read = read_files(rt, threads, inputs)?;
-    gather_read(rt.alloc(), inputs, &read)
+    let gathered = gather_read(rt.alloc(), inputs, &read)?;
+    Ok(gathered)
 }
 
 /// What these inputs show together, once they are read.
-fn gather_read(alloc: Global, inputs: &Inputs<'_>, read: &[Input]) -> Result<Gathered, RunFault> {
+fn gather_read(alloc: Global, inputs: &Inputs<'_>, read: &[Input]) -> Result<Gathered, RunFault>
+    ensures { IfOk result (λ gathered. Gathers read.now inputs.now.strict gathered) }
+{
     match gather(alloc, read, inputs.strict) {
         Ok(gathered) => Ok(gathered),
         Err(fault) => Err(fault_of(alloc, inputs, read, fault)),
@@ -39,16 +47,34 @@ pub(crate) fn census_over<R: thread::Threads + Wait + Sync>(
     threads: &R,
     inputs: &Inputs<'_>,
 ) -> Result<(), RunFault> {
-    let alloc = rt.alloc();
-    let read = read_files(rt, threads, inputs)?;
-    let gathered = gather_read(alloc, inputs, &read)?;
-    let taken = match taken_of(&read) {
-        Some(time) => Some(String::from_str(alloc, time)?),
-        None => None,
-    };
-    let census = named_of(alloc, gathered, inputs.strict, taken)?;
-    let text = census_text(alloc, &census)?;
+    let text = census_of(rt, threads, inputs)?;
     write_text(rt, text.as_str()).map_err(|_| RunFault::WriteFault)
+}
+
+/// The census of the files, as text.
+fn census_of<R: thread::Threads + Wait + Sync>(
+    rt: &HostRuntime,
+    threads: &R,
+    inputs: &Inputs<'_>,
+) -> Result<String, RunFault>
+    ensures { IfOk result (λ text. model.SaysCensus inputs.now text) }
+{
+    let read = read_files(rt, threads, inputs)?;
+    let gathered = gather_read(rt.alloc(), inputs, &read)?;
+    let taken = copy_taken(rt.alloc(), &read)?;
+    let census = named_of(rt.alloc(), gathered, inputs.strict, taken)?;
+    let text = census_text(rt.alloc(), &census)?;
+    Ok(text)
+}
+
+/// When the oldest of the inputs was taken, if each tells its time.
+fn copy_taken(alloc: Global, read: &[Input]) -> Result<Option<String>, AllocError>
+    ensures { IfOk result (λ taken. option_map string_bytes taken ≡ model_taken read.now) }
+{
+    match taken_of(read) {
+        Some(time) => Ok(Some(String::from_str(alloc, time)?)),
+        None => Ok(None),
+    }
 }
 
 /// What a file shows, once it is read.
@@ -60,7 +86,8 @@ fn read_files<R: thread::Threads + Wait + Sync>(
     threads: &R,
     inputs: &Inputs<'_>,
 ) -> Result<Vec<Input>, RunFault>
-    ensures { IfOk result (λ read. length read.items ≡ vec_len inputs.now.files) }
+    ensures each { IfOk result (λ read. length read.items ≡ vec_len inputs.now.files) }
+    ensures read { IfOk result (λ read. All model.IsOfBytes read.items) }
 {
     let files = inputs.files.as_slice();
     let mut slots = slots_of(rt.alloc(), files)?;
@@ -70,7 +97,7 @@ fn read_files<R: thread::Threads + Wait + Sync>(
         inputs.crew.workers,
         &|number, slot: &mut Slot|
             requires { number < length files.now }
-            ensures { IsSome slot.exit.now }
+            ensures { model.IsInSlot slot.exit.now }
         {
             *slot = Some(read_one(rt, files[number]));
         },
@@ -91,35 +118,55 @@ fn slots_of(alloc: Global, files: &[&str]) -> Result<Vec<Slot>, AllocError>
 
 /// What each file shows, all of which are read, or the first fault.
 fn read_of(alloc: Global, slots: Vec<Slot>) -> Result<Vec<Input>, RunFault>
-    requires { All (λ slot. IsSome slot) slots.items }
-    ensures { IfOk result (λ read. length read.items ≡ length slots.items) }
+    requires { All model.IsInSlot slots.items }
+    ensures each { IfOk result (λ read. length read.items ≡ length slots.items) }
+    ensures read { IfOk result (λ read. All model.IsOfBytes read.items) }
 {
     let mut read = Vec::new(alloc);
     for slot in slots {
-        let Some(one) = slot else { unreachable!() };
-        push_read(&mut read, one?)?;
+        let one = taken(slot)?;
+        push_read(&mut read, one)?;
     }
     Ok(read)
 }
 
+/// What a file that was read shows.
+fn taken(slot: Slot) -> Result<Input, RunFault>
+    requires { model.IsInSlot slot }
+    ensures { IfOk result model.IsOfBytes }
+{
+    let Some(read) = slot else { unreachable!() };
+    read
+}
+
 /// Adds what a file shows.
 fn push_read(read: &mut Vec<Input>, one: Input) -> Result<(), AllocError>
-    ensures { OnOk result (length read.new.items ≡ length read.old.items + 1) }
+    ensures { OnOk result (read.new.items ≡ read.old.items ++ one ∷ []) }
 {
     read.push(one)?;
     Ok(())
 }
 
 /// What a file shows.
-fn read_one(rt: &HostRuntime, path: &str) -> Result<Input, RunFault> {
+fn read_one(rt: &HostRuntime, path: &str) -> Result<Input, RunFault>
+    ensures { IfOk result model.IsOfBytes }
+{
     let bytes = read_input_file(rt, path)?;
     match read_input(rt.alloc(), &bytes) {
         Ok(input) => Ok(input),
-        Err(InputFault::Picture(located)) => Err(refused(rt.alloc(), path, located)?),
-        Err(InputFault::Census(CensusFault::NoMemory)) => Err(RunFault::NoMemory),
-        Err(InputFault::Census(fault)) => {
-            Err(unfit(format!(in rt.alloc(); "census {path}: {fault}")))
-        }
+        Err(fault) => Err(unreadable(rt.alloc(), path, fault)),
+    }
+}
+
+/// The fault of a run whose file is no input.
+fn unreadable(alloc: Global, path: &str, fault: InputFault) -> RunFault {
+    match fault {
+        InputFault::Picture(located) => match refused(alloc, path, located) {
+            Ok(fault) => fault,
+            Err(want) => RunFault::from(want),
+        },
+        InputFault::Census(CensusFault::NoMemory) => RunFault::NoMemory,
+        InputFault::Census(fault) => unfit(format!(in alloc; "census {path}: {fault}")),
     }
 }
 
@@ -132,55 +179,92 @@ fn refused(alloc: Global, path: &str, located: LocatedFault) -> Result<RunFault,
 }
 
 /// The fault of a run whose inputs can't be judged together.
-fn fault_of(alloc: Global, inputs: &Inputs<'_>, read: &[Input], fault: GatherFault) -> RunFault {
+fn fault_of(alloc: Global, inputs: &Inputs<'_>, read: &[Input], fault: GatherFault) -> RunFault
+    ensures { model.TellsOf inputs.now read.now fault result }
+{
     let files = inputs.files.as_slice();
-    let text = match fault {
+    match fault {
         GatherFault::Differs { input, bookie } => {
-            let path = path_of(files, input);
-            let name = name_of(read, input, bookie);
-            format!(in alloc; "{path} shows bookie '{name}' otherwise than a file before it")
+            differs(alloc, path_of(files, input), name_of(read, input, bookie))
         }
-        GatherFault::TooManyBookies { input, .. } => {
-            let path = path_of(files, input);
-            format!(in alloc; "with {path} there are more than 4096 bookies")
-        }
+        GatherFault::TooManyBookies { input, .. } => too_many_bookies(alloc, path_of(files, input)),
         GatherFault::HoldsThoughEmpty { input, held } => {
-            let path = path_of(files, input);
-            let name = name_of(listed, input, held.bookie);
-            let ledger = held.ledger;
-            format!(in alloc;
-                "{path} shows bookie '{name}' as empty, but says that it holds entries of ledger {ledger}: leave out one of the two"
-            )
+            let name = name_of(read, input, held.bookie);
+            holds_though_empty(alloc, path_of(files, input), name, held)
         }
-        GatherFault::Twice { input, ledger } => {
-            let path = path_of(files, input);
-            format!(in alloc; "ledger {ledger} of {path} is in a file before it, too")
-        }
-        GatherFault::Unfit { input, ledger } => {
-            let path = path_of(files, input);
-            format!(in alloc; "ledger {ledger} of {path} can't be counted")
-        }
+        GatherFault::Twice { input, ledger } => listed_twice(alloc, path_of(files, input), ledger),
+        GatherFault::Unfit { input, ledger } => uncounted(alloc, path_of(files, input), ledger),
         GatherFault::OtherStrict { input } => {
-            let path = path_of(files, input);
-            if inputs.strict {
-                format!(in alloc; "{path} is a census without --strict, and --strict is given")
-            } else {
-                format!(in alloc; "{path} is a census with --strict, and --strict isn't given")
-            }
+            other_strict(alloc, path_of(files, input), inputs.strict)
         }
-        GatherFault::TooMany => return too_many(alloc),
-        GatherFault::NoMemory => return RunFault::NoMemory,
-    };
-    unfit(text)
+        GatherFault::TooMany => too_many(alloc),
+        GatherFault::NoMemory => RunFault::NoMemory,
+    }
+}
+
+/// That an input shows a bookie otherwise than one before it.
+fn differs(alloc: Global, path: &str, name: &str) -> RunFault
+    ensures { model.IsUnfit (model.differs_text path.now name.now) result }
+{
+    unfit(format!(in alloc; "{path} shows bookie '{name}' otherwise than a file before it"))
+}
+
+/// That an empty bookie is said to hold entries.
+fn holds_though_empty(alloc: Global, path: &str, name: &str, held: EmptyHolds) -> RunFault
+    ensures { model.IsUnfit (model.empty_text path.now name.now held.ledger) result }
+{
+    let ledger = held.ledger;
+    unfit(format!(in alloc;
+        "{path} shows bookie '{name}' as empty, but says that it holds entries of ledger {ledger}: leave out one of the two"
+    ))
+}
+
+/// That a census was made with `--strict`, and is to be one without, or the other way round.
+fn other_strict(alloc: Global, path: &str, is_strict: bool) -> RunFault
+    ensures { model.IsUnfit (model.strict_text path.now is_strict) result }
+{
+    if is_strict {
+        return unfit(format!(in alloc;
+            "{path} is a census without --strict, and --strict is given"
+        ));
+    }
+    unfit(format!(in alloc;
+        "{path} is a census with --strict, and --strict isn't given"
+    ))
+}
+
+/// That there are too many bookies.
+fn too_many_bookies(alloc: Global, path: &str) -> RunFault
+    ensures { model.IsUnfit (model.bookies_text path.now) result }
+{
+    unfit(format!(in alloc; "with {path} there are more than 4096 bookies"))
+}
+
+/// That a ledger stands in two inputs.
+fn listed_twice(alloc: Global, path: &str, ledger: u64) -> RunFault
+    ensures { model.IsUnfit (model.twice_text path.now ledger) result }
+{
+    unfit(format!(in alloc; "ledger {ledger} of {path} is in a file before it, too"))
+}
+
+/// That a ledger can't be counted.
+fn uncounted(alloc: Global, path: &str, ledger: u64) -> RunFault
+    ensures { model.IsUnfit (model.uncounted_text path.now ledger) result }
+{
+    unfit(format!(in alloc; "ledger {ledger} of {path} can't be counted"))
 }
 
 /// That there is more than a census counts.
-pub(crate) fn too_many(alloc: Global) -> RunFault {
+pub(crate) fn too_many(alloc: Global) -> RunFault
+    ensures { model.IsUnfit model.too_many_text result }
+{
     unfit(format!(in alloc; "there are more entries, ledgers or fragments than can be counted"))
 }
 
 /// The fault with this text.
-pub(crate) fn unfit(text: Result<String, AllocError>) -> RunFault {
+pub(crate) fn unfit(text: Result<String, AllocError>) -> RunFault
+    ensures { model.TellsText text result }
+{
     match text {
         Ok(text) => RunFault::Unfit(text),
         Err(want) => RunFault::from(want),
@@ -188,7 +272,9 @@ pub(crate) fn unfit(text: Result<String, AllocError>) -> RunFault {
 }
 
 /// The path of an input.
-fn path_of<'a>(files: &[&'a str], input: usize) -> &'a str {
+fn path_of<'a>(files: &[&'a str], input: usize) -> &'a str
+    ensures { result.now ≡ model.path_of files.now input }
+{
     match files.get(input) {
         Some(path) => *path,
         None => "",
@@ -196,11 +282,16 @@ fn path_of<'a>(files: &[&'a str], input: usize) -> &'a str {
 }
 
 /// The name of a bookie of an input.
-fn name_of(read: &[Input], input: usize, bookie: usize) -> &str {
+fn name_of(read: &[Input], input: usize, bookie: usize) -> &str
+    ensures { result.now ≡ model.name_of read.now input bookie }
+{
     let name = match read.get(input) {
-        Some(Input::Picture(listed)) => { listed.listing.names.name(BookieIx((bookie % 64) as u8)) }
+        Some(Input::Picture(listed)) => listed.listing.names.name(BookieIx((bookie % 64) as u8)),
         Some(Input::Census(census)) => census.names().name((bookie % 4096) as u16),
         None => None,
     };
-    name.unwrap_or("")
+    match name {
+        Some(name) => name,
+        None => "",
+    }
 }

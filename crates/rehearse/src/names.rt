@@ -9,15 +9,9 @@ pub(crate) fn unknown(alloc: Global, path: &str, words: &[&str], number: usize) 
     misnamed(format!(in alloc; "{path} has no bookie '{name}'"))
 }
 
-/// That the word of this number names no bookie of any input, with the full name of the one bookie that lacks only its
+/// That the name is no bookie's of any input, with the full name of the one bookie that lacks only its
 /// port; or want of memory.
-pub(crate) fn unknown_to_all(
-    alloc: Global,
-    names: &ClusterNames,
-    words: &[&str],
-    number: usize,
-) -> RunFault {
-    let name = name_at(words, number);
+pub(crate) fn unknown_to_all(alloc: Global, names: &ClusterNames, name: &str) -> RunFault {
     misnamed(match only_longer(names, name) {
         Some(full) => format!(in alloc;
             "no input has a bookie '{name}': its full name is '{full}'"
@@ -48,9 +42,8 @@ fn is_before_port(name: &str, longer: &str) -> bool {
     }
 }
 
-/// That the word of this number is no bookie's rack; or want of memory.
-pub(crate) fn unknown_rack(alloc: Global, words: &[&str], number: usize) -> RunFault {
-    let name = name_at(words, number);
+/// That the name is no bookie's rack; or want of memory.
+pub(crate) fn unknown_rack(alloc: Global, name: &str) -> RunFault {
     misnamed(format!(in alloc; "no bookie is in rack '{name}'"))
 }
 
@@ -61,8 +54,17 @@ pub(crate) fn nobody(alloc: Global) -> RunFault {
 
 /// That the word of this number names a bookie which a word before it names; or want of memory.
 pub(crate) fn named_twice(alloc: Global, words: &[&str], number: usize) -> RunFault {
-    let name = name_at(words, number);
+    named_again(alloc, name_at(words, number))
+}
+
+/// That the bookie of this name is named before, too; or want of memory.
+pub(crate) fn named_again(alloc: Global, name: &str) -> RunFault {
     misnamed(format!(in alloc; "bookie '{name}' is named twice"))
+}
+
+/// That the word can be read in two ways; or want of memory.
+pub(crate) fn ambiguous(alloc: Global, word: &str) -> RunFault {
+    misnamed(format!(in alloc; "'{word}' is one bookie, and a list of others"))
 }
 
 /// The fault with this text.

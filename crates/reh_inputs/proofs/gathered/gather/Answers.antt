@@ -32,8 +32,8 @@ invariant_of-result c =
           ∙ sym (ap length c.in_ok-ledgers.ensures);
     }
 
-pub returns : goal.returns
-returns c =
+pub returns-clause-gathers : goal.returns-clause-gathers
+returns-clause-gathers c =
     let inputs = c.args.inputs.now in
     let strict = c.args.strict in
     let cluster : c.in_ok-cluster.cluster ≡ united inputs = c.in_ok-cluster.ensures in

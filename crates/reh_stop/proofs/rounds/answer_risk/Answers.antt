@@ -1,0 +1,30 @@
+-- The names, the racks, their order, the cost and the text.
+use Rattle.std.proofs.Common.{◌≡◌, ◌∙◌, ap, sym, subst, ℕ, List, length}
+use Rattle.std.specs.List.Sorted.{IsPermutation}
+use Rattle.reh_census.specs.Striping.{range}
+use Rattle.reh_stop.specs.Rounds.{IsCost, risk_by}
+use Rattle.reh_stop.proofs.rounds.answer_risk.Goals as goal
+
+pub cost_of-requires : goal.cost_of-requires
+cost_of-requires c =
+    let names = c.names_of-names.result.now in
+    let count : length names ≡ length c.args.gathered.now.bookies = c.names_of-names.ensures.each ∙ sym c.requires in
+    subst (λ (n : ℕ). IsPermutation (range 0 n) c.deref.result.now) count
+    (subst (λ (order : List ℕ). IsPermutation (range 0 (length names)) order) (sym c.deref.ensures.value)
+    c.in_ok-order.ensures.permutation)
+
+pub returns : goal.returns
+returns c = record {
+  names = c.names_of-names.result.now;
+  are_names = c.names_of-names.ensures.names;
+  racks = c.in_ok-racks.racks.items;
+  are_racks = c.in_ok-racks.ensures;
+  order = c.in_ok-order.order.items;
+  in_order = c.in_ok-order.ensures;
+  risk = c.in_ok-risk.risk;
+  is_cost =
+      subst (λ (order : List ℕ). IsCost c.args.gathered.now c.args.asked.now order c.in_ok-risk.risk) c.deref.ensures.value
+      c.in_ok-risk.ensures;
+  says = c.in_ok-text.ensures ∙ ap (λ racks. risk_by c.args.asked.now.as_json c.names_of-names.result.now racks c.in_ok-risk.risk)
+      c.deref-2.ensures.value;
+}

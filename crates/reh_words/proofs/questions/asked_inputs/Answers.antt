@@ -1,0 +1,16 @@
+-- The files, of which those past the limit are left out.
+use Rattle.std.proofs.Common.{◌∙◌, ap, sym, map, take, ℕ, List}
+use Rattle.std.proofs.lemmas.List.{take-map}
+use Rattle.std.specs.Borrow.{Bor}
+use Rattle.reh_words.specs.declared.tasks.TheConstants.{MAX_FILES}
+use Rattle.reh_words.proofs.questions.asked_inputs.Goals as goal
+
+pub returns : goal.returns
+returns c =
+    let text : Bor (List ℕ) → List ℕ = λ file. file.now in
+    record {
+      files_are =
+          ap (map text) c.truncate.ensures.items ∙ sym (take-map text MAX_FILES c.in_ok-files.files.items)
+          ∙ ap (take MAX_FILES) c.in_ok-files.ensures;
+      is_strict = c.is_given.ensures;
+    }

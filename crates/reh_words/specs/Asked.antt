@@ -1,0 +1,97 @@
+-- What is asked, by the arguments that are given.
+use Rattle.std.specs.Prelude.{◌≡◌, ℕ, Bool, true, false, List, [], map, take, Option, None, Some, codes}
+use Rattle.std.specs.Option.{option_map_or}
+use Rattle.std.specs.Str.{bytes_eq}
+use Rattle.std.specs.Str.Parse.{ParsesUnsigned, ExplainsUnsignedError, HasUnsignedDigitsIfOk}
+use Rattle.clap.specs.Words.{ReadsOne, first_value, found_of, matched_of, one_text, raw_values}
+use Rattle.clap.specs.declared.parser.matches.ArgMatches.{ArgMatches}
+use Rattle.reh_census.specs.declared.questions.Keep.{Keep}
+use Rattle.reh_census.specs.declared.questions.Keep.TheVariants.{AckQuorum, Copies, AckLessOne}
+use Rattle.reh_census.specs.declared.questions.Question.{Question}
+use Rattle.reh_words.specs.declared.tasks.TheConstants.{MAX_FILES}
+use Rattle.reh_words.specs.declared.tasks.Inputs.{Inputs}
+use Rattle.reh_words.specs.declared.tasks.RiskWords.{RiskWords}
+use Rattle.reh_words.specs.declared.tasks.Stop.{Stop}
+use Rattle.reh_words.specs.declared.tasks.Task.{Task}
+use Rattle.reh_words.specs.declared.tasks.Task.TheVariants as task
+use Rattle.reh_words.specs.declared.tasks.WaveWords.{WaveWords}
+
+-- the word of an argument, and the words of all its uses
+abbrev pub word_of : ArgMatches → List ℕ → Option (List ℕ)
+word_of given name = first_value (found_of given) name
+
+abbrev pub words_of : ArgMatches → List ℕ → List (List ℕ)
+words_of given name = option_map_or (λ a. raw_values a) (matched_of (found_of given) name) []
+
+-- whether the flag is given
+pub record IsFlag (given : ArgMatches) (name : List ℕ) (is : Bool) : Type 0 where
+  pub none : one_text (found_of given) name ≡ None → is ≡ false
+  pub yes : one_text (found_of given) name ≡ Some (codes "true") → is ≡ true
+  pub no : one_text (found_of given) name ≡ Some (codes "false") → is ≡ false
+
+-- the number that the argument says: none, where it isn't given, or says no number below 2 ^ 64
+pub record IsNumber (given : ArgMatches) (name : List ℕ) (number : Option ℕ) : Type 0 where
+  pub none : one_text (found_of given) name ≡ None → number ≡ None
+  pub says : (word : List ℕ) → one_text (found_of given) name ≡ Some word
+      → ReadsOne (λ bs r. ParsesUnsigned 64 10 bs r × ExplainsUnsignedError 10 bs r × HasUnsignedDigitsIfOk bs r) word number
+
+-- how many copies are to be kept: one, where less than the ack quorum is allowed; the ack quorum, where no word says it; the
+-- number that the word says, or where it says none, one less than the ack quorum
+abbrev pub keep_of : Bool → Option (List ℕ) → Option ℕ → Keep
+keep_of true word number = Copies 1
+keep_of false None number = AckQuorum
+keep_of false (Some word) (Some number) = Copies number
+keep_of false (Some word) None = AckLessOne
+
+pub record IsKeep (given : ArgMatches) (keep : Keep) : Type 0 where
+  pub under_ack : Bool
+  pub is_under_ack : IsFlag given (codes "allow-under-ack") under_ack
+  pub number : Option ℕ
+  pub is_number : IsNumber given (codes "keep") number
+  pub is_kept : keep ≡ keep_of under_ack (word_of given (codes "keep")) number
+
+pub record IsQuestion (given : ArgMatches) (question : Question) : Type 0 where
+  pub keeps : IsKeep given question.keep
+  pub ensembles : IsNumber given (codes "ensemble") question.ensemble
+  pub racks : IsNumber given (codes "min-racks") question.min_racks
+  pub blocks_recovery : IsFlag given (codes "allow-blocked-recovery") question.allow_blocked_recovery
+  pub blocks_writers : IsFlag given (codes "allow-blocked-writers") question.allow_blocked_writers
+  pub is_for_good : IsFlag given (codes "for-good") question.for_good
+
+abbrev pub is_json : ArgMatches → Bool
+is_json given = option_map_or (bytes_eq (codes "json")) (word_of given (codes "format")) false
+
+-- the files, of which the parser lets no more through, and whether they are read strictly
+pub record IsInputs (given : ArgMatches) (inputs : Inputs) : Type 0 where
+  pub files_are : map (λ file. file.now) inputs.files.items ≡ take MAX_FILES (words_of given (codes "FILE"))
+  pub is_strict : IsFlag given (codes "strict") inputs.strict
+
+-- what `ok-to-stop` is asked
+pub record IsStop (given : ArgMatches) (stop : Stop) : Type 0 where
+  pub reads : IsInputs given stop.inputs
+  pub bookies_are : map (λ word. word.now) stop.bookies.items ≡ words_of given (codes "lose")
+  pub racks_are : map (λ word. word.now) stop.racks.items ≡ words_of given (codes "lose-rack")
+  pub asks : IsQuestion given stop.question
+  pub prints : stop.as_json ≡ is_json given
+
+-- what `waves` is asked
+pub record IsWaves (given : ArgMatches) (words : WaveWords) : Type 0 where
+  pub reads : IsInputs given words.inputs
+  pub asks : IsQuestion given words.question
+  pub keeps_to_racks : IsFlag given (codes "racks") words.by_rack
+  pub prints : words.as_json ≡ is_json given
+
+-- what `risk` is asked
+pub record IsRisk (given : ArgMatches) (words : RiskWords) : Type 0 where
+  pub reads : IsInputs given words.inputs
+  pub asks : IsQuestion given words.question
+  pub has_pairs : IsFlag given (codes "pairs") words.with_pairs
+  pub prints : words.as_json ≡ is_json given
+
+-- what one of these commands asks
+abbrev pub IsAsked : List ℕ → ArgMatches → Task → Type 0
+IsAsked command given (task.Stop stop) = (command ≡ codes "ok-to-stop") × IsStop given stop
+IsAsked command given (task.Waves words) = (command ≡ codes "waves") × IsWaves given words
+IsAsked command given (task.Risk words) = (command ≡ codes "risk") × IsRisk given words
+IsAsked command given (task.Census inputs) = (command ≡ codes "census") × IsInputs given inputs
+IsAsked command given other = ⊥

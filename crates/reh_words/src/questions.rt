@@ -1,0 +1,146 @@
+// What the arguments that are given ask of a cluster's files.
+ghost use Rattle.std.specs.Prelude.{◌≡◌, map, IfOk, IfSome};
+ghost use Rattle.reh_words.specs.Asked as model;
+
+use crate::tasks::{Crew, Inputs, MAX_FILES, RiskWords, Stop, Task, WaveWords};
+use clap::ArgMatches;
+use reh_census::{Keep, Question};
+use reh_crew::MAX_WORKERS;
+use std::alloc::{AllocError, Global};
+
+/// What these matches of a command ask of files, if it is one that does.
+pub(crate) fn asked_of_files<'a>(
+    alloc: Global,
+    command: &str,
+    given: &ArgMatches<'a>,
+) -> Result<Option<Task<'a>>, AllocError>
+    ensures { IfOk result (λ task. IfSome task (model.IsAsked command.now given.now)) }
+{
+    let task = match command {
+        "ok-to-stop" => Task::Stop(asked_stop(alloc, given)?),
+        "waves" => Task::Waves(asked_waves(alloc, given)?),
+        "risk" => Task::Risk(asked_risk(alloc, given)?),
+        "census" => Task::Census(asked_inputs(alloc, given)?),
+        _ => return Ok(None),
+    };
+    Ok(Some(task))
+}
+
+/// What these matches of `ok-to-stop` ask for.
+fn asked_stop<'a>(alloc: Global, given: &ArgMatches<'a>) -> Result<Stop<'a>, AllocError>
+    ensures { IfOk result (λ stop. model.IsStop given.now stop) }
+{
+    Ok(Stop {
+        inputs: asked_inputs(alloc, given)?,
+        bookies: words_of(alloc, given, "lose")?,
+        racks: words_of(alloc, given, "lose-rack")?,
+        question: asked_question(given),
+        as_json: is_json(given),
+    })
+}
+
+/// What these matches of `waves` ask for.
+fn asked_waves<'a>(alloc: Global, given: &ArgMatches<'a>) -> Result<WaveWords<'a>, AllocError>
+    ensures { IfOk result (λ words. model.IsWaves given.now words) }
+{
+    Ok(WaveWords {
+        inputs: asked_inputs(alloc, given)?,
+        question: asked_question(given),
+        by_rack: is_given(given, "racks"),
+        as_json: is_json(given),
+    })
+}
+
+/// What these matches of `risk` ask for.
+fn asked_risk<'a>(alloc: Global, given: &ArgMatches<'a>) -> Result<RiskWords<'a>, AllocError>
+    ensures { IfOk result (λ words. model.IsRisk given.now words) }
+{
+    Ok(RiskWords {
+        inputs: asked_inputs(alloc, given)?,
+        question: asked_question(given),
+        with_pairs: is_given(given, "pairs"),
+        as_json: is_json(given),
+    })
+}
+
+/// The words of an argument.
+fn words_of<'a>(
+    alloc: Global,
+    given: &ArgMatches<'a>,
+    argument: &str,
+) -> Result<Vec<&'a str>, AllocError>
+    ensures { IfOk result (λ words. map (λ word. word.now) words.items ≡ model.words_of given.now argument.now) }
+{
+    match given.get_strs(argument) {
+        Some(words) => words.to_vec(alloc),
+        None => Ok(Vec::new(alloc)),
+    }
+}
+
+/// Whether a flag is given.
+fn is_given(given: &ArgMatches<'_>, flag: &str) -> bool
+    ensures { model.IsFlag given.now flag.now result }
+{
+    given.get_flag(flag)
+}
+
+/// The number that an argument says, if it says one.
+fn number_of(given: &ArgMatches<'_>, argument: &str) -> Option<u64>
+    ensures { model.IsNumber given.now argument.now result }
+{
+    given.get_one(argument)
+}
+
+/// Whether the answer is to be JSON.
+fn is_json(given: &ArgMatches<'_>) -> bool
+    ensures { result ≡ model.is_json given.now }
+{
+    match given.get_str("format") {
+        Some(format) => format.as_bytes() == "json".as_bytes(),
+        None => false,
+    }
+}
+
+/// The files, and who reads them. The parser lets no other number of files or workers through; if it did, they would be
+/// passed over.
+fn asked_inputs<'a>(alloc: Global, given: &ArgMatches<'a>) -> Result<Inputs<'a>, AllocError>
+    ensures { IfOk result (λ inputs. model.IsInputs given.now inputs) }
+{
+    let mut files = words_of(alloc, given, "FILE")?;
+    files.truncate(MAX_FILES);
+    let workers = number_of(given, "workers").unwrap_or(1);
+    let workers = workers.max(1).min(MAX_WORKERS as u64) as usize;
+    Ok(Inputs {
+        files,
+        strict: is_given(given, "strict"),
+        crew: Crew { workers },
+    })
+}
+
+/// How many copies entries are to keep: the parser lets no word through but a number and `ack-1`.
+fn asked_keep(given: &ArgMatches<'_>) -> Keep
+    ensures { model.IsKeep given.now result }
+{
+    let under_ack = is_given(given, "allow-under-ack");
+    let copies = number_of(given, "keep");
+    match (under_ack, given.get_str("keep"), copies) {
+        (true, _, _) => Keep::Copies(1),
+        (false, None, _) => Keep::AckQuorum,
+        (false, Some(_), Some(copies)) => Keep::Copies(copies),
+        (false, Some(_), None) => Keep::AckLessOne,
+    }
+}
+
+/// What a stop may break.
+fn asked_question(given: &ArgMatches<'_>) -> Question
+    ensures { model.IsQuestion given.now result }
+{
+    Question {
+        keep: asked_keep(given),
+        ensemble: number_of(given, "ensemble"),
+        min_racks: number_of(given, "min-racks"),
+        allow_blocked_recovery: is_given(given, "allow-blocked-recovery"),
+        allow_blocked_writers: is_given(given, "allow-blocked-writers"),
+        for_good: is_given(given, "for-good"),
+    }
+}

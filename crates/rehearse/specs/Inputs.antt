@@ -1,0 +1,149 @@
+-- What is read of the files of a cluster, and what is said of it.
+use Rattle.std.specs.Prelude.{◌≡◌, ℕ, ◌%◌, Bool, true, false, List, [], ◌++◌, All, Option, Result, Ok, Err, String, codes, length, slice_get, string_bytes, vec_len, IfOk}
+use Rattle.std.specs.Borrow.{Bor}
+use Rattle.std.specs.Fmt.{decimal}
+use Rattle.std.specs.Option.{IsSomeAnd, option_and_then, option_map_or}
+use Rattle.std.specs.declared.alloc.Global.{Global}
+use Rattle.reh_census_file.specs.Texts.{text_of}
+use Rattle.reh_inputs.specs.Gathered.{Gathers}
+use Rattle.reh_inputs.specs.Inputs.{IsRead}
+use Rattle.reh_inputs.specs.Named.{named_of, taken_of}
+use Rattle.reh_inputs.specs.declared.inputs.Input.{Input}
+use Rattle.reh_inputs.specs.declared.inputs.Input.TheVariants.{Picture, Census}
+use Rattle.reh_inputs.specs.declared.gathered.GatherFault.{GatherFault}
+use Rattle.reh_inputs.specs.declared.gathered.GatherFault.TheVariants as gather
+use Rattle.reh_inputs.specs.declared.together.Gathered.{Gathered}
+use Rattle.reh_stop.specs.Rounds.{SaysCost, SaysRounds}
+use Rattle.reh_stop.specs.Stops.{IsAnswered}
+use Rattle.reh_stop.specs.declared.rounds.AskedRisk.{AskedRisk}
+use Rattle.reh_stop.specs.declared.rounds.AskedWaves.{AskedWaves}
+use Rattle.reh_stop.specs.declared.stops.Asked.{Asked}
+use Rattle.reh_stop.specs.declared.stops.Said.{Said}
+use Rattle.reh_words.specs.declared.tasks.Inputs.{Inputs}
+use Rattle.reh_words.specs.declared.tasks.RiskWords.{RiskWords}
+use Rattle.reh_words.specs.declared.tasks.Stop.{Stop}
+use Rattle.reh_words.specs.declared.tasks.WaveWords.{WaveWords}
+use Rattle.rehearse.specs.declared.faults.RunFault.{RunFault}
+use Rattle.rehearse.specs.declared.faults.RunFault.TheVariants.{NoMemory, Unfit}
+
+-- it is what some bytes show
+abbrev pub IsOfBytes : Input → Type 0
+IsOfBytes input = (bytes : List ℕ) × IsRead bytes input
+
+-- a file was read: what it shows is there, or its fault
+abbrev pub IsInSlot : Option (Result Input RunFault) → Type 0
+IsInSlot slot = IsSomeAnd slot (λ read. IfOk read IsOfBytes)
+
+-- what all files show together, each an input
+pub record IsOfFiles (words : Inputs) (gathered : Gathered) : Type 0 where
+  pub inputs : List Input
+  pub each_file : length inputs ≡ vec_len words.files
+  pub are_read : All IsOfBytes inputs
+  pub gathers : Gathers inputs words.strict gathered
+
+-- what is said of a stop, by all files
+pub record SaysStop (words : Stop) (said : Said) : Type 0 where
+  pub gathered : Gathered
+  pub of_files : IsOfFiles words.inputs gathered
+  pub asked : Asked
+  pub same_bookies : asked.bookies.now ≡ words.bookies.items
+  pub same_racks : asked.racks.now ≡ words.racks.items
+  pub same_question : asked.question ≡ words.question
+  pub same_form : asked.as_json ≡ words.as_json
+  pub answered : IsAnswered gathered asked said
+
+-- what is said of rounds
+abbrev pub waves_asked : WaveWords → AskedWaves
+waves_asked words = record { question = words.question; by_rack = words.by_rack; as_json = words.as_json }
+
+pub record SaysWaves (words : WaveWords) (text : String Global) : Type 0 where
+  pub gathered : Gathered
+  pub of_files : IsOfFiles words.inputs gathered
+  pub says : SaysRounds gathered (waves_asked words) text
+
+-- and of the next losses
+abbrev pub risk_asked : RiskWords → AskedRisk
+risk_asked words = record { question = words.question; with_pairs = words.with_pairs; as_json = words.as_json }
+
+pub record SaysRisk (words : RiskWords) (text : String Global) : Type 0 where
+  pub gathered : Gathered
+  pub of_files : IsOfFiles words.inputs gathered
+  pub says : SaysCost gathered (risk_asked words) text
+
+-- what the text of a census says of all files
+pub record SaysCensus (words : Inputs) (text : String Global) : Type 0 where
+  pub inputs : List Input
+  pub each_file : length inputs ≡ vec_len words.files
+  pub are_read : All IsOfBytes inputs
+  pub gathered : Gathered
+  pub gathers : Gathers inputs words.strict gathered
+  pub says : string_bytes text ≡ text_of (named_of gathered words.strict (taken_of inputs))
+
+-- Inputs that can't be judged together
+
+-- the path of an input, and the name of a bookie of it
+abbrev pub path_of : List (Bor (List ℕ)) → ℕ → List ℕ
+path_of files input = option_map_or (λ path. path.now) (slice_get files input) []
+
+abbrev pub name_in : Input → ℕ → Option (List ℕ)
+name_in (Picture l) bookie = slice_get l.listing.names (bookie % 64)
+name_in (Census c) bookie = slice_get c.names (bookie % 4096)
+
+abbrev pub name_of : List Input → ℕ → ℕ → List ℕ
+name_of read input bookie =
+    option_map_or (λ name. name) (option_and_then (λ one. name_in one bookie) (slice_get read input)) []
+
+-- the fault has this text, or there is no memory for it
+abbrev pub IsUnfit : List ℕ → RunFault → Type 0
+IsUnfit text (Unfit reason) = string_bytes reason ≡ text
+IsUnfit text NoMemory = Unit {0}
+IsUnfit text other = ⊥
+
+abbrev pub too_many_text : List ℕ
+too_many_text = codes "there are more entries, ledgers or fragments than can be counted"
+
+-- the fault has the text that could be made
+abbrev pub TellsText : {E : Type 0} → Result (String Global) E → RunFault → Type 0
+TellsText (Ok text) run = run ≡ Unfit text
+TellsText (Err want) run = run ≡ NoMemory
+
+abbrev pub differs_text : List ℕ → List ℕ → List ℕ
+differs_text path name =
+    path ++ (codes " shows bookie '" ++ (name ++ codes "' otherwise than a file before it"))
+
+abbrev pub empty_text : List ℕ → List ℕ → ℕ → List ℕ
+empty_text path name ledger =
+    path
+    ++ (codes " shows bookie '"
+    ++ (name
+    ++ (codes "' as empty, but says that it holds entries of ledger "
+    ++ (decimal ledger ++ codes ": leave out one of the two"))))
+
+abbrev pub strict_text : List ℕ → Bool → List ℕ
+strict_text path true = path ++ codes " is a census without --strict, and --strict is given"
+strict_text path false = path ++ codes " is a census with --strict, and --strict isn't given"
+
+abbrev pub bookies_text : List ℕ → List ℕ
+bookies_text path = codes "with " ++ (path ++ codes " there are more than 4096 bookies")
+
+abbrev pub twice_text : List ℕ → ℕ → List ℕ
+twice_text path ledger =
+    codes "ledger " ++ (decimal ledger ++ (codes " of " ++ (path ++ codes " is in a file before it, too")))
+
+abbrev pub uncounted_text : List ℕ → ℕ → List ℕ
+uncounted_text path ledger =
+    codes "ledger " ++ (decimal ledger ++ (codes " of " ++ (path ++ codes " can't be counted")))
+
+-- which fault of a run tells of this one: it names the file
+abbrev pub TellsOf : Inputs → List Input → GatherFault → RunFault → Type 0
+TellsOf words read (gather.Differs input bookie) run =
+    IsUnfit (differs_text (path_of words.files.items input) (name_of read input bookie)) run
+TellsOf words read (gather.TooManyBookies input bookie) run = IsUnfit (bookies_text (path_of words.files.items input)) run
+TellsOf words read (gather.HoldsThoughEmpty input held) run =
+    IsUnfit (empty_text (path_of words.files.items input) (name_of read input held.bookie) held.ledger) run
+TellsOf words read (gather.Twice input ledger) run = IsUnfit (twice_text (path_of words.files.items input) ledger) run
+TellsOf words read (gather.Unfit input ledger) run = IsUnfit (uncounted_text (path_of words.files.items input) ledger) run
+TellsOf words read (gather.OtherStrict input) run =
+    IsUnfit (strict_text (path_of words.files.items input) words.strict) run
+TellsOf words read gather.TooMany run = IsUnfit too_many_text run
+TellsOf words read gather.NoMemory run = run ≡ NoMemory
