@@ -173,12 +173,12 @@ abbrev pub AreTold : Reading → ℕ → List Holding → Type 0
 AreTold reading ledger holdings =
     AllByRecursion (λ h. (h.ledger == ledger) ≡ true → told_by reading h ≡ Holds (map range_of h.ranges)) holdings
 
-module _ (numbers : List ℕ) (reading : Reading) (ledger b e : ℕ)
-    (numbered : (m : ℕ) → (number_in numbers m == b) ≡ (m == b)) (rest : Told)
+module _ (numbers : List ℕ) (reading : Reading) (ledger c b e : ℕ)
+    (numbered : (m : ℕ) → (number_in numbers m == c) ≡ (m == b)) (rest : Told)
     (silent : census.is_held e rest ≡ false) where
-  -- what is told of a bookie is what its content says
+  -- what is told of the bookie with that number is what its content says
   pub told-says : (holdings : List Holding) → IsDistinct is_pair (map pair holdings) → AreTold reading ledger holdings
-      → census.is_held e (told_in (contents_of numbers reading ledger holdings) rest b)
+      → census.is_held e (told_in (contents_of numbers reading ledger holdings) rest c)
       ≡ list_any (says b ledger e) holdings
   unfolding IsDistinct
   told-says [] distinct told = silent
@@ -187,64 +187,54 @@ module _ (numbers : List ℕ) (reading : Reading) (ledger b e : ℕ)
       let others = contents_of numbers reading ledger hs in
       elim (h.ledger == ledger) as (λ t. (h.ledger == ledger) ≡ t
       → census.is_held e
-      (told_in (map (content_by numbers reading) (cond t (h ∷ filter (λ h. h.ledger == ledger) hs) (filter (λ h. h.ledger == ledger) hs))) rest b)
+      (told_in (map (content_by numbers reading) (cond t (h ∷ filter (λ h. h.ledger == ledger) hs) (filter (λ h. h.ledger == ledger) hs))) rest c)
       ≡ (((h.bookie == b && t) && ours) || list_any (says b ledger e) hs)) [
         | true ↦ λ here.
-            ap (λ (u : Bool). census.is_held e (if u then told_by reading h else told_in others rest b)) (numbered h.bookie)
+            ap (λ (u : Bool). census.is_held e (if u then told_by reading h else told_in others rest c)) (numbered h.bookie)
             ∙ (elim (h.bookie == b) as (λ u. (h.bookie == b) ≡ u
-            → census.is_held e (if u then told_by reading h else told_in others rest b)
+            → census.is_held e (if u then told_by reading h else told_in others rest c)
             ≡ (((u && true) && ours) || list_any (says b ledger e) hs)) [
               | true ↦ λ bookie.
                   ap (census.is_held e) (told.0 here)
                   ∙ list_any-map (is_within e) range_of h.ranges
                   ∙ sym (or_false ours)
-                  ∙ ap (λ c. ours || c) (sym (others_silent b ledger e (pair h) bookie here hs distinct.0))
+                  ∙ ap (λ t. ours || t) (sym (others_silent b ledger e (pair h) bookie here hs distinct.0))
               | false ↦ λ _. told-says hs distinct.1 told.1
             ] refl)
         | false ↦ λ _.
             told-says hs distinct.1 told.1
-            ∙ sym (ap (λ c. (c && ours) || list_any (says b ledger e) hs) (and_false (h.bookie == b)))
+            ∙ sym (ap (λ t. (t && ours) || list_any (says b ledger e) hs) (and_false (h.bookie == b)))
       ] refl
 
 -- Members
 
--- Of the first n bookies, in which all that are registered stand: one may hold copies, carries the entry and is told to
--- hold it, exactly where a member of the write set is registered and holds it.
-module _ (n : ℕ) (up holds : ℕ → Bool) (members : List ℕ) (low : (b : ℕ) → up b ≡ true → b < n)
-    (may carries told : ℕ → Bool)
-    (same_up : (b : ℕ) → b < n → may b ≡ up b)
-    (same_members : (b : ℕ) → b < n → carries b ≡ list_any (λ m. m == b) members)
-    (same_held : (b : ℕ) → b < n → told b ≡ holds b) where
-  pub some_member : list_any (λ b. may b && (carries b && told b)) (range_with_len 0 n)
+-- Of the first n bookies, in which all that are registered stand: one is registered, a member of the write set and holds the
+-- entry exactly where a member of the write set is registered and holds it.
+module _ (n : ℕ) (up holds : ℕ → Bool) (members : List ℕ) (low : (b : ℕ) → up b ≡ true → b < n) where
+  abbrev among : ℕ → Bool
+  among b = list_any (λ m. m == b) members
+
+  pub some_member : list_any (λ b. up b && (list_any (λ m. m == b) members && holds b)) (range_with_len 0 n)
       ≡ list_any (λ m. up m && holds m) members
   some_member = same_answer _ _ forth back where
-    forth : list_any (λ b. may b && (carries b && told b)) (range_with_len 0 n) ≡ true
+    forth : list_any (λ b. up b && (among b && holds b)) (range_with_len 0 n) ≡ true
         → list_any (λ m. up m && holds m) members ≡ true
     forth any =
-        let w : Passes (λ b. may b && (carries b && told b)) 0 n =
-        any_passes (λ b. may b && (carries b && told b)) 0 n any in
-        let below : w.at < n = omega (arith, w.below) in
-        let rest = second_true (may w.at) (carries w.at && told w.at) w.passes in
-        let is_up : up w.at ≡ true = sym (same_up w.at below) ∙ first_true (may w.at) (carries w.at && told w.at) w.passes in
-        let has_it : holds w.at ≡ true = sym (same_held w.at below) ∙ second_true (carries w.at) (told w.at) rest in
-        gives_any (λ m. up m && holds m) w.at (both_true (up w.at) (holds w.at) is_up has_it) members
-        (sym (same_members w.at below) ∙ first_true (carries w.at) (told w.at) rest)
+        let w : Passes (λ b. up b && (among b && holds b)) 0 n =
+        any_passes (λ b. up b && (among b && holds b)) 0 n any in
+        let rest = second_true (up w.at) (among w.at && holds w.at) w.passes in
+        gives_any (λ m. up m && holds m) w.at
+        (both_true (up w.at) (holds w.at) (first_true (up w.at) (among w.at && holds w.at) w.passes)
+        (second_true (among w.at) (holds w.at) rest)) members (first_true (among w.at) (holds w.at) rest)
 
     back : list_any (λ m. up m && holds m) members ≡ true
-        → list_any (λ b. may b && (carries b && told b)) (range_with_len 0 n) ≡ true
+        → list_any (λ b. up b && (among b && holds b)) (range_with_len 0 n) ≡ true
     back any =
-        any_gives (λ m. up m && holds m) _ members (λ b passes among.
-        let below : b < n = low b (first_true (up b) (holds b) passes) in
+        any_gives (λ m. up m && holds m) _ members (λ b passes member.
+        let is_up : up b ≡ true = first_true (up b) (holds b) passes in
+        let below : b < n = low b is_up in
         let inside : b < 0 + n = omega (arith, below) in
-        passes_any (λ b. may b && (carries b && told b)) 0 n b (omega arith) inside
-        (both_true (may b) (carries b && told b) (same_up b below ∙ first_true (up b) (holds b) passes)
-        (both_true (carries b) (told b) (same_members b below ∙ among) (same_held b below ∙ second_true (up b) (holds b) passes))))
+        passes_any (λ b. up b && (among b && holds b)) 0 n b (omega arith) inside
+        (both_true (up b) (among b && holds b) is_up
+        (both_true (among b) (holds b) member (second_true (up b) (holds b) passes))))
         any
-
-  -- so the known copies are some exactly there
-  pub some_known : nat_lt 0 (length (filter (λ b. carries b && told b) (filter may (range_with_len 0 n))))
-      ≡ list_any (λ m. up m && holds m) members
-  some_known =
-      some_left (λ b. carries b && told b) (filter may (range_with_len 0 n))
-      ∙ any_filtered (λ b. carries b && told b) may (range_with_len 0 n)
-      ∙ some_member

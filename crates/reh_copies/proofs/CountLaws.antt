@@ -1,14 +1,14 @@
 -- How many bookies hold an entry.
 use Rattle.std.proofs.Common.{◌≡◌, ℕ, zero, suc, ◌+◌, ◌-◌, ◌<◌, ◌≤◌, Bool, true, false, cond, ◌&&◌, ◌||◌, List, [], ◌∷◌, map, length, refl, sym, ap, ◌∙◌, arith, inl, inr}
 use Rattle.std.specs.Prelude.{◌==◌, count_by, nat_eq, slice_index, sum_by}
-use Rattle.std.specs.List.{IsDistinct, filter, list_any, range_with_len}
+use Rattle.std.specs.List.{IsDistinct, list_any, range_with_len}
 use Rattle.std.proofs.lemmas.Bool.{cases_lt, false_from_ne_true}
 use Rattle.std.proofs.lemmas.Bool.Decides.{Decides-eqb, nat_tests}
-use Rattle.std.proofs.lemmas.List.Sums.{length-filter, sum_by-cons}
+use Rattle.std.proofs.lemmas.List.Sums.{sum_by-cons}
 use Rattle.std.proofs.lemmas.Map.Made.{AllPairs-from_IsDistinct}
 use Rattle.std.proofs.lemmas.Nat.{mod_below}
 use Rattle.reh_census.specs.Copies.{EachOnce}
-use Rattle.reh_census.proofs.CountLaws.{count-cons, count-filter}
+use Rattle.reh_census.proofs.CountLaws.{count-cons}
 use Rattle.reh_census.proofs.OnceLaws.{once-first}
 use Rattle.reh_model.specs.Metadata.{Fragment, IsEnsemble, Metadata, writes}
 use Rattle.reh_model.specs.Striping.{index_at, range, write_set}
@@ -124,21 +124,14 @@ turned false c k = refl
 turned true true k = sym (and_true k)
 turned true false k = sym (and_false k)
 
--- and as many of them may hold copies, carry the entry and are told to hold it
-pub known_counted : (n : ℕ) (up holds : ℕ → Bool) (members : List ℕ) → EachOnce members → ((b : ℕ) → up b ≡ true → b < n)
-    → (may carries told : ℕ → Bool)
-    → ((b : ℕ) → b < n → may b ≡ up b)
-    → ((b : ℕ) → b < n → carries b ≡ list_any (λ m. m == b) members)
-    → ((b : ℕ) → b < n → told b ≡ holds b)
-    → length (filter (λ b. carries b && told b) (filter may (range_with_len 0 n))) ≡ count_by (λ m. up m && holds m) members
-known_counted n up holds members once low may carries told same_up same_members same_held =
-    length-filter (λ b. carries b && told b) (filter may (range_with_len 0 n))
-    ∙ count-filter (λ b. carries b && told b) may (range_with_len 0 n)
-    ∙ count_same (λ b. may b && (carries b && told b)) (λ b. (up b && holds b) && list_any (λ m. m == b) members) 0 n
-    (λ b _ inside.
-    let below : b < n = omega (arith, inside) in
-    (λ i. same_up b below i && (same_members b below i && same_held b below i))
-    ∙ turned (up b) (list_any (λ m. m == b) members) (holds b))
+-- and as many of them are registered, members, and hold the entry
+pub members_known : (n : ℕ) (up holds : ℕ → Bool) (members : List ℕ) → EachOnce members → ((b : ℕ) → up b ≡ true → b < n)
+    → count_by (λ b. up b && (list_any (λ m. m == b) members && holds b)) (range_with_len 0 n)
+    ≡ count_by (λ m. up m && holds m) members
+members_known n up holds members once low =
+    count_same (λ b. up b && (list_any (λ m. m == b) members && holds b))
+    (λ b. (up b && holds b) && list_any (λ m. m == b) members) 0 n
+    (λ b _ _. turned (up b) (list_any (λ m. m == b) members) (holds b))
     ∙ members_counted n (λ b. up b && holds b) (λ b both. low b (first_true (up b) (holds b) both)) members once
 
 -- Write sets

@@ -9,7 +9,7 @@ use Rattle.std.proofs.lemmas.List.Sums.{sum_by-append, sum_by-cons}
 use Rattle.std.proofs.lemmas.Option.{slice_get_within}
 use Rattle.reh_types.specs.declared.names.LedgerState.{LedgerState}
 use Rattle.reh_types.specs.declared.names.LedgerState.TheVariants.{Open, InRecovery, Closed}
-use Rattle.reh_model.specs.Metadata.{Fragment, end_of_state, stop_of}
+use Rattle.reh_model.specs.Metadata.{Fragment, IsMetadata, end_of_state, stop_of}
 use Rattle.reh_model.specs.Cluster.{Cluster, Ledger, is_readable}
 use Rattle.reh_model.specs.Survey.{line_of, lines_of, lost_of, survey}
 use Rattle.reh_census.specs.Striping.{range}
@@ -19,6 +19,7 @@ use Rattle.reh_picture.specs.declared.listings.Listed.{Listed}
 use Rattle.reh_picture.specs.Counts.{is_closed}
 use Rattle.reh_inputs.specs.declared.ledgers.Reading.{Reading}
 use Rattle.reh_inputs.specs.declared.ledgers.Reading.TheVariants as readings
+use Rattle.reh_inputs.specs.declared.inputs.Input.TheVariants.{Picture}
 use Rattle.reh_inputs.specs.Gathered.{holders_of, ledgers_of}
 use Rattle.reh_inputs.specs.Ledgers.{end_told, first_of}
 use Rattle.reh_copies.specs.Alone.{NoneEmpty, fragment_alone, has_no_copy, ledger_alone, lost_in, without_copy}
@@ -54,7 +55,7 @@ closed_end (Closed end) closed None = (end, refl)
 closed_end (Closed end) closed (Some first) = (first, refl)
 
 module _ (s : Cluster) (l : Listed) (alike : IsAlike s l) (none_empty : NoneEmpty l) (reading : Reading) (g : Ledger)
-    (told : IsTold reading l g) where
+    (formed : IsMetadata g.metadata) (told : IsTold reading l g) where
   -- where a fragment has a stop, its lost entries are those with no known copy
   pub lost-without_copy : (f : ℕ) (fragment : Fragment) → slice_get g.metadata.fragments f ≡ Some fragment
       → lost_of s g f fragment ≡ option_map (λ _. without_copy reading l g f) (stop_of g.metadata f)
@@ -70,7 +71,7 @@ module _ (s : Cluster) (l : Listed) (alike : IsAlike s l) (none_empty : NoneEmpt
         ap (λ (o : Option ℕ). unwrap_or o (max (first_of g.metadata f) (end_told g.id l.listing.holdings.items))) (sym is) in
         λ i.
         Some
-        (count_by (λ e. not (readable-known s l alike none_empty reading g told f fragment there e i))
+        (count_by (λ e. not (readable-known s l alike none_empty reading g formed told f fragment there e i))
         (range (first i) (end i)))
 
   -- so it is of a fragment with a stop
@@ -110,14 +111,14 @@ module _ (s : Cluster) (l : Listed) (alike : IsAlike s l) (none_empty : NoneEmpt
 
     -- of all fragments of a ledger
     pub lost-ledger : sum_by lost_in (lines_of s g)
-        ≡ count_ledger (holders_of (l ∷ [])) has_no_copy (ledger_alone reading l g)
+        ≡ count_ledger (holders_of (Picture l ∷ [])) has_no_copy (ledger_alone reading l g)
     lost-ledger =
         let fragments = g.metadata.fragments in
         let long : length fragments ≡ length fragments - 0 = omega arith in
         sum_by-map lost_in (λ (p : ℕ × Fragment). line_of s g p.0 p.1) (enumerate_from 0 fragments)
         ∙ lost_from 0 fragments (omega arith) (λ j. let start : 0 + j ≡ j = omega arith in ap (slice_get fragments) start)
         ∙ ap (λ n. sum_by (without_copy reading l g) (range_with_len 0 n)) long
-        ∙ sym (sum_by-map (count_fragment (holders_of (l ∷ [])) (ledger_alone reading l g) has_no_copy)
+        ∙ sym (sum_by-map (count_fragment (holders_of (Picture l ∷ [])) (ledger_alone reading l g) has_no_copy)
         (fragment_alone l g) (range 0 (length fragments)))
 
 -- The picture
@@ -125,14 +126,15 @@ module _ (s : Cluster) (l : Listed) (alike : IsAlike s l) (none_empty : NoneEmpt
 -- of all ledgers, where each is closed
 pub lost-picture : (s : Cluster) (l : Listed) → IsAlike s l → NoneEmpty l
     → All (λ g. is_closed g.metadata.state ≡ true) s.parts.ledgers
-    → sum_by lost_in (survey s) ≡ count_entries (holders_of (l ∷ [])) (ledgers_of readings.All (l ∷ [])) has_no_copy
+    → sum_by lost_in (survey s) ≡ count_entries (holders_of (Picture l ∷ [])) (ledgers_of readings.All (Picture l ∷ [])) has_no_copy
 lost-picture s l alike none_empty closed =
-    let bookies = holders_of (l ∷ []) in
+    let bookies = holders_of (Picture l ∷ []) in
     let counted : Ledger → CountedLedger = ledger_alone readings.All l in
     sum_by-flat_map lost_in (lines_of s) s.parts.ledgers
-    ∙ sum_by-each (λ (g : Ledger). is_closed g.metadata.state ≡ true) (λ g. sum_by lost_in (lines_of s g))
-    (λ g. count_ledger bookies has_no_copy (counted g))
-    (λ g is. lost-ledger s l alike none_empty readings.All g (IsTold-closed l g is) is) s.parts.ledgers closed
+    ∙ sum_by-each (λ (g : Ledger). (is_closed g.metadata.state ≡ true) × IsMetadata g.metadata)
+    (λ g. sum_by lost_in (lines_of s g)) (λ g. count_ledger bookies has_no_copy (counted g))
+    (λ g is. lost-ledger s l alike none_empty readings.All g is.1 (IsTold-closed l g is.0) is.0) s.parts.ledgers
+    (λ k g within. (closed k g within, alike.formed k g within))
     ∙ ap (sum_by (λ g. count_ledger bookies has_no_copy (counted g))) alike.ledgers
     ∙ sym (sum_by-map (count_ledger bookies has_no_copy) counted l.listing.ledgers.items)
     ∙ ap (sum_by (count_ledger bookies has_no_copy)) (sym (append-nil (map counted l.listing.ledgers.items)))

@@ -1,12 +1,14 @@
 -- What can be read of a picture, and what is known of its copies.
-use Rattle.std.proofs.Common.{◌≡◌, ℕ, ◌<◌, ◌≤◌, Bool, true, false, ◌&&◌, List, [], ◌∷◌, map, length, Option, Some, is_none, refl, sym, ap, ◌∙◌, subst, arith, nat_lt, inl, inr}
+use Rattle.std.proofs.Common.{◌≡◌, ℕ, ◌+◌, ◌<◌, ◌≤◌, Bool, true, false, ◌&&◌, List, [], ◌∷◌, map, length, Option, Some, is_none, refl, sym, ap, ◌∙◌, subst, arith, nat_lt, inl, inr}
 use Rattle.std.specs.Prelude.{count_by, Contains, ◌==◌, All, slice_get, slice_index}
-use Rattle.std.specs.List.{IsDistinct, filter, list_any}
+use Rattle.std.specs.List.{IsDistinct, filter, list_any, range_with_len}
 use Rattle.std.specs.Option.{option_map_or}
 use Rattle.std.specs.Str.{bytes_eq}
 use Rattle.std.proofs.lemmas.Bool.{cases_lt}
 use Rattle.std.proofs.lemmas.Bool.Decides.{nat_tests}
 use Rattle.std.proofs.lemmas.List.Elements.{All-head, All-tail}
+use Rattle.std.proofs.lemmas.List.Sums.{length-filter}
+use Rattle.std.proofs.lemmas.Nat.{mod_below}
 use Rattle.std.proofs.lemmas.Option.{get_or_from_slice_get, slice_get_past, slice_get_within}
 use Rattle.reh_types.specs.declared.names.LedgerState.{LedgerState}
 use Rattle.reh_types.specs.declared.names.LedgerState.TheVariants.{Open, InRecovery, Closed}
@@ -16,20 +18,22 @@ use Rattle.reh_model.specs.Cluster.{Cluster, Ledger, is_readable, is_source, is_
 use Rattle.reh_census.specs.Bookies.{bookies_of as census_bookies, is_holder}
 use Rattle.reh_census.specs.Ledgers as census
 use Rattle.reh_census.specs.declared.ledgers.Told.TheVariants.{Holds}
-use Rattle.reh_census.specs.Striping.{write_set}
+use Rattle.reh_census.specs.Striping.{index_at, range, write_set}
+use Rattle.reh_census.proofs.CountLaws.{count-filter}
 use Rattle.reh_picture.specs.declared.listings.Listed.{Listed}
 use Rattle.reh_picture.specs.Contents.{Holding, held_in, is_pair}
 use Rattle.reh_picture.specs.Counts.{is_closed}
+use Rattle.reh_inputs.specs.declared.inputs.Input.TheVariants.{Picture}
 use Rattle.reh_inputs.specs.declared.ledgers.Reading.{Reading}
 use Rattle.reh_inputs.specs.declared.ledgers.Reading.TheVariants as readings
-use Rattle.reh_inputs.specs.Cluster.{Cluster as Inputs, bookies_of}
+use Rattle.reh_inputs.specs.Cluster.{bookies_of}
 use Rattle.reh_inputs.specs.Gathered.{is_held, reading_of}
 use Rattle.reh_inputs.specs.Ledgers.{number_in, range_of, reading_in, rest_of, told_as, told_by}
-use Rattle.reh_inputs.specs.United.{number_of, united}
+use Rattle.reh_inputs.specs.United.{united}
 use Rattle.reh_copies.specs.Alone.{NoneAssumed, NoneEmpty, class_alone, fragment_alone, ledger_alone, numbers_alone}
-use Rattle.reh_copies.proofs.CopyLaws.{AreTold, has-says, pair, some_known, told-says}
-use Rattle.reh_copies.proofs.CountLaws.{EachOnce-writes, known_counted}
-use Rattle.reh_copies.proofs.UnitedLaws.{alone, holders-alone, may_hold, numbered, numbered_members}
+use Rattle.reh_copies.proofs.CopyLaws.{AreTold, has-says, pair, some_member, told-says}
+use Rattle.reh_copies.proofs.CountLaws.{EachOnce-writes, members_known}
+use Rattle.reh_copies.proofs.UnitedLaws.{bookie_at, count-places, holders-alone, length-ordered, may_hold, numbered, numbered_members, ordered, ordered-counted, some_counted}
 
 -- a state, and what is listed of the same picture
 pub record IsAlike (s : Cluster) (l : Listed) : Type 0 where
@@ -117,65 +121,95 @@ up_low lost_at b up = elim (cases_lt b (length lost_at)) [
       cc
 ]
 
-module _ (s : Cluster) (l : Listed) (alike : IsAlike s l) (none_empty : NoneEmpty l) (reading : Reading) (g : Ledger)
-    (told : IsTold reading l g) (f : ℕ) (fragment : Fragment) (there : slice_get g.metadata.fragments f ≡ Some fragment)
-    (entry : ℕ) where
-  numbers_kept : (b : ℕ) → b < length l.listing.names → (m : ℕ) → (number_in (numbers_alone l) m == b) ≡ (m == b)
-  numbers_kept b below m =
-      ap (λ (c : Inputs). number_in (map (number_of c.names) l.listing.names) m == b) (alone l alike.different)
-      ∙ numbered l.listing.names alike.different alike.few b below m
+-- each ledger of the state has well-formed metadata
+pub IsMetadata-among : (s : Cluster) (l : Listed) → IsAlike s l → (g : Ledger) → Contains s.parts.ledgers g
+    → IsMetadata g.metadata
+IsMetadata-among s l alike g among =
+    subst (λ (h : Ledger). IsMetadata h.metadata) among.2 (alike.formed among.0 g among.1)
 
-  carries_kept : (b : ℕ) → b < length l.listing.names
-      → census.carries (ledger_alone reading l g) (fragment_alone l g f) entry b
-      ≡ list_any (λ m. m == b) (writes g.metadata fragment entry)
-  carries_kept b below =
-      (λ i. list_any (λ m. m == b)
+module _ (s : Cluster) (l : Listed) (alike : IsAlike s l) (none_empty : NoneEmpty l) (reading : Reading) (g : Ledger)
+    (formed : IsMetadata g.metadata) (told : IsTold reading l g) (f : ℕ) (fragment : Fragment)
+    (there : slice_get g.metadata.fragments f ≡ Some fragment) (entry : ℕ) where
+  ensemble : IsEnsemble g.metadata.size fragment.ensemble
+  ensemble =
+      subst (λ (h : Fragment). IsEnsemble g.metadata.size h.ensemble)
+      (get_or_from_slice_get g.metadata.fragments f fragment fragment there)
+      (formed.ensembles f fragment (slice_get_within g.metadata.fragments f fragment there))
+
+  some : 1 ≤ g.metadata.size
+  some = omega (arith, formed.some_acks, formed.acks_within, formed.writes_within)
+
+  -- the bookie of the picture that has this number in the cluster
+  abbrev at : ℕ → ℕ
+  at c = bookie_at l alike.different c
+
+  numbers_kept : (c : ℕ) → c < length l.listing.names → (m : ℕ) → (number_in (numbers_alone l) m == c) ≡ (m == at c)
+  numbers_kept c below m = numbered l alike.different alike.few c below m
+
+  carries_kept : (c : ℕ) → c < length l.listing.names
+      → census.carries (ledger_alone reading l g) (fragment_alone l g f) entry c
+      ≡ list_any (λ m. m == at c) (writes g.metadata fragment entry)
+  carries_kept c below =
+      (λ i. list_any (λ m. m == c)
       (map (λ k. slice_index (map (number_in (numbers_alone l)) (option_map_or (λ (fragment : Fragment). fragment.ensemble) (there i) [])) k)
       (write_set entry g.metadata.size g.metadata.write_quorum)))
-      ∙ numbered_members (numbers_alone l) fragment.ensemble (write_set entry g.metadata.size g.metadata.write_quorum) b
-      (numbers_kept b below)
+      ∙ numbered_members (numbers_alone l) fragment.ensemble (index_at entry g.metadata.size)
+      (λ j. let within : index_at entry g.metadata.size j < g.metadata.size = mod_below (entry + j) g.metadata.size some in
+      omega (arith, within, ensemble.whole)) (range 0 g.metadata.write_quorum) c (at c) (numbers_kept c below)
 
-  held_kept : (b : ℕ) → b < length l.listing.names
-      → census.is_held entry (census.told_of (ledger_alone reading l g) b) ≡ has s.parts.held b g.id entry
-  held_kept b below =
-      told-says (numbers_alone l) (reading_in g.metadata.state reading) g.id b entry (numbers_kept b below)
+  held_kept : (c : ℕ) → c < length l.listing.names
+      → census.is_held entry (census.told_of (ledger_alone reading l g) c) ≡ has s.parts.held (at c) g.id entry
+  held_kept c below =
+      told-says (numbers_alone l) (reading_in g.metadata.state reading) g.id c (at c) entry (numbers_kept c below)
       (rest_of (reading_in g.metadata.state reading)) (told.rest entry) l.listing.holdings.items alike.once told.contents
-      ∙ sym (has-says l.listing.holdings.items b g.id entry)
-      ∙ ap (λ (held : Contents). has held b g.id entry) (sym alike.held)
+      ∙ sym (has-says l.listing.holdings.items (at c) g.id entry)
+      ∙ ap (λ (held : Contents). has held (at c) g.id entry) (sym alike.held)
 
-  may_kept : (b : ℕ) → b < length l.listing.names → is_holder (census_bookies (bookies_of (united (l ∷ [])))) b ≡ is_up s b
-  may_kept b below =
-      may_hold l alike.different none_empty b below
-      ∙ ap (λ (xs : List (Option ℕ)). option_map_or is_none (slice_get xs b) false) (sym alike.lost_at)
+  may_kept : (c : ℕ) → c < length l.listing.names
+      → is_holder (census_bookies (bookies_of (united (Picture l ∷ [])))) c ≡ is_up s (at c)
+  may_kept c below =
+      may_hold l alike.different none_empty c below
+      ∙ ap (λ (xs : List (Option ℕ)). option_map_or is_none (slice_get xs (at c)) false) (sym alike.lost_at)
 
   low : (b : ℕ) → is_up s b ≡ true → b < length l.listing.names
   low b up = omega (arith, up_low s.parts.lost_at b up, alike.each)
 
+  -- whether the bookie of the picture is registered, a member of the write set, and holds the entry
+  abbrev holds_copy : ℕ → Bool
+  holds_copy b =
+      is_up s b && (list_any (λ m. m == b) (writes g.metadata fragment entry) && has s.parts.held b g.id entry)
+
+  -- of as many bookies a copy is known
+  known-counted : length (class_alone reading l g f entry).known
+      ≡ count_by holds_copy (range_with_len 0 (length l.listing.names))
+  known-counted =
+      let bookies = ordered l (length l.listing.names) in
+      let may : ℕ → Bool = is_holder (census_bookies (bookies_of (united (Picture l ∷ [])))) in
+      let carried : ℕ → Bool = census.carries (ledger_alone reading l g) (fragment_alone l g f) entry in
+      let held : ℕ → Bool = λ b. census.is_held entry (census.told_of (ledger_alone reading l g) b) in
+      ap (λ (bs : List ℕ). length (filter (λ b. carried b && held b) bs)) (holders-alone l alike.different)
+      ∙ length-filter (λ b. carried b && held b) (filter may (range_with_len 0 (length bookies)))
+      ∙ count-filter (λ b. carried b && held b) may (range_with_len 0 (length bookies))
+      ∙ count-places (λ b. may b && (carried b && held b)) holds_copy 0 bookies (λ j inside.
+      let below : j < length l.listing.names = omega (arith, inside, length-ordered l (length l.listing.names)) in
+      let start : 0 + j ≡ j = omega arith in
+      ap (λ b. may b && (carried b && held b)) start
+      ∙ (λ i. may_kept j below i && (carries_kept j below i && held_kept j below i)))
+      ∙ ordered-counted l holds_copy (length l.listing.names)
+
   -- an entry can be read where some copy of it is known
   pub readable-known : is_readable s g fragment entry ≡ is_held (class_alone reading l g f entry)
   readable-known =
-      let carried = census.carries (ledger_alone reading l g) (fragment_alone l g f) entry in
-      let held : ℕ → Bool = λ b. census.is_held entry (census.told_of (ledger_alone reading l g) b) in
-      sym (ap (λ (bs : List ℕ). nat_lt 0 (length (filter (λ b. carried b && held b) bs))) (holders-alone l alike.different)
-      ∙ some_known (length l.listing.names) (is_up s) (λ b. has s.parts.held b g.id entry)
-      (writes g.metadata fragment entry) low (is_holder (census_bookies (bookies_of (united (l ∷ []))))) carried held
-      may_kept carries_kept held_kept)
+      sym (ap (nat_lt 0) known-counted
+      ∙ some_counted holds_copy (range_with_len 0 (length l.listing.names))
+      ∙ some_member (length l.listing.names) (is_up s) (λ b. has s.parts.held b g.id entry)
+      (writes g.metadata fragment entry) low)
 
   -- and as many copies of it are known as registered members hold it
-  pub held-known : Contains s.parts.ledgers g
-      → length (class_alone reading l g f entry).known ≡ count_by (is_source s g.id entry) (writes g.metadata fragment entry)
-  held-known among =
-      let carried = census.carries (ledger_alone reading l g) (fragment_alone l g f) entry in
-      let held : ℕ → Bool = λ b. census.is_held entry (census.told_of (ledger_alone reading l g) b) in
-      let formed : IsMetadata g.metadata =
-      subst (λ (h : Ledger). IsMetadata h.metadata) among.2 (alike.formed among.0 g among.1) in
-      let ensemble : IsEnsemble g.metadata.size fragment.ensemble =
-      subst (λ (h : Fragment). IsEnsemble g.metadata.size h.ensemble)
-      (get_or_from_slice_get g.metadata.fragments f fragment fragment there)
-      (formed.ensembles f fragment (slice_get_within g.metadata.fragments f fragment there)) in
-      ap (λ (bs : List ℕ). length (filter (λ b. carried b && held b) bs)) (holders-alone l alike.different)
-      ∙ known_counted (length l.listing.names) (is_up s) (λ b. has s.parts.held b g.id entry)
+  pub held-known : length (class_alone reading l g f entry).known
+      ≡ count_by (is_source s g.id entry) (writes g.metadata fragment entry)
+  held-known =
+      known-counted
+      ∙ members_known (length l.listing.names) (is_up s) (λ b. has s.parts.held b g.id entry)
       (writes g.metadata fragment entry)
-      (EachOnce-writes g.metadata fragment entry ensemble
-      (omega (arith, formed.some_acks, formed.acks_within, formed.writes_within)) formed.writes_within)
-      low (is_holder (census_bookies (bookies_of (united (l ∷ []))))) carried held may_kept carries_kept held_kept
+      (EachOnce-writes g.metadata fragment entry ensemble some formed.writes_within) low

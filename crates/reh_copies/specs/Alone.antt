@@ -9,6 +9,7 @@ use Rattle.reh_model.specs.Cluster.{Cluster, Ledger}
 use Rattle.reh_picture.specs.declared.listings.Listed.{Listed}
 use Rattle.reh_picture.specs.Listings.{Lists}
 use Rattle.reh_picture.specs.Pictures.{picture_of}
+use Rattle.reh_inputs.specs.declared.inputs.Input.TheVariants.{Picture}
 use Rattle.reh_inputs.specs.declared.ledgers.Reading.{Reading}
 use Rattle.reh_inputs.specs.Gathered.{holders_of, is_held, ledger_in}
 use Rattle.reh_inputs.specs.Ledgers.{end_told, fragment_of}
@@ -29,7 +30,7 @@ NoneAssumed l ledger = All (λ holding. holding.ledger ≡ ledger → holding.is
 
 -- the numbers of the picture's bookies in the cluster of the picture alone
 abbrev pub numbers_alone : Listed → List ℕ
-numbers_alone l = map (number_of (united (l ∷ [])).names) l.listing.names
+numbers_alone l = map (number_of (united (Picture l ∷ [])).names) l.listing.names
 
 -- the ledger, and its fragment of that number, as they are counted
 abbrev pub ledger_alone : Reading → Listed → Ledger → CountedLedger
@@ -41,7 +42,7 @@ fragment_alone l g f = fragment_of (numbers_alone l) (end_told g.id l.listing.ho
 -- what is known of an entry of that fragment
 abbrev pub class_alone : Reading → Listed → Ledger → ℕ → ℕ → Class
 class_alone reading l g f entry =
-    class_of (holders_of (l ∷ [])) (ledger_alone reading l g) (fragment_alone l g f) entry
+    class_of (holders_of (Picture l ∷ [])) (ledger_alone reading l g) (fragment_alone l g f) entry
 
 -- whether no copy of an entry is known
 abbrev pub has_no_copy : Class → Bool
@@ -50,7 +51,7 @@ has_no_copy class = not (is_held class)
 -- how many entries of that fragment have no known copy
 abbrev pub without_copy : Reading → Listed → Ledger → ℕ → ℕ
 without_copy reading l g f =
-    count_fragment (holders_of (l ∷ [])) (ledger_alone reading l g) has_no_copy (fragment_alone l g f)
+    count_fragment (holders_of (Picture l ∷ [])) (ledger_alone reading l g) has_no_copy (fragment_alone l g f)
 
 -- how many entries a line of a survey calls lost: none of a fragment that has no stop
 abbrev pub lost_in : SurveyLine → ℕ

@@ -9,27 +9,27 @@ ghost use Rattle.reh_model.specs.Step.{after};
 ghost use Rattle.reh_model.specs.Survey.{lost_of, survey};
 ghost use Rattle.reh_picture.specs.declared.listings.Listed.{Listed};
 ghost use Rattle.reh_picture.specs.Counts.{is_closed};
+ghost use Rattle.reh_inputs.specs.declared.inputs.Input.TheVariants.{Picture};
 ghost use Rattle.reh_inputs.specs.declared.ledgers.Reading.TheVariants as reading;
 ghost use Rattle.reh_inputs.specs.declared.together.Gathered.{Gathered};
 ghost use Rattle.reh_inputs.specs.Gathered.{Gathers, is_held, reading_of};
 ghost use Rattle.reh_copies.specs.Alone.{IsRead, NoneAssumed, NoneEmpty, class_alone, has_no_copy, lost_in, without_copy};
 
-/// In a picture that marks no bookie as empty, an entry can be read exactly where a copy of it is known: of a closed
-/// ledger, where what is assumed counts as told (`closed`); and of any ledger of which nothing is assumed, also with
-/// `--strict` (`told`).
+/// In a picture that marks no bookie as empty, an entry of one of its ledgers can be read exactly where a copy of it is
+/// known: of a closed ledger, where what is assumed counts as told (`closed`); and of any ledger of which nothing is
+/// assumed, also with `--strict` (`told`).
 pub fn an_entry_can_be_read_where_a_copy_is_known()
     ensures closed { (bytes : List ℕ) (s : Cluster) (l : Listed) → IsRead bytes s l → NoneEmpty l
-        → (g : Ledger) (f : ℕ) (fragment : Fragment) (entry : ℕ)
+        → (g : Ledger) (f : ℕ) (fragment : Fragment) (entry : ℕ) → Contains s.parts.ledgers g
         → is_closed g.metadata.state ≡ true → slice_get g.metadata.fragments f ≡ Some fragment
         → is_readable s g fragment entry ≡ is_held (class_alone reading.All l g f entry) }
     ensures told { (bytes : List ℕ) (s : Cluster) (l : Listed) → IsRead bytes s l → NoneEmpty l
-        → (strict : Bool) (g : Ledger) (f : ℕ) (fragment : Fragment) (entry : ℕ)
+        → (strict : Bool) (g : Ledger) (f : ℕ) (fragment : Fragment) (entry : ℕ) → Contains s.parts.ledgers g
         → NoneAssumed l g.id → slice_get g.metadata.fragments f ≡ Some fragment
         → is_readable s g fragment entry ≡ is_held (class_alone (reading_of strict) l g f entry) }
 {}
 
-/// And as many copies of it are known as registered members of its write set hold it, where its ledger is one of the
-/// picture's: in the same two cases.
+/// And as many copies of it are known as registered members of its write set hold it, in the same two cases.
 pub fn as_many_copies_are_known_as_members_hold_the_entry()
     ensures closed { (bytes : List ℕ) (s : Cluster) (l : Listed) → IsRead bytes s l → NoneEmpty l
         → (g : Ledger) (f : ℕ) (fragment : Fragment) (entry : ℕ) → Contains s.parts.ledgers g
@@ -43,21 +43,21 @@ pub fn as_many_copies_are_known_as_members_hold_the_entry()
         ≡ count_by (is_source s g.id entry) (writes g.metadata fragment entry) }
 {}
 
-/// So the entries that a survey calls lost are as many as those with no known copy: in a fragment of a closed ledger
-/// (`closed`); in one with a stop, of a ledger of which nothing is assumed (`told`); and in all fragments of a picture
-/// whose ledgers are closed, by the census that the answer goes by (`picture`).
+/// So the entries that a survey calls lost are as many as those with no known copy: in a fragment of a closed ledger of
+/// the picture (`closed`); in one with a stop, of a ledger of which nothing is assumed (`told`); and in all fragments of
+/// a picture whose ledgers are closed, by the census that the answer goes by (`picture`).
 pub fn a_survey_counts_those_without_a_known_copy()
     ensures closed { (bytes : List ℕ) (s : Cluster) (l : Listed) → IsRead bytes s l → NoneEmpty l
-        → (g : Ledger) (f : ℕ) (fragment : Fragment)
+        → (g : Ledger) (f : ℕ) (fragment : Fragment) → Contains s.parts.ledgers g
         → is_closed g.metadata.state ≡ true → slice_get g.metadata.fragments f ≡ Some fragment
         → lost_of s g f fragment ≡ Some (without_copy reading.All l g f) }
     ensures told { (bytes : List ℕ) (s : Cluster) (l : Listed) → IsRead bytes s l → NoneEmpty l
-        → (strict : Bool) (g : Ledger) (f : ℕ) (fragment : Fragment) (stop : ℕ)
+        → (strict : Bool) (g : Ledger) (f : ℕ) (fragment : Fragment) (stop : ℕ) → Contains s.parts.ledgers g
         → NoneAssumed l g.id → slice_get g.metadata.fragments f ≡ Some fragment → stop_of g.metadata f ≡ Some stop
         → lost_of s g f fragment ≡ Some (without_copy (reading_of strict) l g f) }
     ensures picture { (bytes : List ℕ) (s : Cluster) (l : Listed) → IsRead bytes s l → NoneEmpty l
         → All (λ g. is_closed g.metadata.state ≡ true) s.parts.ledgers
-        → (gathered : Gathered) → Gathers (l ∷ []) false gathered
+        → (gathered : Gathered) → Gathers (Picture l ∷ []) false gathered
         → sum_by lost_in (survey s) ≡ count_in gathered.census.entries has_no_copy }
 {}
 
