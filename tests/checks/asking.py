@@ -339,7 +339,7 @@ def against(cluster: Cluster, question: Question, verdict: str, rule: Optional[s
 
 def notes_of(cluster: Cluster, question: Question) -> List[str]:
     up = {name for name in question.stopped if cluster.bookies[name].is_up}
-    notes = [f"{name} is not registered" for name in cluster.bookies if name in question.stopped - up]
+    notes = [f"{name} is not registered" for name in sorted(question.stopped - up)]
     if any(ledger.state == "OPEN" and up & set(ledger.fragments[-1][1]) for ledger in cluster.ledgers):
         notes.append("writers pause until they have changed their ensembles")
     counted = [ledger for ledger in cluster.ledgers if ledger.state != "CLOSED" or ledger.last >= 0]
