@@ -228,9 +228,7 @@ fn other_strict(alloc: Global, path: &str, is_strict: bool) -> RunFault
             "{path} is a census without --strict, and --strict is given"
         ));
     }
-    unfit(format!(in alloc;
-        "{path} is a census with --strict, and --strict isn't given"
-    ))
+    unfit(format!(in alloc; "{path} is a census with --strict, and --strict isn't given"))
 }
 
 /// That there are too many bookies.
