@@ -6,3 +6,4 @@ pub mod NameOrder
 pub mod AddLaws
 pub mod TailLaws
 pub mod UnitedLaws
+pub mod AlikeLaws

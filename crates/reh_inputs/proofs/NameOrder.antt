@@ -18,12 +18,12 @@ use Rattle.reh_inputs.specs.Names.{place_of}
 use Rattle.reh_inputs.proofs.NamesLemmas.{found_any}
 
 -- the name comes before each of these
-abbrev Before : List ℕ → List (List ℕ) → Type 0
+abbrev pub Before : List ℕ → List (List ℕ) → Type 0
 Before x [] = Unit {0}
 Before x (y ∷ ys) = (names_cmp x y ≡ Less) × Before x ys
 
 -- each comes before those behind it
-abbrev Ranked : List (List ℕ) → Type 0
+abbrev pub Ranked : List (List ℕ) → Type 0
 Ranked [] = Unit {0}
 Ranked (x ∷ xs) = Before x xs × Ranked xs
 

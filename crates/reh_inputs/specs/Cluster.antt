@@ -1,5 +1,5 @@
 -- The bookies of a cluster, as its inputs show them together.
-use Rattle.std.specs.Prelude.{ℕ, Bool, false, not, List, [], map, if◌then◌else◌, Option}
+use Rattle.std.specs.Prelude.{◌≡◌, ℕ, Bool, true, false, not, List, [], map, if◌then◌else◌, Option}
 use Rattle.std.specs.Prelude.{position, slice_get, unwrap_or, ◌==◌}
 use Rattle.std.specs.List.{insert}
 use Rattle.std.specs.Option.{is_some, option_and_then, option_map_or}
@@ -26,6 +26,15 @@ shown_as cluster name = option_and_then (slice_get cluster.shown) (position (byt
 -- whether an input before shows the bookie otherwise
 abbrev pub is_shown_otherwise : Cluster → List ℕ → Shown → Bool
 is_shown_otherwise cluster name shown = option_map_or (λ before. not (is_like before shown)) (shown_as cluster name) false
+
+-- whether the cluster shows the bookie of that name so
+abbrev pub is_shown_so : Cluster → List ℕ → Shown → Bool
+is_shown_so cluster name shown = option_map_or (λ before. is_like before shown) (shown_as cluster name) false
+
+-- each bookie stays as it is shown
+abbrev pub Keeps : Cluster → Cluster → Type 0
+Keeps before after =
+    (name : List ℕ) (shown : Shown) → is_shown_so before name shown ≡ true → is_shown_so after name shown ≡ true
 
 -- the cluster with a bookie more, at the place of its name
 abbrev pub with_new : Cluster → List ℕ → Shown → Cluster

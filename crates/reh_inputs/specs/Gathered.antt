@@ -1,5 +1,5 @@
 -- What inputs show together.
-use Rattle.std.specs.Prelude.{◌≡◌, ℕ, ◌+◌, Bool, false, not, nat_eq, nat_lt, if◌then◌else◌, List, map, length, position, Option, None}
+use Rattle.std.specs.Prelude.{◌≡◌, ℕ, ◌+◌, All, Bool, false, not, nat_eq, nat_lt, if◌then◌else◌, List, map, length, position, Option, None}
 use Rattle.std.specs.Bool.{beq}
 use Rattle.std.specs.List.{flat_map, list_any, IsDistinct}
 use Rattle.reh_census.specs.declared.classes.Class.{Class}
@@ -17,14 +17,14 @@ use Rattle.reh_inputs.specs.declared.gathered.GatherFault.{GatherFault}
 use Rattle.reh_inputs.specs.declared.gathered.GatherFault.TheVariants as fault
 use Rattle.reh_inputs.specs.declared.together.Gathered.{Gathered}
 use Rattle.reh_inputs.specs.declared.ledgers.Reading.{Reading}
-use Rattle.reh_inputs.specs.declared.ledgers.Reading.TheVariants.{All, Told, Assumed}
+use Rattle.reh_inputs.specs.declared.ledgers.Reading.TheVariants as reading
 use Rattle.reh_inputs.specs.declared.inputs.Input.{Input}
 use Rattle.reh_inputs.specs.declared.inputs.Input.TheVariants.{Picture, Census}
 use Rattle.reh_inputs.specs.Cluster.{bookies_of}
 use Rattle.reh_inputs.specs.Inputs.{of_picture}
 use Rattle.reh_inputs.specs.Ledgers.{ledger_of}
 use Rattle.reh_inputs.specs.Renumbered.{files_of, judged_by}
-use Rattle.reh_inputs.specs.United.{number_of, united}
+use Rattle.reh_inputs.specs.United.{AreAlike, number_of, united}
 
 abbrev pub fault_of_tally : TallyFault → GatherFault
 fault_of_tally TooMany = fault.TooMany
@@ -56,11 +56,11 @@ is_held class = nat_lt 0 (length class.known)
 
 -- with `strict`, what is assumed counts as untold
 abbrev pub reading_of : Bool → Reading
-reading_of strict = if strict then Told else All
+reading_of strict = if strict then reading.Told else reading.All
 
 -- how many entries rest on an assumption: some bookie that may hold copies is assumed to hold them
 abbrev pub assumed_among : List ℕ → List (List ℕ) → List Input → ℕ
-assumed_among holders names inputs = count_entries holders (ledgers_among names Assumed inputs) is_held
+assumed_among holders names inputs = count_entries holders (ledgers_among names reading.Assumed inputs) is_held
 
 -- whether something is assumed in an input
 abbrev pub is_assumed_in : Input → Bool
@@ -92,11 +92,12 @@ pub record AddsUp (census : Counts) (holders : List ℕ) (ledgers : List Ledger)
   pub ensembles : (test : List ℕ → Bool)
       → count_ensembles_in census.ensembles test ≡ count_ensembles ledgers test + count_ensembles_in files.ensembles test
 
--- what the inputs show together: the bookies, in the order of their names; the pictures' ledgers; and the census of these
+-- what the inputs show together: the bookies, in the order of their names, each as every input shows it; the pictures' ledgers; and the census of these
 -- and of what the census files count
 pub record Gathers (inputs : List Input) (strict : Bool) (gathered : Gathered) : Type 0 where
   pub cluster : gathered.cluster ≡ united inputs
   pub names : InOrder names_cmp (united inputs).names
+  pub agree : All (AreAlike (united inputs)) inputs
   pub bookies : gathered.bookies ≡ bookies_of (united inputs)
   pub ids : gathered.ids.items ≡ flat_map (of_picture ids_in) inputs
   pub each_once : IsDistinct nat_eq gathered.ids.items

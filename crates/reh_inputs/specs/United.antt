@@ -1,5 +1,5 @@
 -- The cluster of several inputs.
-use Rattle.std.specs.Prelude.{ℕ, false, List, length, fold, None, slice_get, position, unwrap_or}
+use Rattle.std.specs.Prelude.{◌≡◌, ◌<◌, ℕ, Bool, true, false, List, length, fold, None, slice_get, position, unwrap_or}
 use Rattle.std.specs.Option.{is_none, option_and_then, option_map_or}
 use Rattle.std.specs.Str.{bytes_eq}
 use Rattle.reh_census.specs.declared.bookies.Bookie.{Bookie}
@@ -9,7 +9,7 @@ use Rattle.reh_picture.specs.Marks.{BookieMarks}
 use Rattle.reh_picture.specs.declared.listings.Listed.{Listed}
 use Rattle.reh_inputs.specs.declared.inputs.Input.{Input}
 use Rattle.reh_inputs.specs.declared.inputs.Input.TheVariants.{Picture, Census}
-use Rattle.reh_inputs.specs.Cluster.{Cluster, no_bookies, with_bookie}
+use Rattle.reh_inputs.specs.Cluster.{Cluster, is_shown_so, no_bookies, with_bookie}
 use Rattle.reh_inputs.specs.Shown.{Shown, shown_by}
 
 -- how a picture shows the bookie of that number
@@ -46,6 +46,20 @@ with_input cluster (Census c) = fold (with_counted c) cluster (range 0 (length c
 -- the cluster of inputs
 abbrev pub united : List Input → Cluster
 united inputs = fold with_input no_bookies inputs
+
+-- whether the cluster shows the bookie of that number as the picture does
+abbrev pub shows_listed : Cluster → Listed → ℕ → Bool
+shows_listed cluster l n =
+    option_map_or (λ name. is_shown_so cluster name (shown_at l n)) (slice_get l.listing.names n) true
+
+-- and as the census does
+abbrev pub shows_counted : Cluster → NamedCensus → ℕ → Bool
+shows_counted cluster c n = option_map_or (λ name. is_shown_so cluster name (counted_at c n)) (slice_get c.names n) true
+
+-- the cluster shows each bookie of the input as the input does
+abbrev pub AreAlike : Cluster → Input → Type 0
+AreAlike cluster (Picture l) = (n : ℕ) → n < length l.listing.names → shows_listed cluster l n ≡ true
+AreAlike cluster (Census c) = (n : ℕ) → n < length c.names → shows_counted cluster c n ≡ true
 
 -- the number of a bookie; one that the cluster doesn't have has a number past all
 abbrev pub number_of : List (List ℕ) → List ℕ → ℕ

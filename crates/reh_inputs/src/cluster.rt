@@ -119,6 +119,8 @@ impl Cluster {
     pub fn add(&mut self, name: &str, shown: Shown) -> Result<(), ClusterFault>
         ensures added { OnOk result (self.new ≡ model.with_bookie self.old name.now shown) }
         ensures alike { OnOk result (model.is_shown_otherwise self.old name.now shown ≡ false) }
+        ensures shown { OnOk result (model.is_shown_so self.new name.now shown ≡ true) }
+        ensures kept { OnOk result (model.Keeps self.old self.new) }
         ensures differs { result ≡ Err Differs → model.is_shown_otherwise self.old name.now shown ≡ true }
         ensures too_many { result ≡ Err TooMany → (length self.old.names ≡ MAX_CLUSTER_BOOKIES)
             × (model.has_bookie self.old name.now ≡ false) }
@@ -145,6 +147,8 @@ impl Cluster {
     fn add_new(&mut self, name: &str, shown: Shown) -> Result<(), ClusterFault>
         requires { model.has_bookie self.old name.now ≡ false }
         ensures added { OnOk result (self.new ≡ model.with_bookie self.old name.now shown) }
+        ensures shown { OnOk result (model.is_shown_so self.new name.now shown ≡ true) }
+        ensures kept { OnOk result (model.Keeps self.old self.new) }
         ensures differs { result ≢ Err Differs }
         ensures too_many { result ≡ Err TooMany → length self.old.names ≡ MAX_CLUSTER_BOOKIES }
         ensures err { OnErr result (self.new ≡ self.old) }
@@ -161,6 +165,8 @@ impl Cluster {
         requires new { model.has_bookie self.old name.now ≡ false }
         requires few { length self.old.names < MAX_CLUSTER_BOOKIES }
         ensures added { OnOk result (self.new ≡ model.with_new self.old name.now shown) }
+        ensures shown { OnOk result (model.is_shown_so self.new name.now shown ≡ true) }
+        ensures kept { OnOk result (model.Keeps self.old self.new) }
         ensures err { OnErr result (self.new ≡ self.old) }
     {
         let place = self.names.place_of(name);

@@ -12,7 +12,7 @@ ghost use Rattle.reh_inputs.specs.Empties.{EmptiesHoldNothing};
 ghost use Rattle.reh_inputs.specs.Gathered as model;
 ghost use Rattle.reh_inputs.specs.Inputs.{of_picture};
 ghost use Rattle.reh_inputs.specs.Renumbered.{files_of, judged_by, with_judged};
-ghost use Rattle.reh_inputs.specs.United.{united};
+ghost use Rattle.reh_inputs.specs.United.{AreAlike, united};
 
 use crate::by_ledger::{ByLedger, group_by_ledger};
 use crate::cluster::{Cluster, ClusterFault};
@@ -128,7 +128,8 @@ fn check_strict(inputs: &[Input], strict: bool) -> Result<(), GatherFault>
 
 /// The cluster of the inputs.
 fn cluster_of(alloc: Global, inputs: &[Input]) -> Result<Cluster, GatherFault>
-    ensures { IfOk result (λ cluster. cluster ≡ united inputs.now) }
+    ensures united { IfOk result (λ cluster. cluster ≡ united inputs.now) }
+    ensures agree { IfOk result (λ cluster. All (AreAlike cluster) inputs.now) }
 {
     let mut cluster = Cluster::new(alloc);
     for (input, one) in inputs.iter().enumerate() {

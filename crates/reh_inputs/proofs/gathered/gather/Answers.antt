@@ -1,5 +1,5 @@
 -- There are as many ids as ledgers; and all together is what the inputs show.
-use Rattle.std.proofs.Common.{◌≡◌, ◌∙◌, List, ap, sym, subst, length, map, refl}
+use Rattle.std.proofs.Common.{◌≡◌, ◌∙◌, All, List, ap, sym, subst, length, map, refl}
 use Rattle.std.proofs.lemmas.List.{length-map}
 use Rattle.reh_census.specs.declared.bookies.Bookie.{Bookie}
 use Rattle.reh_census.specs.Bookies.{bookies_of as census_bookies, holders}
@@ -11,7 +11,7 @@ use Rattle.reh_inputs.specs.Cluster.{Cluster, bookies_of}
 use Rattle.reh_inputs.specs.Gathered.{AddsUp, assumed_of, holders_of, ids_in, ledger_in, ledgers_among, ledgers_in, ledgers_of, reading_of}
 use Rattle.reh_inputs.specs.Inputs.{of_picture}
 use Rattle.reh_inputs.specs.Renumbered.{files_of, judged_by}
-use Rattle.reh_inputs.specs.United.{number_of, united}
+use Rattle.reh_inputs.specs.United.{AreAlike, number_of, united}
 use Rattle.reh_inputs.proofs.UnitedLaws.{InOrder-united}
 use Rattle.reh_inputs.proofs.RangeLaws.{same_lengths}
 use Rattle.reh_inputs.proofs.gathered.gather.Goals as goal
@@ -36,7 +36,7 @@ pub returns-clause-gathers : goal.returns-clause-gathers
 returns-clause-gathers c =
     let inputs = c.args.inputs.now in
     let strict = c.args.strict in
-    let cluster : c.in_ok-cluster.cluster ≡ united inputs = c.in_ok-cluster.ensures in
+    let cluster : c.in_ok-cluster.cluster ≡ united inputs = c.in_ok-cluster.ensures.united in
     let bookies : c.in_ok-bookies.bookies ≡ bookies_of (united inputs) = c.in_ok-bookies.ensures ∙ ap bookies_of cluster in
     let ledgers : c.in_ok-ledgers.ledgers.items ≡ ledgers_of (reading_of strict) inputs =
     c.in_ok-ledgers.ensures
@@ -54,6 +54,7 @@ returns-clause-gathers c =
     record {
       cluster = cluster;
       names = InOrder-united inputs;
+      agree = subst (λ (k : Cluster). All (AreAlike k) inputs) cluster c.in_ok-cluster.ensures.agree;
       bookies = bookies;
       ids = c.in_ok-ids.ensures.ids;
       each_once = c.in_ok-ids.ensures.each_once;

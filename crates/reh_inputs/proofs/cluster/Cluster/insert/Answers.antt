@@ -1,10 +1,12 @@
 -- The bookie comes into the order of the others, and how it is shown beside its name.
-use Rattle.std.proofs.Common.{◌≡◌, ◌∙◌, List, ap, arith, length}
+use Rattle.std.proofs.Common.{◌≡◌, ◌∙◌, List, true, ap, arith, length, subst, sym}
 use Rattle.std.specs.List.{insert}
 use Rattle.std.proofs.lemmas.List.Edits.{length-insert}
-use Rattle.reh_inputs.specs.Cluster.{Cluster}
+use Rattle.reh_inputs.specs.Cluster.{Cluster, Keeps, is_shown_so}
 use Rattle.reh_inputs.specs.Names.{place_of}
 use Rattle.reh_inputs.specs.Shown.{Shown}
+use Rattle.reh_inputs.proofs.AlikeLaws.{Keeps-new, so-new}
+use Rattle.reh_inputs.proofs.UnitedLaws.{Matched}
 use Rattle.reh_inputs.proofs.cluster.Cluster.insert.Goals as goal
 
 pub invariant_of-self-2 : goal.invariant_of-self-2
@@ -33,3 +35,13 @@ returns-clause-added c =
     ∙ ap (λ (xs : List Shown). insert xs c.place_of-place.result c.args.shown) c.in_ok-reserve.ensures.items
     ∙ (λ i. insert (c.self.view_is i).shown (place i) c.args.shown) in
     λ i. record { names = names i; shown = shown i }
+
+pub returns-clause-shown : goal.returns-clause-shown
+returns-clause-shown c =
+    subst (λ (k : Cluster). is_shown_so k c.args.name.now c.args.shown ≡ true) (sym (returns-clause-added c))
+    (so-new c.args.self.now c.args.name.now c.args.shown (subst Matched c.self.view_is (sym c.self.invariant)) c.requires.new)
+
+pub returns-clause-kept : goal.returns-clause-kept
+returns-clause-kept c =
+    subst (λ (k : Cluster). Keeps c.args.self.now k) (sym (returns-clause-added c))
+    (Keeps-new c.args.self.now c.args.name.now c.args.shown (subst Matched c.self.view_is (sym c.self.invariant)) c.requires.new)

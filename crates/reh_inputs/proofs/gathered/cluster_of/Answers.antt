@@ -1,0 +1,39 @@
+-- One input more is united with the others, and those before are shown as they were.
+use Rattle.std.proofs.Common.{◌≡◌, ◌∙◌, ◌∷◌, [], All, List, ap, fold, get_or, length, subst, sym, take, arith}
+use Rattle.std.proofs.lemmas.List.{take_all}
+use Rattle.std.proofs.lemmas.List.Elements.{All-more}
+use Rattle.std.proofs.lemmas.List.Sums.{fold_more}
+use Rattle.reh_inputs.specs.Cluster.{Cluster, no_bookies}
+use Rattle.reh_inputs.specs.United.{AreAlike, united, with_input}
+use Rattle.reh_inputs.specs.declared.inputs.Input.{Input}
+use Rattle.reh_inputs.proofs.AlikeLaws.{AreAlike-kept}
+use Rattle.reh_inputs.proofs.gathered.cluster_of.Goals as goal
+
+pub loop-input-preserved : goal.loop-input-preserved
+loop-input-preserved c =
+    let inputs = c.args.inputs.now in
+    let i = c.loop-input.input in
+    let one = c.index-inputs-input.result in
+    let before = c.loop-input.cluster in
+    let after = c.unite.new.cluster in
+    let step = c.in-Ok.ensures in
+    (
+      step.added
+      ∙ ap (λ (k : Cluster). with_input k one) c.loop-input.invariant.0
+      ∙ ap (with_input (united (take i inputs))) c.index-inputs-input.is
+      ∙ sym (fold_more with_input no_bookies inputs i one c.loop-input-test.true),
+      All-more (AreAlike after) inputs i one c.loop-input-test.true
+      (λ k d within. AreAlike-kept before after step.kept (get_or (take i inputs) k d) (c.loop-input.invariant.1 k d within))
+      (subst (AreAlike after) c.index-inputs-input.is step.alike),
+    )
+
+pub returns-clause-agree : goal.returns-clause-agree
+returns-clause-agree c =
+    let inputs = c.args.inputs.now in
+    subst (λ (xs : List Input). All (AreAlike c.loop-input.cluster) xs)
+    (take_all c.loop-input.input inputs (omega (arith, c.loop-input-test.false))) c.loop-input.invariant.1
+
+pub returns-clause-united : goal.returns-clause-united
+returns-clause-united c =
+    let inputs = c.args.inputs.now in
+    c.loop-input.invariant.0 ∙ ap united (take_all c.loop-input.input inputs (omega (arith, c.loop-input-test.false)))
