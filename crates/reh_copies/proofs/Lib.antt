@@ -5,3 +5,5 @@ pub mod UnitedLaws
 pub mod ReadableLaws
 pub mod ShownLaws
 pub mod LostLaws
+pub mod NumberedLaws
+pub mod FilesLaws

@@ -1,7 +1,9 @@
 // What holds of the state that a rehearsal reads of a picture, and of what a question about the same picture counts.
-ghost use Rattle.std.specs.Prelude.{◌≡◌, ℕ, Bool, true, false, All, List, [], ◌∷◌, Some, count_by, length, slice_get, sum_by};
+ghost use Rattle.std.specs.Prelude.{◌≡◌, ℕ, Bool, true, false, All, List, [], ◌∷◌, ◌++◌, Some, count_by, length, slice_get, sum_by};
 ghost use Rattle.std.specs.List.{Contains};
-ghost use Rattle.reh_census.specs.Counting.{count_in};
+ghost use Rattle.reh_census.specs.Counting.{IsCensus, count_in};
+ghost use Rattle.reh_census.specs.Ledgers.{Ledger as Counted};
+ghost use Rattle.reh_census_file.specs.Values.{NamedCensus};
 ghost use Rattle.reh_types.specs.declared.moves.Event.TheVariants.{Lose, Join};
 ghost use Rattle.reh_model.specs.Metadata.{Fragment, stop_of, writes};
 ghost use Rattle.reh_model.specs.Cluster.{Cluster, Ledger, is_readable, is_source, is_up};
@@ -9,11 +11,13 @@ ghost use Rattle.reh_model.specs.Step.{after};
 ghost use Rattle.reh_model.specs.Survey.{lost_of, survey};
 ghost use Rattle.reh_picture.specs.declared.listings.Listed.{Listed};
 ghost use Rattle.reh_picture.specs.Counts.{is_closed};
-ghost use Rattle.reh_inputs.specs.declared.inputs.Input.TheVariants.{Picture};
+ghost use Rattle.reh_inputs.specs.declared.inputs.Input.{Input};
+ghost use Rattle.reh_inputs.specs.declared.inputs.Input.TheVariants.{Picture, Census};
 ghost use Rattle.reh_inputs.specs.declared.ledgers.Reading.TheVariants as reading;
 ghost use Rattle.reh_inputs.specs.declared.together.Gathered.{Gathered};
-ghost use Rattle.reh_inputs.specs.Gathered.{Gathers, is_held, reading_of};
+ghost use Rattle.reh_inputs.specs.Gathered.{Gathers, holders_of, is_held, ledgers_of, reading_of};
 ghost use Rattle.reh_copies.specs.Alone.{IsRead, NoneAssumed, NoneEmpty, class_alone, has_no_copy, lost_in, without_copy};
+ghost use Rattle.reh_copies.specs.Numbered.{CountedBy, ledgers_counted};
 
 /// In a picture that marks no bookie as empty, an entry of one of its ledgers can be read exactly where a copy of it is
 /// known: of a closed ledger, where what is assumed counts as told (`closed`); and of any ledger of which nothing is
@@ -59,6 +63,15 @@ pub fn a_survey_counts_those_without_a_known_copy()
         → All (λ g. is_closed g.metadata.state ≡ true) s.parts.ledgers
         → (gathered : Gathered) → Gathers (Picture l ∷ []) false gathered
         → sum_by lost_in (survey s) ≡ count_in gathered.census.entries has_no_copy }
+{}
+
+/// Whoever counted the ledgers, all are judged: where each census file among the inputs is the census of some ledgers on
+/// the bookies that it names, the census of all inputs is that of the pictures' ledgers and of these, with the numbers that
+/// their bookies have among all.
+pub fn what_census_files_counted_is_counted()
+    ensures { (inputs : List Input) (strict : Bool) (gathered : Gathered) → Gathers inputs strict gathered
+        → (ledgers : NamedCensus → List Counted) → ((c : NamedCensus) → Contains inputs (Census c) → CountedBy c (ledgers c))
+        → IsCensus gathered.census (holders_of inputs) (ledgers_of (reading_of strict) inputs ++ ledgers_counted ledgers inputs) }
 {}
 
 /// A bookie that is lost and joins again leaves the state as it was: whatever could be read can be read.

@@ -20,8 +20,7 @@ fold_keeps P f keeps b (x ∷ xs) holds = fold_keeps P f keeps (f b x) xs (keeps
 
 -- what holds without bookies, and is kept by each that is new
 module _ (P : Cluster → Type 0)
-  (keeps : (cluster : Cluster) (name : List ℕ) (shown : Shown) → P cluster → has_bookie cluster name ≡ false → P (with_new cluster name shown)) where
-
+    (keeps : (cluster : Cluster) (name : List ℕ) (shown : Shown) → P cluster → has_bookie cluster name ≡ false → P (with_new cluster name shown)) where
   bookie_by : (cluster : Cluster) (name : List ℕ) (shown : Shown) → P cluster → (there : Bool) → has_bookie cluster name ≡ there
       → P (if there then cluster else with_new cluster name shown)
   bookie_by cluster name shown holds true is = holds

@@ -16,15 +16,14 @@ loop-input-preserved c =
     let one = c.index-inputs-input.result in
     let before = c.loop-input.cluster in
     let after = c.unite.new.cluster in
-    let step = c.in-Ok.ensures in
-    (
+    let step = c.in-Ok.ensures in (
       step.added
-      ∙ ap (λ (k : Cluster). with_input k one) c.loop-input.invariant.0
-      ∙ ap (with_input (united (take i inputs))) c.index-inputs-input.is
-      ∙ sym (fold_more with_input no_bookies inputs i one c.loop-input-test.true),
+          ∙ ap (λ (k : Cluster). with_input k one) c.loop-input.invariant.0
+          ∙ ap (with_input (united (take i inputs))) c.index-inputs-input.is
+          ∙ sym (fold_more with_input no_bookies inputs i one c.loop-input-test.true),
       All-more (AreAlike after) inputs i one c.loop-input-test.true
-      (λ k d within. AreAlike-kept before after step.kept (get_or (take i inputs) k d) (c.loop-input.invariant.1 k d within))
-      (subst (AreAlike after) c.index-inputs-input.is step.alike),
+          (λ k d within. AreAlike-kept before after step.kept (get_or (take i inputs) k d) (c.loop-input.invariant.1 k d within))
+          (subst (AreAlike after) c.index-inputs-input.is step.alike),
     )
 
 pub returns-clause-agree : goal.returns-clause-agree

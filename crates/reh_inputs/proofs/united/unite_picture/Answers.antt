@@ -16,12 +16,11 @@ loop-number-preserved c =
     let cluster = c.loop-number.cluster in
     let after = c.add_listed.new.cluster in
     let n = c.loop-number.number in
-    let step = c.in-Ok.ensures in
-    (
+    let step = c.in-Ok.ensures in (
       step.added
-      ∙ ap (λ (cluster : Cluster). with_listed listed cluster n) c.loop-number.invariant.0
-      ∙ sym (ap (fold (with_listed listed) before) (range-more n)
-      ∙ fold-append (with_listed listed) before (range 0 n) (n ∷ [])),
+          ∙ ap (λ (cluster : Cluster). with_listed listed cluster n) c.loop-number.invariant.0
+          ∙ sym (ap (fold (with_listed listed) before) (range-more n)
+          ∙ fold-append (with_listed listed) before (range 0 n) (n ∷ [])),
       λ k within. elim (cases_lt k n) [
         | inl less ↦ Keeps-listed cluster after step.kept listed k (c.loop-number.invariant.1 k less)
         | inr ge ↦
