@@ -1,31 +1,31 @@
 -- What is read of a picture, as a state and as a list.
-use Rattle.std.proofs.Common.{◌≡◌, ℕ, Bool, true, false, not, ◌&&◌, List, [], ◌∷◌, ◌++◌, map, length, Option, None, Some, refl, sym, ap, ◌∙◌, subst, arith, nat_eq, nat_lt, append-nil, append_assoc, if◌then◌else◌}
+use Rattle.std.proofs.Common.{◌≡◌, ℕ, ◌+◌, Bool, true, false, not, ◌&&◌, List, [], ◌∷◌, ◌++◌, map, length, Option, None, Some, refl, sym, ap, ◌∙◌, subst, arith, nat_eq, append-nil, append_assoc}
 use Rattle.std.specs.Prelude.{Result, Ok, Err}
 use Rattle.std.specs.Cmp.{IsEquivalence}
 use Rattle.std.specs.List.{IsDistinct, list_any}
-use Rattle.std.specs.Result.{result_err}
+use Rattle.std.specs.Result.{result_err, result_map_both}
 use Rattle.std.specs.Str.{bytes_eq}
 use Rattle.std.proofs.lemmas.Cmp.{nat_eq_equiv}
 use Rattle.std.proofs.lemmas.List.{map-append}
 use Rattle.std.proofs.lemmas.Map.Keys.{IsDistinct-push}
 use Rattle.serde_json.specs.Data.{Data}
-use Rattle.reh_types.specs.declared.limits.TheConstants.{MAX_PICTURE_BYTES}
 use Rattle.reh_model.specs.Cluster.{Cluster}
 use Rattle.reh_model.specs.Checks.{first_reason, reason_unless}
 use Rattle.reh_model.proofs.CheckLaws.{both-none, reason_unless-none}
-use Rattle.reh_picture.specs.declared.faults.PictureFault.{PictureFault}
-use Rattle.reh_picture.specs.declared.faults.PictureFault.TheVariants.{BadLedger, TooLong, Twice, WrongKind}
-use Rattle.reh_picture.specs.declared.fields.Field.TheVariants as field
+use Rattle.reh_fields.specs.declared.faults.PictureFault.{PictureFault}
+use Rattle.reh_fields.specs.declared.faults.PictureFault.TheVariants.{BadLedger, Twice, WrongKind}
+use Rattle.reh_fields.specs.declared.fields.Field.TheVariants as field
 use Rattle.reh_picture.specs.declared.listings.Listed.{Listed}
-use Rattle.reh_picture.specs.Contents.{Holding, content_fault, each_content_fault, held_in, holding_in, is_pair, pair_fault, pair_of, pairs_in, ranges_fault}
-use Rattle.reh_picture.specs.Faults.{fault_along}
+use Rattle.reh_picture.specs.Contents.{Holding, content_fault, each_content_fault, held_in, holding_in, is_pair, pair_fault, pair_of, pairs_in}
+use Rattle.reh_picture.specs.declared.places.Place.{Place}
+use Rattle.reh_picture.specs.Places.{fault_along}
 use Rattle.reh_picture.specs.Listings.{ListsFields, ListsJson}
-use Rattle.reh_picture.specs.Members.{is_object, list_in, list_of, number_in, number_of, text_in, text_of}
-use Rattle.reh_picture.specs.Bookies.{known_fault}
-use Rattle.reh_picture.specs.declared.faults.LedgerFlaw.TheVariants as flaw
-use Rattle.reh_picture.specs.declared.faults.Repeated.TheVariants as repeated
-use Rattle.reh_picture.specs.Pictures.{fields_fault, ids_of, json_of, names_of, pictured_cluster, shown_by, unless_fault}
-use Rattle.reh_picture.proofs.Sound.{IsFaultless-none, IsWellFormed-pictured_cluster, parts_of-none, words_of-none}
+use Rattle.reh_fields.specs.Members.{is_object, list_in, list_of, number_in, number_of, text_in, text_of}
+use Rattle.reh_fields.specs.Names.{known_fault}
+use Rattle.reh_fields.specs.declared.faults.LedgerFlaw.TheVariants as flaw
+use Rattle.reh_fields.specs.declared.faults.Repeated.TheVariants as repeated
+use Rattle.reh_picture.specs.Pictures.{fields_fault, ids_of, json_in, names_of, pictured_cluster, shown_by, unless_fault}
+use Rattle.reh_picture.proofs.Sound.{content_none, IsFaultless-none, IsWellFormed-pictured_cluster, parts_of-none, words_of-none}
 use Rattle.reh_copies.specs.Alone.{IsRead}
 use Rattle.reh_copies.proofs.CopyLaws.{pair}
 use Rattle.reh_copies.proofs.ReadableLaws.{IsAlike}
@@ -75,30 +75,27 @@ module _ (names : List (List ℕ)) (ids : List ℕ) where
       (BadLedger (number_of d field.Ledger) flaw.Unknown))
       (reason_unless (not among) twice) none))
 
-  content_differs : (pairs : List (ℕ × ℕ)) (d : Data) → content_fault names ids pairs d ≡ None
+  content_differs : (i : ℕ) (pairs : List (ℕ × ℕ)) (d : Data) → content_fault names ids i pairs d ≡ None
       → list_any (is_pair (pair_of names d)) pairs ≡ false
-  content_differs pairs d none =
-      pair_differs pairs d
-      (both-none (pair_fault names ids pairs d)
-      (first_reason (result_err (list_in d field.Entries) ∷ ranges_fault (list_of d field.Entries) ∷ [])) none).0
+  content_differs i pairs d none = pair_differs pairs d (content_none names ids i pairs d none).0
 
-  contents_differ : (before ds : List Data) → IsDistinct is_pair (pairs_in names before)
-      → fault_along (λ before d. content_fault names ids (pairs_in names before) d) before ds ≡ None
+  contents_differ : (i : ℕ) (before ds : List Data) → IsDistinct is_pair (pairs_in names before)
+      → fault_along (λ i before d. content_fault names ids i (pairs_in names before) d) i before ds ≡ None
       → IsDistinct is_pair (pairs_in names (before ++ ds))
-  contents_differ before [] differ none =
+  contents_differ i before [] differ none =
       subst (λ (xs : List Data). IsDistinct is_pair (pairs_in names xs)) (sym (append-nil before)) differ
-  contents_differ before (d ∷ ds) differ none =
+  contents_differ i before (d ∷ ds) differ none =
       let checks = both-none _ _ none in
       let more : IsDistinct is_pair (pairs_in names (before ++ d ∷ [])) =
       subst (λ (ps : List (ℕ × ℕ)). IsDistinct is_pair ps) (sym (map-append (pair_of names) before (d ∷ [])))
       (IsDistinct-push is_pair_equiv (pairs_in names before) (pair_of names d) differ
-      (content_differs (pairs_in names before) d checks.0)) in
+      (content_differs i (pairs_in names before) d checks.0)) in
       subst (λ (xs : List Data). IsDistinct is_pair (pairs_in names xs)) (append_assoc before (d ∷ []) ds)
-      (contents_differ (before ++ d ∷ []) ds more checks.1)
+      (contents_differ (i + 1) (before ++ d ∷ []) ds more checks.1)
 
   all_differ : (ds : List Data) → each_content_fault names ids ds ≡ None → IsDistinct is_pair (pairs_in names ds)
   unfolding each_content_fault IsDistinct
-  all_differ ds none = contents_differ [] ds tt none
+  all_differ ds none = contents_differ 0 [] ds tt none
 
 pairs_made : (names : List (List ℕ)) (ds : List Data) → map pair (map (holding_in names) ds) ≡ pairs_in names ds
 pairs_made names [] = refl
@@ -124,21 +121,22 @@ IsAlike-pictured d l none lists =
       formed = λ k g within. (formed.ledgers.each k g within).metadata;
     }
 
+-- a result without the place of its fault
+abbrev unplaced : Result Cluster (PictureFault × Place) → Result Cluster PictureFault
+unplaced read = result_map_both (λ s. s) (λ found. found.0) read
+
 module _ (s : Cluster) (l : Listed) where
-  alike_fields : (d : Data) (fault : Option PictureFault) → fields_fault d ≡ fault
-      → unless_fault fault (pictured_cluster d) ≡ Ok s → ListsFields d l → IsAlike s l
+  alike_fields : (d : Data) (fault : Option (PictureFault × Place)) → fields_fault d ≡ fault
+      → unplaced (unless_fault fault (pictured_cluster d)) ≡ Ok s → ListsFields d l → IsAlike s l
   alike_fields d None none is lists =
       let same : pictured_cluster d ≡ s = cc in
       subst (λ (t : Cluster). IsAlike t l) same (IsAlike-pictured d l none lists)
-  alike_fields d (Some fault) some is lists = cc
+  alike_fields d (Some found) some is lists = cc
 
-  alike_shown : (long : Bool) (json : Option Data)
-      → ◌≡◌ {A = Result Cluster PictureFault} (if long then Err TooLong else shown_by json) (Ok s)
-      → ListsJson json l → IsAlike s l
-  alike_shown true json is lists = cc
-  alike_shown false None is lists = absurd lists
-  alike_shown false (Some d) is lists = alike_fields d (fields_fault d) refl is lists
+  alike_shown : (json : Result Data (PictureFault × Place)) → unplaced (shown_by json) ≡ Ok s → ListsJson json l
+      → IsAlike s l
+  alike_shown (Ok d) is lists = alike_fields d (fields_fault d) refl is lists
+  alike_shown (Err found) is lists = absurd lists
 
 pub IsAlike-read : (bytes : List ℕ) (s : Cluster) (l : Listed) → IsRead bytes s l → IsAlike s l
-IsAlike-read bytes s l read =
-    alike_shown s l (nat_lt MAX_PICTURE_BYTES (length bytes)) (json_of bytes) read.state read.listed
+IsAlike-read bytes s l read = alike_shown s l (json_in bytes) read.state read.listed

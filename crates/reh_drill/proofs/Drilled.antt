@@ -12,8 +12,8 @@ use Rattle.reh_model.specs.Cluster.{Cluster}
 use Rattle.reh_model.specs.Session.{Session, state_of}
 use Rattle.reh_desk.specs.Desks.{DeskView, AreNewFrom, AreSeated, AllAgree, IsClosed, IsHistory, own_lines}
 use Rattle.reh_desk.specs.Seats.{SeatView, new_seat}
-use Rattle.reh_picture.specs.declared.faults.PictureFault.{PictureFault}
-use Rattle.reh_picture.specs.declared.faults.PictureFault.TheVariants as picture_fault
+use Rattle.reh_fields.specs.declared.faults.PictureFault.{PictureFault}
+use Rattle.reh_fields.specs.declared.faults.PictureFault.TheVariants as picture_fault
 use Rattle.reh_script.specs.DeskPlays.{at_desk, sitting, PlaysAtDesk}
 use Rattle.reh_script.specs.Faults.{pipe_fault_of}
 use Rattle.reh_script.specs.Lines.{answered_lines}

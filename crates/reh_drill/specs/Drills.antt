@@ -10,7 +10,7 @@ use Rattle.reh_model.specs.Session.{Session, state_of, opened_session}
 use Rattle.reh_desk.specs.Desks.{DeskView, AreNew, AreNewFrom, AreSeated, IsClosed, IsHistory, own_lines}
 use Rattle.reh_desk.specs.Seats.{SeatView, new_seat}
 use Rattle.reh_desk.specs.declared.desks.CloseCause.{CloseCause}
-use Rattle.reh_picture.specs.declared.faults.PictureFault.{PictureFault}
+use Rattle.reh_fields.specs.declared.faults.PictureFault.{PictureFault}
 use Rattle.reh_script.specs.DeskPlays.{at_desk, sitting, PlaysAtDesk}
 use Rattle.reh_script.specs.Lines.{answered_lines}
 use Rattle.reh_script.specs.Plays.{AnswersAll, stop_of, is_write_fault}

@@ -5,15 +5,18 @@ use Rattle.std.proofs.lemmas.List.{map-append}
 use Rattle.serde_json.specs.Data.{Data}
 use Rattle.serde_json.specs.View.{view}
 use Rattle.serde_json.specs.declared.value.Value.{Value}
-use Rattle.reh_picture.specs.declared.faults.PictureFault.{PictureFault}
-use Rattle.reh_picture.specs.declared.fields.Field.TheVariants as field
-use Rattle.reh_picture.specs.Members.{text_of}
+use Rattle.reh_fields.specs.declared.faults.PictureFault.{PictureFault}
+use Rattle.reh_fields.specs.declared.fields.Field.TheVariants as field
+use Rattle.reh_fields.specs.Members.{text_of}
+use Rattle.reh_picture.specs.declared.places.Place.{Place}
+use Rattle.reh_picture.specs.declared.places.Place.TheVariants as place
+use Rattle.reh_picture.specs.Places.{fault_at}
 use Rattle.reh_picture.specs.Bookies.{bookie_fault, each_bookie_fault, names_in, registration_in, registrations_in}
 use Rattle.reh_picture.proofs.Lists.{passed_to, IsLeft, IsLeft-next, fault_here}
 
 -- a bookie is judged with the names of those before it
-abbrev pub judge : List Data → Data → Option PictureFault
-judge before d = bookie_fault (names_in before) d
+abbrev pub judge : ℕ → List Data → Data → Option (PictureFault × Place)
+judge i before d = fault_at (place.Bookie i) (bookie_fault (names_in before) d)
 
 -- What was read of the first bookies: their names and their registrations, and no fault.
 pub record HasRead (bookies : List Value) (i : ℕ) (names : List (List ℕ)) (lost_at : List (Option ℕ)) : Type 0 where
@@ -30,14 +33,16 @@ HasRead-none bookies = record { names_are = refl; lost_are = refl; count = refl;
 module _ (bookies : List Value) (i : ℕ) (names : List (List ℕ)) (lost_at : List (Option ℕ)) (bookie : Value) where
   module _ (read : HasRead bookies i names lost_at) (within : i < length bookies)
       (is : bookie ≡ get_or bookies i bookie) where
-    pub bookie_fault_here : (fault : PictureFault) → bookie_fault names (view bookie) ≡ Some fault
-        → each_bookie_fault (map view bookies) ≡ Some fault
+    pub bookie_fault_here : (found : PictureFault × Place)
+        → fault_at (place.Bookie i) (bookie_fault names (view bookie)) ≡ Some found
+        → each_bookie_fault (map view bookies) ≡ Some found
     unfolding each_bookie_fault
-    bookie_fault_here fault here =
-        fault_here judge bookies i bookie within is read.left fault
-        (ap (λ ns. bookie_fault ns (view bookie)) (sym read.names_are) ∙ here)
+    bookie_fault_here found here =
+        fault_here judge bookies i bookie within is read.left found
+        (ap (λ ns. fault_at (place.Bookie i) (bookie_fault ns (view bookie))) (sym read.names_are) ∙ here)
 
-    pub HasRead-next : (later : List (List ℕ)) (after : List (Option ℕ)) → bookie_fault names (view bookie) ≡ None
+    pub HasRead-next : (later : List (List ℕ)) (after : List (Option ℕ))
+        → fault_at (place.Bookie i) (bookie_fault names (view bookie)) ≡ None
         → later ≡ names ++ text_of (view bookie) field.Name ∷ []
         → after ≡ lost_at ++ registration_in (view bookie) ∷ [] → HasRead bookies (i + 1) later after
     HasRead-next later after good named registered =
@@ -55,5 +60,5 @@ module _ (bookies : List Value) (i : ℕ) (names : List (List ℕ)) (lost_at : L
               omega (arith, ap length named, length-append names (text_of (view bookie) field.Name ∷ []), read.count);
           left =
               IsLeft-next judge bookies i bookie within is read.left
-              (ap (λ ns. bookie_fault ns (view bookie)) (sym read.names_are) ∙ good);
+              (ap (λ ns. fault_at (place.Bookie i) (bookie_fault ns (view bookie))) (sym read.names_are) ∙ good);
         }

@@ -8,11 +8,11 @@ use Rattle.reh_model.specs.Cluster.{Cluster, Ledger, with_held, with_ledgers}
 use Rattle.reh_model.proofs.Examples.{clear_cluster}
 use Rattle.reh_model.specs.Contents.{Contents, copies_of}
 use Rattle.reh_model.specs.Metadata.{Fragment}
-use Rattle.reh_picture.specs.declared.fields.Field.TheVariants as field
-use Rattle.reh_picture.specs.declared.faults.LedgerFlaw.TheVariants as flaw
-use Rattle.reh_picture.specs.declared.faults.Repeated.TheVariants as repeated
-use Rattle.reh_picture.specs.declared.faults.PictureFault.TheVariants.{NotJson, WrongKind, Twice, UnknownBookie, Limit}
-use Rattle.reh_picture.specs.declared.faults.PictureFault.TheVariants.{BadLedger}
+use Rattle.reh_fields.specs.declared.fields.Field.TheVariants as field
+use Rattle.reh_fields.specs.declared.faults.LedgerFlaw.TheVariants as flaw
+use Rattle.reh_fields.specs.declared.faults.Repeated.TheVariants as repeated
+use Rattle.reh_fields.specs.declared.faults.PictureFault.TheVariants.{NotJson, WrongKind, Twice, UnknownBookie, Limit}
+use Rattle.reh_fields.specs.declared.faults.PictureFault.TheVariants.{BadLedger}
 use Rattle.reh_picture.specs.Bookies.{bookies_fault, each_bookie_fault}
 use Rattle.reh_picture.specs.Ledgers.{members_fault, fragments_fault, metadata_fault, each_ledger_fault, ledgers_fault}
 use Rattle.reh_picture.specs.Contents.{ranges_fault, each_content_fault, contents_fault}

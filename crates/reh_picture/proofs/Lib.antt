@@ -1,4 +1,3 @@
-pub mod Jsons
 pub mod Sound
 pub mod Lists
 pub mod BookiesLemmas
@@ -6,7 +5,7 @@ pub mod ContentsLemmas
 pub mod Greatest
 pub mod Rows
 pub mod PicturesLemmas
+pub mod Results
 mod Examples
-pub mod PlacesLemmas
 pub mod CountsLemmas
 pub mod MarksLemmas

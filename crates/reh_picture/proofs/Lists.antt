@@ -7,8 +7,9 @@ use Rattle.std.specs.Option.{option_or}
 use Rattle.serde_json.specs.Data.{Data}
 use Rattle.serde_json.specs.View.{view}
 use Rattle.serde_json.specs.declared.value.Value.{Value}
-use Rattle.reh_picture.specs.declared.faults.PictureFault.{PictureFault}
-use Rattle.reh_picture.specs.Faults.{fault_along}
+use Rattle.reh_fields.specs.declared.faults.PictureFault.{PictureFault}
+use Rattle.reh_picture.specs.declared.places.Place.{Place}
+use Rattle.reh_picture.specs.Places.{fault_along}
 
 -- what is left of a list, and what was passed, from a place on
 module _ {A B : Type 0} (f : A → B) (xs : List A) (i : ℕ) (x : A) (within : i < length xs)
@@ -22,44 +23,46 @@ module _ {A B : Type 0} (f : A → B) (xs : List A) (i : ℕ) (x : A) (within : 
       ∙ ap (λ y. map f (take i xs) ++ f y ∷ []) (sym is)
 
 -- The first fault along a list is that of the elements from place i on, each judged with those before it.
-abbrev pub IsLeft : (List Data → Data → Option PictureFault) → List Value → ℕ → Type 0
-IsLeft judge xs i = fault_along judge (map view (take i xs)) (map view (drop i xs)) ≡ fault_along judge [] (map view xs)
+abbrev pub IsLeft : (ℕ → List Data → Data → Option (PictureFault × Place)) → List Value → ℕ → Type 0
+IsLeft judge xs i =
+    fault_along judge i (map view (take i xs)) (map view (drop i xs)) ≡ fault_along judge 0 [] (map view xs)
 
-module _ (judge : List Data → Data → Option PictureFault) (xs : List Value) (i : ℕ) (x : Value) (within : i < length xs)
-    (is : x ≡ get_or xs i x) (left : IsLeft judge xs i) where
-  from_here : option_or (judge (map view (take i xs)) (view x))
-      (fault_along judge (map view (take (i + 1) xs)) (map view (drop (i + 1) xs)))
-      ≡ fault_along judge [] (map view xs)
+module _ (judge : ℕ → List Data → Data → Option (PictureFault × Place)) (xs : List Value) (i : ℕ) (x : Value)
+    (within : i < length xs) (is : x ≡ get_or xs i x) (left : IsLeft judge xs i) where
+  from_here : option_or (judge i (map view (take i xs)) (view x))
+      (fault_along judge (i + 1) (map view (take (i + 1) xs)) (map view (drop (i + 1) xs)))
+      ≡ fault_along judge 0 [] (map view xs)
   from_here =
       ap (λ before.
-      option_or (judge (map view (take i xs)) (view x)) (fault_along judge before (map view (drop (i + 1) xs))))
+      option_or (judge i (map view (take i xs)) (view x)) (fault_along judge (i + 1) before (map view (drop (i + 1) xs))))
       (passed_to view xs i x within is)
-      ∙ sym (ap (fault_along judge (map view (take i xs))) (rest_from view xs i x within is)) ∙ left
+      ∙ sym (ap (fault_along judge i (map view (take i xs))) (rest_from view xs i x within is)) ∙ left
 
   -- an element's fault is the first of all
-  pub fault_here : (fault : PictureFault) → judge (map view (take i xs)) (view x) ≡ Some fault
-      → fault_along judge [] (map view xs) ≡ Some fault
-  fault_here fault here =
+  pub fault_here : (found : PictureFault × Place) → judge i (map view (take i xs)) (view x) ≡ Some found
+      → fault_along judge 0 [] (map view xs) ≡ Some found
+  fault_here found here =
       sym from_here
-      ∙ ap (λ check. option_or check (fault_along judge (map view (take (i + 1) xs)) (map view (drop (i + 1) xs)))) here
+      ∙ ap (λ check.
+      option_or check (fault_along judge (i + 1) (map view (take (i + 1) xs)) (map view (drop (i + 1) xs)))) here
 
   -- where it has none, the first is further on
-  pub IsLeft-next : judge (map view (take i xs)) (view x) ≡ None → IsLeft judge xs (i + 1)
+  pub IsLeft-next : judge i (map view (take i xs)) (view x) ≡ None → IsLeft judge xs (i + 1)
   IsLeft-next good =
-      sym (ap (λ check. option_or check (fault_along judge (map view (take (i + 1) xs)) (map view (drop (i + 1) xs))))
-      good)
+      sym (ap (λ check.
+      option_or check (fault_along judge (i + 1) (map view (take (i + 1) xs)) (map view (drop (i + 1) xs)))) good)
       ∙ from_here
 
 -- Of each of the first elements one thing was made, and none has a fault.
-pub record HasMade {X : Type 0} (judge : List Data → Data → Option PictureFault) (made : Data → X) (xs : List Value)
-    (i : ℕ) (things : List X) : Type 0 where
+pub record HasMade {X : Type 0} (judge : ℕ → List Data → Data → Option (PictureFault × Place)) (made : Data → X)
+    (xs : List Value) (i : ℕ) (things : List X) : Type 0 where
   pub things_are : things ≡ map made (map view (take i xs))
   pub left : IsLeft judge xs i
 
 -- the things, after one more
-pub HasMade-next : {X : Type 0} (judge : List Data → Data → Option PictureFault) (made : Data → X) (xs : List Value)
-    (i : ℕ) (x : Value) → i < length xs → x ≡ get_or xs i x
-    → (things later : List X) → HasMade judge made xs i things → judge (map view (take i xs)) (view x) ≡ None
+pub HasMade-next : {X : Type 0} (judge : ℕ → List Data → Data → Option (PictureFault × Place)) (made : Data → X)
+    (xs : List Value) (i : ℕ) (x : Value) → i < length xs → x ≡ get_or xs i x
+    → (things later : List X) → HasMade judge made xs i things → judge i (map view (take i xs)) (view x) ≡ None
     → later ≡ things ++ made (view x) ∷ [] → HasMade judge made xs (i + 1) later
 HasMade-next judge made xs i x within is things later so_far good more = record {
   things_are =

@@ -9,7 +9,7 @@ use Rattle.std.specs.List.{position_or_len}
 use Rattle.std.specs.Option.{option_or, option_map, option_map_or, option_and_then, ForSome}
 use Rattle.std.specs.Ordering.{eq_by_cmp, is_eq}
 use Rattle.std.specs.Cmp.{IsEquivalence, tied_itself, Equal-is}
-use Rattle.std.specs.Result.{result_ok}
+use Rattle.std.specs.Result.{result_err, result_ok}
 use Rattle.std.specs.Str.{bytes_eq}
 use Rattle.std.proofs.lemmas.Bool.Decides.{nat_tests}
 use Rattle.std.proofs.lemmas.Cmp.{nat_eq_equiv}
@@ -35,32 +35,40 @@ use Rattle.reh_model.proofs.Ranges.{Passes, any_passes, list_any-map, same_answe
 use Rattle.reh_model.proofs.CheckLaws.{both-none, reason_unless-none}
 use Rattle.reh_model.proofs.MetadataLaws.{KeepsRules, IsMetadata-from_rules}
 use Rattle.reh_meta.specs.Faults as meta
-use Rattle.reh_picture.specs.declared.fields.Field.{Field}
-use Rattle.reh_picture.specs.declared.fields.Field.TheVariants as field
-use Rattle.reh_picture.specs.declared.faults.PictureFault.{PictureFault}
-use Rattle.reh_picture.specs.declared.faults.PictureFault.TheVariants.{Limit}
+use Rattle.reh_fields.specs.declared.fields.Field.{Field}
+use Rattle.reh_fields.specs.declared.fields.Field.TheVariants as field
+use Rattle.reh_fields.specs.declared.faults.PictureFault.{PictureFault}
+use Rattle.reh_fields.specs.declared.faults.PictureFault.TheVariants.{Limit}
 use Rattle.reh_model.specs.Checks.{reason_unless}
-use Rattle.reh_picture.specs.Faults.{fault_along}
-use Rattle.reh_picture.specs.Members.{integer_in, number_of, text_of, flag_of, list_of, number_fault, list_fault}
+use Rattle.reh_picture.specs.declared.places.Place.{Place}
+use Rattle.reh_picture.specs.declared.places.Place.TheVariants as place
+use Rattle.reh_picture.specs.Places.{fault_at, fault_along}
+use Rattle.reh_fields.specs.Members.{integer_in, list_in, number_in, number_of, text_of, flag_of, list_of}
+use Rattle.reh_fields.specs.Members.{number_fault, list_fault}
 use Rattle.reh_picture.specs.Bookies.{bookie_fault, each_bookie_fault, bookies_fault, names_in, registration_in}
-use Rattle.reh_picture.specs.Bookies.{bookie_in, known_fault}
-use Rattle.reh_picture.specs.Ledgers.{member_name, member_fault, members_fault, fragment_fault, fragment_in}
+use Rattle.reh_fields.specs.Names.{bookie_in, known_fault}
+use Rattle.reh_picture.specs.Ledgers.{member_name, member_fault, members_fault, before_members, fragment_fault}
+use Rattle.reh_picture.specs.Ledgers.{fragment_in, before_fragments, rule_fault, id_fault}
 use Rattle.reh_picture.specs.Ledgers.{fragments_fault, is_closed, end_after, end_in, state_in, pictured_metadata}
 use Rattle.reh_picture.specs.Ledgers.{broken_rule, metadata_fault, ledger_fault, ids_in, each_ledger_fault}
 use Rattle.reh_picture.specs.Ledgers.{ledgers_fault, ListedLedger, listed_in, ledger_of, ledger_in}
 use Rattle.reh_picture.specs.Contents.{ends_of, next_after, range_fault, ranges_fault, Holding, holding_in, pairs_in}
-use Rattle.reh_picture.specs.Contents.{content_fault, each_content_fault, contents_fault, copies_within, copies_in}
+use Rattle.reh_picture.specs.Contents.{pair_fault, content_fault, each_content_fault, contents_fault, copies_within, copies_in}
 use Rattle.reh_picture.specs.Contents.{held_in, words_to, IsGreatest, HasEnds}
 use Rattle.reh_model.specs.Contents as model
 use Rattle.reh_picture.proofs.Greatest.{greatest_held-low}
 use Rattle.reh_picture.specs.Pictures.{names_of, ids_of, contents_of, pictured_cluster, words_in_all, head_fault}
-use Rattle.reh_picture.specs.Pictures.{parts_fault, fields_fault, has_delay, delay_of, delay_fault, IsListed, IsShown}
+use Rattle.reh_picture.specs.Pictures.{parts_fault, words_fault, fields_fault, has_delay, delay_of, delay_fault, IsListed, IsShown}
 
 -- Tests
 
 option_map-none : {A B : Type 0} (f : A → B) (o : Option A) → option_map f o ≡ None → o ≡ None
 option_map-none f None none = refl
 option_map-none f (Some x) none = cc
+
+-- a check that gives no fault at its place gives none
+pub fault_at-none : (here : Place) (check : Option PictureFault) → fault_at here check ≡ None → check ≡ None
+fault_at-none here check none = option_map-none (λ fault. (fault, here)) check none
 
 not-true : (b : Bool) → not b ≡ true → b ≡ false
 not-true true is = cc
@@ -70,56 +78,64 @@ and-true : (a b : Bool) → (a && b) ≡ true → (a ≡ true) × (b ≡ true)
 and-true true b is = (refl, is)
 and-true false b is = cc
 
+-- what is checked to lie within bounds does
+bounded : (least n most : ℕ) (fault : PictureFault) → reason_unless (nat_le least n && nat_le n most) fault ≡ None
+    → (least ≤ n) × (n ≤ most)
+bounded least n most fault none =
+    let both = and-true (nat_le least n) (nat_le n most) (reason_unless-none _ fault none) in
+    let low : nat_le least n ≡ true = both.0 in
+    let high : nat_le n most ≡ true = both.1 in
+    (grind (arith, nat_tests, low), grind (arith, nat_tests, high))
+
 -- a number within its bounds
 number_within : (d : Data) (field : Field) (least most : ℕ) → number_fault d field least most ≡ None
     → (least ≤ number_of d field) × (number_of d field ≤ most)
 number_within d field least most none =
-    let checks = both-none _ _ none in
-    let both : (nat_le least (number_of d field) ≡ true) × (nat_le (number_of d field) most ≡ true) =
-    and-true _ _ (reason_unless-none _ _ (both-none _ _ checks.1).0) in
-    (grind (arith, nat_tests, both.0), grind (arith, nat_tests, both.1))
+    let within = reason_unless (nat_le least (number_of d field) && nat_le (number_of d field) most) (Limit field) in
+    let checks = both-none (result_err (number_in d field)) (option_or within None) none in
+    bounded least (number_of d field) most (Limit field) (both-none within None checks.1).0
 
 -- a list with a number of elements within its bounds
 list_within : (d : Data) (field : Field) (least most : ℕ) → list_fault d field least most ≡ None
     → (least ≤ length (list_of d field)) × (length (list_of d field) ≤ most)
 list_within d field least most none =
-    let checks = both-none _ _ none in
-    let both : (nat_le least (length (list_of d field)) ≡ true) × (nat_le (length (list_of d field)) most ≡ true) =
-    and-true _ _ (reason_unless-none _ _ (both-none _ _ checks.1).0) in
-    (grind (arith, nat_tests, both.0), grind (arith, nat_tests, both.1))
+    let count = length (list_of d field) in
+    let within = reason_unless (nat_le least count && nat_le count most) (Limit field) in
+    let checks = both-none (result_err (list_in d field)) (option_or within None) none in
+    bounded least count most (Limit field) (both-none within None checks.1).0
 
 -- Along lists
 
 -- what is made of each element is as it should be
-all_made : {X : Type 0} (judge : List Data → Data → Option PictureFault) (make : Data → X) (P : X → Type 0)
-    → ((before : List Data) (d : Data) → judge before d ≡ None → P (make d))
-    → (before ds : List Data) → fault_along judge before ds ≡ None → (k : ℕ) (x : X) → k < length (map make ds)
+all_made : {X : Type 0} (judge : ℕ → List Data → Data → Option (PictureFault × Place)) (make : Data → X) (P : X → Type 0)
+    → ((i : ℕ) (before : List Data) (d : Data) → judge i before d ≡ None → P (make d))
+    → (i : ℕ) (before ds : List Data) → fault_along judge i before ds ≡ None → (k : ℕ) (x : X) → k < length (map make ds)
     → P (get_or (map make ds) k x)
-all_made judge make P each before [] none k x within = absurd (omega arith)
-all_made judge make P each before (d ∷ ds) none zero x within = each before d (both-none _ _ none).0
-all_made judge make P each before (d ∷ ds) none (suc k) x within =
-    all_made judge make P each (before ++ d ∷ []) ds (both-none _ _ none).1 k x (omega arith)
+all_made judge make P each i before [] none k x within = absurd (omega arith)
+all_made judge make P each i before (d ∷ ds) none zero x within = each i before d (both-none _ _ none).0
+all_made judge make P each i before (d ∷ ds) none (suc k) x within =
+    all_made judge make P each (i + 1) (before ++ d ∷ []) ds (both-none _ _ none).1 k x (omega arith)
 
 -- keys that are each checked against those before them differ
 module _ {K : Type 0} (eq : K → K → Bool) (laws : IsEquivalence eq) (key : Data → K)
-    (judge : List Data → Data → Option PictureFault)
-    (each : (before : List Data) (d : Data) → judge before d ≡ None
+    (judge : ℕ → List Data → Data → Option (PictureFault × Place))
+    (each : (i : ℕ) (before : List Data) (d : Data) → judge i before d ≡ None
     → list_any (eq (key d)) (map key before) ≡ false) where
-  differ_after : (before ds : List Data) → IsDistinct eq (map key before) → fault_along judge before ds ≡ None
+  differ_after : (i : ℕ) (before ds : List Data) → IsDistinct eq (map key before) → fault_along judge i before ds ≡ None
       → IsDistinct eq (map key (before ++ ds))
-  differ_after before [] differ none =
+  differ_after i before [] differ none =
       subst (λ (xs : List Data). IsDistinct eq (map key xs)) (sym (append-nil before)) differ
-  differ_after before (d ∷ ds) differ none =
+  differ_after i before (d ∷ ds) differ none =
       let checks = both-none _ _ none in
       let more : IsDistinct eq (map key (before ++ d ∷ [])) =
       subst (λ (ks : List K). IsDistinct eq ks) (sym (map-append key before (d ∷ [])))
-      (IsDistinct-push laws (map key before) (key d) differ (each before d checks.0)) in
+      (IsDistinct-push laws (map key before) (key d) differ (each i before d checks.0)) in
       subst (λ (xs : List Data). IsDistinct eq (map key xs)) (append_assoc before (d ∷ []) ds)
-      (differ_after (before ++ d ∷ []) ds more checks.1)
+      (differ_after (i + 1) (before ++ d ∷ []) ds more checks.1)
 
-  differ : (ds : List Data) → fault_along judge [] ds ≡ None → IsDistinct eq (map key ds)
+  pub differ : (ds : List Data) → fault_along judge 0 [] ds ≡ None → IsDistinct eq (map key ds)
   unfolding IsDistinct
-  differ ds none = differ_after [] ds tt none
+  differ ds none = differ_after 0 [] ds tt none
 
 bytes_eq_equiv : IsEquivalence bytes_eq
 bytes_eq_equiv = record {
@@ -133,15 +149,18 @@ bytes_eq_equiv = record {
 
 -- Bookies
 
-bookie_differs : (before : List Data) (d : Data) → bookie_fault (names_in before) d ≡ None
+bookie_differs : (i : ℕ) (before : List Data) (d : Data)
+    → fault_at (place.Bookie i) (bookie_fault (names_in before) d) ≡ None
     → list_any (bytes_eq (text_of d field.Name)) (names_in before) ≡ false
-bookie_differs before d none = not-true _ (reason_unless-none _ _ (both-none _ _ (both-none _ _ none).1).0)
+bookie_differs i before d none =
+    let name = (both-none _ _ (fault_at-none (place.Bookie i) _ none)).0 in
+    not-true _ (reason_unless-none _ _ (both-none _ _ (both-none _ _ name).1).0)
 
 names_differ : (bookies : List Data) → each_bookie_fault bookies ≡ None → IsDistinct bytes_eq (names_in bookies)
 unfolding each_bookie_fault
 names_differ bookies none =
-    differ bytes_eq bytes_eq_equiv (λ d. text_of d field.Name) (λ before d. bookie_fault (names_in before) d)
-    bookie_differs bookies none
+    differ bytes_eq bytes_eq_equiv (λ d. text_of d field.Name)
+    (λ i before d. fault_at (place.Bookie i) (bookie_fault (names_in before) d)) bookie_differs bookies none
 
 -- a place, where there is one
 abbrev place_if : ℕ → Bool → Option ℕ
@@ -206,38 +225,44 @@ state_small d end is =
     ] is
 
 -- the members of an ensemble are known
-member_known : (names : List (List ℕ)) (before : List Data) (d : Data) → member_fault names d ≡ None
-    → bookie_in names (member_name d) < length names
-member_known names before d none = bookie_known names (member_name d) (both-none _ _ (both-none _ _ none).1).0
+module _ (names : List (List ℕ)) (ledger fragment : ℕ) where
+  member_known : (i : ℕ) (before : List Data) (d : Data)
+      → fault_at (place.Member ledger fragment i) (member_fault names d) ≡ None
+      → bookie_in names (member_name d) < length names
+  member_known i before d none =
+      let member = fault_at-none (place.Member ledger fragment i) (member_fault names d) none in
+      bookie_known names (member_name d) (both-none _ _ (both-none _ _ member).1).0
 
-members_known : (names : List (List ℕ)) (members : List Data) → members_fault names members ≡ None
-    → All (λ b. b < length names) (map (λ member. bookie_in names (member_name member)) members)
-unfolding members_fault
-members_known names members none =
-    all_made (λ _ d. member_fault names d) (λ member. bookie_in names (member_name member)) (λ b. b < length names)
-    (member_known names) [] members none
+  members_known : (members : List Data) → members_fault names ledger fragment members ≡ None
+      → All (λ b. b < length names) (map (λ member. bookie_in names (member_name member)) members)
+  unfolding members_fault
+  members_known members none =
+      all_made (λ i _ d. fault_at (place.Member ledger fragment i) (member_fault names d))
+      (λ member. bookie_in names (member_name member)) (λ b. b < length names) member_known 0 [] members none
 
 -- a fragment begins within the limit, and names bookies that are known
 pub record IsFragment (bookies : ℕ) (fragment : Fragment) : Type 0 where
   pub first : fragment.first < ENTRY_END
   pub members : All (λ b. b < bookies) fragment.ensemble
 
-fragment_good : (names : List (List ℕ)) (before : List Data) (d : Data) → fragment_fault names d ≡ None
-    → IsFragment (length names) (fragment_in names d)
-fragment_good names before d none =
-    let first = both-none _ _ (both-none _ _ none).1 in
-    let list = both-none _ _ first.1 in
-    record {
-      first = omega (arith, (number_within d field.FirstEntry 0 MAX_ENTRY_ID first.0).1);
-      members = members_known names (list_of d field.Ensemble) (both-none _ _ list.1).0;
-    }
+module _ (names : List (List ℕ)) (ledger : ℕ) where
+  fragment_good : (i : ℕ) (before : List Data) (d : Data) → fragment_fault names ledger i d ≡ None
+      → IsFragment (length names) (fragment_in names d)
+  fragment_good i before d none =
+      let checks = both-none _ _ none in
+      let fields = fault_at-none (place.Fragment ledger i) (before_members d) checks.0 in
+      let first = (both-none _ _ (both-none _ _ fields).1).0 in
+      record {
+        first = omega (arith, (number_within d field.FirstEntry 0 MAX_ENTRY_ID first).1);
+        members = members_known names ledger i (list_of d field.Ensemble) (both-none _ _ checks.1).0;
+      }
 
-fragments_good : (names : List (List ℕ)) (fragments : List Data) → fragments_fault names fragments ≡ None
-    → All (IsFragment (length names)) (map (fragment_in names) fragments)
-unfolding fragments_fault
-fragments_good names fragments none =
-    all_made (λ _ d. fragment_fault names d) (fragment_in names) (IsFragment (length names)) (fragment_good names) []
-    fragments none
+  fragments_good : (fragments : List Data) → fragments_fault names ledger fragments ≡ None
+      → All (IsFragment (length names)) (map (fragment_in names) fragments)
+  unfolding fragments_fault
+  fragments_good fragments none =
+      all_made (λ i _ d. fragment_fault names ledger i d) (fragment_in names) (IsFragment (length names)) fragment_good 0
+      [] fragments none
 
 -- a ledger's metadata
 pub record IsMetadataOf (names : List (List ℕ)) (d : Data) : Type 0 where
@@ -248,16 +273,18 @@ metadata_good : (names : List (List ℕ)) (ledger : ℕ) (d : Data) → metadata
     → IsMetadataOf names d
 unfolding metadata_fault
 metadata_good names ledger d none =
-    let sizes = both-none _ _ (both-none _ _ none).1 in
-    let version = both-none _ _ sizes.1 in
+    let here = place.Ledger ledger in
+    let checks = both-none _ _ none in
+    let fields = fault_at-none here (before_fragments d) checks.0 in
+    let version = both-none _ _ (both-none _ _ (both-none _ _ fields).1).1 in
     let list = both-none _ _ version.1 in
-    let fragments = both-none _ _ list.1 in
-    let rules = both-none _ _ fragments.1 in
-    let each = fragments_good names (list_of d field.Fragments) fragments.0 in
+    let fragments = both-none _ _ checks.1 in
+    let rules = fault_at-none here (rule_fault names d) (both-none _ _ fragments.1).0 in
+    let each = fragments_good names ledger (list_of d field.Fragments) fragments.0 in
     record {
       metadata =
           IsMetadata-from_rules (pictured_metadata names d)
-          (KeepsRules-none _ (option_map-none (broken_rule ledger) _ rules.0))
+          (KeepsRules-none _ (option_map-none (broken_rule (number_of d field.Id)) _ rules))
           (number_within d field.Version 0 MAX_VERSION version.0).1 (state_small d)
           (omega (
             arith,
@@ -268,6 +295,16 @@ metadata_good names ledger d none =
       fragments = each;
     }
 
+-- metadata whose fields and fragments have no fault, and which breaks no rule
+pub metadata_none : (names : List (List ℕ)) (ledger : ℕ) (d : Data)
+    → fault_at (place.Ledger ledger) (before_fragments d) ≡ None
+    → fragments_fault names ledger (list_of d field.Fragments) ≡ None → meta.fault_of (pictured_metadata names d) ≡ None
+    → metadata_fault names ledger d ≡ None
+unfolding metadata_fault
+metadata_none names ledger d fields fragments rules = λ i.
+    option_or (fields i) (option_or (fragments i)
+    (option_or (fault_at (place.Ledger ledger) (option_map (broken_rule (number_of d field.Id)) (rules i))) None))
+
 -- words that reach a greatest entry which there can be
 words_to-low : (greatest : Option ℕ) → ForSome greatest (λ entry. entry < ENTRY_END)
     → ENTRIES_IN_WORD * words_to greatest ≤ ENTRY_END
@@ -275,14 +312,16 @@ words_to-low None low = lit≤ tt
 words_to-low (Some entry) low = omega (arith, low entry refl)
 
 -- a ledger in any cluster with these names, where each entry that is held is one that there can be
-ledger_good : (s : Cluster) → All (λ t. t.2 < ENTRY_END) (set.items s.parts.held) → (before : List Data) (d : Data)
-    → ledger_fault s.names (ids_in before) d ≡ None → IsLedgerOf s (ledger_in s.names s.parts.held d)
-ledger_good s low before d none =
-    let id = both-none _ _ (both-none _ _ none).1 in
-    let twice = both-none _ _ id.1 in
-    let metadata = metadata_good s.names (number_of d field.Id) d (both-none _ _ twice.1).0 in
+ledger_good : (s : Cluster) → All (λ t. t.2 < ENTRY_END) (set.items s.parts.held)
+    → (i : ℕ) (before : List Data) (d : Data) → ledger_fault s.names i (ids_in before) d ≡ None
+    → IsLedgerOf s (ledger_in s.names s.parts.held d)
+ledger_good s low i before d none =
+    let checks = both-none _ _ none in
+    let id = fault_at-none (place.Ledger i) (id_fault (ids_in before) d) checks.0 in
+    let number = (both-none _ _ (both-none _ _ id).1).0 in
+    let metadata = metadata_good s.names i d (both-none _ _ checks.1).0 in
     record {
-      id = (number_within d field.Id 0 MAX_LEDGER_ID id.0).1;
+      id = (number_within d field.Id 0 MAX_LEDGER_ID number).1;
       metadata = metadata.metadata;
       members = λ k fragment within. (metadata.fragments k fragment within).members;
       words =
@@ -297,19 +336,20 @@ ledgers_good : (s : Cluster) → All (λ t. t.2 < ENTRY_END) (set.items s.parts.
     → each_ledger_fault s.names ledgers ≡ None → All (IsLedgerOf s) (map (ledger_in s.names s.parts.held) ledgers)
 unfolding each_ledger_fault
 ledgers_good s low ledgers none =
-    all_made (λ before d. ledger_fault s.names (ids_in before) d) (ledger_in s.names s.parts.held) (IsLedgerOf s)
-    (ledger_good s low) [] ledgers none
+    all_made (λ i before d. ledger_fault s.names i (ids_in before) d) (ledger_in s.names s.parts.held) (IsLedgerOf s)
+    (ledger_good s low) 0 [] ledgers none
 
-ledger_differs : (names : List (List ℕ)) (before : List Data) (d : Data) → ledger_fault names (ids_in before) d ≡ None
-    → list_any (nat_eq (number_of d field.Id)) (ids_in before) ≡ false
-ledger_differs names before d none =
-    not-true _ (reason_unless-none _ _ (both-none _ _ (both-none _ _ (both-none _ _ none).1).1).0)
+ledger_differs : (names : List (List ℕ)) (i : ℕ) (before : List Data) (d : Data)
+    → ledger_fault names i (ids_in before) d ≡ None → list_any (nat_eq (number_of d field.Id)) (ids_in before) ≡ false
+ledger_differs names i before d none =
+    let id = fault_at-none (place.Ledger i) (id_fault (ids_in before) d) (both-none _ _ none).0 in
+    not-true _ (reason_unless-none _ _ (both-none _ _ (both-none _ _ (both-none _ _ id).1).1).0)
 
 ids_differ : (names : List (List ℕ)) (ledgers : List Data) → each_ledger_fault names ledgers ≡ None
     → IsDistinct nat_eq (ids_in ledgers)
 unfolding each_ledger_fault
 ids_differ names ledgers none =
-    differ nat_eq nat_eq_equiv (λ d. number_of d field.Id) (λ before d. ledger_fault names (ids_in before) d)
+    differ nat_eq nat_eq_equiv (λ d. number_of d field.Id) (λ i before d. ledger_fault names i (ids_in before) d)
     (ledger_differs names) ledgers none
 
 -- the ids of the ledgers that are made
@@ -386,87 +426,101 @@ copy_in_range s bookie ledger ends q known there small any =
     subst (λ (t : ℕ × ℕ × ℕ). IsPictured (length s.names) s.parts.ledgers t) same (known, there, low)
 
 -- an entry of ranges without a fault
-copy_in_ranges : (s : Cluster) (bookie ledger : ℕ) (q : ℕ × ℕ × ℕ) → bookie < length s.names
-    → IsSome (ledger_at s ledger) → (before ranges : List Data)
-    → fault_along (λ before d. range_fault (next_after before) d) before ranges ≡ None
-    → list_any (is_triple q) (flat_map (copies_within bookie ledger) (map ends_of ranges)) ≡ true
-    → IsPictured (length s.names) s.parts.ledgers q
-copy_in_ranges s bookie ledger q known there before [] none any = cc
-copy_in_ranges s bookie ledger q known there before (d ∷ ds) none any =
-    let checks = both-none _ _ none in
-    let within : ((nat_le (next_after before) (ends_of d).0 && nat_le (ends_of d).0 (ends_of d).1) ≡ true)
-    × (nat_le (ends_of d).1 MAX_ENTRY_ID ≡ true) =
-    and-true _ _ (reason_unless-none _ _ (both-none _ _ (both-none _ _ checks.0).1).0) in
-    any_of_two (is_triple q) (copies_within bookie ledger (ends_of d))
-    (flat_map (copies_within bookie ledger) (map ends_of ds)) (IsPictured (length s.names) s.parts.ledgers q)
-    (copy_in_range s bookie ledger (ends_of d) q known there (grind (arith, nat_tests, within.1)))
-    (copy_in_ranges s bookie ledger q known there (before ++ d ∷ []) ds checks.1)
-    any
+module _ (s : Cluster) (bookie ledger : ℕ) (q : ℕ × ℕ × ℕ) (known : bookie < length s.names)
+    (there : IsSome (ledger_at s ledger)) (content : ℕ) where
+  copy_in_ranges : (i : ℕ) (before ranges : List Data)
+      → fault_along (λ i before d. fault_at (place.Range content i) (range_fault (next_after before) d)) i before ranges
+      ≡ None → list_any (is_triple q) (flat_map (copies_within bookie ledger) (map ends_of ranges)) ≡ true
+      → IsPictured (length s.names) s.parts.ledgers q
+  copy_in_ranges i before [] none any = cc
+  copy_in_ranges i before (d ∷ ds) none any =
+      let checks = both-none _ _ none in
+      let range = fault_at-none (place.Range content i) (range_fault (next_after before) d) checks.0 in
+      let within : ((nat_le (next_after before) (ends_of d).0 && nat_le (ends_of d).0 (ends_of d).1) ≡ true)
+      × (nat_le (ends_of d).1 MAX_ENTRY_ID ≡ true) =
+      and-true _ _ (reason_unless-none _ _ (both-none _ _ (both-none _ _ range).1).0) in
+      any_of_two (is_triple q) (copies_within bookie ledger (ends_of d))
+      (flat_map (copies_within bookie ledger) (map ends_of ds)) (IsPictured (length s.names) s.parts.ledgers q)
+      (copy_in_range s bookie ledger (ends_of d) q known there (grind (arith, nat_tests, within.1)))
+      (copy_in_ranges (i + 1) (before ++ d ∷ []) ds checks.1)
+      any
 
-ranges_copies : (s : Cluster) (bookie ledger : ℕ) (q : ℕ × ℕ × ℕ) → bookie < length s.names
-    → IsSome (ledger_at s ledger) → (ranges : List Data) → ranges_fault ranges ≡ None
-    → list_any (is_triple q) (flat_map (copies_within bookie ledger) (map ends_of ranges)) ≡ true
-    → IsPictured (length s.names) s.parts.ledgers q
-unfolding ranges_fault
-ranges_copies s bookie ledger q known there ranges none any =
-    copy_in_ranges s bookie ledger q known there [] ranges none any
+  ranges_copies : (ranges : List Data) → ranges_fault content ranges ≡ None
+      → list_any (is_triple q) (flat_map (copies_within bookie ledger) (map ends_of ranges)) ≡ true
+      → IsPictured (length s.names) s.parts.ledgers q
+  unfolding ranges_fault
+  ranges_copies ranges none any = copy_in_ranges 0 [] ranges none any
+
+-- a content without a fault has a bookie and a ledger that the picture knows, and ranges without a fault
+pub content_none : (names : List (List ℕ)) (ids : List ℕ) (i : ℕ) (pairs : List (ℕ × ℕ)) (d : Data)
+    → content_fault names ids i pairs d ≡ None
+    → (pair_fault names ids pairs d ≡ None) × (ranges_fault i (list_of d field.Entries) ≡ None)
+content_none names ids i pairs d none =
+    let here = place.Content i in
+    let list = fault_at here (result_err (list_in d field.Entries)) in
+    let ranges = ranges_fault i (list_of d field.Entries) in
+    let pair = both-none (fault_at here (pair_fault names ids pairs d)) (option_or list (option_or ranges None)) none in
+    let rest = both-none list (option_or ranges None) pair.1 in
+    (fault_at-none here (pair_fault names ids pairs d) pair.0, (both-none ranges None rest.1).0)
 
 -- an entry of contents without a fault
 module _ (s : Cluster) (ids : List ℕ) (found : (l : ℕ) → list_any (nat_eq l) ids ≡ true → IsSome (ledger_at s l))
     (q : ℕ × ℕ × ℕ) where
-  copy_in_contents : (before contents : List Data)
-      → fault_along (λ before d. content_fault s.names ids (pairs_in s.names before) d) before contents ≡ None
+  copy_in_contents : (i : ℕ) (before contents : List Data)
+      → fault_along (λ i before d. content_fault s.names ids i (pairs_in s.names before) d) i before contents ≡ None
       → list_any (is_triple q) (flat_map copies_in (map (holding_in s.names) contents)) ≡ true
       → IsPictured (length s.names) s.parts.ledgers q
-  copy_in_contents before [] none any = cc
-  copy_in_contents before (d ∷ ds) none any =
-      let checks = both-none _ _ none in
-      let content = both-none _ _ checks.0 in
+  copy_in_contents i before [] none any = cc
+  copy_in_contents i before (d ∷ ds) none any =
+      let checks = both-none (content_fault s.names ids i (pairs_in s.names before) d) _ none in
+      let content = content_none s.names ids i (pairs_in s.names before) d checks.0 in
       let bookie = both-none _ _ (both-none _ _ (both-none _ _ content.0).1).1 in
       let ledger = both-none _ _ (both-none _ _ bookie.1).1 in
       any_of_two (is_triple q) (copies_in (holding_in s.names d)) (flat_map copies_in (map (holding_in s.names) ds))
       (IsPictured (length s.names) s.parts.ledgers q)
       (ranges_copies s (bookie_in s.names (text_of d field.Bookie)) (number_of d field.Ledger) q
       (bookie_known s.names (text_of d field.Bookie) bookie.0)
-      (found (number_of d field.Ledger) (reason_unless-none _ _ ledger.0))
-      (list_of d field.Entries) (both-none _ _ (both-none _ _ content.1).1).0)
-      (copy_in_contents (before ++ d ∷ []) ds checks.1)
+      (found (number_of d field.Ledger) (reason_unless-none _ _ ledger.0)) i
+      (list_of d field.Entries) content.1)
+      (copy_in_contents (i + 1) (before ++ d ∷ []) ds checks.1)
       any
 
   contents_copies : (contents : List Data) → each_content_fault s.names ids contents ≡ None
       → list_any (is_triple q) (flat_map copies_in (map (holding_in s.names) contents)) ≡ true
       → IsPictured (length s.names) s.parts.ledgers q
   unfolding each_content_fault
-  contents_copies contents none any = copy_in_contents [] contents none any
+  contents_copies contents none any = copy_in_contents 0 [] contents none any
 
 -- ranges without a fault have a first entry and a last
-range_rises : (before : List Data) (d : Data) → range_fault (next_after before) d ≡ None → (ends_of d).0 ≤ (ends_of d).1
-range_rises before d none =
+range_rises : (content i : ℕ) (before : List Data) (d : Data)
+    → fault_at (place.Range content i) (range_fault (next_after before) d) ≡ None → (ends_of d).0 ≤ (ends_of d).1
+range_rises content i before d none =
+    let range = fault_at-none (place.Range content i) (range_fault (next_after before) d) none in
     let within : ((nat_le (next_after before) (ends_of d).0 && nat_le (ends_of d).0 (ends_of d).1) ≡ true)
     × (nat_le (ends_of d).1 MAX_ENTRY_ID ≡ true) =
-    and-true _ _ (reason_unless-none _ _ (both-none _ _ (both-none _ _ none).1).0) in
+    and-true _ _ (reason_unless-none _ _ (both-none _ _ (both-none _ _ range).1).0) in
     let rises : nat_le (ends_of d).0 (ends_of d).1 ≡ true = (and-true _ _ within.0).1 in grind (arith, nat_tests, rises)
 
-ranges_rise : (ranges : List Data) → ranges_fault ranges ≡ None → All (λ range. range.0 ≤ range.1) (map ends_of ranges)
+ranges_rise : (content : ℕ) (ranges : List Data) → ranges_fault content ranges ≡ None
+    → All (λ range. range.0 ≤ range.1) (map ends_of ranges)
 unfolding ranges_fault
-ranges_rise ranges none =
-    all_made (λ before d. range_fault (next_after before) d) ends_of (λ range. range.0 ≤ range.1) range_rises [] ranges
-    none
+ranges_rise content ranges none =
+    all_made (λ i before d. fault_at (place.Range content i) (range_fault (next_after before) d)) ends_of
+    (λ range. range.0 ≤ range.1) (range_rises content) 0 [] ranges none
 
-content_rises : (names : List (List ℕ)) (ids : List ℕ) (before : List Data) (d : Data)
-    → content_fault names ids (pairs_in names before) d ≡ None
+content_rises : (names : List (List ℕ)) (ids : List ℕ) (i : ℕ) (before : List Data) (d : Data)
+    → content_fault names ids i (pairs_in names before) d ≡ None
     → All (λ range. range.0 ≤ range.1) (holding_in names d).ranges
-content_rises names ids before d none =
-    let content = both-none _ _ none in
-    ranges_rise (list_of d field.Entries) (both-none _ _ (both-none _ _ content.1).1).0
+content_rises names ids i before d none =
+    ranges_rise i (list_of d field.Entries) (content_none names ids i (pairs_in names before) d none).1
 
 pub contents_rise : (names : List (List ℕ)) (ids : List ℕ) (contents : List Data)
     → each_content_fault names ids contents ≡ None
     → All (λ holding. All (λ range. range.0 ≤ range.1) holding.ranges) (map (holding_in names) contents)
 unfolding each_content_fault
 contents_rise names ids contents none =
-    all_made (λ before d. content_fault names ids (pairs_in names before) d) (holding_in names)
-    (λ holding. All (λ range. range.0 ≤ range.1) holding.ranges) (content_rises names ids) [] contents none
+    all_made (λ i before d. content_fault names ids i (pairs_in names before) d) (holding_in names)
+    (λ holding. All (λ range. range.0 ≤ range.1) holding.ranges) (content_rises names ids) 0 [] contents none
 
 or-second : (a b : Bool) → b ≡ true → (a || b) ≡ true
 or-second true b is = refl
@@ -532,20 +586,23 @@ pub IsFaultless-none : (d : Data) → parts_fault d ≡ None → IsFaultless d
 unfolding head_fault bookies_fault ledgers_fault contents_fault
 IsFaultless-none d none =
     let head = both-none _ _ none in
-    let grace = both-none _ _ (both-none _ _ (both-none _ _ head.0).1).1 in
+    let before = fault_at-none place.Picture (head_fault d) head.0 in
+    let grace = both-none _ _ (both-none _ _ (both-none _ _ before).1).1 in
     let bookies = both-none _ _ head.1 in
     let each_bookie = both-none _ _ bookies.0 in
     let ledgers = both-none _ _ bookies.1 in
     let each_ledger = both-none _ _ ledgers.0 in
     let contents = both-none _ _ (both-none _ _ ledgers.1).0 in
-    let within = list_within d field.Bookies 1 MAX_BOOKIES each_bookie.0 in
+    let few_bookies = fault_at-none place.Picture (list_fault d field.Bookies 1 MAX_BOOKIES) each_bookie.0 in
+    let few_ledgers = fault_at-none place.Picture (list_fault d field.Ledgers 0 MAX_LEDGERS) each_ledger.0 in
+    let within = list_within d field.Bookies 1 MAX_BOOKIES few_bookies in
     record {
       grace = (number_within d field.Grace 0 MAX_GRACE grace.0).1;
       delay = delay_within d (both-none _ _ grace.1).0;
       some_bookie = within.0;
       bookies = within.1;
       each_bookie = (both-none _ _ each_bookie.1).0;
-      ledgers = (list_within d field.Ledgers 0 MAX_LEDGERS each_ledger.0).1;
+      ledgers = (list_within d field.Ledgers 0 MAX_LEDGERS few_ledgers).1;
       each_ledger = (both-none _ _ each_ledger.1).0;
       each_content = (both-none _ _ contents.1).0;
     }
@@ -714,21 +771,15 @@ pub fields_fault-within : (d : Data) → parts_fault d ≡ None → words_in_all
     → fields_fault d ≡ None
 fields_fault-within d good within =
     let test : nat_le (words_in_all (pictured_cluster d)) MAX_WORDS ≡ true = grind (arith, nat_tests) in
-    ap (λ (o : Option PictureFault).
-    option_or o
-    (option_or (reason_unless (nat_le (words_in_all (pictured_cluster d)) MAX_WORDS) (Limit field.Contents)) None))
-    good
-    ∙ ap (λ (t : Bool). option_or (reason_unless t (Limit field.Contents)) None) test
+    ap (λ (o : Option (PictureFault × Place)). option_or o (option_or (fault_at place.Picture (words_fault d)) None)) good
+    ∙ ap (λ (t : Bool). option_or (fault_at place.Picture (reason_unless t (Limit field.Contents))) None) test
 
 pub fields_fault-past : (d : Data) → parts_fault d ≡ None → MAX_WORDS < words_in_all (pictured_cluster d)
-    → fields_fault d ≡ Some (Limit field.Contents)
+    → fields_fault d ≡ Some (Limit field.Contents, place.Picture)
 fields_fault-past d good past =
     let test : nat_le (words_in_all (pictured_cluster d)) MAX_WORDS ≡ false = grind (arith, nat_tests) in
-    ap (λ (o : Option PictureFault).
-    option_or o
-    (option_or (reason_unless (nat_le (words_in_all (pictured_cluster d)) MAX_WORDS) (Limit field.Contents)) None))
-    good
-    ∙ ap (λ (t : Bool). option_or (reason_unless t (Limit field.Contents)) None) test
+    ap (λ (o : Option (PictureFault × Place)). option_or o (option_or (fault_at place.Picture (words_fault d)) None)) good
+    ∙ ap (λ (t : Bool). option_or (fault_at place.Picture (reason_unless t (Limit field.Contents))) None) test
 
 -- where there is no fault, no part has one, and the words are within the limit
 pub parts_of-none : (d : Data) → fields_fault d ≡ None → parts_fault d ≡ None
@@ -736,6 +787,6 @@ parts_of-none d none = (both-none _ _ none).0
 
 pub words_of-none : (d : Data) → fields_fault d ≡ None → words_in_all (pictured_cluster d) ≤ MAX_WORDS
 words_of-none d none =
-    let test : nat_le (words_in_all (pictured_cluster d)) MAX_WORDS ≡ true =
-    reason_unless-none _ _ (both-none _ _ (both-none _ _ none).1).0 in
+    let words = fault_at-none place.Picture (words_fault d) (both-none _ _ (both-none _ _ none).1).0 in
+    let test : nat_le (words_in_all (pictured_cluster d)) MAX_WORDS ≡ true = reason_unless-none _ _ words in
     grind (arith, nat_tests, test)

@@ -13,15 +13,17 @@ use Rattle.reh_model.specs.Contents as model
 use Rattle.reh_model.specs.Cluster.{Ledger}
 use Rattle.reh_model.specs.WellFormed.{IsCopy}
 use Rattle.reh_held.specs.Values.{HeldValue, words_in}
-use Rattle.reh_picture.specs.declared.fields.Field.TheVariants as field
-use Rattle.reh_picture.specs.declared.faults.LedgerFlaw.TheVariants as flaw
-use Rattle.reh_picture.specs.declared.faults.Repeated.TheVariants as repeated
-use Rattle.reh_picture.specs.declared.faults.PictureFault.{PictureFault}
-use Rattle.reh_picture.specs.declared.faults.PictureFault.TheVariants.{WrongKind, Twice, Limit, BadLedger}
+use Rattle.reh_fields.specs.declared.fields.Field.TheVariants as field
+use Rattle.reh_fields.specs.declared.faults.LedgerFlaw.TheVariants as flaw
+use Rattle.reh_fields.specs.declared.faults.Repeated.TheVariants as repeated
+use Rattle.reh_fields.specs.declared.faults.PictureFault.{PictureFault}
+use Rattle.reh_fields.specs.declared.faults.PictureFault.TheVariants.{WrongKind, Twice, Limit, BadLedger}
 use Rattle.reh_model.specs.Checks.{first_reason, reason_unless}
-use Rattle.reh_picture.specs.Faults.{fault_along}
-use Rattle.reh_picture.specs.Members.{elements, is_object, number_in, text_in, list_in, number_of, text_of, list_of, mark_of}
-use Rattle.reh_picture.specs.Bookies.{bookie_in, known_fault}
+use Rattle.reh_fields.specs.Members.{elements, is_object, number_in, text_in, list_in, number_of, text_of, list_of, mark_of}
+use Rattle.reh_fields.specs.Names.{bookie_in, known_fault}
+use Rattle.reh_picture.specs.declared.places.Place.{Place}
+use Rattle.reh_picture.specs.declared.places.Place.TheVariants as place
+use Rattle.reh_picture.specs.Places.{fault_at, fault_along}
 
 -- Ranges of entries
 
@@ -53,9 +55,10 @@ range_fault least d =
     (Limit field.Entries)
     ∷ [])
 
--- the first fault of ranges
-unfoldable pub ranges_fault : List Data → Option PictureFault
-ranges_fault ranges = fault_along (λ before d. range_fault (next_after before) d) [] ranges
+-- the first fault of the ranges of the content of this number
+unfoldable pub ranges_fault : ℕ → List Data → Option (PictureFault × Place)
+ranges_fault content ranges =
+    fault_along (λ i before d. fault_at (place.Range content i) (range_fault (next_after before) d)) 0 [] ranges
 
 -- Contents
 
@@ -100,24 +103,26 @@ pair_fault names ids pairs d =
     (Twice (repeated.Content (text_of d field.Bookie) (number_of d field.Ledger)))
     ∷ [])
 
--- the first fault of what a bookie holds of a ledger
-abbrev pub content_fault : List (List ℕ) → List ℕ → List (ℕ × ℕ) → Data → Option PictureFault
-content_fault names ids pairs d =
+-- the first fault of the content of this number
+abbrev pub content_fault : List (List ℕ) → List ℕ → ℕ → List (ℕ × ℕ) → Data → Option (PictureFault × Place)
+content_fault names ids content pairs d =
     first_reason (
-    pair_fault names ids pairs d
-    ∷ result_err (list_in d field.Entries)
-    ∷ ranges_fault (list_of d field.Entries)
+    fault_at (place.Content content) (pair_fault names ids pairs d)
+    ∷ fault_at (place.Content content) (result_err (list_in d field.Entries))
+    ∷ ranges_fault content (list_of d field.Entries)
     ∷ [])
 
 -- the first fault of contents
-unfoldable pub each_content_fault : List (List ℕ) → List ℕ → List Data → Option PictureFault
+unfoldable pub each_content_fault : List (List ℕ) → List ℕ → List Data → Option (PictureFault × Place)
 each_content_fault names ids contents =
-    fault_along (λ before d. content_fault names ids (pairs_in names before) d) [] contents
+    fault_along (λ i before d. content_fault names ids i (pairs_in names before) d) 0 [] contents
 
 -- what is wrong with a picture's contents
-unfoldable pub contents_fault : List (List ℕ) → List ℕ → Data → Option PictureFault
+unfoldable pub contents_fault : List (List ℕ) → List ℕ → Data → Option (PictureFault × Place)
 contents_fault names ids d =
-    first_reason (result_err (list_in d field.Contents) ∷ each_content_fault names ids (list_of d field.Contents) ∷ [])
+    first_reason
+    (fault_at place.Picture (result_err (list_in d field.Contents))
+    ∷ each_content_fault names ids (list_of d field.Contents) ∷ [])
 
 -- (bookie, ledger, entry) for each entry of a range
 abbrev pub copies_within : ℕ → ℕ → ℕ × ℕ → List (ℕ × ℕ × ℕ)

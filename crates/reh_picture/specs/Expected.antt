@@ -2,21 +2,21 @@
 use Rattle.std.specs.Prelude.{ℕ, List, ◌++◌, codes, if◌then◌else◌, Option, None, Some}
 use Rattle.std.specs.Fmt.{decimal}
 use Rattle.std.specs.Str.{bytes_eq}
-use Rattle.reh_picture.specs.declared.fields.Field.{Field}
-use Rattle.reh_picture.specs.declared.fields.Field.TheVariants as field
-use Rattle.reh_picture.specs.declared.faults.LedgerFlaw.{LedgerFlaw}
-use Rattle.reh_picture.specs.declared.faults.LedgerFlaw.TheVariants as flaw
-use Rattle.reh_picture.specs.declared.faults.Repeated.{Repeated}
-use Rattle.reh_picture.specs.declared.faults.Repeated.TheVariants as repeated
-use Rattle.reh_picture.specs.declared.faults.PictureFault.{PictureFault}
-use Rattle.reh_picture.specs.declared.faults.PictureFault.TheVariants.{TooLong, NotJson, Missing, WrongKind, BadName}
-use Rattle.reh_picture.specs.declared.faults.PictureFault.TheVariants.{Twice, UnknownBookie, Limit, BadLedger, NoMemory}
+use Rattle.reh_fields.specs.declared.fields.Field.{Field}
+use Rattle.reh_fields.specs.declared.fields.Field.TheVariants as field
+use Rattle.reh_fields.specs.declared.faults.LedgerFlaw.{LedgerFlaw}
+use Rattle.reh_fields.specs.declared.faults.LedgerFlaw.TheVariants as flaw
+use Rattle.reh_fields.specs.declared.faults.Repeated.{Repeated}
+use Rattle.reh_fields.specs.declared.faults.Repeated.TheVariants as repeated
+use Rattle.reh_fields.specs.declared.faults.PictureFault.{PictureFault}
+use Rattle.reh_fields.specs.declared.faults.PictureFault.TheVariants.{TooLong, NotJson, Missing, WrongKind, BadName}
+use Rattle.reh_fields.specs.declared.faults.PictureFault.TheVariants.{Twice, UnknownBookie, Limit, BadLedger, NoMemory}
 use Rattle.reh_picture.specs.declared.places.Place.{Place}
 use Rattle.reh_picture.specs.declared.places.Place.TheVariants as place
 use Rattle.reh_picture.specs.declared.places.TextPlace.{TextPlace}
 use Rattle.reh_picture.specs.declared.places.LocatedFault.{LocatedFault}
-use Rattle.reh_picture.specs.Fields.{field_name}
-use Rattle.reh_picture.specs.Faults.{fault_text}
+use Rattle.reh_fields.specs.Fields.{field_name}
+use Rattle.reh_fields.specs.Faults.{fault_text}
 
 -- Paths
 

@@ -17,16 +17,18 @@ use Rattle.reh_model.specs.Cluster.{Ledger}
 use Rattle.reh_meta.specs.Faults.{fault_of}
 use Rattle.reh_meta.specs.declared.faults.MetaFault.{MetaFault}
 use Rattle.reh_meta.specs.declared.faults.MetaFault.TheVariants as meta
-use Rattle.reh_picture.specs.declared.fields.Field.TheVariants as field
-use Rattle.reh_picture.specs.declared.faults.LedgerFlaw.TheVariants as flaw
-use Rattle.reh_picture.specs.declared.faults.Repeated.TheVariants as repeated
-use Rattle.reh_picture.specs.declared.faults.PictureFault.{PictureFault}
-use Rattle.reh_picture.specs.declared.faults.PictureFault.TheVariants.{WrongKind, Twice, Limit, BadLedger, NoMemory}
+use Rattle.reh_fields.specs.declared.fields.Field.TheVariants as field
+use Rattle.reh_fields.specs.declared.faults.LedgerFlaw.TheVariants as flaw
+use Rattle.reh_fields.specs.declared.faults.Repeated.TheVariants as repeated
+use Rattle.reh_fields.specs.declared.faults.PictureFault.{PictureFault}
+use Rattle.reh_fields.specs.declared.faults.PictureFault.TheVariants.{WrongKind, Twice, Limit, BadLedger, NoMemory}
 use Rattle.reh_model.specs.Checks.{first_reason, reason_unless}
-use Rattle.reh_picture.specs.Faults.{fault_along}
-use Rattle.reh_picture.specs.Members.{is_object, number_in, text_in, list_in, integer_in, number_of, text_of, list_of}
-use Rattle.reh_picture.specs.Members.{number_fault, list_fault}
-use Rattle.reh_picture.specs.Bookies.{bookie_in, known_fault}
+use Rattle.reh_fields.specs.Members.{is_object, number_in, text_in, list_in, integer_in, number_of, text_of, list_of}
+use Rattle.reh_fields.specs.Members.{number_fault, list_fault}
+use Rattle.reh_fields.specs.Names.{bookie_in, known_fault}
+use Rattle.reh_picture.specs.declared.places.Place.{Place}
+use Rattle.reh_picture.specs.declared.places.Place.TheVariants as place
+use Rattle.reh_picture.specs.Places.{fault_at, fault_along}
 use Rattle.reh_picture.specs.Contents.{words_to}
 
 -- Fragments
@@ -43,16 +45,25 @@ abbrev pub member_fault : List (List ℕ) → Data → Option PictureFault
 member_fault names d = first_reason (result_err (member_name_in d) ∷ known_fault names (member_name d) ∷ [])
 
 -- the first fault of an ensemble's members
-unfoldable pub members_fault : List (List ℕ) → List Data → Option PictureFault
-members_fault names members = fault_along (λ _ d. member_fault names d) [] members
+unfoldable pub members_fault : List (List ℕ) → ℕ → ℕ → List Data → Option (PictureFault × Place)
+members_fault names ledger fragment members =
+    fault_along (λ i _ d. fault_at (place.Member ledger fragment i) (member_fault names d)) 0 [] members
 
-abbrev pub fragment_fault : List (List ℕ) → Data → Option PictureFault
-fragment_fault names d =
+-- what is wrong with a fragment before the members of its ensemble
+abbrev pub before_members : Data → Option PictureFault
+before_members d =
     first_reason (
     reason_unless (is_object d) (WrongKind field.Fragment)
     ∷ number_fault d field.FirstEntry 0 MAX_ENTRY_ID
     ∷ result_err (list_in d field.Ensemble)
-    ∷ members_fault names (list_of d field.Ensemble)
+    ∷ [])
+
+-- the first fault of the fragment of this number
+abbrev pub fragment_fault : List (List ℕ) → ℕ → ℕ → Data → Option (PictureFault × Place)
+fragment_fault names ledger fragment d =
+    first_reason (
+    fault_at (place.Fragment ledger fragment) (before_members d)
+    ∷ members_fault names ledger fragment (list_of d field.Ensemble)
     ∷ [])
 
 abbrev pub fragment_in : List (List ℕ) → Data → Fragment
@@ -113,9 +124,20 @@ sizes_fault d =
     ∷ result_err (number_in d field.AckQuorumSize)
     ∷ [])
 
--- the first fault of fragments
-unfoldable pub fragments_fault : List (List ℕ) → List Data → Option PictureFault
-fragments_fault names fragments = fault_along (λ _ d. fragment_fault names d) [] fragments
+-- what is wrong with a ledger's metadata before its fragments
+abbrev pub before_fragments : Data → Option PictureFault
+before_fragments d =
+    first_reason (
+    state_fault d
+    ∷ sizes_fault d
+    ∷ number_fault d field.Version 0 MAX_VERSION
+    ∷ list_fault d field.Fragments 0 MAX_FRAGMENTS
+    ∷ [])
+
+-- the first fault of the fragments of the ledger of this number
+unfoldable pub fragments_fault : List (List ℕ) → ℕ → List Data → Option (PictureFault × Place)
+fragments_fault names ledger fragments =
+    fault_along (λ i _ d. fragment_fault names ledger i d) 0 [] fragments
 
 -- the metadata that a ledger's fields name, in a picture whose bookies have these names
 abbrev pub pictured_metadata : List (List ℕ) → Data → Metadata
@@ -136,42 +158,49 @@ broken_rule ledger meta.BadEnsemble = BadLedger ledger flaw.Ensemble
 broken_rule ledger meta.BadLast = BadLedger ledger flaw.Last
 broken_rule ledger meta.NoMemory = NoMemory
 
--- the first fault of a ledger's metadata: its fields in their order, and then its rules
-unfoldable pub metadata_fault : List (List ℕ) → ℕ → Data → Option PictureFault
+-- the rule that a ledger's metadata breaks
+abbrev pub rule_fault : List (List ℕ) → Data → Option PictureFault
+rule_fault names d = option_map (broken_rule (number_of d field.Id)) (fault_of (pictured_metadata names d))
+
+-- the first fault of a ledger's metadata: its fields in their order, and then its rules, which judge it as a whole
+unfoldable pub metadata_fault : List (List ℕ) → ℕ → Data → Option (PictureFault × Place)
 metadata_fault names ledger d =
     first_reason (
-    state_fault d
-    ∷ sizes_fault d
-    ∷ number_fault d field.Version 0 MAX_VERSION
-    ∷ list_fault d field.Fragments 0 MAX_FRAGMENTS
-    ∷ fragments_fault names (list_of d field.Fragments)
-    ∷ option_map (broken_rule ledger) (fault_of (pictured_metadata names d))
+    fault_at (place.Ledger ledger) (before_fragments d)
+    ∷ fragments_fault names ledger (list_of d field.Fragments)
+    ∷ fault_at (place.Ledger ledger) (rule_fault names d)
     ∷ [])
 
 -- Ledgers
 
--- the first fault of a ledger that follows the ledgers with these ids
-abbrev pub ledger_fault : List (List ℕ) → List ℕ → Data → Option PictureFault
-ledger_fault names ids d =
+-- what is wrong with the id of a ledger that follows the ledgers with these ids
+abbrev pub id_fault : List ℕ → Data → Option PictureFault
+id_fault ids d =
     first_reason (
     reason_unless (is_object d) (WrongKind field.Ledger)
     ∷ number_fault d field.Id 0 MAX_LEDGER_ID
     ∷ reason_unless (not (list_any (nat_eq (number_of d field.Id)) ids))
     (Twice (repeated.Ledger (number_of d field.Id)))
-    ∷ metadata_fault names (number_of d field.Id) d
     ∷ [])
+
+-- the first fault of the ledger of this number, which follows the ledgers with these ids
+abbrev pub ledger_fault : List (List ℕ) → ℕ → List ℕ → Data → Option (PictureFault × Place)
+ledger_fault names ledger ids d =
+    first_reason (fault_at (place.Ledger ledger) (id_fault ids d) ∷ metadata_fault names ledger d ∷ [])
 
 abbrev pub ids_in : List Data → List ℕ
 ids_in ledgers = map (λ d. number_of d field.Id) ledgers
 
 -- the first fault of ledgers
-unfoldable pub each_ledger_fault : List (List ℕ) → List Data → Option PictureFault
-each_ledger_fault names ledgers = fault_along (λ before d. ledger_fault names (ids_in before) d) [] ledgers
+unfoldable pub each_ledger_fault : List (List ℕ) → List Data → Option (PictureFault × Place)
+each_ledger_fault names ledgers = fault_along (λ i before d. ledger_fault names i (ids_in before) d) 0 [] ledgers
 
 -- what is wrong with a picture's ledgers
-unfoldable pub ledgers_fault : List (List ℕ) → Data → Option PictureFault
+unfoldable pub ledgers_fault : List (List ℕ) → Data → Option (PictureFault × Place)
 ledgers_fault names d =
-    first_reason (list_fault d field.Ledgers 0 MAX_LEDGERS ∷ each_ledger_fault names (list_of d field.Ledgers) ∷ [])
+    first_reason
+    (fault_at place.Picture (list_fault d field.Ledgers 0 MAX_LEDGERS)
+    ∷ each_ledger_fault names (list_of d field.Ledgers) ∷ [])
 
 -- a ledger by the fields of its own, which don't say how many words it has
 pub record ListedLedger : Type 0 where

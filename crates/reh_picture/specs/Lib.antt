@@ -1,11 +1,8 @@
-pub mod Fields
-pub mod Faults
-pub mod Members
+pub mod Places
 pub mod Bookies
 pub mod Ledgers
 pub mod Contents
 pub mod Pictures
-pub mod Places
 pub mod Expected
 pub mod Counts
 pub mod Marks

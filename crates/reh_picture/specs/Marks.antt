@@ -4,16 +4,16 @@ use Rattle.std.specs.Option.{ok_or, option_map, option_map_or}
 use Rattle.std.specs.Result.{result_err, result_unwrap_or}
 use Rattle.serde_json.specs.Data.{Data}
 use Rattle.serde_json.specs.Find.{get, as_str}
-use Rattle.reh_picture.specs.declared.fields.Field.TheVariants as field
-use Rattle.reh_picture.specs.declared.faults.PictureFault.{PictureFault}
-use Rattle.reh_picture.specs.declared.faults.PictureFault.TheVariants.{WrongKind, Limit}
+use Rattle.reh_fields.specs.declared.fields.Field.TheVariants as field
+use Rattle.reh_fields.specs.declared.faults.PictureFault.{PictureFault}
+use Rattle.reh_fields.specs.declared.faults.PictureFault.TheVariants.{WrongKind, Limit}
 use Rattle.reh_picture.specs.declared.places.Place.{Place}
 use Rattle.reh_picture.specs.declared.places.Place.TheVariants as place
 use Rattle.reh_model.specs.Checks.{first_reason, reason_unless}
-use Rattle.reh_picture.specs.Bookies.{is_name}
-use Rattle.reh_picture.specs.Fields.{field_name}
-use Rattle.reh_picture.specs.Members.{flag_if_there, list_in, list_of, mark_of}
-use Rattle.reh_picture.specs.Places.{fault_at, located_along}
+use Rattle.reh_fields.specs.Names.{is_name}
+use Rattle.reh_fields.specs.Fields.{field_name}
+use Rattle.reh_fields.specs.Members.{flag_if_there, list_in, list_of, mark_of}
+use Rattle.reh_picture.specs.Places.{fault_at, fault_along}
 
 -- a rack, where it is there
 abbrev pub rack_if_there : Data → Result (Option (List ℕ)) PictureFault
@@ -51,19 +51,19 @@ bookie_marks_fault d =
     ∷ [])
 
 -- the first fault of the marks of bookies, and of contents
-unfoldable pub located_bookie_marks : List Data → Option (PictureFault × Place)
-located_bookie_marks bookies = located_along (λ i _ d. fault_at (place.Bookie i) (bookie_marks_fault d)) 0 [] bookies
+unfoldable pub each_marks_fault : List Data → Option (PictureFault × Place)
+each_marks_fault bookies = fault_along (λ i _ d. fault_at (place.Bookie i) (bookie_marks_fault d)) 0 [] bookies
 
-unfoldable pub located_assumed : List Data → Option (PictureFault × Place)
-located_assumed contents =
-    located_along (λ i _ d. fault_at (place.Content i) (result_err (flag_if_there d field.Assumed))) 0 [] contents
+unfoldable pub each_assumed_fault : List Data → Option (PictureFault × Place)
+each_assumed_fault contents =
+    fault_along (λ i _ d. fault_at (place.Content i) (result_err (flag_if_there d field.Assumed))) 0 [] contents
 
 -- the first fault of the marks of a picture, in which both lists are
-abbrev pub located_marks : Data → Option (PictureFault × Place)
-located_marks d =
+abbrev pub marks_fault : Data → Option (PictureFault × Place)
+marks_fault d =
     first_reason (
     fault_at place.Picture (result_err (list_in d field.Bookies))
-    ∷ located_bookie_marks (list_of d field.Bookies)
+    ∷ each_marks_fault (list_of d field.Bookies)
     ∷ fault_at place.Picture (result_err (list_in d field.Contents))
-    ∷ located_assumed (list_of d field.Contents)
+    ∷ each_assumed_fault (list_of d field.Contents)
     ∷ [])

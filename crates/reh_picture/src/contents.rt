@@ -9,9 +9,9 @@ ghost use Rattle.std.specs.Result.{result_err};
 ghost use Rattle.serde_json.specs.View.{view};
 ghost use Rattle.reh_types.specs.declared.limits.TheConstants.{ENTRIES_IN_WORD, ENTRY_END, MAX_LEDGERS};
 ghost use Rattle.reh_types.specs.Sets as set;
-ghost use Rattle.reh_picture.specs.Faults.{FailsWith};
-ghost use Rattle.reh_picture.specs.Members.{number_of, list_of, text_of};
-ghost use Rattle.reh_picture.specs.Bookies.{bookie_in};
+ghost use Rattle.reh_fields.specs.Faults.{FailsWith};
+ghost use Rattle.reh_fields.specs.Members.{list_of};
+ghost use Rattle.reh_picture.specs.Places.{FailsAt, fault_at};
 ghost use Rattle.reh_picture.specs.Contents.{two_numbers as two_numbers_in, ends_in, ends_of, range_fault};
 ghost use Rattle.reh_picture.specs.Contents.{ranges_fault, next_after, content_fault, each_content_fault};
 ghost use Rattle.reh_picture.specs.Contents.{contents_fault, pair_fault, pair_of, holding_in, copies_in, held_in};
@@ -19,12 +19,12 @@ ghost use Rattle.reh_picture.specs.Contents.{IsGreatest, HasEnds, FitsIn};
 ghost use Rattle.reh_model.specs.Contents.{Contents};
 ghost use Rattle.reh_cluster.specs.Parts.{HasRows};
 
-use crate::faults::{FaultName, LedgerFlaw, PictureFault, Repeated};
-use crate::fields::Field;
-use crate::ledgers::known_bookie;
-use crate::members::{list, mark, number, text};
+use crate::places::{LocatedFault, Place};
 use indexmap::IndexSet;
 use reh_cluster::{Ledger, Names};
+use reh_fields::members::{list, mark, number, text};
+use reh_fields::names::known_bookie;
+use reh_fields::{FaultName, Field, LedgerFlaw, PictureFault, Repeated};
 use reh_held::Held;
 use reh_types::{BookieIx, ENTRIES_IN_WORD, LedgerId, MAX_ENTRY_ID};
 use serde_json::Value;
@@ -54,10 +54,9 @@ fn two_numbers(list: &[Value]) -> Option<(u64, u64)>
 }
 
 /// A range of entries that begins at the least entry or after it.
-pub(crate) fn read_range(least: u64, range: &Value) -> Result<(u32, u32), PictureFault>
+fn read_range(least: u64, range: &Value) -> Result<(u32, u32), PictureFault>
     ensures fault { result_err result ≡ range_fault least (view range.now) }
     ensures ends { IfOk result (λ ends. ends ≡ ends_of (view range.now)) }
-    ensures limit { IfOk result (λ ends. (ends.0 ≤ ends.1) × (ends.1 < ENTRY_END)) }
 {
     let (first, last) = read_ends(range)?;
     if first < least || last < first || last > MAX_ENTRY_ID {
@@ -66,16 +65,31 @@ pub(crate) fn read_range(least: u64, range: &Value) -> Result<(u32, u32), Pictur
     Ok((first as u32, last as u32))
 }
 
-/// Ranges of entries, each past those before it.
+/// The range at this place.
+fn read_range_at(least: u64, here: Place, range: &Value) -> Result<(u32, u32), LocatedFault>
+    ensures fault { FailsAt result (fault_at here (range_fault least (view range.now))) }
+    ensures ends { IfOk result (λ ends. ends ≡ ends_of (view range.now)) }
+{
+    match read_range(least, range) {
+        Ok(ends) => Ok(ends),
+        Err(fault) => Err(LocatedFault::new(fault, here)),
+    }
+}
+
+/// The ranges of entries of the content of this number, each past those before it.
 #[tactic(auto, unfolding(crate::specs::Contents::ranges_fault))]
-fn read_ranges(alloc: Global, values: &[Value]) -> Result<Vec<(u32, u32)>, PictureFault>
-    ensures fault { FailsWith result (ranges_fault (map view values.now)) }
+fn read_ranges(
+    alloc: Global,
+    content: usize,
+    values: &[Value],
+) -> Result<Vec<(u32, u32)>, LocatedFault>
+    ensures fault { FailsAt result (ranges_fault content (map view values.now)) }
     ensures ranges { IfOk result (λ ranges. ranges.items ≡ map ends_of (map view values.now)) }
 {
     let mut ranges = Vec::new(alloc);
     let mut least = 0;
-    for value in values {
-        let (first, last) = read_range(least, value)?;
+    for (i, value) in values.iter().enumerate() {
+        let (first, last) = read_range_at(least, Place::Range { content, range: i }, value)?;
         ranges.push((first, last))?;
         least = last as u64 + 1;
     }
@@ -134,7 +148,7 @@ impl Holding {
 }
 
 /// The bookie and the ledger of one more holding, which join the pairs. After an `Err` they may be there.
-pub(crate) fn read_pair(
+fn read_pair(
     alloc: Global,
     names: &Names,
     ids: &IndexSet<u64>,
@@ -163,23 +177,27 @@ pub(crate) fn read_pair(
     Ok((bookie, LedgerId(id)))
 }
 
-/// One more holding; its bookie and ledger join the pairs. After an `Err` they may be there.
+/// The holding of this number; its bookie and ledger join the pairs. After an `Err` they may be there.
 fn read_holding(
     alloc: Global,
     names: &Names,
     ids: &IndexSet<u64>,
     pairs: &mut IndexSet<(u8, u64)>,
+    number: usize,
     content: &Value,
-) -> Result<Holding, PictureFault>
-    ensures fault { FailsWith result
-        (content_fault names.now ids.now.keys pairs.old.keys (view content.now)) }
+) -> Result<Holding, LocatedFault>
+    ensures fault { FailsAt result
+        (content_fault names.now ids.now.keys number pairs.old.keys (view content.now)) }
     ensures pairs { OnOk result
         (pairs.new.keys ≡ pairs.old.keys ++ pair_of names.now (view content.now) ∷ []) }
     ensures holding { IfOk result (λ h. h ≡ holding_in names.now (view content.now)) }
 {
-    let (bookie, ledger) = read_pair(alloc, names, ids, pairs, content)?;
-    let entries = list(content, Field::Entries)?;
-    let ranges = read_ranges(alloc, entries)?;
+    let here = Place::Content(number);
+    let (bookie, ledger) = read_pair(alloc, names, ids, pairs, content).map_err(
+        |fault| LocatedFault::new(fault, here),
+    )?;
+    let entries = list(content, Field::Entries).map_err(|fault| LocatedFault::new(fault, here))?;
+    let ranges = read_ranges(alloc, number, entries)?;
     Ok(Holding {
         bookie,
         ledger,
@@ -195,13 +213,16 @@ pub(crate) fn read_contents(
     names: &Names,
     ids: &IndexSet<u64>,
     picture: &Value,
-) -> Result<Vec<Holding>, PictureFault>
-    ensures fault { FailsWith result (contents_fault names.now ids.now.keys (view picture.now)) }
+) -> Result<Vec<Holding>, LocatedFault>
+    ensures fault { FailsAt result (contents_fault names.now ids.now.keys (view picture.now)) }
     ensures holdings { IfOk result
         (λ holdings. holdings.items
         ≡ map (holding_in names.now) (list_of (view picture.now) Field.Contents)) }
 {
-    let contents = list(picture, Field::Contents)?;
+    let contents = list(picture, Field::Contents).map_err(|fault| LocatedFault::new(
+        fault,
+        Place::Picture,
+    ))?;
     read_each_content(alloc, names, ids, contents)
 }
 
@@ -212,16 +233,16 @@ fn read_each_content(
     names: &Names,
     ids: &IndexSet<u64>,
     values: &[Value],
-) -> Result<Vec<Holding>, PictureFault>
-    ensures fault { FailsWith result
+) -> Result<Vec<Holding>, LocatedFault>
+    ensures fault { FailsAt result
         (each_content_fault names.now ids.now.keys (map view values.now)) }
     ensures holdings { IfOk result
         (λ holdings. holdings.items ≡ map (holding_in names.now) (map view values.now)) }
 {
     let mut pairs = IndexSet::new(alloc);
     let mut holdings = Vec::new(alloc);
-    for value in values {
-        holdings.push(read_holding(alloc, names, ids, &mut pairs, value)?)?;
+    for (i, value) in values.iter().enumerate() {
+        holdings.push(read_holding(alloc, names, ids, &mut pairs, i, value)?)?;
     }
     Ok(holdings)
 }

@@ -5,23 +5,25 @@ ghost use Rattle.std.specs.Ordering.{nat_cmp};
 ghost use Rattle.std.specs.Option.{ForSome};
 ghost use Rattle.std.specs.Result.{result_err};
 ghost use Rattle.serde_json.specs.View.{view};
-ghost use Rattle.reh_types.specs.declared.limits.TheConstants.{ENTRY_END};
+ghost use Rattle.reh_types.specs.declared.limits.TheConstants.{ENTRY_END, MAX_FRAGMENTS, MAX_VERSION};
 ghost use Rattle.reh_model.specs.Metadata.{end_of_state};
-ghost use Rattle.reh_picture.specs.Faults.{FailsWith};
-ghost use Rattle.reh_picture.specs.Members.{number_of, list_of};
-ghost use Rattle.reh_picture.specs.Bookies.{known_fault, bookie_in};
-ghost use Rattle.reh_picture.specs.Ledgers.{member_fault, members_fault, member_name, fragment_fault, fragment_in};
-ghost use Rattle.reh_picture.specs.Ledgers.{state_fault, state_in, last_fault, end_in, is_closed, sizes_fault};
-ghost use Rattle.reh_picture.specs.Ledgers.{fragments_fault, metadata_fault, pictured_metadata, ledger_fault};
-ghost use Rattle.reh_picture.specs.Ledgers.{each_ledger_fault, ledgers_fault, listed_in, ledger_of, ids_in};
-ghost use Rattle.reh_picture.specs.Ledgers.{broken_rule};
+ghost use Rattle.reh_fields.specs.Faults.{FailsWith};
+ghost use Rattle.reh_fields.specs.Members.{number_of, list_of};
+ghost use Rattle.reh_fields.specs.Names.{bookie_in};
+ghost use Rattle.reh_picture.specs.Places.{FailsAt, fault_at};
+ghost use Rattle.reh_picture.specs.Ledgers.{member_fault, members_fault, member_name, before_members, fragment_fault};
+ghost use Rattle.reh_picture.specs.Ledgers.{fragment_in, state_fault, state_in, last_fault, end_in, is_closed};
+ghost use Rattle.reh_picture.specs.Ledgers.{sizes_fault, before_fragments, fragments_fault, metadata_fault};
+ghost use Rattle.reh_picture.specs.Ledgers.{pictured_metadata, id_fault, ledger_fault, each_ledger_fault, ledgers_fault};
+ghost use Rattle.reh_picture.specs.Ledgers.{listed_in, ledger_of, ids_in, broken_rule};
 ghost use Rattle.reh_picture.specs.Contents.{words_to as words_to_greatest};
 
-use crate::faults::{FaultName, LedgerFlaw, PictureFault, Repeated};
-use crate::fields::Field;
-use crate::members::{integer, list, list_within, number, number_within, text};
+use crate::places::{LocatedFault, Place};
 use indexmap::IndexSet;
 use reh_cluster::{Ledger, Names};
+use reh_fields::members::{integer, list, list_within, number, number_within, text};
+use reh_fields::names::known_bookie;
+use reh_fields::{Field, LedgerFlaw, PictureFault, Repeated};
 use reh_meta::{Fragment, LedgerMeta, MetaFault, Sizes};
 use reh_types::{
     BookieIx, ENTRIES_IN_WORD, LedgerId, LedgerState, MAX_ENTRY_ID, MAX_FRAGMENTS, MAX_LEDGER_ID,
@@ -32,27 +34,8 @@ use std::alloc::{AllocError, Global};
 use std::collections::BTreeMap;
 use std::marker::Model;
 
-/// The bookie of that name, which must be one of the picture's.
-pub(crate) fn known_bookie(
-    alloc: Global,
-    names: &Names,
-    name: &str,
-) -> Result<BookieIx, PictureFault>
-    ensures fault { FailsWith result (known_fault names.now name.now) }
-    ensures bookie { IfOk result (λ bookie. bookie ≡ bookie_in names.now name.now) }
-{
-    match names.find(name.as_bytes()) {
-        Some(bookie) => Ok(bookie),
-        None => Err(PictureFault::UnknownBookie(FaultName::new(alloc, name)?)),
-    }
-}
-
 /// A member of an ensemble.
-pub(crate) fn read_member(
-    alloc: Global,
-    names: &Names,
-    member: &Value,
-) -> Result<BookieIx, PictureFault>
+fn read_member(alloc: Global, names: &Names, member: &Value) -> Result<BookieIx, PictureFault>
     ensures fault { FailsWith result (member_fault names.now (view member.now)) }
     ensures bookie { IfOk result
         (λ bookie. bookie ≡ bookie_in names.now (member_name (view member.now))) }
@@ -63,65 +46,111 @@ pub(crate) fn read_member(
     known_bookie(alloc, names, name)
 }
 
-/// The members of an ensemble.
+/// The member at this place.
+fn read_member_at(
+    alloc: Global,
+    names: &Names,
+    here: Place,
+    member: &Value,
+) -> Result<BookieIx, LocatedFault>
+    ensures fault { FailsAt result (fault_at here (member_fault names.now (view member.now))) }
+    ensures bookie { IfOk result
+        (λ bookie. bookie ≡ bookie_in names.now (member_name (view member.now))) }
+{
+    match read_member(alloc, names, member) {
+        Ok(bookie) => Ok(bookie),
+        Err(fault) => Err(LocatedFault::new(fault, here)),
+    }
+}
+
+/// The members of the ensemble of this fragment of this ledger.
 #[tactic(auto, unfolding(crate::specs::Ledgers::members_fault))]
 fn read_ensemble(
     alloc: Global,
     names: &Names,
+    ledger: usize,
+    fragment: usize,
     members: &[Value],
-) -> Result<Vec<BookieIx>, PictureFault>
-    ensures fault { FailsWith result (members_fault names.now (map view members.now)) }
+) -> Result<Vec<BookieIx>, LocatedFault>
+    ensures fault { FailsAt result (members_fault names.now ledger fragment (map view members.now)) }
     ensures ensemble { IfOk result
         (λ ensemble. ensemble.items
         ≡ map (λ member. bookie_in names.now (member_name member)) (map view members.now)) }
 {
     let mut ensemble = Vec::new(alloc);
-    for member in members {
-        ensemble.push(read_member(alloc, names, member)?)?;
+    for (i, member) in members.iter().enumerate() {
+        let here = Place::Member {
+            ledger,
+            fragment,
+            member: i,
+        };
+        ensemble.push(read_member_at(alloc, names, here, member)?)?;
     }
     Ok(ensemble)
 }
 
-/// A fragment.
-fn read_fragment(alloc: Global, names: &Names, fragment: &Value) -> Result<Fragment, PictureFault>
-    ensures fault { FailsWith result (fragment_fault names.now (view fragment.now)) }
-    ensures fragment { IfOk result (λ f. f ≡ fragment_in names.now (view fragment.now)) }
-    ensures first { IfOk result (λ f. f.first < ENTRY_END) }
+/// A fragment's first entry, and the members of its ensemble.
+fn fragment_fields(fragment: &Value) -> Result<(u32, &[Value]), PictureFault>
+    ensures fault { result_err result ≡ before_members (view fragment.now) }
+    ensures first { IfOk result (λ r. number_of (view fragment.now) Field.FirstEntry ≡ r.0) }
+    ensures limit { IfOk result (λ r. r.0 < ENTRY_END) }
+    ensures members { IfOk result
+        (λ r. list_of (view fragment.now) Field.Ensemble ≡ map view r.1.now) }
 {
     if !fragment.is_object() {
         return Err(PictureFault::WrongKind(Field::Fragment));
     }
     let first = number_within(fragment, Field::FirstEntry, 0, MAX_ENTRY_ID)?;
     let members = list(fragment, Field::Ensemble)?;
-    let ensemble = read_ensemble(alloc, names, members)?;
-    Ok(Fragment {
-        first: first as u32,
-        ensemble,
-    })
+    Ok((first as u32, members))
 }
 
-/// The fragments of a ledger.
+/// The fragment of this number, of the ledger of that number.
+fn read_fragment(
+    alloc: Global,
+    names: &Names,
+    ledger: usize,
+    number: usize,
+    fragment: &Value,
+) -> Result<Fragment, LocatedFault>
+    ensures fault { FailsAt result (fragment_fault names.now ledger number (view fragment.now)) }
+    ensures fragment { IfOk result (λ f. f ≡ fragment_in names.now (view fragment.now)) }
+    ensures first { IfOk result (λ f. f.first < ENTRY_END) }
+{
+    let here = Place::Fragment {
+        ledger,
+        fragment: number,
+    };
+    let (first, members) = fragment_fields(fragment).map_err(|fault| LocatedFault::new(
+        fault, here,
+    ))?;
+    let ensemble = read_ensemble(alloc, names, ledger, number, members)?;
+    Ok(Fragment { first, ensemble })
+}
+
+/// The fragments of the ledger of this number.
 #[tactic(auto, unfolding(crate::specs::Ledgers::fragments_fault))]
 fn read_fragments(
     alloc: Global,
     names: &Names,
+    ledger: usize,
     values: &[Value],
-) -> Result<Vec<Fragment>, PictureFault>
-    ensures fault { FailsWith result (fragments_fault names.now (map view values.now)) }
+) -> Result<Vec<Fragment>, LocatedFault>
+    ensures fault { FailsAt result (fragments_fault names.now ledger (map view values.now)) }
     ensures fragments { IfOk result
         (λ fragments. fragments.items ≡ map (fragment_in names.now) (map view values.now)) }
     ensures firsts { IfOk result
         (λ fragments. All (λ fragment. fragment.first < ENTRY_END) fragments.items) }
 {
     let mut fragments = Vec::new(alloc);
-    for value in values {
-        fragments.push(read_fragment(alloc, names, value)?)?;
+    for (i, value) in values.iter().enumerate() {
+        fragments.push(read_fragment(alloc, names, ledger, i, value)?)?;
     }
     Ok(fragments)
 }
 
 /// Where a ledger stands.
-pub(crate) fn read_state(ledger: &Value) -> Result<LedgerState, PictureFault>
+fn read_state(ledger: &Value) -> Result<LedgerState, PictureFault>
     ensures fault { result_err result ≡ state_fault (view ledger.now) }
     ensures state { IfOk result (λ state. state ≡ state_in (view ledger.now)) }
     ensures end { IfOk result (λ state. ForSome (end_of_state state) (λ end. end ≤ ENTRY_END)) }
@@ -151,7 +180,7 @@ fn read_end(ledger: &Value) -> Result<u32, PictureFault>
 }
 
 /// The sizes of a ledger.
-pub(crate) fn read_sizes(ledger: &Value) -> Result<Sizes, PictureFault>
+fn read_sizes(ledger: &Value) -> Result<Sizes, PictureFault>
     ensures fault { result_err result ≡ sizes_fault (view ledger.now) }
     ensures ensemble { IfOk result
         (λ sizes. sizes.ensemble ≡ number_of (view ledger.now) Field.EnsembleSize) }
@@ -181,25 +210,70 @@ fn ledger_fault_of(ledger: LedgerId, fault: MetaFault) -> PictureFault
     PictureFault::BadLedger(ledger, flaw)
 }
 
-/// The metadata of a ledger.
-#[tactic(auto, unfolding(crate::specs::Ledgers::metadata_fault))]
-pub(crate) fn read_metadata(
-    alloc: Global,
-    names: &Names,
-    id: LedgerId,
-    ledger: &Value,
-) -> Result<LedgerMeta, PictureFault>
-    ensures fault { FailsWith result (metadata_fault names.now id (view ledger.now)) }
-    ensures metadata { IfOk result (λ m. m ≡ pictured_metadata names.now (view ledger.now)) }
+/// What stands in a ledger's metadata before its fragments, and the values of these.
+struct MetadataFields<'a> {
+    state: LedgerState,
+    sizes: Sizes,
+    version: u64,
+    fragments: &'a [Value],
+}
+
+/// The fields of a ledger's metadata.
+fn metadata_fields(ledger: &Value) -> Result<MetadataFields<'_>, PictureFault>
+    ensures fault { result_err result ≡ before_fragments (view ledger.now) }
+    ensures state { IfOk result (λ m. m.state ≡ state_in (view ledger.now)) }
+    ensures end { IfOk result
+        (λ m. ForSome (end_of_state m.state) (λ end. end ≤ ENTRY_END)) }
+    ensures ensemble { IfOk result
+        (λ m. m.sizes.ensemble ≡ number_of (view ledger.now) Field.EnsembleSize) }
+    ensures write_quorum { IfOk result
+        (λ m. m.sizes.write_quorum ≡ number_of (view ledger.now) Field.WriteQuorumSize) }
+    ensures ack_quorum { IfOk result
+        (λ m. m.sizes.ack_quorum ≡ number_of (view ledger.now) Field.AckQuorumSize) }
+    ensures version { IfOk result
+        (λ m. number_of (view ledger.now) Field.Version ≡ m.version) }
+    ensures few { IfOk result (λ m. m.version ≤ MAX_VERSION) }
+    ensures fragments { IfOk result
+        (λ m. list_of (view ledger.now) Field.Fragments ≡ map view m.fragments.now) }
+    ensures within { IfOk result (λ m. length m.fragments.now ≤ MAX_FRAGMENTS) }
 {
     let state = read_state(ledger)?;
     let sizes = read_sizes(ledger)?;
     let version = number_within(ledger, Field::Version, 0, MAX_VERSION)?;
     let fragments = list_within(ledger, Field::Fragments, 0, MAX_FRAGMENTS)?;
-    let fragments = read_fragments(alloc, names, fragments)?;
-    LedgerMeta::try_new(alloc, sizes, state, version, &fragments).map_err(|fault| ledger_fault_of(
-        id, fault,
-    ))
+    Ok(MetadataFields {
+        state,
+        sizes,
+        version,
+        fragments,
+    })
+}
+
+/// The metadata of the ledger of this number.
+#[tactic(auto, unfolding(crate::specs::Ledgers::metadata_fault))]
+fn read_metadata(
+    alloc: Global,
+    names: &Names,
+    number: usize,
+    id: LedgerId,
+    ledger: &Value,
+) -> Result<LedgerMeta, LocatedFault>
+    requires { number_of (view ledger.now) Field.Id ≡ id }
+    ensures fault { FailsAt result (metadata_fault names.now number (view ledger.now)) }
+    ensures metadata { IfOk result (λ m. m ≡ pictured_metadata names.now (view ledger.now)) }
+{
+    let here = Place::Ledger(number);
+    let MetadataFields {
+        state,
+        sizes,
+        version,
+        fragments,
+    } = metadata_fields(ledger).map_err(|fault| LocatedFault::new(fault, here))?;
+    let fragments = read_fragments(alloc, names, number, fragments)?;
+    match LedgerMeta::try_new(alloc, sizes, state, version, &fragments) {
+        Ok(metadata) => Ok(metadata),
+        Err(fault) => Err(LocatedFault::new(ledger_fault_of(id, fault), here)),
+    }
 }
 
 /// A ledger by the fields of its own, which don't say how many words it has.
@@ -268,45 +342,60 @@ pub(crate) fn read_ledgers(
     alloc: Global,
     names: &Names,
     picture: &Value,
-) -> Result<Ledgers, PictureFault>
-    ensures fault { FailsWith result (ledgers_fault names.now (view picture.now)) }
+) -> Result<Ledgers, LocatedFault>
+    ensures fault { FailsAt result (ledgers_fault names.now (view picture.now)) }
     ensures ids { IfOk result
         (λ ledgers. ledgers.ids.keys ≡ ids_in (list_of (view picture.now) Field.Ledgers)) }
     ensures listed { IfOk result (λ ledgers.
         ledgers.listed.items
         ≡ map (listed_in names.now) (list_of (view picture.now) Field.Ledgers)) }
 {
-    let ledgers = list_within(picture, Field::Ledgers, 0, MAX_LEDGERS)?;
+    let ledgers = list_within(picture, Field::Ledgers, 0, MAX_LEDGERS).map_err(
+        |fault| LocatedFault::new(fault, Place::Picture),
+    )?;
     read_each_ledger(alloc, names, ledgers)
 }
 
 /// Ledgers, one after another.
 #[tactic(auto, unfolding(crate::specs::Ledgers::each_ledger_fault))]
-fn read_each_ledger(alloc: Global, names: &Names, values: &[Value]) -> Result<Ledgers, PictureFault>
-    ensures fault { FailsWith result (each_ledger_fault names.now (map view values.now)) }
+fn read_each_ledger(alloc: Global, names: &Names, values: &[Value]) -> Result<Ledgers, LocatedFault>
+    ensures fault { FailsAt result (each_ledger_fault names.now (map view values.now)) }
     ensures ids { IfOk result (λ ledgers. ledgers.ids.keys ≡ ids_in (map view values.now)) }
     ensures listed { IfOk result
         (λ ledgers. ledgers.listed.items ≡ map (listed_in names.now) (map view values.now)) }
 {
     let mut ids = IndexSet::new(alloc);
     let mut listed = Vec::new(alloc);
-    for value in values {
-        listed.push(read_ledger(alloc, names, &mut ids, value)?)?;
+    for (i, value) in values.iter().enumerate() {
+        listed.push(read_ledger(alloc, names, &mut ids, i, value)?)?;
     }
     Ok(Ledgers { ids, listed })
 }
 
-/// One more ledger's metadata; its id joins the ids. After an `Err` they may have it.
+/// The metadata of the ledger of this number; its id joins the ids. After an `Err` they may have it.
 fn read_ledger(
     alloc: Global,
     names: &Names,
     ids: &mut IndexSet<u64>,
+    number: usize,
     ledger: &Value,
-) -> Result<ListedLedger, PictureFault>
-    ensures fault { FailsWith result (ledger_fault names.now ids.old.keys (view ledger.now)) }
+) -> Result<ListedLedger, LocatedFault>
+    ensures fault { FailsAt result (ledger_fault names.now number ids.old.keys (view ledger.now)) }
     ensures ids { OnOk result
         (ids.new.keys ≡ ids.old.keys ++ number_of (view ledger.now) Field.Id ∷ []) }
     ensures ledger { IfOk result (λ g. g ≡ listed_in names.now (view ledger.now)) }
+{
+    let id = read_id(ids, ledger).map_err(|fault| LocatedFault::new(fault, Place::Ledger(number)))?;
+    let metadata = read_metadata(alloc, names, number, id, ledger)?;
+    Ok(ListedLedger { id, metadata })
+}
+
+/// A ledger's id, which joins the ids. After an `Err` they may have it.
+fn read_id(ids: &mut IndexSet<u64>, ledger: &Value) -> Result<LedgerId, PictureFault>
+    ensures fault { FailsWith result (id_fault ids.old.keys (view ledger.now)) }
+    ensures ids { OnOk result
+        (ids.new.keys ≡ ids.old.keys ++ number_of (view ledger.now) Field.Id ∷ []) }
+    ensures id { IfOk result (λ id. number_of (view ledger.now) Field.Id ≡ id) }
 {
     if !ledger.is_object() {
         return Err(PictureFault::WrongKind(Field::Ledger));
@@ -315,7 +404,5 @@ fn read_ledger(
     if !ids.insert(id)? {
         return Err(PictureFault::Twice(Repeated::Ledger(LedgerId(id))));
     }
-    let id = LedgerId(id);
-    let metadata = read_metadata(alloc, names, id, ledger)?;
-    Ok(ListedLedger { id, metadata })
+    Ok(LedgerId(id))
 }

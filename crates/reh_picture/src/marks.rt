@@ -3,17 +3,16 @@ ghost use Rattle.std.specs.Prelude.{◌≡◌, ◌++◌, ◌∷◌, [], IfOk, On
 ghost use Rattle.std.specs.Option.{option_map};
 ghost use Rattle.std.specs.Result.{result_err};
 ghost use Rattle.serde_json.specs.View.{view};
-ghost use Rattle.reh_picture.specs.Bookies.{is_name as is_rack_name};
-ghost use Rattle.reh_picture.specs.Faults.{FailsWith};
+ghost use Rattle.reh_fields.specs.Names.{is_name as is_rack_name};
+ghost use Rattle.reh_fields.specs.Faults.{FailsWith};
 ghost use Rattle.reh_picture.specs.Marks as model;
-ghost use Rattle.reh_picture.specs.Members.{flag_if_there as flag_if_there_in, list_in, list_of};
+ghost use Rattle.reh_fields.specs.Members.{flag_if_there as flag_if_there_in, list_in, list_of};
 ghost use Rattle.reh_picture.specs.Places.{FailsAt, fault_at};
 
-use crate::bookies::is_name;
-use crate::faults::PictureFault;
-use crate::fields::Field;
-use crate::members::{flag_if_there, list};
 use crate::places::{LocatedFault, Place};
+use reh_fields::members::{flag_if_there, list};
+use reh_fields::names::is_name;
+use reh_fields::{Field, PictureFault};
 use serde_json::Value;
 use std::alloc::Global;
 use std::marker::Model;
@@ -125,14 +124,14 @@ fn add_bookie_at(
 {
     match add_bookie(alloc, marks, bookie) {
         Ok(()) => Ok(()),
-        Err(fault) => Err(fault.at(Place::Bookie(number))),
+        Err(fault) => Err(LocatedFault::new(fault, Place::Bookie(number))),
     }
 }
 
 /// The marks of bookies.
-#[tactic(auto, unfolding(crate::specs::Marks::located_bookie_marks))]
+#[tactic(auto, unfolding(crate::specs::Marks::each_marks_fault))]
 fn read_each_bookie(alloc: Global, bookies: &[Value]) -> Result<Vec<BookieMarks>, LocatedFault>
-    ensures fault { FailsAt result (model.located_bookie_marks (map view bookies.now)) }
+    ensures fault { FailsAt result (model.each_marks_fault (map view bookies.now)) }
     ensures marks { IfOk result
         (λ marks. marks.items ≡ map model.bookie_marks (map view bookies.now)) }
 {
@@ -150,14 +149,14 @@ fn check_content_at(number: usize, content: &Value) -> Result<(), LocatedFault>
 {
     match flag_if_there(content, Field::Assumed) {
         Ok(_) => Ok(()),
-        Err(fault) => Err(fault.at(Place::Content(number))),
+        Err(fault) => Err(LocatedFault::new(fault, Place::Content(number))),
     }
 }
 
 /// The first fault of the marks of contents.
-#[tactic(auto, unfolding(crate::specs::Marks::located_assumed))]
+#[tactic(auto, unfolding(crate::specs::Marks::each_assumed_fault))]
 fn check_each_content(contents: &[Value]) -> Result<(), LocatedFault>
-    ensures { FailsAt result (model.located_assumed (map view contents.now)) }
+    ensures { FailsAt result (model.each_assumed_fault (map view contents.now)) }
 {
     for (i, content) in contents.iter().enumerate() {
         check_content_at(i, content)?;
@@ -173,13 +172,13 @@ fn list_at(picture: &Value, field: Field) -> Result<&[Value], LocatedFault>
 {
     match list(picture, field) {
         Ok(list) => Ok(list),
-        Err(fault) => Err(fault.at(Place::Picture)),
+        Err(fault) => Err(LocatedFault::new(fault, Place::Picture)),
     }
 }
 
 /// The marks of a picture's bookies, once those of its contents have no fault either.
 pub(crate) fn read_marks(alloc: Global, picture: &Value) -> Result<Vec<BookieMarks>, LocatedFault>
-    ensures fault { FailsAt result (model.located_marks (view picture.now)) }
+    ensures fault { FailsAt result (model.marks_fault (view picture.now)) }
     ensures marks { IfOk result (λ marks. marks.items
         ≡ map model.bookie_marks (list_of (view picture.now) Field.Bookies)) }
 {

@@ -1,23 +1,23 @@
 // A picture as a whole.
-ghost use Rattle.std.specs.Prelude.{◌≡◌, ◌≢◌, ◌*◌, ◌≤◌, All, length, sum_by, Ok, Err, Some, None, MatchResult, IfOk};
-ghost use Rattle.std.specs.Prelude.{IfErr};
+ghost use Rattle.std.specs.Prelude.{◌≡◌, ◌≢◌, ◌*◌, ◌≤◌, All, length, sum_by, Ok, Err, MatchResult, IfOk, IfErr};
 ghost use Rattle.std.specs.Result.{result_err};
 ghost use Rattle.serde_json.specs.View.{view};
 ghost use Rattle.reh_types.specs.declared.limits.TheConstants.{ENTRIES_IN_WORD, ENTRY_END, MAX_BOOKIES};
 ghost use Rattle.reh_types.specs.declared.limits.TheConstants.{MAX_LEDGERS};
-ghost use Rattle.reh_picture.specs.Members.{number_of};
-ghost use Rattle.reh_picture.specs.Faults.{FailsWith};
-ghost use Rattle.reh_picture.specs.Pictures.{picture_of, head_fault, parts_fault, fields_fault, pictured_cluster};
-ghost use Rattle.reh_picture.specs.Pictures.{IsListed, IsShown, delay_fault, delay_of, ids_of, json_of};
+ghost use Rattle.reh_fields.specs.Members.{number_of};
+ghost use Rattle.reh_picture.specs.Places.{FailsAt};
+ghost use Rattle.reh_picture.specs.Pictures.{picture_of, located_picture_of, json_in, head_fault, parts_fault};
+ghost use Rattle.reh_picture.specs.Pictures.{fields_fault, pictured_cluster, IsListed, IsShown, delay_fault, delay_of};
+ghost use Rattle.reh_picture.specs.Pictures.{ids_of};
 
 use crate::bookies::read_bookies;
 use crate::contents::{Holding, greatest_ends, hold, read_contents};
-use crate::faults::PictureFault;
-use crate::fields::Field;
 use crate::ledgers::{Ledgers, ListedLedger, read_ledgers, with_words};
-use crate::members::number_within;
+use crate::places::{LocatedFault, Place};
 use indexmap::IndexSet;
 use reh_cluster::{Ledger, Names, State};
+use reh_fields::members::number_within;
+use reh_fields::{Field, PictureFault};
 use reh_types::{MAX_DELAY, MAX_GRACE, MAX_PICTURE_BYTES, MAX_WORDS};
 use serde_json::Value;
 use std::alloc::Global;
@@ -35,25 +35,40 @@ pub fn read_picture(alloc: Global, bytes: &[u8]) -> Result<State, PictureFault>
     ensures { MatchResult result (λ state. picture_of bytes.now ≡ Ok state)
         (λ fault. fault ≢ PictureFault.NoMemory → picture_of bytes.now ≡ Err fault) }
 {
-    if bytes.len() > MAX_PICTURE_BYTES {
-        return Err(PictureFault::TooLong);
+    match check_picture(alloc, bytes) {
+        Ok(state) => Ok(state),
+        Err(located) => Err(located.fault),
     }
-    let picture = parse_json(alloc, bytes)?;
-    read_cluster(alloc, &picture)
 }
 
-/// The JSON value of a text.
-fn parse_json(alloc: Global, bytes: &[u8]) -> Result<Value, PictureFault>
-    ensures ok { IfOk result (λ v. json_of bytes.now ≡ Some (view v)) }
-    ensures err { IfErr result (λ fault. fault ≢ PictureFault.NoMemory
-        → (fault ≡ PictureFault.NotJson) × (json_of bytes.now ≡ None)) }
+/// The state that a picture shows, or the picture's first fault with its place.
+///
+/// `NoMemory` comes only where a growth was refused, and may then stand in place of any other answer.
+pub fn check_picture(alloc: Global, bytes: &[u8]) -> Result<State, LocatedFault>
+    ensures { MatchResult result (λ state. located_picture_of bytes.now ≡ Ok state)
+        (λ located. located.fault ≢ PictureFault.NoMemory
+        → located_picture_of bytes.now ≡ Err (located.fault, located.place)) }
 {
+    let picture = read_json(alloc, bytes)?;
+    let state = read_cluster(alloc, &picture)?;
+    Ok(state)
+}
+
+/// The JSON value of a picture's bytes.
+pub(crate) fn read_json(alloc: Global, bytes: &[u8]) -> Result<Value, LocatedFault>
+    ensures ok { IfOk result (λ v. json_in bytes.now ≡ Ok (view v)) }
+    ensures err { IfErr result (λ located. located.fault ≢ PictureFault.NoMemory
+        → json_in bytes.now ≡ Err (located.fault, located.place)) }
+{
+    if bytes.len() > MAX_PICTURE_BYTES {
+        return Err(LocatedFault::new(PictureFault::TooLong, Place::Picture));
+    }
     Ok(Value::from_slice(alloc, bytes)?)
 }
 
 /// The state that a picture's fields name.
-pub(crate) fn read_cluster(alloc: Global, picture: &Value) -> Result<State, PictureFault>
-    ensures fault { FailsWith result (fields_fault (view picture.now)) }
+fn read_cluster(alloc: Global, picture: &Value) -> Result<State, LocatedFault>
+    ensures fault { FailsAt result (fields_fault (view picture.now)) }
     ensures state { IfOk result (λ state. state ≡ pictured_cluster (view picture.now)) }
 {
     let Listing {
@@ -85,8 +100,8 @@ pub struct Listing {
 }
 
 /// What a picture's fields list.
-pub(crate) fn read_listing(alloc: Global, picture: &Value) -> Result<Listing, PictureFault>
-    ensures fault { FailsWith result (fields_fault (view picture.now)) }
+pub(crate) fn read_listing(alloc: Global, picture: &Value) -> Result<Listing, LocatedFault>
+    ensures fault { FailsAt result (fields_fault (view picture.now)) }
     ensures listed { IfOk result (λ l. IsListed (view picture.now)
         l.names l.lost_at.items l.ticks.grace l.ticks.delay l.ledgers.items l.holdings.items) }
     ensures ids { IfOk result (λ l. l.ids.keys ≡ ids_of (view picture.now)) }
@@ -102,7 +117,7 @@ pub(crate) fn read_listing(alloc: Global, picture: &Value) -> Result<Listing, Pi
     let greatest = greatest_ends(alloc, &holdings)?;
     let ledgers = with_words(alloc, listed, &greatest)?;
     if words_in_all(names.len(), &ledgers) > MAX_WORDS {
-        return Err(PictureFault::Limit(Field::Contents));
+        return Err(LocatedFault::new(PictureFault::Limit(Field::Contents), Place::Picture));
     }
     Ok(Listing {
         names,
@@ -148,7 +163,7 @@ pub(crate) struct Ticks {
 
 /// The grace and the delay of a picture, in ticks.
 #[tactic(auto, unfolding(crate::specs::Pictures::head_fault))]
-pub(crate) fn read_ticks(picture: &Value) -> Result<Ticks, PictureFault>
+fn read_ticks(picture: &Value) -> Result<Ticks, PictureFault>
     ensures fault { result_err result ≡ head_fault (view picture.now) }
     ensures grace { IfOk result
         (λ ticks. ticks.grace ≡ number_of (view picture.now) Field.Grace) }
@@ -177,13 +192,13 @@ fn read_delay(picture: &Value, format: u64) -> Result<u64, PictureFault>
 }
 
 /// The parts that a picture's fields name.
-fn read_parts(alloc: Global, picture: &Value) -> Result<Parts, PictureFault>
-    ensures fault { FailsWith result (parts_fault (view picture.now)) }
+fn read_parts(alloc: Global, picture: &Value) -> Result<Parts, LocatedFault>
+    ensures fault { FailsAt result (parts_fault (view picture.now)) }
     ensures shown { IfOk result (λ p. IsShown (view picture.now)
         p.names p.lost_at.items p.ticks.grace p.ticks.delay p.listed.items p.holdings.items) }
     ensures ids { IfOk result (λ p. p.ids.keys ≡ ids_of (view picture.now)) }
 {
-    let ticks = read_ticks(picture)?;
+    let ticks = read_ticks(picture).map_err(|fault| LocatedFault::new(fault, Place::Picture))?;
     let (names, lost_at) = read_bookies(alloc, picture)?;
     let Ledgers { ids, listed } = read_ledgers(alloc, &names, picture)?;
     let holdings = read_contents(alloc, &names, &ids, picture)?;

@@ -1,13 +1,13 @@
 // Where a refused picture's first fault is, and what was expected there.
 ghost use Rattle.std.specs.Prelude.{◌≡◌};
-ghost use Rattle.reh_picture.specs.Expected.{element_field, faulty_field, wanted_text, expected_text};
+ghost use Rattle.reh_picture.specs.Expected.{element_field, faulty_field, wanted_text, expected_text, rule_text};
 
-use crate::faults::{LedgerFlaw, PictureFault, Repeated};
-use crate::fields::Field;
+use reh_fields::{Field, LedgerFlaw, PictureFault, Repeated};
 use reh_types::{
     MAX_BOOKIES, MAX_DELAY, MAX_ENSEMBLE_SIZE, MAX_ENTRY_ID, MAX_FRAGMENTS, MAX_GRACE,
     MAX_LEDGER_ID, MAX_LEDGERS, MAX_NAME_BYTES, MAX_PICTURE_BYTES, MAX_VERSION, MAX_WORDS,
 };
+use std::alloc::{AllocError, AllocFailed};
 use std::error::Error;
 use std::fmt;
 
@@ -139,88 +139,81 @@ pub struct LocatedFault {
     pub text: Option<TextPlace>,
 }
 
-impl PictureFault {
+impl LocatedFault {
     ghost use Rattle.std.specs.Prelude.{None};
 
-    /// The fault with its place.
-    pub(crate) fn at(self, place: Place) -> LocatedFault
-        ensures { result ≡ record { fault = self; place = place; text = None } }
+    /// A fault with its place.
+    pub(crate) fn new(fault: PictureFault, place: Place) -> LocatedFault
+        ensures { result ≡ record { fault = fault; place = place; text = None } }
     {
         LocatedFault {
-            fault: self,
+            fault,
             place,
             text: None,
         }
     }
+}
 
-    /// The field that was judged, at this place.
-    fn field(&self, place: Place) -> Field
-        ensures { result ≡ faulty_field self.now place }
-    {
-        match self {
-            PictureFault::Missing(field)
-            | PictureFault::WrongKind(field)
-            | PictureFault::Limit(field) => *field,
-            PictureFault::BadName | PictureFault::Twice(Repeated::Bookie(_)) => Field::Name,
-            PictureFault::Twice(Repeated::Ledger(_)) => Field::Id,
-            PictureFault::UnknownBookie(_) => match place {
-                Place::Member { .. } => Field::Ensemble,
-                _ => Field::Bookie,
-            },
-            PictureFault::BadLedger(_, LedgerFlaw::Quorum | LedgerFlaw::Unknown) => Field::Ledger,
-            PictureFault::BadLedger(_, LedgerFlaw::Fragment | LedgerFlaw::Ensemble) => {
-                Field::Fragments
-            }
-            PictureFault::BadLedger(_, LedgerFlaw::Last) => Field::LastEntryId,
-            PictureFault::Twice(Repeated::Content(_, _))
-            | PictureFault::TooLong
-            | PictureFault::NotJson
-            | PictureFault::NoMemory => place.element(),
-        }
-    }
-
-    /// What was expected in its stead, at this place.
-    fn expected(&self, place: Place) -> &'static str
-        ensures { result.now ≡ expected_text self.now place }
-    {
-        match self {
-            PictureFault::TooLong => "at most 8388608 bytes",
-            PictureFault::NotJson => "JSON",
-            PictureFault::Limit(Field::Contents) => {
-                "entries that take at most 4194304 words of 64, counted for every bookie up to a ledger's \
-                 greatest entry"
-            }
-            PictureFault::Missing(field)
-            | PictureFault::WrongKind(field)
-            | PictureFault::Limit(field) => wanted(*field, place),
-            PictureFault::BadName => wanted(Field::Name, place),
-            PictureFault::Twice(Repeated::Bookie(_)) => "a name that no bookie before it has",
-            PictureFault::Twice(Repeated::Ledger(_)) => "an id that no ledger before it has",
-            PictureFault::Twice(Repeated::Content(_, _)) => {
-                "another bookie or another ledger than in each content before it"
-            }
-            PictureFault::UnknownBookie(_) => "the name of a bookie of the picture",
-            PictureFault::BadLedger(_, flaw) => flaw.expected(),
-            PictureFault::NoMemory => "more memory",
-        }
+/// The field that was judged, where a fault is at this place.
+fn judged_field(fault: &PictureFault, place: Place) -> Field
+    ensures { result ≡ faulty_field fault.now place }
+{
+    match fault {
+        PictureFault::Missing(field)
+        | PictureFault::WrongKind(field)
+        | PictureFault::Limit(field) => *field,
+        PictureFault::BadName | PictureFault::Twice(Repeated::Bookie(_)) => Field::Name,
+        PictureFault::Twice(Repeated::Ledger(_)) => Field::Id,
+        PictureFault::UnknownBookie(_) => match place {
+            Place::Member { .. } => Field::Ensemble,
+            _ => Field::Bookie,
+        },
+        PictureFault::BadLedger(_, LedgerFlaw::Quorum | LedgerFlaw::Unknown) => Field::Ledger,
+        PictureFault::BadLedger(_, LedgerFlaw::Fragment | LedgerFlaw::Ensemble) => Field::Fragments,
+        PictureFault::BadLedger(_, LedgerFlaw::Last) => Field::LastEntryId,
+        PictureFault::Twice(Repeated::Content(_, _))
+        | PictureFault::TooLong
+        | PictureFault::NotJson
+        | PictureFault::NoMemory => place.element(),
     }
 }
 
-impl LedgerFlaw {
-    ghost use Rattle.reh_picture.specs.Expected.{rule_text};
-
-    /// The rule that the ledger breaks.
-    fn expected(self) -> &'static str
-        ensures { result.now ≡ rule_text self }
-    {
-        match self {
-            LedgerFlaw::Quorum => "1 <= ackQuorumSize <= writeQuorumSize <= ensembleSize <= 16",
-            LedgerFlaw::Fragment => "firstEntry 0 in the first, and a greater one in each after it",
-            LedgerFlaw::Ensemble =>
-                "as many different bookies in each ensemble as ensembleSize says",
-            LedgerFlaw::Last => "at least the firstEntry of the last fragment minus 1",
-            LedgerFlaw::Unknown => "the id of a ledger of the picture",
+/// What was expected in the stead of what a fault at this place judged.
+fn expected(fault: &PictureFault, place: Place) -> &'static str
+    ensures { result.now ≡ expected_text fault.now place }
+{
+    match fault {
+        PictureFault::TooLong => "at most 8388608 bytes",
+        PictureFault::NotJson => "JSON",
+        PictureFault::Limit(Field::Contents) => {
+            "entries that take at most 4194304 words of 64, counted for every bookie up to a ledger's \
+             greatest entry"
         }
+        PictureFault::Missing(field)
+        | PictureFault::WrongKind(field)
+        | PictureFault::Limit(field) => wanted(*field, place),
+        PictureFault::BadName => wanted(Field::Name, place),
+        PictureFault::Twice(Repeated::Bookie(_)) => "a name that no bookie before it has",
+        PictureFault::Twice(Repeated::Ledger(_)) => "an id that no ledger before it has",
+        PictureFault::Twice(Repeated::Content(_, _)) => {
+            "another bookie or another ledger than in each content before it"
+        }
+        PictureFault::UnknownBookie(_) => "the name of a bookie of the picture",
+        PictureFault::BadLedger(_, flaw) => rule(*flaw),
+        PictureFault::NoMemory => "more memory",
+    }
+}
+
+/// The rule that a ledger with this flaw breaks.
+fn rule(flaw: LedgerFlaw) -> &'static str
+    ensures { result.now ≡ rule_text flaw }
+{
+    match flaw {
+        LedgerFlaw::Quorum => "1 <= ackQuorumSize <= writeQuorumSize <= ensembleSize <= 16",
+        LedgerFlaw::Fragment => "firstEntry 0 in the first, and a greater one in each after it",
+        LedgerFlaw::Ensemble => "as many different bookies in each ensemble as ensembleSize says",
+        LedgerFlaw::Last => "at least the firstEntry of the last fragment minus 1",
+        LedgerFlaw::Unknown => "the id of a ledger of the picture",
     }
 }
 
@@ -300,13 +293,13 @@ impl fmt::Display for LocatedFault {
 
     fn fmt<W: fmt::Write>(&self, f: &mut fmt::Formatter<W>) -> fmt::Result {
         let LocatedFault { fault, place, text } = self;
-        let expected = fault.expected(*place);
+        let expected = expected(fault, *place);
         match text {
             Some(text) => write!(f, "{fault}\nat {text}: expected {expected}"),
             None => {
                 let path = Path {
                     place: *place,
-                    field: fault.field(*place),
+                    field: judged_field(fault, *place),
                 };
                 write!(f, "{fault}\nat {path}: expected {expected}")
             }
@@ -316,11 +309,33 @@ impl fmt::Display for LocatedFault {
 
 impl Error for LocatedFault {}
 
+impl From<AllocError> for LocatedFault {
+    ghost use Rattle.std.specs.Prelude.{◌≡◌};
+    ghost use Rattle.reh_fields.specs.declared.faults.PictureFault.TheVariants.{NoMemory};
+
+    ghost from_gives = { λ _ located. located.fault ≡ NoMemory };
+
+    fn from(want: AllocError) -> LocatedFault {
+        LocatedFault::new(PictureFault::from(want), Place::Picture)
+    }
+}
+
+impl<T: Drop> From<AllocFailed<T>> for LocatedFault {
+    ghost use Rattle.std.specs.Prelude.{◌≡◌};
+    ghost use Rattle.reh_fields.specs.declared.faults.PictureFault.TheVariants.{NoMemory};
+
+    ghost from_gives = { λ _ located. located.fault ≡ NoMemory };
+
+    fn from(want: AllocFailed<T>) -> LocatedFault {
+        LocatedFault::from(AllocError::from(want))
+    }
+}
+
 /// A text that isn't JSON, or want of memory to read it.
 impl From<serde_json::Error> for LocatedFault {
     ghost use Rattle.std.specs.Prelude.{◌≡◌};
     ghost use Rattle.serde_json.specs.Errors.{IsMemory};
-    ghost use Rattle.reh_picture.specs.declared.faults.PictureFault.TheVariants.{NoMemory, NotJson};
+    ghost use Rattle.reh_fields.specs.declared.faults.PictureFault.TheVariants.{NoMemory, NotJson};
     ghost use Rattle.reh_picture.specs.declared.places.Place.TheVariants as place;
 
     ghost from_gives = { λ error located. (IsMemory error → located.fault ≡ NoMemory)

@@ -10,7 +10,7 @@ use Rattle.reh_model.specs.Session.{opened_session}
 use Rattle.reh_model.specs.Book.{Book, new_book}
 use Rattle.reh_desk.specs.Kept.{Kept}
 use Rattle.reh_desk.specs.Seats.{SeatView}
-use Rattle.reh_picture.specs.declared.faults.PictureFault.{PictureFault}
+use Rattle.reh_fields.specs.declared.faults.PictureFault.{PictureFault}
 use Rattle.reh_picture.specs.Pictures.{picture_of}
 use Rattle.reh_script.specs.BookPlays.{Transcribes, at_book}
 use Rattle.reh_script.specs.Lines.{lines_of, ended, cut_of, answered_lines}

@@ -7,9 +7,10 @@ use Rattle.std.proofs.lemmas.Bool.{cases_lt}
 use Rattle.std.proofs.lemmas.Bool.Decides.{nat_tests}
 use Rattle.reh_types.specs.declared.limits.TheConstants.{MAX_PICTURE_BYTES}
 use Rattle.reh_model.specs.Cluster.{Cluster}
-use Rattle.reh_picture.specs.declared.faults.PictureFault.{PictureFault}
-use Rattle.reh_picture.specs.declared.faults.PictureFault.TheVariants as picture_fault
-use Rattle.reh_picture.specs.Pictures.{picture_of, shown_by, json_of}
+use Rattle.reh_fields.specs.declared.faults.PictureFault.{PictureFault}
+use Rattle.reh_fields.specs.declared.faults.PictureFault.TheVariants as picture_fault
+use Rattle.reh_picture.specs.Pictures.{picture_of}
+use Rattle.reh_picture.proofs.PicturesLemmas.{picture_of-long}
 use Rattle.reh_script.specs.Faults.{pipe_fault_of}
 use Rattle.reh_script.specs.Openings.{Opens, IsOpened, OpensText}
 use Rattle.reh_script.specs.Readings.{ReadsEnough, Reads}
@@ -48,13 +49,6 @@ pub opens_state : (read : Result Cluster PictureFault) (state : Cluster) (o : Op
     → IsOpened state o → Opens read (Ok o)
 opens_state read state o is opened =
     subst (λ (r : Result Cluster PictureFault). Opens r (Ok o)) (sym is) opened
-
--- a picture that is too long
-pub picture_of-long : (bytes : List ℕ) → MAX_PICTURE_BYTES < length bytes
-    → picture_of bytes ≡ Err picture_fault.TooLong
-picture_of-long bytes long =
-    let past : nat_lt MAX_PICTURE_BYTES (length bytes) ≡ true = grind (arith, nat_tests) in
-    ap (λ (t : Bool). cond t (Err picture_fault.TooLong) (shown_by (json_of bytes))) past
 
 -- a picture that was read far enough is judged as all of it
 picture-enough : (enough : ℕ) (picture all : List ℕ) → ReadsEnough enough picture all → MAX_PICTURE_BYTES < enough

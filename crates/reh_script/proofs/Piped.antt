@@ -12,8 +12,8 @@ use Rattle.reh_types.specs.declared.limits.TheConstants.{MAX_PICTURE_BYTES}
 use Rattle.reh_model.specs.Book.{new_book}
 use Rattle.reh_model.specs.Cluster.{Cluster}
 use Rattle.reh_model.specs.Session.{opened_session}
-use Rattle.reh_picture.specs.declared.faults.PictureFault.{PictureFault}
-use Rattle.reh_picture.specs.declared.faults.PictureFault.TheVariants as picture_fault
+use Rattle.reh_fields.specs.declared.faults.PictureFault.{PictureFault}
+use Rattle.reh_fields.specs.declared.faults.PictureFault.TheVariants as picture_fault
 use Rattle.reh_picture.specs.Pictures.{picture_of}
 use Rattle.reh_script.specs.Heads.{IsHead, IsUntold, IsUntoldUntil, ReadsHead}
 use Rattle.reh_script.specs.Lines.{Cut, cut_of, ended, is_told, lines_of}

@@ -1,7 +1,7 @@
 -- What is printed for a line that asks for nothing, and a picture's fault as a pipe's.
 use Rattle.std.specs.Prelude.{ℕ, List, codes}
-use Rattle.reh_picture.specs.declared.faults.PictureFault.{PictureFault}
-use Rattle.reh_picture.specs.declared.faults.PictureFault.TheVariants as picture_fault
+use Rattle.reh_fields.specs.declared.faults.PictureFault.{PictureFault}
+use Rattle.reh_fields.specs.declared.faults.PictureFault.TheVariants as picture_fault
 use Rattle.reh_script.specs.declared.commands.LineFault.{LineFault}
 use Rattle.reh_script.specs.declared.commands.LineFault.TheVariants.{TooLong, UnknownCommand, BadWords, UnknownName}
 use Rattle.reh_script.specs.declared.faults.PipeFault.{PipeFault}

@@ -4,7 +4,7 @@ use Rattle.reh_model.specs.Cluster.{Cluster}
 use Rattle.reh_model.specs.Session.{opened_session}
 use Rattle.reh_desk.specs.Kept.{opened}
 use Rattle.reh_desk.specs.Seats.{new_seat}
-use Rattle.reh_picture.specs.declared.faults.PictureFault.{PictureFault}
+use Rattle.reh_fields.specs.declared.faults.PictureFault.{PictureFault}
 use Rattle.reh_picture.specs.Pictures.{picture_of}
 use Rattle.reh_script.specs.Readings.{Gives}
 use Rattle.reh_script.specs.declared.faults.PlayFault.TheVariants.{ReadFault, NoMemory}

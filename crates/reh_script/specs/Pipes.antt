@@ -4,7 +4,7 @@ use Rattle.std.specs.Io.KnownBytes.{Consumes, Keeps}
 use Rattle.reh_model.specs.Cluster.{Cluster}
 use Rattle.reh_model.specs.Session.{opened_session}
 use Rattle.reh_model.specs.Book.{Book, new_book}
-use Rattle.reh_picture.specs.declared.faults.PictureFault.{PictureFault}
+use Rattle.reh_fields.specs.declared.faults.PictureFault.{PictureFault}
 use Rattle.reh_picture.specs.Pictures.{picture_of}
 use Rattle.reh_script.specs.Lines.{cut_of, is_told, answered_lines, lines_of, ended}
 use Rattle.reh_script.specs.Readings.{Gives}

@@ -3,10 +3,10 @@ use Rattle.std.specs.Prelude.{ℕ, List, ◌++◌, Result, Ok, Err, codes, strin
 use Rattle.std.specs.Fmt.{decimal}
 use Rattle.reh_desk.specs.declared.desks.CloseCause.{CloseCause}
 use Rattle.reh_desk.specs.declared.desks.CloseCause.TheVariants.{Seats, StillOut, Mismatch}
-use Rattle.reh_picture.specs.declared.faults.PictureFault.{PictureFault}
-use Rattle.reh_picture.specs.declared.faults.PictureFault.TheVariants as picture_fault
+use Rattle.reh_fields.specs.declared.faults.PictureFault.{PictureFault}
+use Rattle.reh_fields.specs.declared.faults.PictureFault.TheVariants as picture_fault
 use Rattle.reh_picture.specs.declared.places.LocatedFault.{LocatedFault}
-use Rattle.reh_picture.specs.Faults.{fault_text}
+use Rattle.reh_fields.specs.Faults.{fault_text}
 use Rattle.reh_picture.specs.Expected.{located_text}
 use Rattle.reh_drill.specs.declared.faults.DrillFault.{DrillFault}
 use Rattle.reh_drill.specs.declared.faults.DrillFault.TheVariants as drill_fault

@@ -2,5 +2,5 @@
 use Rattle.reh_picture.proofs.BookiesLemmas.{HasRead}
 use Rattle.reh_picture.proofs.bookies.read_each_bookie.Given as goal
 
-abbrev pub invariant-loop-bookie : goal.invariant-loop-bookie
-invariant-loop-bookie l = HasRead l.bookies l.bookie-index l.names l.lost_at.items
+abbrev pub invariant-loop-i : goal.invariant-loop-i
+invariant-loop-i l = HasRead l.bookies l.i l.names l.lost_at.items

@@ -5,9 +5,9 @@ use Rattle.reh_picture.specs.Ledgers.{ledger_fault, listed_in, ids_in}
 use Rattle.reh_picture.proofs.Lists.{HasMade}
 use Rattle.reh_picture.proofs.ledgers.read_each_ledger.Given as goal
 
-abbrev pub invariant-loop-value : goal.invariant-loop-value
-invariant-loop-value l = record {
-  made : HasMade (λ before d. ledger_fault l.names (ids_in before) d) (listed_in l.names) l.values l.value-index
+abbrev pub invariant-loop-i : goal.invariant-loop-i
+invariant-loop-i l = record {
+  made : HasMade (λ i before d. ledger_fault l.names i (ids_in before) d) (listed_in l.names) l.values l.i
       l.listed.items;
-  ids : l.ids.keys ≡ ids_in (map view (take l.value-index l.values));
+  ids : l.ids.keys ≡ ids_in (map view (take l.i l.values));
 }

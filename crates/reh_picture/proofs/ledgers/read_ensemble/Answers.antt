@@ -2,8 +2,8 @@
 use Rattle.reh_picture.proofs.Lists.{HasMade-next}
 use Rattle.reh_picture.proofs.ledgers.read_ensemble.Goals as goal
 
-pub loop-member-preserved : goal.loop-member-preserved
-loop-member-preserved c =
-    HasMade-next _ _ c.args.members.now c.loop-member.member-index c.member-item.result c.loop-member-test.true
-    c.member-item.is c.loop-member.ensemble.items _ c.loop-member.invariant c.in_ok-read_member.ensures.fault
-    (rw (← c.in_ok-read_member.ensures.bookie) c.in_ok-push.ensures.items)
+pub loop-i-preserved : goal.loop-i-preserved
+loop-i-preserved c =
+    HasMade-next _ _ c.args.members.now c.loop-i.i c.index-members-i.result c.loop-i-test.true c.index-members-i.is
+    c.loop-i.ensemble.items _ c.loop-i.invariant c.in_ok-read_member_at.ensures.fault
+    (rw (← c.in_ok-read_member_at.ensures.bookie) c.in_ok-push.ensures.items)

@@ -7,8 +7,8 @@ use Rattle.serde_json.specs.View.{view}
 use Rattle.reh_types.specs.declared.limits.TheConstants.{ENTRIES_IN_WORD, ENTRY_END}
 use Rattle.reh_model.specs.Cluster.{Cluster, Ledger}
 use Rattle.reh_model.specs.WellFormed.{IsWellFormed}
-use Rattle.reh_picture.specs.declared.fields.Field.TheVariants as field
-use Rattle.reh_picture.specs.Members.{list_of}
+use Rattle.reh_fields.specs.declared.fields.Field.TheVariants as field
+use Rattle.reh_fields.specs.Members.{list_of}
 use Rattle.reh_picture.specs.Ledgers.{ledger_in}
 use Rattle.reh_picture.specs.Contents.{Holding, held_in}
 use Rattle.reh_picture.specs.Pictures.{names_of, contents_of}

@@ -7,8 +7,8 @@ use Rattle.std.proofs.lemmas.List.{length-map}
 use Rattle.serde_json.specs.View.{view}
 use Rattle.reh_types.specs.declared.limits.TheConstants.{ENTRIES_IN_WORD, ENTRY_END}
 use Rattle.reh_model.specs.Cluster.{Ledger}
-use Rattle.reh_picture.specs.declared.fields.Field.TheVariants as field
-use Rattle.reh_picture.specs.Members.{list_of}
+use Rattle.reh_fields.specs.declared.fields.Field.TheVariants as field
+use Rattle.reh_fields.specs.Members.{list_of}
 use Rattle.reh_picture.specs.Ledgers.{ledger_in}
 use Rattle.reh_picture.specs.Contents.{Holding}
 use Rattle.reh_picture.specs.Pictures.{pictured_cluster, words_in_all, names_of, ids_of, contents_of}
@@ -51,7 +51,7 @@ words_in_all-requires-clause-words c =
     (pictured_words d (IsFaultless-none d read.fault))
 
 pub returns-then-words_in_all-gt-MAX_WORDS-clause-fault : goal.returns-then-words_in_all-gt-MAX_WORDS-clause-fault
-returns-then-words_in_all-gt-MAX_WORDS-clause-fault c = λ known.
+returns-then-words_in_all-gt-MAX_WORDS-clause-fault c =
     let d = view c.args.picture.now in
     let read = c.in_ok-names.ensures in
     let made =
@@ -60,7 +60,7 @@ returns-then-words_in_all-gt-MAX_WORDS-clause-fault c = λ known.
     c.deref.ensures.value c.in_ok-greatest.ensures c.in_ok-ledgers.ensures in
     let words : c.words_in_all.result ≡ words_in_all (pictured_cluster d) =
     words_in_all-shown d _ _ _ _ read.shown.names_are made c.len.ensures.count c.words_in_all.ensures in
-    fields_fault-past d read.fault (omega (arith, words))
+    rw c.new.ensures (λ known. fields_fault-past d read.fault (omega (arith, words)))
 
 pub returns-clause-fault : goal.returns-clause-fault
 returns-clause-fault c =
