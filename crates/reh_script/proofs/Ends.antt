@@ -3,7 +3,7 @@ use Rattle.std.proofs.Common.{◌≡◌, ℕ, ◌<◌, ◌≤◌, ◌⊎◌, Boo
 use Rattle.std.proofs.Common.{Result, Ok, Err, inl, inr, refl, sym, ap, ◌∙◌, subst, arith}
 use Rattle.std.proofs.Common.{take, drop}
 use Rattle.std.proofs.lemmas.List.{take-append-le, take-append-drop, length-take-le}
-use Rattle.std.specs.Prelude.{IsErrAnd}
+use Rattle.std.specs.Prelude.{IsErrAnd, OnOk}
 use Rattle.std.proofs.KnownBytes.{Appends-nil, Keeps-refl}
 use Rattle.reh_model.specs.Cluster.{Cluster}
 use Rattle.reh_model.specs.Session.{opened_session}
@@ -86,6 +86,12 @@ behind_played (Ok state) o end result failed left_old left_new b old new opens s
   same = same;
   played = at_opened state o end failed left_old left_new b old new opens played;
 })
+
+-- what holds where a play ends well holds where the pipe does
+pub piped_well : (holds : Type 0) (end : Result (Unit {0}) PlayFault) (result : Result (Unit {0}) PipeFault)
+    → result ≡ piped end → OnOk end holds → OnOk result holds
+piped_well holds (Ok x) result same well = subst (λ (r : Result (Unit {0}) PipeFault). OnOk r holds) (sym same) well
+piped_well holds (Err fault) result same well = subst (λ (r : Result (Unit {0}) PipeFault). OnOk r holds) (sym same) tt
 
 -- the answers that could be seen are the transcript's
 seen_of : (state : Cluster) (o : Opened) (left_old left_before old shown : Option (List ℕ)) → IsOpened state o

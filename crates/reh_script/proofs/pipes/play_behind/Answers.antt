@@ -1,4 +1,4 @@
-use Rattle.reh_script.proofs.Ends.{behind_unopened, behind_played, behind_out, front_of}
+use Rattle.reh_script.proofs.Ends.{behind_unopened, behind_played, behind_out, front_of, piped_well}
 use Rattle.reh_script.proofs.Transcripts.{plays_book}
 use Rattle.reh_script.proofs.pipes.play_behind.Goals as goal
 
@@ -24,3 +24,6 @@ returns-clause-prompt g c =
     c.requires.order c.requires.within c.in_ok-script.ensures.items in
     behind_out _ c.in_ok-rehearsal.rehearsal _ _ _ _ _ (rw (c.deref.ensures.value, same) at c.in_ok-rehearsal.ensures)
     (rw c.in_ok-script.ensures.tail at c.play_on-end.ensures.prompt)
+
+pub returns-clause-seen : goal.returns-clause-seen
+returns-clause-seen g c = piped_well _ c.play_on-end.result _ c.pipe_end.ensures.end c.play_on-end.ensures.seen

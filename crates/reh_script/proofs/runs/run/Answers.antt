@@ -1,5 +1,5 @@
 use Rattle.std.proofs.Common.{refl}
-use Rattle.reh_script.proofs.Ends.{keeps_writer}
+use Rattle.reh_script.proofs.Ends.{keeps_writer, piped_well}
 use Rattle.reh_script.proofs.RunLaws.{runs_unopened, text_writes, runs_played, runs_out}
 use Rattle.reh_script.proofs.runs.run.Goals as goal
 
@@ -21,3 +21,6 @@ returns-clause-runs g c =
 pub returns-clause-prompt : goal.returns-clause-prompt
 returns-clause-prompt g c =
     runs_out _ _ _ _ _ _ _ _ c.in_ok-rehearsal.rehearsal c.in_ok-rehearsal.ensures.opens c.play_book-end.ensures.prompt
+
+pub returns-clause-seen : goal.returns-clause-seen
+returns-clause-seen g c = piped_well _ c.play_book-end.result _ c.pipe_end.ensures.end c.play_book-end.ensures.seen
