@@ -1,9 +1,9 @@
 -- How a drill ends.
-use Rattle.std.proofs.Common.{◌≡◌, ◌⊎◌, inl, inr, ℕ, suc, ◌+◌, List, [], ◌∷◌, ◌++◌, map, length, refl, sym, ap, ◌∙◌, subst}
+use Rattle.std.proofs.Common.{◌≡◌, inl, inr, ℕ, suc, ◌+◌, List, [], ◌∷◌, ◌++◌, map, length, refl, sym, ap, ◌∙◌, subst}
 use Rattle.std.proofs.Common.{Option, None, Some, Result, Ok, Err, Bool, true, false}
 use Rattle.std.specs.Prelude.{◌≢◌, IsErrAnd, is_some, is_err}
 use Rattle.std.specs.List.{flat_map}
-use Rattle.std.specs.Io.KnownBytes.{Appends, Keeps}
+use Rattle.std.specs.Io.KnownBytes.{Appends}
 use Rattle.reh_drill.proofs.Writing.{appends_kept}
 use Rattle.std.proofs.KnownBytes.{Keeps-refl, Appends-trans}
 use Rattle.std.proofs.lemmas.Bool.{false≢true}
@@ -14,22 +14,20 @@ use Rattle.reh_desk.specs.Desks.{DeskView, AreNewFrom, AreSeated, AllAgree, IsCl
 use Rattle.reh_desk.specs.Seats.{SeatView, new_seat}
 use Rattle.reh_fields.specs.declared.faults.PictureFault.{PictureFault}
 use Rattle.reh_fields.specs.declared.faults.PictureFault.TheVariants as picture_fault
-use Rattle.reh_script.specs.DeskPlays.{at_desk, sitting, PlaysAtDesk}
-use Rattle.reh_script.specs.Faults.{pipe_fault_of}
-use Rattle.reh_script.specs.Lines.{answered_lines}
-use Rattle.reh_script.specs.Plays.{AnswersAll, stop_of, is_write_fault}
-use Rattle.reh_script.specs.declared.faults.PlayFault.{PlayFault}
-use Rattle.reh_script.specs.declared.faults.PlayFault.TheVariants as play_fault
-use Rattle.reh_script.specs.declared.faults.PipeFault.TheVariants.{Play}
-use Rattle.reh_script.specs.declared.streams.StreamFault.{StreamFault}
-use Rattle.reh_script.proofs.Sitting.{number_at_desk}
+use Rattle.reh_play.specs.DeskPlays.{at_desk, sitting, PlaysAtDesk}
+use Rattle.reh_lines.specs.Lines.{answered_lines}
+use Rattle.reh_play.specs.Plays.{AnswersAll, stop_of, is_write_fault}
+use Rattle.reh_play.specs.declared.faults.PlayFault.{PlayFault}
+use Rattle.reh_play.specs.declared.faults.PlayFault.TheVariants as play_fault
+use Rattle.reh_lines.specs.declared.streams.StreamFault.{StreamFault}
+use Rattle.reh_play.proofs.Sitting.{number_at_desk}
 use Rattle.reh_drill.specs.Drills.{end_text, Writes, IsRoom, OpensDesk, fault_in_memory, IsOutcome}
 use Rattle.reh_drill.specs.Drills.{OnePlayed, AllPlayed, transcript_of, fault_of, or_else, first_fault, seat_of}
 use Rattle.reh_drill.specs.Drills.{IsOperated, AreOperated, IsDrilled, AreOutcomes, transcripts_of, ClosesWith, Closes}
 use Rattle.reh_drill.specs.Drills.{IsUnclosed, EndsWith, Ends, Drills, is_lost, is_lost_play}
-use Rattle.reh_drill.specs.Faults.{drill_fault_of}
+use Rattle.reh_drill.specs.Faults.{drill_fault_of, refusal_of}
 use Rattle.reh_drill.specs.declared.faults.DrillFault.{DrillFault}
-use Rattle.reh_drill.specs.declared.faults.DrillFault.TheVariants.{Picture, WriteFault, NoMemory, Close}
+use Rattle.reh_drill.specs.declared.faults.DrillFault.TheVariants.{Picture, WriteFault, NoMemory}
 use Rattle.reh_drill.specs.declared.openings.Room.{Room}
 use Rattle.reh_drill.specs.declared.operators.Outcome.{Outcome}
 use Rattle.reh_drill.proofs.Writing.{writes_then}
@@ -48,7 +46,7 @@ opens_lacking read count (Err e) is = subst (λ (f : DrillFault). OpensDesk read
 
 refused_or_lacks : (read : Result Cluster PictureFault) (count : ℕ) (fault : PictureFault)
     → (fault ≢ picture_fault.NoMemory → read ≡ Err fault)
-    → OpensDesk read count (Err (drill_fault_of (pipe_fault_of fault)))
+    → OpensDesk read count (Err (refusal_of fault))
 refused_or_lacks read count picture_fault.NoMemory is = lacking read count
 refused_or_lacks read count fault is =
     subst (λ (r : Result Cluster PictureFault). OpensDesk r count (Err (Picture fault))) (sym (is (λ same. cc)))
@@ -57,7 +55,7 @@ refused_or_lacks read count fault is =
 -- where the picture is refused
 pub opens_refused : (read : Result Cluster PictureFault) (count : ℕ) (fault : PictureFault)
     (result : Result Room DrillFault) → (fault ≢ picture_fault.NoMemory → read ≡ Err fault)
-    → IsErrAnd result (λ e. e ≡ drill_fault_of (pipe_fault_of fault)) → OpensDesk read count result
+    → IsErrAnd result (λ e. e ≡ refusal_of fault) → OpensDesk read count result
 opens_refused read count fault (Ok room) refuses is = absurd is
 opens_refused read count fault (Err e) refuses is =
     subst (λ (f : DrillFault). OpensDesk read count (Err f)) (sym is) (refused_or_lacks read count fault refuses)
@@ -145,7 +143,7 @@ first_loses_none names (s ∷ ss) (c ∷ cs) (o ∷ os) all =
     (first_loses_none names ss cs os all.1)
 
 -- what an operator's fault is to the run
-pub lost_play : (fault : PlayFault) → is_lost (Err (drill_fault_of (Play fault))) ≡ is_lost_play (Some fault)
+pub lost_play : (fault : PlayFault) → is_lost (Err (drill_fault_of fault)) ≡ is_lost_play (Some fault)
 lost_play play_fault.ReadFault = refl
 lost_play play_fault.TooLong = refl
 lost_play play_fault.WriteFault = refl
@@ -358,7 +356,7 @@ ends_short desk outcomes lost (Err e) old new part is = inr (is, transcripts_of 
 
 -- where an operator ended early
 pub ends_early : (desk : DeskView) (outcomes : List (Result Outcome PlayFault)) (reason : PlayFault) (fault : DrillFault)
-    (old new : Option (List ℕ)) → first_fault outcomes ≡ Some reason → fault ≡ drill_fault_of (Play reason)
+    (old new : Option (List ℕ)) → first_fault outcomes ≡ Some reason → fault ≡ drill_fault_of reason
     → Appends old new (transcripts_of outcomes) → Ends desk outcomes (Err fault) old new
 ends_early desk outcomes reason fault old new first is written = inl (inl (reason, first, is), written)
 

@@ -1,10 +1,10 @@
 -- An operator's thread, if there was one for it.
-use Rattle.std.proofs.Common.{◌≡◌, ℕ, List, ◌∙◌, subst, sym, Result, Ok, Err}
+use Rattle.std.proofs.Common.{◌≡◌, ℕ, List, Result, Ok, Err}
 use Rattle.std.specs.Prelude.{IfOk, IfErr, MatchResult}
 use Rattle.std.specs.declared.thread.PromisedHandle.{PromisedHandle}
 use Rattle.reh_desk.specs.Seats.{SeatView}
-use Rattle.reh_script.specs.declared.faults.PlayFault.{PlayFault}
-use Rattle.reh_script.specs.declared.faults.PlayFault.TheVariants.{NoThread}
+use Rattle.reh_play.specs.declared.faults.PlayFault.{PlayFault}
+use Rattle.reh_play.specs.declared.faults.PlayFault.TheVariants.{NoThread}
 use Rattle.reh_drill.specs.Drills.{OnePlayed}
 use Rattle.reh_drill.specs.declared.operators.Outcome.{Outcome}
 use Rattle.reh_drill.specs.declared.outcomes.PlayOf.{PlayOf}

@@ -11,13 +11,12 @@ use Rattle.reh_desk.specs.Desks.{DeskView, AreNew, AreNewFrom, AreSeated, IsClos
 use Rattle.reh_desk.specs.Seats.{SeatView, new_seat}
 use Rattle.reh_desk.specs.declared.desks.CloseCause.{CloseCause}
 use Rattle.reh_fields.specs.declared.faults.PictureFault.{PictureFault}
-use Rattle.reh_script.specs.DeskPlays.{at_desk, sitting, PlaysAtDesk}
-use Rattle.reh_script.specs.Lines.{answered_lines}
-use Rattle.reh_script.specs.Plays.{AnswersAll, stop_of, is_write_fault}
-use Rattle.reh_script.specs.Texts.{report, text_of}
-use Rattle.reh_script.specs.declared.faults.PlayFault.{PlayFault}
-use Rattle.reh_script.specs.declared.faults.PlayFault.TheVariants as play_fault
-use Rattle.reh_script.specs.declared.faults.PipeFault.TheVariants.{Play}
+use Rattle.reh_play.specs.DeskPlays.{at_desk, sitting, PlaysAtDesk}
+use Rattle.reh_lines.specs.Lines.{answered_lines}
+use Rattle.reh_play.specs.Plays.{AnswersAll, stop_of, is_write_fault}
+use Rattle.reh_commands.specs.Texts.{report, text_of}
+use Rattle.reh_play.specs.declared.faults.PlayFault.{PlayFault}
+use Rattle.reh_play.specs.declared.faults.PlayFault.TheVariants as play_fault
 use Rattle.reh_drill.specs.Faults.{drill_fault_of}
 use Rattle.reh_drill.specs.declared.faults.DrillFault.{DrillFault}
 use Rattle.reh_drill.specs.declared.faults.DrillFault.TheVariants.{Picture, WriteFault, NoMemory, Close}
@@ -182,7 +181,7 @@ Closes desk seats (Err fault) old new =
 -- that doesn't close, or want of memory for what stands behind the transcripts. All of these are written.
 abbrev pub EndsFor : List (Result Outcome PlayFault) → DrillFault → Type 0
 EndsFor outcomes fault =
-    ((reason : PlayFault) × (first_fault outcomes ≡ Some reason) × (fault ≡ drill_fault_of (Play reason)))
+    ((reason : PlayFault) × (first_fault outcomes ≡ Some reason) × (fault ≡ drill_fault_of reason))
     ⊎ ((first_fault outcomes ≡ None) × IsUnclosed fault)
 
 -- What is printed of a desk whose operators all ended well.

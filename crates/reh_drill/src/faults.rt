@@ -1,7 +1,8 @@
 // Why a drill ends early.
 use reh_desk::CloseCause;
+use reh_lines::StreamFault;
 use reh_picture::PictureFault;
-use reh_script::{PipeFault, PlayFault, StreamFault};
+use reh_play::PlayFault;
 use std::alloc::AllocError;
 
 /// Why a drill ends early.
@@ -34,45 +35,34 @@ impl From<AllocError> for DrillFault {
     }
 }
 
-impl From<PipeFault> for DrillFault {
-    ghost use Rattle.std.specs.Prelude.{◌≡◌};
-    ghost use Rattle.reh_drill.specs.Faults.{drill_fault_of};
-
-    ghost from_gives = { λ pipe drill. drill ≡ drill_fault_of pipe };
-
-    fn from(fault: PipeFault) -> DrillFault {
-        match fault {
-            PipeFault::Picture(fault) => DrillFault::Picture(fault),
-            PipeFault::Play(PlayFault::ReadFault) => DrillFault::ReadFault,
-            PipeFault::Play(PlayFault::TooLong) => DrillFault::TooLong,
-            PipeFault::Play(PlayFault::WriteFault) => DrillFault::WriteFault,
-            PipeFault::Play(PlayFault::NoMemory) => DrillFault::NoMemory,
-            PipeFault::Play(PlayFault::NoThread) => DrillFault::NoThread,
-        }
-    }
-}
-
 impl From<PlayFault> for DrillFault {
     ghost use Rattle.std.specs.Prelude.{◌≡◌};
-    ghost use Rattle.reh_script.specs.declared.faults.PipeFault.TheVariants.{Play};
     ghost use Rattle.reh_drill.specs.Faults.{drill_fault_of};
 
-    ghost from_gives = { λ play drill. drill ≡ drill_fault_of (Play play) };
+    ghost from_gives = { λ play drill. drill ≡ drill_fault_of play };
 
     fn from(fault: PlayFault) -> DrillFault {
-        DrillFault::from(PipeFault::Play(fault))
+        match fault {
+            PlayFault::ReadFault => DrillFault::ReadFault,
+            PlayFault::TooLong => DrillFault::TooLong,
+            PlayFault::WriteFault => DrillFault::WriteFault,
+            PlayFault::NoMemory => DrillFault::NoMemory,
+            PlayFault::NoThread => DrillFault::NoThread,
+        }
     }
 }
 
 impl From<PictureFault> for DrillFault {
     ghost use Rattle.std.specs.Prelude.{◌≡◌};
-    ghost use Rattle.reh_script.specs.Faults.{pipe_fault_of};
-    ghost use Rattle.reh_drill.specs.Faults.{drill_fault_of};
+    ghost use Rattle.reh_drill.specs.Faults.{refusal_of};
 
-    ghost from_gives = { λ picture drill. drill ≡ drill_fault_of (pipe_fault_of picture) };
+    ghost from_gives = { λ picture drill. drill ≡ refusal_of picture };
 
     fn from(fault: PictureFault) -> DrillFault {
-        DrillFault::from(PipeFault::from(fault))
+        match fault {
+            PictureFault::NoMemory => DrillFault::NoMemory,
+            fault => DrillFault::Picture(fault),
+        }
     }
 }
 

@@ -1,12 +1,13 @@
 // One operator: a seat and its script, and what comes of them.
 ghost use Rattle.std.specs.Prelude.{◌≡◌, [], Some, None, is_some, List, ℕ};
-ghost use Rattle.reh_script.specs.Plays.{is_write_fault};
+ghost use Rattle.reh_play.specs.Plays.{is_write_fault};
 ghost use Rattle.reh_drill.specs.Drills.{fault_in_memory, IsOutcome};
 
 use reh_cluster::Names;
 use reh_crew::Gate;
 use reh_desk::{Desk, Seat};
-use reh_script::{PlayFault, StreamFault, TextOut, play_at_desk};
+use reh_lines::{StreamFault, TextOut};
+use reh_play::{PlayFault, play_at_desk};
 use std::alloc::{AllocError, Global};
 use std::sync::Wait;
 
@@ -18,7 +19,7 @@ pub(crate) struct Transcript {
 }
 
 impl TextOut for Transcript {
-    ghost use Rattle.reh_script.specs.Streams.{grows_not};
+    ghost use Rattle.reh_lines.specs.Streams.{grows_not};
 
     ghost contents = { λ t. Some t.text.items };
 

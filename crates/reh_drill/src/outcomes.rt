@@ -1,13 +1,13 @@
 // The threads of operators, and what comes back of them.
 ghost use Rattle.std.specs.Prelude.{◌≡◌, ◌≤◌, [], map, length, vec_capacity, IfOk, IfErr, MatchResult, Err};
-ghost use Rattle.reh_script.specs.declared.faults.PlayFault.TheVariants.{NoThread};
+ghost use Rattle.reh_play.specs.declared.faults.PlayFault.TheVariants.{NoThread};
 ghost use Rattle.reh_drill.specs.Drills.{OnePlayed, AllPlayed, first_fault};
 
 use crate::operators::{Outcome, operate};
 use reh_cluster::Names;
 use reh_crew::Gate;
 use reh_desk::{Desk, Seat};
-use reh_script::PlayFault;
+use reh_play::PlayFault;
 use std::alloc::{AllocError, Global};
 use std::snapshot::Snapshot;
 use std::sync::Wait;

@@ -7,9 +7,9 @@ use Rattle.reh_types.specs.declared.moves.Move.TheVariants.{Do}
 use Rattle.reh_types.specs.declared.moves.Reply.TheVariants.{Done}
 use Rattle.reh_model.specs.Cluster.{Cluster}
 use Rattle.reh_model.specs.Session.{replay, Session, state_of, with_event, Performs}
-use Rattle.reh_script.specs.Answers.{asked}
-use Rattle.reh_script.specs.Lines.{lines_of}
-use Rattle.reh_script.specs.declared.commands.Command.TheVariants.{Make}
+use Rattle.reh_commands.specs.Answers.{asked}
+use Rattle.reh_lines.specs.Lines.{lines_of}
+use Rattle.reh_commands.specs.declared.commands.Command.TheVariants.{Make}
 use Rattle.reh_plan.specs.Plans.{has_lf, Asks, Draft, draft_of, IsDraft, IsMade}
 use Rattle.reh_plan.proofs.PlanLaws.{grown_lines, grown_ends, names_replay, Asks-event, Asks-none, performed, state_after}
 

@@ -5,7 +5,7 @@ use Rattle.std.proofs.lemmas.List.{take_more, take_all, get_or_append_left}
 use Rattle.std.proofs.lemmas.List.Elements.{All-push}
 use Rattle.std.proofs.lemmas.List.Quantifiers.{Any-push}
 use Rattle.reh_model.specs.Cluster.{Cluster, Ledger}
-use Rattle.reh_script.specs.Answers.{asked}
+use Rattle.reh_commands.specs.Answers.{asked}
 use Rattle.reh_plan.specs.Plans.{Draft, is_left, left_line, IsNamed, IsLeaving, IsLeftLine, AllNamed, OnlyLeft}
 
 Any-more : {X : Type 0} (P : X → Type 0) (xs ys : List X) → Any P xs → Any P (xs ++ ys)

@@ -26,12 +26,12 @@ use Rattle.reh_model.specs.WellFormed.{IsWellFormed}
 use Rattle.reh_model.proofs.ListLaws.{slice_get-here, slice_get-others}
 use Rattle.reh_model.proofs.SessionLaws.{replay_first, replay-append, replay_one}
 use Rattle.reh_model.proofs.WellFormedLaws.{up_named}
-use Rattle.reh_script.specs.Answers.{asked}
-use Rattle.reh_script.specs.Lines.{lines_of, ended}
-use Rattle.reh_script.specs.declared.commands.Command.{Command}
-use Rattle.reh_script.specs.declared.commands.Command.TheVariants.{Make}
-use Rattle.reh_script.specs.declared.commands.LineFault.{LineFault}
-use Rattle.reh_script.proofs.ReadLaws.{lines_behind}
+use Rattle.reh_commands.specs.Answers.{asked}
+use Rattle.reh_lines.specs.Lines.{lines_of, ended}
+use Rattle.reh_commands.specs.declared.commands.Command.{Command}
+use Rattle.reh_commands.specs.declared.commands.Command.TheVariants.{Make}
+use Rattle.reh_commands.specs.declared.commands.LineFault.{LineFault}
+use Rattle.reh_lines.proofs.Parts.{lines_behind}
 use Rattle.reh_plan.specs.Plans.{has_lf, event_asked, IsEventOrNone, Asks, Draft, IsMade, IsWithout, Loses, Works}
 use Rattle.reh_plan.specs.Plans.{GoesOnBy, is_all_asked, is_nobodys, is_work_by, loss_of, losses_of}
 

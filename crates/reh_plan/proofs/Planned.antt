@@ -6,7 +6,7 @@ use Rattle.reh_types.specs.declared.moves.Event.{Event}
 use Rattle.reh_types.specs.Sets as set
 use Rattle.reh_types.specs.Sets.{Set, numbers}
 use Rattle.reh_model.specs.Cluster.{Cluster}
-use Rattle.reh_script.specs.Answers.{asked}
+use Rattle.reh_commands.specs.Answers.{asked}
 use Rattle.reh_plan.specs.Plans.{Draft, GoesOnBy, IsWithout, IsLeftLine, IsNaming, Loses, OnlyLeft, Works, is_all_asked, losses_of}
 use Rattle.reh_plan.proofs.PlanLaws.{IsWithout-works}
 

@@ -17,11 +17,11 @@ use Rattle.reh_model.specs.Cluster.{Cluster}
 use Rattle.reh_model.specs.Session.{replay, Session, state_of, with_event, opened_session, reply_unless}
 use Rattle.reh_model.specs.Step.{refusal_of, after}
 use Rattle.reh_model.proofs.SessionLaws.{replay_first, replay-append, replay_one}
-use Rattle.reh_script.specs.Answers.{asked, numbered, reply_answer}
-use Rattle.reh_script.specs.Transcript.{BookPlayer, starting, transcript, answer_of, after_command}
-use Rattle.reh_script.specs.declared.commands.Command.{Command}
-use Rattle.reh_script.specs.declared.commands.Command.TheVariants.{Make}
-use Rattle.reh_script.specs.declared.commands.LineFault.{LineFault}
+use Rattle.reh_commands.specs.Answers.{asked, numbered, reply_answer}
+use Rattle.reh_transcript.specs.Transcript.{BookPlayer, starting, transcript, answer_of, after_command}
+use Rattle.reh_commands.specs.declared.commands.Command.{Command}
+use Rattle.reh_commands.specs.declared.commands.Command.TheVariants.{Make}
+use Rattle.reh_commands.specs.declared.commands.LineFault.{LineFault}
 use Rattle.reh_plan.specs.Plans.{event_asked, IsEventOrNone, Asks}
 use Rattle.reh_plan.specs.Replies.{ok_answer, ok_answers}
 

@@ -16,11 +16,11 @@ use Rattle.reh_model.specs.Cluster.{Cluster, Ledger, is_up}
 use Rattle.reh_model.specs.Session as model
 use Rattle.reh_model.specs.Session.{state_of}
 use Rattle.reh_model.specs.Step.{refusal_of, after}
-use Rattle.reh_script.specs.Answers.{asked}
-use Rattle.reh_script.specs.Lines.{lines_of, ended}
-use Rattle.reh_script.specs.declared.commands.Command.{Command}
-use Rattle.reh_script.specs.declared.commands.Command.TheVariants.{Make}
-use Rattle.reh_script.specs.declared.commands.LineFault.{LineFault}
+use Rattle.reh_commands.specs.Answers.{asked}
+use Rattle.reh_lines.specs.Lines.{lines_of, ended}
+use Rattle.reh_commands.specs.declared.commands.Command.{Command}
+use Rattle.reh_commands.specs.declared.commands.Command.TheVariants.{Make}
+use Rattle.reh_commands.specs.declared.commands.LineFault.{LineFault}
 use Rattle.reh_plan.specs.declared.plans.Outcome.{Outcome}
 use Rattle.reh_plan.specs.declared.plans.Outcome.TheVariants.{Made, Refused, Unwritten}
 

@@ -1,8 +1,8 @@
 -- What is printed where each line of a script that has an answer is answered `ok`.
 use Rattle.std.specs.Prelude.{ℕ, ◌+◌, List, [], ◌∷◌, ◌++◌, Option, None, Some, Result, codes}
-use Rattle.reh_script.specs.Answers.{asked, numbered}
-use Rattle.reh_script.specs.declared.commands.Command.{Command}
-use Rattle.reh_script.specs.declared.commands.LineFault.{LineFault}
+use Rattle.reh_commands.specs.Answers.{asked, numbered}
+use Rattle.reh_commands.specs.declared.commands.Command.{Command}
+use Rattle.reh_commands.specs.declared.commands.LineFault.{LineFault}
 
 abbrev pub ok_answer : ℕ → Option (Result Command LineFault) → List ℕ
 ok_answer n None = []

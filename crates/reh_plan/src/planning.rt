@@ -3,7 +3,7 @@ ghost use Rattle.std.specs.Prelude.{◌≡◌, ◌≤◌, length, IfOk, OnOk, So
 ghost use Rattle.reh_types.specs.declared.limits.TheConstants.{MAX_SCRIPT_BYTES};
 ghost use Rattle.reh_model.specs.Book.{new_book};
 ghost use Rattle.reh_model.specs.Session.{replay, opened_session};
-ghost use Rattle.reh_script.specs.Transcript.{starting, transcript};
+ghost use Rattle.reh_transcript.specs.Transcript.{starting, transcript};
 ghost use Rattle.reh_plan.specs.Replies.{ok_answers};
 ghost use Rattle.reh_types.specs.Sets as set;
 ghost use Rattle.reh_types.specs.Sets.{Set, numbers};

@@ -5,10 +5,10 @@ ghost use Rattle.reh_types.specs.declared.limits.TheConstants.{MAX_SCRIPT_BYTES}
 ghost use Rattle.reh_model.specs.Book.{new_book};
 ghost use Rattle.reh_model.specs.Session.{replay, opened_session};
 ghost use Rattle.reh_types.specs.declared.moves.Move.TheVariants.{Do};
-ghost use Rattle.reh_script.specs.declared.commands.Command.TheVariants.{Make};
-ghost use Rattle.reh_script.specs.Answers.{asked};
-ghost use Rattle.reh_script.specs.Lines.{lines_of};
-ghost use Rattle.reh_script.specs.Transcript.{starting, transcript};
+ghost use Rattle.reh_commands.specs.declared.commands.Command.TheVariants.{Make};
+ghost use Rattle.reh_commands.specs.Answers.{asked};
+ghost use Rattle.reh_lines.specs.Lines.{lines_of};
+ghost use Rattle.reh_transcript.specs.Transcript.{starting, transcript};
 ghost use Rattle.reh_plan.specs.Replies.{ok_answers};
 ghost use Rattle.reh_types.specs.Sets.{Set, numbers};
 ghost use Rattle.reh_plan.specs.Plans.{Asks, IsMade, Makes, Works, Loses, is_nobodys, has_lf, loss_of, IsLeaving};
@@ -16,7 +16,7 @@ ghost use Rattle.reh_plan.specs.Plans.{Asks, IsMade, Makes, Works, Loses, is_nob
 use crate::faults::{PlanFault, Reason, Stop};
 use crate::lines::{event_line, is_line};
 use reh_cluster::{Names, State};
-use reh_script::{Command, parse_line};
+use reh_commands::{Command, parse_line};
 use reh_session::Session;
 use reh_types::{BookieIx, Event, LedgerId, MAX_LEDGERS, MAX_SCRIPT_BYTES, Move, Refusal};
 use std::alloc::{AllocError, Global};

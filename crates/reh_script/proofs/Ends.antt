@@ -3,7 +3,7 @@ use Rattle.std.proofs.Common.{◌≡◌, ℕ, ◌<◌, ◌≤◌, ◌⊎◌, Boo
 use Rattle.std.proofs.Common.{Result, Ok, Err, inl, inr, refl, sym, ap, ◌∙◌, subst, arith}
 use Rattle.std.proofs.Common.{take, drop}
 use Rattle.std.proofs.lemmas.List.{take-append-le, take-append-drop, length-take-le}
-use Rattle.std.specs.Prelude.{IsErrAnd}
+use Rattle.std.specs.Prelude.{IsErrAnd, OnOk}
 use Rattle.std.proofs.KnownBytes.{Appends-nil, Keeps-refl}
 use Rattle.reh_model.specs.Cluster.{Cluster}
 use Rattle.reh_model.specs.Session.{opened_session}
@@ -13,16 +13,16 @@ use Rattle.reh_desk.specs.Seats.{SeatView}
 use Rattle.reh_fields.specs.declared.faults.PictureFault.{PictureFault}
 use Rattle.reh_picture.specs.Pictures.{picture_of}
 use Rattle.reh_script.specs.BookPlays.{Transcribes, at_book}
-use Rattle.reh_script.specs.Lines.{lines_of, ended, cut_of, answered_lines}
+use Rattle.reh_lines.specs.Lines.{lines_of, ended, cut_of, answered_lines}
 use Rattle.reh_script.specs.Openings.{Opens, IsOpened}
 use Rattle.reh_script.specs.Pipes.{piped, loses_output, PlaysBehind, GoesOutBehind}
 use Rattle.reh_script.specs.Pipes.{rehearsal_by, rehearsal_of, IsPiped}
-use Rattle.reh_script.specs.Players.{seated}
-use Rattle.reh_script.specs.Plays.{GoesOut, is_write_fault}
-use Rattle.reh_script.specs.Streams.{Reaches}
-use Rattle.reh_script.specs.Transcript.{starting, transcript}
-use Rattle.reh_script.specs.declared.faults.PlayFault.{PlayFault}
-use Rattle.reh_script.specs.declared.faults.PlayFault.TheVariants.{NoMemory}
+use Rattle.reh_play.specs.Players.{seated}
+use Rattle.reh_play.specs.Plays.{GoesOut}
+use Rattle.reh_lines.specs.Streams.{Reaches}
+use Rattle.reh_transcript.specs.Transcript.{starting, transcript}
+use Rattle.reh_play.specs.declared.faults.PlayFault.{PlayFault}
+use Rattle.reh_play.specs.declared.faults.PlayFault.TheVariants.{NoMemory}
 use Rattle.reh_script.specs.declared.faults.PipeFault.{PipeFault}
 use Rattle.reh_script.specs.declared.faults.PipeFault.TheVariants.{Play}
 use Rattle.reh_script.specs.declared.openings.Opened.{Opened}
@@ -87,19 +87,11 @@ behind_played (Ok state) o end result failed left_old left_new b old new opens s
   played = at_opened state o end failed left_old left_new b old new opens played;
 })
 
-handed : (result : Result (Unit {0}) PipeFault) (fault : PlayFault) → IsErrAnd result (λ e. e ≡ Play fault)
-    → result ≡ piped (Err fault)
-handed (Ok x) fault is = absurd is
-handed (Err e) fault is = ap (λ (f : PipeFault). Err f) is
-
--- where it is not played to its end
-pub behind_early : (read : Result Cluster PictureFault) (o : Opened) (fault : PlayFault)
-    (result : Result (Unit {0}) PipeFault) (failed : Bool) (left_old left_new : Option (List ℕ)) (b : Book)
-    (old new : Option (List ℕ)) → Opens read (Ok o) → IsErrAnd result (λ e. e ≡ Play fault)
-    → Transcribes o.names o.seat.number (Err fault) failed left_old left_new o.book.book b old new
-    → PlaysBehind read result failed left_old left_new old new
-behind_early read o fault result failed left_old left_new b old new opens is played =
-    behind_played read o (Err fault) result failed left_old left_new b old new opens (handed result fault is) played
+-- what holds where a play ends well holds where the pipe does
+pub piped_well : (holds : Type 0) (end : Result (Unit {0}) PlayFault) (result : Result (Unit {0}) PipeFault)
+    → result ≡ piped end → OnOk end holds → OnOk result holds
+piped_well holds (Ok x) result same well = subst (λ (r : Result (Unit {0}) PipeFault). OnOk r holds) (sym same) well
+piped_well holds (Err fault) result same well = subst (λ (r : Result (Unit {0}) PipeFault). OnOk r holds) (sym same) tt
 
 -- the answers that could be seen are the transcript's
 seen_of : (state : Cluster) (o : Opened) (left_old left_before old shown : Option (List ℕ)) → IsOpened state o
@@ -148,12 +140,6 @@ pub keeps_writer : (lost : Bool) (fault : PipeFault) (result : Result (Unit {0})
 keeps_writer lost fault (Ok x) fine none is = absurd is
 keeps_writer lost fault (Err e) fine none is =
     fine ∙ sym none ∙ sym (ap (λ (f : PipeFault). loses_output (Err f)) is)
-
--- a play's fault that is handed on says as much of the writes
-pub handed_on : (lost : Bool) (fault : PlayFault) (result : Result (Unit {0}) PipeFault)
-    → IsErrAnd result (λ e. e ≡ Play fault) → lost ≡ is_write_fault (Err fault) → lost ≡ loses_output result
-handed_on lost fault (Ok x) is was = absurd is
-handed_on lost fault (Err e) is was = was ∙ ap (λ (f : PipeFault). loses_output (Err f)) (sym is)
 
 -- the picture stands before the script
 pub front_of : (p n : ℕ) (input front : List ℕ) → p < n → n ≤ length input → front ≡ take n input

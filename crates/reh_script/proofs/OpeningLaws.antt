@@ -13,8 +13,8 @@ use Rattle.reh_picture.specs.Pictures.{picture_of}
 use Rattle.reh_picture.proofs.PicturesLemmas.{picture_of-long}
 use Rattle.reh_script.specs.Faults.{pipe_fault_of}
 use Rattle.reh_script.specs.Openings.{Opens, IsOpened, OpensText}
-use Rattle.reh_script.specs.Readings.{ReadsEnough, Reads}
-use Rattle.reh_script.specs.declared.faults.PlayFault.TheVariants.{ReadFault, NoMemory}
+use Rattle.reh_lines.specs.Readings.{ReadsEnough, Reads}
+use Rattle.reh_play.specs.declared.faults.PlayFault.TheVariants.{ReadFault, NoMemory}
 use Rattle.reh_script.specs.declared.faults.PipeFault.{PipeFault}
 use Rattle.reh_script.specs.declared.faults.PipeFault.TheVariants.{Picture, Play}
 use Rattle.reh_script.specs.declared.openings.Opened.{Opened}

@@ -15,23 +15,23 @@ use Rattle.reh_model.specs.Session.{opened_session}
 use Rattle.reh_fields.specs.declared.faults.PictureFault.{PictureFault}
 use Rattle.reh_fields.specs.declared.faults.PictureFault.TheVariants as picture_fault
 use Rattle.reh_picture.specs.Pictures.{picture_of}
-use Rattle.reh_script.specs.Heads.{IsHead, IsUntold, IsUntoldUntil, ReadsHead}
-use Rattle.reh_script.specs.Lines.{Cut, cut_of, ended, is_told, lines_of}
+use Rattle.reh_lines.specs.Heads.{IsHead, IsUntold, IsUntoldUntil, ReadsHead}
+use Rattle.reh_lines.specs.Lines.{Cut, cut_of, ended, is_told, lines_of}
 use Rattle.reh_script.specs.Pipes.{Rehearsal, rehearsal_by, rehearsal_of, IsPiped, Pipes, IsOut, AnswersGoOut, PlaysBehind}
 use Rattle.reh_script.specs.Pipes.{GoesOutBehind}
-use Rattle.reh_script.specs.Readings.{Gives}
-use Rattle.reh_script.specs.Streams.{Reaches}
-use Rattle.reh_script.specs.Transcript.{starting, transcript}
-use Rattle.reh_script.specs.declared.heads.Head.{Head}
-use Rattle.reh_script.specs.declared.heads.Head.TheVariants.{Ended, Whole, TooLong, Failed}
-use Rattle.reh_script.specs.declared.heads.Percent.{Percent}
+use Rattle.reh_lines.specs.Readings.{Gives}
+use Rattle.reh_lines.specs.Streams.{Reaches}
+use Rattle.reh_transcript.specs.Transcript.{starting, transcript}
+use Rattle.reh_lines.specs.declared.heads.Head.{Head}
+use Rattle.reh_lines.specs.declared.heads.Head.TheVariants.{Ended, Whole, TooLong, Failed}
+use Rattle.reh_lines.specs.declared.heads.Percent.{Percent}
 use Rattle.reh_script.specs.declared.faults.PipeFault.{PipeFault}
 use Rattle.reh_script.specs.declared.faults.PipeFault.TheVariants.{Play}
-use Rattle.reh_script.specs.declared.faults.PlayFault.TheVariants.{NoMemory, ReadFault}
-use Rattle.reh_script.proofs.EndedLaws.{has_lf, ended_none}
-use Rattle.reh_script.proofs.HeadLaws.{has_none, stays_long, lines_untold}
+use Rattle.reh_play.specs.declared.faults.PlayFault.TheVariants.{NoMemory, ReadFault}
+use Rattle.reh_lines.proofs.EndedLaws.{has_lf, ended_none}
+use Rattle.reh_lines.proofs.HeadLaws.{has_none, stays_long, lines_untold}
 use Rattle.reh_script.proofs.OpeningLaws.{picture_of-long}
-use Rattle.reh_script.proofs.Parts.{ended-loud, ended-quiet}
+use Rattle.reh_lines.proofs.Parts.{ended-loud, ended-quiet}
 
 -- What is given
 

@@ -7,12 +7,11 @@ use Rattle.reh_picture.specs.Pictures.{picture_of}
 use Rattle.reh_script.specs.BookPlays.{Transcribes, at_book}
 use Rattle.reh_script.specs.Openings.{OpensRead, OpensText}
 use Rattle.reh_script.specs.Pipes.{piped, loses_output, GoesOutBehind}
-use Rattle.reh_script.specs.Players.{seated}
-use Rattle.reh_script.specs.Plays.{GoesOut}
+use Rattle.reh_play.specs.Players.{seated}
+use Rattle.reh_play.specs.Plays.{GoesOut}
 use Rattle.reh_script.specs.Runs.{Runs, RunsOut}
-use Rattle.reh_script.specs.declared.faults.PlayFault.{PlayFault}
+use Rattle.reh_play.specs.declared.faults.PlayFault.{PlayFault}
 use Rattle.reh_script.specs.declared.faults.PipeFault.{PipeFault}
-use Rattle.reh_script.specs.declared.faults.PipeFault.TheVariants.{Play}
 use Rattle.reh_script.specs.declared.openings.Opened.{Opened}
 use Rattle.reh_script.proofs.Ends.{unopened_writes, out_of_opened}
 
@@ -53,16 +52,6 @@ pub runs_played : (result : Result (Unit {0}) PipeFault) (untouched : Type 0) (u
     → Runs result untouched unread first_old first_new failed left_old left_new old new
 runs_played result untouched unread first_old first_new failed left_old left_new old new o end b opens same played =
     record { opened = Ok o; opens = opens; ends = record { end = end; book = b; same = same; transcribed = played } }
-
-pub runs_early : (result : Result (Unit {0}) PipeFault) (untouched : Type 0) (unread : Bool)
-    (first_old first_new : Option (List ℕ)) (failed : Bool) (left_old left_new old new : Option (List ℕ)) (o : Opened)
-    (fault : PlayFault) (b : Book) → OpensText unread first_old first_new (Ok o)
-    → IsErrAnd result (λ e. e ≡ Play fault)
-    → Transcribes o.names o.seat.number (Err fault) failed left_old left_new o.book.book b old new
-    → Runs result untouched unread first_old first_new failed left_old left_new old new
-runs_early result untouched unread first_old first_new failed left_old left_new old new o fault b opens is played =
-    runs_played result untouched unread first_old first_new failed left_old left_new old new o (Err fault) b opens
-    (handed result (Play fault) is) played
 
 out_read : (unread : Bool) (picture : List ℕ) (o : Opened) (left_old left_before old shown : Option (List ℕ))
     → OpensRead unread picture (Ok o)

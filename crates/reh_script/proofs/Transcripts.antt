@@ -1,5 +1,5 @@
 -- A play by one seat of a book is the transcript, and leaves the book where the transcript does.
-use Rattle.std.proofs.Common.{◌≡◌, ℕ, ◌+◌, ◌⊎◌, Bool, true, false, cond, List, [], ◌∷◌, ◌++◌, length, Option, None}
+use Rattle.std.proofs.Common.{◌≡◌, ℕ, ◌+◌, ◌⊎◌, Bool, true, false, List, [], ◌∷◌, ◌++◌, length, Option, None}
 use Rattle.std.proofs.Common.{Some, Result, Ok, Err, inl, inr, refl, sym, ap, ◌∙◌, subst, is_none}
 use Rattle.std.specs.Prelude.{◌≢◌, IsSome}
 use Rattle.std.specs.Io.KnownBytes.{Appends}
@@ -10,28 +10,29 @@ use Rattle.reh_types.specs.declared.moves.Reply.{Reply}
 use Rattle.reh_types.specs.declared.moves.Reply.TheVariants.{Done, Clock, Issued, Discarded, Refused}
 use Rattle.reh_types.specs.declared.names.Aim.{Aim}
 use Rattle.reh_types.specs.declared.refusals.Refusal.TheVariants.{NotOut, NoMemory}
-use Rattle.reh_model.specs.Book.{Book, answer_to, book_after, is_written, or_refused, ticket_place, ticket, Answers}
+use Rattle.reh_model.specs.Book.{Book, answer_to, book_after, or_refused, ticket_place, ticket, Answers}
 use Rattle.reh_model.specs.Checks.{reason_if}
 use Rattle.reh_model.specs.Cluster.{Cluster}
 use Rattle.reh_model.specs.Session.{state_of}
 use Rattle.reh_desk.specs.Kept.{Kept, Called}
 use Rattle.reh_desk.specs.Numbered.{Numbered}
 use Rattle.reh_desk.specs.Seats.{SeatView, gained}
-use Rattle.reh_script.specs.declared.commands.Command.{Command}
-use Rattle.reh_script.specs.declared.commands.Command.TheVariants as command
-use Rattle.reh_script.specs.declared.commands.LineFault.{LineFault}
-use Rattle.reh_script.specs.declared.faults.PlayFault.{PlayFault}
-use Rattle.reh_script.specs.declared.faults.PlayFault.TheVariants as fault
-use Rattle.reh_script.specs.Answers.{asked, reply_answer, numbered}
+use Rattle.reh_commands.specs.declared.commands.Command.{Command}
+use Rattle.reh_commands.specs.declared.commands.Command.TheVariants as command
+use Rattle.reh_commands.specs.declared.commands.LineFault.{LineFault}
+use Rattle.reh_play.specs.declared.faults.PlayFault.{PlayFault}
+use Rattle.reh_play.specs.declared.faults.PlayFault.TheVariants as fault
+use Rattle.reh_commands.specs.Answers.{asked, reply_answer, numbered}
 use Rattle.reh_script.specs.BookPlays.{TranscribesAll, TranscribesPart, TranscribesUntil, TranscribesBetween}
 use Rattle.reh_script.specs.BookPlays.{CallMayWant, MayWantMemory}
 use Rattle.reh_script.specs.BookPlays.{LacksAnswer, IsTranscribed, Transcribes, at_book}
-use Rattle.reh_script.specs.Hand.{call_of, discard_of, found, hand_after, hand_issued, HandAfter, HandIssued}
-use Rattle.reh_script.specs.Lines.{answered_lines}
-use Rattle.reh_script.specs.Players.{Player, seated, Calls, Commands, Takes, TakesAll, Begins, GivesBack}
-use Rattle.reh_script.specs.Plays.{stop_of, AnswersAll, StopsWriting, StopsWanting, StopsBetween, IsPlayed, Plays}
-use Rattle.reh_script.specs.Transcript.{BookPlayer, answer_by, after_by, answer_of, after_command, transcript}
-use Rattle.reh_script.specs.Transcript.{after_lines, given_back, end_of}
+use Rattle.reh_transcript.specs.Hand.{call_of, discard_of, found, hand_after, hand_issued, HandAfter, HandIssued}
+use Rattle.reh_lines.specs.Lines.{answered_lines}
+use Rattle.reh_play.proofs.Sitting.{gained_number}
+use Rattle.reh_play.specs.Players.{Player, seated, Calls, Commands, Takes, TakesAll, Begins, GivesBack}
+use Rattle.reh_play.specs.Plays.{stop_of, AnswersAll, StopsWriting, StopsWanting, StopsBetween, IsPlayed, Plays}
+use Rattle.reh_transcript.specs.Transcript.{BookPlayer, answer_by, after_by, answer_of, after_command, transcript}
+use Rattle.reh_transcript.specs.Transcript.{after_lines, given_back, end_of}
 
 -- a book's player, without its seat
 abbrev pub player : Player Kept → BookPlayer
@@ -45,14 +46,6 @@ pub record Follows (x : Player Kept) (text : List ℕ) (y : Player Kept) (given 
   pub seat_is : y.seat.number ≡ x.seat.number
 
 -- Calls
-
-either_number : (written : Bool) (s t : SeatView) → t.number ≡ s.number → (cond written t s).number ≡ s.number
-either_number true s t same = same
-either_number false s t same = refl
-
--- a seat keeps its number
-pub gained_number : (s : SeatView) (c : Call) (reply : Reply) → (gained s c reply).number ≡ s.number
-gained_number s c reply = either_number (is_written reply) s _ refl
 
 -- an answer that is no want of memory is the book's
 pub answer_is : (b : Book) (seat : ℕ) (c : Call) (reply : Reply) (after : Book) → Answers b seat c reply after

@@ -7,17 +7,17 @@ use Rattle.reh_model.specs.Book as model
 use Rattle.reh_model.specs.Book.{Book, answer_to}
 use Rattle.reh_model.specs.Session.{state_of}
 use Rattle.reh_desk.specs.Kept.{Kept, Called}
-use Rattle.reh_script.specs.declared.commands.Command.{Command}
-use Rattle.reh_script.specs.declared.commands.LineFault.{LineFault}
-use Rattle.reh_script.specs.Answers.{asked}
-use Rattle.reh_script.specs.Hand.{call_of}
-use Rattle.reh_script.specs.Lines.{answered_lines}
-use Rattle.reh_script.specs.Plays.{stop_of}
-use Rattle.reh_script.specs.Players.{Setting, setting, AsksForSurvey}
-use Rattle.reh_script.specs.Readings.{Gives}
-use Rattle.reh_script.specs.Transcript.{BookPlayer, starting, transcript, line_answer, after_line, after_lines, end_of}
-use Rattle.reh_script.specs.declared.faults.PlayFault.{PlayFault}
-use Rattle.reh_script.specs.declared.faults.PlayFault.TheVariants.{ReadFault, TooLong, WriteFault, NoMemory, NoThread}
+use Rattle.reh_commands.specs.declared.commands.Command.{Command}
+use Rattle.reh_commands.specs.declared.commands.LineFault.{LineFault}
+use Rattle.reh_commands.specs.Answers.{asked}
+use Rattle.reh_transcript.specs.Hand.{call_of}
+use Rattle.reh_lines.specs.Lines.{answered_lines}
+use Rattle.reh_play.specs.Plays.{stop_of}
+use Rattle.reh_play.specs.Players.{Setting, setting, AsksForSurvey}
+use Rattle.reh_lines.specs.Readings.{Gives}
+use Rattle.reh_transcript.specs.Transcript.{BookPlayer, starting, transcript, line_answer, after_line, after_lines, end_of}
+use Rattle.reh_play.specs.declared.faults.PlayFault.{PlayFault}
+use Rattle.reh_play.specs.declared.faults.PlayFault.TheVariants.{ReadFault, TooLong, WriteFault, NoMemory, NoThread}
 
 -- Every line was taken and answered.
 pub record TranscribesAll (names : List (List ℕ)) (seat : ℕ) (lines : List (List ℕ)) (p : BookPlayer) (b : Book)

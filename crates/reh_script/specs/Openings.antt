@@ -6,8 +6,8 @@ use Rattle.reh_desk.specs.Kept.{opened}
 use Rattle.reh_desk.specs.Seats.{new_seat}
 use Rattle.reh_fields.specs.declared.faults.PictureFault.{PictureFault}
 use Rattle.reh_picture.specs.Pictures.{picture_of}
-use Rattle.reh_script.specs.Readings.{Gives}
-use Rattle.reh_script.specs.declared.faults.PlayFault.TheVariants.{ReadFault, NoMemory}
+use Rattle.reh_lines.specs.Readings.{Gives}
+use Rattle.reh_play.specs.declared.faults.PlayFault.TheVariants.{ReadFault, NoMemory}
 use Rattle.reh_script.specs.declared.faults.PipeFault.{PipeFault}
 use Rattle.reh_script.specs.declared.faults.PipeFault.TheVariants.{Picture, Play}
 use Rattle.reh_script.specs.declared.openings.Opened.{Opened}

@@ -6,14 +6,14 @@ use Rattle.reh_model.specs.Session.{opened_session}
 use Rattle.reh_model.specs.Book.{Book, new_book}
 use Rattle.reh_fields.specs.declared.faults.PictureFault.{PictureFault}
 use Rattle.reh_picture.specs.Pictures.{picture_of}
-use Rattle.reh_script.specs.Lines.{cut_of, is_told, answered_lines, lines_of, ended}
-use Rattle.reh_script.specs.Readings.{Gives}
-use Rattle.reh_script.specs.Plays.{stop_of, is_write_fault}
+use Rattle.reh_lines.specs.Lines.{cut_of, is_told, answered_lines, lines_of, ended}
+use Rattle.reh_lines.specs.Readings.{Gives}
+use Rattle.reh_play.specs.Plays.{stop_of, is_write_fault}
 use Rattle.reh_script.specs.BookPlays.{IsTranscribed, LeavesOff, Transcribes}
-use Rattle.reh_script.specs.Streams.{Reaches}
-use Rattle.reh_script.specs.Transcript.{starting, transcript}
-use Rattle.reh_script.specs.declared.faults.PlayFault.{PlayFault}
-use Rattle.reh_script.specs.declared.faults.PlayFault.TheVariants.{ReadFault, NoMemory}
+use Rattle.reh_lines.specs.Streams.{Reaches}
+use Rattle.reh_transcript.specs.Transcript.{starting, transcript}
+use Rattle.reh_play.specs.declared.faults.PlayFault.{PlayFault}
+use Rattle.reh_play.specs.declared.faults.PlayFault.TheVariants.{ReadFault, NoMemory}
 use Rattle.reh_script.specs.declared.faults.PipeFault.{PipeFault}
 use Rattle.reh_script.specs.declared.faults.PipeFault.TheVariants.{Picture, Play}
 

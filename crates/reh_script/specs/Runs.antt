@@ -6,8 +6,8 @@ use Rattle.reh_picture.specs.Pictures.{picture_of}
 use Rattle.reh_script.specs.BookPlays.{Transcribes}
 use Rattle.reh_script.specs.Openings.{OpensText}
 use Rattle.reh_script.specs.Pipes.{piped, GoesOutBehind}
-use Rattle.reh_script.specs.Readings.{Gives}
-use Rattle.reh_script.specs.declared.faults.PlayFault.{PlayFault}
+use Rattle.reh_lines.specs.Readings.{Gives}
+use Rattle.reh_play.specs.declared.faults.PlayFault.{PlayFault}
 use Rattle.reh_script.specs.declared.faults.PipeFault.{PipeFault}
 use Rattle.reh_script.specs.declared.openings.Opened.{Opened}
 

@@ -2,17 +2,14 @@
 ghost use Rattle.std.specs.Prelude.{◌≡◌, ◌⊎◌, ◌+◌, ◌≤◌, [], false, length, OnOk};
 ghost use Rattle.std.specs.Io.KnownBytes.{prepend_known};
 ghost use Rattle.reh_script.specs.BookPlays.{Transcribes, at_book};
-ghost use Rattle.reh_script.specs.Players.{seated};
-ghost use Rattle.reh_script.specs.Plays.{Plays, GoesOut, is_write_fault};
+ghost use Rattle.reh_play.specs.Players.{seated};
+ghost use Rattle.reh_play.specs.Plays.{Plays, GoesOut, is_write_fault};
 
-use crate::faults::PlayFault;
-use crate::hand::Hand;
-use crate::players::Tools;
-use crate::plays::{play, play_on};
-use crate::streams::{TextIn, TextOut};
 use reh_cluster::Names;
 use reh_crew::Surveyor;
 use reh_desk::{Book, Seat};
+use reh_lines::{TextIn, TextOut};
+use reh_play::{PlayFault, play};
 use reh_types::MAX_SCRIPT_BYTES;
 use std::alloc::Global;
 
@@ -49,33 +46,4 @@ pub fn play_book<V: Surveyor, R: TextIn, W: TextOut>(
     ensures calls { R.calls reader.new ≤ R.calls reader.old + (MAX_SCRIPT_BYTES + 1) }
 {
     play(alloc, book, seat, names, surveyor, reader, writer)
-}
-
-/// Plays a script whose first bytes are at hand, at a book of which no ticket is out, and gives the hand back.
-pub(crate) fn play_on_book<V: Surveyor, R: TextIn, W: TextOut>(
-    tools: &Tools<V>,
-    book: &mut Book,
-    seat: &mut Seat,
-    hand: Hand,
-    script: Vec<u8>,
-    reader: &mut R,
-    writer: &mut W,
-) -> Result<(), PlayFault>
-    requires out { length book.old.book.out ≡ seat.old.out }
-    requires surveys { V.surveys tools.now.surveyor.now }
-    requires empty { hand ≡ [] }
-    requires few { length script.items ≤ MAX_SCRIPT_BYTES }
-    requires reads { R.has_failed reader.old ≡ false }
-    requires writes { W.has_failed writer.old ≡ false }
-    ensures transcribes { Transcribes tools.now.names.now seat.old.number result (R.has_failed reader.new)
-        (prepend_known script.items (R.remaining reader.old)) (R.remaining reader.new)
-        book.old.book book.new.book (W.contents writer.old) (W.contents writer.new) }
-    ensures prompt { (reader.new ≡ reader.old) ⊎ GoesOut (at_book tools.now.names.now)
-        (prepend_known script.items (R.remaining reader.old)) (R.before reader.new) (seated book.old seat.old)
-        (W.contents writer.old) (W.seen writer.new) }
-    ensures seen { OnOk result (W.seen writer.new ≡ W.contents writer.new) }
-    ensures write { W.has_failed writer.new ≡ is_write_fault result }
-    ensures calls { R.calls reader.new ≤ R.calls reader.old + (MAX_SCRIPT_BYTES + 1) }
-{
-    play_on(tools, book, seat, hand, script, reader, writer)
 }

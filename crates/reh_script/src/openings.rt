@@ -6,12 +6,12 @@ ghost use Rattle.reh_desk.specs.Kept.{opened};
 ghost use Rattle.reh_desk.specs.Seats.{new_seat};
 ghost use Rattle.reh_script.specs.Openings.{Opens, OpensText};
 
-use crate::faults::{PipeFault, PlayFault};
-use crate::readings::read_text;
-use crate::streams::TextIn;
+use crate::faults::PipeFault;
 use reh_cluster::{Names, State};
 use reh_desk::{Book, Seat};
+use reh_lines::{TextIn, read_text};
 use reh_picture::read_picture;
+use reh_play::PlayFault;
 use reh_session::Session;
 use reh_types::MAX_PICTURE_BYTES;
 use std::alloc::{AllocError, Global};

@@ -2,19 +2,16 @@
 ghost use Rattle.std.specs.Prelude.{◌≡◌, ◌⊎◌, ◌+◌, ◌≤◌, ◌<◌, [], false, take, drop, length, List, ℕ, Option, OnOk};
 ghost use Rattle.std.specs.Io.KnownBytes.{prepend_known};
 ghost use Rattle.reh_picture.specs.Pictures.{picture_of};
-ghost use Rattle.reh_script.specs.Lines.{cut_of};
+ghost use Rattle.reh_lines.specs.Lines.{cut_of};
 ghost use Rattle.reh_script.specs.Pipes.{rehearsal_of, IsPiped, Pipes, PlaysBehind, GoesOutBehind, AnswersGoOut};
-ghost use Rattle.reh_script.specs.Pipes.{loses_output};
+ghost use Rattle.reh_script.specs.Pipes.{loses_output, piped};
+ghost use Rattle.reh_play.specs.Plays.{is_write_fault};
 
-use crate::book_plays::play_on_book;
-use crate::faults::{PipeFault, PlayFault};
-use crate::hand::Hand;
-use crate::heads::{Head, Percent, read_head};
-use crate::inputs::split_input;
+use crate::faults::PipeFault;
 use crate::openings::open_picture;
-use crate::players::Tools;
-use crate::streams::{TextIn, TextOut};
 use reh_crew::Surveyor;
+use reh_lines::{Head, Percent, TextIn, TextOut, read_head, split_input};
+use reh_play::{PlayFault, play_on};
 use reh_types::{MAX_PICTURE_BYTES, MAX_SCRIPT_BYTES};
 use std::alloc::Global;
 
@@ -61,7 +58,7 @@ fn open_whole(alloc: Global, input: &[u8]) -> Result<(), PipeFault>
     ensures writes_none { loses_output result ≡ false }
 {
     let (picture, _) = split_input(input);
-    open_picture(alloc, picture)?;
+    drop(open_picture(alloc, picture)?);
     Ok(())
 }
 
@@ -94,20 +91,27 @@ fn play_behind<V: Surveyor, R: TextIn, W: TextOut>(
     let script = input.split_off(percent.script)?;
     let mut rehearsal = open_picture(alloc, &input[..percent.picture])?;
     drop(input);
-    let hand = Hand::new(alloc)?;
-    let tools = Tools {
+    let end = play_on(
         alloc,
-        names: &rehearsal.names,
-        surveyor,
-    };
-    play_on_book(
-        &tools,
         &mut rehearsal.book,
         &mut rehearsal.seat,
-        hand,
+        &rehearsal.names,
+        surveyor,
         script,
         reader,
         writer,
-    )?;
-    Ok(())
+    );
+    drop(rehearsal);
+    pipe_end(end)
+}
+
+/// A play's end as the pipe's.
+pub(crate) fn pipe_end(end: Result<(), PlayFault>) -> Result<(), PipeFault>
+    ensures end { result ≡ piped end }
+    ensures write { loses_output result ≡ is_write_fault end }
+{
+    match end {
+        Ok(()) => Ok(()),
+        Err(fault) => Err(PipeFault::Play(fault)),
+    }
 }

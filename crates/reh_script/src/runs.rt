@@ -6,8 +6,9 @@ ghost use Rattle.reh_script.specs.Runs.{Runs, RunsOut};
 use crate::book_plays::play_book;
 use crate::faults::PipeFault;
 use crate::openings::open_text;
-use crate::streams::{TextIn, TextOut};
+use crate::pipes::pipe_end;
 use reh_crew::Surveyor;
+use reh_lines::{TextIn, TextOut};
 use reh_types::{MAX_PICTURE_BYTES, MAX_SCRIPT_BYTES};
 use std::alloc::Global;
 
@@ -39,7 +40,7 @@ pub fn run<V: Surveyor, P: TextIn, R: TextIn, W: TextOut>(
     ensures script_calls { R.calls script.new ≤ R.calls script.old + (MAX_SCRIPT_BYTES + 1) }
 {
     let mut rehearsal = open_text(alloc, picture)?;
-    play_book(
+    let end = play_book(
         alloc,
         &mut rehearsal.book,
         &mut rehearsal.seat,
@@ -47,6 +48,7 @@ pub fn run<V: Surveyor, P: TextIn, R: TextIn, W: TextOut>(
         surveyor,
         script,
         writer,
-    )?;
-    Ok(())
+    );
+    drop(rehearsal);
+    pipe_end(end)
 }

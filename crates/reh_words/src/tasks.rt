@@ -7,8 +7,8 @@ use crate::questions::asked_of_files;
 use clap::error::ErrorKind;
 use clap::{Arg, ArgAction, ArgMatches, Command, Error, value_parser};
 use reh_census::Question;
+use reh_commands::Verb;
 use reh_crew::{MAX_OPERATORS, MAX_WORKERS};
-use reh_script::Verb;
 use std::alloc::{AllocError, Global};
 
 /// What the program is asked to do.

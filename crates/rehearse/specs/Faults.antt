@@ -10,11 +10,11 @@ use Rattle.reh_fields.specs.Faults.{fault_text}
 use Rattle.reh_picture.specs.Expected.{located_text}
 use Rattle.reh_drill.specs.declared.faults.DrillFault.{DrillFault}
 use Rattle.reh_drill.specs.declared.faults.DrillFault.TheVariants as drill_fault
-use Rattle.reh_script.specs.declared.faults.PlayFault.TheVariants as play_fault
+use Rattle.reh_play.specs.declared.faults.PlayFault.TheVariants as play_fault
 use Rattle.reh_script.specs.declared.faults.PipeFault.{PipeFault}
 use Rattle.reh_script.specs.declared.faults.PipeFault.TheVariants as pipe_fault
 use Rattle.rehearse.specs.declared.faults.RunFault.{RunFault}
-use Rattle.reh_script.specs.declared.streams.StreamFault.{StreamFault}
+use Rattle.reh_lines.specs.declared.streams.StreamFault.{StreamFault}
 use Rattle.rehearse.specs.declared.faults.RunFault.TheVariants.{Picture, ReadFault, TooLong, WriteFault, NoMemory}
 use Rattle.rehearse.specs.declared.faults.RunFault.TheVariants.{NoThread, Refused, RefusedIn, Unfit, Misnamed, Unread, Close}
 

@@ -5,7 +5,7 @@ use Rattle.reh_types.specs.Sets.{Set, numbers}
 use Rattle.reh_model.specs.Book.{new_book}
 use Rattle.reh_model.specs.Cluster.{Cluster}
 use Rattle.reh_model.specs.Session.{replay, opened_session}
-use Rattle.reh_script.specs.Transcript.{starting, transcript}
+use Rattle.reh_transcript.specs.Transcript.{starting, transcript}
 use Rattle.reh_plan.specs.Plans.{Asks, Draft, Loses, Works, losses_of}
 use Rattle.reh_plan.specs.Replies.{ok_answers}
 use Rattle.reh_plan.proofs.PlanLaws.{works_on}

@@ -1,6 +1,6 @@
 -- The line that was read back is kept with the event that it asks for.
 use Rattle.std.proofs.Common.{◌∙◌, ap, sym, refl, arith, List, ℕ}
-use Rattle.reh_script.specs.Answers.{asked}
+use Rattle.reh_commands.specs.Answers.{asked}
 use Rattle.reh_plan.proofs.DraftLaws.{IsDraft-event, made_by}
 use Rattle.reh_plan.proofs.plans.Plan.make.Goals as goal
 

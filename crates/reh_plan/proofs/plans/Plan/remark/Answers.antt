@@ -1,6 +1,6 @@
 -- A comment asks for nothing.
 use Rattle.std.proofs.Common.{◌∙◌, ap, sym, refl, arith, List, ℕ}
-use Rattle.reh_script.specs.Answers.{asked}
+use Rattle.reh_commands.specs.Answers.{asked}
 use Rattle.reh_plan.proofs.DraftLaws.{IsDraft-none, remarked_by}
 use Rattle.reh_plan.proofs.plans.Plan.remark.Goals as goal
 

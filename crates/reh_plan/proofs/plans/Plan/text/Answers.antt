@@ -2,8 +2,8 @@
 use Rattle.std.proofs.Common.{◌≡◌, subst, arith}
 use Rattle.reh_model.specs.Book.{new_book}
 use Rattle.reh_model.specs.Session.{opened_session}
-use Rattle.reh_script.specs.Lines.{lines_of}
-use Rattle.reh_script.specs.Transcript.{starting, transcript}
+use Rattle.reh_lines.specs.Lines.{lines_of}
+use Rattle.reh_transcript.specs.Transcript.{starting, transcript}
 use Rattle.reh_plan.specs.Plans.{Draft}
 use Rattle.reh_plan.specs.Replies.{ok_answers}
 use Rattle.reh_plan.proofs.ReplyLaws.{plan_ok}

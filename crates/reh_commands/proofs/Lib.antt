@@ -1,0 +1,4 @@
+mod Numbers
+mod Examples
+pub mod WordLaws
+pub mod ReportLaws

@@ -1,0 +1,4 @@
+pub mod Script
+pub mod Texts
+pub mod Reports
+pub mod Answers

@@ -1,0 +1,18 @@
+// Commands and the words of their lines, and the texts of replies, reports and surveys.
+#![tactic(auto)]
+
+mod commands;
+mod reports;
+mod scripts;
+mod surveys;
+mod texts;
+mod verbs;
+mod words;
+
+pub use commands::{Command, LineFault};
+pub use reports::{push_report, report_text};
+pub use scripts::parse_line;
+pub use surveys::push_survey;
+pub use texts::{Named, reply_text};
+pub use verbs::Verb;
+pub use words::Role;

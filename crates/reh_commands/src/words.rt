@@ -1,0 +1,208 @@
+// The words of a line, and what those behind a verb name.
+ghost use Rattle.std.specs.Prelude.{◌≡◌, ◌≤◌, ◌∷◌, [], length, map, MatchOption, not, position};
+ghost use Rattle.std.specs.List.{position_or_len};
+ghost use Rattle.reh_commands.specs.Script as script;
+
+use crate::commands::LineFault;
+use reh_cluster::Names;
+use reh_types::BookieIx;
+use std::fmt;
+
+/// What a word behind a verb stands for.
+#[derive(Clone, Copy, PartialEq, Eq, Debug)]
+pub enum Role {
+    /// A bookie.
+    Bookie,
+    /// A worker, which goes by its bookie's name.
+    Worker,
+    /// A ledger's id.
+    Ledger,
+    /// A fragment of the ledger, counted from 0.
+    Fragment,
+    /// An index of the fragment's ensemble.
+    Index,
+    /// The version of the ledger's metadata.
+    Version,
+    /// How many ticks the clock goes on.
+    Ticks,
+}
+
+/// What a word has to be.
+#[derive(Clone, Copy)]
+pub enum Kind {
+    /// A bookie's name.
+    Name,
+    /// A number of 1 to 13 decimal digits.
+    Number,
+}
+
+impl Role {
+    /// What a word of this role has to be.
+    fn kind(self) -> Kind
+        ensures { result ≡ script.kind_of self }
+    {
+        match self {
+            Role::Bookie | Role::Worker => Kind::Name,
+            Role::Ledger | Role::Fragment | Role::Index | Role::Version | Role::Ticks =>
+                Kind::Number,
+        }
+    }
+}
+
+/// The role as it is written in help.
+impl fmt::Display for Role {
+    fn fmt<W: fmt::Write>(&self, f: &mut fmt::Formatter<W>) -> fmt::Result {
+        f.write_str(match self {
+            Role::Bookie => "BOOKIE",
+            Role::Worker => "WORKER",
+            Role::Ledger => "LEDGER",
+            Role::Fragment => "FRAGMENT",
+            Role::Index => "INDEX",
+            Role::Version => "VERSION",
+            Role::Ticks => "N",
+        })
+    }
+}
+
+/// What the words behind a verb name: at most one bookie, and at most four numbers in their order. Others are 0.
+#[derive(Clone, Copy)]
+pub struct Arguments {
+    pub bookie: BookieIx,
+    pub first: u64,
+    pub second: u64,
+    pub third: u64,
+    pub fourth: u64,
+}
+
+impl Arguments {
+    /// Nothing is named.
+    pub(crate) fn none() -> Arguments
+        ensures { result ≡ script.no_arguments }
+    {
+        Arguments {
+            bookie: BookieIx(0),
+            first: 0,
+            second: 0,
+            third: 0,
+            fourth: 0,
+        }
+    }
+
+    /// The same with a bookie before the others.
+    fn with_bookie(self, bookie: BookieIx) -> Arguments
+        ensures { result ≡ script.with_bookie bookie self }
+    {
+        Arguments { bookie, ..self }
+    }
+
+    /// The same with a number before the others.
+    fn with_number(self, number: u64) -> Arguments
+        ensures { result ≡ script.with_number number self }
+    {
+        Arguments {
+            bookie: self.bookie,
+            first: number,
+            second: self.first,
+            third: self.second,
+            fourth: self.third,
+        }
+    }
+}
+
+/// What the words of a text name, if they are what these roles want.
+pub(crate) fn read_words(names: &Names, roles: &[Role], text: &[u8]) -> Result<Arguments, LineFault>
+    ensures { result ≡ script.arguments_of names.now (map script.kind_of roles.now) (script.words_of text.now) }
+{
+    let next = next_word(text);
+    let [role, roles @ ..] = roles else {
+        return match next {
+            Some(_) => Err(LineFault::BadWords),
+            None => Ok(Arguments::none()),
+        };
+    };
+    let (word, rest) = next.ok_or(LineFault::BadWords)?;
+    match role.kind() {
+        Kind::Number => {
+            let number = parse_number(word).ok_or(LineFault::BadWords)?;
+            Ok(read_words(names, roles, rest)?.with_number(number))
+        }
+        Kind::Name => {
+            let others = read_words(names, roles, rest)?;
+            let bookie = names.find(word).ok_or(LineFault::UnknownName)?;
+            Ok(others.with_bookie(bookie))
+        }
+    }
+}
+
+/// The first word of a text, if there is one, and what follows it.
+pub(crate) fn next_word(text: &[u8]) -> Option<(&[u8], &[u8])>
+    ensures { MatchOption result (script.words_of text.now ≡ [])
+        (λ found. script.words_of text.now ≡ found.0.now ∷ script.words_of found.1.now) }
+{
+    let text = &text[blanks(text)..];
+    if text.is_empty() {
+        return None;
+    }
+    let end = word_len(text);
+    Some((&text[..end], &text[end..]))
+}
+
+/// How many bytes stand before the first word.
+fn blanks(text: &[u8]) -> usize
+    ensures count { result ≡ position_or_len (λ b. not (script.is_blank b)) text.now }
+    ensures within { result ≤ length text.now }
+{
+    match first_letter(text) {
+        Some(start) => start,
+        None => text.len(),
+    }
+}
+
+/// Where the first word begins, if there is one.
+fn first_letter(text: &[u8]) -> Option<usize>
+    ensures { result ≡ position (λ b. not (script.is_blank b)) text.now }
+{
+    text.iter().position(|b| !is_blank(*b))
+}
+
+/// How many bytes stand before the first space or tab.
+fn word_len(text: &[u8]) -> usize
+    ensures count { result ≡ position_or_len script.is_blank text.now }
+    ensures within { result ≤ length text.now }
+{
+    match first_blank(text) {
+        Some(end) => end,
+        None => text.len(),
+    }
+}
+
+/// Where the first space or tab stands, if there is one.
+fn first_blank(text: &[u8]) -> Option<usize>
+    ensures { result ≡ position script.is_blank text.now }
+{
+    text.iter().position(|b| is_blank(*b))
+}
+
+/// Whether the byte parts words.
+fn is_blank(byte: u8) -> bool
+    ensures { result ≡ script.is_blank byte }
+{
+    byte == b' ' || byte == b'\t'
+}
+
+/// The value of 1 to 13 decimal digits.
+fn parse_number(word: &[u8]) -> Option<u64>
+    ensures { result ≡ script.number_of word.now }
+{
+    if word.is_empty() || word.len() > 13 {
+        return None;
+    }
+    let mut value = 0u64;
+    for digit in word {
+        if !digit.is_ascii_digit() {
+            return None;
+        }
+        value = value * 10 + u64::from(*digit - b'0');
+    }
+    Some(value)
+}

@@ -1,0 +1,4 @@
+pub mod Lines
+pub mod Streams
+pub mod Readings
+pub mod Heads

@@ -1,5 +1,0 @@
-use Rattle.reh_script.proofs.Gathering.{grows_on}
-use Rattle.reh_script.proofs.gathered.GatheredTextOut.flush.Goals as goal
-
-pub returns-clause-grows : goal.returns-clause-grows
-returns-clause-grows g c = grows_on _ _ _ c.in_ok-send.ensures.seen c.flush.ensures.grows
