@@ -4,14 +4,17 @@ use Rattle.std.specs.Prelude.{◌==◌, count_by, sum_by}
 use Rattle.std.proofs.lemmas.Bool.Decides.{nat_tests}
 use Rattle.std.specs.List.{range_with_len}
 use Rattle.std.proofs.lemmas.List.FromFn.{length-range_with_len}
+use Rattle.reh_census.specs.declared.censuses.CountedEnsemble.{CountedEnsemble}
+use Rattle.reh_census.specs.declared.censuses.CountedTail.{CountedTail}
+use Rattle.reh_census.specs.declared.classes.Counted.{Counted}
 use Rattle.reh_census.specs.declared.ledgers.Fragment.{Fragment}
 use Rattle.reh_census.specs.declared.ledgers.LedgerState.{LedgerState}
 use Rattle.reh_census.specs.declared.ledgers.LedgerState.TheVariants.{Open, InRecovery}
-use Rattle.reh_census.specs.Counting.{count_ensembles, count_entries, count_fragment, count_ledger, tail_in, tail_of, tail_with}
+use Rattle.reh_census.specs.Counting.{count_ensembles, count_entries, count_fragment, count_ledger, ensembles_in, entries_in, tail_in, tail_of, tail_with, tails_in}
 use Rattle.reh_census.specs.Ledgers.{Ledger}
 use Rattle.reh_census.proofs.CountLaws.{count-cons}
 use Rattle.reh_tally.proofs.TailLaws.{tail_with-last}
-use Rattle.reh_tally.specs.Few.{AreFew, capped, entries_among, entries_of, fragments_of, tails_of}
+use Rattle.reh_tally.specs.Few.{AreFew, AreFewCounts, capped, entries_among, entries_of, fragments_of, tails_of}
 
 count-all : {X : Type 0} (xs : List X) → count_by (λ x. true) xs ≡ length xs
 count-all [] = refl
@@ -59,6 +62,27 @@ are_few-tested holders ledgers most is = (
       omega (arith, is, those.entries, entries-all holders ledgers, those.tails, those.ensembles, fragments-all ledgers) in
       grind (arith, nat_tests),
 )
+
+-- the same of what is counted
+pub are_few_counts-tested : (entries : List Counted) (tails : List CountedTail) (ensembles : List CountedEnsemble) (most : ℕ)
+    → most ≡ max (max (capped (entries_in entries)) (capped (tails_in tails))) (capped (ensembles_in ensembles))
+    → IsTrue (nat_le most (2 ^ 63)) ↔ AreFewCounts entries tails ensembles
+are_few_counts-tested entries tails ensembles most is = (
+  λ told.
+      let below : most ≤ 2 ^ 63 = within most (2 ^ 63) told in
+      record { entries = omega (arith, below, is); tails = omega (arith, below, is); ensembles = omega (arith, below, is) },
+  λ those.
+      let below : most ≤ 2 ^ 63 = omega (arith, is, those.entries, those.tails, those.ensembles) in
+      grind (arith, nat_tests),
+)
+
+pub few_counts-same : {entries others : List Counted} {tails rest : List CountedTail} {ensembles more : List CountedEnsemble}
+    → entries ≡ others → tails ≡ rest → ensembles ≡ more → AreFewCounts entries tails ensembles → AreFewCounts others rest more
+few_counts-same entries tails ensembles those = record {
+  entries = subst (λ (xs : List Counted). entries_in xs ≤ 2 ^ 63) entries those.entries;
+  tails = subst (λ (xs : List CountedTail). tails_in xs ≤ 2 ^ 63) tails those.tails;
+  ensembles = subst (λ (xs : List CountedEnsemble). ensembles_in xs ≤ 2 ^ 63) ensembles those.ensembles;
+}
 
 -- a ledger that isn't closed, and has an ensemble, has one tail
 pub one_tail : (g : Ledger) (state : LedgerState) → g.state ≡ state → (length g.fragments == 0) ≡ false → (state ≡ Open) ⊎ (state ≡ InRecovery)

@@ -1,7 +1,7 @@
 -- Masks.
-use Rattle.std.proofs.Common.{◌≡◌, ◌≢◌, ◌∙◌, ◌+◌, ◌-◌, ◌*◌, ◌/◌, ◌%◌, ◌^◌, ◌<◌, ◌≤◌, ◌&&◌, cond, ℕ, Bool, true, false, List, [], ◌∷◌, ◌++◌, All, length, get_or, drop, map, refl, ap, sym, append_assoc, arith}
-use Rattle.std.specs.Prelude.{◌==◌, min, bit_and}
-use Rattle.std.specs.Int.Bits.{and_step}
+use Rattle.std.proofs.Common.{◌≡◌, ◌≢◌, ◌∙◌, ◌+◌, ◌-◌, ◌*◌, ◌/◌, ◌%◌, ◌^◌, ◌<◌, ◌≤◌, ◌&&◌, ◌||◌, cond, ℕ, Bool, true, false, List, [], ◌∷◌, ◌++◌, All, length, get_or, drop, map, refl, ap, sym, append_assoc, arith}
+use Rattle.std.specs.Prelude.{◌==◌, max, min, bit_and, bit_or}
+use Rattle.std.specs.Int.Bits.{and_step, or_step}
 use Rattle.std.specs.List.{filter}
 use Rattle.std.proofs.lemmas.Bool.Decides.{nat_tests}
 use Rattle.std.proofs.lemmas.Nat.{div-mul-add, mod-mul-add}
@@ -51,6 +51,23 @@ and-mask test other (b ∷ bookies) =
     and_step (m * 2 + cond (test b) 1 0) (n * 2 + cond (other b) 1 0)
     ∙ (λ i. bit_and (half m (test b) i) (half n (other b) i) * 2 + min (lowest m (test b) i) (lowest n (other b) i))
     ∙ (λ i. and-mask test other bookies i * 2 + both_bits (test b) (other b) i)
+
+either_bit : (a b : Bool) → max (cond a 1 0) (cond b 1 0) ≡ cond (a || b) 1 0
+either_bit true true = refl
+either_bit true false = refl
+either_bit false true = refl
+either_bit false false = refl
+
+-- the bits that one of two masks has are those of either test
+pub or-mask : (test other : ℕ → Bool) (bookies : List ℕ)
+    → bit_or (mask_of test bookies) (mask_of other bookies) ≡ mask_of (λ b. test b || other b) bookies
+or-mask test other [] = refl
+or-mask test other (b ∷ bookies) =
+    let m : ℕ = mask_of test bookies in
+    let n : ℕ = mask_of other bookies in
+    or_step (m * 2 + cond (test b) 1 0) (n * 2 + cond (other b) 1 0)
+    ∙ (λ i. bit_or (half m (test b) i) (half n (other b) i) * 2 + max (lowest m (test b) i) (lowest n (other b) i))
+    ∙ (λ i. or-mask test other bookies i * 2 + either_bit (test b) (other b) i)
 
 one_more : (m p : ℕ) (b : Bool) → m < p → m * 2 + cond b 1 0 < p * 2
 one_more m p true below = omega arith

@@ -1,7 +1,10 @@
 -- How much a census counts.
 use Rattle.std.specs.Prelude.{ℕ, ◌≤◌, ◌^◌, ◌-◌, min, true, List, count_by, sum_by, length}
 use Rattle.reh_census.specs.declared.ledgers.Fragment.{Fragment}
-use Rattle.reh_census.specs.Counting.{count_ensembles, count_entries, count_tails, tail_of}
+use Rattle.reh_census.specs.declared.censuses.CountedEnsemble.{CountedEnsemble}
+use Rattle.reh_census.specs.declared.censuses.CountedTail.{CountedTail}
+use Rattle.reh_census.specs.declared.classes.Counted.{Counted}
+use Rattle.reh_census.specs.Counting.{count_ensembles, count_entries, count_tails, ensembles_in, entries_in, tail_of, tails_in}
 use Rattle.reh_census.specs.Ledgers.{Ledger}
 
 -- the ledgers have no more entries, tails and fragments than a census counts
@@ -9,6 +12,12 @@ pub record AreFew (holders : List ℕ) (ledgers : List Ledger) : Type 0 where
   pub entries : count_entries holders ledgers (λ class. true) ≤ 2 ^ 63
   pub tails : count_tails ledgers (λ tail. true) ≤ 2 ^ 63
   pub ensembles : count_ensembles ledgers (λ members. true) ≤ 2 ^ 63
+
+-- no more entries, tails and fragments are counted than a census counts
+pub record AreFewCounts (classes : List Counted) (kinds : List CountedTail) (members : List CountedEnsemble) : Type 0 where
+  pub entries : entries_in classes ≤ 2 ^ 63
+  pub tails : tails_in kinds ≤ 2 ^ 63
+  pub ensembles : ensembles_in members ≤ 2 ^ 63
 
 -- a number, or the greatest one of 64 bits
 abbrev pub capped : ℕ → ℕ

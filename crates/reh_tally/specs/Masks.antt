@@ -9,6 +9,10 @@ abbrev pub mask_of : {X : Type 0} → (X → Bool) → List X → ℕ
 mask_of test [] = 0
 mask_of test (x ∷ xs) = mask_of test xs * 2 + cond (test x) 1 0
 
+-- the bit of the one of these members that is this bookie, if one is
+abbrev pub bit_of : List ℕ → ℕ → ℕ
+bit_of members bookie = mask_of (λ member. bookie == member) members
+
 -- of these bookies those whose bits are set
 abbrev pub chosen : ℕ → List ℕ → List ℕ
 chosen mask [] = []

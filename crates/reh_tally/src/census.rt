@@ -69,8 +69,9 @@ pub fn census_of_few(
     ensures order { IfOk result (λ census. IsInOrder census) }
     ensures judged { IfOk result (λ census. census.judged ≡ judged) }
 {
-    let entries = merged(alloc, entries_of(alloc, bookies, ledgers)?)?;
-    let tails = merged_tails(alloc, tails_of(alloc, ledgers)?)?;
+    // What takes less memory comes first: its drafts then make room for the rest.
     let ensembles = merged_ensembles(alloc, ensembles_of(alloc, ledgers)?)?;
+    let tails = merged_tails(alloc, tails_of(alloc, ledgers)?)?;
+    let entries = merged(alloc, entries_of(alloc, bookies, ledgers)?)?;
     Ok(Census::of(entries, tails, ensembles, judged))
 }

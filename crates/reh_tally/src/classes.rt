@@ -1,31 +1,12 @@
-// Which members an entry is striped onto, what is told of them, and its class.
-ghost use Rattle.std.specs.Prelude.{◌≡◌, ◌^◌, ◌≤◌, IfOk, length};
+// What is told of members, and classes.
+ghost use Rattle.std.specs.Prelude.{◌≡◌, IfOk};
 ghost use Rattle.reh_census.specs.Ledgers as model;
 ghost use Rattle.reh_tally.specs.Cursors.{told_at};
 ghost use Rattle.reh_tally.specs.Segments as segments;
 
 use crate::masks::chosen;
-use crate::rounds::remainder_behind;
-use reh_census::{Class, Fragment, Ledger, Told};
+use reh_census::{Class, Ledger, Told};
 use std::alloc::{AllocError, Global};
-
-/// Whether the entry is striped onto the bookie.
-pub(crate) fn carries(ledger: &Ledger, fragment: &Fragment, entry: u64, bookie: u16) -> bool
-    requires whole { length fragment.now.ensemble ≡ ledger.now.size }
-    requires entry { entry ≤ 2 ^ 63 }
-    ensures { result ≡ model.carries ledger.now fragment.now entry bookie }
-{
-    let ensemble = fragment.ensemble.as_slice();
-    let size = ledger.size();
-    let remainder = entry % size;
-    for rank in 0..ledger.write_quorum() {
-        let index = remainder_behind(remainder, rank, size);
-        if ensemble[index as usize] == bookie {
-            return true;
-        }
-    }
-    false
-}
 
 /// The number of the bookie's content; past the last one, where it has none.
 pub(crate) fn content_of(ledger: &Ledger, bookie: u16) -> usize

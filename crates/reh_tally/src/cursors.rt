@@ -42,7 +42,7 @@ fn is_rising(told: &Told) -> bool
 pub(crate) fn risings_of(alloc: Global, ledger: &Ledger) -> Result<Vec<bool>, AllocError>
     ensures { IfOk result (λ risings. model.AreRisings ledger.now risings.items) }
 {
-    let mut risings = Vec::new(alloc);
+    let mut risings = Vec::with_capacity(alloc, ledger.contents().len().saturating_add(1))?;
     for content in ledger.contents() {
         risings.push(is_rising(&content.told))?;
     }
@@ -129,7 +129,7 @@ pub(crate) fn cursors_of(
     ensures told { IfOk result (λ cursors. All (model.IsCursor ledger.now first) cursors.items) }
     ensures none { IfOk result (λ cursors. All (λ c. c.stretch.end ≤ first) cursors.items) }
 {
-    let mut cursors = Vec::new(alloc);
+    let mut cursors = Vec::with_capacity(alloc, members.len())?;
     for bookie in members {
         let cursor = cursor_of(ledger, risings, *bookie, first);
         cursors.push(cursor)?;

@@ -86,7 +86,7 @@ pub(crate) fn joined<L: Line>(alloc: Global, lines: Vec<L>) -> Result<Vec<L>, Al
 {
     let mut sorted = lines;
     sorted.sort_by(|left, right| right.cmp_kind(left))?;
-    let mut joined = Vec::new(alloc);
+    let mut joined = Vec::with_capacity(alloc, sorted.len())?;
     while let Some(line) = sorted.pop() {
         add_line(&mut joined, line)?;
     }

@@ -7,21 +7,21 @@ use Rattle.reh_tally.proofs.joins.joined.Goals as goal
 
 pub loop-line-init : goal.loop-line-init
 loop-line-init g c =
-    let none : length c.new-joined.result.items ≡ 0 = ap length c.new-joined.ensures.items in
+    let none : length c.in_ok-joined.joined.items ≡ 0 = ap length c.in_ok-joined.ensures.items in
     record {
       counts = λ test.
           ap (λ n. n + sum_by (λ one. cond (test (g.L.Line.kind one)) (g.L.Line.count one) 0) c.sort_by.new.self.items)
-          (sum-none (λ one. cond (test (g.L.Line.kind one)) (g.L.Line.count one) 0) c.new-joined.result.items none)
+          (sum-none (λ one. cond (test (g.L.Line.kind one)) (g.L.Line.count one) 0) c.in_ok-joined.joined.items none)
           ∙ omega arith;
       sorted =
           c.in_ok-sort_by.ensures.sorted (falls g.L.Line.kind g.L.Line.cmp) (falls_order g.L.Line.kind g.L.Line.cmp g.met.L.Line.total)
           (always_returns_same _ _ _ (λ a r f k. (search rules, search rules)));
       behind = λ k d within.
           All-none (λ one. is_gt (g.L.Line.cmp (g.L.Line.kind one) (g.L.Line.kind (get_or c.sort_by.new.self.items k d))) ≡ false)
-          c.new-joined.result.items none;
-      order = InOrder-none (λ one next. g.L.Line.cmp (g.L.Line.kind one) (g.L.Line.kind next)) c.new-joined.result.items none;
-      some = All-none (λ one. 1 ≤ g.L.Line.count one) c.new-joined.result.items none;
-      fit = All-none (λ one. g.L.Line.IsFit (g.L.Line.kind one)) c.new-joined.result.items none;
+          c.in_ok-joined.joined.items none;
+      order = InOrder-none (λ one next. g.L.Line.cmp (g.L.Line.kind one) (g.L.Line.kind next)) c.in_ok-joined.joined.items none;
+      some = All-none (λ one. 1 ≤ g.L.Line.count one) c.in_ok-joined.joined.items none;
+      fit = All-none (λ one. g.L.Line.IsFit (g.L.Line.kind one)) c.in_ok-joined.joined.items none;
       fits =
           All-permutation (λ one. g.L.Line.IsFit (g.L.Line.kind one)) c.args.lines.items c.sort_by.new.self.items
           c.in_ok-sort_by.ensures.permutation c.requires.fit;

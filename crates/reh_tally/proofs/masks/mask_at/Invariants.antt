@@ -1,14 +1,11 @@
--- The bits of the members that are passed, from the last.
-use Rattle.std.proofs.Common.{◌≡◌, ◌≤◌, drop, length}
-use Rattle.reh_census.specs.Ledgers.{carries}
-use Rattle.reh_tally.specs.Masks.{mask_of}
+-- The members of the ranks that are passed.
+use Rattle.std.proofs.Common.{◌≡◌, ℕ, List, map}
+use Rattle.reh_census.specs.declared.ledgers.Fragment.{Fragment}
+use Rattle.reh_tally.specs.Masks.{bit_of, mask_of}
+use Rattle.reh_tally.proofs.ClassLaws.{carries_first}
 use Rattle.reh_tally.proofs.masks.mask_at.Given as goal
 
-abbrev pub invariant-loop-index : goal.invariant-loop-index
-invariant-loop-index l = record {
-  within : l.index ≤ length l.members;
-  bits : l.mask ≡ mask_of (carries l.ledger l.fragment l.entry) (drop l.index l.members);
-}
-
-abbrev pub decreases-loop-index : goal.decreases-loop-index
-decreases-loop-index l = l.index
+abbrev pub invariant-loop-rank : goal.invariant-loop-rank
+invariant-loop-rank l =
+    (members : List ℕ) (fragment : Fragment) → l.bits ≡ map (bit_of members) fragment.ensemble
+    → l.mask ≡ mask_of (carries_first l.ledger fragment l.remainder l.rank) members
