@@ -8,11 +8,7 @@ use reh_census::{Answer, Broken, Rule};
 use std::alloc::{AllocError, Global};
 
 /// Adds a number under a name.
-pub fn add_number(
-    json: &mut Writer<Global>,
-    name: &str,
-    number: u64,
-) -> Result<(), AllocError>
+pub fn add_number(json: &mut Writer<Global>, name: &str, number: u64) -> Result<(), AllocError>
     ensures { OnOk result (objects.Adds (objects.member_tokens name.now
         (objects.number_json number)) json.old json.new) }
 {
