@@ -106,7 +106,7 @@ answer-first answer rest =
 
 -- How deep the object is
 
-items-depth : {X : Type 0} (f : X → Json) (n : ℕ) → ((x : X) → depth (f x) ≤ n) → (xs : List X) → items_depth (items_of (map f xs)) ≤ n
+pub items-depth : {X : Type 0} (f : X → Json) (n : ℕ) → ((x : X) → depth (f x) ≤ n) → (xs : List X) → items_depth (items_of (map f xs)) ≤ n
 items-depth f n each [] = omega arith
 items-depth f n each (x ∷ xs) = omega (arith, each x, items-depth f n each xs)
 
@@ -129,13 +129,18 @@ answer-depth facts names against further =
       items-depth string 0 (λ t. omega arith) (notes_of facts names ++ further),
     )
 
--- what a reader of JSON reads of the line
+-- what a reader of JSON reads of a value's tokens
+pub reads : (value_of : Json) (line : List ℕ) → depth value_of ≤ 128 → tokens line ≡ json_tokens value_of
+    → document line ≡ Some value_of
+reads value_of line shallow is =
+    ap (λ ts. option_and_then (λ (p : Json × List Token). if_last p.0 p.1) (value max_depth ts))
+    (is ∙ sym (append-nil (json_tokens value_of)))
+    ∙ ap (λ (o : Option (Json × List Token)). option_and_then (λ p. if_last p.0 p.1) o)
+    (value-json_tokens value_of max_depth [] shallow)
+
+-- and of the answer's
 pub line-reads : (facts : Facts) (names : List (List ℕ)) (against : List Against) (further : List (List ℕ)) (line : List ℕ)
     → tokens line ≡ json_tokens (answer_json facts names against further)
     → document line ≡ Some (answer_json facts names against further)
 line-reads facts names against further line is =
-    let value_of : Json = answer_json facts names against further in
-    ap (λ ts. option_and_then (λ (p : Json × List Token). if_last p.0 p.1) (value max_depth ts))
-    (is ∙ sym (append-nil (json_tokens value_of)))
-    ∙ ap (λ (o : Option (Json × List Token)). option_and_then (λ p. if_last p.0 p.1) o)
-    (value-json_tokens value_of max_depth [] (answer-depth facts names against further))
+    reads (answer_json facts names against further) line (answer-depth facts names against further) is

@@ -130,9 +130,12 @@ answer_with facts notes against further =
 abbrev pub answer_json : Facts → List (List ℕ) → List Against → List (List ℕ) → Json
 answer_json facts names against further = answer_with facts (notes_of facts names) against further
 
--- one object on one line
+-- a value on one line
+abbrev pub line_of : Json → List ℕ
+line_of value = print (json_tokens value) ++ codes "\n"
+
 abbrev pub json_of : Facts → List (List ℕ) → List Against → List (List ℕ) → List ℕ
-json_of facts names against further = print (json_tokens (answer_json facts names against further)) ++ codes "\n"
+json_of facts names against further = line_of (answer_json facts names against further)
 
 -- the text is a line that a reader of JSON reads as this value
 pub record IsLineOf (value : Json) (text : List ℕ) : Type 0 where

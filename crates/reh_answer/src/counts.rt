@@ -15,7 +15,7 @@ pub(crate) fn count_if(is: bool, count: u64) -> u64
 }
 
 /// How many entries there are.
-pub(crate) fn count_entries(census: &[Counted]) -> u64
+pub fn count_entries(census: &[Counted]) -> u64
     requires { entries_in census.now ≤ 2 ^ 63 }
     ensures { result ≡ count_in census.now (λ class. true) }
 {
@@ -27,7 +27,7 @@ pub(crate) fn count_entries(census: &[Counted]) -> u64
 }
 
 /// Of how many entries nobody told whether some bookie holds them.
-pub(crate) fn count_unknown(census: &[Counted]) -> u64
+pub fn count_unknown(census: &[Counted]) -> u64
     requires { entries_in census.now ≤ 2 ^ 63 }
     ensures { result ≡ count_in census.now (λ class. nat_lt 0 (length class.untold)) }
 {

@@ -19,10 +19,12 @@ mod verdicts;
 mod writers;
 
 pub use against::Against;
+pub use counts::{count_entries, count_unknown};
 pub use facts::{Facts, facts_of};
 pub use laws::keep_1_allows_it;
+pub use members::{add_null, add_number, add_text};
 pub use notes::notes_of;
-pub use objects::json_of;
+pub use objects::{json_of, text_in};
 pub use tables::Counts;
 pub use texts::{push_text, text_of};
 pub use unasked::Unasked;

@@ -7,12 +7,8 @@ use json::Writer;
 use reh_census::{Answer, Broken, Rule};
 use std::alloc::{AllocError, Global};
 
-/// Adds a number.
-pub(crate) fn add_number(
-    json: &mut Writer<Global>,
-    name: &str,
-    number: u64,
-) -> Result<(), AllocError>
+/// Adds a number under a name.
+pub fn add_number(json: &mut Writer<Global>, name: &str, number: u64) -> Result<(), AllocError>
     ensures { OnOk result (objects.Adds (objects.member_tokens name.now
         (objects.number_json number)) json.old json.new) }
 {
@@ -20,8 +16,8 @@ pub(crate) fn add_number(
     json.u64(number)
 }
 
-/// Adds a text.
-pub(crate) fn add_text(json: &mut Writer<Global>, name: &str, text: &str) -> Result<(), AllocError>
+/// Adds a text under a name.
+pub fn add_text(json: &mut Writer<Global>, name: &str, text: &str) -> Result<(), AllocError>
     ensures { OnOk result (objects.Adds (objects.member_tokens name.now (string text.now)) json.old json.new) }
 {
     json.key(name)?;
@@ -29,7 +25,7 @@ pub(crate) fn add_text(json: &mut Writer<Global>, name: &str, text: &str) -> Res
 }
 
 /// Adds nothing under a name.
-pub(crate) fn add_null(json: &mut Writer<Global>, name: &str) -> Result<(), AllocError>
+pub fn add_null(json: &mut Writer<Global>, name: &str) -> Result<(), AllocError>
     ensures { OnOk result (objects.Adds (objects.member_tokens name.now null) json.old json.new) }
 {
     json.key(name)?;

@@ -161,8 +161,8 @@ fn add_all(
     json.end_object()
 }
 
-/// The text of what was written.
-fn text_in(json: Writer<Global>) -> Result<String, AllocError>
+/// The text of what was written, which a reader reads as the same tokens.
+pub fn text_in(json: Writer<Global>) -> Result<String, AllocError>
     requires { json.before ≡ [] }
     ensures text { IfOk result (λ text. string_bytes text ≡ print json.tokens) }
     ensures reads_back { IfOk result (λ text. tokens (string_bytes text) ≡ json.tokens) }

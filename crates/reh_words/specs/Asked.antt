@@ -9,6 +9,7 @@ use Rattle.reh_census.specs.declared.questions.Keep.{Keep}
 use Rattle.reh_census.specs.declared.questions.Keep.TheVariants.{AckQuorum, Copies, AckLessOne}
 use Rattle.reh_census.specs.declared.questions.Question.{Question}
 use Rattle.reh_words.specs.declared.tasks.TheConstants.{MAX_FILES}
+use Rattle.reh_words.specs.declared.tasks.CensusWords.{CensusWords}
 use Rattle.reh_words.specs.declared.tasks.Inputs.{Inputs}
 use Rattle.reh_words.specs.declared.tasks.RiskWords.{RiskWords}
 use Rattle.reh_words.specs.declared.tasks.Stop.{Stop}
@@ -88,10 +89,15 @@ pub record IsRisk (given : ArgMatches) (words : RiskWords) : Type 0 where
   pub has_pairs : IsFlag given (codes "pairs") words.with_pairs
   pub prints : words.as_json ≡ is_json given
 
+-- what `census` is asked
+pub record IsCensus (given : ArgMatches) (words : CensusWords) : Type 0 where
+  pub reads : IsInputs given words.inputs
+  pub prints : words.as_json ≡ is_json given
+
 -- what one of these commands asks
 abbrev pub IsAsked : List ℕ → ArgMatches → Task → Type 0
 IsAsked command given (task.Stop stop) = (command ≡ codes "ok-to-stop") × IsStop given stop
 IsAsked command given (task.Waves words) = (command ≡ codes "waves") × IsWaves given words
 IsAsked command given (task.Risk words) = (command ≡ codes "risk") × IsRisk given words
-IsAsked command given (task.Census inputs) = (command ≡ codes "census") × IsInputs given inputs
+IsAsked command given (task.Census words) = (command ≡ codes "census") × IsCensus given words
 IsAsked command given other = ⊥

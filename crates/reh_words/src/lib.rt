@@ -5,6 +5,6 @@ mod questions;
 mod tasks;
 
 pub use tasks::{
-    Crew, DrillFiles, Input, Inputs, MAX_FILES, PlanWords, RiskWords, Stop, Task, WaveWords,
-    task_of,
+    CensusWords, Crew, DrillFiles, Input, Inputs, MAX_FILES, PlanWords, RiskWords, Stop, Task,
+    WaveWords, task_of,
 };

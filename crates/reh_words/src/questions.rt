@@ -2,7 +2,7 @@
 ghost use Rattle.std.specs.Prelude.{◌≡◌, map, IfOk, IfSome};
 ghost use Rattle.reh_words.specs.Asked as model;
 
-use crate::tasks::{Crew, Inputs, MAX_FILES, RiskWords, Stop, Task, WaveWords};
+use crate::tasks::{CensusWords, Crew, Inputs, MAX_FILES, RiskWords, Stop, Task, WaveWords};
 use clap::ArgMatches;
 use reh_census::{Keep, Question};
 use reh_crew::MAX_WORKERS;
@@ -20,7 +20,7 @@ pub(crate) fn asked_of_files<'a>(
         "ok-to-stop" => Task::Stop(asked_stop(alloc, given)?),
         "waves" => Task::Waves(asked_waves(alloc, given)?),
         "risk" => Task::Risk(asked_risk(alloc, given)?),
-        "census" => Task::Census(asked_inputs(alloc, given)?),
+        "census" => Task::Census(asked_census(alloc, given)?),
         _ => return Ok(None),
     };
     Ok(Some(task))
@@ -59,6 +59,16 @@ fn asked_risk<'a>(alloc: Global, given: &ArgMatches<'a>) -> Result<RiskWords<'a>
         inputs: asked_inputs(alloc, given)?,
         question: asked_question(given),
         with_pairs: is_given(given, "pairs"),
+        as_json: is_json(given),
+    })
+}
+
+/// What these matches of `census` ask for.
+fn asked_census<'a>(alloc: Global, given: &ArgMatches<'a>) -> Result<CensusWords<'a>, AllocError>
+    ensures { IfOk result (λ words. model.IsCensus given.now words) }
+{
+    Ok(CensusWords {
+        inputs: asked_inputs(alloc, given)?,
         as_json: is_json(given),
     })
 }

@@ -27,7 +27,7 @@ pub enum Task<'a> {
     /// Says what the next losses cost.
     Risk(RiskWords<'a>),
     /// Prints the census of files.
-    Census(Inputs<'a>),
+    Census(CensusWords<'a>),
     /// Plans what is to be done without some bookies of a picture.
     Plan(PlanWords<'a>),
 }
@@ -104,6 +104,13 @@ pub struct RiskWords<'a> {
     pub inputs: Inputs<'a>,
     pub question: Question,
     pub with_pairs: bool,
+    pub as_json: bool,
+}
+
+/// What is asked: the census of files.
+#[derive(Drop)]
+pub struct CensusWords<'a> {
+    pub inputs: Inputs<'a>,
     pub as_json: bool,
 }
 
@@ -341,9 +348,9 @@ fn risk_command<'a>(alloc: Global) -> Result<Command<'a>, Error> {
 /// The command `census`.
 fn census_command<'a>(alloc: Global) -> Result<Command<'a>, Error> {
     let command = Command::new(alloc, "census").about(
-        "Prints the census of files, which is read in their place",
+        "Prints the census of files, which as text is read in their place",
     );
-    with_files(alloc, command)
+    with_inputs(alloc, command)
 }
 
 /// What `--keep` may be: one less than the ack quorum, or so many copies.
@@ -392,11 +399,6 @@ fn with_inputs<'a>(alloc: Global, command: Command<'a>) -> Result<Command<'a>, E
         .value_name("FORMAT")
         .value_parser(FORMATS)
         .help("How the answer is printed; by default text");
-    with_files(alloc, command.arg(format)?)
-}
-
-/// The command with the arguments for the files of a cluster.
-fn with_files<'a>(alloc: Global, command: Command<'a>) -> Result<Command<'a>, Error> {
     let workers = workers_arg(alloc)?.help("How many workers read files, 1 to 8; by default 1");
     let files = Arg::new(alloc, "FILE")
         .required(true)
@@ -405,6 +407,7 @@ fn with_files<'a>(alloc: Global, command: Command<'a>) -> Result<Command<'a>, Er
             "Files with pictures of one cluster, or with censuses of them, which are judged as one",
         );
     let command = command
+        .arg(format)?
         .arg(flag_arg(alloc, "strict").help("What is assumed counts as untold"))?
         .arg(workers)?
         .arg(files)?;

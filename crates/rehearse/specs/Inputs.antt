@@ -1,10 +1,12 @@
 -- What is read of the files of a cluster, and what is said of it.
-use Rattle.std.specs.Prelude.{◌≡◌, ℕ, ◌%◌, Bool, true, false, List, [], ◌++◌, All, Option, Result, Ok, Err, String, codes, length, slice_get, string_bytes, vec_len, IfOk}
+use Rattle.std.specs.Prelude.{◌≡◌, ℕ, ◌%◌, Bool, true, false, if◌then◌else◌, List, [], ◌++◌, All, Option, Result, Ok, Err, String, codes, length, slice_get, string_bytes, vec_len, IfOk}
 use Rattle.std.specs.Borrow.{Bor}
 use Rattle.std.specs.Fmt.{decimal}
 use Rattle.std.specs.Option.{IsSomeAnd, option_and_then, option_map_or}
 use Rattle.std.specs.declared.alloc.Global.{Global}
 use Rattle.reh_census_file.specs.Texts.{text_of}
+use Rattle.reh_census_file.specs.Values.{NamedCensus}
+use Rattle.reh_census_json.specs.Objects.{json_of}
 use Rattle.reh_inputs.specs.Gathered.{Gathers}
 use Rattle.reh_inputs.specs.Inputs.{IsRead}
 use Rattle.reh_inputs.specs.Named.{named_of, taken_of}
@@ -19,6 +21,7 @@ use Rattle.reh_stop.specs.declared.rounds.AskedRisk.{AskedRisk}
 use Rattle.reh_stop.specs.declared.rounds.AskedWaves.{AskedWaves}
 use Rattle.reh_stop.specs.declared.stops.Asked.{Asked}
 use Rattle.reh_stop.specs.declared.stops.Said.{Said}
+use Rattle.reh_words.specs.declared.tasks.CensusWords.{CensusWords}
 use Rattle.reh_words.specs.declared.tasks.Inputs.{Inputs}
 use Rattle.reh_words.specs.declared.tasks.RiskWords.{RiskWords}
 use Rattle.reh_words.specs.declared.tasks.Stop.{Stop}
@@ -70,14 +73,17 @@ pub record SaysRisk (words : RiskWords) (text : String Global) : Type 0 where
   pub of_files : IsOfFiles words.inputs gathered
   pub says : SaysCost gathered (risk_asked words) text
 
--- what the text of a census says of all files
-pub record SaysCensus (words : Inputs) (text : String Global) : Type 0 where
+-- and of a census, as JSON or as text
+abbrev pub census_by : Bool → NamedCensus → List ℕ
+census_by as_json census = if as_json then json_of census else text_of census
+
+pub record SaysCensus (words : CensusWords) (text : String Global) : Type 0 where
   pub inputs : List Input
-  pub each_file : length inputs ≡ vec_len words.files
+  pub each_file : length inputs ≡ vec_len words.inputs.files
   pub are_read : All IsOfBytes inputs
   pub gathered : Gathered
-  pub gathers : Gathers inputs words.strict gathered
-  pub says : string_bytes text ≡ text_of (named_of gathered words.strict (taken_of inputs))
+  pub gathers : Gathers inputs words.inputs.strict gathered
+  pub says : string_bytes text ≡ census_by words.as_json (named_of gathered words.inputs.strict (taken_of inputs))
 
 -- Inputs that can't be judged together
 

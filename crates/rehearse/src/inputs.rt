@@ -7,13 +7,14 @@ ghost use Rattle.rehearse.specs.Inputs as model;
 
 use crate::checks::{read_input_file, write_text};
 use crate::faults::RunFault;
-use reh_census_file::{CensusFault, census_text};
+use reh_census_file::{CensusFault, NamedCensus, census_text};
+use reh_census_json::census_json;
 use reh_inputs::{
     EmptyHolds, GatherFault, Gathered, Input, InputFault, gather, named_of, read_input, taken_of,
 };
 use reh_picture::{LocatedFault, PictureFault};
 use reh_types::BookieIx;
-use reh_words::Inputs;
+use reh_words::{CensusWords, Inputs};
 use std::alloc::{AllocError, Global};
 use std::sync::Wait;
 use std::thread;
@@ -45,25 +46,38 @@ fn gather_read(alloc: Global, inputs: &Inputs<'_>, read: &[Input]) -> Result<Gat
 pub(crate) fn census_over<R: thread::Threads + Wait + Sync>(
     rt: &HostRuntime,
     threads: &R,
-    inputs: &Inputs<'_>,
+    words: &CensusWords<'_>,
 ) -> Result<(), RunFault> {
-    let text = census_of(rt, threads, inputs)?;
+    let text = census_of(rt, threads, words)?;
     write_text(rt, text.as_str()).map_err(|_| RunFault::WriteFault)
 }
 
-/// The census of the files, as text.
+/// The census of the files, as text or as JSON.
 fn census_of<R: thread::Threads + Wait + Sync>(
     rt: &HostRuntime,
     threads: &R,
-    inputs: &Inputs<'_>,
+    words: &CensusWords<'_>,
 ) -> Result<String, RunFault>
-    ensures { IfOk result (λ text. model.SaysCensus inputs.now text) }
+    ensures { IfOk result (λ text. model.SaysCensus words.now text) }
 {
+    let inputs = &words.inputs;
     let read = read_files(rt, threads, inputs)?;
     let gathered = gather_read(rt.alloc(), inputs, &read)?;
     let taken = copy_taken(rt.alloc(), &read)?;
     let census = named_of(rt.alloc(), gathered, inputs.strict, taken)?;
-    let text = census_text(rt.alloc(), &census)?;
+    let text = say_census(rt.alloc(), &census, words.as_json)?;
+    Ok(text)
+}
+
+/// The census as text, or as JSON.
+fn say_census(alloc: Global, census: &NamedCensus, as_json: bool) -> Result<String, AllocError>
+    ensures { IfOk result (λ text. string_bytes text ≡ model.census_by as_json census.now) }
+{
+    if as_json {
+        let text = census_json(alloc, census)?;
+        return Ok(text);
+    }
+    let text = census_text(alloc, census)?;
     Ok(text)
 }
 

@@ -48,7 +48,7 @@ fn main(rt: HostRuntime) -> ExitCode {
         },
         Ok(Task::Waves(words)) => end(&rt, waves_over(&rt, &rt, &words)),
         Ok(Task::Risk(words)) => end(&rt, risk_over(&rt, &rt, &words)),
-        Ok(Task::Census(inputs)) => end(&rt, census_over(&rt, &rt, &inputs)),
+        Ok(Task::Census(words)) => end(&rt, census_over(&rt, &rt, &words)),
         Ok(Task::Plan(words)) => end(&rt, plan_file(&rt, &words)),
         Err(error) => show(&rt, &error),
     }

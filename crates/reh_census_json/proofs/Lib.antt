@@ -1,0 +1,2 @@
+mod BookieLaws
+mod ValueLaws

@@ -1,0 +1,30 @@
+use Rattle.std.proofs.Common.{◌∙◌, ap, List, length, nat_lt, true}
+use Rattle.std.specs.Prelude.{codes}
+use Rattle.reh_census.specs.Counting.{Census, count_in}
+use Rattle.reh_census.specs.declared.classes.Counted.{Counted}
+use Rattle.reh_answer.specs.Objects.{member_tokens}
+use Rattle.reh_census_json.specs.Objects as model
+use Rattle.reh_answer.proofs.ObjectLaws.{in_place, last, one, then}
+use Rattle.reh_census_json.proofs.objects.add_judged.Goals as goal
+
+pub returns : goal.returns
+returns c =
+    in_place c.end_object.result c.args.json.now c.end_object.new.self _ _
+    (λ i. member_tokens (codes "judged") (model.judged_with
+    ((c.judged-judged.ensures ∙ ap (λ (census : Census). census.judged) c.census-counted.ensures) i)
+    ((c.count_entries.ensures ∙ ap (λ (entries : List Counted). count_in entries (λ class. true))
+    (c.entries-entries.ensures.entries ∙ ap (λ (census : Census). census.entries) c.census-counted.ensures)) i)
+    ((c.count_unknown.ensures ∙ ap (λ (entries : List Counted). count_in entries (λ class. nat_lt 0 (length class.untold)))
+    (c.entries-entries.ensures.entries ∙ ap (λ (census : Census). census.entries) c.census-counted.ensures)) i)
+    c.args.census.now.taken))
+    (then c.end_object.result c.args.json.now c.key.new.self c.end_object.new.self _ _ (one c.args.json.now c.key.new.self _ c.in_ok-key.ensures.ok c.in_ok-key.ensures.room.0)
+    (then c.end_object.result c.key.new.self c.begin_object.new.self c.end_object.new.self _ _ (one c.key.new.self c.begin_object.new.self _ c.in_ok-begin_object.ensures.ok c.in_ok-begin_object.ensures.room.0)
+    (then c.end_object.result c.begin_object.new.self c.add_number.new.json c.end_object.new.self _ _ c.in_ok-add_number.ensures
+    (then c.end_object.result c.add_number.new.json c.add_number-2.new.json c.end_object.new.self _ _ c.in_ok-add_number-2.ensures
+    (then c.end_object.result c.add_number-2.new.json c.add_number-3.new.json c.end_object.new.self _ _ c.in_ok-add_number-3.ensures
+    (then c.end_object.result c.add_number-3.new.json c.add_number-4.new.json c.end_object.new.self _ _ c.in_ok-add_number-4.ensures
+    (then c.end_object.result c.add_number-4.new.json c.add_number-5.new.json c.end_object.new.self _ _ c.in_ok-add_number-5.ensures
+    (then c.end_object.result c.add_number-5.new.json c.add_number-6.new.json c.end_object.new.self _ _ c.in_ok-add_number-6.ensures
+    (then c.end_object.result c.add_number-6.new.json c.add_null.new.json c.end_object.new.self _ _ c.in_ok-add_null.ensures
+    (then c.end_object.result c.add_null.new.json c.add_taken.new.json c.end_object.new.self _ _ c.in_ok-add_taken.ensures
+    (last c.end_object.result c.add_taken.new.json c.end_object.new.self _ c.end_object.ensures)))))))))))

@@ -1,0 +1,7 @@
+// A census as JSON.
+#![tactic(auto)]
+
+mod members;
+mod objects;
+
+pub use objects::census_json;
