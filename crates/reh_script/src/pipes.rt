@@ -58,7 +58,7 @@ fn open_whole(alloc: Global, input: &[u8]) -> Result<(), PipeFault>
     ensures writes_none { loses_output result ≡ false }
 {
     let (picture, _) = split_input(input);
-    drop(open_picture(alloc, picture)?);
+    open_picture(alloc, picture)?;
     Ok(())
 }
 
@@ -101,7 +101,6 @@ fn play_behind<V: Surveyor, R: TextIn, W: TextOut>(
         reader,
         writer,
     );
-    drop(rehearsal);
     pipe_end(end)
 }
 

@@ -49,6 +49,5 @@ pub fn run<V: Surveyor, P: TextIn, R: TextIn, W: TextOut>(
         script,
         writer,
     );
-    drop(rehearsal);
     pipe_end(end)
 }
