@@ -11,9 +11,9 @@ loop-name-preserved c =
     c.name-item.result c.loop-name-test.true c.loop-name.invariant
     (subst (λ (bytes : List ℕ). All (λ b. (32 ≤ b) × (b < 127)) bytes)
     (c.as_str.ensures.value ∙ ap (λ (name : String Global). string_bytes name) c.name-item.is)
-    (c.if-not-is_printable.ensures refl))
+    (c.if-not-is_printable.ensures.yes refl))
 
-pub returns : goal.returns
-returns c = λ _.
+pub returns-clause-yes : goal.returns-clause-yes
+returns-clause-yes c = λ _.
     subst (λ (names : List (String Global)). ArePrintable names)
     (take_all c.loop-name.name-index c.args.names.now (omega (arith, c.loop-name-test.false))) c.loop-name.invariant
