@@ -20,7 +20,7 @@ use Rattle.reh_picture.specs.Contents.{Holding, content_fault, each_content_faul
 use Rattle.reh_picture.specs.declared.places.Place.{Place}
 use Rattle.reh_picture.specs.Places.{fault_along}
 use Rattle.reh_picture.specs.Listings.{ListsFields, ListsJson}
-use Rattle.reh_fields.specs.Members.{is_object, list_in, list_of, number_in, number_of, text_in, text_of}
+use Rattle.reh_fields.specs.Members.{is_object, list_of, number_in, number_of, text_in, text_of}
 use Rattle.reh_fields.specs.Names.{known_fault}
 use Rattle.reh_fields.specs.declared.faults.LedgerFlaw.TheVariants as flaw
 use Rattle.reh_fields.specs.declared.faults.Repeated.TheVariants as repeated

@@ -25,7 +25,7 @@ use Rattle.reh_types.specs.declared.limits.TheConstants.{MAX_DELAY, MAX_FRAGMENT
 use Rattle.reh_types.specs.declared.limits.TheConstants.{MAX_VERSION, MAX_WORDS}
 use Rattle.reh_types.specs.declared.names.LedgerState.TheVariants.{Open, InRecovery, Closed}
 use Rattle.reh_types.specs.Sets as set
-use Rattle.reh_types.specs.Sets.{Set, numbers, triples, triple_cmp, triple_total, contains-from_list, contains-items}
+use Rattle.reh_types.specs.Sets.{triples, triple_cmp, triple_total, contains-from_list, contains-items}
 use Rattle.reh_model.specs.Metadata.{Metadata, Fragment, IsMetadata, end_of_state}
 use Rattle.reh_model.specs.Cluster.{Cluster, Ledger, cluster_of, ledger_among, ledger_at, words_among}
 use Rattle.reh_model.specs.WellFormed.{IsCopy, IsWellFormed}
@@ -52,7 +52,7 @@ use Rattle.reh_picture.specs.Ledgers.{fragment_in, before_fragments, rule_fault,
 use Rattle.reh_picture.specs.Ledgers.{fragments_fault, is_closed, end_after, end_in, state_in, pictured_metadata}
 use Rattle.reh_picture.specs.Ledgers.{broken_rule, metadata_fault, ledger_fault, ids_in, each_ledger_fault}
 use Rattle.reh_picture.specs.Ledgers.{ledgers_fault, ListedLedger, listed_in, ledger_of, ledger_in}
-use Rattle.reh_picture.specs.Contents.{ends_of, next_after, range_fault, ranges_fault, Holding, holding_in, pairs_in}
+use Rattle.reh_picture.specs.Contents.{ends_in, ends_of, next_after, range_fault, ranges_fault, Holding, holding_in, pairs_in}
 use Rattle.reh_picture.specs.Contents.{pair_fault, content_fault, each_content_fault, contents_fault, copies_within, copies_in}
 use Rattle.reh_picture.specs.Contents.{held_in, words_to, IsGreatest, HasEnds}
 use Rattle.reh_model.specs.Contents as model
@@ -115,6 +115,10 @@ all_made judge make P each i before [] none k x within = absurd (omega arith)
 all_made judge make P each i before (d ∷ ds) none zero x within = each i before d (both-none _ _ none).0
 all_made judge make P each i before (d ∷ ds) none (suc k) x within =
     all_made judge make P each (i + 1) (before ++ d ∷ []) ds (both-none _ _ none).1 k x (omega arith)
+
+-- as many are made as there are
+few_made : {X : Type 0} (make : Data → X) (ds : List Data) (most : ℕ) → length ds ≤ most → length (map make ds) ≤ most
+few_made make ds most few = omega (arith, length-map ds make)
 
 -- keys that are each checked against those before them differ
 module _ {K : Type 0} (eq : K → K → Bool) (laws : IsEquivalence eq) (key : Data → K)
@@ -245,15 +249,18 @@ pub record IsFragment (bookies : ℕ) (fragment : Fragment) : Type 0 where
   pub first : fragment.first < ENTRY_END
   pub members : All (λ b. b < bookies) fragment.ensemble
 
+entry_low : (entry : ℕ) → entry ≤ MAX_ENTRY_ID → entry < ENTRY_END
+entry_low entry low = omega arith
+
 module _ (names : List (List ℕ)) (ledger : ℕ) where
   fragment_good : (i : ℕ) (before : List Data) (d : Data) → fragment_fault names ledger i d ≡ None
       → IsFragment (length names) (fragment_in names d)
   fragment_good i before d none =
       let checks = both-none _ _ none in
       let fields = fault_at-none (place.Fragment ledger i) (before_members d) checks.0 in
-      let first = (both-none _ _ (both-none _ _ fields).1).0 in
+      let first : number_fault d field.FirstEntry 0 MAX_ENTRY_ID ≡ None = (both-none _ _ (both-none _ _ fields).1).0 in
       record {
-        first = omega (arith, (number_within d field.FirstEntry 0 MAX_ENTRY_ID first).1);
+        first = entry_low (number_of d field.FirstEntry) (number_within d field.FirstEntry 0 MAX_ENTRY_ID first).1;
         members = members_known names ledger i (list_of d field.Ensemble) (both-none _ _ checks.1).0;
       }
 
@@ -286,11 +293,8 @@ metadata_good names ledger d none =
           IsMetadata-from_rules (pictured_metadata names d)
           (KeepsRules-none _ (option_map-none (broken_rule (number_of d field.Id)) _ rules))
           (number_within d field.Version 0 MAX_VERSION version.0).1 (state_small d)
-          (omega (
-            arith,
-            (list_within d field.Fragments 0 MAX_FRAGMENTS list.0).1,
-            length-map (list_of d field.Fragments) (fragment_in names),
-          ))
+          (few_made (fragment_in names) (list_of d field.Fragments) MAX_FRAGMENTS
+          (list_within d field.Fragments 0 MAX_FRAGMENTS list.0).1)
           (λ k fragment within. (each k fragment within).first);
       fragments = each;
     }
@@ -311,6 +315,9 @@ words_to-low : (greatest : Option ℕ) → ForSome greatest (λ entry. entry < E
 words_to-low None low = lit≤ tt
 words_to-low (Some entry) low = omega (arith, low entry refl)
 
+none_is : {A P : Type 0} {x : A} → None ≡ Some x → P
+none_is is = cc
+
 -- a ledger in any cluster with these names, where each entry that is held is one that there can be
 ledger_good : (s : Cluster) → All (λ t. t.2 < ENTRY_END) (set.items s.parts.held)
     → (i : ℕ) (before : List Data) (d : Data) → ledger_fault s.names i (ids_in before) d ≡ None
@@ -327,9 +334,9 @@ ledger_good s low i before d none =
       words =
           words_to-low (model.greatest_held s.parts.held (number_of d field.Id))
           (greatest_held-low s.parts.held (number_of d field.Id) ENTRY_END low);
-      task = λ task is. cc;
-      lock = λ lock is. cc;
-      due = λ due is. cc;
+      task = λ task is. none_is is;
+      lock = λ lock is. none_is is;
+      due = λ due is. none_is is;
     }
 
 ledgers_good : (s : Cluster) → All (λ t. t.2 < ENTRY_END) (set.items s.parts.held) → (ledgers : List Data)
@@ -411,6 +418,23 @@ any_of_two : {A : Type 0} (p : A → Bool) (xs ys : List A) (P : Type 0) → (li
 any_of_two p xs ys P first second is =
     or-either (list_any p xs) (list_any p ys) P first second (sym (list_any-append p xs ys) ∙ is)
 
+-- a range without a fault has a first entry and a last, within the limit
+ends_within : (least : ℕ) (ends : ℕ × ℕ) (fault : PictureFault)
+    → reason_unless (nat_le least ends.0 && nat_le ends.0 ends.1 && nat_le ends.1 MAX_ENTRY_ID) fault ≡ None
+    → (ends.0 ≤ ends.1) × (ends.1 ≤ MAX_ENTRY_ID)
+ends_within least ends fault none =
+    let both =
+    and-true (nat_le least ends.0 && nat_le ends.0 ends.1) (nat_le ends.1 MAX_ENTRY_ID)
+    (reason_unless-none _ fault none) in
+    let rises : nat_le ends.0 ends.1 ≡ true = (and-true (nat_le least ends.0) (nat_le ends.0 ends.1) both.0).1 in
+    let low : nat_le ends.1 MAX_ENTRY_ID ≡ true = both.1 in
+    (grind (arith, nat_tests, rises), grind (arith, nat_tests, low))
+
+range_within : (least : ℕ) (d : Data) → range_fault least d ≡ None
+    → ((ends_of d).0 ≤ (ends_of d).1) × ((ends_of d).1 ≤ MAX_ENTRY_ID)
+range_within least d none =
+    ends_within least (ends_of d) (Limit field.Entries) (both-none _ _ (both-none (result_err (ends_in d)) _ none).1).0
+
 -- an entry of a range
 copy_in_range : (s : Cluster) (bookie ledger : ℕ) (ends : ℕ × ℕ) (q : ℕ × ℕ × ℕ) → bookie < length s.names
     → IsSome (ledger_at s ledger) → ends.1 ≤ MAX_ENTRY_ID
@@ -436,12 +460,9 @@ module _ (s : Cluster) (bookie ledger : ℕ) (q : ℕ × ℕ × ℕ) (known : bo
   copy_in_ranges i before (d ∷ ds) none any =
       let checks = both-none _ _ none in
       let range = fault_at-none (place.Range content i) (range_fault (next_after before) d) checks.0 in
-      let within : ((nat_le (next_after before) (ends_of d).0 && nat_le (ends_of d).0 (ends_of d).1) ≡ true)
-      × (nat_le (ends_of d).1 MAX_ENTRY_ID ≡ true) =
-      and-true _ _ (reason_unless-none _ _ (both-none _ _ (both-none _ _ range).1).0) in
       any_of_two (is_triple q) (copies_within bookie ledger (ends_of d))
       (flat_map (copies_within bookie ledger) (map ends_of ds)) (IsPictured (length s.names) s.parts.ledgers q)
-      (copy_in_range s bookie ledger (ends_of d) q known there (grind (arith, nat_tests, within.1)))
+      (copy_in_range s bookie ledger (ends_of d) q known there (range_within (next_after before) d range).1)
       (copy_in_ranges (i + 1) (before ++ d ∷ []) ds checks.1)
       any
 
@@ -495,11 +516,8 @@ module _ (s : Cluster) (ids : List ℕ) (found : (l : ℕ) → list_any (nat_eq 
 range_rises : (content i : ℕ) (before : List Data) (d : Data)
     → fault_at (place.Range content i) (range_fault (next_after before) d) ≡ None → (ends_of d).0 ≤ (ends_of d).1
 range_rises content i before d none =
-    let range = fault_at-none (place.Range content i) (range_fault (next_after before) d) none in
-    let within : ((nat_le (next_after before) (ends_of d).0 && nat_le (ends_of d).0 (ends_of d).1) ≡ true)
-    × (nat_le (ends_of d).1 MAX_ENTRY_ID ≡ true) =
-    and-true _ _ (reason_unless-none _ _ (both-none _ _ (both-none _ _ range).1).0) in
-    let rises : nat_le (ends_of d).0 (ends_of d).1 ≡ true = (and-true _ _ within.0).1 in grind (arith, nat_tests, rises)
+    (range_within (next_after before) d
+    (fault_at-none (place.Range content i) (range_fault (next_after before) d) none)).0
 
 ranges_rise : (content : ℕ) (ranges : List Data) → ranges_fault content ranges ≡ None
     → All (λ range. range.0 ≤ range.1) (map ends_of ranges)
@@ -785,8 +803,11 @@ fields_fault-past d good past =
 pub parts_of-none : (d : Data) → fields_fault d ≡ None → parts_fault d ≡ None
 parts_of-none d none = (both-none _ _ none).0
 
+few_words : (words : ℕ) (fault : PictureFault) → reason_unless (nat_le words MAX_WORDS) fault ≡ None → words ≤ MAX_WORDS
+few_words words fault none =
+    let test : nat_le words MAX_WORDS ≡ true = reason_unless-none _ fault none in grind (arith, nat_tests, test)
+
 pub words_of-none : (d : Data) → fields_fault d ≡ None → words_in_all (pictured_cluster d) ≤ MAX_WORDS
 words_of-none d none =
-    let words = fault_at-none place.Picture (words_fault d) (both-none _ _ (both-none _ _ none).1).0 in
-    let test : nat_le (words_in_all (pictured_cluster d)) MAX_WORDS ≡ true = reason_unless-none _ _ words in
-    grind (arith, nat_tests, test)
+    few_words (words_in_all (pictured_cluster d)) (Limit field.Contents)
+    (fault_at-none place.Picture (words_fault d) (both-none _ _ (both-none _ _ none).1).0)

@@ -63,7 +63,8 @@ fn registration_of(registered: bool) -> Option<u64>
     if registered { None } else { Some(0) }
 }
 
-/// The bookie of this number, as below.
+/// Adds the name of the bookie of this number, and says whether the bookie is registered. After an `Err` the names may
+/// have its name.
 fn read_bookie_at(
     alloc: Global,
     names: &mut Names,
@@ -83,7 +84,7 @@ fn read_bookie_at(
     }
 }
 
-/// Adds one more bookie's name, and says whether the bookie is registered. After an `Err` the names may have its name.
+/// The same without a place.
 fn read_bookie(alloc: Global, names: &mut Names, bookie: &Value) -> Result<bool, PictureFault>
     requires { length names.old < MAX_BOOKIES }
     ensures fault { FailsWith result (bookie_fault names.old (view bookie.now)) }

@@ -1,10 +1,9 @@
 -- What is opened of a picture, and what its first bytes tell of it.
-use Rattle.std.proofs.Common.{◌≡◌, ℕ, ◌<◌, Bool, true, false, cond, inl, inr, List, [], ◌++◌, length, refl, sym, ap}
+use Rattle.std.proofs.Common.{◌≡◌, ℕ, ◌<◌, Bool, true, false, inl, inr, List, [], ◌++◌, length, refl, sym, ap}
 use Rattle.std.proofs.Common.{◌∙◌}
-use Rattle.std.proofs.Common.{subst, arith, append-nil, nat_lt, Ok, Err, Result, Option, None, Some, length-append}
+use Rattle.std.proofs.Common.{subst, arith, append-nil, Ok, Err, Result, Option, None, Some, length-append}
 use Rattle.std.specs.Prelude.{◌≢◌, IsErrAnd}
 use Rattle.std.proofs.lemmas.Bool.{cases_lt}
-use Rattle.std.proofs.lemmas.Bool.Decides.{nat_tests}
 use Rattle.reh_types.specs.declared.limits.TheConstants.{MAX_PICTURE_BYTES}
 use Rattle.reh_model.specs.Cluster.{Cluster}
 use Rattle.reh_fields.specs.declared.faults.PictureFault.{PictureFault}

@@ -30,7 +30,7 @@ use Rattle.reh_script.specs.declared.faults.PipeFault.TheVariants.{Play}
 use Rattle.reh_play.specs.declared.faults.PlayFault.TheVariants.{NoMemory, ReadFault}
 use Rattle.reh_lines.proofs.EndedLaws.{has_lf, ended_none}
 use Rattle.reh_lines.proofs.HeadLaws.{has_none, stays_long, lines_untold}
-use Rattle.reh_script.proofs.OpeningLaws.{picture_of-long}
+use Rattle.reh_picture.proofs.PicturesLemmas.{picture_of-long}
 use Rattle.reh_lines.proofs.Parts.{ended-loud, ended-quiet}
 
 -- What is given

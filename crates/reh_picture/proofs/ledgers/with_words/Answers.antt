@@ -1,10 +1,11 @@
 -- One listed ledger more has its words, up to the last of them.
-use Rattle.std.proofs.Common.{◌≡◌, ◌∙◌, ◌++◌, ◌∷◌, [], None, map, sym, ap}
+use Rattle.std.proofs.Common.{◌≡◌, ◌∙◌, List, ◌++◌, ◌∷◌, [], None, map, sym, ap}
 use Rattle.std.specs.BTreeMap.{get}
 use Rattle.std.specs.Ordering.{nat_cmp}
 use Rattle.std.proofs.lemmas.Iterator.Adapters.{YieldsList-from_vec}
 use Rattle.std.proofs.lemmas.Iterator.Consumers.{YieldsList-end}
 use Rattle.std.proofs.lemmas.List.{map-append, map-id}
+use Rattle.reh_model.specs.Cluster.{Ledger}
 use Rattle.reh_picture.specs.Contents.{words_to}
 use Rattle.reh_picture.specs.Ledgers.{ListedLedger, ledger_of}
 use Rattle.reh_picture.proofs.ledgers.with_words.Goals as goal
@@ -20,8 +21,9 @@ loop-ledger-preserved c =
     c.reaching.ensures
     ∙ (λ i.
     record { id = listed.id; metadata = listed.metadata; words = words_to (end i); task = None; lock = None }) in
-    c.in_ok-push.ensures.items ∙ (λ i. c.loop-ledger.invariant i ++ one i ∷ [])
-    ∙ sym (map-append made c.loop-ledger.yielded (listed ∷ []))
+    ◌∙◌ {A = List Ledger} c.in_ok-push.ensures.items
+    (◌∙◌ {A = List Ledger} (λ i. c.loop-ledger.invariant i ++ one i ∷ [])
+    (sym (map-append made c.loop-ledger.yielded (listed ∷ []))))
 
 pub returns : goal.returns
 returns c =
