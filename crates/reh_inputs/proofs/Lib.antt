@@ -5,4 +5,5 @@ pub mod RangeLaws
 pub mod NameOrder
 pub mod AddLaws
 pub mod TailLaws
+pub mod PartLaws
 pub mod UnitedLaws

@@ -1,9 +1,10 @@
 // The cluster of several inputs.
-ghost use Rattle.std.specs.Prelude.{◌≡◌, ◌<◌, fold, length, map, slice_get, IfOk, OnOk, string_bytes};
-ghost use Rattle.std.specs.Option.{option_and_then, option_map, option_map_or};
+ghost use Rattle.std.specs.Prelude.{◌≡◌, ◌<◌, fold, length, map, slice_get, IfErr, IfOk, OnOk, string_bytes};
+ghost use Rattle.std.specs.Option.{IsSomeAnd, option_and_then, option_map, option_map_or};
 ghost use Rattle.reh_census.specs.Striping.{range};
 ghost use Rattle.reh_census_file.specs.declared.lists.TheConstants.{MAX_NAMES};
 ghost use Rattle.reh_types.specs.declared.limits.TheConstants.{MAX_BOOKIES};
+ghost use Rattle.reh_inputs.specs.Faults.{IsClusterFault, IsUniteFault};
 ghost use Rattle.reh_inputs.specs.United as model;
 
 use crate::cluster::{Cluster, ClusterFault};
@@ -57,7 +58,9 @@ fn add_listed(
     number: usize,
 ) -> Result<(), ClusterFault>
     requires { number < MAX_BOOKIES }
-    ensures { OnOk result (cluster.new ≡ model.with_listed listed.now cluster.old number) }
+    ensures added { OnOk result (cluster.new ≡ model.with_listed listed.now cluster.old number) }
+    ensures fault { IfErr result (λ fault. IsSomeAnd (slice_get listed.now.listing.names number)
+        (λ name. IsClusterFault cluster.old name (model.shown_at listed.now number) fault)) }
 {
     let Some(name) = listed.listing.names.name(BookieIx(number as u8)) else {
         return Ok(());
@@ -68,8 +71,9 @@ fn add_listed(
 
 /// Adds the bookies of a picture.
 fn unite_picture(alloc: Global, cluster: &mut Cluster, listed: &Listed) -> Result<(), UniteFault>
-    ensures { OnOk result (cluster.new
+    ensures added { OnOk result (cluster.new
         ≡ fold (model.with_listed listed.now) cluster.old (range 0 (length listed.now.listing.names))) }
+    ensures fault { IfErr result (λ f. IsUniteFault cluster.old (Input.Picture listed.now) f.bookie f.fault) }
 {
     for number in 0..listed.listing.names.len() {
         match add_listed(alloc, cluster, listed, number) {
@@ -123,7 +127,9 @@ fn add_counted(
     number: usize,
 ) -> Result<(), ClusterFault>
     requires { number < MAX_NAMES }
-    ensures { OnOk result (cluster.new ≡ model.with_counted census.now cluster.old number) }
+    ensures added { OnOk result (cluster.new ≡ model.with_counted census.now cluster.old number) }
+    ensures fault { IfErr result (λ fault. IsSomeAnd (slice_get census.now.names number)
+        (λ name. IsClusterFault cluster.old name (model.counted_at census.now number) fault)) }
 {
     let Some(name) = census.names().name(number as u16) else {
         return Ok(());
@@ -138,8 +144,9 @@ fn unite_census(
     cluster: &mut Cluster,
     census: &NamedCensus,
 ) -> Result<(), UniteFault>
-    ensures { OnOk result (cluster.new
+    ensures added { OnOk result (cluster.new
         ≡ fold (model.with_counted census.now) cluster.old (range 0 (length census.now.names))) }
+    ensures fault { IfErr result (λ f. IsUniteFault cluster.old (Input.Census census.now) f.bookie f.fault) }
 {
     for number in 0..census.names().len() {
         match add_counted(alloc, cluster, census, number) {
@@ -157,7 +164,8 @@ fn unite_census(
 
 /// Adds the bookies of an input. After an `Err` some of them may be there.
 pub fn unite(alloc: Global, cluster: &mut Cluster, input: &Input) -> Result<(), UniteFault>
-    ensures { OnOk result (cluster.new ≡ model.with_input cluster.old input.now) }
+    ensures added { OnOk result (cluster.new ≡ model.with_input cluster.old input.now) }
+    ensures fault { IfErr result (λ f. IsUniteFault cluster.old input.now f.bookie f.fault) }
 {
     match input {
         Input::Picture(listed) => unite_picture(alloc, cluster, listed),

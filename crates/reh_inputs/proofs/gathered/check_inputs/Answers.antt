@@ -10,7 +10,7 @@ pub loop-input-preserved : goal.loop-input-preserved
 loop-input-preserved c =
     All-more EmptiesHoldNothing c.args.inputs.now c.loop-input.input c.index-inputs-input.result c.loop-input-test.true
     c.loop-input.invariant
-    (subst EmptiesHoldNothing c.index-inputs-input.is c.in_ok-check_input.ensures)
+    (subst EmptiesHoldNothing c.index-inputs-input.is c.in_ok-check_input.ensures.nothing)
 
 pub returns : goal.returns
 returns c =

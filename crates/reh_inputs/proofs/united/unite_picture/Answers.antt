@@ -12,7 +12,7 @@ loop-number-preserved c =
     let listed = c.args.listed.now in
     let before = c.args.cluster.now in
     let n = c.loop-number.number in
-    c.in-Ok.ensures
+    c.in-Ok.ensures.added
     ∙ ap (λ (cluster : Cluster). with_listed listed cluster n) c.loop-number.invariant
     ∙ sym (ap (fold (with_listed listed) before) (range-more n)
     ∙ fold-append (with_listed listed) before (range 0 n) (n ∷ []))
