@@ -1,5 +1,5 @@
 -- What is said of a ledger is said by its own holdings.
-use Rattle.std.proofs.Common.{◌≡◌, ◌∙◌, ◌+◌, ◌<◌, ◌≤◌, ◌==◌, ◌++◌, ℕ, All, arith, drop, get_or, length, take, take-take, length-drop, refl, sym, append-nil, Option, Some, None, Vec, Bool, true, false, cond, if◌then◌else◌, List, [], ◌∷◌, ap, fold, map}
+use Rattle.std.proofs.Common.{◌≡◌, ◌∙◌, ◌+◌, ◌<◌, ◌≤◌, ◌==◌, ◌++◌, ℕ, zero, suc, All, arith, drop, get_or, length, take, take-take, length-drop, refl, sym, append-nil, Option, Some, None, Vec, Bool, true, false, cond, if◌then◌else◌, List, [], ◌∷◌, ap, fold, map}
 use Rattle.std.proofs.lemmas.List.{get_or-drop, get_or-take, length-take, take-append-drop}
 use Rattle.std.proofs.lemmas.List.Elements.{All-head, All-tail, filter-append}
 use Rattle.std.specs.Borrow.{Bor}
@@ -34,13 +34,20 @@ first_held {A} true before held hs none items =
     items ∙ sym (ap (λ (v : Option (Vec (Bor Holding) A)). held_in v ++ hs) (none refl))
 first_held false before held hs none items = sym (append-nil (held_in before))
 
+same_either : (is : Bool) (hs : List Holding) → cond is hs hs ≡ hs
+same_either true hs = refl
+same_either false hs = refl
+
+-- the default of an element that there is does not matter
+pub get_any : (hs : List Holding) (k : ℕ) (d e : Holding) → k < length hs → get_or hs k d ≡ get_or hs k e
+get_any [] k d e within = absurd (omega arith)
+get_any (h ∷ hs) zero d e within = refl
+get_any (h ∷ hs) (suc k) d e within = get_any hs k d e (omega arith)
+
 -- of a run of holdings of one ledger all are its own, or none is another's
 own_run : (own ledger : ℕ) (hs : List Holding) → All (λ h. h.ledger ≡ ledger) hs
     → cond (ledger == own) hs [] ≡ filter (λ h. h.ledger == own) hs
-own_run own ledger [] all = none (ledger == own) where
-  none : (is : Bool) → cond is [] [] ≡ []
-  none true = refl
-  none false = refl
+own_run own ledger [] all = same_either (ledger == own) []
 own_run own ledger (h ∷ hs) all =
     let rest = filter (λ (h : Holding). h.ledger == own) hs in
     step (ledger == own) rest (own_run own ledger hs (All-tail (λ h. h.ledger ≡ ledger) h hs all))

@@ -165,7 +165,10 @@ fn check_inputs(inputs: &[Input]) -> Result<(), GatherFault>
     ensures fault { IfErr result (λ fault. (strict : Bool) → IsGatherFault inputs.now strict fault) }
 {
     for (input, one) in inputs.iter().enumerate() {
-        check_input(input, one)?;
+        match check_input(input, one) {
+            Ok(()) => {}
+            Err(fault) => return Err(fault),
+        }
     }
     Ok(())
 }

@@ -315,17 +315,15 @@ pub(crate) fn parts_of<R: Threads + Sync>(
         .min(inputs.len());
     let (before, behind) = inputs.split_at(middle);
     let next = first + middle;
-    let (low, high) = join(
-        rt,
-        || -> Result<Part, GatherFault>
-            requires { IsSync R.row × (first + length before.now < 2 ^ 64) }
-            ensures { IfOk result (λ part. IsPart (holders (bookies_of bookies.entry.now)) names.entry.now strict before.entry.now part) }
-        { parts_of(rt, alloc, bookies, names, strict, first, before, others) },
-        || -> Result<Part, GatherFault>
-            requires { IsSync R.row × (next + length behind.now < 2 ^ 64) }
-            ensures { IfOk result (λ part. IsPart (holders (bookies_of bookies.entry.now)) names.entry.now strict behind.entry.now part) }
-        { parts_of(rt, alloc, bookies, names, strict, next, behind, own) },
-    );
+    let front = || -> Result<Part, GatherFault>
+        requires { IsSync R.row × (first + length before.now < 2 ^ 64) }
+        ensures { IfOk result (λ part. IsPart (holders (bookies_of bookies.entry.now)) names.entry.now strict before.entry.now part) }
+    { parts_of(rt, alloc, bookies, names, strict, first, before, others) };
+    let back = || -> Result<Part, GatherFault>
+        requires { IsSync R.row × (next + length behind.now < 2 ^ 64) }
+        ensures { IfOk result (λ part. IsPart (holders (bookies_of bookies.entry.now)) names.entry.now strict behind.entry.now part) }
+    { parts_of(rt, alloc, bookies, names, strict, next, behind, own) };
+    let (low, high) = join(rt, front, back);
     both(low, high)
 }
 
@@ -342,13 +340,11 @@ pub fn let_go<R: Threads + Sync>(rt: &R, inputs: Vec<Input>, workers: usize) {
     let Ok(high) = low.split_off(middle) else {
         return;
     };
-    join(
-        rt,
-        move ||
-            requires { IsSync R.row }
-        { let_go(rt, low, others) },
-        move ||
-            requires { IsSync R.row }
-        { let_go(rt, high, own) },
-    );
+    let front = move ||
+        requires { IsSync R.row }
+    { let_go(rt, low, others) };
+    let back = move ||
+        requires { IsSync R.row }
+    { let_go(rt, high, own) };
+    join(rt, front, back);
 }

@@ -1,5 +1,5 @@
 -- There are as many ids as ledgers; and all together is what the inputs show.
-use Rattle.std.proofs.Common.{◌≡◌, ◌∙◌, ◌+◌, List, ap, sym, subst, length, map, refl}
+use Rattle.std.proofs.Common.{◌≡◌, ◌∙◌, ◌+◌, ℕ, List, ap, sym, subst, length, map, refl}
 use Rattle.std.proofs.lemmas.List.{length-map}
 use Rattle.reh_census.specs.declared.bookies.Bookie.{Bookie}
 use Rattle.reh_census.specs.Bookies.{bookies_of as census_bookies, holders}
@@ -17,7 +17,7 @@ use Rattle.reh_inputs.proofs.RangeLaws.{same_lengths}
 use Rattle.reh_inputs.proofs.gathered.gather.Goals as goal
 
 pub invariant_of-result : goal.invariant_of-result
-invariant_of-result c =
+invariant_of-result g c =
     let made = ledgers_in c.names.result.now (reading_of c.args.strict) in
     let each : (input : Input) → length (of_picture ids_in input) ≡ length (of_picture made input) =
     λ input. elim input as (λ (one : Input). length (of_picture ids_in one) ≡ length (of_picture made one)) [
@@ -33,18 +33,19 @@ invariant_of-result c =
     }
 
 pub returns-clause-gathers : goal.returns-clause-gathers
-returns-clause-gathers c =
+returns-clause-gathers g c =
     let inputs = c.args.inputs.now in
     let strict = c.args.strict in
     let part = c.in_ok-part.part in
     let cluster : c.in_ok-cluster.cluster ≡ united inputs = c.in_ok-cluster.ensures.united in
     let bookies : c.in_ok-bookies.bookies ≡ bookies_of (united inputs) = c.in_ok-bookies.ensures ∙ ap bookies_of cluster in
-    let named = ap (λ (k : Cluster). k.names) cluster in
+    let named : c.in_ok-cluster.cluster.names ≡ (united inputs).names = ap (λ (k : Cluster). k.names) cluster in
     let shown : IsPart (holders_of inputs) (united inputs).names strict inputs part =
     subst (λ (bs : List Bookie). IsPart (holders (census_bookies bs)) (united inputs).names strict inputs part) bookies
-    (subst (λ (names : List _). IsPart (holders (census_bookies c.in_ok-bookies.bookies)) names strict inputs part)
+    (subst (λ (names : List (List ℕ)). IsPart (holders (census_bookies c.in_ok-bookies.bookies)) names strict inputs part)
     (c.names.ensures ∙ named) c.in_ok-part.ensures) in
-    let files = λ i. files_of ((c.names-2.ensures ∙ named) i) inputs in
+    let files : files_of c.names-2.result.now inputs ≡ files_of (united inputs).names inputs =
+    ap (λ (names : List (List ℕ)). files_of names inputs) (c.names-2.ensures ∙ named) in
     record {
       cluster = cluster;
       names = InOrder-united inputs;
