@@ -50,8 +50,8 @@ IsHeldBy (Picture l) held =
     (λ (h : Holding). (holds_though_empty l h ≡ true) × (h.bookie ≡ held.bookie) × (h.ledger ≡ held.ledger))
 IsHeldBy (Census c) held = ⊥
 
--- what a fault says of strictness, of bookies and of empty ones is so, and is the first such of its kind. Of faults of ledgers,
--- and of too much that would be counted, nothing is said
+-- what a fault says of strictness, of bookies and of empty ones is so. Of faults of ledgers, and of too much that would be
+-- counted, nothing is said
 abbrev pub IsGatherFault : List Input → Bool → GatherFault → Type 0
 IsGatherFault inputs strict (gather.Differs input bookie) =
     IsSomeAnd (slice_get inputs input) (λ one. IsUniteFault (united (take input inputs)) one bookie refusal.Differs)

@@ -1,5 +1,5 @@
 -- No holding is there at first, and then each run behind those of its ledger.
-use Rattle.std.proofs.Common.{◌≡◌, ◌<◌, ◌≤◌, ◌∙◌, ◌++◌, ◌==◌, [], ap, cond, get_or, sym, List, ℕ, take, arith, zero-le}
+use Rattle.std.proofs.Common.{◌≡◌, ◌<◌, ◌≤◌, ◌∙◌, ◌++◌, ◌==◌, [], ap, cond, get_or, sym, ℕ, arith, zero-le}
 use Rattle.std.proofs.lemmas.List.{take_all}
 use Rattle.std.specs.BTreeMap.{is_at}
 use Rattle.std.specs.List.{filter}

@@ -1,7 +1,6 @@
 -- The cluster of the inputs before is the one that the bookie can't be of.
 use Rattle.std.proofs.Common.{Option, subst, sym, take}
 use Rattle.std.specs.Option.{IsSomeAnd}
-use Rattle.std.specs.Prelude.{slice_get}
 use Rattle.reh_model.proofs.ListLaws.{slice_get-there}
 use Rattle.reh_inputs.specs.declared.inputs.Input.{Input}
 use Rattle.reh_inputs.specs.Cluster.{Cluster}

@@ -1,5 +1,5 @@
 -- Both are there.
-use Rattle.std.proofs.Common.{◌≡◌, IfOk, Ok, Result, subst}
+use Rattle.std.proofs.Common.{◌≡◌, IfOk, Ok, subst}
 use Rattle.std.proofs.lemmas.Result.{MatchResult-weaker}
 use Rattle.reh_inputs.specs.Parts.{IsPart}
 use Rattle.reh_inputs.proofs.parts.both.Goals as goal

@@ -1,9 +1,9 @@
 -- The ledgers of the inputs, and what is counted of them.
-use Rattle.std.proofs.Common.{◌∙◌, List, ap, subst}
+use Rattle.std.proofs.Common.{◌∙◌, List, subst}
 use Rattle.reh_census.specs.Bookies.{bookies_of, holders}
 use Rattle.reh_census.specs.Counting.{CountsEnsembles, CountsEntries, CountsTails}
 use Rattle.reh_census.specs.Ledgers.{Ledger}
-use Rattle.reh_inputs.specs.Gathered.{ledgers_among, reading_of}
+use Rattle.reh_inputs.specs.Gathered.{ledgers_among}
 use Rattle.reh_inputs.proofs.parts.part_of.Goals as goal
 
 pub returns : goal.returns
