@@ -5,5 +5,6 @@ pub mod RangeLaws
 pub mod NameOrder
 pub mod AddLaws
 pub mod TailLaws
+pub mod PartLaws
 pub mod UnitedLaws
 pub mod AlikeLaws

@@ -8,5 +8,7 @@ pub mod Renumbered
 pub mod Shown
 pub mod Named
 pub mod Names
+pub mod Parts
 pub mod United
 pub mod Gathered
+pub mod Faults

@@ -1,10 +1,11 @@
 // The bookies of a cluster: those of its inputs, each once.
-ghost use Rattle.std.specs.Prelude.{◌≡◌, ◌<◌, ◌≤◌, ◌≢◌, ◌++◌, ◌∷◌, [], cond, length, map, slice_get, string_bytes, true, false, IfOk, OnOk, OnErr, Err, position};
+ghost use Rattle.std.specs.Prelude.{◌≡◌, ◌<◌, ◌≤◌, ◌≢◌, ◌++◌, ◌∷◌, [], cond, length, map, slice_get, string_bytes, true, false, IfErr, IfOk, OnOk, OnErr, Err, position};
 ghost use Rattle.std.specs.List.{filter};
 ghost use Rattle.reh_census.specs.Striping.{range};
 ghost use Rattle.std.specs.Option.{option_map_or};
 ghost use Rattle.reh_inputs.specs.Shown.{is_in, is_like};
 ghost use Rattle.reh_inputs.specs.Cluster as model;
+ghost use Rattle.reh_inputs.specs.Faults.{IsClusterFault};
 ghost use Rattle.reh_inputs.specs.declared.cluster.ClusterFault.TheVariants.{Differs, TooMany};
 ghost use Rattle.reh_inputs.specs.declared.names.TheConstants.{MAX_CLUSTER_BOOKIES};
 
@@ -124,6 +125,7 @@ impl Cluster {
         ensures differs { result ≡ Err Differs → model.is_shown_otherwise self.old name.now shown ≡ true }
         ensures too_many { result ≡ Err TooMany → (length self.old.names ≡ MAX_CLUSTER_BOOKIES)
             × (model.has_bookie self.old name.now ≡ false) }
+        ensures fault { IfErr result (IsClusterFault self.old name.now shown) }
         ensures err { OnErr result (self.new ≡ self.old) }
     {
         match self.names.find(name) {
@@ -151,6 +153,7 @@ impl Cluster {
         ensures kept { OnOk result (model.Keeps self.old self.new) }
         ensures differs { result ≢ Err Differs }
         ensures too_many { result ≡ Err TooMany → length self.old.names ≡ MAX_CLUSTER_BOOKIES }
+        ensures fault { IfErr result (IsClusterFault self.old name.now shown) }
         ensures err { OnErr result (self.new ≡ self.old) }
     {
         if self.names.len() >= MAX_CLUSTER_BOOKIES {

@@ -1,6 +1,8 @@
 // Contents of bookies that came back empty.
-ghost use Rattle.std.specs.Prelude.{◌≡◌, OnOk};
+ghost use Rattle.std.specs.Prelude.{◌≡◌, IfErr, OnOk};
 ghost use Rattle.reh_inputs.specs.Empties as model;
+ghost use Rattle.reh_inputs.specs.Faults.{IsHeldBy};
+ghost use Rattle.reh_inputs.specs.declared.inputs.Input.TheVariants.{Picture};
 
 use reh_picture::{Holding, Listed};
 use reh_types::BookieIx;
@@ -32,7 +34,8 @@ fn holds_though_empty(listed: &Listed, holding: &Holding) -> bool
 
 /// That no empty bookie of a picture is said to hold entries, or the first that is.
 pub fn check_empties(listed: &Listed) -> Result<(), EmptyHolds>
-    ensures { OnOk result (model.EmptyHoldNothing listed.now) }
+    ensures nothing { OnOk result (model.EmptyHoldNothing listed.now) }
+    ensures held { IfErr result (λ held. IsHeldBy (Picture listed.now) held) }
 {
     for holding in &listed.listing.holdings {
         if holds_though_empty(listed, holding) {

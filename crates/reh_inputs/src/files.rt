@@ -239,6 +239,23 @@ pub(crate) fn add_files(
     Ok(())
 }
 
+/// Adds counts behind others.
+pub(crate) fn append_counts(counts: &mut Counts, more: Counts) -> Result<(), AllocError>
+    ensures entries { OnOk result (counts.new.entries.items ≡ counts.old.entries.items ++ more.entries.items) }
+    ensures tails { OnOk result (counts.new.tails.items ≡ counts.old.tails.items ++ more.tails.items) }
+    ensures ensembles { OnOk result (counts.new.ensembles.items ≡ counts.old.ensembles.items ++ more.ensembles.items) }
+{
+    let Counts {
+        mut entries,
+        mut tails,
+        mut ensembles,
+    } = more;
+    counts.entries.append(&mut entries)?;
+    counts.tails.append(&mut tails)?;
+    counts.ensembles.append(&mut ensembles)?;
+    Ok(())
+}
+
 /// The sum, if a census counts so much.
 fn sum_of(one: u64, other: u64) -> Option<u64>
     ensures { IfSome result (λ sum. (sum ≡ one + other) × (sum ≤ 2 ^ 63)) }

@@ -1,36 +1,34 @@
 // What inputs show together, as a census counts it.
-ghost use Rattle.std.specs.Prelude.{◌≡◌, ◌≤◌, ◌^◌, ◌++◌, ◌∷◌, [], All, None, fold, length, map, nat_eq, IfOk, OnOk};
-ghost use Rattle.std.specs.List.{flat_map, list_any, IsDistinct};
-ghost use Rattle.reh_census.specs.Bookies.{bookies_of, holders};
-ghost use Rattle.reh_census.specs.Counting.{CountsEnsembles, CountsEntries, CountsTails, count_in, entries_in, judged_sum, not_judged};
+ghost use Rattle.std.specs.Prelude.{◌≡◌, ◌≤◌, ◌+◌, ◌^◌, ◌++◌, All, Bool, List, ℕ, None, Some, fold, length, map, nat_eq, slice_get, take, IfErr, IfOk, OnOk};
+ghost use Rattle.std.specs.List.{flat_map, IsDistinct};
+ghost use Rattle.std.specs.Option.{IsSomeAnd};
+ghost use Rattle.reh_census.specs.declared.censuses.Tail.{Tail as TailValue};
+ghost use Rattle.reh_census.specs.declared.classes.Class.{Class as ClassValue};
+ghost use Rattle.reh_census.specs.Counting.{count_ensembles_in, count_in, count_tails_in, judged_sum, not_judged};
 ghost use Rattle.reh_census.specs.Order.{IsInOrder};
-ghost use Rattle.std.specs.BTreeMap.{get};
-ghost use Rattle.std.specs.Ordering.{nat_cmp};
 ghost use Rattle.reh_census.specs.Tails.{IsTail};
-ghost use Rattle.reh_inputs.specs.ByLedger.{AreOf};
 ghost use Rattle.reh_inputs.specs.Empties.{EmptiesHoldNothing};
+ghost use Rattle.reh_inputs.specs.Faults.{IsGatherFault, IsUniteFault};
 ghost use Rattle.reh_inputs.specs.Gathered as model;
 ghost use Rattle.reh_inputs.specs.Inputs.{of_picture};
 ghost use Rattle.reh_inputs.specs.Renumbered.{files_of, judged_by, with_judged};
 ghost use Rattle.reh_inputs.specs.United.{AreAlike, united};
+ghost use Rattle.reh_inputs.specs.declared.inputs.Input.{Input as InputValue};
 
-use crate::by_ledger::{ByLedger, group_by_ledger};
 use crate::cluster::{Cluster, ClusterFault};
 use crate::empties::{EmptyHolds, check_empties};
 use crate::files::{Counts, add_files, judged_in, judged_of};
 use crate::inputs::Input;
-use crate::ledgers::{Reading, ledger_of};
 use crate::names::ClusterNames;
+use crate::parts::{Part, parts_of};
 use crate::together::Gathered;
-use crate::united::{UniteFault, numbers_of, unite};
+use crate::united::{UniteFault, unite};
 use indexmap::IndexSet;
-use reh_census::{Bookies, Census, Counted, Judged, Ledger};
+use reh_census::{Census, Judged, Ledger};
 use reh_cluster::Ledger as PicturedLedger;
-use reh_picture::Listed;
-use reh_tally::{
-    TallyFault, are_few, census_of, census_of_counts, ensembles_of, entries_of, tails_of,
-};
+use reh_tally::{TallyFault, census_of_counts};
 use std::alloc::{AllocError, AllocFailed, Global};
+use std::thread::Threads;
 
 /// Why inputs can't be judged together.
 #[derive(Clone, Copy, PartialEq, Eq, Debug)]
@@ -90,7 +88,11 @@ impl From<TallyFault> for GatherFault {
 }
 
 /// The fault of an input whose bookie can't be one of the cluster.
-fn bookie_fault(input: usize, fault: UniteFault) -> GatherFault {
+fn bookie_fault(input: usize, fault: UniteFault) -> GatherFault
+    ensures { (inputs : List InputValue) (strict : Bool)
+        → IsSomeAnd (slice_get inputs input) (λ one. IsUniteFault (united (take input inputs)) one fault.bookie fault.fault)
+        → IsGatherFault inputs strict result }
+{
     let bookie = fault.bookie;
     match fault.fault {
         ClusterFault::Differs => GatherFault::Differs { input, bookie },
@@ -118,7 +120,8 @@ fn first_other(inputs: &[Input], strict: bool) -> Option<usize>
 
 /// That each census among the inputs was made with `--strict`, or each without, as is asked.
 fn check_strict(inputs: &[Input], strict: bool) -> Result<(), GatherFault>
-    ensures { OnOk result (model.first_other strict inputs.now ≡ None) }
+    ensures alike { OnOk result (model.first_other strict inputs.now ≡ None) }
+    ensures fault { IfErr result (IsGatherFault inputs.now strict) }
 {
     match first_other(inputs, strict) {
         Some(input) => Err(GatherFault::OtherStrict { input }),
@@ -130,6 +133,7 @@ fn check_strict(inputs: &[Input], strict: bool) -> Result<(), GatherFault>
 fn cluster_of(alloc: Global, inputs: &[Input]) -> Result<Cluster, GatherFault>
     ensures united { IfOk result (λ cluster. cluster ≡ united inputs.now) }
     ensures agree { IfOk result (λ cluster. All (AreAlike cluster) inputs.now) }
+    ensures fault { IfErr result (λ fault. (strict : Bool) → IsGatherFault inputs.now strict fault) }
 {
     let mut cluster = Cluster::new(alloc);
     for (input, one) in inputs.iter().enumerate() {
@@ -143,7 +147,9 @@ fn cluster_of(alloc: Global, inputs: &[Input]) -> Result<Cluster, GatherFault>
 
 /// That no empty bookie of an input is said to hold entries.
 fn check_input(input: usize, one: &Input) -> Result<(), GatherFault>
-    ensures { OnOk result (EmptiesHoldNothing one.now) }
+    ensures nothing { OnOk result (EmptiesHoldNothing one.now) }
+    ensures fault { IfErr result (λ fault. (inputs : List InputValue) (strict : Bool)
+        → slice_get inputs input ≡ Some one.now → IsGatherFault inputs strict fault) }
 {
     let Input::Picture(listed) = one else {
         return Ok(());
@@ -156,10 +162,14 @@ fn check_input(input: usize, one: &Input) -> Result<(), GatherFault>
 
 /// The same of all inputs.
 fn check_inputs(inputs: &[Input]) -> Result<(), GatherFault>
-    ensures { OnOk result (All EmptiesHoldNothing inputs.now) }
+    ensures nothing { OnOk result (All EmptiesHoldNothing inputs.now) }
+    ensures fault { IfErr result (λ fault. (strict : Bool) → IsGatherFault inputs.now strict fault) }
 {
     for (input, one) in inputs.iter().enumerate() {
-        check_input(input, one)?;
+        match check_input(input, one) {
+            Ok(()) => {}
+            Err(fault) => return Err(fault),
+        }
     }
     Ok(())
 }
@@ -202,175 +212,6 @@ fn ids_of(alloc: Global, inputs: &[Input]) -> Result<IndexSet<u64>, GatherFault>
     Ok(ids)
 }
 
-/// Adds a ledger of an input.
-fn add_ledger(
-    alloc: Global,
-    numbers: &[u16],
-    reading: Reading,
-    input: usize,
-    listed: &Listed,
-    held: &ByLedger<'_>,
-    ledger: &PicturedLedger,
-    ledgers: &mut Vec<Ledger>,
-) -> Result<(), GatherFault>
-    requires { AreOf listed.now.listing.holdings.items (get nat_cmp held.now) }
-    ensures { OnOk result (ledgers.new.items
-        ≡ ledgers.old.items ++ model.ledger_in numbers.now reading listed.now ledger.now ∷ []) }
-{
-    match ledger_of(alloc, numbers, reading, held, ledger)? {
-        Some(made) => {
-            ledgers.push(made)?;
-            Ok(())
-        }
-        None => Err(GatherFault::Unfit {
-            input,
-            ledger: ledger.id().0,
-        }),
-    }
-}
-
-/// Adds the ledgers of an input whose bookies have these numbers.
-fn add_ledgers(
-    alloc: Global,
-    numbers: &[u16],
-    reading: Reading,
-    input: usize,
-    listed: &Listed,
-    ledgers: &mut Vec<Ledger>,
-) -> Result<(), GatherFault>
-    ensures { OnOk result (ledgers.new.items
-        ≡ ledgers.old.items ++ map (model.ledger_in numbers.now reading listed.now) listed.now.listing.ledgers.items) }
-{
-    let held = group_by_ledger(alloc, &listed.listing.holdings)?;
-    for ledger in &listed.listing.ledgers {
-        add_ledger(
-            alloc, numbers, reading, input, listed, &held, ledger, ledgers,
-        )?;
-    }
-    Ok(())
-}
-
-/// Adds the ledgers of an input, if it is a picture.
-fn add_ledgers_in(
-    alloc: Global,
-    names: &ClusterNames,
-    reading: Reading,
-    input: usize,
-    one: &Input,
-    ledgers: &mut Vec<Ledger>,
-) -> Result<(), GatherFault>
-    ensures { OnOk result (ledgers.new.items
-        ≡ ledgers.old.items ++ of_picture (model.ledgers_in names.now reading) one.now) }
-{
-    let Input::Picture(listed) = one else {
-        return Ok(());
-    };
-    let numbers = numbers_of(alloc, names, &listed.listing.names)?;
-    add_ledgers(alloc, &numbers, reading, input, listed, ledgers)
-}
-
-/// The ledgers of the pictures.
-fn ledgers_of(
-    alloc: Global,
-    names: &ClusterNames,
-    reading: Reading,
-    inputs: &[Input],
-) -> Result<Vec<Ledger>, GatherFault>
-    ensures { IfOk result (λ ledgers. ledgers.items
-        ≡ flat_map (of_picture (model.ledgers_in names.now reading)) inputs.now) }
-{
-    let mut ledgers = Vec::new(alloc);
-    for (input, one) in inputs.iter().enumerate() {
-        add_ledgers_in(alloc, names, reading, input, one, &mut ledgers)?;
-    }
-    Ok(ledgers)
-}
-
-/// How many of the entries have a known copy.
-fn count_held(entries: &[Counted]) -> u64
-    requires { entries_in entries.now ≤ 2 ^ 63 }
-    ensures { result ≡ count_in entries.now model.is_held }
-{
-    let mut held = 0;
-    for counted in entries {
-        if counted.class.known.as_slice().len() > 0 {
-            held += counted.count;
-        }
-    }
-    held
-}
-
-/// Whether something is assumed in a picture.
-fn is_assumed_in_picture(listed: &Listed) -> bool
-    ensures { result ≡ list_any (λ h. h.is_assumed) listed.now.listing.holdings.items }
-{
-    listed
-        .listing
-        .holdings
-        .iter()
-        .any(|holding| holding.is_assumed())
-}
-
-/// Whether something is assumed in an input.
-fn is_assumed_in(input: &Input) -> bool
-    ensures { result ≡ model.is_assumed_in input.now }
-{
-    match input {
-        Input::Picture(listed) => is_assumed_in_picture(listed),
-        Input::Census(_) => false,
-    }
-}
-
-/// Whether something is assumed in any of them.
-fn is_assumed_in_any(inputs: &[Input]) -> bool
-    ensures { result ≡ list_any model.is_assumed_in inputs.now }
-{
-    inputs.iter().any(|input| is_assumed_in(input))
-}
-
-/// How many entries rest on an assumption: some bookie that may hold copies is assumed to hold them.
-fn count_assumed(
-    alloc: Global,
-    bookies: &Bookies,
-    names: &ClusterNames,
-    inputs: &[Input],
-) -> Result<u64, GatherFault>
-    ensures { IfOk result (λ assumed. assumed
-        ≡ model.assumed_among (holders (bookies_of bookies.now)) names.now inputs.now) }
-{
-    if !is_assumed_in_any(inputs) {
-        return Ok(0);
-    }
-    let ledgers = ledgers_of(alloc, names, Reading::Assumed, inputs)?;
-    let census = census_of(alloc, bookies, &ledgers, judged_by(&ledgers, 0))?;
-    Ok(count_held(census.entries()))
-}
-
-/// The same, where the question is not strict, and else none.
-fn assumed_of(
-    alloc: Global,
-    bookies: &Bookies,
-    names: &ClusterNames,
-    inputs: &[Input],
-    strict: bool,
-) -> Result<u64, GatherFault>
-    ensures { IfOk result (λ assumed. assumed
-        ≡ model.assumed_of strict (holders (bookies_of bookies.now)) names.now inputs.now) }
-{
-    if strict {
-        return Ok(0);
-    }
-    let assumed = count_assumed(alloc, bookies, names, inputs)?;
-    Ok(assumed)
-}
-
-/// How inputs are read. With `strict`, what is assumed counts as untold.
-fn reading_of(strict: bool) -> Reading
-    ensures { result ≡ model.reading_of strict }
-{
-    if strict { Reading::Told } else { Reading::All }
-}
-
 /// The ids of the pictures' ledgers, each once.
 fn each_id(alloc: Global, inputs: &[Input]) -> Result<Vec<u64>, GatherFault>
     ensures ids { IfOk result (λ ids. ids.items ≡ flat_map (of_picture model.ids_in) inputs.now) }
@@ -382,7 +223,7 @@ fn each_id(alloc: Global, inputs: &[Input]) -> Result<Vec<u64>, GatherFault>
 }
 
 /// What was judged of these ledgers.
-fn judged_by(ledgers: &[Ledger], assumed: u64) -> Judged
+pub(crate) fn judged_by(ledgers: &[Ledger], assumed: u64) -> Judged
     ensures { result ≡ judged_by (length ledgers.now) assumed }
 {
     Judged {
@@ -391,26 +232,6 @@ fn judged_by(ledgers: &[Ledger], assumed: u64) -> Judged
         unread: 0,
         missing: 0,
     }
-}
-
-/// What is counted of these ledgers.
-fn counts_of(alloc: Global, bookies: &Bookies, ledgers: &[Ledger]) -> Result<Counts, GatherFault>
-    ensures entries { IfOk result (λ counts. CountsEntries counts.entries.items (holders (bookies_of bookies.now)) ledgers.now) }
-    ensures tails { IfOk result (λ counts. CountsTails counts.tails.items ledgers.now) }
-    ensures ensembles { IfOk result (λ counts. CountsEnsembles counts.ensembles.items ledgers.now) }
-    ensures well_formed { IfOk result (λ counts. All (λ t. IsTail t.tail) counts.tails.items) }
-{
-    if !are_few(ledgers) {
-        return Err(GatherFault::TooMany);
-    }
-    let entries = entries_of(alloc, bookies, ledgers)?;
-    let tails = tails_of(alloc, ledgers)?;
-    let ensembles = ensembles_of(alloc, ledgers)?;
-    Ok(Counts {
-        entries,
-        tails,
-        ensembles,
-    })
 }
 
 /// What was judged of the pictures and of the census files.
@@ -428,24 +249,27 @@ fn judged_with(own: Judged, inputs: &[Input]) -> Result<Judged, GatherFault>
     }
 }
 
-/// The census of the pictures' ledgers, and of what the census files among the inputs count.
+/// The census of what was counted of the pictures' ledgers, and of what the census files among the inputs count.
 fn census_with(
     alloc: Global,
-    cluster: &Cluster,
-    bookies: &Bookies,
-    ledgers: &[Ledger],
-    assumed: u64,
+    names: &ClusterNames,
+    own: Counts,
+    judged: Judged,
     inputs: &[Input],
 ) -> Result<Census, GatherFault>
-    ensures counts { IfOk result (λ census. model.AddsUp census (holders (bookies_of bookies.now)) ledgers.now
-        (files_of cluster.now.names inputs.now)) }
+    requires { All (λ t. IsTail t.tail) own.tails.items }
+    ensures entries { IfOk result (λ census. (test : ClassValue → Bool) → count_in census.entries test
+        ≡ count_in own.entries.items test + count_in (files_of names.now inputs.now).entries test) }
+    ensures tails { IfOk result (λ census. (test : TailValue → Bool) → count_tails_in census.tails test
+        ≡ count_tails_in own.tails.items test + count_tails_in (files_of names.now inputs.now).tails test) }
+    ensures ensembles { IfOk result (λ census. (test : List ℕ → Bool) → count_ensembles_in census.ensembles test
+        ≡ count_ensembles_in own.ensembles.items test + count_ensembles_in (files_of names.now inputs.now).ensembles test) }
     ensures order { IfOk result (λ census. IsInOrder census) }
-    ensures judged { IfOk result (λ census. census.judged
-        ≡ judged_sum (judged_by (length ledgers.now) assumed) (files_of cluster.now.names inputs.now).judged) }
+    ensures judged { IfOk result (λ census. census.judged ≡ judged_sum judged (files_of names.now inputs.now).judged) }
 {
-    let judged = judged_with(judged_by(ledgers, assumed), inputs)?;
-    let mut counts = counts_of(alloc, bookies, ledgers)?;
-    add_files(alloc, cluster.names(), inputs, &mut counts)?;
+    let judged = judged_with(judged, inputs)?;
+    let mut counts = own;
+    add_files(alloc, names, inputs, &mut counts)?;
     let Counts {
         entries,
         tails,
@@ -455,8 +279,15 @@ fn census_with(
     Ok(census)
 }
 
-/// What inputs show together. With `strict`, what is assumed counts as untold.
-pub fn gather(alloc: Global, inputs: &[Input], strict: bool) -> Result<Gathered, GatherFault>
+/// What inputs show together, found out by so many workers: for each number of them it is the same. With `strict`, what is
+/// assumed counts as untold.
+pub fn gather<R: Threads + Sync>(
+    rt: &R,
+    alloc: Global,
+    inputs: &[Input],
+    strict: bool,
+    workers: usize,
+) -> Result<Gathered, GatherFault>
     ensures gathers { IfOk result (λ gathered. model.Gathers inputs.now strict gathered) }
     ensures empties { OnOk result (All EmptiesHoldNothing inputs.now) }
 {
@@ -465,9 +296,24 @@ pub fn gather(alloc: Global, inputs: &[Input], strict: bool) -> Result<Gathered,
     check_inputs(inputs)?;
     let bookies = cluster.bookies(alloc)?;
     let ids = each_id(alloc, inputs)?;
-    let ledgers = ledgers_of(alloc, cluster.names(), reading_of(strict), inputs)?;
-    let assumed = assumed_of(alloc, &bookies, cluster.names(), inputs, strict)?;
-    let census = census_with(alloc, &cluster, &bookies, &ledgers, assumed, inputs)?;
+    let workers = workers.min(inputs.len());
+    let part = parts_of(
+        rt,
+        alloc,
+        &bookies,
+        cluster.names(),
+        strict,
+        0,
+        inputs,
+        workers,
+    )?;
+    let Part {
+        ledgers,
+        counts,
+        assumed,
+    } = part;
+    let judged = judged_by(&ledgers, assumed);
+    let census = census_with(alloc, cluster.names(), counts, judged, inputs)?;
     Ok(Gathered {
         cluster,
         bookies,

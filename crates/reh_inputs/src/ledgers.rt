@@ -30,7 +30,7 @@ fn number_of(numbers: &[u16], bookie: BookieIx) -> u16
 fn members_of(alloc: Global, numbers: &[u16], ensemble: &[BookieIx]) -> Result<Names, AllocError>
     ensures { IfOk result (λ members. members ≡ map (model.number_in numbers.now) ensemble.now) }
 {
-    let mut members = Vec::new(alloc);
+    let mut members = Vec::with_capacity(alloc, ensemble.len())?;
     for bookie in ensemble {
         members.push(number_of(numbers, *bookie))?;
     }
@@ -63,7 +63,7 @@ fn end_told(held: &[&Holding]) -> u64
 fn ranges_of(alloc: Global, ranges: &[(u32, u32)]) -> Result<Ranges, AllocError>
     ensures { IfOk result (λ copy. copy ≡ map model.range_of ranges.now) }
 {
-    let mut copy = Vec::new(alloc);
+    let mut copy = Vec::with_capacity(alloc, ranges.len())?;
     for range in ranges {
         copy.push(Range {
             first: range.0 as u64,
@@ -152,7 +152,7 @@ fn contents_of(
     ensures { IfOk result (λ contents. contents.items
         ≡ map (λ h. model.content_by numbers.now reading h.now) held.now) }
 {
-    let mut contents = Vec::new(alloc);
+    let mut contents = Vec::with_capacity(alloc, held.len())?;
     for holding in held {
         add_content(alloc, numbers, reading, holding, &mut contents)?;
     }
@@ -194,7 +194,7 @@ fn fragments_of(
     ensures { IfOk result (λ fragments. fragments.items
         ≡ map (model.fragment_of numbers.now end metadata.now) (range 0 (length metadata.now.fragments))) }
 {
-    let mut fragments = Vec::new(alloc);
+    let mut fragments = Vec::with_capacity(alloc, metadata.fragments().len())?;
     for fragment in 0..metadata.fragments().len() {
         let made = fragment_of(alloc, numbers, end, metadata, fragment)?;
         fragments.push(made)?;

@@ -1,10 +1,11 @@
 // The cluster of several inputs.
-ghost use Rattle.std.specs.Prelude.{◌≡◌, ◌<◌, ℕ, true, fold, length, map, slice_get, IfOk, OnOk, string_bytes};
-ghost use Rattle.std.specs.Option.{option_and_then, option_map, option_map_or};
+ghost use Rattle.std.specs.Prelude.{◌≡◌, ◌<◌, ℕ, true, fold, length, map, slice_get, IfErr, IfOk, OnOk, string_bytes};
+ghost use Rattle.std.specs.Option.{IsSomeAnd, option_and_then, option_map, option_map_or};
 ghost use Rattle.reh_census.specs.Striping.{range};
 ghost use Rattle.reh_census_file.specs.declared.lists.TheConstants.{MAX_NAMES};
 ghost use Rattle.reh_types.specs.declared.limits.TheConstants.{MAX_BOOKIES};
 ghost use Rattle.reh_inputs.specs.Cluster.{Keeps};
+ghost use Rattle.reh_inputs.specs.Faults.{IsClusterFault, IsUniteFault};
 ghost use Rattle.reh_inputs.specs.United as model;
 
 use crate::cluster::{Cluster, ClusterFault};
@@ -61,6 +62,8 @@ fn add_listed(
     ensures added { OnOk result (cluster.new ≡ model.with_listed listed.now cluster.old number) }
     ensures alike { OnOk result (model.shows_listed cluster.new listed.now number ≡ true) }
     ensures kept { OnOk result (Keeps cluster.old cluster.new) }
+    ensures fault { IfErr result (λ fault. IsSomeAnd (slice_get listed.now.listing.names number)
+        (λ name. IsClusterFault cluster.old name (model.shown_at listed.now number) fault)) }
 {
     let Some(name) = listed.listing.names.name(BookieIx(number as u8)) else {
         return Ok(());
@@ -76,6 +79,7 @@ fn unite_picture(alloc: Global, cluster: &mut Cluster, listed: &Listed) -> Resul
     ensures alike { OnOk result ((n : ℕ) → n < length listed.now.listing.names
         → model.shows_listed cluster.new listed.now n ≡ true) }
     ensures kept { OnOk result (Keeps cluster.old cluster.new) }
+    ensures fault { IfErr result (λ f. IsUniteFault cluster.old (Input.Picture listed.now) f.bookie f.fault) }
 {
     for number in 0..listed.listing.names.len() {
         match add_listed(alloc, cluster, listed, number) {
@@ -132,6 +136,8 @@ fn add_counted(
     ensures added { OnOk result (cluster.new ≡ model.with_counted census.now cluster.old number) }
     ensures alike { OnOk result (model.shows_counted cluster.new census.now number ≡ true) }
     ensures kept { OnOk result (Keeps cluster.old cluster.new) }
+    ensures fault { IfErr result (λ fault. IsSomeAnd (slice_get census.now.names number)
+        (λ name. IsClusterFault cluster.old name (model.counted_at census.now number) fault)) }
 {
     let Some(name) = census.names().name(number as u16) else {
         return Ok(());
@@ -151,6 +157,7 @@ fn unite_census(
     ensures alike { OnOk result ((n : ℕ) → n < length census.now.names
         → model.shows_counted cluster.new census.now n ≡ true) }
     ensures kept { OnOk result (Keeps cluster.old cluster.new) }
+    ensures fault { IfErr result (λ f. IsUniteFault cluster.old (Input.Census census.now) f.bookie f.fault) }
 {
     for number in 0..census.names().len() {
         match add_counted(alloc, cluster, census, number) {
@@ -171,6 +178,7 @@ pub fn unite(alloc: Global, cluster: &mut Cluster, input: &Input) -> Result<(), 
     ensures added { OnOk result (cluster.new ≡ model.with_input cluster.old input.now) }
     ensures alike { OnOk result (model.AreAlike cluster.new input.now) }
     ensures kept { OnOk result (Keeps cluster.old cluster.new) }
+    ensures fault { IfErr result (λ f. IsUniteFault cluster.old input.now f.bookie f.fault) }
 {
     match input {
         Input::Picture(listed) => unite_picture(alloc, cluster, listed),

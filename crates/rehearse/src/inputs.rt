@@ -10,7 +10,8 @@ use crate::faults::RunFault;
 use reh_census_file::{CensusFault, NamedCensus, census_text};
 use reh_census_json::census_json;
 use reh_inputs::{
-    EmptyHolds, GatherFault, Gathered, Input, InputFault, gather, named_of, read_input, taken_of,
+    EmptyHolds, GatherFault, Gathered, Input, InputFault, gather, let_go, named_of, read_input,
+    taken_of,
 };
 use reh_picture::{LocatedFault, PictureFault};
 use reh_types::BookieIx;
@@ -28,15 +29,21 @@ pub(crate) fn gather_files<R: thread::Threads + Wait + Sync>(
     ensures { IfOk result (λ gathered. model.IsOfFiles inputs.now gathered) }
 {
     let read = read_files(rt, threads, inputs)?;
-    let gathered = gather_read(rt.alloc(), inputs, &read)?;
+    let gathered = gather_read(threads, rt.alloc(), inputs, &read)?;
+    let_go(threads, read, inputs.crew.workers);
     Ok(gathered)
 }
 
 /// What these inputs show together, once they are read.
-fn gather_read(alloc: Global, inputs: &Inputs<'_>, read: &[Input]) -> Result<Gathered, RunFault>
+fn gather_read<R: thread::Threads + Sync>(
+    threads: &R,
+    alloc: Global,
+    inputs: &Inputs<'_>,
+    read: &[Input],
+) -> Result<Gathered, RunFault>
     ensures { IfOk result (λ gathered. Gathers read.now inputs.now.strict gathered) }
 {
-    match gather(alloc, read, inputs.strict) {
+    match gather(threads, alloc, read, inputs.strict, inputs.crew.workers) {
         Ok(gathered) => Ok(gathered),
         Err(fault) => Err(fault_of(alloc, inputs, read, fault)),
     }
@@ -62,8 +69,9 @@ fn census_of<R: thread::Threads + Wait + Sync>(
 {
     let inputs = &words.inputs;
     let read = read_files(rt, threads, inputs)?;
-    let gathered = gather_read(rt.alloc(), inputs, &read)?;
+    let gathered = gather_read(threads, rt.alloc(), inputs, &read)?;
     let taken = copy_taken(rt.alloc(), &read)?;
+    let_go(threads, read, inputs.crew.workers);
     let census = named_of(rt.alloc(), gathered, inputs.strict, taken)?;
     let text = say_census(rt.alloc(), &census, words.as_json)?;
     Ok(text)

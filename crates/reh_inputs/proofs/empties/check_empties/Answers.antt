@@ -13,8 +13,8 @@ loop-holding-preserved c =
     c.loop-holding-test.true c.loop-holding.invariant
     (ap is (sym c.holding-item.is) ∙ sym c.holds_though_empty.ensures ∙ c.if-holds_though_empty.false)
 
-pub returns : goal.returns
-returns c =
+pub returns-clause-nothing : goal.returns-clause-nothing
+returns-clause-nothing c =
     subst (λ (hs : List Holding). All (λ h. holds_though_empty c.args.listed.now h ≡ false) hs)
     (take_all c.loop-holding.holding-index c.deref-holding-items.result.now c.loop-holding-test.false
     ∙ c.deref-holding-items.ensures.value)

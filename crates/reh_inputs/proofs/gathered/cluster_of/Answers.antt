@@ -1,5 +1,6 @@
--- One input more is united with the others, and those before are shown as they were.
-use Rattle.std.proofs.Common.{◌≡◌, ◌∙◌, ◌∷◌, [], All, List, ap, fold, get_or, length, subst, sym, take, arith}
+-- One input more is united with the others, and those before are shown as they were; the cluster of the inputs before is the one
+-- that a bookie can't be of.
+use Rattle.std.proofs.Common.{◌≡◌, ◌∙◌, ◌∷◌, [], All, List, ap, fold, get_or, length, subst, sym, take, arith, Option}
 use Rattle.std.proofs.lemmas.List.{take_all}
 use Rattle.std.proofs.lemmas.List.Elements.{All-more}
 use Rattle.std.proofs.lemmas.List.Sums.{fold_more}
@@ -7,6 +8,9 @@ use Rattle.reh_inputs.specs.Cluster.{Cluster, no_bookies}
 use Rattle.reh_inputs.specs.United.{AreAlike, united, with_input}
 use Rattle.reh_inputs.specs.declared.inputs.Input.{Input}
 use Rattle.reh_inputs.proofs.AlikeLaws.{AreAlike-kept}
+use Rattle.std.specs.Option.{IsSomeAnd}
+use Rattle.reh_model.proofs.ListLaws.{slice_get-there}
+use Rattle.reh_inputs.specs.Faults.{IsUniteFault}
 use Rattle.reh_inputs.proofs.gathered.cluster_of.Goals as goal
 
 pub loop-input-preserved : goal.loop-input-preserved
@@ -36,3 +40,14 @@ pub returns-clause-united : goal.returns-clause-united
 returns-clause-united c =
     let inputs = c.args.inputs.now in
     c.loop-input.invariant.0 ∙ ap united (take_all c.loop-input.input inputs (omega (arith, c.loop-input-test.false)))
+
+pub returns-in-Err-clause-fault : goal.returns-in-Err-clause-fault
+returns-in-Err-clause-fault c strict =
+    let inputs = c.args.inputs.now in
+    let k = c.loop-input.input in
+    let one = c.index-inputs-input.result in
+    let fault = c.in-Err.fault in
+    c.bookie_fault.ensures inputs strict
+    (subst (λ (o : Option Input). IsSomeAnd o (λ one. IsUniteFault (united (take k inputs)) one fault.bookie fault.fault))
+    (sym (slice_get-there inputs k one c.loop-input-test.true c.index-inputs-input.is))
+    (subst (λ (cluster : Cluster). IsUniteFault cluster one fault.bookie fault.fault) c.loop-input.invariant.0 c.in-Err.ensures.fault))

@@ -3,7 +3,7 @@ use Rattle.std.proofs.Common.{ap, arith}
 use Rattle.reh_census.specs.declared.classes.Counted.{Counted}
 use Rattle.reh_inputs.specs.Gathered.{is_held}
 use Rattle.reh_inputs.proofs.RangeLaws.{counted-fits}
-use Rattle.reh_inputs.proofs.gathered.count_held.Goals as goal
+use Rattle.reh_inputs.proofs.parts.count_held.Goals as goal
 
 pub overflow_add-held : goal.overflow_add-held
 overflow_add-held c =

@@ -1,7 +1,7 @@
 -- The ledgers that are passed are there.
 use Rattle.std.proofs.Common.{◌≡◌, ◌++◌, map, take}
 use Rattle.reh_inputs.specs.Gathered.{ledger_in}
-use Rattle.reh_inputs.proofs.gathered.add_ledgers.Given as goal
+use Rattle.reh_inputs.proofs.parts.add_ledgers.Given as goal
 
 abbrev pub invariant-loop-ledger : goal.invariant-loop-ledger
 invariant-loop-ledger l =

@@ -2,7 +2,7 @@
 use Rattle.std.proofs.Common.{◌≡◌, take}
 use Rattle.reh_census.specs.Counting.{count_in}
 use Rattle.reh_inputs.specs.Gathered.{is_held}
-use Rattle.reh_inputs.proofs.gathered.count_held.Given as goal
+use Rattle.reh_inputs.proofs.parts.count_held.Given as goal
 
 abbrev pub invariant-loop-counted : goal.invariant-loop-counted
 invariant-loop-counted l = l.held ≡ count_in (take l.counted-index l.entries) is_held

@@ -4,7 +4,7 @@ use Rattle.reh_census.specs.Ledgers.{Ledger}
 use Rattle.reh_inputs.specs.Gathered.{ledgers_in}
 use Rattle.reh_inputs.specs.Inputs.{of_picture}
 use Rattle.reh_inputs.proofs.RangeLaws.{flat_map_more}
-use Rattle.reh_inputs.proofs.gathered.ledgers_of.Goals as goal
+use Rattle.reh_inputs.proofs.parts.ledgers_of.Goals as goal
 
 pub loop-input-preserved : goal.loop-input-preserved
 loop-input-preserved c =

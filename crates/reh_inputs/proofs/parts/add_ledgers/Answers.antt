@@ -3,7 +3,7 @@ use Rattle.std.proofs.Common.{List, ◌++◌, ◌∷◌, [], ◌∙◌, ap, sym,
 use Rattle.reh_census.specs.Ledgers.{Ledger}
 use Rattle.reh_inputs.specs.Gathered.{ledger_in}
 use Rattle.reh_inputs.proofs.RangeLaws.{map_more}
-use Rattle.reh_inputs.proofs.gathered.add_ledgers.Goals as goal
+use Rattle.reh_inputs.proofs.parts.add_ledgers.Goals as goal
 
 pub loop-ledger-preserved : goal.loop-ledger-preserved
 loop-ledger-preserved c =

@@ -2,7 +2,7 @@
 use Rattle.std.proofs.Common.{sym}
 use Rattle.reh_census.specs.Bookies.{bookies_of, holders}
 use Rattle.reh_inputs.proofs.AssumedLaws.{none_assumed}
-use Rattle.reh_inputs.proofs.gathered.count_assumed.Goals as goal
+use Rattle.reh_inputs.proofs.parts.count_assumed.Goals as goal
 
 pub returns-then-not-is_assumed_in_any : goal.returns-then-not-is_assumed_in_any
 returns-then-not-is_assumed_in_any c =
