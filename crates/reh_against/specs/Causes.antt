@@ -21,7 +21,7 @@ use Rattle.reh_answer.specs.Texts.{name_of}
 
 -- Where an entry is left
 
--- a name behind a comma
+-- a name after a comma
 abbrev pub next : List (List ℕ) → ℕ → List ℕ
 next names b = codes ", " ++ name_of names b
 

@@ -28,7 +28,7 @@ fn push_next(text: &mut String, names: &[String], bookie: u16) -> Result<(), All
     push_name(text, names, bookie)
 }
 
-/// Adds names, each behind a comma.
+/// Adds names, each after a comma.
 fn push_more(text: &mut String, names: &[String], bookies: &[u16]) -> Result<(), AllocError>
     ensures { OnOk result (string_bytes text.new ≡ string_bytes text.old
         ++ flat_map (model.next (map string_bytes names.now)) bookies.now) }

@@ -112,7 +112,7 @@ against_json against = against_with against.ledger against.entries (string_bytes
 
 -- All of it
 
--- further notes stand behind those that apply
+-- further notes come after those that apply
 abbrev pub answer_with : Facts → List (List ℕ) → List Against → List (List ℕ) → Json
 answer_with facts notes against further =
     object (

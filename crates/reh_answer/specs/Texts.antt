@@ -49,7 +49,7 @@ judged_line facts =
     ++ (codes ", "
     ++ (decimal facts.judged.assumed ++ (codes " assumed, " ++ (decimal facts.unknown ++ codes " unknown\n")))))))
 
--- a number behind a space, at the right end of nine places
+-- a number after a space, at the right end of nine places
 abbrev pub cell : ℕ → List ℕ
 cell number = codes " " ++ (replicate (8 - length (decimal number)) 32 ++ decimal number)
 

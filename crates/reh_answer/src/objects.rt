@@ -174,7 +174,7 @@ pub fn text_in(json: Writer<Global>) -> Result<String, AllocError>
 }
 
 /// What is said of a stop, as JSON: one object, on one line. The bookies have these names, by number; further notes stand
-/// behind those that apply.
+/// after those that apply.
 pub fn json_of(
     alloc: Global,
     facts: &Facts,

@@ -27,7 +27,7 @@ pub(crate) fn push_judged(text: &mut String, facts: &Facts) -> Result<(), AllocE
     )
 }
 
-/// Adds a number behind a space, at the right end of nine places.
+/// Adds a number after a space, at the right end of nine places.
 fn push_cell(text: &mut String, number: u64) -> Result<(), AllocError>
     ensures { OnOk result (string_bytes text.new ≡ string_bytes text.old ++ texts.cell number) }
 {

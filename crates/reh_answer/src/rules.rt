@@ -33,7 +33,7 @@ pub(crate) fn push_rules(
     text.push_str("\n")
 }
 
-/// Adds a number behind its label, where there is one.
+/// Adds a number after its label, where there is one.
 fn push_some(text: &mut String, label: &str, number: u64) -> Result<(), AllocError>
     ensures { OnOk result (string_bytes text.new ≡ string_bytes text.old ++ texts.some_words label.now number) }
 {

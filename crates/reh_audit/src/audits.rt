@@ -15,7 +15,7 @@ use std::alloc::{AllocError, Global};
 /// The ledgers whose tasks an audit changes, in picture order, each with the bookies that its task names then.
 ///
 /// Refused with `Disabled` where AutoRecovery is disabled, else with `NothingToPublish` where no task would change, and
-/// for want of memory only where neither applies. BookKeeper's auditor publishes a ledger's under-replication in the
+/// for lack of memory only where neither applies. BookKeeper's auditor publishes a ledger's under-replication in the
 /// same way: to a task that is there already it adds the lost bookies.
 pub fn audit(alloc: Global, state: &State) -> Result<Vec<(LedgerId, BookieSet)>, Refusal>
     ensures news { IfOk result (λ _. refusal_of state.now Audit ≡ None) }

@@ -27,7 +27,7 @@ IsPart part whole = (b : ℕ) → part b ≡ true → whole b ≡ true
 abbrev pub is_in : List ℕ → ℕ → Bool
 is_in names b = list_any (λ name. name == b) names
 
--- each number is less than those behind it
+-- each number is less than those after it
 abbrev pub Above : ℕ → List ℕ → Type 0
 Above x [] = Unit {0}
 Above x (y ∷ ys) = (x < y) × Above x ys

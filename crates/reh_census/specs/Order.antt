@@ -9,7 +9,7 @@ use Rattle.reh_census.specs.declared.censuses.Tail.{Tail}
 use Rattle.reh_census.specs.declared.classes.Class.{Class}
 use Rattle.reh_census.specs.Counting.{Census}
 
--- of lists of bookies, by the first at which they differ; a list comes before those that go on behind it
+-- of lists of bookies, by the first at which they differ; a list comes before those that go on after it
 abbrev pub names_cmp : List ℕ → List ℕ → Ordering
 names_cmp = slice_cmp nat_cmp
 

@@ -28,7 +28,7 @@ unfolding rack_at rack_behind
 rack_again None named = refl
 rack_again (Some name) named = ap (λ r. r >>= λ name. no_more name.1 >>= λ done. Ok (Some name.0)) (name_again name [] named)
 
--- the words behind the flags begin with neither
+-- the words after the flags begin with neither
 racked_apart : (rack : Option (List ℕ)) → begins_apart (codes "empty") (racked rack)
 racked_apart None = tt
 racked_apart (Some name) = refl
@@ -38,7 +38,7 @@ empty_apart true rack = refl
 empty_apart false None = tt
 empty_apart false (Some name) = refl
 
--- the words of a bookie's line behind the first
+-- the words of a bookie's line after the first
 abbrev pub behind_bookie : BookieLine → Words
 behind_bookie line =
     line.name ∷ up_word line.is_registered ∷ (word_if line.is_read_only (codes "read-only") ++ (word_if line.is_empty (codes "empty") ++ racked line.rack))

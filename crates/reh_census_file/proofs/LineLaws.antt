@@ -50,7 +50,7 @@ parts_of-some text n is =
     split_some is_line_end text (omega arith) ∙ ap (λ k. take k text ∷ parts_of (drop (k + 1) text)) f.0
     ∙ ap (λ rest. take n text ∷ parts_of rest) (sym (ap (λ k. take k (drop (n + 1) text)) whole ∙ take-length (drop (n + 1) text)))
 
--- behind an LF stands a part, though it may be empty
+-- after an LF stands a part, though it may be empty
 pub parts_of-some_part : (text : List ℕ) → 0 < length (parts_of text)
 parts_of-some_part text = omega (arith, length-slice_split is_line_end text)
 

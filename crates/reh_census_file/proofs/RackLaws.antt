@@ -39,7 +39,7 @@ numbered-push n [] m b is fits =
     (subst (λ (k : ℕ). IfSome b.rack (λ r. r ≤ k)) (sym is) fits, ap (λ k. next_rack k b.rack) is)
 numbered-push n (first ∷ bs) m b is fits = (is.0, numbered-push (next_rack n first.rack) bs m b is.1 fits)
 
--- a bookie behind others: its rack, and the racks of those before it
+-- a bookie after others: its rack, and the racks of those before it
 pub numbered-split : (n : ℕ) (bookies : List Bookie) (b : Bookie) (more : List Bookie) (m : ℕ) → AreNumbered n (bookies ++ b ∷ more) m
     → (k : ℕ) × AreNumbered n bookies k × IfSome b.rack (λ r. r ≤ k) × AreNumbered (next_rack k b.rack) more m
 numbered-split n [] b more m is = (n, refl, is.0, is.1)

@@ -15,7 +15,7 @@ draft_words d =
     map (λ named. bookie_words d.racks named.0 named.1) (zip d.names d.bookies) ++ (judged_lines d.judged
     ++ (map (entries_words d.names) d.entries ++ (map (tail_words d.names) d.tails ++ map (ensemble_words d.names) d.ensembles)))
 
--- what stands behind the line of ledgers
+-- what comes after the line of ledgers
 pub record AreEarly (d : Draft) : Type 0 where
   pub entries : d.entries ≡ []
   pub tails : d.tails ≡ []

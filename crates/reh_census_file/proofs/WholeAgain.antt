@@ -215,7 +215,7 @@ module _ (c : NamedCensus) (fits : IsCanonical c) where
   some_entries : 0 < length (entry_parts c)
   some_entries = some_behind (map spaced (map (entries_words c.names) c.census.entries)) (tail_parts c) some_tails
 
-  -- the lines behind the head
+  -- the lines after the head
   body_again : body_at 3 no_lines (bookie_parts c) ≡ Ok (all_of c)
   body_again =
       let pairs = zip c.names c.bookies in

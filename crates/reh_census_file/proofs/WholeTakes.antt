@@ -146,7 +146,7 @@ taken_line_takes words taken e =
     subst (λ (x : Option (List ℕ)). (words ≡ codes "taken" ∷ taken_word x ∷ []) × IfSome x (λ time. is_time time ≡ true)) (ok_is b.0.0 taken c.2)
     (word_takes word.Taken words a.0 a.1 ∙ ap (λ ws. codes "taken" ∷ ws) (t.0 ∙ ap (λ ws. taken_word b.0.0 ∷ ws) (no_more_takes b.0.1 c.1)), t.1)
 
--- The lines behind the head
+-- The lines after the head
 
 -- what a draft is once its last line came
 pub record IsWhole (d : Draft) (lines : ℕ) (parts : Line) (last : Draft) : Type 0 where

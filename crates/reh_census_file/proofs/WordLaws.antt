@@ -29,7 +29,7 @@ words_of-first (b ∷ bs) =
       | false ↦ ap (onto_first b) (words_of-first bs) ∙ rw (one_more (position_or_len is_space bs)) refl
     ]
 
--- the words behind a space are those of the bytes behind it
+-- the words after a space are those of the bytes after it
 after_first : (rest : List ℕ) → 1 ≤ length rest → words_after rest ≡ words_of (take (length rest - 1) (drop 1 rest))
 after_first [] some = absurd (omega arith)
 after_first (b ∷ bs) some = ap words_of (sym (take_whole bs (suc (length bs) - 1) (omega arith)))

@@ -24,7 +24,7 @@ use Rattle.reh_census_file.specs.LineReading.{BookieLine, bookie_line_at, judged
 use Rattle.reh_census_file.specs.Names.{with_name}
 use Rattle.reh_census_file.specs.Reading.{◌>>=◌}
 
--- what the lines so far have told; the line of ledgers comes behind those of bookies
+-- what the lines so far have told; the line of ledgers comes after those of bookies
 pub record Draft : Type 0 where
   pub names : List (List ℕ)
   pub racks : List (List ℕ)

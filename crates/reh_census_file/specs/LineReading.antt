@@ -1,4 +1,4 @@
--- Reading the lines of a census, behind their first words.
+-- Reading the lines of a census, after their first words.
 use Rattle.std.specs.Prelude.{ℕ, Bool, List, [], ◌∷◌, length, Option, None, Some, Result, Ok, Err, codes, if◌then◌else◌}
 use Rattle.std.specs.Str.{bytes_eq}
 use Rattle.std.specs.Option.{option_map}
@@ -30,7 +30,7 @@ seen line = record {
   rack = option_map (λ rack. rack.now) line.rack;
 }
 
--- the name of a rack, and nothing behind it
+-- the name of a rack, and nothing after it
 unfoldable pub rack_behind : List (List ℕ) → Result (Option (List ℕ)) Expected
 rack_behind words = do
   name ← name_at words
@@ -98,7 +98,7 @@ tail_at names words = do
     count = count.0;
   })
 
--- all words behind the count are bookies
+-- all words after the count are bookies
 unfoldable pub ensemble_at : List (List ℕ) → List (List ℕ) → Result CountedEnsemble Expected
 ensemble_at names words = do
   count ← count_at words

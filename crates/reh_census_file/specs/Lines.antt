@@ -1,7 +1,7 @@
 -- A text of lines, and a line of words.
 use Rattle.std.specs.Prelude.{ℕ, List, [], ◌∷◌, ◌++◌, codes, flat_map}
 
--- each word behind a space
+-- each word after a space
 abbrev pub behind_spaces : List (List ℕ) → List ℕ
 behind_spaces words = flat_map (λ word. 32 ∷ word) words
 

@@ -1,4 +1,4 @@
--- Reading the words of a line from left to right: a value and the words behind it, or the first word that isn't what is
+-- Reading the words of a line from left to right: a value and the words after it, or the first word that isn't what is
 -- expected.
 use Rattle.std.specs.Prelude.{◌≡◌, ℕ, zero, suc, ◌*◌, ◌+◌, ◌-◌, ◌^◌, ◌==◌, ◌&&◌, nat_le, Bool, true, false, if◌then◌else◌}
 use Rattle.std.specs.Prelude.{List, [], ◌∷◌, position, Option, None, Some, Result, Ok, Err, codes}
@@ -36,7 +36,7 @@ is_space b = b == 32
 abbrev pub words_of : List ℕ → List (List ℕ)
 words_of line = slice_split is_space line
 
--- the words behind one, from the space on that ends it
+-- the words after one, from the space on that ends it
 abbrev pub words_after : List ℕ → List (List ℕ)
 words_after [] = []
 words_after (b ∷ bs) = words_of bs
@@ -58,7 +58,7 @@ unfoldable pub word_at : Word → List (List ℕ) → Result (List (List ℕ)) E
 word_at wanted [] = Err (expected.Word wanted)
 word_at wanted (word ∷ words) = if bytes_eq word (word_text wanted) then Ok words else Err (expected.Word wanted)
 
--- whether the word comes next, and the words behind it
+-- whether the word comes next, and the words after it
 unfoldable pub flag_at : Word → List (List ℕ) → Bool × List (List ℕ)
 flag_at wanted [] = (false, [])
 flag_at wanted (word ∷ words) = if bytes_eq word (word_text wanted) then (true, words) else (false, word ∷ words)
@@ -87,7 +87,7 @@ unfoldable pub count_at : List (List ℕ) → Result (ℕ × List (List ℕ)) Ex
 count_at [] = Err expected.Count
 count_at (word ∷ words) = count_or (number_of word) words
 
--- a number behind its word
+-- a number after its word
 unfoldable pub number_behind : Word → List (List ℕ) → Result (ℕ × List (List ℕ)) Expected
 number_behind wanted words = do
   behind ← word_at wanted words
@@ -115,7 +115,7 @@ bookies_at names (suc n) words = do
   others ← bookies_at names n first.1
   Ok (first.0 ∷ others.0, others.1)
 
--- bookies behind a word and their number
+-- bookies after a word and their number
 unfoldable pub bookies_behind : List (List ℕ) → Word → List (List ℕ) → Result (List ℕ × List (List ℕ)) Expected
 bookies_behind names wanted words = do
   count ← number_behind wanted words
@@ -133,12 +133,12 @@ time_at (word ∷ words) =
     if bytes_eq word (codes "-") then Ok (None, words)
     else (if is_name word then Ok (Some word, words) else Err expected.Time)
 
--- the version, and nothing behind it
+-- the version, and nothing after it
 unfoldable pub version_at : List (List ℕ) → Result (Unit {0}) Expected
 version_at [] = Err expected.Version
 version_at (word ∷ words) = if bytes_eq word (codes "1") then no_more words else Err expected.Version
 
--- how many lines stand before the last one, and nothing behind it
+-- how many lines stand before the last one, and nothing after it
 unfoldable pub lines_at : ℕ → List (List ℕ) → Result (Unit {0}) Expected
 lines_at lines [] = Err (expected.End lines)
 lines_at lines (word ∷ words) =

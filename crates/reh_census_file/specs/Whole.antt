@@ -39,7 +39,7 @@ fault_at line (stop.At what) = fault.Line line what
 abbrev pub is_line_end : ℕ → Bool
 is_line_end b = b == 10
 
--- the parts of a text between LFs: its lines, and what stands behind the last LF
+-- the parts of a text between LFs: its lines, and what comes after the last LF
 abbrev pub parts_of : List ℕ → List (List ℕ)
 parts_of text = slice_split is_line_end text
 
@@ -68,31 +68,31 @@ taken_line words = do
   done ← no_more taken.1
   Ok taken.0
 
--- the first of these parts as a line, which an LF ends, so that a part stands behind it
+-- the first of these parts as a line, which an LF ends, so that a part comes after it
 unfoldable pub line_by : {A : Type 0} → (List (List ℕ) → Result A Expected) → ℕ → List (List ℕ) → Result (A × List (List ℕ)) CensusFault
 line_by read line [] = Err (fault.Line line expected.MoreLines)
 line_by read line (part ∷ parts) =
     if length parts == 0 then Err (fault.Line line expected.MoreLines)
     else (placed line (read (words_of part)) >>= λ x. Ok (x, parts))
 
--- The lines behind the head
+-- The lines after the head
 
 -- a last line may come once the ledgers' has, and counts the lines before it
 unfoldable pub end_line : ℕ → Draft → List (List ℕ) → Result Draft Expected
 end_line lines d words =
     if is_some d.judged then (lines_at lines words >>= λ done. Ok d) else other_line d
 
--- nothing stands behind it
+-- nothing comes after it
 abbrev pub text_end : ℕ → Draft → List (List ℕ) → Result Draft CensusFault
 text_end line d [] = Err (fault.Line line expected.NoMoreLines)
 text_end line d (part ∷ parts) =
     if (length part == 0) && (length parts == 0) then Ok d else Err (fault.Line line expected.NoMoreLines)
 
--- the last line behind this many, and nothing behind it
+-- the last line after this many, and nothing after it
 abbrev pub last_at : ℕ → Draft → List (List ℕ) → List (List ℕ) → Result Draft CensusFault
 last_at lines d words parts = placed (lines + 1) (end_line lines d words) >>= λ last. text_end (lines + 2) last parts
 
--- the lines behind this many
+-- the lines after this many
 unfoldable pub body_at : ℕ → Draft → List (List ℕ) → Result Draft CensusFault
 body_at lines d [] = Err (fault.Line (lines + 1) expected.MoreLines)
 body_at lines d (part ∷ parts) =

@@ -1,4 +1,4 @@
-// The lines of a census, behind their first words.
+// The lines of a census, after their first words.
 ghost use Rattle.std.specs.Prelude.{codes};
 ghost use Rattle.reh_census_file.specs.LineReading as reading;
 ghost use Rattle.reh_census_file.specs.LineReading.{seen};
@@ -42,7 +42,7 @@ fn state_at(rest: &[u8]) -> Result<(bool, &[u8]), Stop>
     choice_at("open", "in-recovery", Expected::OpenOrInRecovery, rest)
 }
 
-/// The name of a rack, and nothing behind it.
+/// The name of a rack, and nothing after it.
 #[tactic(auto, unfolding(crate::specs::LineReading::rack_behind))]
 fn rack_behind(rest: &[u8]) -> Result<Option<&str>, Stop>
     ensures { Gives (λ x. option_map (λ rack. rack.now) x) result (reading.rack_behind (words_after rest.now)) }

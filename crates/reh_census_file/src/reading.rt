@@ -40,7 +40,7 @@ fn line_len(text: &[u8]) -> Option<usize>
     text.iter().position(|b| is_line_end(*b))
 }
 
-/// The first line, and what stands behind the LF that ends it, if one does.
+/// The first line, and what comes after the LF that ends it, if one does.
 fn next_line(text: &[u8]) -> Option<(&[u8], &[u8])>
     ensures parts { MatchOption result (parts_of text.now ≡ text.now ∷ [])
         (λ found. parts_of text.now ≡ found.0.now ∷ parts_of found.1.now) }
@@ -100,7 +100,7 @@ fn taken_line(line: &[u8]) -> Result<Option<&str>, Stop>
     Ok(taken)
 }
 
-/// What stands behind the first line, which tells the version.
+/// What comes after the first line, which tells the version.
 #[tactic(auto, unfolding(crate::specs::Whole::line_by))]
 fn behind_version(text: &[u8]) -> Result<&[u8], CensusFault>
     ensures { GivesAll (λ rest. (tt, parts_of rest.now)) result
@@ -115,7 +115,7 @@ fn behind_version(text: &[u8]) -> Result<&[u8], CensusFault>
     }
 }
 
-/// What the second line tells, and what stands behind it.
+/// What the second line tells, and what comes after it.
 #[tactic(auto, unfolding(crate::specs::Whole::line_by))]
 fn read_strict(text: &[u8]) -> Result<(bool, &[u8]), CensusFault>
     ensures { GivesAll (λ x. (x.0, parts_of x.1.now)) result
@@ -130,7 +130,7 @@ fn read_strict(text: &[u8]) -> Result<(bool, &[u8]), CensusFault>
     }
 }
 
-/// What the third line tells, and what stands behind it.
+/// What the third line tells, and what comes after it.
 #[tactic(auto, unfolding(crate::specs::Whole::line_by))]
 fn read_taken(text: &[u8]) -> Result<(Option<&str>, &[u8]), CensusFault>
     ensures { GivesAll (λ x. (option_map (λ t. t.now) x.0, parts_of x.1.now)) result
@@ -145,7 +145,7 @@ fn read_taken(text: &[u8]) -> Result<(Option<&str>, &[u8]), CensusFault>
     }
 }
 
-/// Whether a last line may come behind so many, and these are its words behind `end`.
+/// Whether a last line may come after so many, and these are its words after `end`.
 #[tactic(auto, unfolding(crate::specs::Whole::end_line))]
 fn end_line(lines: u64, draft: &Draft, words: &[u8]) -> Result<(), Stop>
     ensures { Gives (λ _. draft.now) result (whole.end_line lines draft.now (words_after words.now)) }
@@ -156,7 +156,7 @@ fn end_line(lines: u64, draft: &Draft, words: &[u8]) -> Result<(), Stop>
     lines_at(lines, words)
 }
 
-/// What was read, if these are the words behind `end` on the line behind so many, and nothing stands behind that line.
+/// What was read, if these are the words after `end` on the line after so many, and nothing comes after that line.
 fn read_end(lines: u64, draft: Draft, words: &[u8], rest: &[u8]) -> Result<Draft, CensusFault>
     requires { lines + 2 < 2 ^ 64 }
     ensures { GivesAll (λ d. d) result (whole.last_at lines draft (words_after words.now) (parts_of rest.now)) }
@@ -171,7 +171,7 @@ fn read_end(lines: u64, draft: Draft, words: &[u8], rest: &[u8]) -> Result<Draft
     }
 }
 
-/// What the lines behind the head tell.
+/// What the lines after the head tell.
 fn read_body(alloc: Global, text: &[u8]) -> Result<Draft, CensusFault>
     ensures { GivesAll (λ d. d) result (whole.body_at 3 drafts.no_lines (parts_of text.now)) }
 {

@@ -19,7 +19,7 @@ fn name_of(names: &NameList, number: u16) -> &str
     }
 }
 
-/// Adds the names of these numbers, each behind a space.
+/// Adds the names of these numbers, each after a space.
 fn push_names(text: &mut String, names: &NameList, numbers: &[u16]) -> Result<(), AllocError>
     ensures { OnOk result (string_bytes text.new ≡ string_bytes text.old
         ++ behind_spaces (spec.names_of names.now numbers.now)) }

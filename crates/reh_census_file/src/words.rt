@@ -193,7 +193,7 @@ pub(crate) fn count_at(rest: &[u8]) -> Result<(u64, &[u8]), Stop>
     }
 }
 
-/// A number behind its word, and what follows it.
+/// A number after its word, and what follows it.
 #[tactic(auto, unfolding(crate::specs::Reading::number_behind))]
 pub(crate) fn number_behind(wanted: Word, rest: &[u8]) -> Result<(u64, &[u8]), Stop>
     ensures { Gives (λ x. (x.0, words_after x.1.now)) result
@@ -283,7 +283,7 @@ pub(crate) fn bookies_at<'a>(
     Ok((numbers, left))
 }
 
-/// Bookies behind a word and their number, and what follows them.
+/// Bookies after a word and their number, and what follows them.
 #[tactic(auto, unfolding(crate::specs::Reading::bookies_behind))]
 pub(crate) fn bookies_behind<'a>(
     alloc: Global,
@@ -308,7 +308,7 @@ pub(crate) fn no_more(rest: &[u8]) -> Result<(), Stop>
     }
 }
 
-/// The version, which is 1, and nothing behind it.
+/// The version, which is 1, and nothing after it.
 #[tactic(auto, unfolding(crate::specs::Reading::version_at))]
 pub(crate) fn version_at(rest: &[u8]) -> Result<(), Stop>
     ensures { Gives (λ x. x) result (reading.version_at (words_after rest.now)) }
@@ -319,7 +319,7 @@ pub(crate) fn version_at(rest: &[u8]) -> Result<(), Stop>
     }
 }
 
-/// How many lines stand before the last one, and nothing behind it.
+/// How many lines stand before the last one, and nothing after it.
 #[tactic(auto, unfolding(crate::specs::Reading::lines_at))]
 pub(crate) fn lines_at(lines: u64, rest: &[u8]) -> Result<(), Stop>
     ensures { Gives (λ x. x) result (reading.lines_at lines (words_after rest.now)) }

@@ -47,7 +47,7 @@ census-depth c =
       items-depth (ensemble_json c.names) 2 (ensemble-depth c.names) c.census.ensembles,
     )
 
--- what stands behind the first member of the object
+-- what comes after the first member of the object
 abbrev pub after_strict : NamedCensus → List Token
 after_strict c =
     member_tokens (codes "judged") (judged_json c)

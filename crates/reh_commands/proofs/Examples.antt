@@ -49,7 +49,7 @@ pub order_of_faults : asked (codes "copy nobody x 0 0 0" ∷ codes "copy nobody 
 unfolding verbs
 order_of_faults = refl
 
--- an open ledger's commands; a roll names the bookie behind the numbers, and its form is judged first, too
+-- an open ledger's commands; a roll names the bookie after the numbers, and its form is judged first, too
 pub open_ledgers : asked (codes "grace b1:3181 9" ∷ codes "roll 9 1 b2:3181" ∷ codes "fence b2:3181 9" ∷ codes "seal b2:3181 9" ∷ codes "roll b2:3181 9 1" ∷ codes "roll 9 x nobody" ∷ codes "roll 9 1 nobody" ∷ codes "roll 9 1" ∷ [])
     ≡ made (Make (Do (Grace 0 9))) ∷ made (Make (Do (Roll 9 1 1))) ∷ made (Make (Do (Fence 1 9))) ∷ made (Make (Do (Seal 1 9))) ∷ faulty BadWords ∷ faulty BadWords ∷ faulty UnknownName ∷ faulty BadWords ∷ []
 unfolding verbs
@@ -119,7 +119,7 @@ pub report_printed : report worked
 unfolding digits contains insert empty from_list items
 report_printed = refl
 
--- a report says that AutoRecovery is disabled, behind its first line
+-- a report says that AutoRecovery is disabled, after its first line
 pub disabled_report : report (with_enabled (clear_cluster names) false) ≡ codes "clock 0 grace 3" ∷ codes "autorecovery disabled" ∷ codes "bookie b1:3181 up 0" ∷ codes "bookie b2:3181 up 0" ∷ []
 unfolding digits contains insert empty from_list items
 disabled_report = refl

@@ -43,7 +43,7 @@ first_part p (b ∷ bs) =
       | false ↦ ap (onto_first b) (first_part p bs) ∙ ap (λ part. part ∷ drop 1 (slice_split p bs)) (sym (take_more (position_or_len p bs) b bs)) ∙ ap (λ parts. take (1 + position_or_len p bs) (b ∷ bs) ∷ drop 1 (onto_first b parts)) (sym (first_part p bs))
     ]
 
--- and the words behind it are those of the other parts
+-- and the words after it are those of the other parts
 other_parts : (p : ℕ → Bool) (text : List ℕ) → filter is_word (slice_split p (drop (position_or_len p text) text)) ≡ filter is_word (drop 1 (slice_split p text))
 other_parts p [] = refl
 other_parts p (b ∷ bs) =
@@ -66,7 +66,7 @@ abbrev begins_well : (ℕ → Bool) → List ℕ → Bool
 begins_well p [] = true
 begins_well p (b ∷ bs) = not (p b)
 
--- what is behind the separators in front does
+-- what is after the separators in front does
 skipped : (p : ℕ → Bool) (text : List ℕ) → begins_well p (drop (position_or_len (λ b. not (p b)) text) text) ≡ true
 skipped p [] = refl
 skipped p (b ∷ bs) =

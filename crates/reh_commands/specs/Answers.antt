@@ -16,7 +16,7 @@ use Rattle.reh_commands.specs.Texts.{reply_text, line_fault_text, report, survey
 abbrev pub asked : List (List ℕ) → List ℕ → Option (Result Command LineFault)
 asked names line = command_of_line names line
 
--- an answer behind its line's number
+-- an answer after its line's number
 abbrev pub numbered : ℕ → List ℕ → List ℕ
 numbered n answer = codes "line " ++ (decimal n ++ (codes ": " ++ answer))
 

@@ -44,7 +44,7 @@ abbrev pub number_of : List ℕ → Option ℕ
 number_of word =
     if nat_lt 0 (length word) && nat_le (length word) 13 && all_ascii_digits word then Some (read_on 0 word) else None
 
--- The words behind a verb: at most one names a bookie, and at most four are numbers
+-- The words after a verb: at most one names a bookie, and at most four are numbers
 
 -- nothing is named
 abbrev pub no_arguments : Arguments
@@ -101,7 +101,7 @@ kind_of role.Index = Number
 kind_of role.Version = Number
 kind_of role.Ticks = Number
 
--- a command: its verb's name, the roles of the words behind it, and what it makes of what they name
+-- a command: its verb's name, the roles of the words after it, and what it makes of what they name
 pub record Form : Type 0 where
   pub name : List ℕ
   pub roles : List Role
@@ -121,11 +121,11 @@ aim_of a = record { worker = a.bookie; ledger = a.first; fragment = a.second; in
 abbrev pub task : List Role
 task = role.Worker ∷ role.Ledger ∷ []
 
--- and those of an index of a fragment's ensemble behind them
+-- and those of an index of a fragment's ensemble after them
 abbrev pub place : List Role
 place = role.Worker ∷ role.Ledger ∷ role.Fragment ∷ role.Index ∷ []
 
--- and the version of the ledger's metadata behind these
+-- and the version of the ledger's metadata after these
 abbrev pub member : List Role
 member = role.Worker ∷ role.Ledger ∷ role.Fragment ∷ role.Index ∷ role.Version ∷ []
 
@@ -173,7 +173,7 @@ abbrev pub made_by : Form → Result Arguments LineFault → Result Command Line
 made_by f (Ok a) = Ok (f.make a)
 made_by f (Err fault) = Err fault
 
--- what words ask for behind a verb
+-- what words ask for after a verb
 abbrev pub command_by : List (List ℕ) → Option Verb → List (List ℕ) → Result Command LineFault
 command_by names None words = Err UnknownCommand
 command_by names (Some v) words = made_by (form_of v) (arguments_of names (map kind_of (form_of v).roles) words)

@@ -20,7 +20,7 @@ use Rattle.reh_model.specs.Cluster.{Cluster, Ledger, is_up, lost_tick}
 use Rattle.reh_commands.specs.declared.commands.LineFault.{LineFault}
 use Rattle.reh_commands.specs.declared.commands.LineFault.TheVariants.{TooLong, UnknownCommand, BadWords, UnknownName}
 
--- each word behind a space
+-- each word after a space
 abbrev pub behind_spaces : List (List ℕ) → List ℕ
 behind_spaces words = flat_map (λ word. codes " " ++ word) words
 
@@ -39,7 +39,7 @@ name_of names bookie = unwrap_or (slice_get names bookie) (decimal bookie)
 
 -- Replies
 
--- a reply, as it is printed behind its line's number: a lock's owner goes by name, other values in decimal
+-- a reply, as it is printed after its line's number: a lock's owner goes by name, other values in decimal
 abbrev pub reply_text : List (List ℕ) → Reply → List ℕ
 reply_text names (Refused (Locked owner)) = codes "refused 7 Locked " ++ name_of names owner
 reply_text names reply = types.reply_text reply

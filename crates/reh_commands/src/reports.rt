@@ -213,7 +213,7 @@ fn push_stop(text: &mut String, stop: Option<u32>) -> Result<(), AllocError>
     }
 }
 
-/// Adds the names of bookies, each behind a space.
+/// Adds the names of bookies, each after a space.
 fn push_names(text: &mut String, names: &Names, bookies: &[BookieIx]) -> Result<(), AllocError>
     ensures { OnOk result (string_bytes text.new ≡ string_bytes text.old
         ++ texts.behind_spaces (map (texts.name_of names.now) bookies.now)) }
@@ -237,7 +237,7 @@ fn push_task(text: &mut String, names: &Names, task: Option<&BookieSet>) -> Resu
     text.push('\n')
 }
 
-/// Adds the names of a set's bookies in picture order, each behind a space.
+/// Adds the names of a set's bookies in picture order, each after a space.
 fn push_members(text: &mut String, names: &Names, bookies: &BookieSet) -> Result<(), AllocError>
     ensures { OnOk result (string_bytes text.new ≡ string_bytes text.old
         ++ texts.behind_spaces (texts.names_in names.now bookies.now)) }
@@ -248,7 +248,7 @@ fn push_members(text: &mut String, names: &Names, bookies: &BookieSet) -> Result
     Ok(())
 }
 
-/// Adds the name of the i-th bookie behind a space, if it is in the set.
+/// Adds the name of the i-th bookie after a space, if it is in the set.
 fn push_member(
     text: &mut String,
     names: &Names,

@@ -36,7 +36,7 @@ fn without_cr(line: &[u8]) -> &[u8]
     }
 }
 
-/// What a verb and the words behind it ask for.
+/// What a verb and the words after it ask for.
 fn parse_command(names: &Names, verb: &[u8], words: &[u8]) -> Result<Command, LineFault>
     ensures { result ≡ command_by names.now (script.verb_of verb.now) (words_of words.now) }
 {

@@ -8,7 +8,7 @@ use reh_types::{BookieIx, Refusal, Reply};
 use std::alloc::{AllocError, Global};
 use std::fmt;
 
-/// A reply, as it is printed behind its line's number. A lock's owner goes by the name that these names have for it.
+/// A reply, as it is printed after its line's number. A lock's owner goes by the name that these names have for it.
 pub fn reply_text(alloc: Global, names: &Names, reply: &Reply) -> Result<String, AllocError>
     ensures { IfOk result (λ text. string_bytes text ≡ texts.reply_text names.now reply.now) }
 {

@@ -64,7 +64,7 @@ pub enum Verb {
     Survey,
 }
 
-/// What the table says of a verb: its name, the roles of the words behind it, and what its command does.
+/// What the table says of a verb: its name, the roles of the words after it, and what its command does.
 #[derive(Clone, Copy)]
 struct Row {
     name: &'static str,
@@ -172,7 +172,7 @@ impl Verb {
         self.row().name
     }
 
-    /// The roles of the words behind it.
+    /// The roles of the words after it.
     #[inline(always)]
     pub fn roles(self) -> &'static [Role]
         ensures { result.now ≡ (script.form_of self).roles }

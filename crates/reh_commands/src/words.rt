@@ -1,4 +1,4 @@
-// The words of a line, and what those behind a verb name.
+// The words of a line, and what those after a verb name.
 ghost use Rattle.std.specs.Prelude.{◌≡◌, ◌≤◌, ◌∷◌, [], length, map, MatchOption, not, position};
 ghost use Rattle.std.specs.List.{position_or_len};
 ghost use Rattle.reh_commands.specs.Script as script;
@@ -8,7 +8,7 @@ use reh_cluster::Names;
 use reh_types::BookieIx;
 use std::fmt;
 
-/// What a word behind a verb stands for.
+/// What a word after a verb stands for.
 #[derive(Clone, Copy, PartialEq, Eq, Debug)]
 pub enum Role {
     /// A bookie.
@@ -64,7 +64,7 @@ impl fmt::Display for Role {
     }
 }
 
-/// What the words behind a verb name: at most one bookie, and at most four numbers in their order. Others are 0.
+/// What the words after a verb name: at most one bookie, and at most four numbers in their order. Others are 0.
 #[derive(Clone, Copy)]
 pub struct Arguments {
     pub bookie: BookieIx,

@@ -1,4 +1,4 @@
--- Runs of a survey, one behind the other.
+-- Runs of a survey, one after the other.
 use Rattle.std.proofs.Common.{◌≡◌, ◌∙◌, ◌+◌, ◌++◌, ℕ, List, [], ◌∷◌, ap, drop, refl, sym, take}
 use Rattle.std.proofs.lemmas.List.{drop-drop, take-append-drop}
 use Rattle.reh_types.specs.declared.surveys.SurveyLine.{SurveyLine}
@@ -6,7 +6,7 @@ use Rattle.reh_model.specs.Cluster.{Cluster}
 use Rattle.reh_model.specs.Survey.{survey}
 use Rattle.reh_crew.specs.Shares.{lines_to}
 
--- a worker's run, and the lines behind it
+-- a worker's run, and the lines after it
 pub joined : (s own : Cluster) (own_first own_count first count : ℕ) (lines mine others : List SurveyLine)
     → lines ≡ mine ++ others → mine ≡ take own_count (drop own_first (survey own))
     → (own ≡ s) × (own_first ≡ first) × (own_count ≡ count) → others ≡ drop (first + count) (survey s)

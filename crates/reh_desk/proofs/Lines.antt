@@ -85,7 +85,7 @@ module _ (o s : Session) (lines : List Line) (last : ℕ) (out : List TicketOut)
       }
   asked t move reply fits (inr wanting) written = absurd (true≢false (sym written ∙ ap is_written wanting.1))
 
-  -- a move that was not made for want of room
+  -- a move that was not made for lack of room
   pub not_asked : (move : Move) (refusal : Refusal) → refusal ≡ (if nat_lt MAX_LINES (length lines + length out + 1) then TapeFull else NoMemory) → Called before seat (Ask move) (Refused refusal) before
   not_asked move refusal is =
       (elim (nat_lt MAX_LINES (length lines + length out + 1)) as (λ b. nat_lt MAX_LINES (length lines + length out + 1) ≡ b → refusal ≡ (if b then TapeFull else NoMemory) → Called before seat (Ask move) (Refused refusal) before) [
@@ -93,7 +93,7 @@ module _ (o s : Session) (lines : List Line) (last : ℕ) (out : List TicketOut)
         | false ↦ λ room is. rw is (record { answers = (inr (refl, rw room (not_full _ (reply_written s move))), refl); tape = refl; opening = refl })
       ]) refl is
 
-  -- nor for want of memory for what its line holds
+  -- nor for lack of memory for what its line holds
   pub not_copied : (move : Move) → length lines + length out + 1 ≤ MAX_LINES → Called before seat (Ask move) (Refused NoMemory) before
   not_copied move fits =
       let room : nat_lt MAX_LINES (length lines + length out + 1) ≡ false = grind (arith, nat_tests) in not_asked move NoMemory (rw room refl)

@@ -1,4 +1,4 @@
--- Where want of memory may stand at a book.
+-- Where a book may answer 'out of memory'.
 use Rattle.std.proofs.Common.{◌≡◌, ◌≢◌, ℕ, Bool, true, false, ◌⊎◌, inl, inr, refl, sym, ap, ◌∙◌, true≢false}
 use Rattle.std.specs.Prelude.{IsTrue}
 use Rattle.reh_types.specs.declared.calls.Call.{Call}
@@ -13,12 +13,12 @@ use Rattle.reh_model.specs.Checks.{reason_if}
 use Rattle.reh_model.specs.Book.{Book, or_refused, answer_to, is_written, Answers}
 use Rattle.reh_model.proofs.BookLaws.{post_written}
 
--- tells want of memory from a ticket that is not out
+-- tells 'out of memory' from a ticket that is not out
 abbrev is_want : Reply → Bool
 is_want (Refused NoMemory) = true
 is_want reply = false
 
--- where a ticket is wanted, the book itself never answers by want of memory
+-- where a ticket is wanted, the book itself never answers 'out of memory'
 no_want : (condition : Bool) (answer : Reply) → IsTrue (is_written answer) → Refused NoMemory ≡ or_refused (reason_if condition NotOut) answer → ⊥
 no_want true answer written is = true≢false (ap is_want is)
 no_want false answer written is = true≢false (sym (ap is_written is ∙ written))
@@ -39,7 +39,7 @@ discard_wants b c seat number aim answers = of answers.0
     of (inl is) = no_want _ Discarded refl is
     of (inr want) = want.1
 
--- no want of memory stands in place of a full tape
+-- 'out of memory' never stands in place of a full tape
 full : (reply answer : Reply) → answer ≡ Refused TapeFull → (reply ≡ answer) ⊎ ((reply ≡ Refused NoMemory) × (answer ≢ Refused TapeFull)) → reply ≡ Refused TapeFull
 full reply answer is (inl same) = same ∙ is
 full reply answer is (inr want) = absurd (want.1 is)

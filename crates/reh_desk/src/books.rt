@@ -102,7 +102,7 @@ impl Book {
 
     /// Makes a move of the session for a seat, and answers it as the session does. Before that it is refused with
     /// `TapeFull`, where no line is left that isn't reserved, and then with `NoMemory`, where there is none for the
-    /// line. Both, and want of memory for the move, change nothing; any other reply adds its line.
+    /// line. Both, and running out of memory for the move, change nothing; any other reply adds its line.
     pub fn call(&mut self, seat: u32, step: Move) -> Reply
         ensures { Called self.old seat (call.Ask step) result self.new }
     {

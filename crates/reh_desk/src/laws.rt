@@ -41,7 +41,7 @@ pub fn tickets_end()
         → map (λ ticket. ticket.number) (issued_tickets tape) ≡ issued_on tape }
 {}
 
-/// Want of memory stands in place of a spend's answer only where the post would be done, never in place of a discard's
+/// 'Out of memory' stands in place of a spend's answer only where the post would be done, never in place of a discard's
 /// answer, and never in place of a full tape. Where a call is refused for it, for a full tape or for a ticket that is
 /// not out, the book stays as it was.
 pub fn where_memory_is_wanted()

@@ -1,4 +1,4 @@
--- Texts that are written one behind the other.
+-- Texts that are written one after the other.
 use Rattle.std.proofs.Common.{◌≡◌, ℕ, ◌+◌, ◌<◌, List, [], ◌∷◌, ◌++◌, length, length-append, arith, sym, ap, ◌∙◌, subst}
 use Rattle.std.proofs.Common.{Option, None, Some, Result, Ok, Err}
 use Rattle.std.specs.Prelude.{IsErrAnd}
@@ -25,7 +25,7 @@ pub writes_failed : {E F : Type 0} (P : F → Type 0) (result : Result (Unit {0}
 writes_failed P (Ok done) fault first rest old new is part = absurd is
 writes_failed P (Err e) fault first rest old new is part = writes_part fault e first rest old new part
 
--- a text behind one that was written
+-- a text after one that was written
 pub writes_then : {E : Type 0} (result : Result (Unit {0}) E) (first rest : List ℕ) (old mid new : Option (List ℕ))
     → Appends old mid first → Writes result rest mid new → Writes result (first ++ rest) old new
 writes_then (Ok done) first rest old mid new before written = Appends-trans old mid new first rest before written
@@ -37,7 +37,7 @@ writes_then (Err fault) first rest old mid new before (part, lost, is, some, wri
   Appends-trans old mid new first part before written,
 )
 
--- a text that was written, and nothing behind it
+-- a text that was written, and nothing after it
 pub appends_kept : (old mid new : Option (List ℕ)) (text : List ℕ) → Appends old mid text → Keeps mid new
     → Appends old new text
 appends_kept None mid new text before kept = tt

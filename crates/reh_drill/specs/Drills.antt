@@ -25,13 +25,13 @@ use Rattle.reh_drill.specs.declared.operators.Outcome.{Outcome}
 
 -- Texts
 
--- the transcripts in order, of which the first is the k-th operator's, each behind its line
+-- the transcripts in order, of which the first is the k-th operator's, each after its line
 abbrev pub transcripts_from : ℕ → List (List ℕ) → List ℕ
 transcripts_from k [] = []
 transcripts_from k (transcript ∷ more) =
     (codes "operator " ++ (decimal k ++ codes "\n")) ++ (transcript ++ transcripts_from (k + 1) more)
 
--- what stands behind them: how many lines the tape has, and the report of the last state
+-- what comes after them: how many lines the tape has, and the report of the last state
 abbrev pub end_text : ℕ → Cluster → List ℕ
 end_text lines state = codes "tape " ++ (decimal lines ++ (codes "\n" ++ text_of (report state)))
 
@@ -68,7 +68,7 @@ OpensDesk (Err fault) count (Err refused) = (refused ≡ Picture fault) ⊎ (ref
 
 -- Operators
 
--- why a play ended early whose transcript was kept in memory: a transcript that can't grow is want of memory
+-- why a play ended early whose transcript was kept in memory: a transcript that can't grow is out of memory
 abbrev pub fault_in_memory : Result (Unit {0}) PlayFault → Option PlayFault
 fault_in_memory (Ok done) = None
 fault_in_memory (Err play_fault.WriteFault) = Some play_fault.NoMemory
@@ -178,7 +178,7 @@ Closes desk seats (Err fault) old new =
     ⊎ ((fault ≡ WriteFault) × (text : List ℕ) × ClosesWith desk seats text × Writes (Err fault) text old new)
 
 -- Why a drill ends early whose operators ended so: the lowest one's fault, where one has any, or what the desk answers
--- that doesn't close, or want of memory for what stands behind the transcripts. All of these are written.
+-- that doesn't close, or out of memory for what comes after the transcripts. All of these are written.
 abbrev pub EndsFor : List (Result Outcome PlayFault) → DrillFault → Type 0
 EndsFor outcomes fault =
     ((reason : PlayFault) × (first_fault outcomes ≡ Some reason) × (fault ≡ drill_fault_of reason))

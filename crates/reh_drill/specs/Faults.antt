@@ -15,7 +15,7 @@ drill_fault_of play_fault.WriteFault = WriteFault
 drill_fault_of play_fault.NoMemory = NoMemory
 drill_fault_of play_fault.NoThread = NoThread
 
--- and a picture's: want of memory is no fault of the picture
+-- and a picture's: out of memory is no fault of the picture
 abbrev pub refusal_of : PictureFault → DrillFault
 refusal_of picture_fault.NoMemory = NoMemory
 refusal_of fault = Picture fault

@@ -27,7 +27,7 @@ use std::thread::Threads;
 ///
 /// Operator k passes the gate as worker k - 1, once, before its first line. The operators' calls come in any order that
 /// the threads make. The picture is judged before anything is written.
-/// Where an operator's play ends early, all transcripts are written, and nothing behind them.
+/// Where an operator's play ends early, all transcripts are written, and nothing after them.
 pub fn drill_over<R: Threads + Wait + Sync, G: Gate + Sync, W: TextOut>(
     rt: &R,
     alloc: Global,

@@ -87,7 +87,7 @@ pub(crate) fn operate<R: Wait, G: Gate>(
     }
 }
 
-/// Why a play ended early, if it did, and the want of memory for its transcript, if there was any.
+/// Why a play ended early, if it did, and whether memory ran out for its transcript.
 fn ended_for(played: Result<(), PlayFault>, want: Option<AllocError>) -> Option<PlayFault>
     requires { is_some want ≡ is_write_fault played }
     ensures { result ≡ fault_in_memory played }

@@ -44,6 +44,6 @@ fault_text (Limit field) = codes "8 Limit " ++ field_name field
 fault_text (BadLedger ledger flaw) = codes "9 BadLedger " ++ (decimal ledger ++ (codes " " ++ flaw_name flaw))
 fault_text NoMemory = codes "10 NoMemory"
 
--- The call fails with this fault, and succeeds where there is none; but for want of memory it may always fail.
+-- The call fails with this fault, and succeeds where there is none; but for lack of memory it may always fail.
 abbrev pub FailsWith : {A : Type 0} → Result A PictureFault → Option PictureFault → Type 0
 FailsWith result fault = MatchResult result (λ _. fault ≡ None) (λ failure. failure ≢ NoMemory → fault ≡ Some failure)

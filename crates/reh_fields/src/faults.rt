@@ -196,7 +196,7 @@ impl<T: Drop> From<AllocFailed<T>> for PictureFault {
     }
 }
 
-/// A text that isn't JSON, or want of memory to read it.
+/// A text that isn't JSON, or out of memory to read it.
 impl From<serde_json::Error> for PictureFault {
     ghost use Rattle.std.specs.Prelude.{◌≡◌};
     ghost use Rattle.serde_json.specs.Errors.{IsMemory};

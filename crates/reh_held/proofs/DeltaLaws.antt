@@ -21,7 +21,7 @@ use Rattle.reh_held.proofs.RowLaws.{one_of-false, one_of-group}
 -- the turns, and the words that are left, give the row the entries that it lacks
 pub record IsTurningOn (row entries : List ℕ) (turns : List Turn) (rest : List Word) : Type 0 where
   pub places : ArePlaces (length row) turns
-  -- the words that are left come behind the turns
+  -- the words that are left come after the turns
   pub behind : (k : ℕ) × All (λ u. u.number < k) turns × words.AreRising k rest
   pub within : All (λ e. e < 64 * length row) (entries_of rest)
   pub turned : (e : ℕ)

@@ -84,7 +84,7 @@ impl Held {
     }
 
     /// Makes all rows of the ledger long enough for the entry, where it has rows or fewer ledgers have some than there
-    /// can be. Want of memory leaves them as they were.
+    /// can be. Running out of memory leaves them as they were.
     pub fn reserve(&mut self, ledger: LedgerId, entry: u32) -> Result<(), AllocError>
         requires { words_in self.old ledger ≡ 0 → map.len self.old.words < MAX_LEDGERS }
         ensures ok { OnOk result (self.new ≡ with_room self.old ledger entry) }
@@ -117,7 +117,7 @@ impl Held {
     }
 
     /// The bookie holds the entry of the ledger from now on, where the ledger has rows or fewer ledgers have some than
-    /// there can be. Want of memory leaves the contents as they were.
+    /// there can be. Running out of memory leaves the contents as they were.
     pub fn add(&mut self, bookie: BookieIx, ledger: LedgerId, entry: u32) -> Result<(), AllocError>
         requires bookie { bookie < self.old.bookies }
         requires few { words_in self.old ledger ≡ 0 → map.len self.old.words < MAX_LEDGERS }

@@ -22,7 +22,7 @@ abbrev pub Before : List ℕ → List (List ℕ) → Type 0
 Before x [] = Unit {0}
 Before x (y ∷ ys) = (names_cmp x y ≡ Less) × Before x ys
 
--- each comes before those behind it
+-- each comes before those after it
 abbrev pub Ranked : List (List ℕ) → Type 0
 Ranked [] = Unit {0}
 Ranked (x ∷ xs) = Before x xs × Ranked xs

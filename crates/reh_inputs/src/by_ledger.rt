@@ -29,7 +29,7 @@ fn run_end(holdings: &[Holding], at: usize) -> usize
     end
 }
 
-/// Adds holdings behind others. After an `Err` some of them may be there.
+/// Adds holdings after others. After an `Err` some of them may be there.
 fn extend<'a>(held: &mut Vec<&'a Holding>, holdings: &'a [Holding]) -> Result<(), AllocError>
     ensures { OnOk result (map (λ h. h.now) held.new.items ≡ map (λ h. h.now) held.old.items ++ holdings.now) }
 {
@@ -40,7 +40,7 @@ fn extend<'a>(held: &mut Vec<&'a Holding>, holdings: &'a [Holding]) -> Result<()
     Ok(())
 }
 
-/// Adds holdings of a ledger behind those that it has. After an `Err` some of them may be there.
+/// Adds holdings of a ledger after those that it has. After an `Err` some of them may be there.
 fn add_run<'a>(
     alloc: Global,
     by_ledger: &mut ByLedger<'a>,

@@ -239,7 +239,7 @@ pub(crate) fn add_files(
     Ok(())
 }
 
-/// Adds counts behind others.
+/// Adds counts after others.
 pub(crate) fn append_counts(counts: &mut Counts, more: Counts) -> Result<(), AllocError>
     ensures entries { OnOk result (counts.new.entries.items ≡ counts.old.entries.items ++ more.entries.items) }
     ensures tails { OnOk result (counts.new.tails.items ≡ counts.old.tails.items ++ more.tails.items) }

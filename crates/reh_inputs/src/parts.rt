@@ -255,7 +255,7 @@ fn part_of(
     })
 }
 
-/// What a run of inputs shows, and the one behind it.
+/// What a run of inputs shows, and the one after it.
 fn joined(low: Part, high: Part) -> Result<Part, GatherFault>
     ensures { IfOk result (λ part. (holders : List ℕ) (names : List (List ℕ)) (strict : Bool) (before behind : List InputValue)
         → IsPart holders names strict before low → IsPart holders names strict behind high

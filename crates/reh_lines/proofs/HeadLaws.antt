@@ -31,7 +31,7 @@ both_right : (t u : Bool) → (t && u) ≡ true → u ≡ true
 both_right true u is = is
 both_right false u is = cc
 
--- behind the line `%` stands the script
+-- after the line `%` stands the script
 pub ends_percent : (line more : List ℕ) → is_percent line ≡ true → after_percent (line ++ 10 ∷ more) ≡ Some more
 ends_percent [] more is = cc
 ends_percent (b ∷ []) more is =
@@ -75,7 +75,7 @@ no_percent_far b c d rest more none =
       | false ↦ refl
     ]
 
--- and behind another there is none
+-- and after another there is none
 no_percent : (line more : List ℕ) → is_percent line ≡ false → has_lf line ≡ false
     → after_percent (line ++ 10 ∷ more) ≡ None
 no_percent [] more is none = refl
@@ -102,7 +102,7 @@ fronts first next cut =
     ap (λ (picture : List ℕ). record { picture = picture; script = cut.script })
     (sym (append_assoc first next cut.picture))
 
--- bytes with an LF behind them end a line
+-- bytes with an LF after them end a line
 ends_line : (lines line : List ℕ) → ended (lines ++ (line ++ 10 ∷ [])) ≡ lines ++ (line ++ 10 ∷ [])
 ends_line lines line =
     ap ended (sym (append_assoc lines line (10 ∷ []))) ∙ ended-loud (lines ++ line) (10 ∷ []) refl
@@ -228,7 +228,7 @@ past_byte text line end order within other none =
 
 -- Inputs without the line `%`
 
--- a line that no LF ends may be the line `%`, with nothing behind it
+-- a line that no LF ends may be the line `%`, with nothing after it
 quiet_percent : (tail : List ℕ) → has_lf tail ≡ false → (after_percent tail ≡ None) ⊎ (after_percent tail ≡ Some [])
 quiet_percent [] none = inl refl
 quiet_percent (b ∷ []) none =
@@ -251,7 +251,7 @@ quiet_percent (b ∷ c ∷ []) none =
     ]
 quiet_percent (b ∷ c ∷ d ∷ rest) none = inl (no_percent_far b c d rest rest none)
 
--- the cut behind bytes without LF, where the line `%` has no script
+-- the cut after bytes without LF, where the line `%` has no script
 no_script_at : (tail : List ℕ) (cut : Cut) → has_lf tail ≡ false → cut.script ≡ []
     → (cut_or (after_percent tail) cut).script ≡ []
 no_script_at tail cut none is =
@@ -265,7 +265,7 @@ quiet_inside tail none =
     ap (λ (t : List ℕ). (cut_inside t).script) (sym (append-nil tail))
     ∙ ap (λ (c : Cut). c.script) (passes tail [] none)
 
--- an input behind the lines of its picture
+-- an input after the lines of its picture
 behind_lines : (input front : List ℕ) (line : ℕ) → take line input ≡ front ++ 10 ∷ []
     → input ≡ front ++ 10 ∷ drop line input
 behind_lines input front line split =

@@ -127,7 +127,7 @@ ended_twice (b ∷ bs) =
       | false ↦ λ none. refl
     ] refl
 
--- the lines of some first bytes, which end, and those of the bytes behind them
+-- the lines of some first bytes, which end, and those of the bytes after them
 pub lines_behind : (first part : List ℕ) → ended first ≡ first → lines_of (first ++ part) ≡ lines_of first ++ lines_of part
 lines_behind first part ends =
     subst (λ (t : List ℕ). lines_of (t ++ part) ≡ lines_of t ++ lines_of part) ends (lines_of-ended first part)

@@ -24,7 +24,7 @@ unfolding answered_lines
 answered_lines-long failed script long =
     ap (λ (t : Bool). cond (t && not failed) (lines_of script) (lines_of (ended (take MAX_SCRIPT_BYTES script)))) long
 
--- of a script behind which a read failed
+-- of a script after which a read failed
 pub answered_lines-failed : (script : List ℕ) → length script ≤ MAX_SCRIPT_BYTES
     → answered_lines true script ≡ lines_of (ended script)
 unfolding answered_lines

@@ -53,7 +53,7 @@ abbrev pub ended : List ℕ → List ℕ
 ended [] = []
 ended (b ∷ bs) = if list_any (λ c. c == 10) (b ∷ bs) then b ∷ ended bs else []
 
--- whether an input tells its picture: no read failed behind it, or it is too long for a picture that a line `%` ends,
+-- whether an input tells its picture: no read failed after it, or it is too long for a picture that a line `%` ends,
 -- or such a line ends in it
 abbrev pub is_told : Bool → List ℕ → Bool
 is_told failed input =

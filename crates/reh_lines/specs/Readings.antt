@@ -52,7 +52,7 @@ reads_past End = 1
 reads_past Failed = 1
 reads_past TooLong = 1
 
--- what one more read gives, behind the longest script that there can be
+-- what one more read gives, after the longest script that there can be
 abbrev pub ReadsPast : Progress → Option (List ℕ) → Option (List ℕ) → Bool → Type 0
 ReadsPast (Lines end) left_old left_new failed = ⊥
 ReadsPast End left_old left_new failed = Consumes left_old left_new [] × IsAtEnd left_new × (failed ≡ false)

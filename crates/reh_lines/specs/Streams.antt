@@ -8,7 +8,7 @@ use mathlib.Core.Path.{◌∙◌, ap}
 abbrev pub Grows : Option (List ℕ) → Option (List ℕ) → Type 0
 Grows old new = (more : List ℕ) × Appends old new more
 
--- and these bytes come first behind them
+-- and these bytes come first after them
 abbrev pub Reaches : Option (List ℕ) → Option (List ℕ) → List ℕ → Type 0
 Reaches old new bytes = (more : List ℕ) × Appends old new (bytes ++ more)
 
@@ -33,6 +33,6 @@ appends_kept (Some xs) (Some ys) more kept grown =
 pub grows_not : (a : Option (List ℕ)) → Grows a a
 grows_not a = ([], appends_none a)
 
--- what is kept back comes behind what was sent
+-- what is kept back comes after what was sent
 pub grows_kept : (a b : Option (List ℕ)) (kept : List ℕ) → Grows a b → Grows a (append_known b kept)
 grows_kept a b kept (more, grown) = (more ++ kept, appends_kept a b more kept grown)

@@ -12,7 +12,7 @@ use std::alloc::AllocError;
 /// An input that is so long and has no line `%` that ends has a picture of more than 8,388,608 bytes.
 const MAX_HEAD: usize = MAX_PICTURE_BYTES + 4;
 
-/// Where the picture of an input ends, and where the script begins behind the line `%`.
+/// Where the picture of an input ends, and where the script begins after the line `%`.
 #[derive(Clone, Copy)]
 pub struct Percent {
     pub picture: usize,

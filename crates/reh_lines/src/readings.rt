@@ -7,7 +7,7 @@ use crate::streams::{StreamFault, TextIn};
 use reh_types::MAX_SCRIPT_BYTES;
 use std::alloc::{AllocError, Global};
 
-/// What was read of a text, and whether a read failed behind it.
+/// What was read of a text, and whether a read failed after it.
 #[derive(Drop)]
 pub struct TextRead {
     pub bytes: Vec<u8>,
@@ -68,7 +68,7 @@ pub enum Progress {
 }
 
 /// Reads on in a script until a line more is complete or no more can come. It reads no further than a script can go, but
-/// for one byte behind it.
+/// for one byte after it.
 pub fn read_on<R: TextIn>(reader: &mut R, script: &mut Vec<u8>) -> Result<Progress, AllocError>
     requires reads { R.has_failed reader.old ≡ false }
     requires few { length script.old.items ≤ MAX_SCRIPT_BYTES }
@@ -102,7 +102,7 @@ pub fn read_on<R: TextIn>(reader: &mut R, script: &mut Vec<u8>) -> Result<Progre
     Ok(read_past(reader))
 }
 
-/// Reads a byte behind the longest script that there can be.
+/// Reads a byte after the longest script that there can be.
 fn read_past<R: TextIn>(reader: &mut R) -> Progress
     requires { R.has_failed reader.old ≡ false }
     ensures past { ReadsPast result (R.remaining reader.old) (R.remaining reader.new) (R.has_failed reader.new) }

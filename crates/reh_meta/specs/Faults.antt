@@ -28,7 +28,7 @@ fault_of m = first_reason (
     ∷ reason_unless (ends_within m.state m.fragments) BadLast
     ∷ [])
 
--- the broken rule that a fault tells of; want of memory tells of none
+-- the broken rule that a fault tells of; out of memory tells of none
 abbrev pub fault_found : MetaFault → Option MetaFault
 fault_found NoMemory = None
 fault_found fault = Some fault

@@ -1,7 +1,7 @@
 // What is wrong with metadata.
 use std::alloc::AllocError;
 
-/// Why there is no metadata: the rule that it would break, or want of memory.
+/// Why there is no metadata: the rule that it would break, or out of memory.
 #[derive(Clone, Copy, PartialEq, Eq, Debug)]
 pub enum MetaFault {
     /// Not `1 <= ack quorum <= write quorum <= ensemble size <= 16`.

@@ -122,7 +122,7 @@ impl LedgerMeta {
         ensures made { IfOk result (λ made. made ≡ metadata_of sizes state version fragments.now) }
         ensures sound { IfOk result (λ made. fault_of made ≡ None) }
 
-        // Want of memory, which tells of no broken rule, comes only where none is.
+        // Out of memory, which tells of no broken rule, comes only where none is.
         ensures fault { let parts = metadata_of sizes state version fragments.now in
             IfErr result (λ fault. fault_of parts ≡ fault_found fault) }
     {
@@ -251,7 +251,8 @@ impl LedgerMeta {
     /// This is the ensemble change of a writer that lost a member: BookKeeper's `LedgerMetadata` gets another
     /// ensemble by its first entry, and what was written before stays with the old one. The ledger isn't closed,
     /// `first` is above the last fragment's first entry and below 65,536, there are fewer than 256 fragments, the new
-    /// member is in no place of the last ensemble yet, and the version is below 10^12. Want of memory changes nothing.
+    /// member is in no place of the last ensemble yet, and the version is below 10^12. Running out of memory
+    /// changes nothing.
     pub fn with_fragment(
         &self,
         first: u32,
@@ -279,7 +280,7 @@ impl LedgerMeta {
     /// The metadata at the next version, in recovery; all else stays.
     ///
     /// This is how a recovery begins: BookKeeper marks the ledger as IN_RECOVERY, so that the writer, which it fences
-    /// off, can't change the metadata any more. The version is below 10^12. Want of memory changes nothing.
+    /// off, can't change the metadata any more. The version is below 10^12. Running out of memory changes nothing.
     pub fn fenced(&self) -> Result<LedgerMeta, AllocError>
         requires version { self.now.version < MAX_VERSION }
         ensures { IfOk result (λ changed. changed ≡ meta.next_version (meta.with_state self.now InRecovery)) }
@@ -290,8 +291,8 @@ impl LedgerMeta {
     /// The metadata at the next version, closed at this end, one past its last entry id; all else stays.
     ///
     /// This is how a recovery ends: BookKeeper marks the ledger as CLOSED at the last entry that it recovered. The end
-    /// is at least the last fragment's first entry, and at most 65,536, and the version is below 10^12. Want of memory
-    /// changes nothing.
+    /// is at least the last fragment's first entry, and at most 65,536, and the version is below 10^12. Running out of
+    /// memory changes nothing.
     pub fn sealed(&self, end: u32) -> Result<LedgerMeta, AllocError>
         requires last { (last_fragment self.now).first ≤ end }
         requires end { end ≤ ENTRY_END }

@@ -30,7 +30,7 @@ use Rattle.reh_model.proofs.LedgerLaws.{id_found, stop_at-found, stripe_at-found
 
 -- The checks of a ledger and of a fragment
 
--- behind the checks of a ledger that give a reason, more do not count,
+-- after the checks of a ledger that give a reason, more do not count,
 pub refused_before : (s : Cluster) (w l : ℕ) (checks more : Ledger → List (Option Refusal)) (refusal : Refusal) → first_reason (no_bookie s w ∷ at_ledger s l checks ∷ []) ≡ Some refusal
     → first_reason (no_bookie s w ∷ at_ledger s l (λ g. checks g ++ more g) ∷ []) ≡ Some refusal
 refused_before s w l checks more refusal = behind (no_bookie s w) (ledger_at s l) where
@@ -138,7 +138,7 @@ accepted_disable s none = not_not s.parts.scalars.enabled (reason_if-none _ _ no
 pub accepted_enable : (s : Cluster) → refusal_of s Enable ≡ None → s.parts.scalars.enabled ≡ false
 accepted_enable s none = reason_if-none _ _ none
 
--- behind the check whether AutoRecovery is enabled, those of the worker and of the ledger accept a lock
+-- after the check whether AutoRecovery is enabled, those of the worker and of the ledger accept a lock
 locking_passes : (s : Cluster) (w l : ℕ) → refusal_of s (Acquire w l) ≡ None → first_reason (no_bookie s w ∷ at_ledger s l (λ g. no_task g ∷ lock_held g ∷ []) ∷ []) ≡ None
 locking_passes s w l none = (both-none (disabled s) (first_reason (no_bookie s w ∷ at_ledger s l (λ g. no_task g ∷ lock_held g ∷ []) ∷ [])) none).1
 
@@ -211,7 +211,7 @@ pub record IsRollable (s : Cluster) (g : Ledger) (i b : ℕ) : Type 0 where
   pub room : is_rolling_over s g ≡ true → length g.metadata.fragments < MAX_FRAGMENTS
   pub version : g.metadata.version < MAX_VERSION
 
--- there is an entry behind those that are held
+-- there is an entry after those that are held
 entry_end-none : (s : Cluster) (g : Ledger) → next_entry s g ≤ ENTRY_END → entry_end s g ≡ None → next_entry s g < ENTRY_END
 entry_end-none s g within none = let apart : (next_entry s g == ENTRY_END) ≡ false = reason_if-none _ _ none in grind (arith, nat_tests)
 

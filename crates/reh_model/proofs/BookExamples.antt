@@ -212,7 +212,7 @@ pub out_after_a_spend : (played book (checkout ∷ (1, Checkout aim) ∷ spend 1
 unfolding contains insert retain remove empty from_list union items is_subset is_empty len
 out_after_a_spend = refl
 
--- want of memory adds no line
+-- running out of memory adds no line
 pub no_memory_no_line : (book_after (played book (checkout ∷ [])) 0 (Spend 1 seen) (Refused NoMemory)).lines ≡ 4
 unfolding contains insert retain remove empty from_list union items is_subset is_empty len
 no_memory_no_line = refl

@@ -44,7 +44,7 @@ pub first_reason-only : {R : Type 0} (check : Option R) → first_reason (check 
 first_reason-only None = refl
 first_reason-only (Some reason) = refl
 
--- later checks do not count behind a reason,
+-- later checks do not count after a reason,
 pub first_reason-found : {R : Type 0} (checks later : List (Option R)) (reason : R) → first_reason checks ≡ Some reason → first_reason (checks ++ later) ≡ Some reason
 first_reason-found [] later reason is = cc
 first_reason-found (None ∷ checks) later reason is = first_reason-found checks later reason is

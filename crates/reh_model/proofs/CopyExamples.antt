@@ -31,7 +31,7 @@ swap = Do (Swap 3 7 0 1 0)
 abbrev finish : Move
 finish = Do (Finish 3 7)
 
--- the replies to the moves behind those that lock the closed ledger's task
+-- the replies to the moves after those that lock the closed ledger's task
 abbrev answers : Cluster → List Move → List Reply
 answers s moves = replies (played_session (opened_session s) (loss_and_lock 7)) moves
 

@@ -274,7 +274,7 @@ length-more : (front : List Ledger) (g : Ledger) → length (front ++ g ∷ []) 
 length-more front g = length-append front (g ∷ [])
 
 module _ (test : Ledger → Bool) (change : ℕ → Ledger → Change) (made : Ledger → Ledger) (are : AreChanges test change made) where
-  -- the changes of the ledgers behind these
+  -- the changes of the ledgers after these
   abbrev behind : List Ledger → List Ledger → List Change
   behind front gs = changes_where test change (length front) gs
 

@@ -103,7 +103,7 @@ pub fenced_and_sealed : answers five_bookies (loss_and_lock ++ Grace 3 9 ∷ Fen
 unfolding contains insert retain remove empty from_list union items is_subset is_empty len
 fenced_and_sealed = refl
 
--- it is closed behind the entry that one registered member alone holds
+-- it is closed after the entry that one registered member alone holds
 pub metadata_sealed : metadata_of (state_after five_bookies (map Do (loss_and_lock ++ fence_and_seal))) 9
     ≡ Some (record { size = 3; write_quorum = 3; ack_quorum = 2; state = Closed 5; version = 2; fragments = fragment_from 0 ∷ [] })
 unfolding contains insert retain remove empty from_list union items is_subset is_empty len
@@ -193,7 +193,7 @@ pub each_once : answers (record five_bookies { grace = 0 }) (loss_and_lock ++ Fe
 unfolding contains insert retain remove empty from_list union items is_subset is_empty len
 each_once = refl
 
--- then it is closed behind its last entry
+-- then it is closed after its last entry
 pub metadata_once : metadata_of (state_after (record five_bookies { grace = 0 }) (map Do (loss_and_lock ++ Grace 3 9 ∷ Fence 3 9 ∷ Seal 3 9 ∷ []))) 9
     ≡ Some (record open_ledger.metadata { state = Closed 5; version = 2 })
 unfolding contains insert retain remove empty from_list union items is_subset is_empty len
@@ -219,7 +219,7 @@ pub rolled_again : answers five_bookies (Lose 1 ∷ Roll 9 1 4 ∷ Roll 9 1 3 �
 unfolding contains insert retain remove empty from_list union items is_subset is_empty len
 rolled_again = refl
 
--- a new fragment begins behind the entries that are held
+-- a new fragment begins after the entries that are held
 pub metadata_rolled_over : metadata_of (state_after five_bookies (map Do (loss_and_lock ++ Grace 3 9 ∷ Roll 9 1 4 ∷ []))) 9
     ≡ Some (record { size = 3; write_quorum = 3; ack_quorum = 2; state = Open; version = 1; fragments = fragment_from 0 ∷ record { first = 5; ensemble = 0 ∷ 4 ∷ 2 ∷ [] } ∷ [] })
 unfolding contains insert retain remove empty from_list union items is_subset is_empty len
@@ -273,7 +273,7 @@ pub entries_of_others_count : stop_at (state_after (with_held five_bookies (inse
 unfolding contains insert retain remove empty from_list union items is_subset is_empty len
 entries_of_others_count = refl
 
--- behind the last entry that there can be no fragment begins
+-- after the last entry that there can be no fragment begins
 pub no_entry_behind_the_last : answers (at_last_entry open_ledger) (Lose 1 ∷ Roll 9 1 4 ∷ [])
     ≡ Done ∷ Refused EntryEnd ∷ []
 unfolding contains insert retain remove empty from_list union items is_subset is_empty len
@@ -315,7 +315,7 @@ order_of_seal = refl
 abbrev recovery_at_last_version : Cluster
 recovery_at_last_version = with_metadata (record open_ledger.metadata { state = InRecovery; version = 10 ^ 12 })
 
--- behind it: too few members, then those that lack the first entry that cannot be read, then the version
+-- after it: too few members, then those that lack the first entry that cannot be read, then the version
 pub order_of_recovery : answers recovery_at_last_version (losses_and_lock ++ Seal 3 9 ∷ Join 2 ∷ Seal 3 9 ∷ [])
     ≡ Done ∷ Done ∷ Done ∷ Done ∷ Refused (TooFew 0) ∷ Done ∷ Refused VersionEnd ∷ []
 unfolding contains insert retain remove empty from_list union items is_subset is_empty len

@@ -65,7 +65,7 @@ cluster_at_last_version = with_ledgers six_bookies (ledger_without_task 7 (recor
 abbrev losses_and_lock : List ℕ → ℕ → ℕ → List Event
 losses_and_lock losses worker ledger = map Lose losses ++ Audit ∷ Acquire worker ledger ∷ []
 
--- the replies to the moves behind those
+-- the replies to the moves after those
 abbrev answers : List ℕ → ℕ → ℕ → List Move → List Reply
 answers losses worker ledger moves = replies (played_session (opened_session six_bookies) (map Do (losses_and_lock losses worker ledger))) moves
 

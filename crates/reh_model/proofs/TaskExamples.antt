@@ -145,7 +145,7 @@ pub disabled_goes_first : answers (Disable ∷ Audit ∷ Acquire 5 8 ∷ Enable 
 unfolding contains insert retain remove empty from_list union items is_subset is_empty len
 disabled_goes_first = refl
 
--- the state behind the maintenance and its four newest events undone, when another worker has locked the other ledger's task
+-- the state after the maintenance and its four newest events undone, when another worker has locked the other ledger's task
 abbrev undone_maintenance : Cluster
 undone_maintenance = state_of (played_session (opened_session five_bookies) (map Do maintenance ++ Undo ∷ Undo ∷ Undo ∷ Undo ∷ Do (Acquire 4 9) ∷ []))
 

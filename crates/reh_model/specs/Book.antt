@@ -113,7 +113,7 @@ book_after b seat call reply =
 
 -- Answers
 
--- where want of memory may stand in place of the book's answer: not in place of a full tape; for a spend only in
+-- where out of memory may stand in place of the book's answer: not in place of a full tape; for a spend only in
 -- place of `Done`; for a discard never
 abbrev pub MayWantMemory : Call → Reply → Type 0
 MayWantMemory (Ask move) answer = answer ≢ Refused TapeFull
@@ -121,7 +121,7 @@ MayWantMemory (Checkout aim) answer = answer ≢ Refused TapeFull
 MayWantMemory (Spend number content) answer = answer ≡ Done
 MayWantMemory (Discard number aim) answer = ⊥
 
--- From b a call of a seat has this reply, and leaves c: the book's answer, or want of memory where it may stand,
+-- From b a call of a seat has this reply, and leaves c: the book's answer, or out of memory where it may stand,
 -- which changes nothing.
 abbrev pub Answers : Book → ℕ → Call → Reply → Book → Type 0
 Answers b seat call reply c =

@@ -29,7 +29,7 @@ abbrev pub Finds : {F : Type 0} → Result F Refusal → Option Refusal → (F �
 Finds result refusal IsFound =
     MatchResult result (λ found. (refusal ≡ None) × IsFound found) (λ reason. refusal ≡ Some reason)
 
--- the refusal; where there is none, want of memory, which comes after all others
+-- the refusal; where there is none, out of memory, which comes after all others
 abbrev pub or_no_memory : Option Refusal → Refusal
 or_no_memory refusal = unwrap_or refusal NoMemory
 

@@ -41,7 +41,7 @@ counts_of s = record {
   words = words_in_all s;
 }
 
--- a line for each kind of thing, and no line's end behind the last
+-- a line for each kind of thing, and no line's end after the last
 abbrev pub counts_text : Counts → List ℕ
 counts_text c =
     codes "bookies "

@@ -18,7 +18,7 @@ fault_along judge number before [] = None
 fault_along judge number before (d ∷ ds) =
     option_or (judge number before d) (fault_along judge (number + 1) (before ++ d ∷ []) ds)
 
--- The call fails with this fault at its place, and succeeds where there is none; but for want of memory it may always
+-- The call fails with this fault at its place, and succeeds where there is none; but for lack of memory it may always
 -- fail.
 abbrev pub FailsAt : {A : Type 0} → Result A LocatedFault → Option (PictureFault × Place) → Type 0
 FailsAt result fault =

@@ -135,7 +135,7 @@ pub refused : (m n : Session) (event : Event) (r : Refusal) → Performs m (Do e
 refused m n event r (inl answers) = answers.1
 refused m n event r (inr wants) = wants.3
 
--- the state behind an accepted event
+-- the state after an accepted event
 pub state_after : (m : Session) (s : Cluster) (event : Event) → replay m.opening m.done ≡ Some s → refusal_of (state_of m) event ≡ None → state_of (with_event m event) ≡ after (state_of m) event
 state_after m s event is none =
     let now : state_of m ≡ s = ap (λ (o : Option Cluster). unwrap_or o m.opening) is in
@@ -280,7 +280,7 @@ IsWithout-works s t u is_lost first same b =
 works_nothing : (allowed : Set numbers) (events : List Event) → GoesOnBy allowed events events
 works_nothing allowed events = ([], sym (append-nil events), refl)
 
--- and work behind work
+-- and work after work
 works_behind : (allowed : Set numbers) (a b c : List Event) → GoesOnBy allowed a b → GoesOnBy allowed b c → GoesOnBy allowed a c
 works_behind allowed a b c first then = (
   first.0 ++ then.0,

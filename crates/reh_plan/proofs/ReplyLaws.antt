@@ -40,7 +40,7 @@ is_done m k event none few short =
     let free : nat_le MAX_EVENTS (length m.done) ≡ false = grind (arith, nat_tests) in
     λ i. or_refused (reason_if (room i) TapeFull) (reply_unless (first_reason (none i ∷ reason_if (free i) Full ∷ [])))
 
--- what holds of the lines behind one
+-- what holds of the lines after one
 abbrev Later : List (List ℕ) → List (List ℕ) → Type 0
 Later names lines =
     (m : Session) (t : Cluster) (k n : ℕ) → replay m.opening m.done ≡ Some t → IsSome (replay t (events_in names lines))

@@ -109,7 +109,7 @@ is_work_by allowed (Copy worker ledger fragment index version) = set.contains al
 is_work_by allowed (Swap worker ledger fragment index version) = set.contains allowed worker
 is_work_by allowed other = false
 
--- behind these events there is nothing but such work
+-- after these events there is nothing but such work
 abbrev pub GoesOnBy : Set numbers → List Event → List Event → Type 0
 GoesOnBy allowed before events =
     (work : List Event) × (events ≡ before ++ work) × (list_all (is_work_by allowed) work ≡ true)

@@ -28,7 +28,7 @@ use std::alloc::{AllocError, Global};
 ///
 /// Each line of the script is a comment or asks for an event (`asks`), and played on this state each of these events is
 /// accepted (`accepted`): each line that has an answer is answered `ok` (`replies`). First those of the lost bookies
-/// that are registered are lost, and behind that there is nothing but AutoRecovery's work, by which no registration
+/// that are registered are lost, and after that there is nothing but AutoRecovery's work, by which no registration
 /// changes, and in which none but the allowed bookies lock tasks, recover ledgers, copy or take places (`order`). So in
 /// the end the lost bookies aren't registered, and all others are as they were (`lost`). Each ledger that has a task
 /// then, or a member that isn't registered, is named in a comment (`named`), and no other is (`only`). The comment's

@@ -195,7 +195,7 @@ impl Plan {
     }
 }
 
-/// Whether a script of so many bytes has room for a line, and for so many bytes behind it.
+/// Whether a script of so many bytes has room for a line, and for so many bytes after it.
 fn has_room(written: usize, line: &[u8], spare: usize) -> bool
     requires { spare ≤ MAX_SCRIPT_BYTES }
     ensures { IsTrue result → written + (length line.now + 1) ≤ MAX_SCRIPT_BYTES }

@@ -26,7 +26,7 @@ use Rattle.reh_lines.proofs.ScriptLaws.{answered_front, answered_lines-failed, a
 use Rattle.reh_lines.proofs.Standing.{Stands, all_parts, front_stays, grown_by, lines_stand, told, whole_part}
 use Rattle.reh_lines.proofs.Parts.{lines_behind}
 
--- the lines behind those that were answered are the next
+-- the lines after those that were answered are the next
 at_part : {S : Type 0} (place : Setting S) (first part : List ℕ) (rest : List (List ℕ)) (k : ℕ) (x y : Player S)
     (old mid : Option (List ℕ)) → ended first ≡ first → IsAt place (lines_of first) [] k x y old mid
     → IsAt place (lines_of (first ++ part) ++ rest) (lines_of part ++ rest) k x y old mid
@@ -69,7 +69,7 @@ stops_within place fault script left_old left x y old new given within leads = �
           (stop_of false text) fault x y z old new (sym front.1) (leads front.0) ends);
     }
 
--- a play that breaks off behind them
+-- a play that breaks off after them
 breaks_off : {S : Type 0} (place : Setting S) (fault : PlayFault) (script : List ℕ)
     (left_old left next : Option (List ℕ)) (k : ℕ) (x y : Player S) (old new : Option (List ℕ))
     → (fault ≡ NoMemory) ⊎ (fault ≡ WriteFault) → Consumes left_old left script → length script ≤ MAX_SCRIPT_BYTES
@@ -156,7 +156,7 @@ stops_among place p fault end done number script left_old left failed x y z old 
     (part_halts place (take done script) (take (end - done) (drop done script)) number fault x y z old mid new rest
     whole at halts)))
 
--- a play behind whose script a read failed
+-- a play after whose script a read failed
 pub ends_failed : {S : Type 0} (place : Setting S) (script : List ℕ) (left_old left : Option (List ℕ)) (failed : Bool)
     (k : ℕ) (x y : Player S) (old new : Option (List ℕ)) → Consumes left_old left script
     → length script ≤ MAX_SCRIPT_BYTES → failed ≡ true → IsAt place (lines_of (ended script)) [] k x y old new

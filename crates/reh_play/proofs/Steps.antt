@@ -75,7 +75,7 @@ none_left (b ∷ bs) none =
     let zero : length (b ∷ bs) ≡ 0 = grind (arith, nat_tests, none) in
     absurd (omega (arith, zero))
 
--- and all the lines behind them
+-- and all the lines after them
 pub is_at_more : {S : Type 0} (place : Setting S) (all left more : List (List ℕ)) (k : ℕ) (x y : Player S)
     (old mid : Option (List ℕ)) → IsAt place all left k x y old mid
     → IsAt place (all ++ more) (left ++ more) k x y old mid

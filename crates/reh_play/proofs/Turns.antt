@@ -28,7 +28,7 @@ use Rattle.reh_transcript.specs.Hand.{call_of, spend_of, discard_of, HandAfter}
 use Rattle.reh_play.specs.Players.{Going, Player, setting, Commands, Takes, Begins, IsGivenBack, GivesBack}
 use Rattle.reh_play.specs.Turns.{player, held, answer_text, IsAnswered, IsBegun}
 
--- a reply that adds a line is no want of memory
+-- a reply that adds a line is not out of memory
 pub real_if_written : (reply : Reply) → IsTrue (is_written reply) → reply ≢ Refused NoMemory
 real_if_written reply written same = false≢true (ap is_written (sym same) ∙ written)
 
@@ -207,7 +207,7 @@ answers_discarded go scene s old hand u new finding next reply was goes seat rea
 
 -- Hands that are given back
 
--- with one finding more behind them
+-- with one finding more after them
 pub gives_more : {S : Type 0} (go : Going S) (s : S) (old : SeatView) (hand : List Numbered) (u : S) (mid : SeatView)
     (finding : Numbered) (reply : Reply) (w : S) (new : SeatView) → GivesBack go s old hand u mid → IsGivenBack reply
     → go u mid.number (discard_of finding) reply w → new ≡ gained mid (discard_of finding) reply
@@ -258,7 +258,7 @@ pub if_err : {T E : Type 0} (P : E → Type 0) (result : Result T E) (e : E) →
 if_err P (Ok x) e is holds = absurd is
 if_err P (Err x) e is holds = subst P (sym is) holds
 
--- an answer behind its line's number
+-- an answer after its line's number
 pub pushed : {T E : Type 0} (result : Result T E) (n : ℕ) (text mid new word : List ℕ)
     → mid ≡ text ++ (codes "line " ++ (decimal n ++ codes ": ")) → OnOk result (new ≡ mid ++ word)
     → OnOk result (new ≡ text ++ numbered n word)

@@ -10,7 +10,7 @@ use Rattle.reh_lines.specs.Streams.{Reaches}
 use Rattle.reh_play.specs.declared.faults.PlayFault.{PlayFault}
 use Rattle.reh_play.specs.declared.faults.PlayFault.TheVariants.{ReadFault, TooLong, WriteFault, NoMemory, NoThread}
 
--- why no more lines are answered: the script is too long, or a read failed behind it
+-- why no more lines are answered: the script is too long, or a read failed after it
 abbrev pub stop_of : Bool → List ℕ → Option PlayFault
 stop_of failed script = if is_script script then (if failed then Some ReadFault else None) else Some TooLong
 
@@ -59,7 +59,7 @@ pub record StopsWanting {S : Type 0} (place : Setting S) (lines : List (List ℕ
   pub ends : Ends place y z
   pub written : Appends old new text
 
--- How a play of lines ends that has to stop behind them for a fault, if there is one.
+-- How a play of lines ends that has to stop after them for a fault, if there is one.
 abbrev pub IsPlayed : {S : Type 0} → Setting S → List (List ℕ) → Option PlayFault → Result (Unit {0}) PlayFault
     → Player S → Player S → Option (List ℕ) → Option (List ℕ) → Type 0
 IsPlayed {S} place lines stop (Ok done) x z old new = (stop ≡ None) × AnswersAll place lines x z old new

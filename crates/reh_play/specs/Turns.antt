@@ -24,7 +24,7 @@ abbrev pub held : Option Numbered → List Numbered
 held None = []
 held (Some ticket) = ticket ∷ []
 
--- a player with this ticket behind its hand, if there is one
+-- a player with this ticket after its hand, if there is one
 abbrev pub with_ticket : {S : Type 0} → S → SeatView → List Numbered → Option Numbered → Player S
 with_ticket {S} counter seat hand ticket = player counter seat (hand ++ held ticket)
 
@@ -70,7 +70,7 @@ pub record IsAt {S : Type 0} (place : Setting S) (all left : List (List ℕ)) (n
   pub taken : TakesAll place x 1 done text y
   pub written : Appends old mid text
 
--- Of lines behind so many others the first were taken and answered, and these are left, whatever stands before them and
+-- Of lines after so many others the first were taken and answered, and these are left, whatever stands before them and
 -- follows.
 abbrev pub GoesOn : {S : Type 0} → Setting S → ℕ → List (List ℕ) → ℕ → List (List ℕ) → Player S → Player S
     → Option (List ℕ) → Option (List ℕ) → Type 0

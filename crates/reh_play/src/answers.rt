@@ -25,7 +25,7 @@ pub(crate) enum Answer {
     Hidden,
 }
 
-/// Adds an answer behind its line's number. What a report shows is the state that the counter shows, if it shows one.
+/// Adds an answer after its line's number. What a report shows is the state that the counter shows, if it shows one.
 pub(crate) fn push_answer<C: Counter>(
     text: &mut String,
     names: &Names,

@@ -67,8 +67,8 @@ impl From<AllocError> for Stopped {
 /// Reads a script and answers its lines in order, by a seat of a counter, with the bookies of these names.
 ///
 /// All lines that are complete are answered, and their answers handed on, before more is read. A script that is too
-/// long, and one behind which a read fails, have the lines answered that end in time. Whatever ends the play, it gives
-/// back what it has neither spent nor given back. Where it ends for want of memory or of a thread, the answers of the
+/// long, and one after which a read fails, have the lines answered that end in time. Whatever ends the play, it gives
+/// back what it has neither spent nor given back. Where it ends for lack of memory or of a thread, the answers of the
 /// last lines are written, and not yet handed on.
 pub fn play<C: Counter, V: Surveyor, R: TextIn, W: TextOut>(
     alloc: Global,
@@ -252,7 +252,7 @@ fn answered(script: &[u8]) -> (&[u8], Option<PlayFault>)
     (script, None)
 }
 
-/// Answers the lines of a text in order, which stand behind so many others, and says behind how many the next stands.
+/// Answers the lines of a text in order, which come after so many others, and says after how many the next stands.
 fn answer_lines<C: Counter, V: Surveyor, W: TextOut>(
     tools: &Tools<V>,
     counter: &mut C,

@@ -126,7 +126,7 @@ zip-append [] ys zs = refl
 zip-append (x ∷ xs) ys [] = sym (zip-nil ys [] refl)
 zip-append (x ∷ xs) ys (z ∷ zs) = ap (λ ps. (x, z) ∷ ps) (zip-append xs ys zs)
 
--- the first reason of two lists, one behind the other, comes from the first where it gives one
+-- the first reason of two lists, one after the other, comes from the first where it gives one
 pub first_reason-append : (checks later : List (Option Refusal))
     → first_reason (checks ++ later) ≡ option_or (first_reason checks) (first_reason later)
 first_reason-append [] later = refl
@@ -143,7 +143,7 @@ map-zip P f g same (e ∷ es) (source ∷ sources) each =
     (λ j. same e source (All-head P e es each) j ∷ map-zip P f g same es sources (All-tail P e es each) j)
 
 -- the first source that is lost is one of the first word's, by a test that tells the same of its entries, or one of those
--- behind them
+-- after them
 pub lost-word : (P : ℕ → Type 0) (lost here : ℕ × Option ℕ → Option Refusal)
     → ((e : ℕ) (source : Option ℕ) → P e → lost (e, source) ≡ here (e, source))
     → (es rest : List ℕ) (sources : List (Option ℕ)) → All P es

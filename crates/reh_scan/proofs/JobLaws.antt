@@ -236,7 +236,7 @@ entries_in-within w =
     let at = get_or-range_with_len (64 * w.number) 64 k d below in
     omega (arith, at, below))
 
--- what holds of each element of two lists, one behind the other, holds of each of both
+-- what holds of each element of two lists, one after the other, holds of each of both
 pub All-first : {X : Type 0} (P : X → Type 0) (xs ys : List X) → All P (xs ++ ys) → All P xs
 All-first P [] ys all = All-nil P
 All-first P (x ∷ xs) ys all =

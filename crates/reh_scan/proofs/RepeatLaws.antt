@@ -78,7 +78,7 @@ stripe-moved-length first middle stop index size quorum before here =
       length-map (striped_entries first middle index size quorum) (λ (e : ℕ). e + 64 * words_of_block size),
     )
 
--- those of two ranges, one behind the other, are those of both
+-- those of two ranges, one after the other, are those of both
 pub stripe-append : (a b c index size quorum : ℕ) → a ≤ b → b ≤ c
     → striped_entries a b index size quorum ++ striped_entries b c index size quorum
     ≡ striped_entries a c index size quorum

@@ -84,7 +84,7 @@ counted-four p first last number count words small are was =
     ≡ count + ones (w 0) + ones (w 1) + ones (w 2) + ones (w 3) = omega arith in
     sum ∙ four ∙ ap (counted_below p first last) after_four
 
--- all are below the word behind the last one's
+-- all are below the word after the last one's
 pub counted-all : (p : ℕ → Bool) (first last number : ℕ) → first ≤ last → last / 64 + 1 ≤ number
     → counted_below p first last number ≡ count_by p (range first (last + 1))
 counted-all p first last number order end =
@@ -127,7 +127,7 @@ lacking-bits p first last number between readable within are_between are_readabl
 
 -- Runs
 
--- what is taken of two lists, one behind the other, and what is left out of them
+-- what is taken of two lists, one after the other, and what is left out of them
 take_across : {X : Type 0} (n : ℕ) (xs ys : List X) → take n xs ++ take (n - length xs) ys ≡ take n (xs ++ ys)
 take_across zero xs ys = let none : 0 - length xs ≡ 0 = omega arith in ap (λ m. take m ys) none
 take_across (suc n) [] ys = let all : suc n - 0 ≡ suc n = omega arith in ap (λ m. take m ys) all

@@ -20,7 +20,7 @@ pub fn survey_costs(alloc: Global, state: &State) -> Result<Vec<u32>, AllocError
     Ok(costs)
 }
 
-/// Puts what there is to read for each fragment of a ledger behind the others.
+/// Puts what there is to read for each fragment of a ledger after the others.
 fn push_costs(costs: &mut Vec<u32>, metadata: &LedgerMeta) -> Result<(), AllocError>
     ensures { OnOk result (costs.new.items ≡ costs.old.items ++ model.costs_of metadata.now) }
 {

@@ -249,7 +249,7 @@ fn block_sources(
     Ok(sources)
 }
 
-/// Puts the sources of a word's entries behind the others.
+/// Puts the sources of a word's entries after the others.
 fn push_sources(
     sources: &mut Vec<Option<BookieIx>>,
     reading: &Reading,

@@ -57,7 +57,7 @@ pub fn survey_run(
     Ok(lines)
 }
 
-/// Puts the lines of so many of the ledger's fragments, from that number on, behind the others.
+/// Puts the lines of so many of the ledger's fragments, from that number on, after the others.
 fn push_run(
     lines: &mut Vec<SurveyLine>,
     state: &State,

@@ -62,7 +62,7 @@ picture-enough enough picture all (rest, whole, end) more =
           ∙ ap picture_of (sym whole)
     ]
 
--- where a read failed behind it
+-- where a read failed after it
 pub opens_failed : (told failed : Bool) (enough : ℕ) (bytes : List ℕ) (left_old left_new : Option (List ℕ))
     → told ≡ failed → failed ≡ true → Reads enough failed bytes left_old left_new
     → OpensText told left_old left_new (Err (Play ReadFault))

@@ -245,7 +245,7 @@ out_at (Ok state) failed left left_before old shown out = (
 )
 out_at (Err fault) failed left left_before old shown out = absurd out
 
--- behind a head
+-- after a head
 out_behind : (p n : ℕ) (input : List ℕ) (left_old left_mid left_before old shown : Option (List ℕ))
     → Consumes left_old left_mid input → IsHead (take n input) (take p input) → p < n → n ≤ length input
     → GoesOutBehind (picture_of (take p input)) (prepend_known (drop n input) left_mid) left_before old shown

@@ -47,7 +47,7 @@ pub record Follows (x : Player Kept) (text : List ℕ) (y : Player Kept) (given 
 
 -- Calls
 
--- an answer that is no want of memory is the book's
+-- an answer that is not out of memory is the book's
 pub answer_is : (b : Book) (seat : ℕ) (c : Call) (reply : Reply) (after : Book) → Answers b seat c reply after
     → reply ≢ Refused NoMemory → reply ≡ answer_to b seat c
 answer_is b seat c reply after (inl is, then) real = is
@@ -194,7 +194,7 @@ transcribes_part names lines x z old new stops =
       written = subst (λ t. Appends old new (t ++ stops.part)) before.text_is stops.written;
     }
 
--- Want of memory
+-- Out of memory
 
 abbrev is_other : Reply → Bool
 is_other (Refused NoMemory) = false

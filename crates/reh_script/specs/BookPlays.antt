@@ -68,7 +68,7 @@ pub record TranscribesUntil (names : List (List ℕ)) (seat : ℕ) (lines : List
   pub lacks : LacksAnswer names seat (after_lines names seat p done) line b
   pub written : Appends old new (transcript names seat p 1 done)
 
--- How a play of lines ends that has to stop behind them for a fault, if there is one: it leaves the book b.
+-- How a play of lines ends that has to stop after them for a fault, if there is one: it leaves the book b.
 abbrev pub IsTranscribed : List (List ℕ) → ℕ → List (List ℕ) → Option PlayFault → Result (Unit {0}) PlayFault
     → BookPlayer → Book → Option (List ℕ) → Option (List ℕ) → Type 0
 IsTranscribed names seat lines stop (Ok done) p b old new =

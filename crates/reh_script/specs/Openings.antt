@@ -25,7 +25,7 @@ Opens (Ok state) (Err refused) = refused ≡ Play NoMemory
 Opens (Err fault) (Ok rehearsal) = ⊥
 Opens (Err fault) (Err refused) = (refused ≡ Picture fault) ⊎ (refused ≡ Play NoMemory)
 
--- A picture behind which a read failed is not judged.
+-- A picture after which a read failed is not judged.
 abbrev pub OpensRead : Bool → List ℕ → Result Opened PipeFault → Type 0
 OpensRead true picture result = result ≡ Err (Play ReadFault)
 OpensRead false picture result = Opens (picture_of picture) result

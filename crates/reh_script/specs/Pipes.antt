@@ -17,7 +17,7 @@ use Rattle.reh_play.specs.declared.faults.PlayFault.TheVariants.{ReadFault, NoMe
 use Rattle.reh_script.specs.declared.faults.PipeFault.{PipeFault}
 use Rattle.reh_script.specs.declared.faults.PipeFault.TheVariants.{Picture, Play}
 
--- the state that a book opens on, the lines that are answered, and the fault behind them, if there is one
+-- the state that a book opens on, the lines that are answered, and the fault after them, if there is one
 pub record Rehearsal : Type 0 where
   pub state : Cluster
   pub lines : List (List ℕ)
@@ -28,7 +28,7 @@ rehearsal_by failed (Ok state) script =
     Ok (record { state = state; lines = answered_lines failed script; stop = stop_of failed script })
 rehearsal_by failed (Err fault) script = Err (Picture fault)
 
--- what an input is, behind which a read failed or none did: a rehearsal, or the fault that comes before any line. A
+-- what an input is, after which a read failed or none did: a rehearsal, or the fault that comes before any line. A
 -- picture is judged as soon as it is told.
 abbrev pub rehearsal_of : Bool → List ℕ → Result Rehearsal PipeFault
 rehearsal_of failed input =
@@ -85,7 +85,7 @@ pub record AnswersGoOut (left_old left_before old shown : Option (List ℕ)) : T
   pub given : Consumes left_old left_before earlier
   pub out : IsOut (rehearsal_of true earlier) (lines_of (ended (cut_of earlier).script)) old shown
 
--- The play of a script behind a picture of this state, of which left_old was to come.
+-- The play of a script after a picture of this state, of which left_old was to come.
 pub record PlayedBehind (state : Cluster) (result : Result (Unit {0}) PipeFault) (failed : Bool)
     (left_old left_new old new : Option (List ℕ)) : Type 0 where
   pub end : Result (Unit {0}) PlayFault
@@ -97,7 +97,7 @@ pub record PlayedBehind (state : Cluster) (result : Result (Unit {0}) PipeFault)
 abbrev pub IsUnplayed : PipeFault → Result (Unit {0}) PipeFault → Bool → Option (List ℕ) → Option (List ℕ) → Type 0
 IsUnplayed fault result failed old new = (result ≡ Err fault) × (failed ≡ false) × Keeps old new
 
--- What becomes of a picture that was read so, and the script behind it.
+-- What becomes of a picture that was read so, and the script after it.
 abbrev pub PlaysBehind : Result Cluster PictureFault → Result (Unit {0}) PipeFault → Bool → Option (List ℕ)
     → Option (List ℕ) → Option (List ℕ) → Option (List ℕ) → Type 0
 PlaysBehind (Ok state) result failed left_old left_new old new =

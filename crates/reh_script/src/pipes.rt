@@ -24,7 +24,7 @@ const MAX_READS: usize = MAX_PICTURE_BYTES + 4 + MAX_SCRIPT_BYTES + 1;
 ///
 /// The picture is judged as soon as its line `%` has ended, and its fault comes before any other. All lines of the
 /// script that are complete are answered, and their answers handed on, before more is read. A script that is too long,
-/// and one behind which a read fails, have the lines answered that end in time.
+/// and one after which a read fails, have the lines answered that end in time.
 pub fn pipe<V: Surveyor, R: TextIn, W: TextOut>(
     alloc: Global,
     surveyor: &V,
@@ -62,7 +62,7 @@ fn open_whole(alloc: Global, input: &[u8]) -> Result<(), PipeFault>
     Ok(())
 }
 
-/// Plays the script behind the line `%` of an input.
+/// Plays the script after the line `%` of an input.
 fn play_behind<V: Surveyor, R: TextIn, W: TextOut>(
     alloc: Global,
     surveyor: &V,

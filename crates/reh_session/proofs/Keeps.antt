@@ -193,7 +193,7 @@ replay_forth {s} {es} {rs} {k} h j within =
 
 -- Undo
 
--- the cursor behind an event
+-- the cursor after an event
 module _ (s : Cluster) (es : List Event) (rs : List (List Change)) (j : ℕ) (h : IsKept s es rs (j + 1))
     (r : List Change) (at_j : r ≡ get_or rs j r) where
   in_es : j < length es
@@ -284,7 +284,7 @@ module _ {s : Cluster} {es : List Event} {rs : List (List Change)} {k : ℕ} (h 
 
 -- Redo
 
--- the record behind the cursor
+-- the record after the cursor
 module _ {s : Cluster} {es : List Event} {rs : List (List Change)} {k : ℕ} (h : IsKept s es rs k) (more : k < length es)
     (r : List Change) (at_k : r ≡ get_or rs k r) where
   next_event : (e : Event) × (e ≡ get_or es k e)

@@ -38,7 +38,7 @@ Ahead s (event ∷ events) (changes ∷ records) =
     (refusal_of s event ≡ None) × IsDelta s (after s event) changes × Ahead (after s event) events records
 Ahead s events records = ⊥
 
--- each record before the cursor leads back over its event, and each one behind it makes its event
+-- each record before the cursor leads back over its event, and each one after it makes its event
 pub record IsKept (s : Cluster) (events : List Event) (records : List (List Change)) (cursor : ℕ) : Type 0 where
   pub within : cursor ≤ length events
   pub few : length events ≤ MAX_EVENTS

@@ -135,7 +135,7 @@ impl Session {
         &self.records
     }
 
-    /// Makes an event, unless it is refused: by the event's own refusals first, then by `Full`, and then for want of
+    /// Makes an event, unless it is refused: by the event's own refusals first, then by `Full`, and then for lack of
     /// memory. A refused event changes nothing.
     ///
     /// No swap that is made loses an entry (`safe`): the worker's bookie holds each one that the fragment stripes
@@ -154,7 +154,7 @@ impl Session {
     }
 
     /// Posts what a worker found, unless it is refused: by the refusals of a post first, then by `Full`, and then for
-    /// want of memory. A refused post changes nothing. An accepted one is the copy to its aim at its version, which
+    /// lack of memory. A refused post changes nothing. An accepted one is the copy to its aim at its version, which
     /// survives, and is undone, as that event.
     pub fn post(&mut self, content: &Content) -> Result<(), Refusal>
         ensures answers { Performs self.old (Post content.now) (reply_of result) self.new }
@@ -282,7 +282,7 @@ fn are_same(records: &[Changes], others: &[Changes]) -> bool
     true
 }
 
-/// Makes room for one element behind the first `cursor`.
+/// Makes room for one element after the first `cursor`.
 fn reserve_next<T>(items: &mut Vec<T>, cursor: usize) -> Result<(), AllocError>
     requires { cursor ≤ length items.old.items }
     ensures items { items.new.items ≡ items.old.items }
@@ -294,7 +294,7 @@ fn reserve_next<T>(items: &mut Vec<T>, cursor: usize) -> Result<(), AllocError>
     items.reserve(1)
 }
 
-/// Puts an element behind the first `cursor`, where there is room for it, and drops what lay there.
+/// Puts an element after the first `cursor`, where there is room for it, and drops what lay there.
 fn keep<T: Drop>(items: &mut Vec<T>, cursor: usize, item: T)
     requires place { cursor ≤ length items.old.items }
     requires room { cursor < vec_capacity items.old }

@@ -21,7 +21,7 @@ use Rattle.reh_model.proofs.EventLaws.{IsWellFormed-after}
 use Rattle.reh_model.proofs.PlaceLaws.{word_differs}
 use Rattle.reh_model.proofs.ExchangeLaws.{Differs, delta_of_changes}
 
--- a place behind which all places of later words are
+-- a place after which all places of later words are
 words-after : (b l n k : ℕ) (us : List Turn) → n < k → turns.AreRising k us
     → All (λ c. IsBefore (at_word b l n) (place_of c)) (word_changes b l us)
 words-after b l n k [] less rising = All-nil (λ c. IsBefore (at_word b l n) (place_of c))

@@ -139,7 +139,7 @@ nothing_below s g = same_set (set.union s.parts.held (recovered_below s g 0)) s.
     none_below : (b : ℕ) → nat_lt b 0 ≡ false
     none_below b = grind (arith, nat_tests)
 
--- behind the last bookie
+-- after the last bookie
 all_below : (s : Cluster) (l : ℕ) (g : Ledger) (n : ℕ) → IsWellFormed s → ledger_at s l ≡ Some g → length s.names ≤ n
     → recovered_below s g n ≡ recovered_at s l
 all_below s l g n was found past =
@@ -246,7 +246,7 @@ sealed_more s l k g n cs entries us list id named listed turning are is =
     subst (λ (ps : List Change). AreSealed s k g (n + 1) ps) (ap (λ l. cs ++ word_changes n l us) id ∙ sym is)
     (more_sealed s k g n cs us named turning_id are)
 
--- behind the last bookie the record is the difference
+-- after the last bookie the record is the difference
 pub seal_delta : (s : Cluster) (w l k : ℕ) (g : Ledger) (n : ℕ) (cs : List Change) → IsWellFormed s
     → position (λ g. g.id == l) s.parts.ledgers ≡ Some k → g ≡ get_or s.parts.ledgers k g
     → refusal_of s (Seal w l) ≡ None → length s.names ≤ n → AreSealed s k g n cs

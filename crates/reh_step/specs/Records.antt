@@ -16,7 +16,7 @@ use Rattle.reh_model.specs.Places.{Change, IsDelta}
 abbrev pub IsRecordOf : Cluster → Event → List Change → Type 0
 IsRecordOf s event changes = IsDelta s (after s event) changes
 
--- what answers an event: its record, where it is accepted, and else its first refusal; want of memory comes after all
+-- what answers an event: its record, where it is accepted, and else its first refusal; out of memory comes after all
 -- others
 pub record IsDecision (s : Cluster) (event : Event) (result : Result (List Change) Refusal) : Type 0 where
   pub accepted : IfOk result (λ _. refusal_of s event ≡ None)

@@ -13,7 +13,7 @@ use std::alloc::Global;
 /// The record of the event, one change for each place in which the state differs after it, or the first refusal that
 /// applies to it. Exchanged with the state it makes the event, and exchanged again it takes it back.
 ///
-/// Want of memory comes after all other refusals: it is answered only where the event is accepted.
+/// Out of memory comes after all other refusals: it is answered only where the event is accepted.
 pub fn decide(alloc: Global, state: &State, event: &Event) -> Result<Changes, Refusal>
     ensures accepted { IfOk result (λ _. refusal_of state.now event.now ≡ None) }
     ensures delta { IfOk result (IsRecordOf state.now event.now) }
@@ -67,7 +67,7 @@ pub fn decide(alloc: Global, state: &State, event: &Event) -> Result<Changes, Re
 
 /// The state after the event, or the first refusal that applies to it; the state that it is made on stays as it was.
 ///
-/// Want of memory comes after all other refusals: it is answered only where the event is accepted. The new
+/// Out of memory comes after all other refusals: it is answered only where the event is accepted. The new
 /// state is a copy, on the old one's allocator, with which the event's record is exchanged.
 /// The events are those of BookKeeper's AutoRecovery: its auditor publishes tasks, once the delay after a loss is over,
 /// and its replication workers lock them, give their locks back, end them, or lose them with their sessions. A worker

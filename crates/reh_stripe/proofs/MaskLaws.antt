@@ -94,7 +94,7 @@ has_bit-first mask =
     let even : (mask * 2 % 2 ^ 64) % 2 ≡ 0 = omega arith in
     ap (λ (b : ℕ). b == 1) (bit_at_lowest (mask * 2 % 2 ^ 64) ∙ even)
 
--- each entry stands at the index behind that of the entry before it
+-- each entry stands at the index after that of the entry before it
 rank_of-next : (e i n : ℕ) → i + 1 < n → rank_of (suc e) (i + 1) n ≡ rank_of e i n
 rank_of-next e i n inside =
     let j : ℕ = rank_of e i n in

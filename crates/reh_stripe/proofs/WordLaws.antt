@@ -433,7 +433,7 @@ least-cleared n (suc t) (suc i) set none =
       same : nat_eq i t ≡ nat_eq (suc i) (suc t)
       same = grind (arith, nat_tests)
 
--- the first number of a range that passes a test, and those behind it
+-- the first number of a range that passes a test, and those after it
 filter-next : (p q : ℕ → Bool) (a n t : ℕ) → t < n → p (a + t) ≡ true → ((i : ℕ) → i < t → p (a + i) ≡ false)
     → ((i : ℕ) → i < n → q (a + i) ≡ (p (a + i) && not (nat_eq i t)))
     → filter p (range_with_len a n) ≡ (a + t) ∷ filter q (range_with_len a n)

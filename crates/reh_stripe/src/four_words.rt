@@ -139,7 +139,7 @@ impl FourWords {
     }
 }
 
-/// The bits of a word whose entries are from the first to the last, where the first isn't behind the word.
+/// The bits of a word whose entries are from the first to the last, where the first isn't after the word.
 fn bits_to(number: u32, first: u32, last: u32) -> u64
     requires { first < 64 * number + 64 }
     ensures { (i : ℕ) → i < 64 → has_bit result i ≡ is_between first last (64 * number + i) }

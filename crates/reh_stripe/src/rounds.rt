@@ -6,7 +6,7 @@ ghost use Rattle.reh_model.specs.Striping as stripe;
 use reh_types::MAX_ENSEMBLE_SIZE;
 use std::marker::Model;
 
-/// As many as the bits of a word, an ensemble before them and an ensemble behind them.
+/// As many as the bits of a word, an ensemble before them and an ensemble after them.
 const LENGTH: usize = 64 + 2 * MAX_ENSEMBLE_SIZE as usize;
 
 /// The indexes of an ensemble round and round: the write set of each entry of a word is a slice of them. Contracts see

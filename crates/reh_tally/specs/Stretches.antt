@@ -5,7 +5,7 @@ use Rattle.reh_census.specs.declared.ledgers.Range.{Range}
 use Rattle.reh_census.specs.Ledgers.{is_within}
 use Rattle.reh_tally.specs.declared.ranges.Stretch.{Stretch}
 
--- each range has an entry, and ends before those behind it begin
+-- each range has an entry, and ends before those after it begin
 pub record AreRising (ranges : List Range) : Type 0 where
   pub some : (k : ℕ) (d : Range) → k < length ranges → (slice_index_or ranges k d).first ≤ (slice_index_or ranges k d).last
   pub order : (k n : ℕ) (d : Range) → k < n → n < length ranges

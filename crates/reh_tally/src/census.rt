@@ -55,7 +55,7 @@ pub fn census_of(
     Ok(census)
 }
 
-/// The same of ledgers that are few enough: for want of memory alone there is none.
+/// The same of ledgers that are few enough: for lack of memory alone there is none.
 pub fn census_of_few(
     alloc: Global,
     bookies: &Bookies,

@@ -85,7 +85,7 @@ pub fn census_of_counts(
     Ok(census)
 }
 
-/// The same of counts that are few enough: for want of memory alone there is none.
+/// The same of counts that are few enough: for lack of memory alone there is none.
 fn census_of_few_counts(
     alloc: Global,
     entries: Vec<Counted>,

@@ -40,7 +40,7 @@ pub(crate) trait Line: Drop {
     ghost exact: { (one other : Self.Kind) → cmp one other ≡ Equal → one ≡ other };
 }
 
-/// Adds a line behind lines that don't come after it: to the last one, if that is of its kind, and else as the last.
+/// Adds a line to lines none of which comes after it: to the last one, if that is of its kind, and else as the last.
 fn add_line<L: Line>(lines: &mut Vec<L>, line: L) -> Result<(), AllocError>
     requires within { sum_by L.count lines.old.items + L.count line < 2 ^ 64 }
     requires order { InOrder (λ one next. L.cmp (L.kind one) (L.kind next)) lines.old.items }

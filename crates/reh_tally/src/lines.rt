@@ -17,7 +17,7 @@ pub(crate) struct Line {
     pub(crate) count: u64,
 }
 
-/// Lines, each at a place that hangs on its masks, or behind it, and how many aren't free. Contracts see the list.
+/// Lines, each at a place that hangs on its masks, or after it, and how many aren't free. Contracts see the list.
 #[derive(Drop)]
 pub(crate) struct Lines {
     places: Vec<Line>,

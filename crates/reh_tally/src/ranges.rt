@@ -136,7 +136,7 @@ fn next_of(ranges: &[Range], at: u64, stop: u64) -> u64
     next
 }
 
-/// The same of one range. Where the range ends no earlier than the entry, it is at most the one behind the range.
+/// The same of one range. Where the range ends no earlier than the entry, it is at most the one after the range.
 fn next_after(range: &Range, at: u64, stop: u64) -> u64
     requires { at < stop }
     ensures later { at < result }

@@ -6,7 +6,7 @@ ghost use Rattle.reh_tally.specs.Segments as model;
 use crate::lines::{Line, Lines};
 use std::alloc::{AllocError, Global};
 
-/// The remainder by the ensemble's size of the entry that is so many behind one with this remainder.
+/// The remainder by the ensemble's size of the entry that is so many after one with this remainder.
 pub(crate) fn remainder_behind(remainder: u64, entries: u64, size: u64) -> u64
     requires remainder { remainder < size }
     requires entries { entries < size }
@@ -25,7 +25,7 @@ fn rounds_in(entries: u64, size: u64) -> u64
     if entries < size { 0 } else { entries / size }
 }
 
-/// How many entries come behind the whole rounds.
+/// How many entries come after the whole rounds.
 fn rest_of(entries: u64, size: u64) -> u64
     requires { 0 < size }
     ensures { result ≡ entries % size }

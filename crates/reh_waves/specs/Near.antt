@@ -29,7 +29,7 @@ pub record AreLargest (census : Census) (tail ensemble : ℕ) : Type 0 where
   pub tails : All (λ t. t.tail.size ≤ tail) census.tails
   pub ensembles : All (λ e. length e.members ≤ ensemble) census.ensembles
 
--- no ledger breaks a rule for want of bookies to write to, of racks, or of places, and no disk goes
+-- no ledger breaks a rule for lack of bookies to write to, of racks, or of places, and no disk goes
 pub record IsLocal (census : Census) (bookies : Bookies) (question : Question) (stopped : ℕ → Bool) : Type 0 where
   pub no_disk : list_any (takes_disk bookies question stopped) bookies.names ≡ false
   pub no_racks : lacks_racks bookies question stopped ≡ false

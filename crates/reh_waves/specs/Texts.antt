@@ -19,7 +19,7 @@ use Rattle.reh_waves.specs.declared.waves.Waves.{Waves}
 
 -- What speaks against a stop
 
--- how many break a rule, behind the number: of one, and of more
+-- how many break a rule, after the number: of one, and of more
 abbrev pub no_words : Rule → Bool → List ℕ
 no_words Readable one = if one then codes " entry could not be read" else codes " entries could not be read"
 no_words Kept one =

@@ -213,7 +213,7 @@ fn has_places(question: &Question, largest: Largest, writable: u64) -> bool
     !question.for_good || largest.ensemble <= writable / 2
 }
 
-/// Whether no ledger breaks a rule for want of bookies, racks or places, and no disk goes.
+/// Whether no ledger breaks a rule for lack of bookies, racks or places, and no disk goes.
 fn is_local(bookies: &Bookies, question: &Question, largest: Largest, stopped: &BookieSet) -> bool
     ensures { result ≡ model.is_local (bookies_of bookies.now) question.now largest.tail largest.ensemble (is_flagged stopped.now) }
 {

@@ -5,7 +5,7 @@ ghost use Rattle.reh_waves.specs.Texts as texts;
 use reh_census::{Answer, Rule};
 use std::alloc::AllocError;
 
-/// How many break the rule, behind the number: of one, or of more.
+/// How many break the rule, after the number: of one, or of more.
 fn no_words(rule: Rule, one: bool) -> &'static str
     ensures { result.now ≡ texts.no_words rule one }
 {

@@ -33,7 +33,7 @@ pub(crate) fn read_picture_file(rt: &HostRuntime, path: &str) -> Result<Vec<u8>,
     Ok(bytes)
 }
 
-/// How many bytes of a census are read behind as many as a picture may have: a longer one is cut.
+/// How many bytes of a census are read after as many as a picture may have: a longer one is cut.
 const MORE_CENSUS_BYTES: u64 = 1 << 28;
 
 /// The bytes of an input's file: all of a census, and of a picture that is too long a byte more than one may have.
@@ -52,7 +52,7 @@ pub(crate) fn read_input_file(rt: &HostRuntime, path: &str) -> Result<Vec<u8>, R
     Ok(bytes)
 }
 
-/// That a file can't be opened or read, or want of memory.
+/// That a file can't be opened or read, or out of memory.
 fn unread(alloc: Global, failed: &str, path: &str, error: io::Error) -> RunFault {
     match RunFault::from(error) {
         RunFault::NoMemory => RunFault::NoMemory,
@@ -75,7 +75,7 @@ fn unread_text(
     format!(in alloc; "cannot {failed} {path}: {reason}")
 }
 
-/// A system's reason without the number that stands behind it.
+/// A system's reason without the number that comes after it.
 fn without_number(reason: &str) -> &str {
     match reason.split_once(" (os error ") {
         Some((words, _)) => words,

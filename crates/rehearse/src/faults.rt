@@ -98,7 +98,7 @@ impl From<AllocError> for RunFault {
     }
 }
 
-/// A word or a file that can't be read, or want of memory.
+/// A word or a file that can't be read, or out of memory.
 impl From<io::Error> for RunFault {
     ghost use Rattle.std.specs.Prelude.{◌≡◌, ◌≢◌};
     ghost use Rattle.std.specs.IoError.{error_kind};
@@ -182,7 +182,7 @@ pub fn after_flush(
     }
 }
 
-/// Whether a command line wasn't read for want of memory.
+/// Whether a command line wasn't read for lack of memory.
 pub(crate) fn want_of_memory(error: &clap::Error) -> Result<(), RunFault> {
     match error.kind() {
         clap::error::ErrorKind::OutOfMemory => Err(RunFault::NoMemory),

@@ -1,4 +1,4 @@
--- A session answers a post with want of memory only where it would be accepted.
+-- A session answers a post with 'out of memory' only where it would be accepted.
 use Rattle.std.proofs.Common.{◌≡◌, sym, ap, ◌∙◌, true≢false, refl, inl, inr}
 use Rattle.reh_types.specs.declared.moves.Move.TheVariants.{Post}
 use Rattle.reh_types.specs.declared.moves.Reply.TheVariants.{Done, Refused}

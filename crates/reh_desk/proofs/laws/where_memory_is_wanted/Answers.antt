@@ -1,4 +1,4 @@
--- Each clause is a lemma on want of memory.
+-- Each clause is a lemma on the reply 'out of memory'.
 use Rattle.reh_desk.proofs.Wants.{spend_wants, discard_wants, move_full, checkout_full, unchanged}
 use Rattle.reh_desk.proofs.laws.where_memory_is_wanted.Goals as goal
 

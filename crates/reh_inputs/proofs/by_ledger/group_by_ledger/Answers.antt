@@ -1,4 +1,4 @@
--- No holding is there at first, and then each run behind those of its ledger.
+-- No holding is there at first, and then each run after those of its ledger.
 use Rattle.std.proofs.Common.{◌≡◌, ◌<◌, ◌≤◌, ◌∙◌, ◌++◌, ◌==◌, [], ap, cond, get_or, sym, ℕ, arith, zero-le}
 use Rattle.std.proofs.lemmas.List.{take_all}
 use Rattle.std.specs.BTreeMap.{is_at}

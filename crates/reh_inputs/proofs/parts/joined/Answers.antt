@@ -1,4 +1,4 @@
--- What both show, one behind the other.
+-- What both show, one after the other.
 use Rattle.std.proofs.Common.{rules}
 use Rattle.reh_inputs.proofs.PartLaws.{IsPart-append}
 use Rattle.reh_inputs.proofs.parts.joined.Goals as goal

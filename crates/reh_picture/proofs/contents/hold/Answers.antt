@@ -1,4 +1,4 @@
--- The rows are long enough for each holding, and behind the last one the contents are those of all of them.
+-- The rows are long enough for each holding, and after the last one the contents are those of all of them.
 use Rattle.std.proofs.Common.{◌≡◌, take, sym, ap, subst, ◌∙◌}
 use Rattle.std.proofs.lemmas.List.{take_all}
 use Rattle.reh_types.specs.Sets.{triples}

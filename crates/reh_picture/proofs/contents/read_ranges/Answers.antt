@@ -1,4 +1,4 @@
--- One range more is read, and the next one has to begin behind its end.
+-- One range more is read, and the next one has to begin after its end.
 use Rattle.std.proofs.Common.{ℕ, ◌+◌, sym, ap, ◌∙◌, map, take}
 use Rattle.serde_json.specs.View.{view}
 use Rattle.reh_picture.specs.Contents.{next_after}

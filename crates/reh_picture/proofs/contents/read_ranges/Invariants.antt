@@ -1,4 +1,4 @@
--- The values so far have no fault; theirs are the ranges, and the least entry is the one behind them.
+-- The values so far have no fault; theirs are the ranges, and the least entry is the one after them.
 use Rattle.std.proofs.Common.{◌≡◌, map, take}
 use Rattle.serde_json.specs.View.{view}
 use Rattle.reh_picture.specs.declared.places.Place.TheVariants as place

@@ -1,4 +1,4 @@
--- Bytes that are read are JSON, and those that are refused, but for want of memory, are none.
+-- Bytes that are read are JSON, and those that are refused, but for lack of memory, are none.
 use Rattle.std.proofs.Common.{arith}
 use Rattle.std.proofs.lemmas.Result.{err_from_is_err_and}
 use Rattle.serde_json.specs.Errors.{IsMemory}

@@ -1,4 +1,4 @@
--- The fragment's checks of its member and the bookie come first, and behind them whether it has a stop.
+-- The fragment's checks of its member and the bookie come first, and after them whether it has a stop.
 use Rattle.std.proofs.Common.{◌≡◌, ◌∙◌, ap, sym, rules, ℕ, [], ◌∷◌, ◌++◌, List, Option, None, Some}
 use Rattle.std.specs.Prelude.{slice_get}
 use Rattle.reh_types.specs.declared.refusals.Refusal.{Refusal}

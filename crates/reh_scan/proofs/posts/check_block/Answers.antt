@@ -1,4 +1,4 @@
--- A source that is lost is one of the word's, where those of the words before it are not, or one of those behind it.
+-- A source that is lost is one of the word's, where those of the words before it are not, or one of those after it.
 use Rattle.std.proofs.Common.{rules, ◌≡◌, ◌∙◌, ◌+◌, ◌/◌, ap, sym, subst, ℕ, List, Option, map, drop, length, arith}
 use Rattle.std.specs.Int.Count.{ones}
 use Rattle.std.specs.List.{zip}

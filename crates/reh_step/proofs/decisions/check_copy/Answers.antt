@@ -1,4 +1,4 @@
--- A wrong place refuses the copy first; behind it comes the first striped entry that can't be read.
+-- A wrong place refuses the copy first; after it comes the first striped entry that can't be read.
 use Rattle.std.proofs.Common.{◌≡◌, ◌∙◌, ap, sym, rules, not, ℕ, Bool, [], ◌∷◌, List, Option, None, Some}
 use Rattle.std.specs.List.{find}
 use Rattle.reh_types.specs.declared.names.Aim.{Aim}
@@ -13,7 +13,7 @@ use Rattle.reh_model.proofs.AcceptedLaws.{refused_before, passed_before}
 use Rattle.reh_model.proofs.LedgerLaws.{stripe_at-found}
 use Rattle.reh_step.proofs.decisions.check_copy.Goals as goal
 
--- what a copy asks behind its place
+-- what a copy asks after its place
 abbrev later_checks : Cluster → ℕ → ℕ → Ledger → List (Option Refusal)
 later_checks s f i g = no_source s g f i ∷ []
 

@@ -1,4 +1,4 @@
--- A wrong place refuses the swap first; behind it comes the first striped entry that the worker's bookie lacks.
+-- A wrong place refuses the swap first; after it comes the first striped entry that the worker's bookie lacks.
 use Rattle.std.proofs.Common.{◌≡◌, ◌∙◌, ap, sym, rules, not, ℕ, Bool, [], ◌∷◌, List, Option, None, Some}
 use Rattle.std.specs.List.{find}
 use Rattle.std.specs.Option.{option_map}
@@ -17,7 +17,7 @@ use Rattle.reh_step.specs.declared.decisions.Place.{Place}
 use Rattle.reh_step.specs.Places.{IsPlace}
 use Rattle.reh_step.proofs.decisions.check_swap.Goals as goal
 
--- what a swap asks behind its place
+-- what a swap asks after its place
 abbrev later_checks : Cluster → ℕ → ℕ → ℕ → Ledger → List (Option Refusal)
 later_checks s w f i g = missing_entry s w g f i ∷ version_end g ∷ []
 

@@ -1,4 +1,4 @@
--- The events behind the cursor can all be redone after the surviving ones.
+-- The events after the cursor can all be redone after the surviving ones.
 use Rattle.reh_session.proofs.Keeps.{all_redoable}
 use Rattle.reh_session.proofs.sessions.Session.undone.Goals as goal
 
