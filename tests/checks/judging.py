@@ -89,7 +89,7 @@ def read_document(name: str) -> Document:
 
 
 def indented_blocks(prose: List[Tuple[int, str]]) -> List[Block]:
-    """Returns a block for each line of code that is only indented: behind an empty line, and in no list."""
+    """Returns a block for each line of code that is only indented: after an empty line, and in no list."""
     blocks = []
     before, is_list = "", False
     for number, line in prose:
