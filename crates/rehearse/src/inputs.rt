@@ -5,8 +5,8 @@ ghost use Rattle.reh_inputs.specs.Gathered.{Gathers};
 ghost use Rattle.reh_inputs.specs.Named.{taken_of as model_taken};
 ghost use Rattle.rehearse.specs.Inputs as model;
 
-use crate::checks::{read_input_file, write_text};
 use crate::faults::RunFault;
+use crate::files::{read_input_file, write_out};
 use reh_census_file::{CensusFault, NamedCensus, census_text};
 use reh_census_json::census_json;
 use reh_inputs::{
@@ -56,7 +56,7 @@ pub(crate) fn census_over<R: thread::Threads + Wait + Sync>(
     words: &CensusWords<'_>,
 ) -> Result<(), RunFault> {
     let text = census_of(rt, threads, words)?;
-    write_text(rt, text.as_str()).map_err(|_| RunFault::WriteFault)
+    write_out(rt, text.as_bytes())
 }
 
 /// The census of the files, as text or as JSON.
@@ -196,7 +196,7 @@ fn unreadable(alloc: Global, path: &str, fault: InputFault) -> RunFault {
 fn refused(alloc: Global, path: &str, located: LocatedFault) -> Result<RunFault, AllocError> {
     match &located.fault {
         PictureFault::NoMemory => Ok(RunFault::NoMemory),
-        _ => Ok(RunFault::RefusedIn(format!(in alloc; "{path}")?, located)),
+        _ => Ok(RunFault::Refused(Some(format!(in alloc; "{path}")?), located)),
     }
 }
 

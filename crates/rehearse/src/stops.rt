@@ -2,8 +2,8 @@
 ghost use Rattle.std.specs.Prelude.{IfOk};
 ghost use Rattle.rehearse.specs.Inputs.{SaysStop};
 
-use crate::checks::write_text;
 use crate::faults::RunFault;
+use crate::files::write_out;
 use crate::inputs::{gather_files, too_many};
 use crate::names::{ambiguous, named_again, nobody, unknown_rack, unknown_to_all};
 use reh_inputs::ClusterNames;
@@ -20,7 +20,7 @@ pub(crate) fn stop_over<R: thread::Threads + Wait + Sync>(
     stop: &Stop<'_>,
 ) -> Result<u8, RunFault> {
     let said = said_of(rt, threads, stop)?;
-    write_text(rt, said.text.as_str()).map_err(|_| RunFault::WriteFault)?;
+    write_out(rt, said.text.as_bytes())?;
     Ok(said.status)
 }
 

@@ -2,8 +2,8 @@
 ghost use Rattle.std.specs.Prelude.{IfOk};
 ghost use Rattle.rehearse.specs.Inputs.{SaysRisk, SaysWaves};
 
-use crate::checks::write_text;
 use crate::faults::RunFault;
+use crate::files::write_out;
 use crate::inputs::{gather_files, unfit};
 use reh_stop::{AskedRisk, AskedWaves, RoundFault, answer_risk, answer_waves};
 use reh_words::{RiskWords, WaveWords};
@@ -18,7 +18,7 @@ pub(crate) fn waves_over<R: thread::Threads + Wait + Sync>(
     words: &WaveWords<'_>,
 ) -> Result<(), RunFault> {
     let text = waves_of(rt, threads, words)?;
-    write_text(rt, text.as_str()).map_err(|_| RunFault::WriteFault)
+    write_out(rt, text.as_bytes())
 }
 
 /// What is said of rounds, by all files.
@@ -48,7 +48,7 @@ pub(crate) fn risk_over<R: thread::Threads + Wait + Sync>(
     words: &RiskWords<'_>,
 ) -> Result<(), RunFault> {
     let text = risk_of(rt, threads, words)?;
-    write_text(rt, text.as_str()).map_err(|_| RunFault::WriteFault)
+    write_out(rt, text.as_bytes())
 }
 
 /// What is said of the next losses, by all files.
