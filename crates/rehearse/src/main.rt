@@ -10,6 +10,7 @@ mod files;
 mod inputs;
 mod names;
 mod plans;
+mod progress;
 mod runs;
 mod stops;
 mod waves;

@@ -6,6 +6,7 @@ use crate::faults::RunFault;
 use crate::files::write_out;
 use crate::inputs::{gather_files, too_many};
 use crate::names::{ambiguous, named_again, nobody, unknown_rack, unknown_to_all};
+use crate::progress::Progress;
 use reh_inputs::ClusterNames;
 use reh_stop::{Asked, Said, StopFault, answer_stop};
 use reh_words::Stop;
@@ -19,7 +20,10 @@ pub(crate) fn stop_over<R: thread::Threads + Wait + Sync>(
     threads: &R,
     stop: &Stop<'_>,
 ) -> Result<u8, RunFault> {
-    let said = said_of(rt, threads, stop)?;
+    let progress = Progress::begin(rt, stop.inputs.files.len());
+    let said = said_of(rt, threads, stop, &progress);
+    progress.end(rt);
+    let said = said?;
     write_out(rt, said.text.as_bytes())?;
     Ok(said.status)
 }
@@ -29,10 +33,11 @@ fn said_of<R: thread::Threads + Wait + Sync>(
     rt: &HostRuntime,
     threads: &R,
     stop: &Stop<'_>,
+    progress: &Progress,
 ) -> Result<Said, RunFault>
     ensures { IfOk result (λ said. SaysStop stop.now said) }
 {
-    let gathered = gather_files(rt, threads, &stop.inputs)?;
+    let gathered = gather_files(rt, threads, &stop.inputs, progress)?;
     let asked = Asked {
         bookies: &stop.bookies,
         racks: &stop.racks,
