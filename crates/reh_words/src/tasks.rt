@@ -15,13 +15,13 @@ use std::alloc::{AllocError, Global};
 #[derive(Drop)]
 pub enum Task<'a> {
     /// Plays a script on a picture.
-    Play(Input<'a>),
+    Play(PlayWords<'a>),
     /// Checks the picture in a file.
     Check { picture: &'a str },
     /// Plays scripts on a picture, each by an operator of its own.
     Drill(DrillFiles<'a>),
     /// Says whether bookies may be stopped.
-    Stop(Stop<'a>),
+    Stop(StopWords<'a>),
     /// Parts the bookies into rounds, each of which may be stopped.
     Waves(WaveWords<'a>),
     /// Says what the next losses cost.
@@ -43,7 +43,7 @@ pub struct DrillFiles<'a> {
 
 /// Where a picture and a script are.
 #[derive(Clone, Copy)]
-pub enum Input<'a> {
+pub enum PlayWords<'a> {
     /// On standard input: a picture, a line `%` and a script.
     Pipe,
     /// The picture in a file, and the script on standard input.
@@ -81,7 +81,7 @@ pub struct Inputs<'a> {
 /// What is asked: may these bookies be stopped, and those of these racks. A word that names no bookie is a list of names
 /// with commas between them.
 #[derive(Drop)]
-pub struct Stop<'a> {
+pub struct StopWords<'a> {
     pub inputs: Inputs<'a>,
     pub bookies: Vec<&'a str>,
     pub racks: Vec<&'a str>,
@@ -158,7 +158,7 @@ pub fn task_of<'a>(alloc: Global, words: &'a [String]) -> Result<Option<Task<'a>
 /// What these matches ask for.
 fn asked_task<'a>(alloc: Global, matches: &ArgMatches<'a>) -> Result<Option<Task<'a>>, AllocError> {
     let Some((name, given)) = matches.subcommand() else {
-        return Ok(Some(Task::Play(Input::Pipe)));
+        return Ok(Some(Task::Play(PlayWords::Pipe)));
     };
     match given.get_str("PICTURE") {
         Some(picture) => asked_of_picture(alloc, name, given, picture),
@@ -177,7 +177,7 @@ fn asked_of_picture<'a>(
     let workers = given.get_one("workers").unwrap_or(1);
     let task = match (command, scripts.first()) {
         ("check", _) => Task::Check { picture },
-        ("talk", _) => Task::Play(Input::Talk { picture }),
+        ("talk", _) => Task::Play(PlayWords::Talk { picture }),
         ("plan", _) => Task::Plan(asked_plan(alloc, given, picture)?),
         ("drill", Some(_)) if scripts.len() <= MAX_OPERATORS => {
             let scripts = scripts.to_vec(alloc)?;
@@ -185,7 +185,7 @@ fn asked_of_picture<'a>(
         }
         ("run", Some(script)) if 0 < workers && workers <= MAX_WORKERS => {
             let crew = Crew { workers };
-            Task::Play(Input::Files {
+            Task::Play(PlayWords::Files {
                 picture,
                 script,
                 crew,

@@ -56,9 +56,7 @@ pub fn status_of(fault: &RunFault) -> u8
 {
     match fault {
         RunFault::Misnamed(_) => 2,
-        RunFault::Picture(_)
-        | RunFault::Refused(..)
-        | RunFault::Unfit(_) => 3,
+        RunFault::Picture(_) | RunFault::Refused(..) | RunFault::Unfit(_) => 3,
         RunFault::Unread(_) | RunFault::ReadFault | RunFault::TooLong => 4,
         RunFault::WriteFault => 5,
         RunFault::NoMemory => 6,

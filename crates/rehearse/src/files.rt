@@ -133,7 +133,13 @@ pub(crate) fn read_input_file(rt: &HostRuntime, path: &str) -> Result<Vec<u8>, R
 /// The bytes of a script's file, and of a longer one a byte more than a script may have.
 fn read_script(rt: &HostRuntime, path: &str) -> Result<Vec<u8>, RunFault> {
     let mut bytes = Vec::new(rt.alloc());
-    read_on(rt, path, open_file(rt, path)?, MAX_SCRIPT_BYTES as u64 + 1, &mut bytes)?;
+    read_on(
+        rt,
+        path,
+        open_file(rt, path)?,
+        MAX_SCRIPT_BYTES as u64 + 1,
+        &mut bytes,
+    )?;
     Ok(bytes)
 }
 

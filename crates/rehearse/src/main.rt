@@ -24,7 +24,7 @@ use plans::plan_file;
 use reh_crew::{OpenGate, Plain};
 use reh_drill::drill_over;
 use reh_script::{FromRead, Gathered, TextOut, ToWrite, pipe, run};
-use reh_words::{Crew, DrillFiles, Input, Task, task_of};
+use reh_words::{Crew, DrillFiles, PlayWords, Task, task_of};
 use runs::run_by;
 use std::process::ExitCode;
 use std::sync::Wait;
@@ -102,16 +102,16 @@ fn show(rt: &HostRuntime, error: &Error) -> ExitCode {
 fn play<R: Threads + Wait + Sync>(
     rt: &HostRuntime,
     threads: &R,
-    input: Input<'_>,
+    input: PlayWords<'_>,
 ) -> Result<(), RunFault> {
     let mut writer = Gathered::new(rt.alloc(), ToWrite::new(io::writer(rt)))?;
     let played = match input {
-        Input::Pipe => {
+        PlayWords::Pipe => {
             let mut reader = FromRead::new(rt.reader());
             pipe(rt.alloc(), &Plain, &mut reader, &mut writer).map_err(RunFault::from)
         }
-        Input::Talk { picture } => talk(rt, picture, &mut writer),
-        Input::Files {
+        PlayWords::Talk { picture } => talk(rt, picture, &mut writer),
+        PlayWords::Files {
             picture,
             script,
             crew,

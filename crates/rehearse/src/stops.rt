@@ -9,7 +9,7 @@ use crate::names::{ambiguous, named_again, nobody, unknown_rack, unknown_to_all}
 use crate::progress::Progress;
 use reh_inputs::ClusterNames;
 use reh_stop::{Asked, Said, StopFault, answer_stop};
-use reh_words::Stop;
+use reh_words::StopWords;
 use std::alloc::Global;
 use std::sync::Wait;
 use std::thread;
@@ -18,7 +18,7 @@ use std::thread;
 pub(crate) fn stop_over<R: thread::Threads + Wait + Sync>(
     rt: &HostRuntime,
     threads: &R,
-    stop: &Stop<'_>,
+    stop: &StopWords<'_>,
 ) -> Result<u8, RunFault> {
     let progress = Progress::begin(rt, stop.inputs.files.len());
     let said = said_of(rt, threads, stop, &progress);
@@ -32,7 +32,7 @@ pub(crate) fn stop_over<R: thread::Threads + Wait + Sync>(
 fn said_of<R: thread::Threads + Wait + Sync>(
     rt: &HostRuntime,
     threads: &R,
-    stop: &Stop<'_>,
+    stop: &StopWords<'_>,
     progress: &Progress,
 ) -> Result<Said, RunFault>
     ensures { IfOk result (λ said. SaysStop stop.now said) }
