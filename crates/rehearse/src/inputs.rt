@@ -7,7 +7,7 @@ ghost use Rattle.rehearse.specs.Inputs as model;
 
 use crate::faults::RunFault;
 use crate::files::{read_input_file, write_out};
-use crate::progress::Progress;
+use crate::progress::{Progress, Teller};
 use reh_census_file::{CensusFault, NamedCensus, census_text};
 use reh_census_json::census_json;
 use reh_inputs::{
@@ -52,14 +52,14 @@ fn gather_read<R: thread::Threads + Sync>(
 }
 
 /// Says to standard output what the census of the files is.
-pub(crate) fn census_over<R: thread::Threads + Wait + Sync>(
+pub(crate) fn census_over<R: thread::Threads + Wait + Sync + Copy + Send + 'static>(
     rt: &HostRuntime,
     threads: &R,
     words: &CensusWords<'_>,
 ) -> Result<(), RunFault> {
-    let progress = Progress::begin(rt, words.inputs.files.len());
-    let text = census_of(rt, threads, words, &progress);
-    progress.end(rt);
+    let teller = Teller::begin(rt, threads, words.inputs.files.len());
+    let text = census_of(rt, threads, words, &teller.progress);
+    teller.end(threads);
     write_out(rt, text?.as_bytes())
 }
 

@@ -39,7 +39,7 @@ fn main(rt: HostRuntime) -> ExitCode {
         Err(fault) => return end(&rt, Err(fault)),
     };
     match task_of(rt.alloc(), &words) {
-        Ok(Some(task)) => perform(&rt, task),
+        Ok(Some(task)) => perform(&rt, &rt, task),
         Ok(None) => {
             let _ = eprintln!(rt; "nothing is asked");
             ExitCode::from(2)
@@ -49,18 +49,22 @@ fn main(rt: HostRuntime) -> ExitCode {
 }
 
 /// Does what is asked, and says why where it can't be done.
-fn perform(rt: &HostRuntime, task: Task<'_>) -> ExitCode {
+fn perform<R: Threads + Wait + Sync + Copy + Send + 'static>(
+    rt: &HostRuntime,
+    threads: &R,
+    task: Task<'_>,
+) -> ExitCode {
     let done = match task {
-        Task::Play(input) => play(rt, rt, input),
+        Task::Play(input) => play(rt, threads, input),
         Task::Check { picture } => check_file(rt, picture),
-        Task::Drill(files) => drill(rt, rt, files),
-        Task::Stop(stop) => match stop_over(rt, rt, &stop) {
+        Task::Drill(files) => drill(rt, threads, files),
+        Task::Stop(stop) => match stop_over(rt, threads, &stop) {
             Ok(status) => return ExitCode::from(status),
             Err(fault) => Err(fault),
         },
-        Task::Waves(words) => waves_over(rt, rt, &words),
-        Task::Risk(words) => risk_over(rt, rt, &words),
-        Task::Census(words) => census_over(rt, rt, &words),
+        Task::Waves(words) => waves_over(rt, threads, &words),
+        Task::Risk(words) => risk_over(rt, threads, &words),
+        Task::Census(words) => census_over(rt, threads, &words),
         Task::Plan(words) => plan_file(rt, &words),
     };
     end(rt, done)

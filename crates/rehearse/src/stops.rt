@@ -6,7 +6,7 @@ use crate::faults::RunFault;
 use crate::files::write_out;
 use crate::inputs::{gather_files, too_many};
 use crate::names::{ambiguous, named_again, nobody, unknown_rack, unknown_to_all};
-use crate::progress::Progress;
+use crate::progress::{Progress, Teller};
 use reh_inputs::ClusterNames;
 use reh_stop::{Asked, Said, StopFault, answer_stop};
 use reh_words::StopWords;
@@ -15,14 +15,14 @@ use std::sync::Wait;
 use std::thread;
 
 /// Says to standard output whether the bookies may be stopped, and gives the status.
-pub(crate) fn stop_over<R: thread::Threads + Wait + Sync>(
+pub(crate) fn stop_over<R: thread::Threads + Wait + Sync + Copy + Send + 'static>(
     rt: &HostRuntime,
     threads: &R,
     stop: &StopWords<'_>,
 ) -> Result<u8, RunFault> {
-    let progress = Progress::begin(rt, stop.inputs.files.len());
-    let said = said_of(rt, threads, stop, &progress);
-    progress.end(rt);
+    let teller = Teller::begin(rt, threads, stop.inputs.files.len());
+    let said = said_of(rt, threads, stop, &teller.progress);
+    teller.end(threads);
     let said = said?;
     write_out(rt, said.text.as_bytes())?;
     Ok(said.status)

@@ -5,7 +5,7 @@ ghost use Rattle.rehearse.specs.Inputs.{SaysRisk, SaysWaves};
 use crate::faults::RunFault;
 use crate::files::write_out;
 use crate::inputs::{gather_files, unfit};
-use crate::progress::Progress;
+use crate::progress::{Progress, Teller};
 use reh_stop::{AskedRisk, AskedWaves, RoundFault, answer_risk, answer_waves};
 use reh_words::{RiskWords, WaveWords};
 use std::alloc::Global;
@@ -13,14 +13,14 @@ use std::sync::Wait;
 use std::thread;
 
 /// Says to standard output in which rounds the bookies may be stopped.
-pub(crate) fn waves_over<R: thread::Threads + Wait + Sync>(
+pub(crate) fn waves_over<R: thread::Threads + Wait + Sync + Copy + Send + 'static>(
     rt: &HostRuntime,
     threads: &R,
     words: &WaveWords<'_>,
 ) -> Result<(), RunFault> {
-    let progress = Progress::begin(rt, words.inputs.files.len());
-    let text = waves_of(rt, threads, words, &progress);
-    progress.end(rt);
+    let teller = Teller::begin(rt, threads, words.inputs.files.len());
+    let text = waves_of(rt, threads, words, &teller.progress);
+    teller.end(threads);
     write_out(rt, text?.as_bytes())
 }
 
@@ -46,14 +46,14 @@ fn waves_of<R: thread::Threads + Wait + Sync>(
 }
 
 /// Says to standard output what the loss of each bookie and each rack would cost.
-pub(crate) fn risk_over<R: thread::Threads + Wait + Sync>(
+pub(crate) fn risk_over<R: thread::Threads + Wait + Sync + Copy + Send + 'static>(
     rt: &HostRuntime,
     threads: &R,
     words: &RiskWords<'_>,
 ) -> Result<(), RunFault> {
-    let progress = Progress::begin(rt, words.inputs.files.len());
-    let text = risk_of(rt, threads, words, &progress);
-    progress.end(rt);
+    let teller = Teller::begin(rt, threads, words.inputs.files.len());
+    let text = risk_of(rt, threads, words, &teller.progress);
+    teller.end(threads);
     write_out(rt, text?.as_bytes())
 }
 
