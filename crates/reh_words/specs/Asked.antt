@@ -12,7 +12,7 @@ use Rattle.reh_words.specs.declared.tasks.TheConstants.{MAX_FILES}
 use Rattle.reh_words.specs.declared.tasks.CensusWords.{CensusWords}
 use Rattle.reh_words.specs.declared.tasks.Inputs.{Inputs}
 use Rattle.reh_words.specs.declared.tasks.RiskWords.{RiskWords}
-use Rattle.reh_words.specs.declared.tasks.Stop.{Stop}
+use Rattle.reh_words.specs.declared.tasks.StopWords.{StopWords}
 use Rattle.reh_words.specs.declared.tasks.Task.{Task}
 use Rattle.reh_words.specs.declared.tasks.Task.TheVariants as task
 use Rattle.reh_words.specs.declared.tasks.WaveWords.{WaveWords}
@@ -68,7 +68,7 @@ pub record IsInputs (given : ArgMatches) (inputs : Inputs) : Type 0 where
   pub is_strict : IsFlag given (codes "strict") inputs.strict
 
 -- what `ok-to-stop` is asked
-pub record IsStop (given : ArgMatches) (stop : Stop) : Type 0 where
+pub record IsStop (given : ArgMatches) (stop : StopWords) : Type 0 where
   pub reads : IsInputs given stop.inputs
   pub bookies_are : map (λ word. word.now) stop.bookies.items ≡ words_of given (codes "lose")
   pub racks_are : map (λ word. word.now) stop.racks.items ≡ words_of given (codes "lose-rack")

@@ -5,6 +5,6 @@ mod questions;
 mod tasks;
 
 pub use tasks::{
-    CensusWords, Crew, DrillFiles, Input, Inputs, MAX_FILES, PlanWords, RiskWords, Stop, Task,
-    WaveWords, task_of,
+    CensusWords, Crew, DrillFiles, Inputs, MAX_FILES, PlanWords, PlayWords, RiskWords, StopWords,
+    Task, WaveWords, task_of,
 };

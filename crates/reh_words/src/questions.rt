@@ -2,7 +2,7 @@
 ghost use Rattle.std.specs.Prelude.{◌≡◌, map, IfOk, IfSome};
 ghost use Rattle.reh_words.specs.Asked as model;
 
-use crate::tasks::{CensusWords, Crew, Inputs, MAX_FILES, RiskWords, Stop, Task, WaveWords};
+use crate::tasks::{CensusWords, Crew, Inputs, MAX_FILES, RiskWords, StopWords, Task, WaveWords};
 use clap::ArgMatches;
 use reh_census::{Keep, Question};
 use reh_crew::MAX_WORKERS;
@@ -27,10 +27,10 @@ pub(crate) fn asked_of_files<'a>(
 }
 
 /// What these matches of `ok-to-stop` ask for.
-fn asked_stop<'a>(alloc: Global, given: &ArgMatches<'a>) -> Result<Stop<'a>, AllocError>
+fn asked_stop<'a>(alloc: Global, given: &ArgMatches<'a>) -> Result<StopWords<'a>, AllocError>
     ensures { IfOk result (λ stop. model.IsStop given.now stop) }
 {
-    Ok(Stop {
+    Ok(StopWords {
         inputs: asked_inputs(alloc, given)?,
         bookies: words_of(alloc, given, "lose")?,
         racks: words_of(alloc, given, "lose-rack")?,

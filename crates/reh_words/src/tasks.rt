@@ -15,13 +15,13 @@ use std::alloc::{AllocError, Global};
 #[derive(Drop)]
 pub enum Task<'a> {
     /// Plays a script on a picture.
-    Play(Input<'a>),
+    Play(PlayWords<'a>),
     /// Checks the picture in a file.
     Check { picture: &'a str },
     /// Plays scripts on a picture, each by an operator of its own.
     Drill(DrillFiles<'a>),
     /// Says whether bookies may be stopped.
-    Stop(Stop<'a>),
+    Stop(StopWords<'a>),
     /// Parts the bookies into rounds, each of which may be stopped.
     Waves(WaveWords<'a>),
     /// Says what the next losses cost.
@@ -43,7 +43,7 @@ pub struct DrillFiles<'a> {
 
 /// Where a picture and a script are.
 #[derive(Clone, Copy)]
-pub enum Input<'a> {
+pub enum PlayWords<'a> {
     /// On standard input: a picture, a line `%` and a script.
     Pipe,
     /// The picture in a file, and the script on standard input.
@@ -81,7 +81,7 @@ pub struct Inputs<'a> {
 /// What is asked: may these bookies be stopped, and those of these racks. A word that names no bookie is a list of names
 /// with commas between them.
 #[derive(Drop)]
-pub struct Stop<'a> {
+pub struct StopWords<'a> {
     pub inputs: Inputs<'a>,
     pub bookies: Vec<&'a str>,
     pub racks: Vec<&'a str>,
@@ -142,7 +142,8 @@ A script has a command a line. For example:
   report";
 
 /// What these words ask for, the program's own name first; or `clap`'s text of what is wrong with them, or of help.
-pub fn task_of<'a>(alloc: Global, words: &'a [String]) -> Result<Task<'a>, Error> {
+/// `None` is for words that the parser lets through though they lack what their command needs. There are none.
+pub fn task_of<'a>(alloc: Global, words: &'a [String]) -> Result<Option<Task<'a>>, Error> {
     match command(alloc, WAYS)?.try_get_matches_from(words) {
         Ok(matches) => Ok(asked_task(alloc, &matches)?),
         Err(error) => {
@@ -155,50 +156,60 @@ pub fn task_of<'a>(alloc: Global, words: &'a [String]) -> Result<Task<'a>, Error
 }
 
 /// What these matches ask for.
-fn asked_task<'a>(alloc: Global, matches: &ArgMatches<'a>) -> Result<Task<'a>, AllocError> {
+fn asked_task<'a>(alloc: Global, matches: &ArgMatches<'a>) -> Result<Option<Task<'a>>, AllocError> {
     let Some((name, given)) = matches.subcommand() else {
-        return Ok(Task::Play(Input::Pipe));
+        return Ok(Some(Task::Play(PlayWords::Pipe)));
     };
-    if let Some(task) = asked_of_files(alloc, name, given)? {
-        return Ok(task);
-    }
-    if name == "plan" {
-        return asked_plan(alloc, given);
-    }
-    let scripts = given.get_strs("SCRIPT").unwrap_or(&[]);
-    let workers = given.get_one("workers").unwrap_or(1);
-    match (name, given.get_str("PICTURE"), scripts.first()) {
-        ("check", Some(picture), _) => Ok(Task::Check { picture }),
-        ("talk", Some(picture), _) => Ok(Task::Play(Input::Talk { picture })),
-        ("drill", Some(picture), Some(_)) if scripts.len() <= MAX_OPERATORS => {
-            let scripts = scripts.to_vec(alloc)?;
-            Ok(Task::Drill(DrillFiles { picture, scripts }))
-        }
-        ("run", Some(picture), Some(script)) if 0 < workers && workers <= MAX_WORKERS => {
-            let crew = Crew { workers };
-            Ok(Task::Play(Input::Files {
-                picture,
-                script,
-                crew,
-            }))
-        }
-        // All files are required, so that a run and a drill have both, and a talk and a check their one; and the parser
-        // lets no other number of workers through.
-        _ => Ok(Task::Play(Input::Pipe)),
+    match given.get_str("PICTURE") {
+        Some(picture) => asked_of_picture(alloc, name, given, picture),
+        None => asked_of_files(alloc, name, given),
     }
 }
 
+/// What these matches of a command ask of a picture, if it is one that does.
+fn asked_of_picture<'a>(
+    alloc: Global,
+    command: &str,
+    given: &ArgMatches<'a>,
+    picture: &'a str,
+) -> Result<Option<Task<'a>>, AllocError> {
+    let scripts = given.get_strs("SCRIPT").unwrap_or(&[]);
+    let workers = given.get_one("workers").unwrap_or(1);
+    let task = match (command, scripts.first()) {
+        ("check", _) => Task::Check { picture },
+        ("talk", _) => Task::Play(PlayWords::Talk { picture }),
+        ("plan", _) => Task::Plan(asked_plan(alloc, given, picture)?),
+        ("drill", Some(_)) if scripts.len() <= MAX_OPERATORS => {
+            let scripts = scripts.to_vec(alloc)?;
+            Task::Drill(DrillFiles { picture, scripts })
+        }
+        ("run", Some(script)) if 0 < workers && workers <= MAX_WORKERS => {
+            let crew = Crew { workers };
+            Task::Play(PlayWords::Files {
+                picture,
+                script,
+                crew,
+            })
+        }
+        // The parser asks for a script, and lets no other number of scripts or workers through.
+        _ => return Ok(None),
+    };
+    Ok(Some(task))
+}
+
 /// What these matches of `plan` ask for.
-fn asked_plan<'a>(alloc: Global, given: &ArgMatches<'a>) -> Result<Task<'a>, AllocError> {
-    // The picture is required.
-    let picture = given.get_str("PICTURE").unwrap_or("");
+fn asked_plan<'a>(
+    alloc: Global,
+    given: &ArgMatches<'a>,
+    picture: &'a str,
+) -> Result<PlanWords<'a>, AllocError> {
     let lost = given.get_strs("lose").unwrap_or(&[]);
     let allowed = given.get_strs("to").unwrap_or(&[]);
-    Ok(Task::Plan(PlanWords {
+    Ok(PlanWords {
         picture,
         lost: lost.to_vec(alloc)?,
         allowed: allowed.to_vec(alloc)?,
-    }))
+    })
 }
 
 /// Help, as an error, for words that ask for it. It has the list of commands, which is made here alone.
@@ -240,6 +251,9 @@ fn command<'a>(alloc: Global, ways: &'a str) -> Result<Command<'a>, Error> {
     Ok(command)
 }
 
+/// What is said after the help of a command that plays.
+const UNREAD: &str = "Where a picture is refused or can't be read, check says where and why.";
+
 /// The command `run`.
 fn run_command<'a>(alloc: Global) -> Result<Command<'a>, Error> {
     let script = Arg::new(alloc, "SCRIPT")
@@ -250,6 +264,7 @@ fn run_command<'a>(alloc: Global) -> Result<Command<'a>, Error> {
     );
     let command = Command::new(alloc, "run")
         .about("Plays a script on a picture, each in a file")
+        .after_help(UNREAD)
         .arg(picture_arg(alloc))?
         .arg(script)?
         .arg(workers)?;
@@ -260,6 +275,7 @@ fn run_command<'a>(alloc: Global) -> Result<Command<'a>, Error> {
 fn talk_command<'a>(alloc: Global) -> Result<Command<'a>, Error> {
     let command = Command::new(alloc, "talk")
         .about("Plays what is typed on a picture: each line is answered before more is read")
+        .after_help(UNREAD)
         .arg(picture_arg(alloc))?;
     Ok(command)
 }
@@ -280,6 +296,7 @@ fn drill_command<'a>(alloc: Global) -> Result<Command<'a>, Error> {
         .help("Files with the scripts of the operators, 1 to 8");
     let command = Command::new(alloc, "drill")
         .about("Plays scripts on a picture, each by an operator with a thread of its own")
+        .after_help(UNREAD)
         .arg(picture_arg(alloc))?
         .arg(scripts)?;
     Ok(command)

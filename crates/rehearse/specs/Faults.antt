@@ -1,5 +1,5 @@
 -- The statuses and texts of faults.
-use Rattle.std.specs.Prelude.{ℕ, List, ◌++◌, Result, Ok, Err, codes, string_bytes}
+use Rattle.std.specs.Prelude.{ℕ, List, ◌++◌, Option, None, Some, Result, Ok, Err, codes, string_bytes}
 use Rattle.std.specs.Fmt.{decimal}
 use Rattle.reh_desk.specs.declared.desks.CloseCause.{CloseCause}
 use Rattle.reh_desk.specs.declared.desks.CloseCause.TheVariants.{Seats, StillOut, Mismatch}
@@ -16,7 +16,7 @@ use Rattle.reh_script.specs.declared.faults.PipeFault.TheVariants as pipe_fault
 use Rattle.rehearse.specs.declared.faults.RunFault.{RunFault}
 use Rattle.reh_lines.specs.declared.streams.StreamFault.{StreamFault}
 use Rattle.rehearse.specs.declared.faults.RunFault.TheVariants.{Picture, ReadFault, TooLong, WriteFault, NoMemory}
-use Rattle.rehearse.specs.declared.faults.RunFault.TheVariants.{NoThread, Refused, RefusedIn, Unfit, Misnamed, Unread, Close}
+use Rattle.rehearse.specs.declared.faults.RunFault.TheVariants.{NoThread, Refused, Unfit, Misnamed, Unread, Close}
 
 -- how a run ends once its answers were flushed: a failed flush is a write fault where answers were lost, and any
 -- other fault stays
@@ -30,8 +30,7 @@ end_after_flush (Err fault) (Err lost) = Err fault
 -- the exit status of a run that ends so
 abbrev pub status_number : RunFault → ℕ
 status_number (Picture fault) = 3
-status_number (Refused located) = 3
-status_number (RefusedIn path located) = 3
+status_number (Refused path located) = 3
 status_number (Unfit reason) = 3
 status_number (Misnamed reason) = 2
 status_number (Unread reason) = 4
@@ -48,11 +47,16 @@ cause_text Seats = codes "1 Seats"
 cause_text (StillOut count) = codes "2 StillOut " ++ decimal count
 cause_text (Mismatch number) = codes "3 Mismatch " ++ decimal number
 
+-- the fault as a rehearsal tells it: of a read that failed neither the file nor the reason
+abbrev pub untold : RunFault → RunFault
+untold (Unread reason) = ReadFault
+untold fault = fault
+
 -- what standard error shows
 abbrev pub run_fault_text : RunFault → List ℕ
 run_fault_text (Picture fault) = codes "picture: " ++ fault_text fault
-run_fault_text (Refused located) = codes "picture: " ++ located_text located
-run_fault_text (RefusedIn path located) = codes "picture " ++ (string_bytes path ++ (codes ": " ++ located_text located))
+run_fault_text (Refused None located) = codes "picture: " ++ located_text located
+run_fault_text (Refused (Some path) located) = codes "picture " ++ (string_bytes path ++ (codes ": " ++ located_text located))
 run_fault_text (Unfit reason) = string_bytes reason
 run_fault_text (Misnamed reason) = string_bytes reason
 run_fault_text (Unread reason) = string_bytes reason
@@ -85,4 +89,4 @@ run_fault_of_drill (drill_fault.Close cause) = Close cause
 -- the fault of a picture that is checked as the run's
 abbrev pub refused_by : PictureFault → LocatedFault → RunFault
 refused_by picture_fault.NoMemory located = NoMemory
-refused_by fault located = Refused located
+refused_by fault located = Refused None located

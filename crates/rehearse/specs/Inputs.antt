@@ -24,7 +24,7 @@ use Rattle.reh_stop.specs.declared.stops.Said.{Said}
 use Rattle.reh_words.specs.declared.tasks.CensusWords.{CensusWords}
 use Rattle.reh_words.specs.declared.tasks.Inputs.{Inputs}
 use Rattle.reh_words.specs.declared.tasks.RiskWords.{RiskWords}
-use Rattle.reh_words.specs.declared.tasks.Stop.{Stop}
+use Rattle.reh_words.specs.declared.tasks.StopWords.{StopWords}
 use Rattle.reh_words.specs.declared.tasks.WaveWords.{WaveWords}
 use Rattle.rehearse.specs.declared.faults.RunFault.{RunFault}
 use Rattle.rehearse.specs.declared.faults.RunFault.TheVariants.{NoMemory, Unfit}
@@ -45,7 +45,7 @@ pub record IsOfFiles (words : Inputs) (gathered : Gathered) : Type 0 where
   pub gathers : Gathers inputs words.strict gathered
 
 -- what is said of a stop, by all files
-pub record SaysStop (words : Stop) (said : Said) : Type 0 where
+pub record SaysStop (words : StopWords) (said : Said) : Type 0 where
   pub gathered : Gathered
   pub of_files : IsOfFiles words.inputs gathered
   pub asked : Asked

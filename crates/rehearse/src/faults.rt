@@ -1,6 +1,6 @@
 // Why a run ends early.
 ghost use Rattle.std.specs.Prelude.{◌≡◌};
-ghost use Rattle.rehearse.specs.Faults.{status_number, end_after_flush};
+ghost use Rattle.rehearse.specs.Faults.{status_number, end_after_flush, untold};
 
 use reh_desk::CloseCause;
 use reh_drill::DrillFault;
@@ -16,17 +16,15 @@ use std::{fmt, io};
 pub enum RunFault {
     /// The picture is refused.
     Picture(PictureFault),
-    /// The picture that is checked is refused.
-    Refused(LocatedFault),
-    /// This picture of several is refused.
-    RefusedIn(String, LocatedFault),
+    /// The picture is refused, and where: the one that is checked or planned for, or the one of several in this file.
+    Refused(Option<String>, LocatedFault),
     /// Inputs can't be judged together, for the reason that this says.
     Unfit(String),
     /// Bookies of the command line are misnamed, as this says.
     Misnamed(String),
-    /// The file of the picture that is checked can't be opened or read, for the reason that this says.
+    /// A file can't be opened or read, for the reason that this says.
     Unread(String),
-    /// A read failed.
+    /// A read failed, or a file can't be opened, of a rehearsal, whose fault names neither file nor reason.
     ReadFault,
     /// The script is longer than 1,048,576 bytes, or a plan would be.
     TooLong,
@@ -40,16 +38,25 @@ pub enum RunFault {
     Close(CloseCause),
 }
 
+impl RunFault {
+    /// The fault as a rehearsal tells it, which names neither file nor reason of a read that failed.
+    pub(crate) fn without_reason(self) -> RunFault
+        ensures { result ≡ untold self.entry }
+    {
+        match self {
+            RunFault::Unread(_) => RunFault::ReadFault,
+            fault => fault,
+        }
+    }
+}
+
 /// The exit status of a fault.
 pub fn status_of(fault: &RunFault) -> u8
     ensures { result ≡ status_number fault.now }
 {
     match fault {
         RunFault::Misnamed(_) => 2,
-        RunFault::Picture(_)
-        | RunFault::Refused(_)
-        | RunFault::RefusedIn(..)
-        | RunFault::Unfit(_) => 3,
+        RunFault::Picture(_) | RunFault::Refused(..) | RunFault::Unfit(_) => 3,
         RunFault::Unread(_) | RunFault::ReadFault | RunFault::TooLong => 4,
         RunFault::WriteFault => 5,
         RunFault::NoMemory => 6,
@@ -66,8 +73,8 @@ impl fmt::Display for RunFault {
     fn fmt<W: fmt::Write>(&self, f: &mut fmt::Formatter<W>) -> fmt::Result {
         match self {
             RunFault::Picture(fault) => write!(f, "picture: {fault}"),
-            RunFault::Refused(located) => write!(f, "picture: {located}"),
-            RunFault::RefusedIn(path, located) => write!(f, "picture {path}: {located}"),
+            RunFault::Refused(None, located) => write!(f, "picture: {located}"),
+            RunFault::Refused(Some(path), located) => write!(f, "picture {path}: {located}"),
             RunFault::Unfit(reason) => write!(f, "{reason}"),
             RunFault::Misnamed(reason) => write!(f, "{reason}"),
             RunFault::Unread(reason) => write!(f, "{reason}"),
@@ -162,7 +169,7 @@ impl From<LocatedFault> for RunFault {
     fn from(located: LocatedFault) -> RunFault {
         match &located.fault {
             PictureFault::NoMemory => RunFault::NoMemory,
-            _ => RunFault::Refused(located),
+            _ => RunFault::Refused(None, located),
         }
     }
 }

@@ -1,14 +1,15 @@
-// Files that are read as text.
+// Files that are read, and what is written to standard output.
 ghost use Rattle.std.specs.Prelude.{◌≡◌, false, None, length, IfOk, OnOk, ◌+◌};
 ghost use Rattle.std.specs.Io.{ReadsAtMost};
 
 use crate::faults::RunFault;
+use reh_census_file::is_census;
 use reh_script::{FromRead, StreamFault, TextIn};
-use reh_types::MAX_SCRIPT_BYTES;
-use std::alloc::AllocError;
-use std::fs;
+use reh_types::{MAX_PICTURE_BYTES, MAX_SCRIPT_BYTES};
+use std::alloc::{AllocError, Global};
 use std::fs::File;
-use std::io::Read;
+use std::io::{Read, Write};
+use std::{fs, io};
 
 /// A file that is opened at its first read, so that what is read before it is judged before it.
 #[derive(Drop)]
@@ -53,15 +54,15 @@ impl<'a> LateFile<'a> {
         if let Some(file) = &mut self.file {
             return file.take(buffer);
         }
-        match fs::open(self.rt, self.path) {
+        match open_file(self.rt, self.path) {
             Ok(file) => {
                 let mut file = FromRead::new(file);
                 let taken = file.take(buffer);
                 self.file = Some(file);
                 taken
             }
-            Err(error) => {
-                self.unopened = Some(RunFault::from(error));
+            Err(fault) => {
+                self.unopened = Some(fault);
                 Err(StreamFault)
             }
         }
@@ -87,12 +88,90 @@ impl TextIn for LateFile<'_> {
     }
 }
 
-/// The first bytes of a file, at most so many.
-pub(crate) fn read_file(rt: &HostRuntime, path: &str, most: u64) -> Result<Vec<u8>, RunFault> {
-    let file = fs::open(rt, path)?;
+/// The file of this path; or that it can't be opened, and the system's reason.
+pub(crate) fn open_file(rt: &HostRuntime, path: &str) -> Result<File, RunFault> {
+    fs::open(rt, path).map_err(|error| unread(rt.alloc(), "open", path, error))
+}
+
+/// Reads on in a file, up to so many bytes more; or says that it can't be read, and the system's reason.
+fn read_on(
+    rt: &HostRuntime,
+    path: &str,
+    file: File,
+    most: u64,
+    bytes: &mut Vec<u8>,
+) -> Result<File, RunFault> {
+    let mut part = file.take(most);
+    part.read_to_end(bytes)
+        .map_err(|error| unread(rt.alloc(), "read", path, error))?;
+    Ok(part.into_inner())
+}
+
+/// How many bytes of a picture are read: a byte more than one may have.
+const PICTURE_BYTES: u64 = MAX_PICTURE_BYTES as u64 + 1;
+
+/// How many bytes of a census are read after as many as of a picture: a longer one is cut.
+const MORE_CENSUS_BYTES: u64 = 1 << 28;
+
+/// The bytes of a picture's file.
+pub(crate) fn read_picture(rt: &HostRuntime, path: &str) -> Result<Vec<u8>, RunFault> {
     let mut bytes = Vec::new(rt.alloc());
-    file.take(most).read_to_end(&mut bytes)?;
+    read_on(rt, path, open_file(rt, path)?, PICTURE_BYTES, &mut bytes)?;
     Ok(bytes)
+}
+
+/// The bytes of an input's file: all of a census, and of a picture as many as are read of one.
+pub(crate) fn read_input_file(rt: &HostRuntime, path: &str) -> Result<Vec<u8>, RunFault> {
+    let mut bytes = Vec::new(rt.alloc());
+    let file = read_on(rt, path, open_file(rt, path)?, PICTURE_BYTES, &mut bytes)?;
+    if is_census(&bytes) {
+        read_on(rt, path, file, MORE_CENSUS_BYTES, &mut bytes)?;
+    }
+    Ok(bytes)
+}
+
+/// The bytes of a script's file, and of a longer one a byte more than a script may have.
+fn read_script(rt: &HostRuntime, path: &str) -> Result<Vec<u8>, RunFault> {
+    let mut bytes = Vec::new(rt.alloc());
+    read_on(
+        rt,
+        path,
+        open_file(rt, path)?,
+        MAX_SCRIPT_BYTES as u64 + 1,
+        &mut bytes,
+    )?;
+    Ok(bytes)
+}
+
+/// That a file can't be opened or read, or out of memory.
+fn unread(alloc: Global, failed: &str, path: &str, error: io::Error) -> RunFault {
+    match RunFault::from(error) {
+        RunFault::NoMemory => RunFault::NoMemory,
+        _ => match unread_text(alloc, failed, path, error) {
+            Ok(text) => RunFault::Unread(text),
+            Err(want) => RunFault::from(want),
+        },
+    }
+}
+
+/// What could not be done with a file, and the system's reason.
+fn unread_text(
+    alloc: Global,
+    failed: &str,
+    path: &str,
+    error: io::Error,
+) -> Result<String, AllocError> {
+    let said = format!(in alloc; "{error}")?;
+    let reason = without_number(said.as_str());
+    format!(in alloc; "cannot {failed} {path}: {reason}")
+}
+
+/// A system's reason without the number that comes after it.
+fn without_number(reason: &str) -> &str {
+    match reason.split_once(" (os error ") {
+        Some((words, _)) => words,
+        None => reason,
+    }
 }
 
 /// The scripts in these files, in order, and of a longer one a byte more than a script may have.
@@ -101,7 +180,7 @@ pub(crate) fn read_scripts(rt: &HostRuntime, paths: &[&str]) -> Result<Vec<Vec<u
 {
     let mut scripts = Vec::new(rt.alloc());
     for path in paths {
-        let script = read_file(rt, path, MAX_SCRIPT_BYTES as u64 + 1)?;
+        let script = read_script(rt, path)?;
         push_script(&mut scripts, script)?;
     }
     Ok(scripts)
@@ -113,4 +192,13 @@ fn push_script(scripts: &mut Vec<Vec<u8>>, script: Vec<u8>) -> Result<(), AllocE
 {
     scripts.push(script)?;
     Ok(())
+}
+
+/// Writes bytes to standard output.
+pub(crate) fn write_out(rt: &HostRuntime, bytes: &[u8]) -> Result<(), RunFault> {
+    let mut writer = io::writer(rt);
+    match writer.write_all(bytes).and_then(|()| writer.flush()) {
+        Ok(()) => Ok(()),
+        Err(_) => Err(RunFault::WriteFault),
+    }
 }

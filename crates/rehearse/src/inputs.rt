@@ -5,8 +5,9 @@ ghost use Rattle.reh_inputs.specs.Gathered.{Gathers};
 ghost use Rattle.reh_inputs.specs.Named.{taken_of as model_taken};
 ghost use Rattle.rehearse.specs.Inputs as model;
 
-use crate::checks::{read_input_file, write_text};
 use crate::faults::RunFault;
+use crate::files::{read_input_file, write_out};
+use crate::progress::{Progress, Teller};
 use reh_census_file::{CensusFault, NamedCensus, census_text};
 use reh_census_json::census_json;
 use reh_inputs::{
@@ -25,10 +26,11 @@ pub(crate) fn gather_files<R: thread::Threads + Wait + Sync>(
     rt: &HostRuntime,
     threads: &R,
     inputs: &Inputs<'_>,
+    progress: &Progress,
 ) -> Result<Gathered, RunFault>
     ensures { IfOk result (λ gathered. model.IsOfFiles inputs.now gathered) }
 {
-    let read = read_files(rt, threads, inputs)?;
+    let read = read_files(rt, threads, inputs, progress)?;
     let gathered = gather_read(threads, rt.alloc(), inputs, &read)?;
     let_go(threads, read, inputs.crew.workers);
     Ok(gathered)
@@ -50,13 +52,15 @@ fn gather_read<R: thread::Threads + Sync>(
 }
 
 /// Says to standard output what the census of the files is.
-pub(crate) fn census_over<R: thread::Threads + Wait + Sync>(
+pub(crate) fn census_over<R: thread::Threads + Wait + Sync + Copy + Send + 'static>(
     rt: &HostRuntime,
     threads: &R,
     words: &CensusWords<'_>,
 ) -> Result<(), RunFault> {
-    let text = census_of(rt, threads, words)?;
-    write_text(rt, text.as_str()).map_err(|_| RunFault::WriteFault)
+    let teller = Teller::begin(rt, threads, words.inputs.files.len());
+    let text = census_of(rt, threads, words, &teller.progress);
+    teller.end(threads);
+    write_out(rt, text?.as_bytes())
 }
 
 /// The census of the files, as text or as JSON.
@@ -64,11 +68,12 @@ fn census_of<R: thread::Threads + Wait + Sync>(
     rt: &HostRuntime,
     threads: &R,
     words: &CensusWords<'_>,
+    progress: &Progress,
 ) -> Result<String, RunFault>
     ensures { IfOk result (λ text. model.SaysCensus words.now text) }
 {
     let inputs = &words.inputs;
-    let read = read_files(rt, threads, inputs)?;
+    let read = read_files(rt, threads, inputs, progress)?;
     let gathered = gather_read(threads, rt.alloc(), inputs, &read)?;
     let taken = copy_taken(rt.alloc(), &read)?;
     let_go(threads, read, inputs.crew.workers);
@@ -107,6 +112,7 @@ fn read_files<R: thread::Threads + Wait + Sync>(
     rt: &HostRuntime,
     threads: &R,
     inputs: &Inputs<'_>,
+    progress: &Progress,
 ) -> Result<Vec<Input>, RunFault>
     ensures each { IfOk result (λ read. length read.items ≡ vec_len inputs.now.files) }
     ensures read { IfOk result (λ read. All model.IsOfBytes read.items) }
@@ -122,6 +128,7 @@ fn read_files<R: thread::Threads + Wait + Sync>(
             ensures { model.IsInSlot slot.exit.now }
         {
             *slot = Some(read_one(rt, files[number]));
+            progress.count();
         },
     );
     read_of(rt.alloc(), slots)
@@ -196,7 +203,7 @@ fn unreadable(alloc: Global, path: &str, fault: InputFault) -> RunFault {
 fn refused(alloc: Global, path: &str, located: LocatedFault) -> Result<RunFault, AllocError> {
     match &located.fault {
         PictureFault::NoMemory => Ok(RunFault::NoMemory),
-        _ => Ok(RunFault::RefusedIn(format!(in alloc; "{path}")?, located)),
+        _ => Ok(RunFault::Refused(Some(format!(in alloc; "{path}")?), located)),
     }
 }
 

@@ -10,6 +10,7 @@ mod files;
 mod inputs;
 mod names;
 mod plans;
+mod progress;
 mod runs;
 mod stops;
 mod waves;
@@ -17,19 +18,18 @@ mod waves;
 use checks::check_file;
 use clap::Error;
 use faults::{RunFault, after_flush, status_of, want_of_memory};
-use files::{LateFile, read_file, read_scripts};
+use files::{LateFile, open_file, read_picture, read_scripts};
 use inputs::census_over;
 use plans::plan_file;
 use reh_crew::{OpenGate, Plain};
 use reh_drill::drill_over;
 use reh_script::{FromRead, Gathered, TextOut, ToWrite, pipe, run};
-use reh_types::MAX_PICTURE_BYTES;
-use reh_words::{Crew, DrillFiles, Input, Task, task_of};
+use reh_words::{Crew, DrillFiles, PlayWords, Task, task_of};
 use runs::run_by;
 use std::process::ExitCode;
 use std::sync::Wait;
 use std::thread::Threads;
-use std::{env, fs, io};
+use std::{env, io};
 use stops::stop_over;
 use waves::{risk_over, waves_over};
 
@@ -39,19 +39,35 @@ fn main(rt: HostRuntime) -> ExitCode {
         Err(fault) => return end(&rt, Err(fault)),
     };
     match task_of(rt.alloc(), &words) {
-        Ok(Task::Play(input)) => end(&rt, play(&rt, &rt, input)),
-        Ok(Task::Check { picture }) => end(&rt, check_file(&rt, picture)),
-        Ok(Task::Drill(files)) => end(&rt, drill(&rt, &rt, files)),
-        Ok(Task::Stop(stop)) => match stop_over(&rt, &rt, &stop) {
-            Ok(status) => ExitCode::from(status),
-            Err(fault) => end(&rt, Err(fault)),
-        },
-        Ok(Task::Waves(words)) => end(&rt, waves_over(&rt, &rt, &words)),
-        Ok(Task::Risk(words)) => end(&rt, risk_over(&rt, &rt, &words)),
-        Ok(Task::Census(words)) => end(&rt, census_over(&rt, &rt, &words)),
-        Ok(Task::Plan(words)) => end(&rt, plan_file(&rt, &words)),
+        Ok(Some(task)) => perform(&rt, &rt, task),
+        Ok(None) => {
+            let _ = eprintln!(rt; "nothing is asked");
+            ExitCode::from(2)
+        }
         Err(error) => show(&rt, &error),
     }
+}
+
+/// Does what is asked, and says why where it can't be done.
+fn perform<R: Threads + Wait + Sync + Copy + Send + 'static>(
+    rt: &HostRuntime,
+    threads: &R,
+    task: Task<'_>,
+) -> ExitCode {
+    let done = match task {
+        Task::Play(input) => play(rt, threads, input),
+        Task::Check { picture } => check_file(rt, picture),
+        Task::Drill(files) => drill(rt, threads, files),
+        Task::Stop(stop) => match stop_over(rt, threads, &stop) {
+            Ok(status) => return ExitCode::from(status),
+            Err(fault) => Err(fault),
+        },
+        Task::Waves(words) => waves_over(rt, threads, &words),
+        Task::Risk(words) => risk_over(rt, threads, &words),
+        Task::Census(words) => census_over(rt, threads, &words),
+        Task::Plan(words) => plan_file(rt, &words),
+    };
+    end(rt, done)
 }
 
 /// The words of the command line. A word that is no text names no file.
@@ -90,16 +106,16 @@ fn show(rt: &HostRuntime, error: &Error) -> ExitCode {
 fn play<R: Threads + Wait + Sync>(
     rt: &HostRuntime,
     threads: &R,
-    input: Input<'_>,
+    input: PlayWords<'_>,
 ) -> Result<(), RunFault> {
     let mut writer = Gathered::new(rt.alloc(), ToWrite::new(io::writer(rt)))?;
     let played = match input {
-        Input::Pipe => {
+        PlayWords::Pipe => {
             let mut reader = FromRead::new(rt.reader());
             pipe(rt.alloc(), &Plain, &mut reader, &mut writer).map_err(RunFault::from)
         }
-        Input::Talk { picture } => talk(rt, picture, &mut writer),
-        Input::Files {
+        PlayWords::Talk { picture } => talk(rt, picture, &mut writer),
+        PlayWords::Files {
             picture,
             script,
             crew,
@@ -113,7 +129,7 @@ fn play<R: Threads + Wait + Sync>(
 fn talk<W: TextOut>(rt: &HostRuntime, picture: &str, writer: &mut W) -> Result<(), RunFault>
     requires { W.has_failed writer.old ≡ false }
 {
-    let mut picture = FromRead::new(fs::open(rt, picture)?);
+    let mut picture = FromRead::new(open_file(rt, picture).map_err(RunFault::without_reason)?);
     let mut script = FromRead::new(rt.reader());
     run(rt.alloc(), &Plain, &mut picture, &mut script, writer)?;
     Ok(())
@@ -130,11 +146,11 @@ fn run_files<R: Threads + Wait + Sync, W: TextOut>(
 ) -> Result<(), RunFault>
     requires { W.has_failed writer.old ≡ false }
 {
-    let mut picture = FromRead::new(fs::open(rt, picture)?);
+    let mut picture = FromRead::new(open_file(rt, picture).map_err(RunFault::without_reason)?);
     let mut script = LateFile::new(rt, script);
     let played = run_by(threads, rt.alloc(), crew, &mut picture, &mut script, writer);
     match script.into_unopened() {
-        Some(fault) => Err(fault),
+        Some(fault) => Err(fault.without_reason()),
         None => played.map_err(RunFault::from),
     }
 }
@@ -145,8 +161,8 @@ fn drill<R: Threads + Wait + Sync>(
     threads: &R,
     files: DrillFiles<'_>,
 ) -> Result<(), RunFault> {
-    let picture = read_file(rt, files.picture, MAX_PICTURE_BYTES as u64 + 1)?;
-    let scripts = read_scripts(rt, &files.scripts)?;
+    let picture = read_picture(rt, files.picture).map_err(RunFault::without_reason)?;
+    let scripts = read_scripts(rt, &files.scripts).map_err(RunFault::without_reason)?;
     let mut writer = Gathered::new(rt.alloc(), ToWrite::new(io::writer(rt)))?;
     let drilled = drill_over(
         threads,

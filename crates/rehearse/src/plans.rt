@@ -1,6 +1,6 @@
 // What is to be done without some bookies, planned from the file of a picture.
-use crate::checks::read_picture_file;
 use crate::faults::RunFault;
+use crate::files::{read_picture, write_out};
 use crate::names::{named_twice, unknown};
 use reh_cluster::Names;
 use reh_picture::check_picture;
@@ -8,12 +8,10 @@ use reh_plan::{PlanFault, find_bookies, first_unknown, plan};
 use reh_types::{BookieIx, BookieSet, MAX_BOOKIES};
 use reh_words::PlanWords;
 use std::alloc::Global;
-use std::io;
-use std::io::Write;
 
 /// Writes the plan to standard output.
 pub(crate) fn plan_file(rt: &HostRuntime, words: &PlanWords<'_>) -> Result<(), RunFault> {
-    let bytes = read_picture_file(rt, words.picture)?;
+    let bytes = read_picture(rt, words.picture)?;
     let state = check_picture(rt.alloc(), &bytes)?;
     let lost = bookies_of(rt.alloc(), words.picture, state.names(), &words.lost)?;
     let allowed = if words.allowed.is_empty() {
@@ -22,17 +20,10 @@ pub(crate) fn plan_file(rt: &HostRuntime, words: &PlanWords<'_>) -> Result<(), R
         bookies_of(rt.alloc(), words.picture, state.names(), &words.allowed)?
     };
     match plan(rt.alloc(), state, &lost, &allowed) {
-        Ok(plan) => write_bytes(rt, plan.text()).map_err(|_| RunFault::WriteFault),
+        Ok(plan) => write_out(rt, plan.text()),
         Err(PlanFault::NoMemory) => Err(RunFault::NoMemory),
         Err(PlanFault::NoRoom) => Err(RunFault::TooLong),
     }
-}
-
-/// Writes bytes to standard output.
-fn write_bytes(rt: &HostRuntime, bytes: &[u8]) -> io::Result<()> {
-    let mut writer = io::writer(rt);
-    writer.write_all(bytes)?;
-    writer.flush()
 }
 
 /// The bookies of a picture that these words name.

@@ -2,25 +2,29 @@
 ghost use Rattle.std.specs.Prelude.{IfOk};
 ghost use Rattle.rehearse.specs.Inputs.{SaysStop};
 
-use crate::checks::write_text;
 use crate::faults::RunFault;
+use crate::files::write_out;
 use crate::inputs::{gather_files, too_many};
 use crate::names::{ambiguous, named_again, nobody, unknown_rack, unknown_to_all};
+use crate::progress::{Progress, Teller};
 use reh_inputs::ClusterNames;
 use reh_stop::{Asked, Said, StopFault, answer_stop};
-use reh_words::Stop;
+use reh_words::StopWords;
 use std::alloc::Global;
 use std::sync::Wait;
 use std::thread;
 
 /// Says to standard output whether the bookies may be stopped, and gives the status.
-pub(crate) fn stop_over<R: thread::Threads + Wait + Sync>(
+pub(crate) fn stop_over<R: thread::Threads + Wait + Sync + Copy + Send + 'static>(
     rt: &HostRuntime,
     threads: &R,
-    stop: &Stop<'_>,
+    stop: &StopWords<'_>,
 ) -> Result<u8, RunFault> {
-    let said = said_of(rt, threads, stop)?;
-    write_text(rt, said.text.as_str()).map_err(|_| RunFault::WriteFault)?;
+    let teller = Teller::begin(rt, threads, stop.inputs.files.len());
+    let said = said_of(rt, threads, stop, &teller.progress);
+    teller.end(threads);
+    let said = said?;
+    write_out(rt, said.text.as_bytes())?;
     Ok(said.status)
 }
 
@@ -28,11 +32,12 @@ pub(crate) fn stop_over<R: thread::Threads + Wait + Sync>(
 fn said_of<R: thread::Threads + Wait + Sync>(
     rt: &HostRuntime,
     threads: &R,
-    stop: &Stop<'_>,
+    stop: &StopWords<'_>,
+    progress: &Progress,
 ) -> Result<Said, RunFault>
     ensures { IfOk result (λ said. SaysStop stop.now said) }
 {
-    let gathered = gather_files(rt, threads, &stop.inputs)?;
+    let gathered = gather_files(rt, threads, &stop.inputs, progress)?;
     let asked = Asked {
         bookies: &stop.bookies,
         racks: &stop.racks,

@@ -2,9 +2,10 @@
 ghost use Rattle.std.specs.Prelude.{IfOk};
 ghost use Rattle.rehearse.specs.Inputs.{SaysRisk, SaysWaves};
 
-use crate::checks::write_text;
 use crate::faults::RunFault;
+use crate::files::write_out;
 use crate::inputs::{gather_files, unfit};
+use crate::progress::{Progress, Teller};
 use reh_stop::{AskedRisk, AskedWaves, RoundFault, answer_risk, answer_waves};
 use reh_words::{RiskWords, WaveWords};
 use std::alloc::Global;
@@ -12,13 +13,15 @@ use std::sync::Wait;
 use std::thread;
 
 /// Says to standard output in which rounds the bookies may be stopped.
-pub(crate) fn waves_over<R: thread::Threads + Wait + Sync>(
+pub(crate) fn waves_over<R: thread::Threads + Wait + Sync + Copy + Send + 'static>(
     rt: &HostRuntime,
     threads: &R,
     words: &WaveWords<'_>,
 ) -> Result<(), RunFault> {
-    let text = waves_of(rt, threads, words)?;
-    write_text(rt, text.as_str()).map_err(|_| RunFault::WriteFault)
+    let teller = Teller::begin(rt, threads, words.inputs.files.len());
+    let text = waves_of(rt, threads, words, &teller.progress);
+    teller.end(threads);
+    write_out(rt, text?.as_bytes())
 }
 
 /// What is said of rounds, by all files.
@@ -26,10 +29,11 @@ fn waves_of<R: thread::Threads + Wait + Sync>(
     rt: &HostRuntime,
     threads: &R,
     words: &WaveWords<'_>,
+    progress: &Progress,
 ) -> Result<String, RunFault>
     ensures { IfOk result (λ text. SaysWaves words.now text) }
 {
-    let gathered = gather_files(rt, threads, &words.inputs)?;
+    let gathered = gather_files(rt, threads, &words.inputs, progress)?;
     let asked = AskedWaves {
         question: words.question,
         by_rack: words.by_rack,
@@ -42,13 +46,15 @@ fn waves_of<R: thread::Threads + Wait + Sync>(
 }
 
 /// Says to standard output what the loss of each bookie and each rack would cost.
-pub(crate) fn risk_over<R: thread::Threads + Wait + Sync>(
+pub(crate) fn risk_over<R: thread::Threads + Wait + Sync + Copy + Send + 'static>(
     rt: &HostRuntime,
     threads: &R,
     words: &RiskWords<'_>,
 ) -> Result<(), RunFault> {
-    let text = risk_of(rt, threads, words)?;
-    write_text(rt, text.as_str()).map_err(|_| RunFault::WriteFault)
+    let teller = Teller::begin(rt, threads, words.inputs.files.len());
+    let text = risk_of(rt, threads, words, &teller.progress);
+    teller.end(threads);
+    write_out(rt, text?.as_bytes())
 }
 
 /// What is said of the next losses, by all files.
@@ -56,10 +62,11 @@ fn risk_of<R: thread::Threads + Wait + Sync>(
     rt: &HostRuntime,
     threads: &R,
     words: &RiskWords<'_>,
+    progress: &Progress,
 ) -> Result<String, RunFault>
     ensures { IfOk result (λ text. SaysRisk words.now text) }
 {
-    let gathered = gather_files(rt, threads, &words.inputs)?;
+    let gathered = gather_files(rt, threads, &words.inputs, progress)?;
     let asked = AskedRisk {
         question: words.question,
         with_pairs: words.with_pairs,
