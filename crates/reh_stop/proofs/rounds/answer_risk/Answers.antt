@@ -1,7 +1,8 @@
 -- The names, the racks, their order, the cost and the text.
-use Rattle.std.proofs.Common.{◌≡◌, ◌∙◌, ap, sym, subst, ℕ, List, length}
+use Rattle.std.proofs.Common.{◌≡◌, ◌∙◌, ap, sym, subst, ℕ, List, String, Global, length}
 use Rattle.std.specs.List.Sorted.{IsPermutation}
 use Rattle.reh_census.specs.Striping.{range}
+use Rattle.reh_waves.specs.Json.{ArePrintable}
 use Rattle.reh_stop.specs.Rounds.{IsCost, risk_by}
 use Rattle.reh_stop.proofs.rounds.answer_risk.Goals as goal
 
@@ -13,8 +14,8 @@ cost_of-requires c =
     (subst (λ (order : List ℕ). IsPermutation (range 0 (length names)) order) (sym c.deref.ensures.value)
     c.in_ok-order.ensures.permutation)
 
-pub returns : goal.returns
-returns c = record {
+pub returns-clause-said : goal.returns-clause-said
+returns-clause-said c = record {
   names = c.names_of-names.result.now;
   are_names = c.names_of-names.ensures.names;
   racks = c.in_ok-racks.racks.items;
@@ -25,6 +26,9 @@ returns c = record {
   is_cost =
       subst (λ (order : List ℕ). IsCost c.args.gathered.now c.args.asked.now order c.in_ok-risk.risk) c.deref.ensures.value
       c.in_ok-risk.ensures;
-  says = c.in_ok-text.ensures ∙ ap (λ racks. risk_by c.args.asked.now.as_json c.names_of-names.result.now racks c.in_ok-risk.risk)
+  says = c.in_ok-text.ensures.text ∙ ap (λ racks. risk_by c.args.asked.now.as_json c.names_of-names.result.now racks c.in_ok-risk.risk)
       c.deref-2.ensures.value;
+  printable = λ json.
+      let p = c.in_ok-text.ensures.printable json in
+      (p.0, subst (λ (racks : List (String Global)). ArePrintable racks) c.deref-2.ensures.value p.1);
 }
