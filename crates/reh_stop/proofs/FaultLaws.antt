@@ -1,6 +1,6 @@
--- What is said of the names is said of the words that give them.
-use Rattle.std.proofs.Common.{◌≡◌, refl, true, Result, Ok, Err, IfErr, IfOk, List, String, Global, map, string_bytes}
-use Rattle.std.specs.Prelude.{OnOk}
+-- What is said of the names is said of the words that give them; and a fault that a call answers is handed on.
+use Rattle.std.proofs.Common.{◌≡◌, refl, sym, subst, true, Bool, Result, Ok, Err, IfErr, IfOk, List, String, Global, map, string_bytes}
+use Rattle.std.specs.Prelude.{IsErrAnd, OnOk}
 use Rattle.reh_inputs.specs.Cluster.{rack_name}
 use Rattle.reh_inputs.specs.declared.together.Gathered.{Gathered}
 use Rattle.reh_waves.specs.Json.{ArePrintable}
@@ -17,6 +17,14 @@ use Rattle.reh_stop.specs.declared.rounds.RoundFault.TheVariants as round
 use Rattle.reh_stop.specs.declared.stops.Asked.{Asked}
 use Rattle.reh_stop.specs.declared.stops.StopFault.{StopFault}
 use Rattle.reh_stop.specs.declared.stops.StopFault.TheVariants.{Nobody, Ambiguous, UnknownBookie, Twice, UnknownRack, TooMany, NoMemory}
+
+-- the fault of a call is that of the whole
+pub if_err : {T E : Type 0} (P : E → Type 0) (result : Result T E) (fault : E) → IsErrAnd result (λ x. x ≡ fault) → P fault
+    → IfErr result P
+if_err P (Ok x) fault is holds = absurd is
+if_err P (Err x) fault is holds = subst P (sym is) holds
+
+-- Stops
 
 module _ (g : Gathered) (asked named : Asked) (some : has_words asked ≡ true) (clear : AreClear g.cluster.names asked.bookies.now)
     (by : IsByNames g.cluster asked named) where
@@ -48,7 +56,30 @@ module _ (g : Gathered) (asked named : Asked) (some : has_words asked ≡ true) 
   }
   answered-by (Err fault) are says ledgers = tt
 
--- names that don't stand in JSON as they are
+-- what is wrong with names
+pub misnamed : (g : Gathered) (named : Asked) (fault : StopFault) → IsFaultOf g.cluster named fault → IsUnsaid g named fault
+misnamed g named Nobody never = absurd never
+misnamed g named (Ambiguous word) never = absurd never
+misnamed g named (UnknownBookie name) is = is
+misnamed g named (Twice name) is = is
+misnamed g named (UnknownRack name) is = is
+misnamed g named TooMany never = absurd never
+misnamed g named NoMemory never = tt
+
+-- nothing is wrong with the names, and a ledger is too large
+pub uncounted : (g : Gathered) (named : Asked) → AreNamed g.cluster named → (fault : TallyFault)
+    → (◌≡◌ {A = Result Said TallyFault} (Err fault) (Err tally.TooMany) → HasTooLarge g) → IsUnsaid g named (fault_of_tally fault)
+uncounted g named are tally.TooMany has = (are, has refl)
+uncounted g named are tally.NoMemory has = tt
+
+-- Rounds and costs
+
+-- if these names can't be printed, all names together can't
+pub unprintable : (as_json : Bool) (P Q : Type 0) → as_json ≡ true → (Q → P) → (fault : RoundFault) → IsUnprintable true P fault
+    → IsUnprintable as_json Q fault
+unprintable as_json P Q json among round.Unprintable is = (json, λ q. is.1 (among q))
+unprintable as_json P Q json among round.NoMemory is = tt
+
 pub unsaid : (g : Gathered) (asked : AskedWaves) (names : List (String Global)) → map string_bytes names ≡ g.cluster.names
     → (fault : RoundFault) → IsUnprintable asked.as_json (ArePrintable names) fault → AreUnsaid g asked fault
 unsaid g asked names are round.Unprintable is = (is.0, names, are, is.1)
@@ -60,18 +91,3 @@ pub unsaid-cost : (g : Gathered) (asked : AskedRisk) (names racks : List (String
     → IsUnsaidCost g asked fault
 unsaid-cost g asked names racks are have round.Unprintable is = (is.0, names, racks, are, have, is.1)
 unsaid-cost g asked names racks are have round.NoMemory is = tt
-
--- a fault of names, and a ledger that is too large
-pub misnamed : (g : Gathered) (named : Asked) (fault : StopFault) → IsFaultOf g.cluster named fault → IsUnsaid g named fault
-misnamed g named Nobody never = absurd never
-misnamed g named (Ambiguous word) never = absurd never
-misnamed g named (UnknownBookie name) is = is
-misnamed g named (Twice name) is = is
-misnamed g named (UnknownRack name) is = is
-misnamed g named TooMany never = absurd never
-misnamed g named NoMemory never = tt
-
-pub uncounted : (g : Gathered) (named : Asked) (fault : TallyFault) → (fault ≡ tally.TooMany → HasTooLarge g)
-    → IsUnsaid g named (fault_of_tally fault)
-uncounted g named tally.TooMany has = has refl
-uncounted g named tally.NoMemory has = tt

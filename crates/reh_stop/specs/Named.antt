@@ -40,7 +40,7 @@ is_ambiguous names word =
 abbrev pub AreClear : List (List ℕ) → List (Bor (List ℕ)) → Type 0
 AreClear names words = All (λ word. is_ambiguous names word.now ≡ false) words
 
--- the word is the first of these that can
+-- this word can be read in two ways, and no word before it can
 pub record IsFirstAmbiguous (names : List (List ℕ)) (words : List (Bor (List ℕ))) (word : Bor (List ℕ)) : Type 0 where
   pub number : ℕ
   pub is : slice_get words number ≡ Some word

@@ -36,19 +36,19 @@ pub record AreRounds (g : Gathered) (asked : AskedWaves) (waves : Waves) : Type 
       → AreWaves (answer_on (counting_of (holders (bookies_of g.bookies)) ledgers) (bookies_of g.bookies) asked.question
       (not_judged g.census.judged)) (bookies_of g.bookies) asked.by_rack waves
 
--- when nothing is said, for this reason: JSON is asked for, and names don't stand in it as they are
+-- why no text is made: JSON is asked for, and not all names can be printed. Of `NoMemory` nothing is claimed
 abbrev pub IsUnprintable : Bool → Type 0 → RoundFault → Type 0
 IsUnprintable as_json are_printable fault.Unprintable = (as_json ≡ true) × (are_printable → ⊥)
 IsUnprintable as_json are_printable fault.NoMemory = Unit {0}
 
--- so of the names of bookies, where rounds were to be said
+-- why no rounds are said: JSON is asked for, and a bookie's name has a byte that can't be printed
 abbrev pub AreUnsaid : Gathered → AskedWaves → RoundFault → Type 0
 AreUnsaid g asked fault.Unprintable =
     (asked.as_json ≡ true) × (names : List (String Global)) × (map string_bytes names ≡ g.cluster.names)
     × (ArePrintable names → ⊥)
 AreUnsaid g asked fault.NoMemory = Unit {0}
 
--- the text says rounds, by the names of the bookies, which stand in JSON as they are
+-- the text says rounds, by the names of the bookies; in JSON each byte of these can be printed
 pub record SaysRounds (g : Gathered) (asked : AskedWaves) (text : String Global) : Type 0 where
   pub names : List (String Global)
   pub are_names : map string_bytes names ≡ g.cluster.names
@@ -74,7 +74,7 @@ pub record IsCost (g : Gathered) (asked : AskedRisk) (order : List ℕ) (risk : 
       → IsRisk (counting_of (holders (bookies_of g.bookies)) ledgers) (bookies_of g.bookies) asked.question
       (not_judged g.census.judged) order (racks_of g.cluster) asked.with_pairs risk
 
--- so of the names of bookies, or of racks, where the cost was
+-- why no cost is said: JSON is asked for, and the name of a bookie or of a rack has a byte that can't be printed
 abbrev pub IsUnsaidCost : Gathered → AskedRisk → RoundFault → Type 0
 IsUnsaidCost g asked fault.Unprintable =
     (asked.as_json ≡ true) × (names : List (String Global)) × (racks : List (String Global))
@@ -82,7 +82,8 @@ IsUnsaidCost g asked fault.Unprintable =
     × (ArePrintable names × ArePrintable racks → ⊥)
 IsUnsaidCost g asked fault.NoMemory = Unit {0}
 
--- the text says the cost, by the names of bookies and racks, and in the order of the bookies' names
+-- the text says the cost, by the names of bookies and racks, and in the order of the bookies' names; in JSON each byte
+-- of these names can be printed
 pub record SaysCost (g : Gathered) (asked : AskedRisk) (text : String Global) : Type 0 where
   pub names : List (String Global)
   pub are_names : map string_bytes names ≡ g.cluster.names

@@ -67,14 +67,18 @@ first_unknown cluster asked = position (λ word. not (is_name cluster.names word
 abbrev pub first_unknown_rack : Cluster → Asked → Option ℕ
 first_unknown_rack cluster asked = position (λ word. not (list_any (is_in word.now) cluster.shown)) asked.racks.now
 
--- each name is a bookie's, and none is one before it; each rack is some bookie's
+-- no bookie is named twice
+abbrev pub AreOnce : Asked → Type 0
+AreOnce asked = (word : ℕ) → word < length asked.bookies.now → is_repeated asked.bookies.now word ≡ false
+
+-- each name is a bookie's, and none is named twice; each rack is some bookie's
 pub record AreNamed (cluster : Cluster) (asked : Asked) : Type 0 where
   pub bookies : first_unknown cluster asked ≡ None
-  pub once : (word : ℕ) → word < length asked.bookies.now → is_repeated asked.bookies.now word ≡ false
+  pub once : AreOnce asked
   pub racks : first_unknown_rack cluster asked ≡ None
 
--- when the names have this fault: the first name that is no bookie's; and where all are, the first that is named before;
--- and where none is, the first rack that is no bookie's
+-- what is wrong with the names: the first name that is no bookie's; where each is a bookie's, the first that is named
+-- before; and where none is named twice, the first rack that is no bookie's
 abbrev pub IsFaultOf : Cluster → Asked → StopFault → Type 0
 IsFaultOf cluster asked (fault.UnknownBookie name) =
     (word : ℕ) × (first_unknown cluster asked ≡ Some word) × (slice_get asked.bookies.now word ≡ Some name)
@@ -83,17 +87,18 @@ IsFaultOf cluster asked (fault.Twice name) =
     × ((number : ℕ) → number < word → is_repeated asked.bookies.now number ≡ false)
     × (slice_get asked.bookies.now word ≡ Some name)
 IsFaultOf cluster asked (fault.UnknownRack name) =
-    (word : ℕ) × (first_unknown cluster asked ≡ None) × (first_unknown_rack cluster asked ≡ Some word)
+    (word : ℕ) × (first_unknown cluster asked ≡ None) × AreOnce asked × (first_unknown_rack cluster asked ≡ Some word)
     × (slice_get asked.racks.now word ≡ Some name)
 IsFaultOf cluster asked other = ⊥
 
--- some ledger of the pictures alone has more than a census counts
+-- one ledger of the pictures has more entries or fragments than a census counts
 abbrev pub HasTooLarge : Gathered → Type 0
 HasTooLarge g = All (λ ledger. AreFew (holders (bookies_of g.bookies)) (ledger ∷ [])) g.ledgers.items → ⊥
 
--- when nothing is said of these names, for this reason: the names have the fault, or a ledger is too large
+-- why nothing is said of these names: what is wrong with them; or, where nothing is, that a ledger is too large. Of
+-- `NoMemory` nothing is claimed
 abbrev pub IsUnsaid : Gathered → Asked → StopFault → Type 0
-IsUnsaid g named fault.TooMany = HasTooLarge g
+IsUnsaid g named fault.TooMany = AreNamed g.cluster named × HasTooLarge g
 IsUnsaid g named fault.NoMemory = Unit {0}
 IsUnsaid g named other = IsFaultOf g.cluster named other
 
@@ -118,8 +123,8 @@ pub record IsAnswered (g : Gathered) (asked : Asked) (said : Said) : Type 0 wher
   pub says : IsSaid g named (stopped_by g.cluster named) said
   pub ledgers : IsOfLedgers g named said
 
--- when nothing is said, for this reason: there is no word; or a word is ambiguous, the first that is; or, where none is,
--- the names that the words give have the fault, or a ledger is too large
+-- why nothing is said: there is no word; or a word can be read in two ways, the first of these; or, where none can, what
+-- is wrong with the names that the words give, or that a ledger is too large
 abbrev pub IsRefused : Gathered → Asked → StopFault → Type 0
 IsRefused g asked fault.Nobody = has_words asked ≡ false
 IsRefused g asked (fault.Ambiguous word) =

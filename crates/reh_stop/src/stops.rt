@@ -48,7 +48,7 @@ pub enum StopFault<'a> {
     Twice(&'a str),
     /// The rack is no bookie's.
     UnknownRack(&'a str),
-    /// A ledger alone has more than a census counts.
+    /// One ledger has more entries or fragments than a census counts.
     TooMany,
     /// Out of memory.
     NoMemory,

@@ -3,7 +3,8 @@ use Rattle.std.proofs.Common.{◌≡◌, ◌∙◌, ap, sym, subst, ℕ, List, S
 use Rattle.std.specs.List.Sorted.{IsPermutation}
 use Rattle.reh_census.specs.Striping.{range}
 use Rattle.reh_waves.specs.Json.{ArePrintable}
-use Rattle.reh_stop.specs.Rounds.{IsCost, risk_by}
+use Rattle.reh_stop.specs.Rounds.{IsCost, IsUnprintable, IsUnsaidCost, risk_by}
+use Rattle.reh_stop.proofs.FaultLaws.{if_err, unsaid-cost}
 use Rattle.reh_stop.proofs.rounds.answer_risk.Goals as goal
 
 pub cost_of-requires : goal.cost_of-requires
@@ -13,6 +14,17 @@ cost_of-requires c =
     subst (λ (n : ℕ). IsPermutation (range 0 n) c.deref.result.now) count
     (subst (λ (order : List ℕ). IsPermutation (range 0 (length names)) order) (sym c.deref.ensures.value)
     c.in_ok-order.ensures.permutation)
+
+pub returns-in_err-text-clause-fault : goal.returns-in_err-text-clause-fault
+returns-in_err-text-clause-fault c =
+    let g = c.args.gathered.now in
+    let asked = c.args.asked.now in
+    let names = c.names_of-names.result.now in
+    let fault = c.in_err-text.field-0.0 in
+    if_err (IsUnsaidCost g asked) _ fault c.from_residual-in_err-text.ensures.1
+    (unsaid-cost g asked names c.in_ok-racks.racks.items c.names_of-names.ensures.names c.in_ok-racks.ensures fault
+    (subst (λ (racks : List (String Global)). IsUnprintable asked.as_json (ArePrintable names × ArePrintable racks) fault)
+    c.deref-2.ensures.value c.in_err-text.ensures.fault))
 
 pub returns-clause-said : goal.returns-clause-said
 returns-clause-said c = record {
