@@ -24,6 +24,13 @@ pub if_err : {T E : Type 0} (P : E → Type 0) (result : Result T E) (fault : E)
 if_err P (Ok x) fault is holds = absurd is
 if_err P (Err x) fault is holds = subst P (sym is) holds
 
+-- and if the whole has this fault, the call has it
+pub failed : {T U E : Type 0} (result : Result T E) (handed fault : E) → IsErrAnd result (λ x. x ≡ handed) → result ≡ Err fault
+    → ◌≡◌ {A = Result U E} (Err handed) (Err fault)
+failed {T} {U} {E} result handed fault is same =
+    let back : fault ≡ handed = subst (λ (r : Result T E). IsErrAnd r (λ x. x ≡ handed)) same is in
+    λ i. Err (sym back i)
+
 -- Stops
 
 module _ (g : Gathered) (asked named : Asked) (some : has_words asked ≡ true) (clear : AreClear g.cluster.names asked.bookies.now)
