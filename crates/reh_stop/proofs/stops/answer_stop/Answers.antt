@@ -1,5 +1,5 @@
 -- The names that the words give are those that are asked of.
-use Rattle.std.proofs.Common.{◌∙◌, ap, sym, refl, subst, rules, List, ℕ}
+use Rattle.std.proofs.Common.{◌∙◌, ap, sym, refl, subst, rules}
 use Rattle.reh_stop.specs.Named.{AreClear, names_in, texts}
 use Rattle.reh_stop.specs.declared.stops.Asked.{Asked}
 use Rattle.reh_stop.specs.Stops.{IsByNames}
