@@ -1,37 +1,58 @@
--- What is said of the names is said of the words that give them.
-use Rattle.std.proofs.Common.{◌≡◌, true, Result, Ok, Err, IfErr, IfOk}
-use Rattle.std.specs.Prelude.{OnOk}
+-- What is said of the names is said of the words that give them; and a fault that a call answers is handed on.
+use Rattle.std.proofs.Common.{◌≡◌, refl, sym, subst, true, Bool, Result, Ok, Err, IfErr, IfOk, List, String, Global, map, string_bytes}
+use Rattle.std.specs.Prelude.{IsErrAnd, OnOk}
+use Rattle.reh_inputs.specs.Cluster.{rack_name}
 use Rattle.reh_inputs.specs.declared.together.Gathered.{Gathered}
+use Rattle.reh_waves.specs.Json.{ArePrintable}
 use Rattle.reh_stop.specs.Named.{AreClear}
+use Rattle.reh_stop.specs.Rounds.{AreUnsaid, IsUnprintable, IsUnsaidCost}
 use Rattle.reh_stop.specs.declared.stops.Said.{Said}
-use Rattle.reh_inputs.specs.Cluster.{Cluster}
-use Rattle.reh_stop.specs.Stops.{AreNamed, IsAnswered, IsByNames, IsFaultOf, IsOfLedgers, IsRefused, IsSaid, has_words, stopped_by}
+use Rattle.reh_tally.specs.declared.census.TallyFault.{TallyFault}
+use Rattle.reh_tally.specs.declared.census.TallyFault.TheVariants as tally
+use Rattle.reh_stop.specs.Stops.{AreNamed, HasTooLarge, IsAnswered, IsByNames, IsFaultOf, IsOfLedgers, IsRefused, IsSaid, IsUnsaid, fault_of_tally, has_words, stopped_by}
+use Rattle.reh_stop.specs.declared.rounds.AskedRisk.{AskedRisk}
+use Rattle.reh_stop.specs.declared.rounds.AskedWaves.{AskedWaves}
+use Rattle.reh_stop.specs.declared.rounds.RoundFault.{RoundFault}
+use Rattle.reh_stop.specs.declared.rounds.RoundFault.TheVariants as round
 use Rattle.reh_stop.specs.declared.stops.Asked.{Asked}
 use Rattle.reh_stop.specs.declared.stops.StopFault.{StopFault}
 use Rattle.reh_stop.specs.declared.stops.StopFault.TheVariants.{Nobody, Ambiguous, UnknownBookie, Twice, UnknownRack, TooMany, NoMemory}
 
-pub refused : (cluster : Cluster) (asked named : Asked) → has_words asked ≡ true → IsByNames cluster asked named
-    → (fault : StopFault) → IsFaultOf cluster named fault → IsRefused cluster asked fault
-refused cluster asked named some by Nobody never = absurd never
-refused cluster asked named some by (Ambiguous word) never = absurd never
-refused cluster asked named some by (UnknownBookie name) is = (some, named, by, is)
-refused cluster asked named some by (Twice name) is = (some, named, by, is)
-refused cluster asked named some by (UnknownRack name) is = (some, named, by, is)
-refused cluster asked named some by TooMany is = tt
-refused cluster asked named some by NoMemory is = tt
+-- the fault of a call is that of the whole
+pub if_err : {T E : Type 0} (P : E → Type 0) (result : Result T E) (fault : E) → IsErrAnd result (λ x. x ≡ fault) → P fault
+    → IfErr result P
+if_err P (Ok x) fault is holds = absurd is
+if_err P (Err x) fault is holds = subst P (sym is) holds
 
-module _ (g : Gathered) (asked named : Asked) (some : has_words asked ≡ true) (by : IsByNames g.cluster asked named) where
-  pub refused-by : (result : Result Said StopFault) → IfErr result (λ fault. IsFaultOf g.cluster named fault)
-      → IfErr result (λ fault. IsRefused g.cluster asked fault)
+-- and if the whole has this fault, the call has it
+pub failed : {T U E : Type 0} (result : Result T E) (handed fault : E) → IsErrAnd result (λ x. x ≡ handed) → result ≡ Err fault
+    → ◌≡◌ {A = Result U E} (Err handed) (Err fault)
+failed {T} {U} {E} result handed fault is same =
+    let back : fault ≡ handed = subst (λ (r : Result T E). IsErrAnd r (λ x. x ≡ handed)) same is in
+    λ i. Err (sym back i)
+
+-- Stops
+
+module _ (g : Gathered) (asked named : Asked) (some : has_words asked ≡ true) (clear : AreClear g.cluster.names asked.bookies.now)
+    (by : IsByNames g.cluster asked named) where
+  refused : (fault : StopFault) → IsUnsaid g named fault → IsRefused g asked fault
+  refused Nobody never = absurd never
+  refused (Ambiguous word) never = absurd never
+  refused (UnknownBookie name) is = (some, clear, named, by, is)
+  refused (Twice name) is = (some, clear, named, by, is)
+  refused (UnknownRack name) is = (some, clear, named, by, is)
+  refused TooMany is = (some, clear, named, by, is)
+  refused NoMemory is = tt
+
+  pub refused-by : (result : Result Said StopFault) → IfErr result (IsUnsaid g named) → IfErr result (IsRefused g asked)
   refused-by (Ok said) is = tt
-  refused-by (Err fault) is = refused g.cluster asked named some by fault is
+  refused-by (Err fault) is = refused fault is
 
-  pub answered-by : AreClear g.cluster.names asked.bookies.now → (result : Result Said StopFault)
-      → OnOk result (AreNamed g.cluster named)
+  pub answered-by : (result : Result Said StopFault) → OnOk result (AreNamed g.cluster named)
       → IfOk result (λ said. IsSaid g named (stopped_by g.cluster named) said)
       → IfOk result (λ said. IsOfLedgers g named said)
       → IfOk result (λ said. IsAnswered g asked said)
-  answered-by clear (Ok said) are says ledgers = record {
+  answered-by (Ok said) are says ledgers = record {
     some = some;
     clear = clear;
     named = named;
@@ -40,4 +61,40 @@ module _ (g : Gathered) (asked named : Asked) (some : has_words asked ≡ true) 
     says = says;
     ledgers = ledgers;
   }
-  answered-by clear (Err fault) are says ledgers = tt
+  answered-by (Err fault) are says ledgers = tt
+
+-- what is wrong with names
+pub misnamed : (g : Gathered) (named : Asked) (fault : StopFault) → IsFaultOf g.cluster named fault → IsUnsaid g named fault
+misnamed g named Nobody never = absurd never
+misnamed g named (Ambiguous word) never = absurd never
+misnamed g named (UnknownBookie name) is = is
+misnamed g named (Twice name) is = is
+misnamed g named (UnknownRack name) is = is
+misnamed g named TooMany never = absurd never
+misnamed g named NoMemory never = tt
+
+-- nothing is wrong with the names, and a ledger is too large
+pub uncounted : (g : Gathered) (named : Asked) → AreNamed g.cluster named → (fault : TallyFault)
+    → (◌≡◌ {A = Result Said TallyFault} (Err fault) (Err tally.TooMany) → HasTooLarge g) → IsUnsaid g named (fault_of_tally fault)
+uncounted g named are tally.TooMany has = (are, has refl)
+uncounted g named are tally.NoMemory has = tt
+
+-- Rounds and costs
+
+-- if these names can't be printed, all names together can't
+pub unprintable : (as_json : Bool) (P Q : Type 0) → as_json ≡ true → (Q → P) → (fault : RoundFault) → IsUnprintable true P fault
+    → IsUnprintable as_json Q fault
+unprintable as_json P Q json among round.Unprintable is = (json, λ q. is.1 (among q))
+unprintable as_json P Q json among round.NoMemory is = tt
+
+pub unsaid : (g : Gathered) (asked : AskedWaves) (names : List (String Global)) → map string_bytes names ≡ g.cluster.names
+    → (fault : RoundFault) → IsUnprintable asked.as_json (ArePrintable names) fault → AreUnsaid g asked fault
+unsaid g asked names are round.Unprintable is = (is.0, names, are, is.1)
+unsaid g asked names are round.NoMemory is = tt
+
+pub unsaid-cost : (g : Gathered) (asked : AskedRisk) (names racks : List (String Global)) → map string_bytes names ≡ g.cluster.names
+    → map string_bytes racks ≡ map rack_name g.cluster.shown
+    → (fault : RoundFault) → IsUnprintable asked.as_json (ArePrintable names × ArePrintable racks) fault
+    → IsUnsaidCost g asked fault
+unsaid-cost g asked names racks are have round.Unprintable is = (is.0, names, racks, are, have, is.1)
+unsaid-cost g asked names racks are have round.NoMemory is = tt

@@ -1,5 +1,5 @@
 -- The bookies that words name, by themselves or by their racks.
-use Rattle.std.specs.Prelude.{◌≡◌, ℕ, Bool, false, ◌||◌, ◌&&◌, ◌==◌, nat_lt, if◌then◌else◌, All, List, [], ◌∷◌, is_some, length, map, position, slice_get, take}
+use Rattle.std.specs.Prelude.{◌≡◌, ℕ, Bool, false, true, Some, ◌||◌, ◌&&◌, ◌==◌, nat_lt, if◌then◌else◌, All, List, [], ◌∷◌, is_some, length, map, position, slice_get, take}
 use Rattle.std.specs.Borrow.{Bor}
 use Rattle.std.specs.List.{flat_map, list_all, list_any, slice_split}
 use Rattle.std.specs.Option.{option_map_or}
@@ -39,6 +39,13 @@ is_ambiguous names word =
 -- no word can be read in two ways
 abbrev pub AreClear : List (List ℕ) → List (Bor (List ℕ)) → Type 0
 AreClear names words = All (λ word. is_ambiguous names word.now ≡ false) words
+
+-- this word can be read in two ways, and no word before it can
+pub record IsFirstAmbiguous (names : List (List ℕ)) (words : List (Bor (List ℕ))) (word : Bor (List ℕ)) : Type 0 where
+  pub number : ℕ
+  pub is : slice_get words number ≡ Some word
+  pub ambiguous : is_ambiguous names word.now ≡ true
+  pub before : AreClear names (take number words)
 
 -- whether the word of that number is a word before it, too
 abbrev pub is_repeated : List (Bor (List ℕ)) → ℕ → Bool

@@ -1,5 +1,5 @@
 -- What is said of rounds, and of what the next losses cost.
-use Rattle.std.specs.Prelude.{◌≡◌, ℕ, Bool, if◌then◌else◌, cond, filter, List, map, length, String, string_bytes}
+use Rattle.std.specs.Prelude.{◌≡◌, ℕ, Bool, true, if◌then◌else◌, cond, filter, List, map, length, String, string_bytes}
 use Rattle.std.specs.declared.alloc.Global.{Global}
 use Rattle.reh_census.specs.Answers.{answer_on}
 use Rattle.reh_census.specs.Bookies.{bookies_of, holders}
@@ -8,7 +8,7 @@ use Rattle.reh_census.specs.Ledgers.{Ledger}
 use Rattle.reh_census.specs.Striping.{range}
 use Rattle.reh_inputs.specs.Cluster.{Cluster, is_first_in_rack, rack_name}
 use Rattle.reh_inputs.specs.declared.together.Gathered.{Gathered}
-use Rattle.reh_waves.specs.Json.{risk_json, waves_json}
+use Rattle.reh_waves.specs.Json.{ArePrintable, risk_json, waves_json}
 use Rattle.reh_waves.specs.Orders.{IsNameOrder}
 use Rattle.reh_waves.specs.Risk.{IsRisk}
 use Rattle.reh_waves.specs.Texts.{risk_text, waves_text}
@@ -18,6 +18,8 @@ use Rattle.reh_waves.specs.declared.waves.Waves.{Waves}
 use Rattle.reh_stop.specs.Together.{AreLedgersOf}
 use Rattle.reh_stop.specs.declared.rounds.AskedRisk.{AskedRisk}
 use Rattle.reh_stop.specs.declared.rounds.AskedWaves.{AskedWaves}
+use Rattle.reh_stop.specs.declared.rounds.RoundFault.{RoundFault}
+use Rattle.reh_stop.specs.declared.rounds.RoundFault.TheVariants as fault
 
 -- Waves
 
@@ -34,13 +36,26 @@ pub record AreRounds (g : Gathered) (asked : AskedWaves) (waves : Waves) : Type 
       → AreWaves (answer_on (counting_of (holders (bookies_of g.bookies)) ledgers) (bookies_of g.bookies) asked.question
       (not_judged g.census.judged)) (bookies_of g.bookies) asked.by_rack waves
 
--- the text says rounds, by the names of the bookies
+-- why no text is made: JSON is asked for, and not all names can be printed. Of `NoMemory` nothing is claimed
+abbrev pub IsUnprintable : Bool → Type 0 → RoundFault → Type 0
+IsUnprintable as_json are_printable fault.Unprintable = (as_json ≡ true) × (are_printable → ⊥)
+IsUnprintable as_json are_printable fault.NoMemory = Unit {0}
+
+-- why no rounds are said: JSON is asked for, and a bookie's name has a byte that can't be printed
+abbrev pub AreUnsaid : Gathered → AskedWaves → RoundFault → Type 0
+AreUnsaid g asked fault.Unprintable =
+    (asked.as_json ≡ true) × (names : List (String Global)) × (map string_bytes names ≡ g.cluster.names)
+    × (ArePrintable names → ⊥)
+AreUnsaid g asked fault.NoMemory = Unit {0}
+
+-- the text says rounds, by the names of the bookies; in JSON each byte of these can be printed
 pub record SaysRounds (g : Gathered) (asked : AskedWaves) (text : String Global) : Type 0 where
   pub names : List (String Global)
   pub are_names : map string_bytes names ≡ g.cluster.names
   pub waves : Waves
   pub are_rounds : AreRounds g asked waves
   pub says : string_bytes text ≡ waves_by asked.as_json names waves
+  pub printable : asked.as_json ≡ true → ArePrintable names
 
 -- Risk
 
@@ -59,7 +74,16 @@ pub record IsCost (g : Gathered) (asked : AskedRisk) (order : List ℕ) (risk : 
       → IsRisk (counting_of (holders (bookies_of g.bookies)) ledgers) (bookies_of g.bookies) asked.question
       (not_judged g.census.judged) order (racks_of g.cluster) asked.with_pairs risk
 
--- the text says the cost, by the names of bookies and racks, and in the order of the bookies' names
+-- why no cost is said: JSON is asked for, and the name of a bookie or of a rack has a byte that can't be printed
+abbrev pub IsUnsaidCost : Gathered → AskedRisk → RoundFault → Type 0
+IsUnsaidCost g asked fault.Unprintable =
+    (asked.as_json ≡ true) × (names : List (String Global)) × (racks : List (String Global))
+    × (map string_bytes names ≡ g.cluster.names) × (map string_bytes racks ≡ map rack_name g.cluster.shown)
+    × (ArePrintable names × ArePrintable racks → ⊥)
+IsUnsaidCost g asked fault.NoMemory = Unit {0}
+
+-- the text says the cost, by the names of bookies and racks, and in the order of the bookies' names; in JSON each byte
+-- of these names can be printed
 pub record SaysCost (g : Gathered) (asked : AskedRisk) (text : String Global) : Type 0 where
   pub names : List (String Global)
   pub are_names : map string_bytes names ≡ g.cluster.names
@@ -70,3 +94,4 @@ pub record SaysCost (g : Gathered) (asked : AskedRisk) (text : String Global) : 
   pub risk : Risk
   pub is_cost : IsCost g asked order risk
   pub says : string_bytes text ≡ risk_by asked.as_json names racks risk
+  pub printable : asked.as_json ≡ true → ArePrintable names × ArePrintable racks

@@ -1,5 +1,5 @@
 -- What is said of a stop.
-use Rattle.std.specs.Prelude.{◌≡◌, ◌<◌, ◌||◌, ℕ, Bool, true, false, not, nat_lt, Option, None, Some, List, [], length, map, position, slice_get, if◌then◌else◌, string_bytes}
+use Rattle.std.specs.Prelude.{◌≡◌, ◌<◌, ◌||◌, ℕ, Bool, true, false, not, nat_lt, Option, None, Some, All, List, [], ◌∷◌, length, map, position, slice_get, if◌then◌else◌, string_bytes}
 use Rattle.std.specs.List.{list_any}
 use Rattle.reh_census.specs.Bookies.{bookies_of, holders, is_flagged}
 use Rattle.reh_census.specs.Striping.{range}
@@ -12,11 +12,12 @@ use Rattle.reh_answer.specs.declared.facts.Facts.{Facts}
 use Rattle.reh_answer.specs.Facts.{facts_on, most_copies}
 use Rattle.reh_answer.specs.Objects.{json_of}
 use Rattle.reh_answer.specs.Texts.{status_number, text_of}
+use Rattle.reh_tally.specs.Few.{AreFew}
 use Rattle.reh_tally.specs.declared.census.TallyFault.{TallyFault}
 use Rattle.reh_tally.specs.declared.census.TallyFault.TheVariants as tally
 use Rattle.reh_inputs.specs.Cluster.{Cluster}
 use Rattle.reh_inputs.specs.Shown.{is_in}
-use Rattle.reh_stop.specs.Named.{AreClear, is_ambiguous, is_name, is_repeated, is_stopped, names_in, texts}
+use Rattle.reh_stop.specs.Named.{AreClear, IsFirstAmbiguous, is_name, is_repeated, is_stopped, names_in, texts}
 use Rattle.reh_stop.specs.Together.{AreLedgersOf}
 use Rattle.reh_inputs.specs.declared.together.Gathered.{Gathered}
 use Rattle.reh_stop.specs.declared.stops.Asked.{Asked}
@@ -66,26 +67,40 @@ first_unknown cluster asked = position (λ word. not (is_name cluster.names word
 abbrev pub first_unknown_rack : Cluster → Asked → Option ℕ
 first_unknown_rack cluster asked = position (λ word. not (list_any (is_in word.now) cluster.shown)) asked.racks.now
 
--- each name is a bookie's, and none is one before it; each rack is some bookie's
+-- no bookie is named twice
+abbrev pub AreOnce : Asked → Type 0
+AreOnce asked = (word : ℕ) → word < length asked.bookies.now → is_repeated asked.bookies.now word ≡ false
+
+-- each name is a bookie's, and none is named twice; each rack is some bookie's
 pub record AreNamed (cluster : Cluster) (asked : Asked) : Type 0 where
   pub bookies : first_unknown cluster asked ≡ None
-  pub once : (word : ℕ) → word < length asked.bookies.now → is_repeated asked.bookies.now word ≡ false
+  pub once : AreOnce asked
   pub racks : first_unknown_rack cluster asked ≡ None
 
--- when the names have this fault: the first name that is no bookie's; and where all are, one that is named before; and
--- where none is, the first rack that is no bookie's
+-- what is wrong with the names: the first name that is no bookie's; where each is a bookie's, the first that is named
+-- before; and where none is named twice, the first rack that is no bookie's
 abbrev pub IsFaultOf : Cluster → Asked → StopFault → Type 0
 IsFaultOf cluster asked (fault.UnknownBookie name) =
     (word : ℕ) × (first_unknown cluster asked ≡ Some word) × (slice_get asked.bookies.now word ≡ Some name)
 IsFaultOf cluster asked (fault.Twice name) =
     (word : ℕ) × (first_unknown cluster asked ≡ None) × (is_repeated asked.bookies.now word ≡ true)
+    × ((number : ℕ) → number < word → is_repeated asked.bookies.now number ≡ false)
     × (slice_get asked.bookies.now word ≡ Some name)
 IsFaultOf cluster asked (fault.UnknownRack name) =
-    (word : ℕ) × (first_unknown cluster asked ≡ None) × (first_unknown_rack cluster asked ≡ Some word)
+    (word : ℕ) × (first_unknown cluster asked ≡ None) × AreOnce asked × (first_unknown_rack cluster asked ≡ Some word)
     × (slice_get asked.racks.now word ≡ Some name)
-IsFaultOf cluster asked fault.TooMany = Unit {0}
-IsFaultOf cluster asked fault.NoMemory = Unit {0}
 IsFaultOf cluster asked other = ⊥
+
+-- one ledger of the pictures has more entries or fragments than a census counts
+abbrev pub HasTooLarge : Gathered → Type 0
+HasTooLarge g = All (λ ledger. AreFew (holders (bookies_of g.bookies)) (ledger ∷ [])) g.ledgers.items → ⊥
+
+-- why nothing is said of these names: what is wrong with them; or, where nothing is, that a ledger is too large. Of
+-- `NoMemory` nothing is claimed
+abbrev pub IsUnsaid : Gathered → Asked → StopFault → Type 0
+IsUnsaid g named fault.TooMany = AreNamed g.cluster named × HasTooLarge g
+IsUnsaid g named fault.NoMemory = Unit {0}
+IsUnsaid g named other = IsFaultOf g.cluster named other
 
 -- the same question, in which the words are the names that they give
 pub record IsByNames (cluster : Cluster) (asked named : Asked) : Type 0 where
@@ -108,12 +123,13 @@ pub record IsAnswered (g : Gathered) (asked : Asked) (said : Said) : Type 0 wher
   pub says : IsSaid g named (stopped_by g.cluster named) said
   pub ledgers : IsOfLedgers g named said
 
--- when nothing is said, for this reason: there is no word; or a word is ambiguous; or the names have the fault
-abbrev pub IsRefused : Cluster → Asked → StopFault → Type 0
-IsRefused cluster asked fault.Nobody = has_words asked ≡ false
-IsRefused cluster asked (fault.Ambiguous word) =
-    (has_words asked ≡ true) × (is_ambiguous cluster.names word.now ≡ true)
-IsRefused cluster asked fault.TooMany = Unit {0}
-IsRefused cluster asked fault.NoMemory = Unit {0}
-IsRefused cluster asked other =
-    (has_words asked ≡ true) × (named : Asked) × IsByNames cluster asked named × IsFaultOf cluster named other
+-- why nothing is said: there is no word; or a word can be read in two ways, the first of these; or, where none can, what
+-- is wrong with the names that the words give, or that a ledger is too large
+abbrev pub IsRefused : Gathered → Asked → StopFault → Type 0
+IsRefused g asked fault.Nobody = has_words asked ≡ false
+IsRefused g asked (fault.Ambiguous word) =
+    (has_words asked ≡ true) × IsFirstAmbiguous g.cluster.names asked.bookies.now word
+IsRefused g asked fault.NoMemory = Unit {0}
+IsRefused g asked other =
+    (has_words asked ≡ true) × AreClear g.cluster.names asked.bookies.now × (named : Asked) × IsByNames g.cluster asked named
+    × IsUnsaid g named other

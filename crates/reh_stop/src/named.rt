@@ -89,7 +89,7 @@ pub(crate) fn first_ambiguous<'a>(
     words: &[&'a str],
 ) -> Result<Option<&'a str>, AllocError>
     ensures none { IfOk result (λ found. found ≡ None → model.AreClear names.now words.now) }
-    ensures some { IfOk result (λ found. IfSome found (λ word. model.is_ambiguous names.now word.now ≡ true)) }
+    ensures some { IfOk result (λ found. IfSome found (model.IsFirstAmbiguous names.now words.now)) }
 {
     for word in words {
         if is_ambiguous(alloc, names, word)? {

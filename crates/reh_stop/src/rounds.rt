@@ -1,5 +1,5 @@
 // In which rounds bookies may be stopped, and what the next losses cost.
-ghost use Rattle.std.specs.Prelude.{◌≡◌, ◌≤◌, length, map, string_bytes, IfOk, OnOk};
+ghost use Rattle.std.specs.Prelude.{◌≡◌, ◌≤◌, length, map, string_bytes, true, IfErr, IfOk, OnOk};
 ghost use Rattle.std.specs.List.Sorted.{IsPermutation};
 ghost use Rattle.reh_census.specs.Striping.{range};
 ghost use Rattle.reh_waves.specs.Json.{ArePrintable};
@@ -64,7 +64,8 @@ fn names_of(cluster: &Cluster) -> &[String]
 
 /// That each name stands in JSON as it is.
 fn check_names(names: &[String]) -> Result<(), RoundFault>
-    ensures { OnOk result (ArePrintable names.now) }
+    ensures ok { OnOk result (ArePrintable names.now) }
+    ensures fault { IfErr result (model.IsUnprintable true (ArePrintable names.now)) }
 {
     if are_printable(names) {
         Ok(())
@@ -97,7 +98,9 @@ fn say_rounds(
     waves: &Waves,
     as_json: bool,
 ) -> Result<String, RoundFault>
-    ensures { IfOk result (λ text. string_bytes text ≡ model.waves_by as_json names.now waves.now) }
+    ensures text { IfOk result (λ text. string_bytes text ≡ model.waves_by as_json names.now waves.now) }
+    ensures printable { OnOk result (as_json ≡ true → ArePrintable names.now) }
+    ensures fault { IfErr result (model.IsUnprintable as_json (ArePrintable names.now)) }
 {
     if as_json {
         check_names(names)?;
@@ -115,7 +118,8 @@ pub fn answer_waves(
     asked: &AskedWaves,
 ) -> Result<String, RoundFault>
     requires { length gathered.now.bookies ≡ length gathered.now.cluster.shown }
-    ensures { IfOk result (λ text. model.SaysRounds gathered.now asked.now text) }
+    ensures said { IfOk result (λ text. model.SaysRounds gathered.now asked.now text) }
+    ensures fault { IfErr result (model.AreUnsaid gathered.now asked.now) }
 {
     let waves = rounds_of(alloc, gathered, asked)?;
     let names = names_of(&gathered.cluster);
@@ -154,7 +158,9 @@ fn say_cost(
     risk: &Risk,
     as_json: bool,
 ) -> Result<String, RoundFault>
-    ensures { IfOk result (λ text. string_bytes text ≡ model.risk_by as_json names.now racks.now risk.now) }
+    ensures text { IfOk result (λ text. string_bytes text ≡ model.risk_by as_json names.now racks.now risk.now) }
+    ensures printable { OnOk result (as_json ≡ true → ArePrintable names.now × ArePrintable racks.now) }
+    ensures fault { IfErr result (model.IsUnprintable as_json (ArePrintable names.now × ArePrintable racks.now)) }
 {
     if as_json {
         check_names(names)?;
@@ -173,7 +179,8 @@ pub fn answer_risk(
     asked: &AskedRisk,
 ) -> Result<String, RoundFault>
     requires { length gathered.now.bookies ≡ length gathered.now.cluster.shown }
-    ensures { IfOk result (λ text. model.SaysCost gathered.now asked.now text) }
+    ensures said { IfOk result (λ text. model.SaysCost gathered.now asked.now text) }
+    ensures fault { IfErr result (model.IsUnsaidCost gathered.now asked.now) }
 {
     let names = names_of(&gathered.cluster);
     let order = order_by_name(alloc, names)?;

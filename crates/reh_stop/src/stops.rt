@@ -1,11 +1,12 @@
 // Whether bookies may be stopped.
-ghost use Rattle.std.specs.Prelude.{◌≡◌, List, map, string_bytes, IfErr, IfOk, OnOk};
+ghost use Rattle.std.specs.Prelude.{◌≡◌, Err, List, map, string_bytes, IfErr, IfOk, OnOk};
 ghost use Rattle.reh_census.specs.Answers.{answer_on};
 ghost use Rattle.reh_census.specs.Bookies.{bookies_of as census_bookies, holders, is_flagged};
 ghost use Rattle.reh_census.specs.Counting.{IsCensus, counting_of, not_judged};
 ghost use Rattle.reh_census.specs.Ledgers.{Ledger as LedgerValue};
 ghost use Rattle.reh_answer.specs.Texts.{status_number};
 ghost use Rattle.reh_stop.specs.Stops as model;
+ghost use Rattle.reh_tally.specs.declared.census.TallyFault.TheVariants.{TooMany};
 
 use crate::named::{
     first_ambiguous, first_twice, first_unknown, first_unknown_rack, names_in, stopped_of,
@@ -47,7 +48,7 @@ pub enum StopFault<'a> {
     Twice(&'a str),
     /// The rack is no bookie's.
     UnknownRack(&'a str),
-    /// A ledger has more entries than a census counts.
+    /// One ledger has more entries or fragments than a census counts.
     TooMany,
     /// Out of memory.
     NoMemory,
@@ -127,6 +128,7 @@ fn say(
         → said.status ≡ status_number (answer_on (counting_of (holders (census_bookies gathered.now.bookies)) ledgers)
         (census_bookies gathered.now.bookies) asked.now.question (not_judged gathered.now.census.judged)
         (is_flagged stopped.now))) }
+    ensures too_many { result ≡ Err TooMany → model.HasTooLarge gathered.now }
 {
     let Gathered {
         cluster,
@@ -163,7 +165,7 @@ fn answer_named<'a>(
     ensures said { IfOk result (λ said. model.IsSaid gathered.now named.now
         (model.stopped_by gathered.now.cluster named.now) said) }
     ensures ledgers { IfOk result (λ said. model.IsOfLedgers gathered.now named.now said) }
-    ensures fault { IfErr result (λ fault. model.IsFaultOf gathered.now.cluster named.now fault) }
+    ensures fault { IfErr result (model.IsUnsaid gathered.now named.now) }
 {
     check_names(&gathered.cluster, named)?;
     let stopped = stopped_of(alloc, &gathered.cluster, named.bookies, named.racks)?;
@@ -186,7 +188,7 @@ pub fn answer_stop<'a>(
     asked: &Asked<'_, 'a>,
 ) -> Result<Said, StopFault<'a>>
     ensures answered { IfOk result (λ said. model.IsAnswered gathered.now asked.now said) }
-    ensures fault { IfErr result (λ fault. model.IsRefused gathered.now.cluster asked.now fault) }
+    ensures fault { IfErr result (model.IsRefused gathered.now asked.now) }
 {
     if !has_words(asked) {
         return Err(StopFault::Nobody);

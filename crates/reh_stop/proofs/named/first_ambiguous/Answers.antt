@@ -2,8 +2,17 @@
 use Rattle.std.proofs.Common.{◌≡◌, ◌∙◌, sym, subst, ℕ, List, false, arith, take_all}
 use Rattle.std.specs.Borrow.{Bor}
 use Rattle.std.proofs.lemmas.List.Elements.{All-more}
+use Rattle.std.proofs.lemmas.Option.{slice_get-get_or}
 use Rattle.reh_stop.specs.Named.{AreClear, is_ambiguous}
 use Rattle.reh_stop.proofs.named.first_ambiguous.Goals as goal
+
+pub returns-then-branch-clause-some : goal.returns-then-branch-clause-some
+returns-then-branch-clause-some c = record {
+  number = c.loop-word.word-index;
+  is = slice_get-get_or c.args.words.now c.loop-word.word-index _ c.loop-word-test.true;
+  ambiguous = sym c.in_ok-is_ambiguous.ensures ∙ c.if-branch.true;
+  before = c.loop-word.invariant;
+}
 
 pub loop-word-preserved : goal.loop-word-preserved
 loop-word-preserved c =

@@ -23,7 +23,9 @@ returns-clause-fault c =
       question = refl;
       as_json = refl;
     } in
-    refused-by g asked named (sym c.if-not-has_words.ensures) by c.answer_named.result c.answer_named.ensures.fault
+    refused-by g asked named (sym c.if-not-has_words.ensures)
+    (subst (λ names. AreClear names asked.bookies.now) c.names-names.ensures (c.in_ok-word.ensures.none (search rules))) by
+    c.answer_named.result c.answer_named.ensures.fault
 
 pub returns-clause-answered : goal.returns-clause-answered
 returns-clause-answered c =
@@ -42,6 +44,6 @@ returns-clause-answered c =
       question = refl;
       as_json = refl;
     } in
-    answered-by g asked named (sym c.if-not-has_words.ensures) by
-    (subst (λ names. AreClear names asked.bookies.now) c.names-names.ensures (c.in_ok-word.ensures.none (search rules)))
+    answered-by g asked named (sym c.if-not-has_words.ensures)
+    (subst (λ names. AreClear names asked.bookies.now) c.names-names.ensures (c.in_ok-word.ensures.none (search rules))) by
     c.answer_named.result c.answer_named.ensures.named c.answer_named.ensures.said c.answer_named.ensures.ledgers

@@ -1,12 +1,23 @@
 -- What is said is what was found.
-use Rattle.std.proofs.Common.{◌≡◌, ◌∙◌, ap, subst, List, ℕ, map, string_bytes}
-use Rattle.reh_census.specs.Bookies.{bookies_of, is_flagged}
+use Rattle.std.proofs.Common.{◌≡◌, ◌∙◌, ◌∷◌, [], All, ap, subst, List, ℕ, map, string_bytes}
+use Rattle.reh_census.specs.Bookies.{bookies_of, holders, is_flagged}
 use Rattle.reh_census.specs.Ledgers.{Ledger}
 use Rattle.reh_against.specs.Worst.{SaysAgainst}
 use Rattle.reh_answer.specs.declared.facts.Facts.{Facts}
 use Rattle.reh_answer.specs.Texts.{status_number}
+use Rattle.reh_tally.specs.Few.{AreFew}
+use Rattle.reh_tally.specs.declared.census.TallyFault.TheVariants.{TooMany}
 use Rattle.reh_stop.specs.Stops.{facts_of, text_by}
+use Rattle.reh_stop.proofs.FaultLaws.{failed}
 use Rattle.reh_stop.proofs.stops.say.Goals as goal
+
+pub returns-in_err-against-clause-too_many : goal.returns-in_err-against-clause-too_many
+returns-in_err-against-clause-too_many c = λ same.
+    let g = c.args.gathered.now in
+    subst (λ (ledgers : List Ledger). All (λ ledger. AreFew (holders (bookies_of g.bookies)) (ledger ∷ [])) ledgers → ⊥)
+    c.deref-2.ensures.value
+    (c.in_err-against.ensures.too_many
+    (failed c.from_residual-in_err-against.result c.in_err-against.field-0.0 TooMany c.from_residual-in_err-against.ensures.1 same))
 
 pub returns-clause-said : goal.returns-clause-said
 returns-clause-said c =

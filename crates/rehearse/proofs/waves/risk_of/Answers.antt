@@ -9,5 +9,5 @@ pub returns-in-Ok : goal.returns-in-Ok
 returns-in-Ok g c = record {
   gathered = c.in_ok-gathered.gathered;
   of_files = c.in_ok-gathered.ensures;
-  says = c.in-Ok.ensures;
+  says = c.in-Ok.ensures.said;
 }
