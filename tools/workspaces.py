@@ -53,7 +53,9 @@ def make_workspace(top: Path, name: str, uses: Sequence[str], options: str, sour
     folder = top / "crates" / name
     (folder / "src").mkdir(parents=True)
     for file, text in sources.items():
-        (folder / "src" / file).write_text(text)
+        place = folder / "src" / file
+        place.parent.mkdir(exist_ok=True)
+        place.write_text(text)
     return folder
 
 
@@ -81,12 +83,15 @@ class Keeper(threading.Thread):
         os.link(file, place)
 
 
-def try_tests(folder: Path, room: Path, kept: Dict[str, Path]) -> "subprocess.CompletedProcess[str]":
-    """Runs the tests of a crate without any proof, in a room of its own, and keeps files that the trial builds on the way."""
+def try_crate(folder: Path, room: Path, kept: Dict[str, Path], words: Sequence[str]) -> "subprocess.CompletedProcess[str]":
+    """Tries a crate without any proof, in a room of its own, and keeps files that the trial builds on the way.
+
+    The words stand after `rt try`: `--test` runs its tests, and after `--` a program's arguments stand.
+    """
     keeper = Keeper(room, kept)
     keeper.start()
     tried = subprocess.run(
-        ["rt", "try", "--test"],
+        ["rt", "try", *words],
         cwd=folder,
         env={**os.environ, "TMPDIR": str(room)},
         stdin=subprocess.DEVNULL,
