@@ -12,7 +12,7 @@ use Rattle.reh_waves.specs.Json.{risk_json, waves_json}
 use Rattle.reh_waves.specs.Orders.{IsNameOrder}
 use Rattle.reh_waves.specs.Risk.{IsRisk}
 use Rattle.reh_waves.specs.Texts.{risk_text, waves_text}
-use Rattle.reh_waves.specs.Waves.{AreWaves, NoTwo, answer_in, places}
+use Rattle.reh_waves.specs.Waves.{ArePlaced, AreWaves, NoTwo, answer_in, places}
 use Rattle.reh_waves.specs.declared.risk.Risk.{Risk}
 use Rattle.reh_waves.specs.declared.waves.Waves.{Waves}
 use Rattle.reh_stop.specs.Together.{AreLedgersOf}
@@ -24,12 +24,21 @@ use Rattle.reh_stop.specs.declared.rounds.AskedWaves.{AskedWaves}
 abbrev pub waves_by : Bool → List (String Global) → Waves → List ℕ
 waves_by as_json names waves = if as_json then waves_json names waves else waves_text names waves
 
--- rounds by what inputs show together: no two can be stopped together, each registered bookie is in one or named alone;
--- and they are rounds by the ledgers of all inputs
+-- the order of the bookies' names
+pub record IsBookieOrder (g : Gathered) (order : List ℕ) : Type 0 where
+  pub names : List (String Global)
+  pub are_names : map string_bytes names ≡ g.cluster.names
+  pub in_order : IsNameOrder names order
+
+-- rounds by what inputs show together: no two can be stopped together, each registered bookie is in one or named alone, and
+-- in the order of their names each is in the first that stays a yes with it; and they are rounds by the ledgers of all inputs
 pub record AreRounds (g : Gathered) (asked : AskedWaves) (waves : Waves) : Type 0 where
   pub census : AreWaves (answer_in g.census (bookies_of g.bookies) asked.question) (bookies_of g.bookies) asked.by_rack waves
   pub no_two : NoTwo (answer_in g.census (bookies_of g.bookies) asked.question) asked.by_rack waves.rounds.items
   pub once : (b : ℕ) → places waves b ≡ cond ((bookies_of g.bookies).is_registered b) 1 0
+  pub order : List ℕ
+  pub is_order : IsBookieOrder g order
+  pub placed : ArePlaced (answer_in g.census (bookies_of g.bookies) asked.question) (bookies_of g.bookies) asked.by_rack order waves
   pub ledgers : (ledgers : List Ledger) → AreLedgersOf g ledgers
       → AreWaves (answer_on (counting_of (holders (bookies_of g.bookies)) ledgers) (bookies_of g.bookies) asked.question
       (not_judged g.census.judged)) (bookies_of g.bookies) asked.by_rack waves

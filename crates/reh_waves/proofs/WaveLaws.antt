@@ -1,11 +1,11 @@
 -- A bookie more in rounds.
 use Rattle.std.proofs.Common.{◌≡◌, ◌≢◌, ◌∙◌, ◌<◌, ◌≤◌, ◌+◌, ◌-◌, ◌⊎◌, ◌&&◌, ◌||◌, cond, ℕ, Bool, true, false, All, List, [], ◌∷◌, ◌++◌, Option, Some, None}
-use Rattle.std.proofs.Common.{length, length-append, get_or, set, refl, ap, sym, subst, inl, inr, arith, true≢false}
-use Rattle.std.specs.Prelude.{AllPairs, count_by, sum_by, ◌==◌}
+use Rattle.std.proofs.Common.{length, length-append, append-nil, get_or, set, take, refl, ap, sym, subst, inl, inr, arith, true≢false}
+use Rattle.std.specs.Prelude.{AllPairs, count_by, filter, position, sum_by, ◌==◌}
 use Rattle.std.specs.List.{list_any}
 use Rattle.std.proofs.lemmas.Bool.Decides.{nat_tests}
 use Rattle.std.proofs.lemmas.List.{get_or-set_other, get_or-set_same, length-set}
-use Rattle.std.proofs.lemmas.List.Elements.{All-push, All-set}
+use Rattle.std.proofs.lemmas.List.Elements.{All-push, All-set, filter_more}
 use Rattle.std.proofs.lemmas.List.Folds.{list_any-append, list_any_at}
 use Rattle.std.proofs.lemmas.List.Quantifiers.{all_pairs_push}
 use Rattle.std.proofs.lemmas.List.Sorted.{sum_by-IsPermutation}
@@ -21,7 +21,7 @@ use Rattle.reh_waves.specs.declared.waves.Alone.{Alone}
 use Rattle.reh_waves.specs.declared.waves.Round.{Round}
 use Rattle.reh_waves.specs.declared.waves.Waves.{Waves}
 use Rattle.reh_waves.proofs.SetLaws.{registered-within}
-use Rattle.reh_waves.specs.Waves.{AreApart, AreWaves, IsAlone, IsBegun, IsJoined, IsRound, NoTwo, goes, joins, may_join, rack_for}
+use Rattle.reh_waves.specs.Waves.{AreApart, ArePlaced, AreWaves, IsAlone, IsBegun, IsJoined, IsNamed, IsPlaced, IsPlacedBy, IsRound, NoTwo, PlacesEach, goes, joins, may_join, rack_for}
 
 -- Members
 
@@ -360,3 +360,97 @@ pub order-counts : (bookies : List Bookie) (order : List ℕ) → IsPermutation 
 order-counts bookies order permutation b =
     sum_by-IsPermutation (λ (x : ℕ). cond {A = ℕ} (x == b && (bookies_of bookies).is_registered x) 1 0) (range 0 (length bookies)) order permutation
     ∙ counted (length bookies) b (bookies_of bookies).is_registered ((bookies_of bookies).is_registered b) refl (registered-within bookies b)
+
+-- Where a bookie is placed
+
+module _ (answer : (ℕ → Bool) → Answer) (bookies : Bookies) (by_rack : Bool) (before after : Waves) (b : ℕ) where
+  -- in the first round that it fits
+  pub placed-joined : (number : ℕ)
+      → position (joins answer by_rack (rack_for by_rack (bookies.rack_of b)) b) before.rounds.items ≡ Some number
+      → IsJoined before.rounds.items after.rounds.items number b → after.alone.items ≡ before.alone.items
+      → IsPlaced answer bookies by_rack before after b
+  placed-joined number found joined same =
+      subst (λ (o : Option ℕ).
+      IsPlacedBy o (goes answer (is_in (b ∷ []))) (rack_for by_rack (bookies.rack_of b)) before after b)
+      (sym found) (joined, same)
+
+  -- in one that it begins
+  pub placed-begun : position (joins answer by_rack (rack_for by_rack (bookies.rack_of b)) b) before.rounds.items ≡ None
+      → goes answer (is_in (b ∷ [])) ≡ true
+      → IsBegun before.rounds.items after.rounds.items (rack_for by_rack (bookies.rack_of b)) b
+      → after.alone.items ≡ before.alone.items
+      → IsPlaced answer bookies by_rack before after b
+  placed-begun none yes begun same =
+      subst (λ (o : Option ℕ).
+      IsPlacedBy o (goes answer (is_in (b ∷ []))) (rack_for by_rack (bookies.rack_of b)) before after b)
+      (sym none)
+      (subst (λ (y : Bool). IsPlacedBy None y (rack_for by_rack (bookies.rack_of b)) before after b) (sym yes) (begun, same))
+
+  -- in none
+  pub placed-alone : position (joins answer by_rack (rack_for by_rack (bookies.rack_of b)) b) before.rounds.items ≡ None
+      → goes answer (is_in (b ∷ [])) ≡ false
+      → after.rounds.items ≡ before.rounds.items → IsNamed before.alone.items after.alone.items b
+      → IsPlaced answer bookies by_rack before after b
+  placed-alone none no same named =
+      subst (λ (o : Option ℕ).
+      IsPlacedBy o (goes answer (is_in (b ∷ []))) (rack_for by_rack (bookies.rack_of b)) before after b)
+      (sym none)
+      (subst (λ (y : Bool). IsPlacedBy None y (rack_for by_rack (bookies.rack_of b)) before after b) (sym no) (same, named))
+
+-- Bookies that are placed in an order
+
+module _ (answer : (ℕ → Bool) → Answer) (bookies : Bookies) (by_rack : Bool) where
+  places_each-push : (bs : List ℕ) (first last after : Waves) (b : ℕ)
+      → PlacesEach answer bookies by_rack first bs last → IsPlaced answer bookies by_rack last after b
+      → PlacesEach answer bookies by_rack first (bs ++ b ∷ []) after
+  places_each-push [] first last after b same placed =
+      (after, subst (λ (w : Waves). IsPlaced answer bookies by_rack w after b) (sym same) placed, refl)
+  places_each-push (x ∷ bs) first last after b each placed =
+      (each.0, each.1, places_each-push bs each.0 last after b each.2 placed)
+
+  pub none-placed : (waves : Waves) → waves.rounds.items ≡ [] → waves.alone.items ≡ []
+      → ArePlaced answer bookies by_rack [] waves
+  none-placed waves rounds alone = record { none = waves; no_rounds = rounds; no_alone = alone; places_each = refl }
+
+  -- one that is registered is placed after the others
+  pub placed-more : (order : List ℕ) (i b : ℕ) (before after : Waves) → i < length order → b ≡ get_or order i b
+      → bookies.is_registered b ≡ true
+      → ArePlaced answer bookies by_rack (take i order) before → IsPlaced answer bookies by_rack before after b
+      → ArePlaced answer bookies by_rack (take (i + 1) order) after
+  placed-more order i b before after below here registered were placed =
+      let passed : List ℕ = filter bookies.is_registered (take i order) in
+      let passes : bookies.is_registered (get_or order i b) ≡ true =
+      ap (λ (x : ℕ). bookies.is_registered x) (sym here) ∙ registered in
+      let more : filter bookies.is_registered (take (i + 1) order) ≡ passed ++ b ∷ [] =
+      filter_more bookies.is_registered order i b below
+      ∙ ap (λ (r : Bool). passed ++ cond r (get_or order i b ∷ []) []) passes
+      ∙ ap (λ (x : ℕ). passed ++ x ∷ []) (sym here) in
+      record {
+        none = were.none;
+        no_rounds = were.no_rounds;
+        no_alone = were.no_alone;
+        places_each =
+            subst (λ (bs : List ℕ). PlacesEach answer bookies by_rack were.none bs after) (sym more)
+            (places_each-push passed were.none before after b were.places_each placed);
+      }
+
+  -- one that isn't is passed over
+  pub passed-more : (order : List ℕ) (i b : ℕ) (waves : Waves) → i < length order → b ≡ get_or order i b
+      → bookies.is_registered b ≡ false
+      → ArePlaced answer bookies by_rack (take i order) waves
+      → ArePlaced answer bookies by_rack (take (i + 1) order) waves
+  passed-more order i b waves below here not_registered were =
+      let passed : List ℕ = filter bookies.is_registered (take i order) in
+      let fails : bookies.is_registered (get_or order i b) ≡ false =
+      ap (λ (x : ℕ). bookies.is_registered x) (sym here) ∙ not_registered in
+      let same : filter bookies.is_registered (take (i + 1) order) ≡ passed =
+      filter_more bookies.is_registered order i b below
+      ∙ ap (λ (r : Bool). passed ++ cond r (get_or order i b ∷ []) []) fails
+      ∙ append-nil passed in
+      record {
+        none = were.none;
+        no_rounds = were.no_rounds;
+        no_alone = were.no_alone;
+        places_each =
+            subst (λ (bs : List ℕ). PlacesEach answer bookies by_rack were.none bs waves) (sym same) were.places_each;
+      }

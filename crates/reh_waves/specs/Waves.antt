@@ -1,5 +1,5 @@
 -- Rounds of a rolling restart.
-use Rattle.std.specs.Prelude.{◌≡◌, ◌≤◌, ◌+◌, ℕ, Bool, true, false, not, ◌||◌, ◌&&◌, ◌++◌, slice_set, slice_index_or, ◌==◌, if◌then◌else◌, All, AllPairs, List, [], ◌∷◌, Option, None, count_by, sum_by, length}
+use Rattle.std.specs.Prelude.{◌≡◌, ◌≤◌, ◌+◌, ℕ, Bool, true, false, not, ◌||◌, ◌&&◌, ◌++◌, slice_set, slice_index_or, ◌==◌, if◌then◌else◌, All, AllPairs, List, [], ◌∷◌, Option, None, Some, count_by, filter, position, sum_by, length}
 use Rattle.std.specs.Option.{option_map_or}
 use Rattle.reh_census.specs.Answers.{answer_on, is_yes}
 use Rattle.reh_census.specs.Bookies.{Bookies}
@@ -86,3 +86,40 @@ pub record IsBegun (before after : List Round) (rack : Option ℕ) (b : ℕ) : T
   pub is : after ≡ before ++ round ∷ []
   pub rack_is : round.rack ≡ rack
   pub bookies_are : round.bookies.items ≡ b ∷ []
+
+-- there is one more that is named alone, at the end: this bookie
+pub record IsNamed (before after : List Alone) (b : ℕ) : Type 0 where
+  pub alone : Alone
+  pub is : after ≡ before ++ alone ∷ []
+  pub bookie_is : alone.bookie ≡ b
+
+-- Bookies in their order
+
+-- the bookie has joined the round of this number; where there is none, it has begun a round if it may be stopped at all, and is
+-- else named alone. Nothing else has changed
+abbrev pub IsPlacedBy : Option ℕ → Bool → Option ℕ → Waves → Waves → ℕ → Type 0
+IsPlacedBy (Some number) may_stop rack before after b =
+    IsJoined before.rounds.items after.rounds.items number b × (after.alone.items ≡ before.alone.items)
+IsPlacedBy None true rack before after b =
+    IsBegun before.rounds.items after.rounds.items rack b × (after.alone.items ≡ before.alone.items)
+IsPlacedBy None false rack before after b =
+    (after.rounds.items ≡ before.rounds.items) × IsNamed before.alone.items after.alone.items b
+
+-- that is so for the first round that it may join and that stays a yes with it
+abbrev pub IsPlaced : ((ℕ → Bool) → Answer) → Bookies → Bool → Waves → Waves → ℕ → Type 0
+IsPlaced answer bookies by_rack before after b =
+    let rack = rack_for by_rack (bookies.rack_of b) in
+    IsPlacedBy (position (joins answer by_rack rack b) before.rounds.items) (goes answer (is_in (b ∷ []))) rack before after b
+
+-- each of these bookies is placed so, one after the other
+abbrev pub PlacesEach : ((ℕ → Bool) → Answer) → Bookies → Bool → Waves → List ℕ → Waves → Type 0
+PlacesEach answer bookies by_rack first [] last = first ≡ last
+PlacesEach answer bookies by_rack first (b ∷ bs) last =
+    (next : Waves) × IsPlaced answer bookies by_rack first next b × PlacesEach answer bookies by_rack next bs last
+
+-- these waves come of none, where the registered bookies are placed in this order
+pub record ArePlaced (answer : (ℕ → Bool) → Answer) (bookies : Bookies) (by_rack : Bool) (order : List ℕ) (waves : Waves) : Type 0 where
+  pub none : Waves
+  pub no_rounds : none.rounds.items ≡ []
+  pub no_alone : none.alone.items ≡ []
+  pub places_each : PlacesEach answer bookies by_rack none (filter bookies.is_registered order) waves

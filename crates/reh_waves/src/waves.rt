@@ -11,7 +11,7 @@ ghost use Rattle.reh_census.specs.Striping.{range};
 ghost use Rattle.reh_census.specs.Tails.{IsTail};
 ghost use Rattle.reh_waves.specs.Near.{AreLargest, IsNear};
 ghost use Rattle.reh_waves.specs.Waves as model;
-ghost use Rattle.reh_waves.specs.Waves.{AreWaves, IsBegun, IsJoined, IsRound, NoTwo, answer_in, joins, places};
+ghost use Rattle.reh_waves.specs.Waves.{ArePlaced, AreWaves, IsBegun, IsJoined, IsPlaced, IsRound, NoTwo, answer_in, joins, places};
 
 use crate::near::{Largest, largest_of, near_of, numbers_near};
 use crate::sets::set_of;
@@ -204,6 +204,7 @@ fn place(
     requires bookie { (bookies_of bookies.now).is_registered bookie ≡ true }
     ensures waves { OnOk result (AreWaves (answer_in census.now (bookies_of bookies.now) question.now) (bookies_of bookies.now) by_rack waves.new) }
     ensures places { OnOk result ((b : ℕ) → places waves.new b ≡ places waves.old b + cond (bookie == b) 1 0) }
+    ensures placed { OnOk result (IsPlaced (answer_in census.now (bookies_of bookies.now) question.now) (bookies_of bookies.now) by_rack waves.old waves.new bookie) }
 {
     let among = set_of(alloc, bookies.count(), &[], bookie)?;
     let near = near_of(alloc, census, &among)?;
@@ -266,6 +267,8 @@ pub fn waves_of(
         → NoTwo (answer_on (counting_of (holders (bookies_of bookies.now)) ledgers) (bookies_of bookies.now) question.now
         (not_judged census.now.judged)) by_rack waves.rounds.items) }
     ensures once { IfOk result (λ waves. (b : ℕ) → places waves b ≡ cond ((bookies_of bookies.now).is_registered b) 1 0) }
+    ensures placed { IfOk result (ArePlaced (answer_in census.now (bookies_of bookies.now) question.now)
+        (bookies_of bookies.now) by_rack order.now) }
 {
     let largest = largest_of(census);
     let mut waves = Waves {

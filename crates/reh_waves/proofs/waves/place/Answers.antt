@@ -1,4 +1,4 @@
-use Rattle.std.proofs.Common.{◌≡◌, ◌∙◌, ◌<◌, ℕ, Bool, All, List, Option, Some, None, ap, sym, subst, length, arith}
+use Rattle.std.proofs.Common.{◌≡◌, ◌∙◌, ◌<◌, ℕ, Bool, All, List, Option, Some, None, ap, sym, refl, subst, length, arith}
 use Rattle.std.specs.Prelude.{position}
 use Rattle.std.proofs.lemmas.List.Elements.{All-push}
 use Rattle.std.proofs.lemmas.List.Quantifiers.{position-Some}
@@ -13,7 +13,7 @@ use Rattle.reh_waves.specs.Near.{IsNear}
 use Rattle.reh_waves.proofs.NearLaws.{none-zero}
 use Rattle.reh_waves.specs.Waves.{IsAlone, IsBegun, answer_in, joins, rack_for}
 use Rattle.reh_waves.proofs.PositionLaws.{position-none}
-use Rattle.reh_waves.proofs.WaveLaws.{IsMonotone, begun-apart, begun-rounds, joined-apart, joined-places, joined-rounds}
+use Rattle.reh_waves.proofs.WaveLaws.{IsMonotone, begun-apart, begun-rounds, joined-apart, joined-places, joined-rounds, placed-alone, placed-begun, placed-joined}
 use Rattle.reh_waves.proofs.waves.place.Goals as goal
 
 pub returns-in-Some-clause-waves : goal.returns-in-Some-clause-waves
@@ -54,6 +54,18 @@ returns-in-Some-clause-places c b =
           (position-Some p c.args.waves.now.rounds.items c.in-Some.number c.in_ok-join.ensures.round found).0 c.in_ok-join.ensures b,
     )
 
+pub returns-in-Some-clause-placed : goal.returns-in-Some-clause-placed
+returns-in-Some-clause-placed c =
+    let answer : (ℕ → Bool) → Answer = answer_in c.args.census.now (bookies_of c.args.bookies.now) c.args.question.now in
+    let rack : Option ℕ = rack_for c.args.by_rack ((bookies_of c.args.bookies.now).rack_of c.args.bookie) in
+    let p : Round → Bool = joins answer c.args.by_rack rack c.args.bookie in
+    let found : position p c.args.waves.now.rounds.items ≡ Some c.in-Some.number =
+    (λ i. position (joins answer c.args.by_rack (sym c.rack_for-rack.ensures i) c.args.bookie) (sym c.deref.ensures.value i))
+    ∙ sym c.in_ok-found.ensures ∙ c.in-Some.is in
+    placed-joined answer (bookies_of c.args.bookies.now) c.args.by_rack c.args.waves.now
+    (record { rounds = c.join.new.rounds; alone = c.args.waves.now.alone }) c.args.bookie c.in-Some.number found
+    c.in_ok-join.ensures refl
+
 pub returns-then-is_yes-clause-waves : goal.returns-then-is_yes-clause-waves
 returns-then-is_yes-clause-waves c =
     let answer : (ℕ → Bool) → Answer = answer_in c.args.census.now (bookies_of c.args.bookies.now) c.args.question.now in
@@ -75,6 +87,21 @@ returns-then-is_yes-clause-waves c =
       alone = c.requires.waves.alone;
     }
 
+pub returns-then-is_yes-clause-placed : goal.returns-then-is_yes-clause-placed
+returns-then-is_yes-clause-placed c =
+    let answer : (ℕ → Bool) → Answer = answer_in c.args.census.now (bookies_of c.args.bookies.now) c.args.question.now in
+    let rack : Option ℕ = rack_for c.args.by_rack ((bookies_of c.args.bookies.now).rack_of c.args.bookie) in
+    let p : Round → Bool = joins answer c.args.by_rack rack c.args.bookie in
+    let none : position p c.args.waves.now.rounds.items ≡ None =
+    (λ i. position (joins answer c.args.by_rack (sym c.rack_for-rack.ensures i) c.args.bookie) (sym c.deref.ensures.value i))
+    ∙ sym c.in_ok-found.ensures ∙ c.in_default.is in
+    placed-begun answer (bookies_of c.args.bookies.now) c.args.by_rack c.args.waves.now
+    (record { rounds = c.begin.new.rounds; alone = c.args.waves.now.alone }) c.args.bookie none
+    (sym (ap (λ a. is_yes a) c.in_ok-answer.ensures) ∙ sym c.is_yes.ensures ∙ c.if-is_yes.true)
+    (subst (λ (r : Option ℕ). IsBegun c.args.waves.now.rounds.items c.begin.new.rounds.items r c.args.bookie)
+    c.rack_for-rack.ensures c.in_ok-begin.ensures)
+    refl
+
 pub returns-clause-waves : goal.returns-clause-waves
 returns-clause-waves c =
     let answer : (ℕ → Bool) → Answer = answer_in c.args.census.now (bookies_of c.args.bookies.now) c.args.question.now in
@@ -89,6 +116,24 @@ returns-clause-waves c =
             not_yes = sym c.is_yes.ensures ∙ c.if-is_yes.false;
           }));
     }
+
+pub returns-clause-placed : goal.returns-clause-placed
+returns-clause-placed c =
+    let answer : (ℕ → Bool) → Answer = answer_in c.args.census.now (bookies_of c.args.bookies.now) c.args.question.now in
+    let rack : Option ℕ = rack_for c.args.by_rack ((bookies_of c.args.bookies.now).rack_of c.args.bookie) in
+    let p : Round → Bool = joins answer c.args.by_rack rack c.args.bookie in
+    let none : position p c.args.waves.now.rounds.items ≡ None =
+    (λ i. position (joins answer c.args.by_rack (sym c.rack_for-rack.ensures i) c.args.bookie) (sym c.deref.ensures.value i))
+    ∙ sym c.in_ok-found.ensures ∙ c.in_default.is in
+    placed-alone answer (bookies_of c.args.bookies.now) c.args.by_rack c.args.waves.now
+    (record { rounds = c.args.waves.now.rounds; alone = c.push.new.self }) c.args.bookie none
+    (sym (ap (λ a. is_yes a) c.in_ok-answer.ensures) ∙ sym c.is_yes.ensures ∙ c.if-is_yes.false)
+    refl
+    (record {
+      alone = record { bookie = c.args.bookie; answer = c.in_ok-answer.answer };
+      is = c.in_ok-push.ensures.items;
+      bookie_is = refl;
+    })
 
 pub first_fit-requires-clause-near : goal.first_fit-requires-clause-near
 first_fit-requires-clause-near c =

@@ -6,7 +6,7 @@ use Rattle.reh_census.specs.Counting.{not_judged}
 use Rattle.reh_census.specs.declared.answers.Answer.{Answer}
 use Rattle.reh_census.proofs.AnswerLaws.{yes-part-in}
 use Rattle.reh_census.proofs.CountingLaws.{census-answer}
-use Rattle.reh_waves.specs.Waves.{AreWaves, NoTwo, answer_in}
+use Rattle.reh_waves.specs.Waves.{ArePlaced, AreWaves, NoTwo, answer_in}
 use Rattle.reh_waves.proofs.WaveLaws.{no-two, order-counts}
 use Rattle.reh_waves.proofs.waves.waves_of.Goals as goal
 
@@ -37,3 +37,11 @@ returns-clause-once c b =
     ∙ ap (λ (xs : List ℕ). count_by (λ x. x == b && (bookies_of c.args.bookies.now).is_registered x) xs)
     (take_all c.loop-bookie.bookie-index c.args.order.now (omega (arith, c.loop-bookie-test.false)))
     ∙ order-counts c.args.bookies.now c.args.order.now c.requires b
+
+pub returns-clause-placed : goal.returns-clause-placed
+returns-clause-placed c =
+    subst (λ (order : List ℕ).
+    ArePlaced (answer_in c.args.census.now (bookies_of c.args.bookies.now) c.args.question.now) (bookies_of c.args.bookies.now)
+    c.args.by_rack order c.loop-bookie.waves)
+    (take_all c.loop-bookie.bookie-index c.args.order.now (omega (arith, c.loop-bookie-test.false)))
+    c.loop-bookie.invariant.placed
