@@ -1,17 +1,17 @@
--- Both are there.
-use Rattle.std.proofs.Common.{◌≡◌, IfOk, Ok, subst}
-use Rattle.std.proofs.lemmas.Result.{MatchResult-weaker}
+-- Both are there; or the fault is that of one.
+use Rattle.std.proofs.Common.{◌≡◌, Err, MatchResult, Ok, subst}
+use Rattle.reh_inputs.specs.declared.gathered.GatherFault.TheVariants.{TooMany}
 use Rattle.reh_inputs.specs.Parts.{IsPart}
+use Rattle.reh_inputs.specs.Uncounted.{IsPartFault}
+use Rattle.reh_inputs.proofs.PartLaws.{fault_back, fault_front}
 use Rattle.reh_inputs.proofs.parts.both.Goals as goal
 
 pub returns-in-Ok-Ok : goal.returns-in-Ok-Ok
-returns-in-Ok-Ok c =
-    let one = c.in-Ok-Ok.is-0 in
-    let other = c.in-Ok-Ok.is-1 in
+returns-in-Ok-Ok c holders names strict first next before behind from one other =
+    let is = c.in-Ok-Ok.is-0 in
+    let is_too = c.in-Ok-Ok.is-1 in
     let low : c.args.low ≡ Ok c.in-Ok-Ok.low = cc in
     let high : c.args.high ≡ Ok c.in-Ok-Ok.high = cc in
-    MatchResult-weaker c.joined.result c.joined.ensures
-    (λ part is holders names strict before behind first second.
-    is holders names strict before behind (subst (λ r. IfOk r (IsPart holders names strict before)) low first)
-    (subst (λ r. IfOk r (IsPart holders names strict behind)) high second))
-    (λ _ nothing. nothing)
+    c.joined.ensures holders names strict first before behind
+    (subst (λ r. MatchResult r (IsPart holders names strict before) (IsPartFault holders names strict first before)) low one)
+    (subst (λ r. MatchResult r (IsPart holders names strict behind) (IsPartFault holders names strict next behind)) high other)
