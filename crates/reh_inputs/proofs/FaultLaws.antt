@@ -1,7 +1,7 @@
 -- Why something can't be counted, seen by what has it.
 use Rattle.std.proofs.Common.{◌≡◌, ◌∙◌, ◌<◌, ◌≤◌, ◌+◌, ℕ, zero, suc, Bool, true, cond, if◌then◌else◌, List, [], ◌∷◌, ◌++◌, Option, Some, None}
 use Rattle.std.proofs.Common.{length, map, get_or, take, refl, ap, sym, subst, arith, nat_eq}
-use Rattle.std.specs.Prelude.{IfErr, IfNone, IsErrAnd, IsSome, Result, slice_get}
+use Rattle.std.specs.Prelude.{IfNone, IsErrAnd, IsSome, MatchResult, Result, slice_get}
 use Rattle.std.specs.List.{Contains, IsDistinct, flat_map, list_any}
 use Rattle.std.specs.Option.{IsSomeAnd, option_map}
 use Rattle.std.proofs.lemmas.Bool.Decides.{nat_tests}
@@ -28,19 +28,19 @@ use Rattle.reh_inputs.specs.Uncounted.{ComesAgain, HasUnfit, InputHasUnfit, IsCo
 use Rattle.reh_inputs.specs.United.{number_of}
 
 -- what is no more than that is no more than this, and who has such a ledger there has it here
-pub IsCountFault-weaker : {few more : Type 0} (unfit known : ℕ → ℕ → Type 0) → (more → few)
+pub IsCountFault-weaker : (few more : Type 0) (unfit known : ℕ → ℕ → Type 0) → (more → few)
     → ((input id : ℕ) → unfit input id → known input id)
     → (fault : GatherFault) → IsCountFault few unfit fault → IsCountFault more known fault
-IsCountFault-weaker unfit known fewer has gather.TooMany is = λ are. is (fewer are)
-IsCountFault-weaker unfit known fewer has (gather.Unfit input id) is = has input id is
-IsCountFault-weaker unfit known fewer has gather.NoMemory is = tt
-IsCountFault-weaker unfit known fewer has other is = absurd is
+IsCountFault-weaker few more unfit known fewer has gather.TooMany is = λ are. is (fewer are)
+IsCountFault-weaker few more unfit known fewer has (gather.Unfit input id) is = has input id is
+IsCountFault-weaker few more unfit known fewer has gather.NoMemory is = tt
+IsCountFault-weaker few more unfit known fewer has other is = absurd is
 
 -- what a census says is too much is too much
-pub IsCountFault-tally : {few : Type 0} (unfit : ℕ → ℕ → Type 0) (tally : TallyFault) → (tally ≡ TooMany → few → ⊥)
+pub IsCountFault-tally : (few : Type 0) (unfit : ℕ → ℕ → Type 0) (tally : TallyFault) → (tally ≡ TooMany → few → ⊥)
     → IsCountFault few unfit (fault_of_tally tally)
-IsCountFault-tally unfit TooMany too_many = too_many refl
-IsCountFault-tally unfit NoMemory too_many = tt
+IsCountFault-tally few unfit TooMany too_many = too_many refl
+IsCountFault-tally few unfit NoMemory too_many = tt
 
 pub none_unless : {A : Type 0} (o : Option A) (P : Type 0) → (o ≡ None → P) → IfNone o P
 none_unless None P none = none refl
@@ -55,9 +55,11 @@ none_then None is implies = implies is
 none_then (Some x) is implies = tt
 
 -- a fault that is passed on
-pub passed_on : {T : Type 0} (Q : GatherFault → Type 0) (r : Result T GatherFault) (fault : GatherFault)
-    → IsErrAnd r (λ passed. passed ≡ fault) → Q fault → IfErr r Q
-passed_on Q r fault is here = let p = err_from_is_err_and r is in rw (p.1, p.2) here
+pub passed_on : {T : Type 0} (P : T → Type 0) (Q : GatherFault → Type 0) (r : Result T GatherFault) (fault : GatherFault)
+    → IsErrAnd r (λ passed. passed ≡ fault) → Q fault → MatchResult r P Q
+passed_on {T} P Q r fault is here =
+    let p = err_from_is_err_and r is in
+    subst (λ (s : Result T GatherFault). MatchResult s P Q) (sym p.1) (subst Q (sym p.2) here)
 
 -- Ids
 
@@ -107,7 +109,8 @@ pub ledger_unfit : (numbers : List ℕ) (reading : Reading) (l : Listed) (input 
     → IsUnfitFault (λ number id. (number ≡ input) × (id ≡ g.id) × (IsLedger (ledger_in numbers reading l g) → ⊥)) fault
     → IsUnfitFault (λ number id. (number ≡ input) × HasUnfit numbers reading l id) fault
 ledger_unfit numbers reading l input k g gs same within is =
-    IsCountFault-weaker (λ number id. (number ≡ input) × (id ≡ g.id) × (IsLedger (ledger_in numbers reading l g) → ⊥))
+    IsCountFault-weaker (Unit {0}) (Unit {0})
+    (λ number id. (number ≡ input) × (id ≡ g.id) × (IsLedger (ledger_in numbers reading l g) → ⊥))
     (λ number id. (number ≡ input) × HasUnfit numbers reading l id) (λ one. one)
     (λ number id has. (
       has.0,
@@ -125,7 +128,7 @@ pub input_unfit : (names : List (List ℕ)) (reading : Reading) (first : ℕ) (i
     → IsUnfitFault (λ number id. (number ≡ first + k) × InputHasUnfit names reading one id) fault
     → IsUnfitFault (IsUnfitAt names reading first inputs) fault
 input_unfit names reading first inputs k one there =
-    IsCountFault-weaker (λ number id. (number ≡ first + k) × InputHasUnfit names reading one id)
+    IsCountFault-weaker (Unit {0}) (Unit {0}) (λ number id. (number ≡ first + k) × InputHasUnfit names reading one id)
     (IsUnfitAt names reading first inputs) (λ one. one)
     (λ number id has. (
       k,

@@ -122,7 +122,8 @@ module _ (holders : List ℕ) (names : List (List ℕ)) (before behind : List In
     pub fault_front : (first : ℕ) (fault : GatherFault) → IsPartFault holders names strict first before fault
         → IsPartFault holders names strict first (before ++ behind) fault
     fault_front first =
-        IsCountFault-weaker (IsUnfitAt names (reading_of strict) first before)
+        IsCountFault-weaker (AreFewIn holders names strict before) (AreFewIn holders names strict (before ++ behind))
+        (IsUnfitAt names (reading_of strict) first before)
         (IsUnfitAt names (reading_of strict) first (before ++ behind)) few_front
         (λ input id is. (
           is.0,
@@ -134,7 +135,8 @@ module _ (holders : List ℕ) (names : List (List ℕ)) (before behind : List In
         → IsPartFault holders names strict next behind fault
         → IsPartFault holders names strict first (before ++ behind) fault
     fault_back first next from =
-        IsCountFault-weaker (IsUnfitAt names (reading_of strict) next behind)
+        IsCountFault-weaker (AreFewIn holders names strict behind) (AreFewIn holders names strict (before ++ behind))
+        (IsUnfitAt names (reading_of strict) next behind)
         (IsUnfitAt names (reading_of strict) first (before ++ behind)) few_back
         (λ input id is. (
           length before + is.0,

@@ -4,11 +4,11 @@ use Rattle.std.proofs.lemmas.List.Sums.{sum_by-append}
 use Rattle.reh_census.specs.declared.censuses.CountedEnsemble.{CountedEnsemble}
 use Rattle.reh_census.specs.declared.censuses.CountedTail.{CountedTail}
 use Rattle.reh_census.specs.declared.classes.Counted.{Counted}
-use Rattle.reh_census.specs.Counting.{count_ensembles_in, count_in, count_tails_in}
+use Rattle.reh_census.specs.Counting.{count_ensembles_in, count_in, count_tails_in, judged_sum}
 use Rattle.reh_tally.specs.Few.{AreFewCounts}
 use Rattle.reh_inputs.specs.Gathered.{fault_of_tally}
 use Rattle.reh_inputs.specs.Renumbered.{files_of}
-use Rattle.reh_inputs.specs.Uncounted.{IsFewJudged}
+use Rattle.reh_inputs.specs.Uncounted.{AreFewWith, IsFewJudged}
 use Rattle.reh_inputs.proofs.FaultLaws.{IsCountFault-tally, IsCountFault-weaker, passed_on}
 use Rattle.reh_inputs.proofs.gathered.census_with.Goals as goal
 
@@ -36,16 +36,22 @@ returns-clause-ensembles c test =
 pub returns-in_err-judged-clause-fault : goal.returns-in_err-judged-clause-fault
 returns-in_err-judged-clause-fault c =
     let fault = c.in_err-judged.field-0.0 in
-    passed_on _ c.from_residual.result fault c.from_residual.ensures.1
-    (IsCountFault-weaker (λ input id. ⊥) (λ input id. ⊥) (λ are. are.judged) (λ input id no. no) fault
+    passed_on _ _ c.from_residual.result fault c.from_residual.ensures.1
+    (IsCountFault-weaker (IsFewJudged (judged_sum c.args.judged (files_of c.args.names.now c.args.inputs.now).judged))
+    (AreFewWith c.args.own.entries.items c.args.own.tails.items c.args.own.ensembles.items c.args.judged
+    (files_of c.args.names.now c.args.inputs.now))
+    (λ input id. ⊥) (λ input id. ⊥) (λ are. are.judged) (λ input id no. no) fault
     c.in_err-judged.ensures.fault)
 
 pub returns-in_err-census-clause-fault : goal.returns-in_err-census-clause-fault
 returns-in_err-census-clause-fault c =
     let tally = c.in_err-census.field-0.0 in
     let added = c.in_ok-add_files.ensures in
-    passed_on _ c.from_residual-in_err-census.result (fault_of_tally tally) c.from_residual-in_err-census.ensures.1
-    (IsCountFault-tally (λ input id. ⊥) tally
+    passed_on _ _ c.from_residual-in_err-census.result (fault_of_tally tally) c.from_residual-in_err-census.ensures.1
+    (IsCountFault-tally
+    (AreFewWith c.args.own.entries.items c.args.own.tails.items c.args.own.ensembles.items c.args.judged
+    (files_of c.args.names.now c.args.inputs.now))
+    (λ input id. ⊥) tally
     (λ same are.
     (c.in_err-census.ensures.too_many).0 (ap Err same)
     (subst (λ (tails : List CountedTail). AreFewCounts c.add_files.new.counts.entries.items tails c.add_files.new.counts.ensembles.items)

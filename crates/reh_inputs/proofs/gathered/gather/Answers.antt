@@ -74,22 +74,22 @@ returns-clause-gathers g c =
 
 pub returns-in_err-check_strict-clause-fault : goal.returns-in_err-check_strict-clause-fault
 returns-in_err-check_strict-clause-fault g c =
-    passed_on _ c.from_residual.result c.in_err-check_strict.field-0.0 c.from_residual.ensures.1
+    passed_on _ _ c.from_residual.result c.in_err-check_strict.field-0.0 c.from_residual.ensures.1
     c.in_err-check_strict.ensures.fault
 
 pub returns-in_err-cluster-clause-fault : goal.returns-in_err-cluster-clause-fault
 returns-in_err-cluster-clause-fault g c =
-    passed_on _ c.from_residual-in_err-cluster.result c.in_err-cluster.field-0.0 c.from_residual-in_err-cluster.ensures.1
+    passed_on _ _ c.from_residual-in_err-cluster.result c.in_err-cluster.field-0.0 c.from_residual-in_err-cluster.ensures.1
     (c.in_err-cluster.ensures.fault c.args.strict)
 
 pub returns-in_err-check_inputs-clause-fault : goal.returns-in_err-check_inputs-clause-fault
 returns-in_err-check_inputs-clause-fault g c =
-    passed_on _ c.from_residual-in_err-check_inputs.result c.in_err-check_inputs.field-0.0
+    passed_on _ _ c.from_residual-in_err-check_inputs.result c.in_err-check_inputs.field-0.0
     c.from_residual-in_err-check_inputs.ensures.1 (c.in_err-check_inputs.ensures.fault c.args.strict)
 
 pub returns-in_err-ids-clause-fault : goal.returns-in_err-ids-clause-fault
 returns-in_err-ids-clause-fault g c =
-    passed_on _ c.from_residual-in_err-ids.result c.in_err-ids.field-0.0 c.from_residual-in_err-ids.ensures.1
+    passed_on _ _ c.from_residual-in_err-ids.result c.in_err-ids.field-0.0 c.from_residual-in_err-ids.ensures.1
     (c.in_err-ids.ensures.fault c.args.strict)
 
 pub returns-in_err-part-clause-fault : goal.returns-in_err-part-clause-fault
@@ -99,7 +99,7 @@ returns-in_err-part-clause-fault g c =
     let fault = c.in_err-part.field-0.0 in
     let cluster : c.in_ok-cluster.cluster ≡ united inputs = c.in_ok-cluster.ensures.united in
     let bookies : c.in_ok-bookies.bookies ≡ bookies_of (united inputs) = c.in_ok-bookies.ensures ∙ ap bookies_of cluster in
-    passed_on _ c.from_residual-in_err-part.result fault c.from_residual-in_err-part.ensures.1
+    passed_on _ _ c.from_residual-in_err-part.result fault c.from_residual-in_err-part.ensures.1
     (part_fault inputs strict fault
     (subst (λ (bs : List Bookie). IsPartFault (holders (census_bookies bs)) (united inputs).names strict 0 inputs fault) bookies
     (subst (λ (names : List (List ℕ)).
@@ -119,7 +119,7 @@ returns-in_err-census-clause-fault g c =
     subst (λ (bs : List Bookie). IsPart (holders (census_bookies bs)) (united inputs).names strict inputs part) bookies
     (subst (λ (names : List (List ℕ)). IsPart (holders (census_bookies c.in_ok-bookies.bookies)) names strict inputs part)
     (c.names.ensures ∙ named) c.in_ok-part.ensures) in
-    passed_on _ c.from_residual-in_err-census.result fault c.from_residual-in_err-census.ensures.1
+    passed_on _ _ c.from_residual-in_err-census.result fault c.from_residual-in_err-census.ensures.1
     (census_fault inputs strict part shown fault
     (subst (λ (own : Judged).
     IsTooMuch

@@ -9,7 +9,7 @@ returns-in_err-add_ids_in-clause-fault c =
     let k = c.loop-input.input in
     let one = c.index-inputs-input.result in
     let fault = c.in_err-add_ids_in.field-0.0 in
-    passed_on _ c.from_residual.result fault c.from_residual.ensures.1
+    passed_on _ _ c.from_residual.result fault c.from_residual.ensures.1
     (λ strict.
     ids_fault inputs strict k one c.loop-input.ids.keys
     (slice_get-there inputs k one c.loop-input-test.true c.index-inputs-input.is) c.loop-input.invariant fault

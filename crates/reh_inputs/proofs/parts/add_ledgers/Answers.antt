@@ -21,7 +21,7 @@ loop-ledger-preserved c =
 pub returns-in_err-add_ledger-clause-fault : goal.returns-in_err-add_ledger-clause-fault
 returns-in_err-add_ledger-clause-fault c =
     let fault = c.in_err-add_ledger.field-0.0 in
-    passed_on _ c.from_residual-in_err-add_ledger.result fault c.from_residual-in_err-add_ledger.ensures.1
+    passed_on _ _ c.from_residual-in_err-add_ledger.result fault c.from_residual-in_err-add_ledger.ensures.1
     (ledger_unfit c.args.numbers.now c.args.reading c.args.listed.now c.args.input c.loop-ledger.ledger-index
     c.ledger-item.result c.deref-ledger-items.result.now c.deref-ledger-items.ensures.value c.loop-ledger-test.true
     c.ledger-item.is fault c.in_err-add_ledger.ensures.fault)

@@ -19,7 +19,7 @@ loop-input-preserved c =
 pub returns-in_err-add_ledgers_in-clause-fault : goal.returns-in_err-add_ledgers_in-clause-fault
 returns-in_err-add_ledgers_in-clause-fault c =
     let fault = c.in_err-add_ledgers_in.field-0.0 in
-    passed_on _ c.from_residual.result fault c.from_residual.ensures.1
+    passed_on _ _ c.from_residual.result fault c.from_residual.ensures.1
     (input_unfit c.args.names.now c.args.reading c.args.first c.args.inputs.now c.loop-input.input c.index-inputs-input.result
     (slice_get-there c.args.inputs.now c.loop-input.input c.index-inputs-input.result c.loop-input-test.true
     c.index-inputs-input.is)
