@@ -1,19 +1,25 @@
 -- Why something can't be counted, seen by what has it.
-use Rattle.std.proofs.Common.{◌≡◌, ◌∙◌, ◌<◌, ◌≤◌, ◌+◌, ℕ, zero, suc, Bool, true, cond, if◌then◌else◌, List, [], ◌∷◌, ◌++◌, Option, Some, None}
+use Rattle.std.proofs.Common.{◌≡◌, ◌∙◌, ◌<◌, ◌≤◌, ◌+◌, ◌^◌, inl, inr, ℕ, zero, suc, Bool, true, cond, if◌then◌else◌, List, [], ◌∷◌, ◌++◌, Option, Some, None}
 use Rattle.std.proofs.Common.{length, map, get_or, take, refl, ap, sym, subst, arith, nat_eq}
 use Rattle.std.specs.Prelude.{IfNone, IsErrAnd, IsSome, MatchResult, Result, slice_get}
 use Rattle.std.specs.List.{Contains, IsDistinct, flat_map, list_any}
 use Rattle.std.specs.Option.{IsSomeAnd, option_map}
+use Rattle.std.proofs.lemmas.Bool.{cases_lt}
 use Rattle.std.proofs.lemmas.Bool.Decides.{nat_tests}
 use Rattle.std.proofs.lemmas.List.{take-map}
 use Rattle.std.proofs.lemmas.Map.Views.{Contains-from_any}
 use Rattle.std.proofs.lemmas.Option.{slice_get-map}
 use Rattle.std.proofs.lemmas.Result.{err_from_is_err_and}
 use Rattle.indexmap.specs.IndexSet.{insert_key}
+use Rattle.reh_census.specs.declared.censuses.CountedEnsemble.{CountedEnsemble}
+use Rattle.reh_census.specs.declared.censuses.CountedTail.{CountedTail}
+use Rattle.reh_census.specs.declared.classes.Counted.{Counted}
+use Rattle.reh_census.specs.Counting.{ensembles_in, entries_in, tails_in}
 use Rattle.reh_census.specs.Ledgers.{IsLedger}
 use Rattle.reh_model.specs.Cluster.{Ledger as PicturedLedger}
 use Rattle.reh_model.proofs.ListLaws.{slice_get-there}
 use Rattle.reh_picture.specs.declared.listings.Listed.{Listed}
+use Rattle.reh_tally.specs.Few.{AreFewCounts}
 use Rattle.reh_tally.specs.declared.census.TallyFault.{TallyFault}
 use Rattle.reh_tally.specs.declared.census.TallyFault.TheVariants.{TooMany, NoMemory}
 use Rattle.reh_inputs.specs.declared.gathered.GatherFault.{GatherFault}
@@ -60,6 +66,21 @@ pub passed_on : {T : Type 0} (P : T → Type 0) (Q : GatherFault → Type 0) (r 
 passed_on {T} P Q r fault is here =
     let p = err_from_is_err_and r is in
     subst (λ (s : Result T GatherFault). MatchResult s P Q) (sym p.1) (subst Q (sym p.2) here)
+
+-- what isn't too much is few
+at_most : (m n : ℕ) → ((m ≤ n → ⊥) → ⊥) → m ≤ n
+at_most m n not_more = elim (cases_lt n m) [
+  | inl more ↦ absurd (not_more (λ few. omega (arith, more, few)))
+  | inr few ↦ few
+]
+
+pub not_too_many : (classes : List Counted) (kinds : List CountedTail) (members : List CountedEnsemble)
+    → ((AreFewCounts classes kinds members → ⊥) → ⊥) → AreFewCounts classes kinds members
+not_too_many classes kinds members not_more = record {
+  entries = at_most (entries_in classes) (2 ^ 63) (λ more. not_more (λ few. more few.entries));
+  tails = at_most (tails_in kinds) (2 ^ 63) (λ more. not_more (λ few. more few.tails));
+  ensembles = at_most (ensembles_in members) (2 ^ 63) (λ more. not_more (λ few. more few.ensembles));
+}
 
 -- Ids
 

@@ -83,6 +83,45 @@ module _ (inputs : List Input) (strict : Bool) where
             (sym (λ i. judged_by (length (is.ledgers i)) (is.assumed i))) are.judged;
       }
 
+  pub few_together : (part : Part) → IsPart (holders_of inputs) (united inputs).names strict inputs part
+      → AreFewWith part.counts.entries.items part.counts.tails.items part.counts.ensembles.items
+      (judged_by (length part.ledgers.items) part.assumed) (files_of (united inputs).names inputs)
+      → AreFewTogether inputs strict
+  few_together part is are =
+      let files : Counts = files_of (united inputs).names inputs in
+      let ledgers = ledgers_of (reading_of strict) inputs in
+      let entries : entries_in part.counts.entries.items ≡ count_entries (holders_of inputs) ledgers (λ class. true) =
+      is.entries (λ class. true) in
+      let tails : tails_in part.counts.tails.items ≡ count_tails ledgers (λ tail. true) = is.tails (λ tail. true) in
+      let ensembles : ensembles_in part.counts.ensembles.items ≡ count_ensembles ledgers (λ members. true) =
+      is.ensembles (λ members. true) in
+      record {
+        entries =
+            omega (
+              arith,
+              are.counts.entries,
+              entries,
+              sum_by-append (λ (c : Counted). c.count) part.counts.entries.items files.entries,
+            );
+        tails =
+            omega (
+              arith,
+              are.counts.tails,
+              tails,
+              sum_by-append (λ (c : CountedTail). c.count) part.counts.tails.items files.tails,
+            );
+        ensembles =
+            omega (
+              arith,
+              are.counts.ensembles,
+              ensembles,
+              sum_by-append (λ (c : CountedEnsemble). c.count) part.counts.ensembles.items files.ensembles,
+            );
+        judged =
+            subst (λ (own : Judged). IsFewJudged (judged_sum own files.judged))
+            (λ i. judged_by (length (is.ledgers i)) (is.assumed i)) are.judged;
+      }
+
   pub census_fault : (part : Part) → IsPart (holders_of inputs) (united inputs).names strict inputs part
       → (fault : GatherFault)
       → IsTooMuch

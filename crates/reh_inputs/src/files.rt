@@ -2,7 +2,7 @@
 ghost use Rattle.std.specs.Prelude.{◌≡◌, ◌<◌, ◌≤◌, ◌^◌, ◌++◌, ◌+◌, ◌∷◌, [], All, IfNone, IfOk, IfSome, OnOk, fold, map, slice_get};
 ghost use Rattle.std.specs.List.{flat_map};
 ghost use Rattle.std.specs.Option.{option_map_or};
-ghost use Rattle.reh_census.specs.Counting.{judged_sum, not_judged};
+ghost use Rattle.reh_census.specs.Counting.{judged_sum};
 ghost use Rattle.reh_census.specs.Tails.{IsTail};
 ghost use Rattle.reh_census_file.specs.declared.lists.TheConstants.{MAX_NAMES};
 ghost use Rattle.reh_inputs.specs.Inputs.{of_census};
@@ -272,7 +272,7 @@ fn sum_of(one: u64, other: u64) -> Option<u64>
 /// What was judged in two parts, if a census counts so much.
 pub(crate) fn judged_in(one: Judged, other: Judged) -> Option<Judged>
     ensures sum { IfSome result (λ sum. sum ≡ judged_sum one other) }
-    ensures within { IfSome result (λ sum. not_judged sum ≤ 2 ^ 63) }
+    ensures few { IfSome result IsFewJudged }
     ensures too_many { IfNone result (IsFewJudged (judged_sum one other) → ⊥) }
 {
     let ledgers = sum_of(one.ledgers, other.ledgers)?;

@@ -1,10 +1,10 @@
 // What inputs show together, as a census counts it.
-ghost use Rattle.std.specs.Prelude.{◌≡◌, ◌≤◌, ◌+◌, ◌^◌, ◌++◌, All, Bool, List, ℕ, None, Some, fold, length, map, nat_eq, slice_get, take, IfErr, IfOk, OnOk};
+ghost use Rattle.std.specs.Prelude.{◌≡◌, ◌+◌, ◌++◌, All, Bool, List, ℕ, None, Some, fold, length, map, nat_eq, slice_get, take, IfErr, IfOk, OnOk};
 ghost use Rattle.std.specs.List.{flat_map, IsDistinct};
 ghost use Rattle.std.specs.Option.{IsSomeAnd};
 ghost use Rattle.reh_census.specs.declared.censuses.Tail.{Tail as TailValue};
 ghost use Rattle.reh_census.specs.declared.classes.Class.{Class as ClassValue};
-ghost use Rattle.reh_census.specs.Counting.{count_ensembles_in, count_in, count_tails_in, judged_sum, not_judged};
+ghost use Rattle.reh_census.specs.Counting.{count_ensembles_in, count_in, count_tails_in, judged_sum};
 ghost use Rattle.reh_census.specs.Order.{IsInOrder};
 ghost use Rattle.reh_census.specs.Tails.{IsTail};
 ghost use Rattle.reh_inputs.specs.Empties.{EmptiesHoldNothing};
@@ -12,7 +12,7 @@ ghost use Rattle.reh_inputs.specs.Faults.{IsGatherFault, IsUniteFault};
 ghost use Rattle.reh_inputs.specs.Gathered as model;
 ghost use Rattle.reh_inputs.specs.Inputs.{of_picture};
 ghost use Rattle.reh_inputs.specs.Renumbered.{files_of, judged_by, with_judged};
-ghost use Rattle.reh_inputs.specs.Uncounted.{AreFewWith, IsFewJudged, IsIdFault, IsTooMuch};
+ghost use Rattle.reh_inputs.specs.Uncounted.{AreFewTogether, AreFewWith, IsFewJudged, IsIdFault, IsTooMuch};
 ghost use Rattle.reh_inputs.specs.United.{AreAlike, united};
 ghost use Rattle.reh_inputs.specs.declared.inputs.Input.{Input as InputValue};
 
@@ -243,7 +243,7 @@ pub(crate) fn judged_by(ledgers: &[Ledger], assumed: u64) -> Judged
 fn judged_with(own: Judged, inputs: &[Input]) -> Result<Judged, GatherFault>
     ensures sum { IfOk result (λ judged. judged
         ≡ judged_sum own (fold with_judged (judged_by 0 0) inputs.now)) }
-    ensures within { IfOk result (λ judged. not_judged judged ≤ 2 ^ 63) }
+    ensures few { IfOk result IsFewJudged }
     ensures fault { IfErr result (IsTooMuch (IsFewJudged (judged_sum own (fold with_judged (judged_by 0 0) inputs.now)))) }
 {
     let Some(files) = judged_of(inputs) else {
@@ -272,6 +272,8 @@ fn census_with(
         ≡ count_ensembles_in own.ensembles.items test + count_ensembles_in (files_of names.now inputs.now).ensembles test) }
     ensures order { IfOk result (λ census. IsInOrder census) }
     ensures judged { IfOk result (λ census. census.judged ≡ judged_sum judged (files_of names.now inputs.now).judged) }
+    ensures few { OnOk result (AreFewWith own.entries.items own.tails.items own.ensembles.items judged
+        (files_of names.now inputs.now)) }
     ensures fault { IfErr result (IsTooMuch (AreFewWith own.entries.items own.tails.items own.ensembles.items judged
         (files_of names.now inputs.now))) }
 {
@@ -298,6 +300,7 @@ pub fn gather<R: Threads + Sync>(
 ) -> Result<Gathered, GatherFault>
     ensures gathers { IfOk result (λ gathered. model.Gathers inputs.now strict gathered) }
     ensures empties { OnOk result (All EmptiesHoldNothing inputs.now) }
+    ensures few { OnOk result (AreFewTogether inputs.now strict) }
     ensures fault { IfErr result (IsGatherFault inputs.now strict) }
 {
     check_strict(inputs, strict)?;

@@ -29,3 +29,10 @@ returns-in_err-not_judged-clause-too_many c =
       c.in_ok-missing.ensures.sum.0,
       c.in_err-not_judged.ensures.too_many,
     ))
+
+pub returns-clause-few : goal.returns-clause-few
+returns-clause-few c = record {
+  ledgers = c.in_ok-ledgers.ensures.sum.1;
+  assumed = c.in_ok-assumed.ensures.sum.1;
+  not_judged = omega (arith, c.in_ok-not_judged.ensures.sum.0, c.in_ok-not_judged.ensures.sum.1);
+}

@@ -4,12 +4,12 @@ use Rattle.std.proofs.lemmas.List.Sums.{sum_by-append}
 use Rattle.reh_census.specs.declared.censuses.CountedEnsemble.{CountedEnsemble}
 use Rattle.reh_census.specs.declared.censuses.CountedTail.{CountedTail}
 use Rattle.reh_census.specs.declared.classes.Counted.{Counted}
-use Rattle.reh_census.specs.Counting.{count_ensembles_in, count_in, count_tails_in, judged_sum}
+use Rattle.reh_census.specs.Counting.{Census as Counts, count_ensembles_in, count_in, count_tails_in, judged_sum}
 use Rattle.reh_tally.specs.Few.{AreFewCounts}
 use Rattle.reh_inputs.specs.Gathered.{fault_of_tally}
 use Rattle.reh_inputs.specs.Renumbered.{files_of}
 use Rattle.reh_inputs.specs.Uncounted.{AreFewWith, IsFewJudged}
-use Rattle.reh_inputs.proofs.FaultLaws.{IsCountFault-tally, IsCountFault-weaker, passed_on}
+use Rattle.reh_inputs.proofs.FaultLaws.{IsCountFault-tally, IsCountFault-weaker, not_too_many, passed_on}
 use Rattle.reh_inputs.proofs.gathered.census_with.Goals as goal
 
 pub returns-clause-entries : goal.returns-clause-entries
@@ -64,3 +64,24 @@ returns-in_err-census-clause-fault c =
     AreFewCounts (c.args.own.entries.items ++ (files_of c.args.names.now c.args.inputs.now).entries)
     (c.args.own.tails.items ++ (files_of c.args.names.now c.args.inputs.now).tails) ensembles)
     (sym added.ensembles) are.counts)))))
+
+pub returns-clause-few : goal.returns-clause-few
+returns-clause-few c =
+    let added = c.in_ok-add_files.ensures in
+    let files : Counts = files_of c.args.names.now c.args.inputs.now in
+    record {
+      counts =
+          subst (λ (entries : List Counted).
+          AreFewCounts entries (c.args.own.tails.items ++ files.tails) (c.args.own.ensembles.items ++ files.ensembles))
+          added.entries
+          (subst (λ (tails : List CountedTail).
+          AreFewCounts c.add_files.new.counts.entries.items tails (c.args.own.ensembles.items ++ files.ensembles))
+          added.tails
+          (subst (λ (ensembles : List CountedEnsemble).
+          AreFewCounts c.add_files.new.counts.entries.items c.add_files.new.counts.tails.items ensembles)
+          added.ensembles
+          (not_too_many c.add_files.new.counts.entries.items c.add_files.new.counts.tails.items
+          c.add_files.new.counts.ensembles.items
+          (λ too_many. let never = (c.in_ok-census.ensures.too_many).1 too_many in cc))));
+      judged = subst IsFewJudged c.in_ok-judged.ensures.sum c.in_ok-judged.ensures.few;
+    }

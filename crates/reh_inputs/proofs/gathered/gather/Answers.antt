@@ -16,7 +16,7 @@ use Rattle.reh_inputs.specs.Renumbered.{files_of, judged_by}
 use Rattle.reh_inputs.specs.United.{AreAlike, number_of, united}
 use Rattle.reh_inputs.specs.Uncounted.{AreFewWith, IsPartFault, IsTooMuch}
 use Rattle.reh_inputs.proofs.FaultLaws.{passed_on}
-use Rattle.reh_inputs.proofs.TogetherLaws.{census_fault, part_fault}
+use Rattle.reh_inputs.proofs.TogetherLaws.{census_fault, few_together, part_fault}
 use Rattle.reh_inputs.proofs.UnitedLaws.{InOrder-united}
 use Rattle.reh_inputs.proofs.RangeLaws.{same_lengths}
 use Rattle.reh_inputs.proofs.gathered.gather.Goals as goal
@@ -133,3 +133,25 @@ returns-in_err-census-clause-fault g c =
     (files_of names inputs))
     fault)
     (c.names-2.ensures ∙ named) c.in_err-census.ensures.fault)))
+
+pub returns-clause-few : goal.returns-clause-few
+returns-clause-few g c =
+    let inputs = c.args.inputs.now in
+    let strict = c.args.strict in
+    let part = c.in_ok-part.part in
+    let cluster : c.in_ok-cluster.cluster ≡ united inputs = c.in_ok-cluster.ensures.united in
+    let bookies : c.in_ok-bookies.bookies ≡ bookies_of (united inputs) = c.in_ok-bookies.ensures ∙ ap bookies_of cluster in
+    let named : c.in_ok-cluster.cluster.names ≡ (united inputs).names = ap (λ (k : Cluster). k.names) cluster in
+    let shown : IsPart (holders_of inputs) (united inputs).names strict inputs part =
+    subst (λ (bs : List Bookie). IsPart (holders (census_bookies bs)) (united inputs).names strict inputs part) bookies
+    (subst (λ (names : List (List ℕ)). IsPart (holders (census_bookies c.in_ok-bookies.bookies)) names strict inputs part)
+    (c.names.ensures ∙ named) c.in_ok-part.ensures) in
+    few_together inputs strict part shown
+    (subst (λ (own : Judged).
+    AreFewWith part.counts.entries.items part.counts.tails.items part.counts.ensembles.items own
+    (files_of (united inputs).names inputs))
+    (c.judged_by-judged.ensures ∙ ap (λ (gs : List CensusLedger). judged_by (length gs) part.assumed) c.deref.ensures.value)
+    (subst (λ (names : List (List ℕ)).
+    AreFewWith part.counts.entries.items part.counts.tails.items part.counts.ensembles.items c.judged_by-judged.result
+    (files_of names inputs))
+    (c.names-2.ensures ∙ named) c.in_ok-census.ensures.few))
