@@ -95,8 +95,8 @@ pub record IsNamed (before after : List Alone) (b : ℕ) : Type 0 where
 
 -- Bookies in their order
 
--- the bookie has joined the round of this number; where there is none, it has begun a round if it may be stopped at all, and is
--- else named alone. Nothing else has changed
+-- the bookie has joined the round of this number; where there is none, it has begun a round, if it may be stopped at all, and
+-- else it is named alone. Nothing else has changed
 abbrev pub IsPlacedBy : Option ℕ → Bool → Option ℕ → Waves → Waves → ℕ → Type 0
 IsPlacedBy (Some number) may_stop rack before after b =
     IsJoined before.rounds.items after.rounds.items number b × (after.alone.items ≡ before.alone.items)
@@ -105,19 +105,20 @@ IsPlacedBy None true rack before after b =
 IsPlacedBy None false rack before after b =
     (after.rounds.items ≡ before.rounds.items) × IsNamed before.alone.items after.alone.items b
 
--- that is so for the first round that it may join and that stays a yes with it
+-- the bookie has joined the first round that it may join and that stays a yes with it; where there is none, it has begun a
+-- round or is named alone
 abbrev pub IsPlaced : ((ℕ → Bool) → Answer) → Bookies → Bool → Waves → Waves → ℕ → Type 0
 IsPlaced answer bookies by_rack before after b =
     let rack = rack_for by_rack (bookies.rack_of b) in
     IsPlacedBy (position (joins answer by_rack rack b) before.rounds.items) (goes answer (is_in (b ∷ []))) rack before after b
 
--- each of these bookies is placed so, one after the other
+-- each of these bookies has been placed so, one after the other
 abbrev pub PlacesEach : ((ℕ → Bool) → Answer) → Bookies → Bool → Waves → List ℕ → Waves → Type 0
 PlacesEach answer bookies by_rack first [] last = first ≡ last
 PlacesEach answer bookies by_rack first (b ∷ bs) last =
     (next : Waves) × IsPlaced answer bookies by_rack first next b × PlacesEach answer bookies by_rack next bs last
 
--- these waves come of none, where the registered bookies are placed in this order
+-- beginning with no round and none named alone, the registered bookies have been placed in this order
 pub record ArePlaced (answer : (ℕ → Bool) → Answer) (bookies : Bookies) (by_rack : Bool) (order : List ℕ) (waves : Waves) : Type 0 where
   pub none : Waves
   pub no_rounds : none.rounds.items ≡ []

@@ -10,6 +10,6 @@ returns c holders names strict first before behind one other =
     c.in_ok-append_counts.ensures.entries c.in_ok-append_counts.ensures.tails c.in_ok-append_counts.ensures.ensembles
     (search rules)
 
-pub returns-else-checked_add : goal.returns-else-checked_add
-returns-else-checked_add c holders names strict first before behind one other =
+pub returns-in_default : goal.returns-in_default
+returns-in_default c holders names strict first before behind one other =
     too_many_assumed holders names before behind strict c.args.low c.args.high one other (omega arith)
