@@ -40,7 +40,7 @@ pub enum GatherFault {
     TooManyBookies { input: usize, bookie: usize },
     /// This input shows this bookie as empty, and says that it holds entries of this ledger.
     HoldsThoughEmpty { input: usize, held: EmptyHolds },
-    /// This ledger of this input stands in an input before, too; or twice in this one, which no picture that was read does.
+    /// This ledger of this input stands in an input before, too: a picture that was read has none of them twice.
     Twice { input: usize, ledger: u64 },
     /// This ledger of this input can't be counted.
     Unfit { input: usize, ledger: u64 },
