@@ -1,5 +1,5 @@
 -- Why something can't be counted, seen by what has it.
-use Rattle.std.proofs.Common.{◌≡◌, ◌∙◌, ◌<◌, ◌≤◌, ◌+◌, ◌^◌, inl, inr, ℕ, zero, suc, Bool, true, cond, if◌then◌else◌, List, [], ◌∷◌, ◌++◌, Option, Some, None}
+use Rattle.std.proofs.Common.{◌≡◌, ◌∙◌, ◌<◌, ◌≤◌, ◌+◌, ◌^◌, inl, inr, ℕ, zero, suc, Bool, true, false, true≢false, not, cond, if◌then◌else◌, List, [], ◌∷◌, ◌++◌, Option, Some, None}
 use Rattle.std.proofs.Common.{length, map, get_or, take, refl, ap, sym, subst, arith, nat_eq}
 use Rattle.std.specs.Prelude.{IfNone, IsErrAnd, IsSome, MatchResult, Result, slice_get}
 use Rattle.std.specs.List.{Contains, IsDistinct, flat_map, list_any}
@@ -88,22 +88,28 @@ same_number : (x y : ℕ) → nat_eq x y ≡ true → x ≡ y
 same_number x y same = grind (arith, nat_tests)
 
 -- an id that is there already, once those before it are each once
-pub comes_again : (before : List ℕ) (ledgers : List PicturedLedger) (k : ℕ) (g : PicturedLedger) (held after : List ℕ)
-    → k < length ledgers → g ≡ get_or ledgers k g
+pub comes_again : (before : List ℕ) (ledgers : List PicturedLedger) (k : ℕ) (g : PicturedLedger) (id : ℕ) (held after : List ℕ)
+    → k < length ledgers → g ≡ get_or ledgers k g → id ≡ g.id
     → held ≡ before ++ map (λ (g : PicturedLedger). g.id) (take k ledgers)
-    → list_any (nat_eq g.id) held ≡ true → after ≡ insert_key nat_eq held g.id → IsDistinct nat_eq after
-    → ComesAgain before (map (λ (g : PicturedLedger). g.id) ledgers) g.id
-comes_again before ledgers k g held after within is same found added distinct =
+    → list_any (nat_eq id) held ≡ true → after ≡ insert_key nat_eq held id → IsDistinct nat_eq after
+    → ComesAgain before (map (λ (g : PicturedLedger). g.id) ledgers) id
+comes_again before ledgers k g id held after within is its same found added distinct =
     let taken : held ≡ before ++ take k (map (λ (g : PicturedLedger). g.id) ledgers) =
     same ∙ ap (λ (ids : List ℕ). before ++ ids) (sym (take-map (λ (g : PicturedLedger). g.id) k ledgers)) in
-    let kept : after ≡ held = added ∙ ap (λ (b : Bool). if b then held else held ++ g.id ∷ []) found in
+    let kept : after ≡ held = added ∙ ap (λ (b : Bool). if b then held else held ++ id ∷ []) found in
     record {
       place = k;
       is_there = slice_get-map (λ (g : PicturedLedger). g.id) ledgers k
-          ∙ ap (option_map (λ (g : PicturedLedger). g.id)) (slice_get-there ledgers k g within is);
+          ∙ ap (option_map (λ (g : PicturedLedger). g.id)) (slice_get-there ledgers k g within is)
+          ∙ ap (λ (n : ℕ). Some n) (sym its);
       each_once = subst (λ (ids : List ℕ). IsDistinct nat_eq ids) (kept ∙ taken) distinct;
-      is_before = subst (λ (ids : List ℕ). Contains ids g.id) taken (Contains-from_any same_number g.id held found);
+      is_before = subst (λ (ids : List ℕ). Contains ids id) taken (Contains-from_any same_number id held found);
     }
+
+-- what didn't join was there
+pub was_there : (joined there : Bool) → joined ≡ false → joined ≡ not there → there ≡ true
+was_there joined true fails is = refl
+was_there joined false fails is = absurd (true≢false (sym is ∙ fails))
 
 -- after the ids of the inputs before
 pub ids_fault : (inputs : List Input) (strict : Bool) (k : ℕ) (one : Input) (before : List ℕ)
