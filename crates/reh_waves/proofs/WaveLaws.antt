@@ -9,7 +9,7 @@ use Rattle.std.proofs.lemmas.List.Elements.{All-push, All-set, filter_more}
 use Rattle.std.proofs.lemmas.List.Folds.{list_any-append, list_any_at}
 use Rattle.std.proofs.lemmas.List.Quantifiers.{all_pairs_push}
 use Rattle.std.proofs.lemmas.List.Sorted.{sum_by-IsPermutation}
-use Rattle.std.proofs.lemmas.List.Sums.{sum_by-set, sum_by_push}
+use Rattle.std.proofs.lemmas.List.Sums.{sum_by-set, sum_by_more, sum_by_push}
 use Rattle.std.specs.List.Sorted.{IsPermutation}
 use Rattle.reh_census.specs.Bookies.{Bookies, bookies_of}
 use Rattle.reh_census.specs.Copies.{IsPart, is_in}
@@ -380,22 +380,22 @@ module _ (answer : (ℕ → Bool) → Answer) (bookies : Bookies) (by_rack : Boo
       → IsBegun before.rounds.items after.rounds.items (rack_for by_rack (bookies.rack_of b)) b
       → after.alone.items ≡ before.alone.items
       → IsPlaced answer bookies by_rack before after b
-  placed-begun none yes begun same =
+  placed-begun none may begun same =
       subst (λ (o : Option ℕ).
       IsPlacedBy o (goes answer (is_in (b ∷ []))) (rack_for by_rack (bookies.rack_of b)) before after b)
       (sym none)
-      (subst (λ (y : Bool). IsPlacedBy None y (rack_for by_rack (bookies.rack_of b)) before after b) (sym yes) (begun, same))
+      (subst (λ (y : Bool). IsPlacedBy None y (rack_for by_rack (bookies.rack_of b)) before after b) (sym may) (begun, same))
 
   -- in none
   pub placed-alone : position (joins answer by_rack (rack_for by_rack (bookies.rack_of b)) b) before.rounds.items ≡ None
       → goes answer (is_in (b ∷ [])) ≡ false
       → after.rounds.items ≡ before.rounds.items → IsNamed before.alone.items after.alone.items b
       → IsPlaced answer bookies by_rack before after b
-  placed-alone none no same named =
+  placed-alone none fails same named =
       subst (λ (o : Option ℕ).
       IsPlacedBy o (goes answer (is_in (b ∷ []))) (rack_for by_rack (bookies.rack_of b)) before after b)
       (sym none)
-      (subst (λ (y : Bool). IsPlacedBy None y (rack_for by_rack (bookies.rack_of b)) before after b) (sym no) (same, named))
+      (subst (λ (y : Bool). IsPlacedBy None y (rack_for by_rack (bookies.rack_of b)) before after b) (sym fails) (same, named))
 
 -- Bookies that are placed in an order
 
@@ -454,3 +454,40 @@ module _ (answer : (ℕ → Bool) → Answer) (bookies : Bookies) (by_rack : Boo
         places_each =
             subst (λ (bs : List ℕ). PlacesEach answer bookies by_rack were.none bs waves) (sym same) were.places_each;
       }
+
+-- How often a bookie is among those that are passed
+
+count-more : (order : List ℕ) (k b x : ℕ) (registered : ℕ → Bool) → k < length order → b ≡ get_or order k b
+    → count_by (λ y. y == x && registered y) (take (k + 1) order)
+    ≡ count_by (λ y. y == x && registered y) (take k order) + cond {A = ℕ} (b == x && registered b) 1 0
+count-more order k b x registered within here =
+    sum_by_more (λ (y : ℕ). cond {A = ℕ} (y == x && registered y) 1 0) order k b within
+    ∙ ap (λ (y : ℕ).
+    count_by (λ (z : ℕ). z == x && registered z) (take k order) + cond {A = ℕ} (y == x && registered y) 1 0)
+    (sym here)
+
+one_more : (same registered : Bool) → registered ≡ true → cond {A = ℕ} (same && registered) 1 0 ≡ cond same 1 0
+one_more true true is = refl
+one_more false true is = refl
+one_more same false is = absurd (true≢false (sym is))
+
+none_more : (same registered : Bool) → registered ≡ false → cond {A = ℕ} (same && registered) 1 0 ≡ 0
+none_more true false is = refl
+none_more false false is = refl
+none_more same true is = absurd (true≢false is)
+
+pub counted-more : (order : List ℕ) (k b x : ℕ) (registered : ℕ → Bool) → k < length order → b ≡ get_or order k b
+    → registered b ≡ true
+    → count_by (λ y. y == x && registered y) (take (k + 1) order)
+    ≡ count_by (λ y. y == x && registered y) (take k order) + cond {A = ℕ} (b == x) 1 0
+counted-more order k b x registered within here is =
+    count-more order k b x registered within here
+    ∙ ap (λ (n : ℕ). count_by (λ (z : ℕ). z == x && registered z) (take k order) + n)
+    (one_more (b == x) (registered b) is)
+
+pub counted-same : (order : List ℕ) (k b x : ℕ) (registered : ℕ → Bool) → k < length order → b ≡ get_or order k b
+    → registered b ≡ false
+    → count_by (λ y. y == x && registered y) (take (k + 1) order)
+    ≡ count_by (λ y. y == x && registered y) (take k order)
+counted-same order k b x registered within here is =
+    omega (arith, count-more order k b x registered within here, none_more (b == x) (registered b) is)
