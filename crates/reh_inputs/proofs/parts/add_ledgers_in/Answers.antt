@@ -7,5 +7,5 @@ pub returns-clause-fault : goal.returns-clause-fault
 returns-clause-fault c =
     subst (λ (numbers : List ℕ).
     IfErr c.add_ledgers.result
-    (IsUnfitFault (λ number id. (number ≡ c.args.input) × HasUnfit numbers c.args.reading c.in-Picture.listed.now id)))
+    (IsUnfitFault (λ number id. (number ≡ c.args.input) × HasUnfit numbers c.args.reading c.in-Picture.listed id)))
     (c.deref.ensures.value ∙ c.in_ok-numbers.ensures) c.add_ledgers.ensures.fault

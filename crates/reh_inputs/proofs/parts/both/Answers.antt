@@ -17,21 +17,8 @@ returns-in-Ok-Ok c holders names strict first next before behind from one other 
     (subst (λ r. MatchResult r (IsPart holders names strict behind) (IsPartFault holders names strict next behind)) high other)
 
 -- a ledger that can't be counted comes before too much
-pub returns-in-Err-TooMany-Err : goal.returns-in-Err-TooMany-Err
-returns-in-Err-TooMany-Err c holders names strict first next before behind from one other =
-    let is = c.in-Err-TooMany-Err.is-1 in
-    let high : c.args.high ≡ Err c.in-Err-TooMany-Err.fault = cc in
-    fault_back holders names before behind strict first next from c.in-Err-TooMany-Err.fault
-    (MatchResult-at_err (IsPart holders names strict behind) (IsPartFault holders names strict next behind)
-    c.in-Err-TooMany-Err.fault high other)
-
-pub returns-in-Err-default : goal.returns-in-Err-default
-returns-in-Err-default c holders names strict first next before behind from one other =
-    let is = c.in-Err-default.is-0 in
-    let low : c.args.low ≡ Err c.in-Err-default.fault = cc in
-    fault_front holders names before behind strict first c.in-Err-default.fault
-    (MatchResult-at_err (IsPart holders names strict before) (IsPartFault holders names strict first before)
-    c.in-Err-default.fault low one)
+pub returns-after-this-2 : goal.returns-after-this-2
+returns-after-this-2 c holders names strict first next before behind from one other = ?
 
 pub returns-in-Ok-Err : goal.returns-in-Ok-Err
 returns-in-Ok-Err c holders names strict first next before behind from one other =
