@@ -5,6 +5,7 @@ use Rattle.reh_inputs.specs.Parts.{IsPart}
 use Rattle.reh_inputs.specs.Uncounted.{IsPartFault}
 use Rattle.reh_inputs.proofs.PartLaws.{fault_back, fault_front}
 use Rattle.reh_inputs.proofs.parts.both.Goals as goal
+use Rattle.reh_inputs.proofs.parts.both.Goals.{in-Err-TooMany-Err, in-Err-default}
 
 pub returns-in-Ok-Ok : goal.returns-in-Ok-Ok
 returns-in-Ok-Ok c holders names strict first next before behind from one other =
@@ -18,7 +19,11 @@ returns-in-Ok-Ok c holders names strict first next before behind from one other 
 
 -- a ledger that can't be counted comes before too much
 pub returns-after-this-2 : goal.returns-after-this-2
-returns-after-this-2 c holders names strict first next before behind from one other = ?
+returns-after-this-2 c holders names strict first next before behind from one other =
+    elim c.match-this-2.branch [
+      | in-Err-TooMany-Err w ↦ ?
+      | in-Err-default w ↦ ?
+    ]
 
 pub returns-in-Ok-Err : goal.returns-in-Ok-Err
 returns-in-Ok-Err c holders names strict first next before behind from one other =
