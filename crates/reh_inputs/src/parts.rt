@@ -1,5 +1,5 @@
 // What runs of inputs show, once the cluster is known: each run is one worker's.
-ghost use Rattle.std.specs.Prelude.{◌≡◌, ◌<◌, ◌≤◌, ◌+◌, ◌^◌, ◌++◌, ◌∷◌, [], All, List, ℕ, Bool, length, map, IfErr, IfOk, MatchResult, OnOk};
+ghost use Rattle.std.specs.Prelude.{◌≡◌, ◌⊎◌, ◌<◌, ◌≤◌, ◌+◌, ◌^◌, ◌++◌, ◌∷◌, [], All, List, ℕ, Bool, length, map, IfErr, IfOk, MatchResult, OnOk};
 ghost use Rattle.std.specs.List.{flat_map, list_any};
 ghost use Rattle.std.specs.BTreeMap.{get};
 ghost use Rattle.std.specs.Ordering.{nat_cmp};
@@ -286,7 +286,18 @@ fn joined(low: Part, high: Part) -> Result<Part, GatherFault>
     Ok(part)
 }
 
-/// The same, or why there is none: as for one worker, a ledger that can't be counted comes before too much that is counted.
+/// Which of the faults of a run and of the one after it is told: as for one worker, a ledger that can't be counted comes
+/// before too much that is counted.
+fn told_first(fault: GatherFault, other: GatherFault) -> GatherFault
+    ensures { (result ≡ fault) ⊎ (result ≡ other) }
+{
+    match fault {
+        GatherFault::TooMany => other,
+        _ => fault,
+    }
+}
+
+/// The same, or why there is none.
 fn both(
     low: Result<Part, GatherFault>,
     high: Result<Part, GatherFault>,
@@ -300,9 +311,9 @@ fn both(
 {
     match (low, high) {
         (Ok(low), Ok(high)) => joined(low, high),
-        (Err(GatherFault::TooMany), Err(fault)) => Err(fault),
-        (Err(fault), _) => Err(fault),
         (Ok(_), Err(fault)) => Err(fault),
+        (Err(fault), Ok(_)) => Err(fault),
+        (Err(fault), Err(other)) => Err(told_first(fault, other)),
     }
 }
 

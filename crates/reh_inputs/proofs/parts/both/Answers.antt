@@ -1,11 +1,11 @@
 -- Both are there; or the fault is that of one.
-use Rattle.std.proofs.Common.{◌≡◌, Err, MatchResult, Ok, subst}
+use Rattle.std.proofs.Common.{◌≡◌, ◌++◌, Err, MatchResult, Ok, inl, inr, subst, sym}
 use Rattle.std.proofs.lemmas.Result.{MatchResult-at_err}
+use Rattle.reh_inputs.specs.declared.gathered.GatherFault.{GatherFault}
 use Rattle.reh_inputs.specs.Parts.{IsPart}
 use Rattle.reh_inputs.specs.Uncounted.{IsPartFault}
 use Rattle.reh_inputs.proofs.PartLaws.{fault_back, fault_front}
 use Rattle.reh_inputs.proofs.parts.both.Goals as goal
-use Rattle.reh_inputs.proofs.parts.both.Goals.{in-Err-TooMany-Err, in-Err-default}
 
 pub returns-in-Ok-Ok : goal.returns-in-Ok-Ok
 returns-in-Ok-Ok c holders names strict first next before behind from one other =
@@ -17,12 +17,31 @@ returns-in-Ok-Ok c holders names strict first next before behind from one other 
     (subst (λ r. MatchResult r (IsPart holders names strict before) (IsPartFault holders names strict first before)) low one)
     (subst (λ r. MatchResult r (IsPart holders names strict behind) (IsPartFault holders names strict next behind)) high other)
 
--- a ledger that can't be counted comes before too much
-pub returns-after-this-2 : goal.returns-after-this-2
-returns-after-this-2 c holders names strict first next before behind from one other =
-    elim c.match-this-2.branch [
-      | in-Err-TooMany-Err w ↦ ?
-      | in-Err-default w ↦ ?
+pub returns-in-Err-Ok : goal.returns-in-Err-Ok
+returns-in-Err-Ok c holders names strict first next before behind from one other =
+    let is = c.in-Err-Ok.is-0 in
+    let low : c.args.low ≡ Err c.in-Err-Ok.fault = cc in
+    fault_front holders names before behind strict first c.in-Err-Ok.fault
+    (MatchResult-at_err (IsPart holders names strict before) (IsPartFault holders names strict first before)
+    c.in-Err-Ok.fault low one)
+
+pub returns-in-Err-Err : goal.returns-in-Err-Err
+returns-in-Err-Err c holders names strict first next before behind from one other =
+    let is = c.in-Err-Err.is-0 in
+    let is_too = c.in-Err-Err.is-1 in
+    let low : c.args.low ≡ Err c.in-Err-Err.fault = cc in
+    let high : c.args.high ≡ Err c.in-Err-Err.other = cc in
+    elim c.told_first.ensures [
+      | inl same ↦
+          subst (λ (fault : GatherFault). IsPartFault holders names strict first (before ++ behind) fault) (sym same)
+          (fault_front holders names before behind strict first c.in-Err-Err.fault
+          (MatchResult-at_err (IsPart holders names strict before) (IsPartFault holders names strict first before)
+          c.in-Err-Err.fault low one))
+      | inr same ↦
+          subst (λ (fault : GatherFault). IsPartFault holders names strict first (before ++ behind) fault) (sym same)
+          (fault_back holders names before behind strict first next from c.in-Err-Err.other
+          (MatchResult-at_err (IsPart holders names strict behind) (IsPartFault holders names strict next behind)
+          c.in-Err-Err.other high other))
     ]
 
 pub returns-in-Ok-Err : goal.returns-in-Ok-Err
