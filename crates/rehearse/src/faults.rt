@@ -41,7 +41,7 @@ pub enum RunFault {
 impl RunFault {
     /// The fault as a rehearsal tells it, which names neither file nor reason of a read that failed.
     pub(crate) fn without_reason(self) -> RunFault
-        ensures { result ≡ untold self.entry }
+        ensures { result ≡ untold self }
     {
         match self {
             RunFault::Unread(_) => RunFault::ReadFault,
