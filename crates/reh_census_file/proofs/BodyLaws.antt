@@ -8,15 +8,15 @@ use Rattle.reh_census_file.specs.declared.faults.CensusFault.{CensusFault}
 use Rattle.reh_census_file.specs.declared.faults.CensusFault.TheVariants as fault
 use Rattle.reh_census_file.specs.declared.faults.Expected.{Expected}
 use Rattle.reh_census_file.specs.declared.faults.Expected.TheVariants as expected
-use Rattle.reh_census_file.specs.declared.faults.Stop.{Stop}
-use Rattle.reh_census_file.specs.declared.faults.Stop.TheVariants as stop
+use Rattle.reh_census_file.specs.declared.faults.LineFault.{LineFault}
+use Rattle.reh_census_file.specs.declared.faults.LineFault.TheVariants as stop
 use Rattle.reh_census_file.specs.Drafts.{Draft, step}
 use Rattle.reh_census_file.specs.Reading.{◌>>=◌, Fails, words_of}
 use Rattle.reh_census_file.specs.Whole.{FailsAll, fault_at, placed, end_line, last_at, body_at, parts_of}
 use Rattle.reh_census_file.proofs.LineLaws.{parts_of-more}
 
 -- what stops a line stops the text
-pub fails_at : {A B : Type 0} (line : ℕ) (why : Stop) (read : Result A Expected) (f : A → Result B CensusFault) → Fails why read → FailsAll (fault_at line why) (placed line read >>= f)
+pub fails_at : {A B : Type 0} (line : ℕ) (why : LineFault) (read : Result A Expected) (f : A → Result B CensusFault) → Fails why read → FailsAll (fault_at line why) (placed line read >>= f)
 fails_at line stop.NoMemory read f fails = tt
 fails_at line (stop.At what) read f fails = rw fails refl
 

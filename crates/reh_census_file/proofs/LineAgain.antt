@@ -10,7 +10,7 @@ use Rattle.reh_census.specs.declared.censuses.CountedTail.{CountedTail}
 use Rattle.reh_census.specs.declared.censuses.Judged.{Judged}
 use Rattle.reh_census.specs.declared.classes.Counted.{Counted}
 use Rattle.reh_census_file.specs.declared.faults.Expected.TheVariants as expected
-use Rattle.reh_census_file.specs.declared.faults.Word.TheVariants as word
+use Rattle.reh_census_file.specs.declared.faults.Keyword.TheVariants as word
 use Rattle.reh_census_file.specs.Canonical.{is_name}
 use Rattle.reh_census_file.specs.LineReading.{BookieLine, rack_behind, rack_at, bookie_line_at, judged_at, entries_at, tail_at, ensemble_at}
 use Rattle.reh_census_file.specs.Reading.{◌>>=◌, flag_at, choice_at, number_behind, bookies_at, bookies_behind, no_more}

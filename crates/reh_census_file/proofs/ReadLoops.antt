@@ -2,8 +2,8 @@
 use Rattle.std.proofs.Common.{◌≡◌, ℕ, suc, ◌-◌, ◌+◌, ◌≤◌, ◌<◌, List, [], ◌∷◌, ◌++◌, Result, Ok, Err, refl, sym, ap, ◌∙◌, append_assoc, arith}
 use Rattle.std.proofs.lemmas.List.{append-nil}
 use Rattle.reh_census_file.specs.declared.faults.Expected.{Expected}
-use Rattle.reh_census_file.specs.declared.faults.Stop.{Stop}
-use Rattle.reh_census_file.specs.declared.faults.Stop.TheVariants as stop
+use Rattle.reh_census_file.specs.declared.faults.LineFault.{LineFault}
+use Rattle.reh_census_file.specs.declared.faults.LineFault.TheVariants as stop
 use Rattle.reh_census_file.specs.Reading.{◌>>=◌, Fails, bookie_at, bookies_at}
 
 abbrev Words : Type 0
@@ -25,7 +25,7 @@ goes_on names front count i words n after total lt h so_far =
     let one : with_front front (bookies_at names (count - i) words) ≡ with_front (front ++ n ∷ []) (bookies_at names (count - (i + 1)) after) = rw (k, h) (regroup front n (bookies_at names (count - (i + 1)) after)) in
     sym one ∙ so_far
 
-pub ends : (names : Words) (e : Stop) (front : List ℕ) (count i : ℕ) (words : Words) (total : Result (List ℕ × Words) Expected) → i < count → Fails e (bookie_at names words)
+pub ends : (names : Words) (e : LineFault) (front : List ℕ) (count i : ℕ) (words : Words) (total : Result (List ℕ × Words) Expected) → i < count → Fails e (bookie_at names words)
     → with_front front (bookies_at names (count - i) words) ≡ total → Fails e total
 unfolding bookies_at
 ends names stop.NoMemory front count i words total lt h so_far = tt

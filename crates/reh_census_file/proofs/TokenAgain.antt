@@ -8,7 +8,7 @@ use Rattle.std.proofs.lemmas.Bool.Decides.{nat_tests}
 use Rattle.std.proofs.lemmas.Option.{unwrap_or-slice_get}
 use Rattle.std.proofs.lemmas.Slice.Eq.{bytes_eq-Decides}
 use Rattle.reh_census_file.specs.declared.faults.Expected.{Expected}
-use Rattle.reh_census_file.specs.declared.faults.Word.{Word}
+use Rattle.reh_census_file.specs.declared.faults.Keyword.{Keyword}
 use Rattle.reh_census_file.specs.Canonical.{is_name}
 use Rattle.reh_census_file.specs.Faults.{word_text}
 use Rattle.reh_census_file.specs.Reading.{◌>>=◌, number_or, count_or, bookie_or, word_at, flag_at, choice_at, number_at, count_at, number_behind, name_at, bookie_at, bookies_at, bookies_behind}
@@ -19,7 +19,7 @@ use Rattle.reh_census_file.proofs.OrderLaws.{names_sym}
 pub same_word : (word : List ℕ) → bytes_eq word word ≡ true
 same_word word = (bytes_eq-Decides word word).1 refl
 
-pub word_again : (wanted : Word) (rest : List (List ℕ)) → word_at wanted (word_text wanted ∷ rest) ≡ Ok rest
+pub word_again : (wanted : Keyword) (rest : List (List ℕ)) → word_at wanted (word_text wanted ∷ rest) ≡ Ok rest
 unfolding word_at
 word_again wanted rest = rw (same_word (word_text wanted)) refl
 
@@ -32,7 +32,7 @@ unfolding count_at
 count_again zero rest some small = absurd (omega arith)
 count_again (suc n) rest some small = ap (λ o. count_or o rest) (number_of-decimal (suc n) small)
 
-pub number_behind_again : (wanted : Word) (n : ℕ) (rest : List (List ℕ)) → n ≤ 2 ^ 63 → number_behind wanted (word_text wanted ∷ decimal n ∷ rest) ≡ Ok (n, rest)
+pub number_behind_again : (wanted : Keyword) (n : ℕ) (rest : List (List ℕ)) → n ≤ 2 ^ 63 → number_behind wanted (word_text wanted ∷ decimal n ∷ rest) ≡ Ok (n, rest)
 unfolding number_behind
 number_behind_again wanted n rest small = ap (λ r. r >>= number_at) (word_again wanted (decimal n ∷ rest)) ∙ number_again n rest small
 
@@ -50,7 +50,7 @@ abbrev pub begins_apart : List ℕ → List (List ℕ) → Type 0
 begins_apart word [] = Unit {0}
 begins_apart word (first ∷ words) = bytes_eq first word ≡ false
 
-pub flag_again : (wanted : Word) (flag : Bool) (rest : List (List ℕ)) → begins_apart (word_text wanted) rest → flag_at wanted (word_if flag (word_text wanted) ++ rest) ≡ (flag, rest)
+pub flag_again : (wanted : Keyword) (flag : Bool) (rest : List (List ℕ)) → begins_apart (word_text wanted) rest → flag_at wanted (word_if flag (word_text wanted) ++ rest) ≡ (flag, rest)
 unfolding flag_at
 flag_again wanted true rest apart = rw (same_word (word_text wanted)) refl
 flag_again wanted false [] apart = refl
@@ -90,7 +90,7 @@ bookies_again names (b ∷ bookies) rest distinct within =
     ap (λ r. r >>= λ first. bookies_at names (length bookies) first.1 >>= λ others. Ok (first.0 ∷ others.0, others.1)) (bookie_again names b (names_of names bookies ++ rest) distinct within.0)
     ∙ ap (λ r. r >>= λ others. Ok (b ∷ others.0, others.1)) (bookies_again names bookies rest distinct within.1)
 
-pub bookies_behind_again : (names : List (List ℕ)) (wanted : Word) (bookies : List ℕ) (rest : List (List ℕ)) → IsDistinct bytes_eq names → AllByRecursion (λ b. b < length names) bookies → length bookies ≤ 2 ^ 63
+pub bookies_behind_again : (names : List (List ℕ)) (wanted : Keyword) (bookies : List ℕ) (rest : List (List ℕ)) → IsDistinct bytes_eq names → AllByRecursion (λ b. b < length names) bookies → length bookies ≤ 2 ^ 63
     → bookies_behind names wanted (word_text wanted ∷ decimal (length bookies) ∷ (names_of names bookies ++ rest)) ≡ Ok (bookies, rest)
 unfolding bookies_behind
 bookies_behind_again names wanted bookies rest distinct within small =

@@ -8,7 +8,7 @@ use Rattle.std.proofs.lemmas.Option.{unwrap_or-slice_get}
 use Rattle.std.proofs.lemmas.Slice.Eq.{bytes_eq-Decides}
 use Rattle.reh_census_file.specs.declared.faults.Expected.{Expected}
 use Rattle.reh_census_file.specs.declared.faults.Expected.TheVariants as expected
-use Rattle.reh_census_file.specs.declared.faults.Word.{Word}
+use Rattle.reh_census_file.specs.declared.faults.Keyword.{Keyword}
 use Rattle.reh_census_file.specs.Faults.{word_text}
 use Rattle.reh_census_file.specs.Canonical.{is_name}
 use Rattle.reh_census_file.specs.Reading.{◌>>=◌, number_of, number_or, count_or, bookie_or, word_at, flag_at, choice_at, number_at, count_at, number_behind, name_at, bookie_at, bookies_at, bookies_behind, no_more}
@@ -34,14 +34,14 @@ ok_is x y e = cc
 word_is : (word other : List ℕ) → bytes_eq word other ≡ true → word ≡ other
 word_is word other same = (bytes_eq-Decides word other).0 same
 
-pub word_takes : (wanted : Word) (words rest : List (List ℕ)) → word_at wanted words ≡ Ok rest → words ≡ word_text wanted ∷ rest
+pub word_takes : (wanted : Keyword) (words rest : List (List ℕ)) → word_at wanted words ≡ Ok rest → words ≡ word_text wanted ∷ rest
 unfolding word_at
 word_takes wanted [] rest e = absurd cc
 word_takes wanted (word ∷ words) rest e =
-    let p = passed (bytes_eq word (word_text wanted)) (expected.Word wanted) (Ok words) rest e in
+    let p = passed (bytes_eq word (word_text wanted)) (expected.Keyword wanted) (Ok words) rest e in
     λ i. word_is word (word_text wanted) p.0 i ∷ ok_is words rest p.1 i
 
-pub flag_takes : (wanted : Word) (words : List (List ℕ)) → words ≡ word_if (flag_at wanted words).0 (word_text wanted) ++ (flag_at wanted words).1
+pub flag_takes : (wanted : Keyword) (words : List (List ℕ)) → words ≡ word_if (flag_at wanted words).0 (word_text wanted) ++ (flag_at wanted words).1
 unfolding flag_at
 flag_takes wanted [] = refl
 flag_takes wanted (word ∷ words) =
@@ -95,11 +95,11 @@ count_takes (word ∷ words) rest n e = go (number_of word) refl e
         let p = ok_is (suc m, words) (n, rest) e in
         subst (λ (x : ℕ × List (List ℕ)). IsNumberWord x.0 (word ∷ words) x.1 × (1 ≤ x.0)) p (record { parts = ap (λ w. w ∷ words) h.0; small = h.1 }, omega arith)
 
-pub record IsNumberBehind (wanted : Word) (n : ℕ) (words rest : List (List ℕ)) : Type 0 where
+pub record IsNumberBehind (wanted : Keyword) (n : ℕ) (words rest : List (List ℕ)) : Type 0 where
   pub parts : words ≡ word_text wanted ∷ decimal n ∷ rest
   pub small : n ≤ 2 ^ 63
 
-pub number_behind_takes : (wanted : Word) (words rest : List (List ℕ)) (n : ℕ) → number_behind wanted words ≡ Ok (n, rest) → IsNumberBehind wanted n words rest
+pub number_behind_takes : (wanted : Keyword) (words rest : List (List ℕ)) (n : ℕ) → number_behind wanted words ≡ Ok (n, rest) → IsNumberBehind wanted n words rest
 unfolding number_behind
 number_behind_takes wanted words rest n e =
     let a = bind_ok (word_at wanted words) number_at (n, rest) e in
@@ -154,12 +154,12 @@ bookies_take names (suc n) words rest bookies e =
     subst (λ (x : List ℕ × List (List ℕ)). AreBookieWords names x.0 words x.1 × (length x.0 ≡ suc n)) (ok_is made (bookies, rest) b.2)
     (record { parts = first.0 ∙ ap (λ ws. name_of names a.0.0 ∷ ws) others.0.parts; within = (first.1, others.0.within) }, ap suc others.1)
 
-pub record AreBookiesBehind (names : List (List ℕ)) (wanted : Word) (bookies : List ℕ) (words rest : List (List ℕ)) : Type 0 where
+pub record AreBookiesBehind (names : List (List ℕ)) (wanted : Keyword) (bookies : List ℕ) (words rest : List (List ℕ)) : Type 0 where
   pub parts : words ≡ word_text wanted ∷ decimal (length bookies) ∷ (names_of names bookies ++ rest)
   pub within : AllByRecursion (λ b. b < length names) bookies
   pub few : length bookies ≤ 2 ^ 63
 
-pub bookies_behind_take : (names : List (List ℕ)) (wanted : Word) (words rest : List (List ℕ)) (bookies : List ℕ) → bookies_behind names wanted words ≡ Ok (bookies, rest) → AreBookiesBehind names wanted bookies words rest
+pub bookies_behind_take : (names : List (List ℕ)) (wanted : Keyword) (words rest : List (List ℕ)) (bookies : List ℕ) → bookies_behind names wanted words ≡ Ok (bookies, rest) → AreBookiesBehind names wanted bookies words rest
 unfolding bookies_behind
 bookies_behind_take names wanted words rest bookies e =
     let a = bind_ok (number_behind wanted words) (λ count. bookies_at names count.0 count.1) (bookies, rest) e in

@@ -13,7 +13,7 @@ use Rattle.reh_census.specs.declared.bookies.Bookie.{Bookie}
 use Rattle.reh_census_file.specs.declared.faults.CensusFault.{CensusFault}
 use Rattle.reh_census_file.specs.declared.faults.Expected.{Expected}
 use Rattle.reh_census_file.specs.declared.faults.Expected.TheVariants as expected
-use Rattle.reh_census_file.specs.declared.faults.Word.TheVariants as word
+use Rattle.reh_census_file.specs.declared.faults.Keyword.TheVariants as word
 use Rattle.reh_census_file.specs.Canonical.{IsCanonical, AreNumbered, is_name, is_time}
 use Rattle.reh_census.specs.Order.{InOrder, names_cmp}
 use Rattle.reh_census_file.specs.declared.lists.TheConstants.{MAX_NAMES}

@@ -14,7 +14,7 @@ use Rattle.reh_census_file.specs.declared.faults.CensusFault.{CensusFault}
 use Rattle.reh_census_file.specs.declared.faults.CensusFault.TheVariants as fault
 use Rattle.reh_census_file.specs.declared.faults.Expected.{Expected}
 use Rattle.reh_census_file.specs.declared.faults.Expected.TheVariants as expected
-use Rattle.reh_census_file.specs.declared.faults.Word.TheVariants as word
+use Rattle.reh_census_file.specs.declared.faults.Keyword.TheVariants as word
 use Rattle.reh_census_file.specs.Canonical.{IsCanonical, IsJudged, is_name, is_time}
 use Rattle.reh_census_file.specs.Drafts.{Draft, no_lines, part_of, step}
 use Rattle.reh_census_file.specs.Lines.{behind_spaces, line_of, lines_of}

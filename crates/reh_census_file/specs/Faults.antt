@@ -7,10 +7,10 @@ use Rattle.reh_census_file.specs.declared.faults.Expected.{Expected}
 use Rattle.reh_census_file.specs.declared.faults.Expected.TheVariants as expected
 use Rattle.reh_census_file.specs.declared.faults.Part.{Part}
 use Rattle.reh_census_file.specs.declared.faults.Part.TheVariants as part
-use Rattle.reh_census_file.specs.declared.faults.Word.{Word}
-use Rattle.reh_census_file.specs.declared.faults.Word.TheVariants as word
+use Rattle.reh_census_file.specs.declared.faults.Keyword.{Keyword}
+use Rattle.reh_census_file.specs.declared.faults.Keyword.TheVariants as word
 
-abbrev pub word_text : Word → List ℕ
+abbrev pub word_text : Keyword → List ℕ
 word_text word.Census = codes "census"
 word_text word.Strict = codes "strict"
 word_text word.Taken = codes "taken"
@@ -58,12 +58,12 @@ fixed_text expected.LaterEnsemble = codes "an ensemble whose bookies come after 
 fixed_text expected.SmallerCounts = codes "counts of no more than 9223372036854775808 in all"
 fixed_text expected.MoreLines = codes "a further line, since the text is cut"
 fixed_text expected.NoMoreLines = codes "the end of the text"
-fixed_text (expected.Word w) = []
+fixed_text (expected.Keyword w) = []
 fixed_text (expected.Line p) = []
 fixed_text (expected.End lines) = []
 
 abbrev pub expected_text : Expected → List ℕ
-expected_text (expected.Word w) = codes "`" ++ (word_text w ++ codes "`")
+expected_text (expected.Keyword w) = codes "`" ++ (word_text w ++ codes "`")
 expected_text (expected.Line p) = part_text p
 expected_text (expected.End lines) = codes "`end " ++ (decimal lines ++ codes "`")
 expected_text other = fixed_text other

@@ -8,7 +8,7 @@ use Rattle.reh_census.specs.declared.censuses.Judged.{Judged}
 use Rattle.reh_census.specs.declared.classes.Counted.{Counted}
 use Rattle.reh_census_file.specs.declared.faults.Expected.{Expected}
 use Rattle.reh_census_file.specs.declared.faults.Expected.TheVariants as expected
-use Rattle.reh_census_file.specs.declared.faults.Word.TheVariants as word
+use Rattle.reh_census_file.specs.declared.faults.Keyword.TheVariants as word
 use Rattle.reh_census_file.specs.declared.lines.BookieLine.{BookieLine as BookieLineHeld}
 use Rattle.reh_census_file.specs.Reading.{◌>>=◌, flag_at, choice_at, number_at, count_at, number_behind, name_at, bookies_at, bookies_behind, no_more}
 

@@ -7,9 +7,9 @@ use Rattle.std.specs.List.{slice_split}
 use Rattle.std.specs.Str.{bytes_eq}
 use Rattle.reh_census_file.specs.declared.faults.Expected.{Expected}
 use Rattle.reh_census_file.specs.declared.faults.Expected.TheVariants as expected
-use Rattle.reh_census_file.specs.declared.faults.Stop.{Stop}
-use Rattle.reh_census_file.specs.declared.faults.Stop.TheVariants as stop
-use Rattle.reh_census_file.specs.declared.faults.Word.{Word}
+use Rattle.reh_census_file.specs.declared.faults.LineFault.{LineFault}
+use Rattle.reh_census_file.specs.declared.faults.LineFault.TheVariants as stop
+use Rattle.reh_census_file.specs.declared.faults.Keyword.{Keyword}
 use Rattle.reh_census_file.specs.Canonical.{is_name}
 use Rattle.reh_census_file.specs.Faults.{word_text}
 
@@ -19,11 +19,11 @@ abbrev pub ◌>>=◌ : {A B E : Type 0} → Result A E → (A → Result B E) �
 (Err e) >>= f = Err e
 
 -- what a function returned, seen by view, is what reading gives, unless memory ran out
-abbrev pub Fails : {Y : Type 0} → Stop → Result Y Expected → Type 0
+abbrev pub Fails : {Y : Type 0} → LineFault → Result Y Expected → Type 0
 Fails stop.NoMemory read = Unit {0}
 Fails (stop.At what) read = read ≡ Err what
 
-abbrev pub Gives : {X Y : Type 0} → (X → Y) → Result X Stop → Result Y Expected → Type 0
+abbrev pub Gives : {X Y : Type 0} → (X → Y) → Result X LineFault → Result Y Expected → Type 0
 Gives view (Ok x) read = read ≡ Ok (view x)
 Gives view (Err e) read = Fails e read
 
@@ -54,12 +54,12 @@ number_of word =
     if bytes_eq word (decimal (read_on 0 word)) && nat_le (read_on 0 word) (2 ^ 63) then Some (read_on 0 word) else None
 
 -- this very word
-unfoldable pub word_at : Word → List (List ℕ) → Result (List (List ℕ)) Expected
-word_at wanted [] = Err (expected.Word wanted)
-word_at wanted (word ∷ words) = if bytes_eq word (word_text wanted) then Ok words else Err (expected.Word wanted)
+unfoldable pub word_at : Keyword → List (List ℕ) → Result (List (List ℕ)) Expected
+word_at wanted [] = Err (expected.Keyword wanted)
+word_at wanted (word ∷ words) = if bytes_eq word (word_text wanted) then Ok words else Err (expected.Keyword wanted)
 
 -- whether the word comes next, and the words after it
-unfoldable pub flag_at : Word → List (List ℕ) → Bool × List (List ℕ)
+unfoldable pub flag_at : Keyword → List (List ℕ) → Bool × List (List ℕ)
 flag_at wanted [] = (false, [])
 flag_at wanted (word ∷ words) = if bytes_eq word (word_text wanted) then (true, words) else (false, word ∷ words)
 
@@ -88,7 +88,7 @@ count_at [] = Err expected.Count
 count_at (word ∷ words) = count_or (number_of word) words
 
 -- a number after its word
-unfoldable pub number_behind : Word → List (List ℕ) → Result (ℕ × List (List ℕ)) Expected
+unfoldable pub number_behind : Keyword → List (List ℕ) → Result (ℕ × List (List ℕ)) Expected
 number_behind wanted words = do
   behind ← word_at wanted words
   number_at behind
@@ -116,7 +116,7 @@ bookies_at names (suc n) words = do
   Ok (first.0 ∷ others.0, others.1)
 
 -- bookies after a word and their number
-unfoldable pub bookies_behind : List (List ℕ) → Word → List (List ℕ) → Result (List ℕ × List (List ℕ)) Expected
+unfoldable pub bookies_behind : List (List ℕ) → Keyword → List (List ℕ) → Result (List ℕ × List (List ℕ)) Expected
 bookies_behind names wanted words = do
   count ← number_behind wanted words
   bookies_at names count.0 count.1

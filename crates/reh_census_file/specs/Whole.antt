@@ -9,9 +9,9 @@ use Rattle.reh_census_file.specs.declared.faults.CensusFault.{CensusFault}
 use Rattle.reh_census_file.specs.declared.faults.CensusFault.TheVariants as fault
 use Rattle.reh_census_file.specs.declared.faults.Expected.{Expected}
 use Rattle.reh_census_file.specs.declared.faults.Expected.TheVariants as expected
-use Rattle.reh_census_file.specs.declared.faults.Stop.{Stop}
-use Rattle.reh_census_file.specs.declared.faults.Stop.TheVariants as stop
-use Rattle.reh_census_file.specs.declared.faults.Word.TheVariants as word
+use Rattle.reh_census_file.specs.declared.faults.LineFault.{LineFault}
+use Rattle.reh_census_file.specs.declared.faults.LineFault.TheVariants as stop
+use Rattle.reh_census_file.specs.declared.faults.Keyword.TheVariants as word
 use Rattle.reh_census_file.specs.Drafts.{Draft, no_lines, other_line, step}
 use Rattle.reh_census_file.specs.Reading.{◌>>=◌, words_of, word_at, choice_at, time_at, version_at, lines_at, no_more}
 use Rattle.reh_census_file.specs.Values.{NamedCensus, named_by}
@@ -30,7 +30,7 @@ abbrev pub placed : {A : Type 0} → ℕ → Result A Expected → Result A Cens
 placed line (Ok x) = Ok x
 placed line (Err what) = Err (fault.Line line what)
 
-abbrev pub fault_at : ℕ → Stop → CensusFault
+abbrev pub fault_at : ℕ → LineFault → CensusFault
 fault_at line stop.NoMemory = fault.NoMemory
 fault_at line (stop.At what) = fault.Line line what
 

@@ -6,7 +6,7 @@ ghost use Rattle.reh_census_file.specs.LineReading.{seen};
 ghost use Rattle.reh_census_file.specs.Reading.{Gives, words_after};
 
 use crate::checks;
-use crate::faults::{Expected, Part, Stop};
+use crate::faults::{Expected, Part, LineFault};
 use crate::lines::{self, BookieLine};
 use crate::lists::{MAX_NAMES, NameList};
 use crate::words::MAX_COUNT;
@@ -77,17 +77,17 @@ impl Draft {
 
     /// Adds a bookie.
     #[tactic(auto, unfolding(crate::specs::Drafts::add_bookie))]
-    fn add_bookie(&mut self, line: &BookieLine) -> Result<(), Stop>
+    fn add_bookie(&mut self, line: &BookieLine) -> Result<(), LineFault>
         ensures { Gives (λ _. self.new) result (spec.add_bookie self.old (seen line.now)) }
     {
         if self.names.len() >= MAX_NAMES {
-            return Err(Stop::At(Expected::FewBookies));
+            return Err(LineFault::At(Expected::FewBookies));
         }
         if !checks::is_later_name(&self.names, line.name) {
-            return Err(Stop::At(Expected::LaterBookie));
+            return Err(LineFault::At(Expected::LaterBookie));
         }
         if !self.names.add(line.name)? {
-            return Err(Stop::At(Expected::LaterBookie));
+            return Err(LineFault::At(Expected::LaterBookie));
         }
         let rack = match line.rack {
             Some(name) => Some(self.racks.number_for(name)?),
@@ -104,7 +104,7 @@ impl Draft {
 
     /// Adds what was judged.
     #[tactic(auto, unfolding(crate::specs::Drafts::add_judged))]
-    fn add_judged(&mut self, judged: Judged) -> Result<(), Stop>
+    fn add_judged(&mut self, judged: Judged) -> Result<(), LineFault>
         ensures { Gives (λ _. self.new) result (spec.add_judged self.old judged) }
     {
         match judged.unread.checked_add(judged.missing) {
@@ -112,26 +112,26 @@ impl Draft {
                 self.judged = Some(judged);
                 Ok(())
             }
-            _ => Err(Stop::At(Expected::FewNotJudged)),
+            _ => Err(LineFault::At(Expected::FewNotJudged)),
         }
     }
 
     /// Adds entries.
     #[tactic(auto, unfolding(crate::specs::Drafts::add_entries))]
-    fn add_entries(&mut self, counted: Counted) -> Result<(), Stop>
+    fn add_entries(&mut self, counted: Counted) -> Result<(), LineFault>
         ensures { Gives (λ _. self.new) result (spec.add_entries self.old counted) }
     {
         if !checks::are_quorums(&counted.class) {
-            return Err(Stop::At(Expected::Quorums));
+            return Err(LineFault::At(Expected::Quorums));
         }
         if !checks::are_copies(&self.bookies, &counted.class) {
-            return Err(Stop::At(Expected::Copies));
+            return Err(LineFault::At(Expected::Copies));
         }
         if !checks::are_later_entries(&self.entries, &counted) {
-            return Err(Stop::At(Expected::LaterEntries));
+            return Err(LineFault::At(Expected::LaterEntries));
         }
         if counted.count > MAX_COUNT - self.entry_count {
-            return Err(Stop::At(Expected::SmallerCounts));
+            return Err(LineFault::At(Expected::SmallerCounts));
         }
         let count = counted.count;
         self.entries.push(counted)?;
@@ -141,18 +141,18 @@ impl Draft {
 
     /// Adds ledgers of a tail.
     #[tactic(auto, unfolding(crate::specs::Drafts::add_tail))]
-    fn add_tail(&mut self, counted: CountedTail) -> Result<(), Stop>
+    fn add_tail(&mut self, counted: CountedTail) -> Result<(), LineFault>
         requires { length counted.tail.ensemble ≡ counted.tail.size }
         ensures { Gives (λ _. self.new) result (spec.add_tail self.old counted) }
     {
         if !checks::are_sizes(&counted.tail) {
-            return Err(Stop::At(Expected::Sizes));
+            return Err(LineFault::At(Expected::Sizes));
         }
         if !checks::is_later_tail(&self.tails, &counted) {
-            return Err(Stop::At(Expected::LaterTail));
+            return Err(LineFault::At(Expected::LaterTail));
         }
         if counted.count > MAX_COUNT - self.tail_count {
-            return Err(Stop::At(Expected::SmallerCounts));
+            return Err(LineFault::At(Expected::SmallerCounts));
         }
         let count = counted.count;
         self.tails.push(counted)?;
@@ -162,17 +162,17 @@ impl Draft {
 
     /// Adds fragments of an ensemble.
     #[tactic(auto, unfolding(crate::specs::Drafts::add_ensemble))]
-    fn add_ensemble(&mut self, counted: CountedEnsemble) -> Result<(), Stop>
+    fn add_ensemble(&mut self, counted: CountedEnsemble) -> Result<(), LineFault>
         ensures { Gives (λ _. self.new) result (spec.add_ensemble self.old counted) }
     {
         if !checks::are_members(counted.members.as_slice()) {
-            return Err(Stop::At(Expected::Members));
+            return Err(LineFault::At(Expected::Members));
         }
         if !checks::is_later_ensemble(&self.ensembles, &counted) {
-            return Err(Stop::At(Expected::LaterEnsemble));
+            return Err(LineFault::At(Expected::LaterEnsemble));
         }
         if counted.count > MAX_COUNT - self.ensemble_count {
-            return Err(Stop::At(Expected::SmallerCounts));
+            return Err(LineFault::At(Expected::SmallerCounts));
         }
         let count = counted.count;
         self.ensembles.push(counted)?;
@@ -182,11 +182,11 @@ impl Draft {
 
     /// Takes the line of a bookie.
     #[tactic(auto, unfolding(crate::specs::Drafts::bookie_step))]
-    fn take_bookie(&mut self, rest: &[u8]) -> Result<(), Stop>
+    fn take_bookie(&mut self, rest: &[u8]) -> Result<(), LineFault>
         ensures { Gives (λ _. self.new) result (spec.bookie_step self.old (words_after rest.now)) }
     {
         if self.judged.is_some() {
-            return Err(Stop::At(Expected::Line(self.part())));
+            return Err(LineFault::At(Expected::Line(self.part())));
         }
         let line = lines::bookie_line_at(rest)?;
         self.add_bookie(&line)
@@ -194,11 +194,11 @@ impl Draft {
 
     /// Takes the line of what was judged.
     #[tactic(auto, unfolding(crate::specs::Drafts::judged_step))]
-    fn take_judged(&mut self, rest: &[u8]) -> Result<(), Stop>
+    fn take_judged(&mut self, rest: &[u8]) -> Result<(), LineFault>
         ensures { Gives (λ _. self.new) result (spec.judged_step self.old (words_after rest.now)) }
     {
         if self.judged.is_some() {
-            return Err(Stop::At(Expected::Line(self.part())));
+            return Err(LineFault::At(Expected::Line(self.part())));
         }
         let judged = lines::judged_at(rest)?;
         self.add_judged(judged)
@@ -206,11 +206,11 @@ impl Draft {
 
     /// Takes a line of entries.
     #[tactic(auto, unfolding(crate::specs::Drafts::entries_step))]
-    fn take_entries(&mut self, alloc: Global, rest: &[u8]) -> Result<(), Stop>
+    fn take_entries(&mut self, alloc: Global, rest: &[u8]) -> Result<(), LineFault>
         ensures { Gives (λ _. self.new) result (spec.entries_step self.old (words_after rest.now)) }
     {
         if self.judged.is_none() || !self.tails.is_empty() || !self.ensembles.is_empty() {
-            return Err(Stop::At(Expected::Line(self.part())));
+            return Err(LineFault::At(Expected::Line(self.part())));
         }
         let counted = lines::entries_at(alloc, &self.names, rest)?;
         self.add_entries(counted)
@@ -218,11 +218,11 @@ impl Draft {
 
     /// Takes the line of a tail.
     #[tactic(auto, unfolding(crate::specs::Drafts::tail_step))]
-    fn take_tail(&mut self, alloc: Global, rest: &[u8]) -> Result<(), Stop>
+    fn take_tail(&mut self, alloc: Global, rest: &[u8]) -> Result<(), LineFault>
         ensures { Gives (λ _. self.new) result (spec.tail_step self.old (words_after rest.now)) }
     {
         if self.judged.is_none() || !self.ensembles.is_empty() {
-            return Err(Stop::At(Expected::Line(self.part())));
+            return Err(LineFault::At(Expected::Line(self.part())));
         }
         let counted = lines::tail_at(alloc, &self.names, rest)?;
         self.add_tail(counted)
@@ -230,11 +230,11 @@ impl Draft {
 
     /// Takes the line of an ensemble.
     #[tactic(auto, unfolding(crate::specs::Drafts::ensemble_step))]
-    fn take_ensemble(&mut self, alloc: Global, rest: &[u8]) -> Result<(), Stop>
+    fn take_ensemble(&mut self, alloc: Global, rest: &[u8]) -> Result<(), LineFault>
         ensures { Gives (λ _. self.new) result (spec.ensemble_step self.old (words_after rest.now)) }
     {
         if self.judged.is_none() {
-            return Err(Stop::At(Expected::Line(self.part())));
+            return Err(LineFault::At(Expected::Line(self.part())));
         }
         let counted = lines::ensemble_at(alloc, &self.names, rest)?;
         self.add_ensemble(counted)
@@ -242,7 +242,7 @@ impl Draft {
 
     /// Takes a line that begins with this word. What an error leaves isn't told.
     #[tactic(auto, unfolding(crate::specs::Drafts::step))]
-    pub fn take(&mut self, alloc: Global, first: &[u8], rest: &[u8]) -> Result<(), Stop>
+    pub fn take(&mut self, alloc: Global, first: &[u8], rest: &[u8]) -> Result<(), LineFault>
         ensures { Gives (λ _. self.new) result (spec.step self.old first.now (words_after rest.now)) }
     {
         if first == b"bookie".as_slice() {
@@ -260,6 +260,6 @@ impl Draft {
         if first == b"ensemble".as_slice() {
             return self.take_ensemble(alloc, rest);
         }
-        Err(Stop::At(Expected::Line(self.part())))
+        Err(LineFault::At(Expected::Line(self.part())))
     }
 }

@@ -5,7 +5,7 @@ use thiserror::Error;
 
 /// A word that stands before a value.
 #[derive(Clone, Copy, PartialEq, Eq, Debug)]
-pub enum Word {
+pub enum Keyword {
     Census,
     Strict,
     Taken,
@@ -21,7 +21,7 @@ pub enum Word {
     Size,
 }
 
-impl Word {
+impl Keyword {
     ghost use Rattle.std.specs.Prelude.{◌≡◌};
     ghost use Rattle.reh_census_file.specs.Faults.{word_text};
 
@@ -30,19 +30,19 @@ impl Word {
         ensures { result.now ≡ word_text self }
     {
         match self {
-            Word::Census => "census",
-            Word::Strict => "strict",
-            Word::Taken => "taken",
-            Word::ReadOnly => "read-only",
-            Word::Empty => "empty",
-            Word::Assumed => "assumed",
-            Word::Unread => "unread",
-            Word::Missing => "missing",
-            Word::Write => "write",
-            Word::Ack => "ack",
-            Word::Known => "known",
-            Word::Untold => "untold",
-            Word::Size => "size",
+            Keyword::Census => "census",
+            Keyword::Strict => "strict",
+            Keyword::Taken => "taken",
+            Keyword::ReadOnly => "read-only",
+            Keyword::Empty => "empty",
+            Keyword::Assumed => "assumed",
+            Keyword::Unread => "unread",
+            Keyword::Missing => "missing",
+            Keyword::Write => "write",
+            Keyword::Ack => "ack",
+            Keyword::Known => "known",
+            Keyword::Untold => "untold",
+            Keyword::Size => "size",
         }
     }
 }
@@ -83,7 +83,7 @@ pub enum Expected {
     /// The version of the text, which is 1.
     Version,
     /// This word.
-    Word(Word),
+    Keyword(Keyword),
     YesOrNo,
     UpOrDown,
     OpenOrInRecovery,
@@ -169,7 +169,7 @@ impl Expected {
             Expected::SmallerCounts => "counts of no more than 9223372036854775808 in all",
             Expected::MoreLines => "a further line, since the text is cut",
             Expected::NoMoreLines => "the end of the text",
-            Expected::Word(_) | Expected::Line(_) | Expected::End(_) => "",
+            Expected::Keyword(_) | Expected::Line(_) | Expected::End(_) => "",
         }
     }
 }
@@ -182,7 +182,7 @@ impl fmt::Display for Expected {
 
     fn fmt<W: fmt::Write>(&self, f: &mut fmt::Formatter<W>) -> fmt::Result {
         match *self {
-            Expected::Word(word) => write!(f, "`{}`", word.text()),
+            Expected::Keyword(word) => write!(f, "`{}`", word.text()),
             Expected::Line(part) => f.write_str(part.text()),
             Expected::End(lines) => write!(f, "`end {lines}`"),
             fixed => f.write_str(fixed.fixed_text()),
@@ -226,31 +226,31 @@ impl From<AllocError> for CensusFault {
 
 /// Why a line isn't read.
 #[derive(Debug, Drop)]
-pub(crate) enum Stop {
+pub(crate) enum LineFault {
     /// There is no memory.
     NoMemory,
     /// This should have stood there.
     At(Expected),
 }
 
-impl From<AllocError> for Stop {
+impl From<AllocError> for LineFault {
     ghost use Rattle.std.specs.Prelude.{◌≡◌};
-    ghost use Rattle.reh_census_file.specs.declared.faults.Stop.TheVariants.{NoMemory};
+    ghost use Rattle.reh_census_file.specs.declared.faults.LineFault.TheVariants.{NoMemory};
 
     ghost from_gives = { λ _ stop. stop ≡ NoMemory };
 
-    fn from(_want: AllocError) -> Stop {
-        Stop::NoMemory
+    fn from(_want: AllocError) -> LineFault {
+        LineFault::NoMemory
     }
 }
 
-impl<T: Drop> From<AllocFailed<T>> for Stop {
+impl<T: Drop> From<AllocFailed<T>> for LineFault {
     ghost use Rattle.std.specs.Prelude.{◌≡◌};
-    ghost use Rattle.reh_census_file.specs.declared.faults.Stop.TheVariants.{NoMemory};
+    ghost use Rattle.reh_census_file.specs.declared.faults.LineFault.TheVariants.{NoMemory};
 
     ghost from_gives = { λ _ stop. stop ≡ NoMemory };
 
-    fn from(want: AllocFailed<T>) -> Stop {
-        Stop::from(AllocError::from(want))
+    fn from(want: AllocFailed<T>) -> LineFault {
+        LineFault::from(AllocError::from(want))
     }
 }

@@ -12,7 +12,7 @@ mod texts;
 mod values;
 mod words;
 
-pub use faults::{CensusFault, Expected, Part, Word};
+pub use faults::{CensusFault, Expected, Part, Keyword};
 pub use laws::texts_tell_censuses_apart;
 pub use lists::{MAX_NAMES, NameList};
 pub use reading::{is_census, read_census};

@@ -7,7 +7,7 @@ ghost use Rattle.reh_census_file.specs.declared.faults.Expected.TheVariants as e
 ghost use Rattle.reh_census_file.specs.Reading.{Gives, words_after};
 ghost use Rattle.reh_census_file.specs.Reading as words;
 
-use crate::faults::{Expected, Stop, Word};
+use crate::faults::{Expected, LineFault, Keyword};
 use crate::lists::NameList;
 use crate::words::{
     bookies_at, bookies_behind, choice_at, count_at, flag_at, name_at, next_word, no_more,
@@ -27,7 +27,7 @@ pub(crate) struct BookieLine<'a> {
 }
 
 /// Whether a bookie is up, and what follows that.
-fn up_at(rest: &[u8]) -> Result<(bool, &[u8]), Stop>
+fn up_at(rest: &[u8]) -> Result<(bool, &[u8]), LineFault>
     ensures { Gives (λ x. (x.0, words_after x.1.now)) result
         (words.choice_at (codes "up") (codes "down") expected.UpOrDown (words_after rest.now)) }
 {
@@ -35,7 +35,7 @@ fn up_at(rest: &[u8]) -> Result<(bool, &[u8]), Stop>
 }
 
 /// Whether ledgers are open, and what follows that.
-fn state_at(rest: &[u8]) -> Result<(bool, &[u8]), Stop>
+fn state_at(rest: &[u8]) -> Result<(bool, &[u8]), LineFault>
     ensures { Gives (λ x. (x.0, words_after x.1.now)) result
         (words.choice_at (codes "open") (codes "in-recovery") expected.OpenOrInRecovery (words_after rest.now)) }
 {
@@ -44,7 +44,7 @@ fn state_at(rest: &[u8]) -> Result<(bool, &[u8]), Stop>
 
 /// The name of a rack, and nothing after it.
 #[tactic(auto, unfolding(crate::specs::LineReading::rack_behind))]
-fn rack_behind(rest: &[u8]) -> Result<Option<&str>, Stop>
+fn rack_behind(rest: &[u8]) -> Result<Option<&str>, LineFault>
     ensures { Gives (λ x. option_map (λ rack. rack.now) x) result (reading.rack_behind (words_after rest.now)) }
 {
     let (name, after) = name_at(rest)?;
@@ -54,25 +54,25 @@ fn rack_behind(rest: &[u8]) -> Result<Option<&str>, Stop>
 
 /// The rack, if there is one.
 #[tactic(auto, unfolding(crate::specs::LineReading::rack_at))]
-fn rack_at(rest: &[u8]) -> Result<Option<&str>, Stop>
+fn rack_at(rest: &[u8]) -> Result<Option<&str>, LineFault>
     ensures { Gives (λ x. option_map (λ rack. rack.now) x) result (reading.rack_at (words_after rest.now)) }
 {
     match next_word(rest) {
         None => Ok(None),
         Some((word, after)) if word == b"rack".as_slice() => rack_behind(after),
-        Some(_) => Err(Stop::At(Expected::BookieEnd)),
+        Some(_) => Err(LineFault::At(Expected::BookieEnd)),
     }
 }
 
 /// A bookie.
 #[tactic(auto, unfolding(crate::specs::LineReading::bookie_line_at))]
-pub(crate) fn bookie_line_at(rest: &[u8]) -> Result<BookieLine<'_>, Stop>
+pub(crate) fn bookie_line_at(rest: &[u8]) -> Result<BookieLine<'_>, LineFault>
     ensures { Gives seen result (reading.bookie_line_at (words_after rest.now)) }
 {
     let (name, rest) = name_at(rest)?;
     let (is_registered, rest) = up_at(rest)?;
-    let (is_read_only, rest) = flag_at(Word::ReadOnly, rest);
-    let (is_empty, rest) = flag_at(Word::Empty, rest);
+    let (is_read_only, rest) = flag_at(Keyword::ReadOnly, rest);
+    let (is_empty, rest) = flag_at(Keyword::Empty, rest);
     let rack = rack_at(rest)?;
     Ok(BookieLine {
         name,
@@ -85,13 +85,13 @@ pub(crate) fn bookie_line_at(rest: &[u8]) -> Result<BookieLine<'_>, Stop>
 
 /// What was judged.
 #[tactic(auto, unfolding(crate::specs::LineReading::judged_at))]
-pub(crate) fn judged_at(rest: &[u8]) -> Result<Judged, Stop>
+pub(crate) fn judged_at(rest: &[u8]) -> Result<Judged, LineFault>
     ensures { Gives (λ x. x) result (reading.judged_at (words_after rest.now)) }
 {
     let (ledgers, rest) = number_at(rest)?;
-    let (assumed, rest) = number_behind(Word::Assumed, rest)?;
-    let (unread, rest) = number_behind(Word::Unread, rest)?;
-    let (missing, rest) = number_behind(Word::Missing, rest)?;
+    let (assumed, rest) = number_behind(Keyword::Assumed, rest)?;
+    let (unread, rest) = number_behind(Keyword::Unread, rest)?;
+    let (missing, rest) = number_behind(Keyword::Missing, rest)?;
     no_more(rest)?;
     Ok(Judged {
         ledgers,
@@ -103,14 +103,14 @@ pub(crate) fn judged_at(rest: &[u8]) -> Result<Judged, Stop>
 
 /// Entries of a class.
 #[tactic(auto, unfolding(crate::specs::LineReading::entries_at))]
-pub(crate) fn entries_at(alloc: Global, names: &NameList, rest: &[u8]) -> Result<Counted, Stop>
+pub(crate) fn entries_at(alloc: Global, names: &NameList, rest: &[u8]) -> Result<Counted, LineFault>
     ensures { Gives (λ x. x) result (reading.entries_at names.now (words_after rest.now)) }
 {
     let (count, rest) = count_at(rest)?;
-    let (write_quorum, rest) = number_behind(Word::Write, rest)?;
-    let (ack_quorum, rest) = number_behind(Word::Ack, rest)?;
-    let (known, rest) = bookies_behind(alloc, names, Word::Known, rest)?;
-    let (untold, rest) = bookies_behind(alloc, names, Word::Untold, rest)?;
+    let (write_quorum, rest) = number_behind(Keyword::Write, rest)?;
+    let (ack_quorum, rest) = number_behind(Keyword::Ack, rest)?;
+    let (known, rest) = bookies_behind(alloc, names, Keyword::Known, rest)?;
+    let (untold, rest) = bookies_behind(alloc, names, Keyword::Untold, rest)?;
     no_more(rest)?;
     let class = Class {
         known: Names::of(known),
@@ -123,14 +123,14 @@ pub(crate) fn entries_at(alloc: Global, names: &NameList, rest: &[u8]) -> Result
 
 /// Ledgers of a tail.
 #[tactic(auto, unfolding(crate::specs::LineReading::tail_at))]
-pub(crate) fn tail_at(alloc: Global, names: &NameList, rest: &[u8]) -> Result<CountedTail, Stop>
+pub(crate) fn tail_at(alloc: Global, names: &NameList, rest: &[u8]) -> Result<CountedTail, LineFault>
     ensures { Gives (λ x. x) result (reading.tail_at names.now (words_after rest.now)) }
 {
     let (count, rest) = count_at(rest)?;
     let (is_open, rest) = state_at(rest)?;
-    let (size, rest) = number_behind(Word::Size, rest)?;
-    let (write_quorum, rest) = number_behind(Word::Write, rest)?;
-    let (ack_quorum, rest) = number_behind(Word::Ack, rest)?;
+    let (size, rest) = number_behind(Keyword::Size, rest)?;
+    let (write_quorum, rest) = number_behind(Keyword::Write, rest)?;
+    let (ack_quorum, rest) = number_behind(Keyword::Ack, rest)?;
     let (ensemble, rest) = bookies_at(alloc, names, size, rest)?;
     no_more(rest)?;
     let tail = Tail {
@@ -149,7 +149,7 @@ pub(crate) fn ensemble_at(
     alloc: Global,
     names: &NameList,
     rest: &[u8],
-) -> Result<CountedEnsemble, Stop>
+) -> Result<CountedEnsemble, LineFault>
     ensures { Gives (λ x. x) result (reading.ensemble_at names.now (words_after rest.now)) }
 {
     let (count, rest) = count_at(rest)?;

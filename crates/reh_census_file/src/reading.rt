@@ -13,7 +13,7 @@ ghost use Rattle.reh_census_file.specs.Whole.{GivesAll, parts_of};
 ghost use Rattle.std.specs.Option.{option_map};
 
 use crate::drafts::Draft;
-use crate::faults::{CensusFault, Expected, Stop, Word};
+use crate::faults::{CensusFault, Expected, LineFault, Keyword};
 use crate::values::NamedCensus;
 use crate::words::{choice_at, first_word, line_behind, lines_at, no_more, time_at, version_at};
 use reh_census::{Bookies, Census, Judged};
@@ -52,26 +52,26 @@ fn next_line(text: &[u8]) -> Option<(&[u8], &[u8])>
 }
 
 /// A fault of this line.
-fn fault_at(line: u64, stop: Stop) -> CensusFault
+fn fault_at(line: u64, stop: LineFault) -> CensusFault
     ensures { result ≡ whole.fault_at line stop }
 {
     match stop {
-        Stop::At(expected) => CensusFault::Line(line, expected),
-        Stop::NoMemory => CensusFault::NoMemory,
+        LineFault::At(expected) => CensusFault::Line(line, expected),
+        LineFault::NoMemory => CensusFault::NoMemory,
     }
 }
 
 /// The line of the version.
 #[tactic(auto, unfolding(crate::specs::Whole::version_line))]
-fn version_line(line: &[u8]) -> Result<(), Stop>
+fn version_line(line: &[u8]) -> Result<(), LineFault>
     ensures { Gives (λ x. x) result (whole.version_line (words_of line.now)) }
 {
-    let rest = line_behind(Word::Census, line)?;
+    let rest = line_behind(Keyword::Census, line)?;
     version_at(rest)
 }
 
 /// Which of `yes` and `no` comes next, and what follows it.
-fn yes_at(rest: &[u8]) -> Result<(bool, &[u8]), Stop>
+fn yes_at(rest: &[u8]) -> Result<(bool, &[u8]), LineFault>
     ensures { Gives (λ x. (x.0, words_after x.1.now)) result
         (words.choice_at (codes "yes") (codes "no") expected.YesOrNo (words_after rest.now)) }
 {
@@ -80,10 +80,10 @@ fn yes_at(rest: &[u8]) -> Result<(bool, &[u8]), Stop>
 
 /// The line that says whether what is assumed counts as untold.
 #[tactic(auto, unfolding(crate::specs::Whole::strict_line))]
-fn strict_line(line: &[u8]) -> Result<bool, Stop>
+fn strict_line(line: &[u8]) -> Result<bool, LineFault>
     ensures { Gives (λ x. x) result (whole.strict_line (words_of line.now)) }
 {
-    let rest = line_behind(Word::Strict, line)?;
+    let rest = line_behind(Keyword::Strict, line)?;
     let (is_strict, rest) = yes_at(rest)?;
     no_more(rest)?;
     Ok(is_strict)
@@ -91,10 +91,10 @@ fn strict_line(line: &[u8]) -> Result<bool, Stop>
 
 /// The line of the time.
 #[tactic(auto, unfolding(crate::specs::Whole::taken_line))]
-fn taken_line(line: &[u8]) -> Result<Option<&str>, Stop>
+fn taken_line(line: &[u8]) -> Result<Option<&str>, LineFault>
     ensures { Gives (λ x. option_map (λ t. t.now) x) result (whole.taken_line (words_of line.now)) }
 {
-    let rest = line_behind(Word::Taken, line)?;
+    let rest = line_behind(Keyword::Taken, line)?;
     let (taken, rest) = time_at(rest)?;
     no_more(rest)?;
     Ok(taken)
@@ -147,11 +147,11 @@ fn read_taken(text: &[u8]) -> Result<(Option<&str>, &[u8]), CensusFault>
 
 /// Whether a last line may come after so many, and these are its words after `end`.
 #[tactic(auto, unfolding(crate::specs::Whole::end_line))]
-fn end_line(lines: u64, draft: &Draft, words: &[u8]) -> Result<(), Stop>
+fn end_line(lines: u64, draft: &Draft, words: &[u8]) -> Result<(), LineFault>
     ensures { Gives (λ _. draft.now) result (whole.end_line lines draft.now (words_after words.now)) }
 {
     if draft.judged.is_none() {
-        return Err(Stop::At(Expected::Line(draft.part())));
+        return Err(LineFault::At(Expected::Line(draft.part())));
     }
     lines_at(lines, words)
 }

@@ -8,7 +8,7 @@ ghost use Rattle.reh_census_file.specs.Canonical as canonical;
 ghost use Rattle.reh_census_file.specs.Reading as reading;
 ghost use Rattle.reh_census_file.specs.Reading.{Gives, words_of, words_after};
 
-use crate::faults::{Expected, Stop, Word};
+use crate::faults::{Expected, LineFault, Keyword};
 use crate::lists::NameList;
 use itoa::Buffer;
 use std::alloc::Global;
@@ -127,18 +127,18 @@ fn number_of(word: &[u8]) -> Option<u64>
 
 /// What follows this word.
 #[tactic(auto, unfolding(crate::specs::Reading::word_at))]
-pub(crate) fn word_at(wanted: Word, rest: &[u8]) -> Result<&[u8], Stop>
+pub(crate) fn word_at(wanted: Keyword, rest: &[u8]) -> Result<&[u8], LineFault>
     ensures { Gives (λ after. words_after after.now) result (reading.word_at wanted (words_after rest.now)) }
 {
     match next_word(rest) {
         Some((word, after)) if word == wanted.text().as_bytes() => Ok(after),
-        _ => Err(Stop::At(Expected::Word(wanted))),
+        _ => Err(LineFault::At(Expected::Keyword(wanted))),
     }
 }
 
 /// Whether this word comes next, and what follows it, if it does.
 #[tactic(auto, unfolding(crate::specs::Reading::flag_at))]
-pub(crate) fn flag_at(wanted: Word, rest: &[u8]) -> (bool, &[u8])
+pub(crate) fn flag_at(wanted: Keyword, rest: &[u8]) -> (bool, &[u8])
     ensures { (result.0, words_after result.1.now) ≡ reading.flag_at wanted (words_after rest.now) }
 {
     match next_word(rest) {
@@ -154,48 +154,48 @@ pub(crate) fn choice_at<'a>(
     other: &'static str,
     expected: Expected,
     rest: &'a [u8],
-) -> Result<(bool, &'a [u8]), Stop>
+) -> Result<(bool, &'a [u8]), LineFault>
     ensures { Gives (λ x. (x.0, words_after x.1.now)) result
         (reading.choice_at one.now other.now expected (words_after rest.now)) }
 {
     match next_word(rest) {
         Some((word, after)) if word == one.as_bytes() => Ok((true, after)),
         Some((word, after)) if word == other.as_bytes() => Ok((false, after)),
-        _ => Err(Stop::At(expected)),
+        _ => Err(LineFault::At(expected)),
     }
 }
 
 /// A number, and what follows it.
 #[tactic(auto, unfolding(crate::specs::Reading::number_at))]
-pub(crate) fn number_at(rest: &[u8]) -> Result<(u64, &[u8]), Stop>
+pub(crate) fn number_at(rest: &[u8]) -> Result<(u64, &[u8]), LineFault>
     ensures { Gives (λ x. (x.0, words_after x.1.now)) result (reading.number_at (words_after rest.now)) }
 {
     let Some((word, after)) = next_word(rest) else {
-        return Err(Stop::At(Expected::Number));
+        return Err(LineFault::At(Expected::Number));
     };
     match number_of(word) {
         Some(number) => Ok((number, after)),
-        None => Err(Stop::At(Expected::Number)),
+        None => Err(LineFault::At(Expected::Number)),
     }
 }
 
 /// A number that isn't 0, and what follows it.
 #[tactic(auto, unfolding(crate::specs::Reading::count_at))]
-pub(crate) fn count_at(rest: &[u8]) -> Result<(u64, &[u8]), Stop>
+pub(crate) fn count_at(rest: &[u8]) -> Result<(u64, &[u8]), LineFault>
     ensures { Gives (λ x. (x.0, words_after x.1.now)) result (reading.count_at (words_after rest.now)) }
 {
     let Some((word, after)) = next_word(rest) else {
-        return Err(Stop::At(Expected::Count));
+        return Err(LineFault::At(Expected::Count));
     };
     match number_of(word) {
-        None | Some(0) => Err(Stop::At(Expected::Count)),
+        None | Some(0) => Err(LineFault::At(Expected::Count)),
         Some(number) => Ok((number, after)),
     }
 }
 
 /// A number after its word, and what follows it.
 #[tactic(auto, unfolding(crate::specs::Reading::number_behind))]
-pub(crate) fn number_behind(wanted: Word, rest: &[u8]) -> Result<(u64, &[u8]), Stop>
+pub(crate) fn number_behind(wanted: Keyword, rest: &[u8]) -> Result<(u64, &[u8]), LineFault>
     ensures { Gives (λ x. (x.0, words_after x.1.now)) result
         (reading.number_behind wanted (words_after rest.now)) }
 {
@@ -218,48 +218,48 @@ fn name_text(word: &[u8]) -> Option<&str>
 
 /// A name, and what follows it.
 #[tactic(auto, unfolding(crate::specs::Reading::name_at))]
-pub(crate) fn name_at(rest: &[u8]) -> Result<(&str, &[u8]), Stop>
+pub(crate) fn name_at(rest: &[u8]) -> Result<(&str, &[u8]), LineFault>
     ensures { Gives (λ x. (x.0.now, words_after x.1.now)) result (reading.name_at (words_after rest.now)) }
 {
     let Some((word, after)) = next_word(rest) else {
-        return Err(Stop::At(Expected::Name));
+        return Err(LineFault::At(Expected::Name));
     };
     match name_text(word) {
         Some(name) => Ok((name, after)),
-        None => Err(Stop::At(Expected::Name)),
+        None => Err(LineFault::At(Expected::Name)),
     }
 }
 
 /// A time, or that there is none, and what follows it.
 #[tactic(auto, unfolding(crate::specs::Reading::time_at))]
-pub(crate) fn time_at(rest: &[u8]) -> Result<(Option<&str>, &[u8]), Stop>
+pub(crate) fn time_at(rest: &[u8]) -> Result<(Option<&str>, &[u8]), LineFault>
     ensures { Gives (λ x. (option_map (λ t. t.now) x.0, words_after x.1.now)) result
         (reading.time_at (words_after rest.now)) }
 {
     let Some((word, after)) = next_word(rest) else {
-        return Err(Stop::At(Expected::Time));
+        return Err(LineFault::At(Expected::Time));
     };
     if word == b"-".as_slice() {
         return Ok((None, after));
     }
     match name_text(word) {
         Some(time) => Ok((Some(time), after)),
-        None => Err(Stop::At(Expected::Time)),
+        None => Err(LineFault::At(Expected::Time)),
     }
 }
 
 /// The number of the bookie of this name, and what follows it.
 #[tactic(auto, unfolding(crate::specs::Reading::bookie_at))]
-fn bookie_at<'a>(names: &NameList, rest: &'a [u8]) -> Result<(u16, &'a [u8]), Stop>
+fn bookie_at<'a>(names: &NameList, rest: &'a [u8]) -> Result<(u16, &'a [u8]), LineFault>
     ensures { Gives (λ x. (x.0, words_after x.1.now)) result
         (reading.bookie_at names.now (words_after rest.now)) }
 {
     let Some((word, after)) = next_word(rest) else {
-        return Err(Stop::At(Expected::KnownBookie));
+        return Err(LineFault::At(Expected::KnownBookie));
     };
     match names.find(word) {
         Some(number) => Ok((number, after)),
-        None => Err(Stop::At(Expected::KnownBookie)),
+        None => Err(LineFault::At(Expected::KnownBookie)),
     }
 }
 
@@ -269,7 +269,7 @@ pub(crate) fn bookies_at<'a>(
     names: &NameList,
     count: u64,
     rest: &'a [u8],
-) -> Result<(Vec<u16>, &'a [u8]), Stop>
+) -> Result<(Vec<u16>, &'a [u8]), LineFault>
     ensures { Gives (λ x. (x.0.items, words_after x.1.now)) result
         (reading.bookies_at names.now count (words_after rest.now)) }
 {
@@ -288,9 +288,9 @@ pub(crate) fn bookies_at<'a>(
 pub(crate) fn bookies_behind<'a>(
     alloc: Global,
     names: &NameList,
-    wanted: Word,
+    wanted: Keyword,
     rest: &'a [u8],
-) -> Result<(Vec<u16>, &'a [u8]), Stop>
+) -> Result<(Vec<u16>, &'a [u8]), LineFault>
     ensures { Gives (λ x. (x.0.items, words_after x.1.now)) result
         (reading.bookies_behind names.now wanted (words_after rest.now)) }
 {
@@ -299,46 +299,46 @@ pub(crate) fn bookies_behind<'a>(
 }
 
 /// No further word.
-pub(crate) fn no_more(rest: &[u8]) -> Result<(), Stop>
+pub(crate) fn no_more(rest: &[u8]) -> Result<(), LineFault>
     ensures { Gives (λ x. x) result (reading.no_more (words_after rest.now)) }
 {
     match next_word(rest) {
         None => Ok(()),
-        Some(_) => Err(Stop::At(Expected::LineEnd)),
+        Some(_) => Err(LineFault::At(Expected::LineEnd)),
     }
 }
 
 /// The version, which is 1, and nothing after it.
 #[tactic(auto, unfolding(crate::specs::Reading::version_at))]
-pub(crate) fn version_at(rest: &[u8]) -> Result<(), Stop>
+pub(crate) fn version_at(rest: &[u8]) -> Result<(), LineFault>
     ensures { Gives (λ x. x) result (reading.version_at (words_after rest.now)) }
 {
     match next_word(rest) {
         Some((word, after)) if word == b"1".as_slice() => no_more(after),
-        _ => Err(Stop::At(Expected::Version)),
+        _ => Err(LineFault::At(Expected::Version)),
     }
 }
 
 /// How many lines stand before the last one, and nothing after it.
 #[tactic(auto, unfolding(crate::specs::Reading::lines_at))]
-pub(crate) fn lines_at(lines: u64, rest: &[u8]) -> Result<(), Stop>
+pub(crate) fn lines_at(lines: u64, rest: &[u8]) -> Result<(), LineFault>
     ensures { Gives (λ x. x) result (reading.lines_at lines (words_after rest.now)) }
 {
     match next_word(rest) {
         Some((word, after)) if is_written(lines, word) => no_more(after),
-        _ => Err(Stop::At(Expected::End(lines))),
+        _ => Err(LineFault::At(Expected::End(lines))),
     }
 }
 
 /// What follows this word, which begins a line.
 #[tactic(auto, unfolding(crate::specs::Reading::word_at))]
-pub(crate) fn line_behind(wanted: Word, line: &[u8]) -> Result<&[u8], Stop>
+pub(crate) fn line_behind(wanted: Keyword, line: &[u8]) -> Result<&[u8], LineFault>
     ensures { Gives (λ after. words_after after.now) result (reading.word_at wanted (words_of line.now)) }
 {
     let (word, after) = first_word(line);
     if word == wanted.text().as_bytes() {
         Ok(after)
     } else {
-        Err(Stop::At(Expected::Word(wanted)))
+        Err(LineFault::At(Expected::Keyword(wanted)))
     }
 }

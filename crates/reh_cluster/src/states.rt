@@ -108,6 +108,12 @@ impl State {
             && self.parts.have_same_rows(&other.parts)
     }
 
+    /// Each state is well-formed. This does nothing: it is called where a proof needs to know that, and where no other call
+    /// tells it.
+    pub fn well_formed(&self)
+        ensures { IsWellFormed self.now }
+    {}
+
     /// The names of the bookies.
     pub fn names(&self) -> &Names
         ensures names { result.now ≡ self.now.names }

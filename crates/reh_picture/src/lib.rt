@@ -4,6 +4,7 @@
 mod bookies;
 mod contents;
 mod counts;
+mod laws;
 mod ledgers;
 mod listings;
 mod marks;
@@ -12,6 +13,7 @@ mod places;
 
 pub use contents::Holding;
 pub use counts::Counts;
+pub use laws::formats_are;
 pub use listings::{Listed, list_picture};
 pub use marks::BookieMarks;
 pub use pictures::{Listing, check_picture, read_picture};

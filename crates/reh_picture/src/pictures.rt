@@ -106,7 +106,7 @@ pub(crate) fn read_listing(alloc: Global, picture: &Value) -> Result<Listing, Lo
         l.names l.lost_at.items l.ticks.grace l.ticks.delay l.ledgers.items l.holdings.items) }
     ensures ids { IfOk result (λ l. l.ids.keys ≡ ids_of (view picture.now)) }
 {
-    let Parts {
+    let PictureParts {
         names,
         lost_at,
         ticks,
@@ -145,7 +145,7 @@ pub(crate) fn words_in_all(bookies: usize, ledgers: &[Ledger]) -> u64
 
 /// What a picture shows, before the limit of words is judged.
 #[derive(Drop)]
-struct Parts {
+struct PictureParts {
     names: Names,
     lost_at: Vec<Option<u64>>,
     ticks: Ticks,
@@ -192,7 +192,7 @@ fn read_delay(picture: &Value, format: u64) -> Result<u64, PictureFault>
 }
 
 /// The parts that a picture's fields name.
-fn read_parts(alloc: Global, picture: &Value) -> Result<Parts, LocatedFault>
+fn read_parts(alloc: Global, picture: &Value) -> Result<PictureParts, LocatedFault>
     ensures fault { FailsAt result (parts_fault (view picture.now)) }
     ensures shown { IfOk result (λ p. IsShown (view picture.now)
         p.names p.lost_at.items p.ticks.grace p.ticks.delay p.listed.items p.holdings.items) }
@@ -202,7 +202,7 @@ fn read_parts(alloc: Global, picture: &Value) -> Result<Parts, LocatedFault>
     let (names, lost_at) = read_bookies(alloc, picture)?;
     let Ledgers { ids, listed } = read_ledgers(alloc, &names, picture)?;
     let holdings = read_contents(alloc, &names, &ids, picture)?;
-    Ok(Parts {
+    Ok(PictureParts {
         names,
         lost_at,
         ticks,

@@ -18,8 +18,8 @@ use Rattle.reh_model.specs.Cluster.{Cluster}
 use Rattle.reh_model.specs.Scan.{scan}
 use Rattle.reh_desk.specs.Numbered.{Numbered}
 use Rattle.reh_desk.specs.Seats.{SeatView, gained}
-use Rattle.reh_play.specs.declared.answers.Answer.{Answer}
-use Rattle.reh_play.specs.declared.answers.Answer.TheVariants.{Said}
+use Rattle.reh_play.specs.declared.answers.LineAnswer.{LineAnswer}
+use Rattle.reh_play.specs.declared.answers.LineAnswer.TheVariants.{Said}
 use Rattle.reh_commands.specs.declared.commands.Command.{Command}
 use Rattle.reh_commands.specs.declared.commands.Command.TheVariants.{Checkout, Spend, Discard}
 use Rattle.reh_commands.specs.declared.commands.LineFault.{LineFault}
@@ -55,7 +55,7 @@ answers_call go scene x command k reply y is goes seat hand real = λ names n. (
 
 -- a command that makes no call
 pub answers_itself : {S : Type 0} (go : Going S) (scene : S → Option Cluster) (x : Player S) (command : Command)
-    (answer : Answer) → call_of command x.hand ≡ None
+    (answer : LineAnswer) → call_of command x.hand ≡ None
     → ((names : List (List ℕ))
     → answer_text names (scene x.counter) answer ≡ own_answer names (scene x.counter) command)
     → IsAnswered go scene x (Ok command) answer x
@@ -76,7 +76,7 @@ begins_call go scene x command k y is goes seat hand = λ names n. (refl, inr (k
 
 -- a line that was answered was begun
 pub begins_answered : {S : Type 0} (go : Going S) (scene : S → Option Cluster) (x : Player S)
-    (asked : Result Command LineFault) (answer : Answer) (y : Player S) → IsAnswered go scene x asked answer y
+    (asked : Result Command LineFault) (answer : LineAnswer) (y : Player S) → IsAnswered go scene x asked answer y
     → IsBegun go scene x asked y
 begins_answered go scene x asked answer y is =
     λ names n. (refl, inl (numbered n (answer_text names (scene y.counter) answer), is names n))
@@ -151,7 +151,7 @@ begins_issued go scene s old hand u new aim ticket room goes seat is found =
 -- The oldest finding
 
 pub answers_empty : {S : Type 0} (go : Going S) (scene : S → Option Cluster) (s : S) (seat : SeatView)
-    (hand next : List Numbered) (command : Command) (answer : Answer) → hand ≡ [] → next ≡ []
+    (hand next : List Numbered) (command : Command) (answer : LineAnswer) → hand ≡ [] → next ≡ []
     → call_of command [] ≡ None
     → ((names : List (List ℕ)) → answer_text names (scene s) answer ≡ own_answer names (scene s) command)
     → IsAnswered go scene (player s seat hand) (Ok command) answer (player s seat next)
@@ -235,7 +235,7 @@ gives_none go s old hand u new given = subst (λ h. GivesBack go s old h u new) 
 -- Lines
 
 pub takes_line : {S : Type 0} (go : Going S) (scene : S → Option Cluster) (names : List (List ℕ)) (n : ℕ)
-    (line text before : List ℕ) (x : Player S) (command : Result Command LineFault) (answer : Answer) (y : Player S)
+    (line text before : List ℕ) (x : Player S) (command : Result Command LineFault) (answer : LineAnswer) (y : Player S)
     → Some command ≡ asked names line
     → before ≡ [] → text ≡ before ++ numbered n (answer_text names (scene y.counter) answer)
     → IsAnswered go scene x command answer y → Takes (setting go scene names) x n (asked names line) text y

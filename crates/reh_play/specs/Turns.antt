@@ -6,8 +6,8 @@ use Rattle.reh_desk.specs.Numbered.{Numbered}
 use Rattle.reh_desk.specs.Seats.{SeatView}
 use Rattle.reh_crew.specs.declared.surveyors.SurveyFault.{SurveyFault}
 use Rattle.reh_crew.specs.declared.surveyors.SurveyFault.TheVariants as survey_fault
-use Rattle.reh_play.specs.declared.answers.Answer.{Answer}
-use Rattle.reh_play.specs.declared.answers.Answer.TheVariants.{Said, Faulty, Report, Survey, Hidden}
+use Rattle.reh_play.specs.declared.answers.LineAnswer.{LineAnswer}
+use Rattle.reh_play.specs.declared.answers.LineAnswer.TheVariants.{Said, Faulty, Report, Survey, Hidden}
 use Rattle.reh_commands.specs.declared.commands.Command.{Command}
 use Rattle.reh_commands.specs.declared.commands.LineFault.{LineFault}
 use Rattle.reh_play.specs.declared.faults.PlayFault.{PlayFault}
@@ -29,7 +29,7 @@ abbrev pub with_ticket : {S : Type 0} → S → SeatView → List Numbered → O
 with_ticket {S} counter seat hand ticket = player counter seat (hand ++ held ticket)
 
 -- what is printed as an answer, where this state is shown, or none
-abbrev pub answer_text : List (List ℕ) → Option Cluster → Answer → List ℕ
+abbrev pub answer_text : List (List ℕ) → Option Cluster → LineAnswer → List ℕ
 answer_text names scene (Said reply) = reply_answer names reply
 answer_text names scene (Faulty fault) = fault_answer fault
 answer_text names scene Report = shown scene report_answer
@@ -37,7 +37,7 @@ answer_text names scene (Survey lines) = codes "survey\n" ++ text_of (map survey
 answer_text names scene Hidden = codes "not in a drill\n"
 
 -- A line that asks for this was taken, and has this answer, whatever its number and the names.
-abbrev pub IsAnswered : {S : Type 0} → Going S → (S → Option Cluster) → Player S → Result Command LineFault → Answer
+abbrev pub IsAnswered : {S : Type 0} → Going S → (S → Option Cluster) → Player S → Result Command LineFault → LineAnswer
     → Player S → Type 0
 IsAnswered {S} go scene x asked answer y =
     (names : List (List ℕ)) (n : ℕ)

@@ -12,7 +12,7 @@ use std::alloc::AllocError;
 
 /// The answer to a line.
 #[derive(Drop)]
-pub(crate) enum Answer {
+pub(crate) enum LineAnswer {
     /// The reply to a call, or the player's own where its hand is full or empty.
     Said(Reply),
     /// The line asks for nothing.
@@ -31,21 +31,21 @@ pub(crate) fn push_answer<C: Counter>(
     names: &Names,
     counter: &C,
     number: usize,
-    answer: Answer,
+    answer: LineAnswer,
 ) -> Result<(), AllocError>
     ensures { OnOk result (string_bytes text.new
         ≡ string_bytes text.old ++ numbered number (answer_text names.now (C.scene counter.now) answer)) }
 {
     push_number(text, number)?;
     match answer {
-        Answer::Said(reply) => push_reply(text, names, &reply),
-        Answer::Faulty(fault) => write!(text, "{fault}\n"),
-        Answer::Report => push_state(text, counter),
-        Answer::Survey(lines) => {
+        LineAnswer::Said(reply) => push_reply(text, names, &reply),
+        LineAnswer::Faulty(fault) => write!(text, "{fault}\n"),
+        LineAnswer::Report => push_state(text, counter),
+        LineAnswer::Survey(lines) => {
             text.push_str("survey\n")?;
             push_survey(text, &lines)
         }
-        Answer::Hidden => write!(text, "not in a drill\n"),
+        LineAnswer::Hidden => write!(text, "not in a drill\n"),
     }
 }
 

@@ -5,7 +5,7 @@ ghost use Rattle.reh_crew.specs.declared.surveyors.SurveyFault.TheVariants.{NoMe
 ghost use Rattle.reh_play.specs.Turns.{player, held, with_ticket, IsAnswered, IsBegun, IsWanted};
 ghost use Rattle.reh_commands.specs.declared.commands.Command.TheVariants as command;
 
-use crate::answers::Answer;
+use crate::answers::LineAnswer;
 use crate::hand::Hand;
 use reh_cluster::Names;
 use reh_commands::{Command, LineFault};
@@ -50,7 +50,7 @@ pub(crate) fn answer<C: Counter, V: Surveyor>(
     seat: &mut Seat,
     hand: &mut Hand,
     asked: Result<Command, LineFault>,
-) -> Result<Answer, Unanswered>
+) -> Result<LineAnswer, Unanswered>
     requires may { C.may counter.old seat.old }
     requires surveys { V.surveys tools.now.surveyor.now }
     ensures may { C.may counter.new seat.new }
@@ -67,9 +67,9 @@ pub(crate) fn answer<C: Counter, V: Surveyor>(
         Ok(Command::Checkout(aim)) => check_out(tools.alloc, counter, seat, hand, aim),
         Ok(Command::Spend) => spend(counter, seat, hand),
         Ok(Command::Discard) => Ok(discard(counter, seat, hand)),
-        Ok(Command::Report) => Ok(Answer::Report),
+        Ok(Command::Report) => Ok(LineAnswer::Report),
         Ok(Command::Survey) => survey(tools, counter, seat, hand),
-        Err(fault) => Ok(Answer::Faulty(fault)),
+        Err(fault) => Ok(LineAnswer::Faulty(fault)),
     }
 }
 
@@ -79,7 +79,7 @@ fn make<C: Counter>(
     seat: &mut Seat,
     hand: &Hand,
     step: Move,
-) -> Result<Answer, Unanswered>
+) -> Result<LineAnswer, Unanswered>
     requires { C.may counter.old seat.old }
     ensures may { C.may counter.new seat.new }
     ensures ok { IfOk result (λ answer. IsAnswered C.goes C.scene
@@ -92,7 +92,7 @@ fn make<C: Counter>(
 {
     match counter.call(seat, step) {
         Reply::Refused(Refusal::NoMemory) => Err(Unanswered::from(AllocError)),
-        reply => Ok(Answer::Said(reply)),
+        reply => Ok(LineAnswer::Said(reply)),
     }
 }
 
@@ -103,7 +103,7 @@ fn check_out<C: Counter>(
     seat: &mut Seat,
     hand: &mut Hand,
     aim: Aim,
-) -> Result<Answer, Unanswered>
+) -> Result<LineAnswer, Unanswered>
     requires { C.may counter.old seat.old }
     ensures may { C.may counter.new seat.new }
     ensures ok { IfOk result (λ answer. IsAnswered C.goes C.scene
@@ -115,7 +115,7 @@ fn check_out<C: Counter>(
     ensures wanted { IfErr result (λ u. u.fault ≡ NoMemory) }
 {
     if hand.len() >= MAX_HAND {
-        return Ok(Answer::Said(Reply::Refused(Refusal::HandFull)));
+        return Ok(LineAnswer::Said(Reply::Refused(Refusal::HandFull)));
     }
     match counter.checkout(seat, aim) {
         Ok(ticket) => {
@@ -123,7 +123,7 @@ fn check_out<C: Counter>(
             match scan(alloc, ticket) {
                 Ok(finding) => {
                     hand.add(finding);
-                    Ok(Answer::Said(Reply::Issued(number)))
+                    Ok(LineAnswer::Said(Reply::Issued(number)))
                 }
                 Err((ticket, want)) => Err(Unanswered {
                     fault: SurveyFault::from(want),
@@ -132,7 +132,7 @@ fn check_out<C: Counter>(
             }
         }
         Err(Refusal::NoMemory) => Err(Unanswered::from(AllocError)),
-        Err(refusal) => Ok(Answer::Said(Reply::Refused(refusal))),
+        Err(refusal) => Ok(LineAnswer::Said(Reply::Refused(refusal))),
     }
 }
 
@@ -141,7 +141,7 @@ fn spend<C: Counter>(
     counter: &mut C,
     seat: &mut Seat,
     hand: &mut Hand,
-) -> Result<Answer, Unanswered>
+) -> Result<LineAnswer, Unanswered>
     requires { C.may counter.old seat.old }
     ensures may { C.may counter.new seat.new }
     ensures ok { IfOk result (λ answer. IsAnswered C.goes C.scene
@@ -153,15 +153,15 @@ fn spend<C: Counter>(
     ensures wanted { IfErr result (λ u. u.fault ≡ NoMemory) }
 {
     let Some(finding) = hand.oldest() else {
-        return Ok(Answer::Said(Reply::Refused(Refusal::HandEmpty)));
+        return Ok(LineAnswer::Said(Reply::Refused(Refusal::HandEmpty)));
     };
     match counter.spend(seat, finding) {
-        Ok(reply) => Ok(Answer::Said(reply)),
+        Ok(reply) => Ok(LineAnswer::Said(reply)),
         Err(fault) => {
             let SpendFault { finding, cause } = fault;
             hand.put_back(finding);
             match cause {
-                SpendCause::NotOut => Ok(Answer::Said(Reply::Refused(Refusal::NotOut))),
+                SpendCause::NotOut => Ok(LineAnswer::Said(Reply::Refused(Refusal::NotOut))),
                 SpendCause::NoMemory => Err(Unanswered::from(AllocError)),
             }
         }
@@ -169,7 +169,7 @@ fn spend<C: Counter>(
 }
 
 /// Gives the oldest finding back. One whose ticket is not out is forfeited.
-fn discard<C: Counter>(counter: &mut C, seat: &mut Seat, hand: &mut Hand) -> Answer
+fn discard<C: Counter>(counter: &mut C, seat: &mut Seat, hand: &mut Hand) -> LineAnswer
     requires { C.may counter.old seat.old }
     ensures may { C.may counter.new seat.new }
     ensures done { IsAnswered C.goes C.scene
@@ -177,13 +177,13 @@ fn discard<C: Counter>(counter: &mut C, seat: &mut Seat, hand: &mut Hand) -> Ans
         (player counter.new seat.new hand.new) }
 {
     let Some(finding) = hand.oldest() else {
-        return Answer::Said(Reply::Refused(Refusal::HandEmpty));
+        return LineAnswer::Said(Reply::Refused(Refusal::HandEmpty));
     };
     match counter.discard(seat, Unspent::Scanned(finding)) {
-        Ok(()) => Answer::Said(Reply::Discarded),
+        Ok(()) => LineAnswer::Said(Reply::Discarded),
         Err(stray) => {
             stray.forfeit();
-            Answer::Said(Reply::Refused(Refusal::NotOut))
+            LineAnswer::Said(Reply::Refused(Refusal::NotOut))
         }
     }
 }
@@ -194,7 +194,7 @@ fn survey<C: Counter, V: Surveyor>(
     counter: &C,
     seat: &Seat,
     hand: &Hand,
-) -> Result<Answer, Unanswered>
+) -> Result<LineAnswer, Unanswered>
     requires { V.surveys tools.now.surveyor.now }
     ensures ok { IfOk result (λ answer. IsAnswered C.goes C.scene
         (player counter.now seat.now hand.now) (Ok command.Survey) answer
@@ -204,10 +204,10 @@ fn survey<C: Counter, V: Surveyor>(
         (with_ticket counter.now seat.now hand.now u.ticket)) }
 {
     let Some(state) = counter.whole() else {
-        return Ok(Answer::Hidden);
+        return Ok(LineAnswer::Hidden);
     };
     match tools.surveyor.survey(tools.alloc, state) {
-        Ok(lines) => Ok(Answer::Survey(lines)),
+        Ok(lines) => Ok(LineAnswer::Survey(lines)),
         Err(fault) => Err(Unanswered {
             fault,
             ticket: None,

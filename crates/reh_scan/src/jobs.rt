@@ -274,10 +274,10 @@ fn push_sources(
 }
 
 /// A word of each member, by the members' indexes.
-type Held = [u64; MAX_ENSEMBLE_SIZE as usize];
+type HeldWords = [u64; MAX_ENSEMBLE_SIZE as usize];
 
 /// The members' words of that number.
-fn held_words(reading: &Reading, number: u32) -> Held
+fn held_words(reading: &Reading, number: u32) -> HeldWords
     requires { IsReading reading.now }
     ensures { (index : ℕ) → index < reading.now.size → slice_index result index
         ≡ slice_index (slice_index_or reading.now.rows.items index []) (number - reading.now.first / 64) }
@@ -291,7 +291,7 @@ fn held_words(reading: &Reading, number: u32) -> Held
 }
 
 /// The first member in the order of the write set whose word has the bit.
-fn find_source(members: &[BookieIx], held: &Held, indexes: &[u32], bit: u32) -> Option<BookieIx>
+fn find_source(members: &[BookieIx], held: &HeldWords, indexes: &[u32], bit: u32) -> Option<BookieIx>
     requires within { All (λ index. index < length members.now) indexes.now }
     requires small { length members.now ≤ MAX_ENSEMBLE_SIZE }
     requires bit { bit < 64 }

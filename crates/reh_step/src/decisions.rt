@@ -401,7 +401,7 @@ pub(crate) fn aim_of(worker: BookieIx, ledger: LedgerId, fragment: u64, index: u
 /// A place of an ensemble that a worker's bookie can take: its ledger, its fragment, and the entries that this stripes
 /// onto the place's index.
 #[derive(Drop)]
-struct Place<'a> {
+struct EnsemblePlace<'a> {
     found: Found<'a>,
     fragment: &'a Fragment,
     entries: Striped,
@@ -409,7 +409,7 @@ struct Place<'a> {
 
 /// What a copy and a swap ask first: the place of the aim in the ledger whose lock the worker holds, at that version,
 /// if the worker's bookie can take it.
-fn find_place<'a>(state: &'a State, aim: &Aim, version: u64) -> Result<Place<'a>, Refusal>
+fn find_place<'a>(state: &'a State, aim: &Aim, version: u64) -> Result<EnsemblePlace<'a>, Refusal>
     ensures { MatchResult result
         (λ place. (model.no_bookie state.now aim.now.worker ≡ None)
         × IsPlace state.now aim.now place
@@ -423,7 +423,7 @@ fn find_place<'a>(state: &'a State, aim: &Aim, version: u64) -> Result<Place<'a>
     let found = find_owned(state, aim.worker, aim.ledger)?;
     check_version(found.ledger, version)?;
     let (fragment, entries) = check_place(state, found.ledger, aim)?;
-    Ok(Place {
+    Ok(EnsemblePlace {
         found,
         fragment,
         entries,

@@ -13,7 +13,7 @@ use Rattle.reh_model.specs.Refusals.{no_bookie, missing_entry, version_end}
 use Rattle.reh_model.specs.Step.{refusal_of, place_checks}
 use Rattle.reh_model.proofs.CheckLaws.{first_reason-only}
 use Rattle.reh_model.proofs.AcceptedLaws.{refused_before, passed_before}
-use Rattle.reh_step.specs.declared.decisions.Place.{Place}
+use Rattle.reh_step.specs.declared.decisions.EnsemblePlace.{EnsemblePlace}
 use Rattle.reh_step.specs.Places.{IsPlace}
 use Rattle.reh_step.proofs.decisions.check_swap.Goals as goal
 
@@ -47,7 +47,7 @@ returns-in-Some c =
     ∙ ap (λ (o : Option ℕ). first_reason (option_map (λ e. MissingEntry e) o ∷ version_end g ∷ [])) first
 
 -- where no entry is lacked, the version's reason is left
-behind : (s : Cluster) (aim : Aim) (v : ℕ) (place : Place) → no_bookie s aim.worker ≡ None → IsPlace s aim place
+behind : (s : Cluster) (aim : Aim) (v : ℕ) (place : EnsemblePlace) → no_bookie s aim.worker ≡ None → IsPlace s aim place
     → first_reason (place_checks s aim.worker aim.fragment aim.index v place.found.ledger.now) ≡ None
     → find (λ e. not (holds s aim.worker place.found.ledger.now.id e)) place.entries ≡ None
     → refusal_of s (Swap aim.worker aim.ledger aim.fragment aim.index v) ≡ version_end place.found.ledger.now
