@@ -8,3 +8,7 @@ pub mod TailLaws
 pub mod PartLaws
 pub mod UnitedLaws
 pub mod AlikeLaws
+pub mod FaultLaws
+pub mod JudgedLaws
+pub mod ReadingLaws
+pub mod TogetherLaws

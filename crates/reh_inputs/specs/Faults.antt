@@ -13,8 +13,9 @@ use Rattle.reh_inputs.specs.declared.inputs.Input.TheVariants.{Picture, Census}
 use Rattle.reh_inputs.specs.declared.names.TheConstants.{MAX_CLUSTER_BOOKIES}
 use Rattle.reh_inputs.specs.Cluster.{Cluster, has_bookie, is_shown_otherwise}
 use Rattle.reh_inputs.specs.Empties.{holds_though_empty}
-use Rattle.reh_inputs.specs.Gathered.{first_other}
+use Rattle.reh_inputs.specs.Gathered.{first_other, reading_of}
 use Rattle.reh_inputs.specs.Shown.{Shown}
+use Rattle.reh_inputs.specs.Uncounted.{AreFewTogether, InputHasUnfit, IsTwice}
 use Rattle.reh_inputs.specs.United.{counted_at, shown_at, united, with_counted, with_listed}
 
 -- why the bookie of this name, which is shown so, can't be one of the cluster
@@ -50,13 +51,17 @@ IsHeldBy (Picture l) held =
     (λ (h : Holding). (holds_though_empty l h ≡ true) × (h.bookie ≡ held.bookie) × (h.ledger ≡ held.ledger))
 IsHeldBy (Census c) held = ⊥
 
--- what a fault says of strictness, of bookies and of empty ones is so. Of faults of ledgers, and of too much that would be
--- counted, nothing is said
+-- what a fault says is so: of strictness, of bookies and of empty ones, of a ledger that comes twice or can't be counted, and
+-- of too much that would be counted
 abbrev pub IsGatherFault : List Input → Bool → GatherFault → Type 0
 IsGatherFault inputs strict (gather.Differs input bookie) =
     IsSomeAnd (slice_get inputs input) (λ one. IsUniteFault (united (take input inputs)) one bookie refusal.Differs)
 IsGatherFault inputs strict (gather.TooManyBookies input bookie) =
     IsSomeAnd (slice_get inputs input) (λ one. IsUniteFault (united (take input inputs)) one bookie refusal.TooMany)
 IsGatherFault inputs strict (gather.HoldsThoughEmpty input held) = IsSomeAnd (slice_get inputs input) (λ one. IsHeldBy one held)
+IsGatherFault inputs strict (gather.Twice input ledger) = IsTwice inputs input ledger
+IsGatherFault inputs strict (gather.Unfit input ledger) =
+    IsSomeAnd (slice_get inputs input) (λ one. InputHasUnfit (united inputs).names (reading_of strict) one ledger)
 IsGatherFault inputs strict (gather.OtherStrict input) = first_other strict inputs ≡ Some input
-IsGatherFault inputs strict other = Unit {0}
+IsGatherFault inputs strict gather.TooMany = AreFewTogether inputs strict → ⊥
+IsGatherFault inputs strict gather.NoMemory = Unit {0}

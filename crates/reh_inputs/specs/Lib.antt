@@ -11,4 +11,5 @@ pub mod Names
 pub mod Parts
 pub mod United
 pub mod Gathered
+pub mod Uncounted
 pub mod Faults

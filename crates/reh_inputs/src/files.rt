@@ -1,13 +1,14 @@
 // What census files count, with the numbers that their bookies have in the cluster.
-ghost use Rattle.std.specs.Prelude.{◌≡◌, ◌<◌, ◌≤◌, ◌^◌, ◌++◌, ◌+◌, ◌∷◌, [], All, IfOk, IfSome, OnOk, fold, map, slice_get};
+ghost use Rattle.std.specs.Prelude.{◌≡◌, ◌<◌, ◌≤◌, ◌^◌, ◌++◌, ◌+◌, ◌∷◌, [], All, IfNone, IfOk, IfSome, OnOk, fold, map, slice_get};
 ghost use Rattle.std.specs.List.{flat_map};
 ghost use Rattle.std.specs.Option.{option_map_or};
-ghost use Rattle.reh_census.specs.Counting.{judged_sum, not_judged};
+ghost use Rattle.reh_census.specs.Counting.{judged_sum};
 ghost use Rattle.reh_census.specs.Tails.{IsTail};
 ghost use Rattle.reh_census_file.specs.declared.lists.TheConstants.{MAX_NAMES};
 ghost use Rattle.reh_inputs.specs.Inputs.{of_census};
 ghost use Rattle.reh_inputs.specs.Ledgers.{number_in};
 ghost use Rattle.reh_inputs.specs.Renumbered as model;
+ghost use Rattle.reh_inputs.specs.Uncounted.{IsFewJudged};
 ghost use Rattle.reh_inputs.specs.United.{number_of};
 
 use crate::inputs::Input;
@@ -258,18 +259,21 @@ pub(crate) fn append_counts(counts: &mut Counts, more: Counts) -> Result<(), All
 
 /// The sum, if a census counts so much.
 fn sum_of(one: u64, other: u64) -> Option<u64>
-    ensures { IfSome result (λ sum. (sum ≡ one + other) × (sum ≤ 2 ^ 63)) }
+    ensures sum { IfSome result (λ sum. (sum ≡ one + other) × (sum ≤ 2 ^ 63)) }
+    ensures too_many { IfNone result (2 ^ 63 < one + other) }
 {
-    match one.checked_add(other) {
-        Some(sum) if sum <= MAX_COUNT => Some(sum),
-        _ => None,
+    let sum = one.checked_add(other)?;
+    if sum > MAX_COUNT {
+        return None;
     }
+    Some(sum)
 }
 
 /// What was judged in two parts, if a census counts so much.
 pub(crate) fn judged_in(one: Judged, other: Judged) -> Option<Judged>
     ensures sum { IfSome result (λ sum. sum ≡ judged_sum one other) }
-    ensures within { IfSome result (λ sum. not_judged sum ≤ 2 ^ 63) }
+    ensures few { IfSome result IsFewJudged }
+    ensures too_many { IfNone result (IsFewJudged (judged_sum one other) → ⊥) }
 {
     let ledgers = sum_of(one.ledgers, other.ledgers)?;
     let assumed = sum_of(one.assumed, other.assumed)?;
@@ -286,7 +290,8 @@ pub(crate) fn judged_in(one: Judged, other: Judged) -> Option<Judged>
 
 /// What was judged, with what an input judged if it is a census file.
 fn with_judged(judged: Judged, input: &Input) -> Option<Judged>
-    ensures { IfSome result (λ sum. sum ≡ model.with_judged judged input.now) }
+    ensures sum { IfSome result (λ sum. sum ≡ model.with_judged judged input.now) }
+    ensures too_many { IfNone result (IsFewJudged (model.with_judged judged input.now) → ⊥) }
 {
     match input {
         Input::Picture(_) => Some(judged),
@@ -296,7 +301,8 @@ fn with_judged(judged: Judged, input: &Input) -> Option<Judged>
 
 /// What the census files among inputs judged, if a census counts so much.
 pub(crate) fn judged_of(inputs: &[Input]) -> Option<Judged>
-    ensures { IfSome result (λ judged. judged ≡ fold model.with_judged (model.judged_by 0 0) inputs.now) }
+    ensures sum { IfSome result (λ judged. judged ≡ fold model.with_judged (model.judged_by 0 0) inputs.now) }
+    ensures too_many { IfNone result (IsFewJudged (fold model.with_judged (model.judged_by 0 0) inputs.now) → ⊥) }
 {
     let mut judged = Judged {
         ledgers: 0,

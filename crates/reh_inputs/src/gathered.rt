@@ -1,10 +1,10 @@
 // What inputs show together, as a census counts it.
-ghost use Rattle.std.specs.Prelude.{◌≡◌, ◌≤◌, ◌+◌, ◌^◌, ◌++◌, All, Bool, List, ℕ, None, Some, fold, length, map, nat_eq, slice_get, take, IfErr, IfOk, OnOk};
+ghost use Rattle.std.specs.Prelude.{◌≡◌, ◌+◌, ◌++◌, All, Bool, List, ℕ, None, Some, fold, length, map, nat_eq, slice_get, take, IfErr, IfOk, OnOk};
 ghost use Rattle.std.specs.List.{flat_map, IsDistinct};
 ghost use Rattle.std.specs.Option.{IsSomeAnd};
 ghost use Rattle.reh_census.specs.declared.censuses.Tail.{Tail as TailValue};
 ghost use Rattle.reh_census.specs.declared.classes.Class.{Class as ClassValue};
-ghost use Rattle.reh_census.specs.Counting.{count_ensembles_in, count_in, count_tails_in, judged_sum, not_judged};
+ghost use Rattle.reh_census.specs.Counting.{count_ensembles_in, count_in, count_tails_in, judged_sum};
 ghost use Rattle.reh_census.specs.Order.{IsInOrder};
 ghost use Rattle.reh_census.specs.Tails.{IsTail};
 ghost use Rattle.reh_inputs.specs.Empties.{EmptiesHoldNothing};
@@ -12,6 +12,7 @@ ghost use Rattle.reh_inputs.specs.Faults.{IsGatherFault, IsUniteFault};
 ghost use Rattle.reh_inputs.specs.Gathered as model;
 ghost use Rattle.reh_inputs.specs.Inputs.{of_picture};
 ghost use Rattle.reh_inputs.specs.Renumbered.{files_of, judged_by, with_judged};
+ghost use Rattle.reh_inputs.specs.Uncounted.{AreFewTogether, AreFewWith, IsFewJudged, IsIdFault, IsTooMuch};
 ghost use Rattle.reh_inputs.specs.United.{AreAlike, united};
 ghost use Rattle.reh_inputs.specs.declared.inputs.Input.{Input as InputValue};
 
@@ -39,7 +40,7 @@ pub enum GatherFault {
     TooManyBookies { input: usize, bookie: usize },
     /// This input shows this bookie as empty, and says that it holds entries of this ledger.
     HoldsThoughEmpty { input: usize, held: EmptyHolds },
-    /// This ledger of this input stands in an input before, too.
+    /// This ledger of this input stands in an input before, too: a picture that was read has none of them twice.
     Twice { input: usize, ledger: u64 },
     /// This ledger of this input can't be counted.
     Unfit { input: usize, ledger: u64 },
@@ -180,7 +181,8 @@ fn add_ids(
     input: usize,
     ledgers: &[PicturedLedger],
 ) -> Result<(), GatherFault>
-    ensures { OnOk result (ids.new.keys ≡ ids.old.keys ++ map (λ g. g.id) ledgers.now) }
+    ensures added { OnOk result (ids.new.keys ≡ ids.old.keys ++ map (λ g. g.id) ledgers.now) }
+    ensures fault { IfErr result (IsIdFault input ids.old.keys (map (λ g. g.id) ledgers.now)) }
 {
     for ledger in ledgers {
         let id = ledger.id().0;
@@ -193,7 +195,8 @@ fn add_ids(
 
 /// Adds the ids of an input's ledgers, if it is a picture.
 fn add_ids_in(ids: &mut IndexSet<u64>, input: usize, one: &Input) -> Result<(), GatherFault>
-    ensures { OnOk result (ids.new.keys ≡ ids.old.keys ++ of_picture model.ids_in one.now) }
+    ensures added { OnOk result (ids.new.keys ≡ ids.old.keys ++ of_picture model.ids_in one.now) }
+    ensures fault { IfErr result (IsIdFault input ids.old.keys (of_picture model.ids_in one.now)) }
 {
     match one {
         Input::Picture(listed) => add_ids(ids, input, &listed.listing.ledgers),
@@ -203,7 +206,8 @@ fn add_ids_in(ids: &mut IndexSet<u64>, input: usize, one: &Input) -> Result<(), 
 
 /// The ids of the pictures' ledgers.
 fn ids_of(alloc: Global, inputs: &[Input]) -> Result<IndexSet<u64>, GatherFault>
-    ensures { IfOk result (λ ids. ids.keys ≡ flat_map (of_picture model.ids_in) inputs.now) }
+    ensures ids { IfOk result (λ ids. ids.keys ≡ flat_map (of_picture model.ids_in) inputs.now) }
+    ensures fault { IfErr result (λ fault. (strict : Bool) → IsGatherFault inputs.now strict fault) }
 {
     let mut ids = IndexSet::new(alloc);
     for (input, one) in inputs.iter().enumerate() {
@@ -216,6 +220,7 @@ fn ids_of(alloc: Global, inputs: &[Input]) -> Result<IndexSet<u64>, GatherFault>
 fn each_id(alloc: Global, inputs: &[Input]) -> Result<Vec<u64>, GatherFault>
     ensures ids { IfOk result (λ ids. ids.items ≡ flat_map (of_picture model.ids_in) inputs.now) }
     ensures each_once { IfOk result (λ ids. IsDistinct nat_eq ids.items) }
+    ensures fault { IfErr result (λ fault. (strict : Bool) → IsGatherFault inputs.now strict fault) }
 {
     let ids = ids_of(alloc, inputs)?;
     let each = Vec::from_slice(alloc, ids.as_slice())?;
@@ -238,7 +243,8 @@ pub(crate) fn judged_by(ledgers: &[Ledger], assumed: u64) -> Judged
 fn judged_with(own: Judged, inputs: &[Input]) -> Result<Judged, GatherFault>
     ensures sum { IfOk result (λ judged. judged
         ≡ judged_sum own (fold with_judged (judged_by 0 0) inputs.now)) }
-    ensures within { IfOk result (λ judged. not_judged judged ≤ 2 ^ 63) }
+    ensures few { IfOk result IsFewJudged }
+    ensures fault { IfErr result (IsTooMuch (IsFewJudged (judged_sum own (fold with_judged (judged_by 0 0) inputs.now)))) }
 {
     let Some(files) = judged_of(inputs) else {
         return Err(GatherFault::TooMany);
@@ -266,6 +272,10 @@ fn census_with(
         ≡ count_ensembles_in own.ensembles.items test + count_ensembles_in (files_of names.now inputs.now).ensembles test) }
     ensures order { IfOk result (λ census. IsInOrder census) }
     ensures judged { IfOk result (λ census. census.judged ≡ judged_sum judged (files_of names.now inputs.now).judged) }
+    ensures few { OnOk result (AreFewWith own.entries.items own.tails.items own.ensembles.items judged
+        (files_of names.now inputs.now)) }
+    ensures fault { IfErr result (IsTooMuch (AreFewWith own.entries.items own.tails.items own.ensembles.items judged
+        (files_of names.now inputs.now))) }
 {
     let judged = judged_with(judged, inputs)?;
     let mut counts = own;
@@ -290,6 +300,8 @@ pub fn gather<R: Threads + Sync>(
 ) -> Result<Gathered, GatherFault>
     ensures gathers { IfOk result (λ gathered. model.Gathers inputs.now strict gathered) }
     ensures empties { OnOk result (All EmptiesHoldNothing inputs.now) }
+    ensures few { OnOk result (AreFewTogether inputs.now strict) }
+    ensures fault { IfErr result (IsGatherFault inputs.now strict) }
 {
     check_strict(inputs, strict)?;
     let cluster = cluster_of(alloc, inputs)?;

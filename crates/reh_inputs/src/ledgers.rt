@@ -1,8 +1,9 @@
 // The ledgers of a picture, as a census counts them.
-ghost use Rattle.std.specs.Prelude.{◌≡◌, ◌<◌, ◌++◌, ◌∷◌, [], ◌==◌, IfOk, IfSome, OnOk, List, fold, length, map};
+ghost use Rattle.std.specs.Prelude.{◌≡◌, ◌<◌, ◌++◌, ◌∷◌, [], ◌==◌, IfNone, IfOk, IfSome, OnOk, List, fold, length, map};
 ghost use Rattle.std.specs.BTreeMap.{get};
 ghost use Rattle.std.specs.List.{filter};
 ghost use Rattle.std.specs.Ordering.{nat_cmp};
+ghost use Rattle.reh_census.specs.Ledgers.{IsLedger};
 ghost use Rattle.reh_census.specs.Striping.{range};
 ghost use Rattle.reh_picture.specs.Contents.{Holding as HoldingValue};
 ghost use Rattle.reh_inputs.specs.ByLedger.{AreOf};
@@ -224,6 +225,9 @@ fn ledger_with(
     ensures made { IfOk result (λ made. IfSome made (λ ledger. (holdings : List HoldingValue)
         → map (λ h. h.now) held.now ≡ filter (λ h. h.ledger == listed.now.id) holdings → ledger
         ≡ model.ledger_of numbers.now reading holdings listed.now.id listed.now.metadata)) }
+    ensures unfit { IfOk result (λ made. IfNone made ((holdings : List HoldingValue)
+        → map (λ h. h.now) held.now ≡ filter (λ h. h.ledger == listed.now.id) holdings
+        → IsLedger (model.ledger_of numbers.now reading holdings listed.now.id listed.now.metadata) → ⊥)) }
 {
     let metadata = listed.metadata();
     let reading = reading_in(metadata.state(), reading);
@@ -258,6 +262,9 @@ pub(crate) fn ledger_of(
     ensures made { IfOk result (λ made. IfSome made (λ ledger. (holdings : List HoldingValue)
         → AreOf holdings (get nat_cmp by_ledger.now) → ledger
         ≡ model.ledger_of numbers.now reading holdings listed.now.id listed.now.metadata)) }
+    ensures unfit { IfOk result (λ made. IfNone made ((holdings : List HoldingValue)
+        → AreOf holdings (get nat_cmp by_ledger.now)
+        → IsLedger (model.ledger_of numbers.now reading holdings listed.now.id listed.now.metadata) → ⊥)) }
 {
     match by_ledger.get(&listed.id()) {
         Some(held) => ledger_with(alloc, numbers, reading, held, listed),

@@ -1,16 +1,19 @@
 // What runs of inputs show, once the cluster is known: each run is one worker's.
-ghost use Rattle.std.specs.Prelude.{◌≡◌, ◌<◌, ◌≤◌, ◌+◌, ◌^◌, ◌++◌, ◌∷◌, [], All, List, ℕ, Bool, length, map, IfOk, OnOk};
+ghost use Rattle.std.specs.Prelude.{◌≡◌, ◌⊎◌, ◌<◌, ◌≤◌, ◌+◌, ◌^◌, ◌++◌, ◌∷◌, [], All, List, ℕ, Bool, length, map, IfErr, IfOk, MatchResult, OnOk};
 ghost use Rattle.std.specs.List.{flat_map, list_any};
 ghost use Rattle.std.specs.BTreeMap.{get};
 ghost use Rattle.std.specs.Ordering.{nat_cmp};
 ghost use Rattle.std.specs.Thread.{IsSync};
 ghost use Rattle.reh_census.specs.Bookies.{bookies_of, holders};
 ghost use Rattle.reh_census.specs.Counting.{CountsEnsembles, CountsEntries, CountsTails, count_in, entries_in};
+ghost use Rattle.reh_census.specs.Ledgers.{IsLedger};
 ghost use Rattle.reh_census.specs.Tails.{IsTail};
+ghost use Rattle.reh_tally.specs.Few.{AreFew};
 ghost use Rattle.reh_inputs.specs.ByLedger.{AreOf};
 ghost use Rattle.reh_inputs.specs.Gathered as model;
 ghost use Rattle.reh_inputs.specs.Inputs.{of_picture};
 ghost use Rattle.reh_inputs.specs.Parts.{IsPart};
+ghost use Rattle.reh_inputs.specs.Uncounted.{HasUnfit, InputHasUnfit, IsPartFault, IsTooMuch, IsUnfitAt, IsUnfitFault};
 ghost use Rattle.reh_inputs.specs.declared.inputs.Input.{Input as InputValue};
 
 use crate::by_ledger::{ByLedger, group_by_ledger};
@@ -50,8 +53,10 @@ fn add_ledger(
     ledgers: &mut Vec<Ledger>,
 ) -> Result<(), GatherFault>
     requires { AreOf listed.now.listing.holdings.items (get nat_cmp held.now) }
-    ensures { OnOk result (ledgers.new.items
+    ensures added { OnOk result (ledgers.new.items
         ≡ ledgers.old.items ++ model.ledger_in numbers.now reading listed.now ledger.now ∷ []) }
+    ensures fault { IfErr result (IsUnfitFault (λ number id. (number ≡ input) × (id ≡ ledger.now.id)
+        × (IsLedger (model.ledger_in numbers.now reading listed.now ledger.now) → ⊥))) }
 {
     match ledger_of(alloc, numbers, reading, held, ledger)? {
         Some(made) => {
@@ -74,8 +79,9 @@ fn add_ledgers(
     listed: &Listed,
     ledgers: &mut Vec<Ledger>,
 ) -> Result<(), GatherFault>
-    ensures { OnOk result (ledgers.new.items
+    ensures added { OnOk result (ledgers.new.items
         ≡ ledgers.old.items ++ map (model.ledger_in numbers.now reading listed.now) listed.now.listing.ledgers.items) }
+    ensures fault { IfErr result (IsUnfitFault (λ number id. (number ≡ input) × HasUnfit numbers.now reading listed.now id)) }
 {
     let held = group_by_ledger(alloc, &listed.listing.holdings)?;
     for ledger in &listed.listing.ledgers {
@@ -95,8 +101,9 @@ fn add_ledgers_in(
     one: &Input,
     ledgers: &mut Vec<Ledger>,
 ) -> Result<(), GatherFault>
-    ensures { OnOk result (ledgers.new.items
+    ensures added { OnOk result (ledgers.new.items
         ≡ ledgers.old.items ++ of_picture (model.ledgers_in names.now reading) one.now) }
+    ensures fault { IfErr result (IsUnfitFault (λ number id. (number ≡ input) × InputHasUnfit names.now reading one.now id)) }
 {
     let Input::Picture(listed) = one else {
         return Ok(());
@@ -114,8 +121,9 @@ fn ledgers_of(
     inputs: &[Input],
 ) -> Result<Vec<Ledger>, GatherFault>
     requires { first + length inputs.now < 2 ^ 64 }
-    ensures { IfOk result (λ ledgers. ledgers.items
+    ensures ledgers { IfOk result (λ ledgers. ledgers.items
         ≡ flat_map (of_picture (model.ledgers_in names.now reading)) inputs.now) }
+    ensures fault { IfErr result (IsUnfitFault (IsUnfitAt names.now reading first inputs.now)) }
 {
     let mut ledgers = Vec::new(alloc);
     for (input, one) in inputs.iter().enumerate() {
@@ -175,8 +183,10 @@ fn count_assumed(
     inputs: &[Input],
 ) -> Result<u64, GatherFault>
     requires { first + length inputs.now < 2 ^ 64 }
-    ensures { IfOk result (λ assumed. assumed
+    ensures assumed { IfOk result (λ assumed. assumed
         ≡ model.assumed_among (holders (bookies_of bookies.now)) names.now inputs.now) }
+    ensures fault { IfErr result (λ fault. (strict : Bool)
+        → IsPartFault (holders (bookies_of bookies.now)) names.now strict first inputs.now fault) }
 {
     if !is_assumed_in_any(inputs) {
         return Ok(0);
@@ -196,8 +206,9 @@ fn assumed_of(
     inputs: &[Input],
 ) -> Result<u64, GatherFault>
     requires { first + length inputs.now < 2 ^ 64 }
-    ensures { IfOk result (λ assumed. assumed
+    ensures assumed { IfOk result (λ assumed. assumed
         ≡ model.assumed_of strict (holders (bookies_of bookies.now)) names.now inputs.now) }
+    ensures fault { IfErr result (IsPartFault (holders (bookies_of bookies.now)) names.now strict first inputs.now) }
 {
     if strict {
         return Ok(0);
@@ -219,6 +230,7 @@ fn counts_of(alloc: Global, bookies: &Bookies, ledgers: &[Ledger]) -> Result<Cou
     ensures tails { IfOk result (λ counts. CountsTails counts.tails.items ledgers.now) }
     ensures ensembles { IfOk result (λ counts. CountsEnsembles counts.ensembles.items ledgers.now) }
     ensures well_formed { IfOk result (λ counts. All (λ t. IsTail t.tail) counts.tails.items) }
+    ensures fault { IfErr result (IsTooMuch (AreFew (holders (bookies_of bookies.now)) ledgers.now)) }
 {
     if !are_few(ledgers) {
         return Err(GatherFault::TooMany);
@@ -243,7 +255,8 @@ fn part_of(
     inputs: &[Input],
 ) -> Result<Part, GatherFault>
     requires { first + length inputs.now < 2 ^ 64 }
-    ensures { IfOk result (λ part. IsPart (holders (bookies_of bookies.now)) names.now strict inputs.now part) }
+    ensures { MatchResult result (IsPart (holders (bookies_of bookies.now)) names.now strict inputs.now)
+        (IsPartFault (holders (bookies_of bookies.now)) names.now strict first inputs.now) }
 {
     let ledgers = ledgers_of(alloc, names, reading_of(strict), first, inputs)?;
     let assumed = assumed_of(alloc, bookies, names, strict, first, inputs)?;
@@ -257,9 +270,10 @@ fn part_of(
 
 /// What a run of inputs shows, and the one after it.
 fn joined(low: Part, high: Part) -> Result<Part, GatherFault>
-    ensures { IfOk result (λ part. (holders : List ℕ) (names : List (List ℕ)) (strict : Bool) (before behind : List InputValue)
+    ensures { (holders : List ℕ) (names : List (List ℕ)) (strict : Bool) (first : ℕ) (before behind : List InputValue)
         → IsPart holders names strict before low → IsPart holders names strict behind high
-        → IsPart holders names strict (before ++ behind) part) }
+        → MatchResult result (IsPart holders names strict (before ++ behind))
+        (IsPartFault holders names strict first (before ++ behind)) }
 {
     let mut part = low;
     let mut more = high;
@@ -272,20 +286,34 @@ fn joined(low: Part, high: Part) -> Result<Part, GatherFault>
     Ok(part)
 }
 
-/// The same, or why there is none: as for one worker, a ledger that can't be counted comes before too much that is counted.
+/// Which of the faults of a run and of the one after it is told: as for one worker, a ledger that can't be counted comes
+/// before too much that is counted.
+fn told_first(fault: GatherFault, other: GatherFault) -> GatherFault
+    ensures { (result ≡ fault) ⊎ (result ≡ other) }
+{
+    match fault {
+        GatherFault::TooMany => other,
+        _ => fault,
+    }
+}
+
+/// The same, or why there is none.
 fn both(
     low: Result<Part, GatherFault>,
     high: Result<Part, GatherFault>,
 ) -> Result<Part, GatherFault>
-    ensures { IfOk result (λ part. (holders : List ℕ) (names : List (List ℕ)) (strict : Bool) (before behind : List InputValue)
-        → IfOk low (IsPart holders names strict before) → IfOk high (IsPart holders names strict behind)
-        → IsPart holders names strict (before ++ behind) part) }
+    ensures { (holders : List ℕ) (names : List (List ℕ)) (strict : Bool) (first next : ℕ) (before behind : List InputValue)
+        → next ≡ first + length before
+        → MatchResult low (IsPart holders names strict before) (IsPartFault holders names strict first before)
+        → MatchResult high (IsPart holders names strict behind) (IsPartFault holders names strict next behind)
+        → MatchResult result (IsPart holders names strict (before ++ behind))
+        (IsPartFault holders names strict first (before ++ behind)) }
 {
     match (low, high) {
         (Ok(low), Ok(high)) => joined(low, high),
-        (Err(GatherFault::TooMany), Err(fault)) => Err(fault),
-        (Err(fault), _) => Err(fault),
         (Ok(_), Err(fault)) => Err(fault),
+        (Err(fault), Ok(_)) => Err(fault),
+        (Err(fault), Err(other)) => Err(told_first(fault, other)),
     }
 }
 
@@ -303,7 +331,8 @@ pub(crate) fn parts_of<R: Threads + Sync>(
     workers: usize,
 ) -> Result<Part, GatherFault>
     requires { first + length inputs.now < 2 ^ 64 }
-    ensures { IfOk result (λ part. IsPart (holders (bookies_of bookies.now)) names.now strict inputs.now part) }
+    ensures { MatchResult result (IsPart (holders (bookies_of bookies.now)) names.now strict inputs.now)
+        (IsPartFault (holders (bookies_of bookies.now)) names.now strict first inputs.now) }
 {
     if workers < 2 {
         return part_of(alloc, bookies, names, strict, first, inputs);
@@ -317,11 +346,13 @@ pub(crate) fn parts_of<R: Threads + Sync>(
     let next = first + middle;
     let front = || -> Result<Part, GatherFault>
         requires { IsSync R.row × (first + length before.now < 2 ^ 64) }
-        ensures { IfOk result (λ part. IsPart (holders (bookies_of bookies.entry.now)) names.entry.now strict before.entry.now part) }
+        ensures { MatchResult result (IsPart (holders (bookies_of bookies.entry.now)) names.entry.now strict before.entry.now)
+            (IsPartFault (holders (bookies_of bookies.entry.now)) names.entry.now strict first before.entry.now) }
     { parts_of(rt, alloc, bookies, names, strict, first, before, others) };
     let back = || -> Result<Part, GatherFault>
         requires { IsSync R.row × (next + length behind.now < 2 ^ 64) }
-        ensures { IfOk result (λ part. IsPart (holders (bookies_of bookies.entry.now)) names.entry.now strict behind.entry.now part) }
+        ensures { MatchResult result (IsPart (holders (bookies_of bookies.entry.now)) names.entry.now strict behind.entry.now)
+            (IsPartFault (holders (bookies_of bookies.entry.now)) names.entry.now strict next behind.entry.now) }
     { parts_of(rt, alloc, bookies, names, strict, next, behind, own) };
     let (low, high) = join(rt, front, back);
     both(low, high)

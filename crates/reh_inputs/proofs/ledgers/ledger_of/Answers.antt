@@ -6,6 +6,7 @@ use Rattle.std.specs.BTreeMap.{get}
 use Rattle.std.specs.Ordering.{nat_cmp}
 use Rattle.reh_picture.specs.Contents.{Holding}
 use Rattle.reh_inputs.specs.ByLedger.{held_in}
+use Rattle.reh_inputs.proofs.FaultLaws.{none_then}
 use Rattle.reh_inputs.proofs.ledgers.ledger_of.Goals as goal
 
 pub returns-in-Some : goal.returns-in-Some
@@ -18,6 +19,11 @@ returns-in-Some c =
           is holdings
           (ap (map (λ (h : Bor Holding). h.now)) c.deref.ensures.value ∙ ap held_in (sym found) ∙ are id)))
           (λ _ nothing. nothing);
+      unfit = MatchResult-weaker c.ledger_with.result c.ledger_with.ensures.unfit (λ made none.
+          none_then made none (λ unfit holdings are.
+          unfit holdings
+          (ap (map (λ (h : Bor Holding). h.now)) c.deref.ensures.value ∙ ap held_in (sym found) ∙ are id)))
+          (λ _ nothing. nothing);
     }
 
 pub returns-in-None : goal.returns-in-None
@@ -27,5 +33,8 @@ returns-in-None c =
     record {
       made = MatchResult-weaker c.ledger_with-in-None.result c.ledger_with-in-None.ensures.made (λ made is.
           IfSome_then made is (λ ledger is holdings are. is holdings (ap held_in (sym none) ∙ are id)))
+          (λ _ nothing. nothing);
+      unfit = MatchResult-weaker c.ledger_with-in-None.result c.ledger_with-in-None.ensures.unfit (λ made is.
+          none_then made is (λ unfit holdings are. unfit holdings (ap held_in (sym none) ∙ are id)))
           (λ _ nothing. nothing);
     }

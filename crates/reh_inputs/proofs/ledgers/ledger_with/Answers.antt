@@ -1,15 +1,16 @@
 -- The ledger is made of what was found of each of its parts.
-use Rattle.std.proofs.Common.{◌≡◌, ◌∙◌, ℕ, ◌==◌, List, ap, sym, fold, map, length}
+use Rattle.std.proofs.Common.{◌≡◌, ◌∙◌, ℕ, ◌==◌, List, ap, sym, subst, fold, map, length}
 use Rattle.std.proofs.lemmas.List.Folds.{fold-map}
 use Rattle.std.proofs.lemmas.Option.{IfSome_then}
 use Rattle.std.specs.Borrow.{Bor}
 use Rattle.std.specs.List.{filter}
 use Rattle.reh_census.specs.Striping.{range}
 use Rattle.reh_model.specs.Metadata.{Metadata}
-use Rattle.reh_census.specs.Ledgers.{ledger_by}
+use Rattle.reh_census.specs.Ledgers.{IsLedger, Ledger, ledger_by}
 use Rattle.reh_picture.specs.Contents.{Holding}
 use Rattle.reh_inputs.specs.Ledgers.{content_by, contents_of, end_after, end_told, fragment_of, ledger_of, reading_in, rest_of, state_of}
 use Rattle.reh_inputs.proofs.ByLedgerLaws.{fold_filter, map_then}
+use Rattle.reh_inputs.proofs.FaultLaws.{none_unless, not_some}
 use Rattle.reh_inputs.proofs.ledgers.ledger_with.Goals as goal
 
 -- the end of what a holding says, after those before it
@@ -58,4 +59,11 @@ returns c =
     ((c.rest_of-rest.ensures ∙ ap rest_of reading) i) in
     record {
       made = IfSome_then c.try_new.result c.try_new.ensures.made (λ ledger is holdings are. is ∙ same holdings are);
+      unfit =
+          none_unless c.try_new.result
+          ((holdings : List Holding) → Own holdings
+          → IsLedger (ledger_of numbers c.args.reading holdings listed.id listed.metadata) → ⊥)
+          (λ none holdings are is.
+          not_some c.try_new.result none
+          (c.try_new.ensures.fits.1 (subst (λ (g : Ledger). IsLedger g) (sym (same holdings are)) is)));
     }

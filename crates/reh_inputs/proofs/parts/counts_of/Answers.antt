@@ -1,5 +1,5 @@
 -- A census counts so much, and joining keeps the counts.
-use Rattle.std.proofs.Common.{◌∙◌, refl, true, arith}
+use Rattle.std.proofs.Common.{◌∙◌, refl, sym, true, true≢false, arith}
 use Rattle.reh_census.specs.Bookies.{bookies_of, holders}
 use Rattle.reh_tally.specs.Few.{AreFew}
 use Rattle.reh_inputs.proofs.parts.counts_of.Goals as goal
@@ -30,3 +30,7 @@ returns-clause-tails c test = c.in_ok-tails.ensures.counts test ∙ c.in_ok-tail
 
 pub returns-clause-ensembles : goal.returns-clause-ensembles
 returns-clause-ensembles c test = c.in_ok-ensembles.ensures.counts test ∙ c.in_ok-ensembles_of.ensures test
+
+pub returns-then-not-are_few-clause-fault : goal.returns-then-not-are_few-clause-fault
+returns-then-not-are_few-clause-fault c = λ few.
+    absurd (true≢false (sym ((c.if-not-are_few.ensures (holders (bookies_of c.args.bookies.now))).1 few)))
