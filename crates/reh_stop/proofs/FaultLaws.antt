@@ -9,7 +9,9 @@ use Rattle.reh_stop.specs.Rounds.{AreUnsaid, IsUnprintable, IsUnsaidCost}
 use Rattle.reh_stop.specs.declared.stops.Said.{Said}
 use Rattle.reh_tally.specs.declared.census.TallyFault.{TallyFault}
 use Rattle.reh_tally.specs.declared.census.TallyFault.TheVariants as tally
-use Rattle.reh_stop.specs.Stops.{AreNamed, HasTooLarge, IsAnswered, IsByNames, IsFaultOf, IsOfLedgers, IsRefused, IsSaid, IsUnsaid, fault_of_tally, has_words, stopped_by}
+use Rattle.reh_tally.specs.Few.{AreFewCounts}
+use Rattle.reh_stop.proofs.GatheredLaws.{each_few}
+use Rattle.reh_stop.specs.Stops.{AreNamed, HasTooLarge, IsAnswered, IsByNames, IsFaultOf, IsGathered, IsOfLedgers, IsRefused, IsSaid, IsUnsaid, fault_of_tally, has_words, stopped_by}
 use Rattle.reh_stop.specs.declared.rounds.AskedRisk.{AskedRisk}
 use Rattle.reh_stop.specs.declared.rounds.AskedWaves.{AskedWaves}
 use Rattle.reh_stop.specs.declared.rounds.RoundFault.{RoundFault}
@@ -74,10 +76,14 @@ misnamed g named TooMany never = absurd never
 misnamed g named NoMemory never = tt
 
 -- nothing is wrong with the names, and a ledger is too large
-pub uncounted : (g : Gathered) (named : Asked) → AreNamed g.cluster named → (fault : TallyFault)
+too_large : (g : Gathered) → AreFewCounts g.census.entries g.census.tails g.census.ensembles → HasTooLarge g → IsGathered g → ⊥
+too_large g few too gathered = too (each_few g gathered.0 gathered.1 gathered.2 few)
+
+pub uncounted : (g : Gathered) (named : Asked) → AreNamed g.cluster named
+    → AreFewCounts g.census.entries g.census.tails g.census.ensembles → (fault : TallyFault)
     → (◌≡◌ {A = Result Said TallyFault} (Err fault) (Err tally.TooMany) → HasTooLarge g) → IsUnsaid g named (fault_of_tally fault)
-uncounted g named are tally.TooMany has = (are, has refl)
-uncounted g named are tally.NoMemory has = tt
+uncounted g named are few tally.TooMany has = (are, has refl, too_large g few (has refl))
+uncounted g named are few tally.NoMemory has = tt
 
 -- Rounds and costs
 

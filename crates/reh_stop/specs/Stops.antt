@@ -16,7 +16,9 @@ use Rattle.reh_tally.specs.Few.{AreFew}
 use Rattle.reh_tally.specs.declared.census.TallyFault.{TallyFault}
 use Rattle.reh_tally.specs.declared.census.TallyFault.TheVariants as tally
 use Rattle.reh_inputs.specs.Cluster.{Cluster}
+use Rattle.reh_inputs.specs.Gathered.{Gathers}
 use Rattle.reh_inputs.specs.Shown.{is_in}
+use Rattle.reh_inputs.specs.declared.inputs.Input.{Input}
 use Rattle.reh_stop.specs.Named.{AreClear, IsFirstAmbiguous, is_name, is_repeated, is_stopped, names_in, texts}
 use Rattle.reh_stop.specs.Together.{AreLedgersOf}
 use Rattle.reh_inputs.specs.declared.together.Gathered.{Gathered}
@@ -95,10 +97,14 @@ IsFaultOf cluster asked other = ⊥
 abbrev pub HasTooLarge : Gathered → Type 0
 HasTooLarge g = All (λ ledger. AreFew (holders (bookies_of g.bookies)) (ledger ∷ [])) g.ledgers.items → ⊥
 
--- why nothing is said of these names: what is wrong with them; or, where nothing is, that a ledger is too large. Of
--- `NoMemory` nothing is claimed
+-- some inputs show this together
+abbrev pub IsGathered : Gathered → Type 0
+IsGathered g = (inputs : List Input) × (strict : Bool) × Gathers inputs strict g
+
+-- why nothing is said of these names: what is wrong with them; or, where nothing is, that a ledger is too large, as no
+-- ledger of inputs is that were gathered. Of `NoMemory` nothing is claimed
 abbrev pub IsUnsaid : Gathered → Asked → StopFault → Type 0
-IsUnsaid g named fault.TooMany = AreNamed g.cluster named × HasTooLarge g
+IsUnsaid g named fault.TooMany = AreNamed g.cluster named × HasTooLarge g × (IsGathered g → ⊥)
 IsUnsaid g named fault.NoMemory = Unit {0}
 IsUnsaid g named other = IsFaultOf g.cluster named other
 

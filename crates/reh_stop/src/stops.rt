@@ -6,6 +6,7 @@ ghost use Rattle.reh_census.specs.Counting.{IsCensus, counting_of, not_judged};
 ghost use Rattle.reh_census.specs.Ledgers.{Ledger as LedgerValue};
 ghost use Rattle.reh_answer.specs.Texts.{status_number};
 ghost use Rattle.reh_stop.specs.Stops as model;
+ghost use Rattle.reh_tally.specs.Few.{AreFewCounts};
 ghost use Rattle.reh_tally.specs.declared.census.TallyFault.TheVariants.{TooMany};
 
 use crate::named::{
@@ -13,7 +14,7 @@ use crate::named::{
 };
 use reh_against::{Stop, against_of};
 use reh_answer::{Against, Facts, facts_of, json_of, status_of, text_of};
-use reh_census::{BookieSet, Question};
+use reh_census::{BookieSet, Census, Question};
 use reh_inputs::{Cluster, Gathered};
 use reh_tally::TallyFault;
 use std::alloc::{AllocError, Global};
@@ -155,6 +156,15 @@ fn say(
     })
 }
 
+/// A census counts no more than it can: its type says so.
+fn check_counts(census: &Census)
+    ensures { AreFewCounts census.now.entries census.now.tails census.now.ensembles }
+{
+    let _entries = census.entries();
+    let _tails = census.tails();
+    let _ensembles = census.ensembles();
+}
+
 /// Whether the bookies of these names may be stopped, by what inputs show together.
 fn answer_named<'a>(
     alloc: Global,
@@ -168,6 +178,7 @@ fn answer_named<'a>(
     ensures fault { IfErr result (model.IsUnsaid gathered.now named.now) }
 {
     check_names(&gathered.cluster, named)?;
+    check_counts(&gathered.census);
     let stopped = stopped_of(alloc, &gathered.cluster, named.bookies, named.racks)?;
     let said = say(alloc, gathered, named, &stopped)?;
     Ok(said)

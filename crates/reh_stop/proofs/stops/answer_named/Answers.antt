@@ -22,7 +22,7 @@ returns-in_err-said-clause-fault c =
     let named = c.args.named.now in
     let fault = c.in_err-said.field-0.0 in
     if_err (IsUnsaid g named) _ (fault_of_tally fault) c.from_residual-in_err-said.ensures.1
-    (uncounted g named c.in_ok-check_names.ensures.named fault c.in_err-said.ensures.too_many)
+    (uncounted g named c.in_ok-check_names.ensures.named c.check_counts.ensures fault c.in_err-said.ensures.too_many)
 
 pub returns-clause-ledgers : goal.returns-clause-ledgers
 returns-clause-ledgers c = λ ledgers are.
