@@ -112,7 +112,9 @@ impl State {
     /// tells it.
     pub fn well_formed(&self)
         ensures { IsWellFormed self.now }
-    {}
+    {
+        let _names = &self.names;
+    }
 
     /// The names of the bookies.
     pub fn names(&self) -> &Names
