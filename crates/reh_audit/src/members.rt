@@ -21,7 +21,7 @@ pub fn missing(state: &State, ledger: LedgerId) -> BookieSet
     ensures { ForSome (ledger_at state.now ledger)
         (λ g. result ≡ model.missing_members state.now g) }
 {
-    state.well_formed();
+    state.assert_well_formed();
     let found = state.ledger(ledger).unwrap();
     missing_of(state, found)
 }
@@ -35,7 +35,7 @@ pub fn long_lost(state: &State, ledger: LedgerId) -> BookieSet
     ensures { ForSome (ledger_at state.now ledger)
         (λ g. result ≡ model.long_lost_members state.now g) }
 {
-    state.well_formed();
+    state.assert_well_formed();
     let found = state.ledger(ledger).unwrap();
     long_lost_of(state, found)
 }

@@ -108,9 +108,9 @@ impl State {
             && self.parts.have_same_rows(&other.parts)
     }
 
-    /// Each state is well-formed. This does nothing: it is called where a proof needs to know that, and where no other call
+    /// Each state is well-formed, so this does nothing. It is called where a proof needs to know that, and no other call
     /// tells it.
-    pub fn well_formed(&self)
+    pub fn assert_well_formed(&self)
         ensures { IsWellFormed self.now }
     {
         let _names = &self.names;

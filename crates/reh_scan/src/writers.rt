@@ -20,7 +20,7 @@ pub fn last_fragment(ledger: &Ledger) -> &Fragment
 pub fn next_entry(state: &State, ledger: &Ledger) -> u32
     ensures { result ≡ recovery.next_entry state.now ledger.now }
 {
-    state.well_formed();
+    state.assert_well_formed();
     let first = last_fragment(ledger).first;
     match state.greatest(ledger.id()) {
         Some(greatest) => first.max(greatest + 1),

@@ -48,7 +48,7 @@ impl Session {
     pub fn open(alloc: Global, state: State) -> Result<Session, AllocError>
         ensures { IsOkAnd result (λ session. session ≡ opened_session state) }
     {
-        state.well_formed();
+        state.assert_well_formed();
         Ok(Session {
             state,
             events: Vec::new(alloc),

@@ -31,7 +31,7 @@ pub(crate) fn lose(state: &State, bookie: BookieIx) -> Result<Changes, Refusal>
     ensures { IsDecision state.now (Lose bookie) result }
 {
     check_lose(state, bookie)?;
-    state.well_formed();
+    state.assert_well_formed();
     let lost_at = Some(state.clock());
     Ok(Changes::one(Change::Registration { bookie, lost_at }))
 }
@@ -41,7 +41,7 @@ pub(crate) fn join(state: &State, bookie: BookieIx) -> Result<Changes, Refusal>
     ensures { IsDecision state.now (Join bookie) result }
 {
     check_join(state, bookie)?;
-    state.well_formed();
+    state.assert_well_formed();
     let lost_at = None;
     Ok(Changes::one(Change::Registration { bookie, lost_at }))
 }
@@ -134,7 +134,7 @@ pub(crate) fn tick(state: &State, ticks: u64) -> Result<Changes, Refusal>
     ensures { IsDecision state.now (Tick ticks) result }
 {
     check_tick(state, ticks)?;
-    state.well_formed();
+    state.assert_well_formed();
     let clock = state.clock() + ticks;
     Ok(Changes::one(Change::Scalar(Scalar::Clock(clock))))
 }
@@ -236,7 +236,7 @@ pub(crate) fn disable(state: &State) -> Result<Changes, Refusal>
     ensures { IsDecision state.now Disable result }
 {
     check_disable(state)?;
-    state.well_formed();
+    state.assert_well_formed();
     Ok(Changes::one(Change::Scalar(Scalar::Enabled(false))))
 }
 
@@ -245,7 +245,7 @@ pub(crate) fn enable(state: &State) -> Result<Changes, Refusal>
     ensures { IsDecision state.now Enable result }
 {
     check_enable(state)?;
-    state.well_formed();
+    state.assert_well_formed();
     Ok(Changes::one(Change::Scalar(Scalar::Enabled(true))))
 }
 
@@ -265,7 +265,7 @@ pub fn copy_record(
     ensures { IfOk result (IsRecordOf state.now
         (Copy aim.now.worker aim.now.ledger aim.now.fragment aim.now.index version)) }
 {
-    state.well_formed();
+    state.assert_well_formed();
     let turns = state.delta_of(alloc, aim.worker, aim.ledger, &entries)?;
     let mut list = Vec::with_capacity(alloc, turns.len())?;
     push_words(&mut list, aim.worker, aim.ledger, &turns)?;

@@ -50,7 +50,7 @@ fn recovered_end(state: &State, ledger: &Ledger, last: &Fragment) -> u32
     requires whole { length last.now.ensemble ≡ ledger.now.metadata.size }
     ensures { result ≡ recovery.recovered_end state.now ledger.now }
 {
-    state.well_formed();
+    state.assert_well_formed();
     let _well_formed_metadata = ledger.metadata().size();
     // of an ensemble of one member, that member carries each entry
     let entries = Striped::new(last.first, ENTRY_END as u32, 0, 1, 1);

@@ -12,6 +12,6 @@ overflow_add-greatest c =
     let s : Cluster = c.args.state.now in
     let is : greatest_held s.parts.held c.id.result ≡ Some c.in-Some.greatest = sym c.greatest.ensures ∙ c.in-Some.is in
     let below : c.in-Some.greatest < ENTRY_END =
-    held_below s c.id.result c.in-Some.greatest c.ledgers-well_formed.ensures.well_formed
+    held_below s c.id.result c.in-Some.greatest c.assert_well_formed.ensures
     (greatest_held-held s.parts.held c.id.result c.in-Some.greatest is) in
     omega (arith, below)

@@ -16,7 +16,7 @@ delta_of-requires-clause-entries c =
     let aim : Aim = c.args.aim.now in
     subst (λ (es : List ℕ). All (λ e. e < 64 * words_among s.parts.ledgers aim.ledger) es)
     (sym c.requires.entries)
-    (copied_within s aim.worker aim.ledger aim.fragment aim.index c.args.version c.names-well_formed.ensures.well_formed
+    (copied_within s aim.worker aim.ledger aim.fragment aim.index c.args.version c.assert_well_formed.ensures
     c.requires.accepted)
 
 pub of-requires : goal.of-requires
@@ -27,7 +27,7 @@ of-requires c =
     (union s.parts.held (copies_of aim.worker aim.ledger c.args.entries)) c.deref.result.now = rw
     c.deref.ensures.value c.in_ok-turns.ensures in
     (copy_listed s aim.worker aim.ledger aim.fragment aim.index c.args.version c.args.entries c.deref.result.now
-    c.push_words.new.list.items c.names-well_formed.ensures.well_formed c.requires.accepted
+    c.push_words.new.list.items c.assert_well_formed.ensures c.requires.accepted
     c.requires.entries turning
     (c.in_ok-push_words.ensures
     ∙ ap (λ (cs : List Change). cs ++ word_changes aim.worker aim.ledger c.deref.result.now)
@@ -42,7 +42,7 @@ returns c =
     c.deref.ensures.value c.in_ok-turns.ensures in
     rw c.of.ensures
     (copy_listed s aim.worker aim.ledger aim.fragment aim.index c.args.version c.args.entries c.deref.result.now
-    c.push_words.new.list.items c.names-well_formed.ensures.well_formed c.requires.accepted
+    c.push_words.new.list.items c.assert_well_formed.ensures c.requires.accepted
     c.requires.entries turning
     (c.in_ok-push_words.ensures
     ∙ ap (λ (cs : List Change). cs ++ word_changes aim.worker aim.ledger c.deref.result.now)

@@ -7,4 +7,4 @@ use Rattle.reh_step.proofs.records.disable.Goals as goal
 pub returns : goal.returns
 returns c =
     decided c.args.state.now Disable _ c.one.result c.in_ok-check_disable.ensures c.one.ensures
-    (disable_delta c.args.state.now c.names-well_formed.ensures.well_formed c.in_ok-check_disable.ensures)
+    (disable_delta c.args.state.now c.assert_well_formed.ensures c.in_ok-check_disable.ensures)

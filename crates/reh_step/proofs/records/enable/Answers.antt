@@ -7,4 +7,4 @@ use Rattle.reh_step.proofs.records.enable.Goals as goal
 pub returns : goal.returns
 returns c =
     decided c.args.state.now Enable _ c.one.result c.in_ok-check_enable.ensures c.one.ensures
-    (enable_delta c.args.state.now c.names-well_formed.ensures.well_formed c.in_ok-check_enable.ensures)
+    (enable_delta c.args.state.now c.assert_well_formed.ensures c.in_ok-check_enable.ensures)

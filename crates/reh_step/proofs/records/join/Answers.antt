@@ -8,4 +8,4 @@ pub returns : goal.returns
 returns c =
     decided c.args.state.now (Join c.args.bookie) _ c.one.result c.in_ok-check_join.ensures
     c.one.ensures
-    (join_delta c.args.state.now c.args.bookie c.names-well_formed.ensures.well_formed c.in_ok-check_join.ensures)
+    (join_delta c.args.state.now c.args.bookie c.assert_well_formed.ensures c.in_ok-check_join.ensures)

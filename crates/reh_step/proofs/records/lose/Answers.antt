@@ -13,4 +13,4 @@ returns c =
     let s : Cluster = c.args.state.now in
     decided s (Lose c.args.bookie) _ c.one.result c.in_ok-check_lose.ensures c.one.ensures
     (subst (λ n. IsRecordOf s (Lose c.args.bookie) (Registration c.args.bookie (Some n) ∷ [])) (sym c.clock.ensures.clock)
-    (lose_delta s c.args.bookie c.names-well_formed.ensures.well_formed c.in_ok-check_lose.ensures))
+    (lose_delta s c.args.bookie c.assert_well_formed.ensures c.in_ok-check_lose.ensures))

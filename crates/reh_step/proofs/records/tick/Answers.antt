@@ -14,4 +14,4 @@ returns c =
     let s : Cluster = c.args.state.now in
     decided s (Tick c.args.ticks) _ c.one.result c.in_ok-check_tick.ensures c.one.ensures
     (subst (λ n. IsRecordOf s (Tick c.args.ticks) (Scalar (Clock (n + c.args.ticks)) ∷ [])) (sym c.clock.ensures.clock)
-    (tick_delta s c.args.ticks c.names-well_formed.ensures.well_formed c.in_ok-check_tick.ensures))
+    (tick_delta s c.args.ticks c.assert_well_formed.ensures c.in_ok-check_tick.ensures))

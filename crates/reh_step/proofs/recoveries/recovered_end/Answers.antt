@@ -25,4 +25,4 @@ returns c =
     ∙ ap
     (λ (x : Fragment). unwrap_or (find (λ e. not (is_readable s g x e)) (striped_entries x.first ENTRY_END 0 1 1)) ENTRY_END)
     c.requires.last
-    ∙ recovered_end-found s g c.ledgers-well_formed.ensures.well_formed (omega (arith, below))
+    ∙ recovered_end-found s g c.assert_well_formed.ensures (omega (arith, below))
