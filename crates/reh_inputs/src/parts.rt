@@ -1,5 +1,5 @@
 // What runs of inputs show, once the cluster is known: each run is one worker's.
-ghost use Rattle.std.specs.Prelude.{◌≡◌, ◌⊎◌, ◌<◌, ◌≤◌, ◌+◌, ◌^◌, ◌++◌, ◌∷◌, [], All, List, ℕ, Bool, length, map, IfErr, IfOk, MatchResult, OnOk};
+ghost use Rattle.std.specs.Prelude.{◌≡◌, ◌⊎◌, ◌<◌, ◌≤◌, ◌+◌, ◌^◌, ◌++◌, ◌∷◌, [], All, List, ℕ, Bool, length, map, Err, IfErr, IfOk, MatchResult, OnOk};
 ghost use Rattle.std.specs.List.{flat_map, list_any};
 ghost use Rattle.std.specs.BTreeMap.{get};
 ghost use Rattle.std.specs.Ordering.{nat_cmp};
@@ -286,11 +286,14 @@ fn joined(low: Part, high: Part) -> Result<Part, GatherFault>
     Ok(part)
 }
 
-/// Which of the faults of a run and of the one after it is told: as for one worker, a ledger that can't be counted comes
-/// before too much that is counted.
-fn told_first(fault: GatherFault, other: GatherFault) -> GatherFault
-    ensures { (result ≡ fault) ⊎ (result ≡ other) }
+/// Which fault is told of a run that has one, and of the one after it: as for one worker, a ledger that can't be counted
+/// comes before too much that is counted.
+fn told_first(fault: GatherFault, high: Result<Part, GatherFault>) -> GatherFault
+    ensures { (result ≡ fault) ⊎ (high ≡ Err result) }
 {
+    let Err(other) = high else {
+        return fault;
+    };
     match fault {
         GatherFault::TooMany => other,
         _ => fault,
@@ -312,8 +315,7 @@ fn both(
     match (low, high) {
         (Ok(low), Ok(high)) => joined(low, high),
         (Ok(_), Err(fault)) => Err(fault),
-        (Err(fault), Ok(_)) => Err(fault),
-        (Err(fault), Err(other)) => Err(told_first(fault, other)),
+        (Err(fault), high) => Err(told_first(fault, high)),
     }
 }
 
