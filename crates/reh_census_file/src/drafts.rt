@@ -6,7 +6,7 @@ ghost use Rattle.reh_census_file.specs.LineReading.{seen};
 ghost use Rattle.reh_census_file.specs.Reading.{Gives, words_after};
 
 use crate::checks;
-use crate::faults::{Expected, Part, LineFault};
+use crate::faults::{Expected, LineFault, Part};
 use crate::lines::{self, BookieLine};
 use crate::lists::{MAX_NAMES, NameList};
 use crate::words::MAX_COUNT;

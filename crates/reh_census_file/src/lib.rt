@@ -12,7 +12,7 @@ mod texts;
 mod values;
 mod words;
 
-pub use faults::{CensusFault, Expected, Part, Keyword};
+pub use faults::{CensusFault, Expected, Keyword, Part};
 pub use laws::texts_tell_censuses_apart;
 pub use lists::{MAX_NAMES, NameList};
 pub use reading::{is_census, read_census};

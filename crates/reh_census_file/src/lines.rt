@@ -7,7 +7,7 @@ ghost use Rattle.reh_census_file.specs.declared.faults.Expected.TheVariants as e
 ghost use Rattle.reh_census_file.specs.Reading.{Gives, words_after};
 ghost use Rattle.reh_census_file.specs.Reading as words;
 
-use crate::faults::{Expected, LineFault, Keyword};
+use crate::faults::{Expected, Keyword, LineFault};
 use crate::lists::NameList;
 use crate::words::{
     bookies_at, bookies_behind, choice_at, count_at, flag_at, name_at, next_word, no_more,
@@ -123,7 +123,11 @@ pub(crate) fn entries_at(alloc: Global, names: &NameList, rest: &[u8]) -> Result
 
 /// Ledgers of a tail.
 #[tactic(auto, unfolding(crate::specs::LineReading::tail_at))]
-pub(crate) fn tail_at(alloc: Global, names: &NameList, rest: &[u8]) -> Result<CountedTail, LineFault>
+pub(crate) fn tail_at(
+    alloc: Global,
+    names: &NameList,
+    rest: &[u8],
+) -> Result<CountedTail, LineFault>
     ensures { Gives (λ x. x) result (reading.tail_at names.now (words_after rest.now)) }
 {
     let (count, rest) = count_at(rest)?;

@@ -13,7 +13,7 @@ ghost use Rattle.reh_census_file.specs.Whole.{GivesAll, parts_of};
 ghost use Rattle.std.specs.Option.{option_map};
 
 use crate::drafts::Draft;
-use crate::faults::{CensusFault, Expected, LineFault, Keyword};
+use crate::faults::{CensusFault, Expected, Keyword, LineFault};
 use crate::values::NamedCensus;
 use crate::words::{choice_at, first_word, line_behind, lines_at, no_more, time_at, version_at};
 use reh_census::{Bookies, Census, Judged};

@@ -8,7 +8,7 @@ ghost use Rattle.reh_census_file.specs.Canonical as canonical;
 ghost use Rattle.reh_census_file.specs.Reading as reading;
 ghost use Rattle.reh_census_file.specs.Reading.{Gives, words_of, words_after};
 
-use crate::faults::{Expected, LineFault, Keyword};
+use crate::faults::{Expected, Keyword, LineFault};
 use crate::lists::NameList;
 use itoa::Buffer;
 use std::alloc::Global;

@@ -1,23 +1,20 @@
 -- A bookie of a cluster stays as it is shown, whatever bookies are added.
-use Rattle.std.proofs.Common.{◌≡◌, ◌∙◌, ◌+◌, ◌<◌, ◌≤◌, ◌&&◌, ◌||◌, cond, not, ℕ, zero, suc, Bool, true, false, List, [], ◌∷◌, length, fold, position, Option, None, Some, nat_lt, refl, ap, sym, subst, arith, true≢false}
-use Rattle.std.specs.Prelude.{All, slice_get, if◌then◌else◌}
+use Rattle.std.proofs.Common.{◌≡◌, ◌∙◌, ◌+◌, ◌&&◌, ◌||◌, cond, not, ℕ, zero, suc, Bool, true, false, List, [], ◌∷◌, length, position, Option, None, Some, nat_lt, refl, ap, sym, arith, true≢false}
+use Rattle.std.specs.Prelude.{slice_get}
 use Rattle.std.specs.Bool.{beq}
 use Rattle.std.specs.List.{insert, list_any, prefix_len}
 use Rattle.std.specs.Option.{is_some, option_and_then, option_map_or}
 use Rattle.std.specs.Str.{bytes_eq}
 use Rattle.std.proofs.lemmas.Bool.Decides.{nat_tests}
-use Rattle.std.proofs.lemmas.List.Edits.{length-insert}
-use Rattle.std.proofs.lemmas.List.Sums.{prefix_len-le-length}
 use Rattle.std.proofs.lemmas.Slice.Eq.{bytes_eq-Decides}
-use Rattle.reh_census.specs.Striping.{range}
 use Rattle.reh_census_file.specs.Values.{NamedCensus}
 use Rattle.reh_picture.specs.declared.listings.Listed.{Listed}
 use Rattle.reh_inputs.specs.declared.inputs.Input.{Input}
 use Rattle.reh_inputs.specs.declared.inputs.Input.TheVariants.{Picture, Census}
-use Rattle.reh_inputs.specs.Cluster.{Cluster, has_bookie, Keeps, is_shown_otherwise, is_shown_so, no_bookies, shown_as, with_bookie, with_new}
+use Rattle.reh_inputs.specs.Cluster.{Cluster, has_bookie, Keeps, is_shown_so, with_new}
 use Rattle.reh_inputs.specs.Names.{place_of}
 use Rattle.reh_inputs.specs.Shown.{Shown, is_like, is_same_rack}
-use Rattle.reh_inputs.specs.United.{AreAlike, counted_at, shown_at, shows_counted, shows_listed, united, with_counted, with_input, with_listed}
+use Rattle.reh_inputs.specs.United.{AreAlike, counted_at, shown_at, shows_counted, shows_listed}
 use Rattle.reh_inputs.proofs.NamesLemmas.{found_any}
 use Rattle.reh_inputs.proofs.UnitedLaws.{Matched}
 

@@ -1,5 +1,5 @@
 -- Why something can't be counted, seen by what has it.
-use Rattle.std.proofs.Common.{◌≡◌, ◌∙◌, ◌<◌, ◌≤◌, ◌+◌, ◌^◌, inl, inr, ℕ, zero, suc, Bool, true, false, true≢false, not, cond, if◌then◌else◌, List, [], ◌∷◌, ◌++◌, Option, Some, None}
+use Rattle.std.proofs.Common.{◌≡◌, ◌∙◌, ◌<◌, ◌≤◌, ◌+◌, ◌^◌, inl, inr, ℕ, zero, suc, Bool, true, false, true≢false, not, if◌then◌else◌, List, [], ◌∷◌, ◌++◌, Option, Some, None}
 use Rattle.std.proofs.Common.{length, map, get_or, take, refl, ap, sym, subst, arith, nat_eq}
 use Rattle.std.specs.Prelude.{IfNone, IsErrAnd, IsSome, MatchResult, Result, slice_get}
 use Rattle.std.specs.List.{Contains, IsDistinct, flat_map, list_any}

@@ -291,7 +291,12 @@ fn held_words(reading: &Reading, number: u32) -> HeldWords
 }
 
 /// The first member in the order of the write set whose word has the bit.
-fn find_source(members: &[BookieIx], held: &HeldWords, indexes: &[u32], bit: u32) -> Option<BookieIx>
+fn find_source(
+    members: &[BookieIx],
+    held: &HeldWords,
+    indexes: &[u32],
+    bit: u32,
+) -> Option<BookieIx>
     requires within { All (λ index. index < length members.now) indexes.now }
     requires small { length members.now ≤ MAX_ENSEMBLE_SIZE }
     requires bit { bit < 64 }

@@ -1,5 +1,5 @@
 -- What was counted of the ledgers and of the files adds up.
-use Rattle.std.proofs.Common.{◌≡◌, ◌∙◌, ◌++◌, Err, List, cond, ap, subst, sym}
+use Rattle.std.proofs.Common.{◌∙◌, ◌++◌, Err, List, cond, ap, subst, sym}
 use Rattle.std.proofs.lemmas.List.Sums.{sum_by-append}
 use Rattle.reh_census.specs.declared.censuses.CountedEnsemble.{CountedEnsemble}
 use Rattle.reh_census.specs.declared.censuses.CountedTail.{CountedTail}

@@ -1,6 +1,6 @@
 -- One input more is united with the others, and those before are shown as they were; the cluster of the inputs before is the one
 -- that a bookie can't be of.
-use Rattle.std.proofs.Common.{◌≡◌, ◌∙◌, ◌∷◌, [], All, List, ap, fold, get_or, length, subst, sym, take, arith, Option}
+use Rattle.std.proofs.Common.{◌∙◌, All, List, ap, get_or, subst, sym, take, arith, Option}
 use Rattle.std.proofs.lemmas.List.{take_all}
 use Rattle.std.proofs.lemmas.List.Elements.{All-more}
 use Rattle.std.proofs.lemmas.List.Sums.{fold_more}

@@ -1,5 +1,5 @@
 -- What both halves show is what all inputs show.
-use Rattle.std.proofs.Common.{◌≡◌, ◌∙◌, ◌+◌, ◌++◌, List, MatchResult, ap, length, length-take, subst, arith}
+use Rattle.std.proofs.Common.{◌∙◌, ◌++◌, List, MatchResult, ap, length, length-take, subst, arith}
 use Rattle.std.proofs.lemmas.List.{take-append-drop}
 use Rattle.reh_census.specs.Bookies.{bookies_of, holders}
 use Rattle.reh_inputs.specs.declared.inputs.Input.{Input}

@@ -1,5 +1,5 @@
 -- Where nothing is assumed nothing rests on it.
-use Rattle.std.proofs.Common.{◌≡◌, ◌∙◌, Err, List, ap, subst, sym}
+use Rattle.std.proofs.Common.{◌∙◌, Err, List, ap, subst, sym}
 use Rattle.reh_census.specs.Bookies.{bookies_of, holders}
 use Rattle.reh_census.specs.Ledgers.{Ledger}
 use Rattle.reh_tally.specs.Few.{AreFew}

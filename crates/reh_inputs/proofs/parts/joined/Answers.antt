@@ -1,6 +1,5 @@
 -- What both show, one after the other; or more rests on an assumption than a census counts.
 use Rattle.std.proofs.Common.{rules, arith}
-use Rattle.reh_inputs.proofs.FaultLaws.{passed_on}
 use Rattle.reh_inputs.proofs.PartLaws.{IsPart-append, too_many_assumed}
 use Rattle.reh_inputs.proofs.parts.joined.Goals as goal
 

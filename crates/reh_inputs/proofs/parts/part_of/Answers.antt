@@ -1,5 +1,5 @@
 -- The ledgers of the inputs, and what is counted of them.
-use Rattle.std.proofs.Common.{◌≡◌, ◌∙◌, List, subst, sym}
+use Rattle.std.proofs.Common.{◌∙◌, List, subst, sym}
 use Rattle.reh_census.specs.Bookies.{bookies_of, holders}
 use Rattle.reh_census.specs.Counting.{CountsEnsembles, CountsEntries, CountsTails}
 use Rattle.reh_census.specs.Ledgers.{Ledger}

@@ -1,5 +1,5 @@
 -- One bookie more is there, and shown so.
-use Rattle.std.proofs.Common.{◌≡◌, ◌<◌, ℕ, true, ap, ◌∙◌, ◌∷◌, [], fold, subst, sym, inl, inr, arith}
+use Rattle.std.proofs.Common.{◌≡◌, ℕ, true, ap, ◌∙◌, ◌∷◌, [], fold, subst, sym, inl, inr, arith}
 use Rattle.std.proofs.lemmas.Bool.{cases_lt}
 use Rattle.std.proofs.lemmas.List.Sums.{fold-append}
 use Rattle.reh_census.specs.Striping.{range}
