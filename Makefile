@@ -10,7 +10,8 @@ PREFIX = /usr/local
 DESTDIR =
 PROGRAM =
 export PREFIX DESTDIR
-program = $(or $(PROGRAM),$(shell ./rehearse --proved 2> /dev/null),$(error the program isn't proved on this machine: run `make` first))
+proved = $(shell ./rehearse --proved 2> /dev/null)
+program = $(or $(PROGRAM),$(proved),$(error the program isn't proved on this machine: run `make` first))
 
 .PHONY: all test install uninstall dist
 
