@@ -65,8 +65,9 @@ def scripts_of_drill(example: str) -> List[str]:
 
 
 def document_names() -> List[str]:
-    """Returns the documents: README.md and those of docs/."""
-    return ["README.md"] + sorted(os.path.relpath(file, TOP) for file in glob.glob(os.path.join(TOP, "docs", "*.md")))
+    """Returns the documents: those at the top, and those of docs/."""
+    files = [file for folder in ["", "docs"] for file in sorted(glob.glob(os.path.join(TOP, folder, "*.md")))]
+    return [os.path.relpath(file, TOP) for file in files]
 
 
 def read_document(name: str) -> Document:
