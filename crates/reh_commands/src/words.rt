@@ -1,12 +1,21 @@
 // The words of a line, and what those after a verb name.
-ghost use Rattle.std.specs.Prelude.{◌≡◌, ◌≤◌, ◌∷◌, [], length, map, MatchOption, not, position};
-ghost use Rattle.std.specs.List.{position_or_len};
+ghost use Rattle.std.specs.Prelude.{◌≡◌, ◌≤◌, ◌∷◌, ◌++◌, [], length, map, MatchOption, OnOk, not, position};
+ghost use Rattle.std.specs.Prelude.{false, slice_get, string_bytes};
+ghost use Rattle.std.specs.List.{list_all, position_or_len};
+ghost use Rattle.std.specs.Option.{option_map_or};
+ghost use Rattle.reh_commands.specs.Printed as printed;
 ghost use Rattle.reh_commands.specs.Script as script;
+ghost use Rattle.reh_commands.specs.Texts.{behind_spaces};
 
-use crate::commands::LineFault;
+use crate::commands::{Command, LineFault};
+use crate::texts::push_name;
 use reh_cluster::Names;
-use reh_types::BookieIx;
+use reh_types::{BookieIx, Event, LedgerId, Move};
+use std::alloc::AllocError;
 use std::fmt;
+
+/// The first number with more digits than a word may have.
+const NUMBER_END: u64 = 10_000_000_000_000;
 
 /// What a word after a verb stands for.
 #[derive(Clone, Copy, PartialEq, Eq, Debug)]
@@ -107,6 +116,92 @@ impl Arguments {
             fourth: self.third,
         }
     }
+
+    /// The same without the first of the numbers.
+    fn without_number(&self) -> Arguments
+        ensures { result ≡ printed.without_number self.now }
+    {
+        Arguments {
+            bookie: self.bookie,
+            first: self.second,
+            second: self.third,
+            third: self.fourth,
+            fourth: 0,
+        }
+    }
+
+    /// What a command is about.
+    pub(crate) fn of_command(command: &Command) -> Arguments
+        ensures { result ≡ printed.about command.now }
+    {
+        match command {
+            Command::Make(Move::Do(event)) => Arguments::of_event(event),
+            Command::Checkout(aim) => Arguments {
+                bookie: aim.worker,
+                first: aim.ledger.0,
+                second: aim.fragment,
+                third: aim.index,
+                fourth: 0,
+            },
+            _ => Arguments::none(),
+        }
+    }
+
+    /// What an event is about: a bookie, a worker and a ledger, a place at a version, or nothing of these.
+    fn of_event(event: &Event) -> Arguments
+        ensures { result ≡ printed.about_event event.now }
+    {
+        match event {
+            Event::Audit | Event::Disable | Event::Enable => Arguments::none(),
+            Event::Lose { bookie } | Event::Join { bookie } | Event::Expire { worker: bookie } =>
+                Arguments::none().with_bookie(*bookie),
+            Event::Acquire { worker, ledger }
+            | Event::Release { worker, ledger }
+            | Event::Finish { worker, ledger }
+            | Event::Grace { worker, ledger }
+            | Event::Fence { worker, ledger }
+            | Event::Seal { worker, ledger } => Arguments::of_task(*worker, *ledger),
+            Event::Tick { ticks } => Arguments::none().with_number(*ticks),
+            Event::Roll {
+                ledger,
+                index,
+                bookie,
+            } => Arguments {
+                bookie: *bookie,
+                first: ledger.0,
+                second: *index,
+                third: 0,
+                fourth: 0,
+            },
+            Event::Copy {
+                worker,
+                ledger,
+                fragment,
+                index,
+                version,
+            }
+            | Event::Swap {
+                worker,
+                ledger,
+                fragment,
+                index,
+                version,
+            } => Arguments {
+                bookie: *worker,
+                first: ledger.0,
+                second: *fragment,
+                third: *index,
+                fourth: *version,
+            },
+        }
+    }
+
+    /// A worker and a ledger.
+    fn of_task(worker: BookieIx, ledger: LedgerId) -> Arguments
+        ensures { result ≡ printed.on_task worker ledger }
+    {
+        Arguments::none().with_number(ledger.0).with_bookie(worker)
+    }
 }
 
 /// What the words of a text name, if they are what these roles want.
@@ -130,6 +225,69 @@ pub(crate) fn read_words(names: &Names, roles: &[Role], text: &[u8]) -> Result<A
             let others = read_words(names, roles, rest)?;
             let bookie = names.find(word).ok_or(LineFault::UnknownName)?;
             Ok(others.with_bookie(bookie))
+        }
+    }
+}
+
+/// Whether words of these roles can name what the arguments do: the bookie has a name that can be a word, and the
+/// numbers have at most 13 digits.
+pub(crate) fn can_name(names: &Names, roles: &[Role], a: &Arguments) -> bool
+    ensures { result ≡ printed.can_name names.now (map script.kind_of roles.now) a.now }
+{
+    let [role, roles @ ..] = roles else {
+        return true;
+    };
+    match role.kind() {
+        Kind::Name => has_word(names, a.bookie) && can_name(names, roles, a),
+        Kind::Number => a.first < NUMBER_END && can_name(names, roles, &a.without_number()),
+    }
+}
+
+/// Whether the bookie has a name, and that can be a word.
+fn has_word(names: &Names, bookie: BookieIx) -> bool
+    ensures { result ≡ option_map_or printed.is_word (slice_get names.now bookie) false }
+{
+    match names.name(bookie) {
+        Some(name) => is_word(name.as_bytes()),
+        None => false,
+    }
+}
+
+/// Whether a text can be a word: it isn't empty, and has no space, tab or line end.
+fn is_word(text: &[u8]) -> bool
+    ensures { result ≡ printed.is_word text.now }
+{
+    !text.is_empty() && are_letters(text)
+}
+
+/// Whether no byte is a space's or below it.
+fn are_letters(text: &[u8]) -> bool
+    ensures { result ≡ list_all printed.is_letter text.now }
+{
+    text.iter().all(|byte| *byte > b' ')
+}
+
+/// Adds the words of these roles that name what the arguments do, each after a space.
+pub(crate) fn push_words(
+    text: &mut String,
+    names: &Names,
+    roles: &[Role],
+    a: &Arguments,
+) -> Result<(), AllocError>
+    ensures { OnOk result (string_bytes text.new ≡ string_bytes text.old
+        ++ behind_spaces (printed.words_for names.now (map script.kind_of roles.now) a.now)) }
+{
+    let [role, roles @ ..] = roles else {
+        return Ok(());
+    };
+    match role.kind() {
+        Kind::Name => {
+            push_name(text, names, a.bookie)?;
+            push_words(text, names, roles, a)
+        }
+        Kind::Number => {
+            write!(text, " {}", a.first)?;
+            push_words(text, names, roles, &a.without_number())
         }
     }
 }
