@@ -1,6 +1,6 @@
 -- What is printed of a command is read back as the same command.
-use Rattle.std.proofs.Common.{◌≡◌, ℕ, ◌+◌, ◌-◌, ◌^◌, ◌<◌, ◌≤◌, Bool, true, false, cond, not, List, [], ◌∷◌, ◌++◌, length, get_or, map, refl, sym, ap, ◌∙◌, arith, rules, lit<, subst, append-nil, lt-ltb, le-ltb, le-leb, leb-true, ltb-true, ne_eqb}
-use Rattle.std.specs.Prelude.{◌&&◌, ◌||◌, ◌==◌, nat_eq, nat_lt, nat_le, codes, filter, take, is_some, slice_get, slice_index, unwrap_or, Option, Some, None, Result, Ok, Err, IfOk, IfSome, All, option_map, if◌then◌else◌}
+use Rattle.std.proofs.Common.{◌≡◌, ℕ, ◌-◌, ◌^◌, ◌<◌, Bool, true, false, cond, not, List, [], ◌∷◌, ◌++◌, length, get_or, refl, sym, ap, ◌∙◌, arith, rules, lit<, subst, append-nil, lt-ltb, le-ltb, le-leb, leb-true, ltb-true, ne_eqb}
+use Rattle.std.specs.Prelude.{◌&&◌, ◌||◌, ◌==◌, nat_eq, nat_lt, nat_le, codes, filter, take, is_some, slice_get, unwrap_or, Option, Some, None, Result, Ok, Err, IfOk, IfSome, All, option_map, if◌then◌else◌}
 use Rattle.std.specs.Char.{is_ascii_digit}
 use Rattle.std.specs.Fmt.{decimal}
 use Rattle.std.specs.List.{IsDistinct, list_all, list_any, position_or_len, slice_split, starts_with}
@@ -32,7 +32,7 @@ use Rattle.reh_commands.specs.declared.verbs.Verb.TheVariants as verb
 use Rattle.reh_commands.specs.declared.words.Kind.{Kind}
 use Rattle.reh_commands.specs.declared.words.Kind.TheVariants.{Name, Number}
 use Rattle.reh_commands.specs.declared.words.Arguments.{Arguments}
-use Rattle.reh_commands.specs.Script.{is_blank, words_of, read_on, number_of, no_arguments, with_bookie, with_number, are_formed, are_known, named_by, arguments_of, kind_of, form_of, verbs, verb_of, made_by, command_by, command_of_words, command_of_line}
+use Rattle.reh_commands.specs.Script.{is_blank, words_of, read_on, number_of, no_arguments, with_bookie, with_number, are_formed, are_known, named_by, arguments_of, form_of, verbs, verb_of, made_by, command_by, command_of_words, command_of_line}
 use Rattle.reh_commands.specs.Texts.{behind_spaces, name_of, spaced}
 use Rattle.reh_commands.specs.Printed.{is_letter, is_word, without_number, can_name, words_for, kinds_of, line_text, line_for, about, verb_of_command, command_text}
 
@@ -90,7 +90,6 @@ letter_clean : (b : ℕ) → is_letter b ≡ true → is_clean b ≡ true
 letter_clean b e = grind (arith, nat_tests)
 
 clean_word : (word rest : List ℕ) → is_word word ≡ true → list_all is_clean rest ≡ true → list_all is_clean (word ++ rest) ≡ true
-
 clean_word word rest e clean =
     list_all-append is_clean word rest
     ∙ and_from (list_all is_clean word) (list_all is_clean rest) (implied is_letter is_clean letter_clean word (letters word e)) clean
@@ -367,14 +366,16 @@ line_again names a v apart can room =
     and_from (is_word name) (list_all is_word words) told_of.0 (are_words names apart (kinds_of v) a can) in
     let clean : list_all is_clean line ≡ true = clean_line name words all in
     let short : nat_lt MAX_LINE_BYTES (length line) ≡ false =
-    le-ltb MAX_LINE_BYTES (length line) (leb-true (length line) MAX_LINE_BYTES room) in
-    (ap (λ (l : List ℕ). by_length names l (nat_lt MAX_LINE_BYTES (length l))) (no_cr line clean)
-    ∙ ap (by_length names line) short
-    ∙ ap (command_of_words names) (words_of-spaced name words all)
-    ∙ ap (by_first names (verb_of name) words) told_of.1
-    ∙ ap (by_verb names words) (found v)
-    ∙ ap (by_arguments v) (arguments_of-words names apart (kinds_of v) a can)
-    ∙ ap by_command (told_of.2 a), no_lf line clean)
+    le-ltb MAX_LINE_BYTES (length line) (leb-true (length line) MAX_LINE_BYTES room) in (
+      ap (λ (l : List ℕ). by_length names l (nat_lt MAX_LINE_BYTES (length l))) (no_cr line clean)
+          ∙ ap (by_length names line) short
+          ∙ ap (command_of_words names) (words_of-spaced name words all)
+          ∙ ap (by_first names (verb_of name) words) told_of.1
+          ∙ ap (by_verb names words) (found v)
+          ∙ ap (by_arguments v) (arguments_of-words names apart (kinds_of v) a can)
+          ∙ ap by_command (told_of.2 a),
+      no_lf line clean,
+    )
 
 -- Commands
 
