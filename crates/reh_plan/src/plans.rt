@@ -28,7 +28,7 @@ pub(crate) enum Outcome {
     Made,
     /// It was refused.
     Refused(Refusal),
-    /// No line asks for it, or the script has no room for that.
+    /// It has no line, or the script has no room for its line.
     Unwritten,
 }
 
@@ -142,7 +142,7 @@ impl Plan {
         }
     }
 
-    /// Makes an event and writes its command. Where the event is refused, it has no line, or there is no room for that,
+    /// Makes an event and writes its command. Where the event is refused, or has no line, or there is no room for its line,
     /// nothing changes.
     fn make(&mut self, event: &Event) -> Result<Outcome, PlanFault>
         ensures { MatchResult result
