@@ -87,10 +87,11 @@ verb_of_command Survey = Some verb.Survey
 
 -- Its words
 
--- whether a text can be a word: it isn't empty, and has no byte of a space or below, as tabs and line ends are
+-- whether a byte can be one of a word: it is above a space's, so it's no tab and no line end
 abbrev pub is_letter : ℕ → Bool
 is_letter b = nat_lt 32 b
 
+-- whether a text can be a word: it isn't empty, and each byte can be one of a word
 abbrev pub is_word : List ℕ → Bool
 is_word text = not (length text == 0) && list_all is_letter text
 
@@ -125,6 +126,6 @@ line_for names a v =
     if can_name names (kinds_of v) a && nat_le (length (line_text names a v)) MAX_LINE_BYTES then Some (line_text names a v)
     else None
 
--- with the bookies of these names, the line that asks for a command, if it is written in one
+-- with the bookies of these names, the line that asks for a command, if one can
 abbrev pub command_text : List (List ℕ) → Command → Option (List ℕ)
 command_text names command = option_and_then (line_for names (about command)) (verb_of_command command)

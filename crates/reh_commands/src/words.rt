@@ -147,7 +147,7 @@ impl Arguments {
         }
     }
 
-    /// What an event is about: a bookie, a worker and a ledger, a place at a version, or nothing of these.
+    /// What an event is about: a bookie, a worker and a ledger, a place at a version, ticks, or nothing.
     fn of_event(event: &Event) -> Arguments
         ensures { result ≡ printed.about_event event.now }
     {
