@@ -34,7 +34,7 @@ use Rattle.reh_commands.specs.declared.words.Kind.TheVariants.{Name, Number}
 use Rattle.reh_commands.specs.declared.words.Arguments.{Arguments}
 use Rattle.reh_commands.specs.Script.{is_blank, words_of, read_on, number_of, no_arguments, with_bookie, with_number, are_formed, are_known, named_by, arguments_of, form_of, verbs, verb_of, made_by, command_by, command_of_words, command_of_line}
 use Rattle.reh_commands.specs.Texts.{behind_spaces, name_of, spaced}
-use Rattle.reh_commands.specs.Printed.{is_letter, is_word, without_number, can_name, words_for, kinds_of, line_text, line_for, about, verb_of_command, command_text}
+use Rattle.reh_commands.specs.Printed.{is_letter, is_word, without_number, can_name, words_for, kinds_of, line_text, line_for, command_parts, command_text}
 
 -- The words of a line
 
@@ -354,13 +354,13 @@ abbrev pub IsLineOf : List (List ℕ) → Command → List ℕ → Type 0
 IsLineOf names command line =
     (command_of_line names line ≡ Some (Ok command)) × (list_any (λ b. b == 10) line ≡ false)
 
-pub line_again : (names : List (List ℕ)) (a : Arguments) (v : Verb) → IsDistinct bytes_eq names
-    → can_name names (kinds_of v) a ≡ true → nat_le (length (line_text names a v)) MAX_LINE_BYTES ≡ true
-    → IsLineOf names ((form_of v).make a) (line_text names a v)
-line_again names a v apart can room =
+pub line_again : (names : List (List ℕ)) (v : Verb) (a : Arguments) → IsDistinct bytes_eq names
+    → can_name names (kinds_of v) a ≡ true → nat_le (length (line_text names v a)) MAX_LINE_BYTES ≡ true
+    → IsLineOf names ((form_of v).make a) (line_text names v a)
+line_again names v a apart can room =
     let words : List (List ℕ) = words_for names (kinds_of v) a in
     let name : List ℕ = (form_of v).name in
-    let line : List ℕ = line_text names a v in
+    let line : List ℕ = line_text names v a in
     let told_of : IsTold v = is_told v in
     let all : list_all is_word (name ∷ words) ≡ true =
     and_from (is_word name) (list_all is_word words) told_of.0 (are_words names apart (kinds_of v) a can) in
@@ -379,8 +379,8 @@ line_again names a v apart can room =
 
 -- Commands
 
--- a command is what its verb makes of what it is about
-made_again : (command : Command) → IfSome (verb_of_command command) (λ v. (form_of v).make (about command) ≡ command)
+-- a command is what its verb makes of what its words name
+made_again : (command : Command) → IfSome (command_parts command) (λ parts. (form_of parts.0).make parts.1 ≡ command)
 made_again (Make (Do (Lose bookie))) = refl
 made_again (Make (Do (Join bookie))) = refl
 made_again (Make (Do Audit)) = refl
@@ -410,25 +410,25 @@ made_again Survey = refl
 -- what is printed is read back
 pub read_again : (names : List (List ℕ)) (command : Command) (line : List ℕ) → IsDistinct bytes_eq names
     → command_text names command ≡ Some line → IsLineOf names command line
-read_again names command line apart is = by_its_verb (verb_of_command command) (made_again command) is
+read_again names command line apart is = by_its_parts (command_parts command) (made_again command) is
   where
-    judged_line : (v : Verb) (can room : Bool) → can_name names (kinds_of v) (about command) ≡ can
-        → nat_le (length (line_text names (about command) v)) MAX_LINE_BYTES ≡ room
-        → (if can && room then Some (line_text names (about command) v) else None) ≡ Some line
-        → IsLineOf names ((form_of v).make (about command)) line
-    judged_line v true true can room same =
-        subst (IsLineOf names ((form_of v).make (about command))) (same_Some (line_text names (about command) v) line same)
-        (line_again names (about command) v apart can room)
-    judged_line v true false can room same = absurd (none-some line same)
-    judged_line v false room can here same = absurd (none-some line same)
+    judged_line : (v : Verb) (a : Arguments) (can room : Bool) → can_name names (kinds_of v) a ≡ can
+        → nat_le (length (line_text names v a)) MAX_LINE_BYTES ≡ room
+        → (if can && room then Some (line_text names v a) else None) ≡ Some line
+        → IsLineOf names ((form_of v).make a) line
+    judged_line v a true true can room same =
+        subst (IsLineOf names ((form_of v).make a)) (same_Some (line_text names v a) line same)
+        (line_again names v a apart can room)
+    judged_line v a true false can room same = absurd (none-some line same)
+    judged_line v a false room can here same = absurd (none-some line same)
 
-    by_its_verb : (o : Option Verb) → IfSome o (λ v. (form_of v).make (about command) ≡ command)
-        → option_and_then (line_for names (about command)) o ≡ Some line → IsLineOf names command line
-    by_its_verb None made same = absurd (none-some line same)
-    by_its_verb (Some v) made same =
+    by_its_parts : (o : Option (Verb × Arguments)) → IfSome o (λ parts. (form_of parts.0).make parts.1 ≡ command)
+        → option_and_then (λ parts. line_for names parts.0 parts.1) o ≡ Some line → IsLineOf names command line
+    by_its_parts None made same = absurd (none-some line same)
+    by_its_parts (Some parts) made same =
         subst (λ (c : Command). IsLineOf names c line) made
-        (judged_line v (can_name names (kinds_of v) (about command))
-        (nat_le (length (line_text names (about command) v)) MAX_LINE_BYTES) refl refl same)
+        (judged_line parts.0 parts.1 (can_name names (kinds_of parts.0) parts.1)
+        (nat_le (length (line_text names parts.0 parts.1)) MAX_LINE_BYTES) refl refl same)
 
 -- so each line that a call gives is
 pub each_line : {T E : Type 0} (bytes : T → List ℕ) (names : List (List ℕ)) (command : Command) (P : List ℕ → Type 0)
@@ -439,10 +439,10 @@ each_line bytes names command P all apart (Ok (Some text)) is =
     all (bytes text) (read_again names command (bytes text) apart (sym is))
 each_line bytes names command P all apart (Err fault) is = tt
 
--- the line of a command's verb and of what it is about
+-- the line of a command's verb and of what its words name
 pub told_text : {T E : Type 0} (bytes : T → List ℕ) (names : List (List ℕ)) (command : Command) (v : Verb) (a : Arguments)
-    → a ≡ about command → Some v ≡ verb_of_command command → (r : Result (Option T) E)
-    → IfOk r (λ line. option_map bytes line ≡ line_for names a v) → IfOk r (λ line. option_map bytes line ≡ command_text names command)
-told_text bytes names command v a is of (Ok line) e =
-    e ∙ ap (λ (x : Arguments). line_for names x v) is ∙ ap (option_and_then (line_for names (about command))) of
-told_text bytes names command v a is of (Err fault) e = tt
+    → Some (v, a) ≡ command_parts command → (r : Result (Option T) E)
+    → IfOk r (λ line. option_map bytes line ≡ line_for names v a) → IfOk r (λ line. option_map bytes line ≡ command_text names command)
+told_text bytes names command v a of (Ok line) e =
+    e ∙ ap (option_and_then (λ (parts : Verb × Arguments). line_for names parts.0 parts.1)) of
+told_text bytes names command v a of (Err fault) e = tt

@@ -19,71 +19,60 @@ use Rattle.reh_commands.specs.declared.words.Arguments.{Arguments}
 use Rattle.reh_commands.specs.Script.{form_of, kind_of, no_arguments, with_bookie, with_number}
 use Rattle.reh_commands.specs.Texts.{name_of, spaced}
 
--- What a command is about
+-- What a command is made of: its verb, and what the words after the verb name
+
+-- a verb without words
+abbrev pub alone : Verb → Verb × Arguments
+alone v = (v, no_arguments)
+
+-- and a bookie
+abbrev pub of_bookie : Verb → ℕ → Verb × Arguments
+of_bookie v bookie = (v, with_bookie bookie no_arguments)
 
 -- a worker and a ledger
-abbrev pub on_task : ℕ → ℕ → Arguments
-on_task worker ledger = with_bookie worker (with_number ledger no_arguments)
+abbrev pub of_task : Verb → ℕ → ℕ → Verb × Arguments
+of_task v worker ledger = (v, with_bookie worker (with_number ledger no_arguments))
+
+-- a ledger, an index of its last ensemble, and the bookie that takes it
+abbrev pub of_roll : ℕ → ℕ → ℕ → Verb × Arguments
+of_roll ledger index bookie = (verb.Roll, with_bookie bookie (with_number ledger (with_number index no_arguments)))
 
 -- a worker, and a place of a fragment at a version of the ledger's metadata
-abbrev pub on_member : ℕ → ℕ → ℕ → ℕ → ℕ → Arguments
-on_member worker ledger fragment index version =
-    record { bookie = worker; first = ledger; second = fragment; third = index; fourth = version }
+abbrev pub of_place : Verb → ℕ → ℕ → ℕ → ℕ → ℕ → Verb × Arguments
+of_place v worker ledger fragment index version =
+    (v, record { bookie = worker; first = ledger; second = fragment; third = index; fourth = version })
 
-abbrev pub about_event : Event → Arguments
-about_event (Lose bookie) = with_bookie bookie no_arguments
-about_event (Join bookie) = with_bookie bookie no_arguments
-about_event Audit = no_arguments
-about_event (Acquire worker ledger) = on_task worker ledger
-about_event (Release worker ledger) = on_task worker ledger
-about_event (Finish worker ledger) = on_task worker ledger
-about_event (Expire worker) = with_bookie worker no_arguments
-about_event (Grace worker ledger) = on_task worker ledger
-about_event (Tick ticks) = with_number ticks no_arguments
-about_event (Roll ledger index bookie) = with_bookie bookie (with_number ledger (with_number index no_arguments))
-about_event (Fence worker ledger) = on_task worker ledger
-about_event (Seal worker ledger) = on_task worker ledger
-about_event (Copy worker ledger fragment index version) = on_member worker ledger fragment index version
-about_event (Swap worker ledger fragment index version) = on_member worker ledger fragment index version
-about_event Disable = no_arguments
-about_event Enable = no_arguments
+-- what an event is made of
+abbrev pub event_parts : Event → Verb × Arguments
+event_parts (Lose bookie) = of_bookie verb.Lose bookie
+event_parts (Join bookie) = of_bookie verb.Join bookie
+event_parts Audit = alone verb.Audit
+event_parts (Acquire worker ledger) = of_task verb.Acquire worker ledger
+event_parts (Release worker ledger) = of_task verb.Release worker ledger
+event_parts (Finish worker ledger) = of_task verb.Finish worker ledger
+event_parts (Expire worker) = of_bookie verb.Expire worker
+event_parts (Grace worker ledger) = of_task verb.Grace worker ledger
+event_parts (Tick ticks) = (verb.Tick, with_number ticks no_arguments)
+event_parts (Roll ledger index bookie) = of_roll ledger index bookie
+event_parts (Fence worker ledger) = of_task verb.Fence worker ledger
+event_parts (Seal worker ledger) = of_task verb.Seal worker ledger
+event_parts (Copy worker ledger fragment index version) = of_place verb.Copy worker ledger fragment index version
+event_parts (Swap worker ledger fragment index version) = of_place verb.Swap worker ledger fragment index version
+event_parts Disable = alone verb.Disable
+event_parts Enable = alone verb.Enable
 
--- what its words name
-abbrev pub about : Command → Arguments
-about (Make (Do event)) = about_event event
-about (Checkout aim) = on_member aim.worker aim.ledger aim.fragment aim.index 0
-about other = no_arguments
-
-abbrev pub verb_of_event : Event → Verb
-verb_of_event (Lose bookie) = verb.Lose
-verb_of_event (Join bookie) = verb.Join
-verb_of_event Audit = verb.Audit
-verb_of_event (Acquire worker ledger) = verb.Acquire
-verb_of_event (Release worker ledger) = verb.Release
-verb_of_event (Finish worker ledger) = verb.Finish
-verb_of_event (Expire worker) = verb.Expire
-verb_of_event (Grace worker ledger) = verb.Grace
-verb_of_event (Tick ticks) = verb.Tick
-verb_of_event (Roll ledger index bookie) = verb.Roll
-verb_of_event (Fence worker ledger) = verb.Fence
-verb_of_event (Seal worker ledger) = verb.Seal
-verb_of_event (Copy worker ledger fragment index version) = verb.Copy
-verb_of_event (Swap worker ledger fragment index version) = verb.Swap
-verb_of_event Disable = verb.Disable
-verb_of_event Enable = verb.Enable
-
--- its verb; no script has one for the post of a content
-abbrev pub verb_of_command : Command → Option Verb
-verb_of_command (Make (Do event)) = Some (verb_of_event event)
-verb_of_command (Make (Post content)) = None
-verb_of_command (Make Undo) = Some verb.Undo
-verb_of_command (Make Redo) = Some verb.Redo
-verb_of_command (Make Look) = Some verb.Clock
-verb_of_command (Checkout aim) = Some verb.Checkout
-verb_of_command Spend = Some verb.Spend
-verb_of_command Discard = Some verb.Discard
-verb_of_command Report = Some verb.Report
-verb_of_command Survey = Some verb.Survey
+-- what a command is made of; no script has a verb for the post of a content
+abbrev pub command_parts : Command → Option (Verb × Arguments)
+command_parts (Make (Do event)) = Some (event_parts event)
+command_parts (Make (Post content)) = None
+command_parts (Make Undo) = Some (alone verb.Undo)
+command_parts (Make Redo) = Some (alone verb.Redo)
+command_parts (Make Look) = Some (alone verb.Clock)
+command_parts (Checkout aim) = Some (of_place verb.Checkout aim.worker aim.ledger aim.fragment aim.index 0)
+command_parts Spend = Some (alone verb.Spend)
+command_parts Discard = Some (alone verb.Discard)
+command_parts Report = Some (alone verb.Report)
+command_parts Survey = Some (alone verb.Survey)
 
 -- Its words
 
@@ -117,15 +106,15 @@ words_for names (Number ∷ kinds) a = decimal a.first ∷ words_for names kinds
 abbrev pub kinds_of : Verb → List Kind
 kinds_of v = map kind_of (form_of v).roles
 
-abbrev pub line_text : List (List ℕ) → Arguments → Verb → List ℕ
-line_text names a v = spaced ((form_of v).name ∷ words_for names (kinds_of v) a)
+abbrev pub line_text : List (List ℕ) → Verb → Arguments → List ℕ
+line_text names v a = spaced ((form_of v).name ∷ words_for names (kinds_of v) a)
 
 -- if words can name what the arguments do, and a line has room for them
-abbrev pub line_for : List (List ℕ) → Arguments → Verb → Option (List ℕ)
-line_for names a v =
-    if can_name names (kinds_of v) a && nat_le (length (line_text names a v)) MAX_LINE_BYTES then Some (line_text names a v)
+abbrev pub line_for : List (List ℕ) → Verb → Arguments → Option (List ℕ)
+line_for names v a =
+    if can_name names (kinds_of v) a && nat_le (length (line_text names v a)) MAX_LINE_BYTES then Some (line_text names v a)
     else None
 
 -- with the bookies of these names, the line that asks for a command, if one can
 abbrev pub command_text : List (List ℕ) → Command → Option (List ℕ)
-command_text names command = option_and_then (line_for names (about command)) (verb_of_command command)
+command_text names command = option_and_then (λ parts. line_for names parts.0 parts.1) (command_parts command)

@@ -2,6 +2,7 @@
 #![tactic(auto)]
 
 mod commands;
+mod parts;
 mod reports;
 mod scripts;
 mod surveys;

@@ -7,6 +7,7 @@ ghost use Rattle.reh_commands.specs.Script as script;
 ghost use Rattle.reh_commands.specs.Script.{command_of_line, command_by, words_of};
 
 use crate::commands::{Command, LineFault};
+use crate::parts::command_parts;
 use crate::verbs::Verb;
 use crate::words::{Arguments, can_name, next_word, push_words, read_words};
 use reh_cluster::Names;
@@ -68,26 +69,25 @@ pub fn command_text(
         (λ text. list_any (λ b. b == 10) (string_bytes text) ≡ false)) }
 {
     let _different = names.len();
-    let Some(verb) = Verb::of_command(command) else {
+    let Some((verb, arguments)) = command_parts(command) else {
         return Ok(None);
     };
-    let arguments = Arguments::of_command(command);
-    line_for(alloc, names, &arguments, verb)
+    line_for(alloc, names, verb, &arguments)
 }
 
 /// The line of a verb and what its words name, if words can name it and a line has room for them.
 fn line_for(
     alloc: Global,
     names: &Names,
-    arguments: &Arguments,
     verb: Verb,
+    arguments: &Arguments,
 ) -> Result<Option<String>, AllocError>
-    ensures { IfOk result (λ line. option_map string_bytes line ≡ printed.line_for names.now arguments.now verb) }
+    ensures { IfOk result (λ line. option_map string_bytes line ≡ printed.line_for names.now verb arguments.now) }
 {
     if !can_name(names, verb.roles(), arguments) {
         return Ok(None);
     }
-    let line = line_text(alloc, names, arguments, verb)?;
+    let line = line_text(alloc, names, verb, arguments)?;
     if line.as_bytes().len() > MAX_LINE_BYTES {
         return Ok(None);
     }
@@ -98,10 +98,10 @@ fn line_for(
 fn line_text(
     alloc: Global,
     names: &Names,
-    arguments: &Arguments,
     verb: Verb,
+    arguments: &Arguments,
 ) -> Result<String, AllocError>
-    ensures { IfOk result (λ line. string_bytes line ≡ printed.line_text names.now arguments.now verb) }
+    ensures { IfOk result (λ line. string_bytes line ≡ printed.line_text names.now verb arguments.now) }
 {
     let mut line = String::from_str(alloc, verb.name())?;
     push_words(&mut line, names, verb.roles(), arguments)?;

@@ -8,6 +8,7 @@ ghost use Rattle.reh_commands.specs.Printed as printed;
 ghost use Rattle.reh_commands.specs.Script as script;
 
 use crate::commands::Command;
+use crate::parts::event_parts;
 use crate::words::{Arguments, Role};
 use reh_types::{Aim, Event, LedgerId, Move};
 use std::fmt;
@@ -259,46 +260,11 @@ impl Verb {
         }
     }
 
-    /// The verb that makes a command. No script has one for the post of a content.
-    pub(crate) fn of_command(command: &Command) -> Option<Verb>
-        ensures { result ≡ printed.verb_of_command command.now }
-    {
-        match command {
-            Command::Make(Move::Do(event)) => Some(Verb::of_event(event)),
-            Command::Make(Move::Post(_)) => None,
-            Command::Make(Move::Undo) => Some(Verb::Undo),
-            Command::Make(Move::Redo) => Some(Verb::Redo),
-            Command::Make(Move::Look) => Some(Verb::Clock),
-            Command::Checkout(_) => Some(Verb::Checkout),
-            Command::Spend => Some(Verb::Spend),
-            Command::Discard => Some(Verb::Discard),
-            Command::Report => Some(Verb::Report),
-            Command::Survey => Some(Verb::Survey),
-        }
-    }
-
     /// The verb that makes an event.
     pub fn of_event(event: &Event) -> Verb
-        ensures { result ≡ printed.verb_of_event event.now }
+        ensures { result ≡ (printed.event_parts event.now).0 }
     {
-        match event {
-            Event::Lose { .. } => Verb::Lose,
-            Event::Join { .. } => Verb::Join,
-            Event::Audit => Verb::Audit,
-            Event::Acquire { .. } => Verb::Acquire,
-            Event::Release { .. } => Verb::Release,
-            Event::Finish { .. } => Verb::Finish,
-            Event::Expire { .. } => Verb::Expire,
-            Event::Grace { .. } => Verb::Grace,
-            Event::Tick { .. } => Verb::Tick,
-            Event::Roll { .. } => Verb::Roll,
-            Event::Fence { .. } => Verb::Fence,
-            Event::Seal { .. } => Verb::Seal,
-            Event::Copy { .. } => Verb::Copy,
-            Event::Swap { .. } => Verb::Swap,
-            Event::Disable => Verb::Disable,
-            Event::Enable => Verb::Enable,
-        }
+        event_parts(event).0
     }
 }
 

@@ -7,10 +7,10 @@ ghost use Rattle.reh_commands.specs.Printed as printed;
 ghost use Rattle.reh_commands.specs.Script as script;
 ghost use Rattle.reh_commands.specs.Texts.{behind_spaces};
 
-use crate::commands::{Command, LineFault};
+use crate::commands::LineFault;
 use crate::texts::push_name;
 use reh_cluster::Names;
-use reh_types::{BookieIx, Event, LedgerId, Move};
+use reh_types::BookieIx;
 use std::alloc::AllocError;
 use std::fmt;
 
@@ -98,14 +98,14 @@ impl Arguments {
     }
 
     /// The same with a bookie before the others.
-    fn with_bookie(self, bookie: BookieIx) -> Arguments
+    pub(crate) fn with_bookie(self, bookie: BookieIx) -> Arguments
         ensures { result ≡ script.with_bookie bookie self }
     {
         Arguments { bookie, ..self }
     }
 
     /// The same with a number before the others.
-    fn with_number(self, number: u64) -> Arguments
+    pub(crate) fn with_number(self, number: u64) -> Arguments
         ensures { result ≡ script.with_number number self }
     {
         Arguments {
@@ -128,79 +128,6 @@ impl Arguments {
             third: self.fourth,
             fourth: 0,
         }
-    }
-
-    /// What a command is about.
-    pub(crate) fn of_command(command: &Command) -> Arguments
-        ensures { result ≡ printed.about command.now }
-    {
-        match command {
-            Command::Make(Move::Do(event)) => Arguments::of_event(event),
-            Command::Checkout(aim) => Arguments {
-                bookie: aim.worker,
-                first: aim.ledger.0,
-                second: aim.fragment,
-                third: aim.index,
-                fourth: 0,
-            },
-            _ => Arguments::none(),
-        }
-    }
-
-    /// What an event is about: a bookie, a worker and a ledger, a place at a version, ticks, or nothing.
-    fn of_event(event: &Event) -> Arguments
-        ensures { result ≡ printed.about_event event.now }
-    {
-        match event {
-            Event::Audit | Event::Disable | Event::Enable => Arguments::none(),
-            Event::Lose { bookie } | Event::Join { bookie } | Event::Expire { worker: bookie } =>
-                Arguments::none().with_bookie(*bookie),
-            Event::Acquire { worker, ledger }
-            | Event::Release { worker, ledger }
-            | Event::Finish { worker, ledger }
-            | Event::Grace { worker, ledger }
-            | Event::Fence { worker, ledger }
-            | Event::Seal { worker, ledger } => Arguments::of_task(*worker, *ledger),
-            Event::Tick { ticks } => Arguments::none().with_number(*ticks),
-            Event::Roll {
-                ledger,
-                index,
-                bookie,
-            } => Arguments {
-                bookie: *bookie,
-                first: ledger.0,
-                second: *index,
-                third: 0,
-                fourth: 0,
-            },
-            Event::Copy {
-                worker,
-                ledger,
-                fragment,
-                index,
-                version,
-            }
-            | Event::Swap {
-                worker,
-                ledger,
-                fragment,
-                index,
-                version,
-            } => Arguments {
-                bookie: *worker,
-                first: ledger.0,
-                second: *fragment,
-                third: *index,
-                fourth: *version,
-            },
-        }
-    }
-
-    /// A worker and a ledger.
-    fn of_task(worker: BookieIx, ledger: LedgerId) -> Arguments
-        ensures { result ≡ printed.on_task worker ledger }
-    {
-        Arguments::none().with_number(ledger.0).with_bookie(worker)
     }
 }
 

@@ -11,13 +11,13 @@ returns-clause-read c =
     let names : List (List ℕ) = c.args.names.now in
     each_line string_bytes names c.args.command.now (λ line. command_of_line names line ≡ Some (Ok c.args.command.now))
     (λ line h. h.0) c.len-different.ensures.different c.line_for.result
-    (told_text string_bytes names c.args.command.now c.in-Some.verb c.of_command-arguments.result
-    c.of_command-arguments.ensures c.in-Some.ensures c.line_for.result c.line_for.ensures)
+    (told_text string_bytes names c.args.command.now c.in-Some.verb c.in-Some.arguments c.in-Some.ensures
+    c.line_for.result c.line_for.ensures)
 
 pub returns-clause-one_line : goal.returns-clause-one_line
 returns-clause-one_line c =
     let names : List (List ℕ) = c.args.names.now in
     each_line string_bytes names c.args.command.now (λ line. list_any (λ b. b == 10) line ≡ false)
     (λ line h. h.1) c.len-different.ensures.different c.line_for.result
-    (told_text string_bytes names c.args.command.now c.in-Some.verb c.of_command-arguments.result
-    c.of_command-arguments.ensures c.in-Some.ensures c.line_for.result c.line_for.ensures)
+    (told_text string_bytes names c.args.command.now c.in-Some.verb c.in-Some.arguments c.in-Some.ensures
+    c.line_for.result c.line_for.ensures)
