@@ -1,15 +1,19 @@
 // What a command is made of: its verb, and what the words after the verb name.
-ghost use Rattle.std.specs.Prelude.{◌≡◌};
+ghost use Rattle.std.specs.Prelude.{◌≡◌, IfSome};
+ghost use Rattle.reh_types.specs.declared.moves.Move.TheVariants.{Do};
+ghost use Rattle.reh_commands.specs.declared.commands.Command.TheVariants.{Make};
 ghost use Rattle.reh_commands.specs.Printed as printed;
+ghost use Rattle.reh_commands.specs.Script as script;
 
 use crate::commands::Command;
 use crate::verbs::Verb;
 use crate::words::Arguments;
 use reh_types::{BookieIx, Event, LedgerId, Move};
 
-/// A command's verb, and what its words name. No verb makes the post of a content.
+/// A command's verb, and the arguments of which the verb makes it. No verb makes the post of a content.
 pub(crate) fn command_parts(command: &Command) -> Option<(Verb, Arguments)>
-    ensures { result ≡ printed.command_parts command.now }
+    ensures parts { result ≡ printed.command_parts command.now }
+    ensures made { IfSome result (λ parts. (script.form_of parts.0).make parts.1 ≡ command.now) }
 {
     match command {
         Command::Make(Move::Do(event)) => Some(event_parts(event)),
@@ -32,9 +36,11 @@ pub(crate) fn command_parts(command: &Command) -> Option<(Verb, Arguments)>
     }
 }
 
-/// An event's verb, and what it is about: a bookie, a worker and a ledger, a place at a version, ticks, or nothing.
+/// An event's verb, and what the event is about, of which the verb makes it: a bookie, a worker and a ledger, a place at
+/// a version, ticks, or nothing.
 pub(crate) fn event_parts(event: &Event) -> (Verb, Arguments)
-    ensures { result ≡ printed.event_parts event.now }
+    ensures parts { result ≡ printed.event_parts event.now }
+    ensures made { (script.form_of result.0).make result.1 ≡ Make (Do event.now) }
 {
     match event {
         Event::Lose { bookie } => of_bookie(Verb::Lose, *bookie),

@@ -11,7 +11,7 @@ returns-clause-read c =
     let names : List (List ℕ) = c.args.names.now in
     each_line string_bytes names c.args.command.now (λ line. command_of_line names line ≡ Some (Ok c.args.command.now))
     (λ line h. h.0) c.len-different.ensures.different c.line_for.result
-    (told_text string_bytes names c.args.command.now c.in-Some.verb c.in-Some.arguments c.in-Some.ensures
+    (told_text string_bytes names c.args.command.now c.in-Some.verb c.in-Some.arguments c.in-Some.ensures.parts
     c.line_for.result c.line_for.ensures)
 
 pub returns-clause-one_line : goal.returns-clause-one_line
@@ -19,5 +19,5 @@ returns-clause-one_line c =
     let names : List (List ℕ) = c.args.names.now in
     each_line string_bytes names c.args.command.now (λ line. list_any (λ b. b == 10) line ≡ false)
     (λ line h. h.1) c.len-different.ensures.different c.line_for.result
-    (told_text string_bytes names c.args.command.now c.in-Some.verb c.in-Some.arguments c.in-Some.ensures
+    (told_text string_bytes names c.args.command.now c.in-Some.verb c.in-Some.arguments c.in-Some.ensures.parts
     c.line_for.result c.line_for.ensures)
