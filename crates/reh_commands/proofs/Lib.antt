@@ -2,3 +2,4 @@ mod Numbers
 mod Examples
 pub mod WordLaws
 pub mod ReportLaws
+pub mod PrintLaws

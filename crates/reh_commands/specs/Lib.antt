@@ -2,3 +2,4 @@ pub mod Script
 pub mod Texts
 pub mod Reports
 pub mod Answers
+pub mod Printed

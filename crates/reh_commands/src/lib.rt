@@ -1,7 +1,8 @@
-// Commands and the words of their lines, and the texts of replies, reports and surveys.
+// Commands and the words of their lines, read and printed, and the texts of replies, reports and surveys.
 #![tactic(auto)]
 
 mod commands;
+mod parts;
 mod reports;
 mod scripts;
 mod surveys;
@@ -11,7 +12,7 @@ mod words;
 
 pub use commands::{Command, LineFault};
 pub use reports::{push_report, report_text};
-pub use scripts::parse_line;
+pub use scripts::{command_text, parse_line};
 pub use surveys::push_survey;
 pub use texts::{Named, reply_text};
 pub use verbs::Verb;

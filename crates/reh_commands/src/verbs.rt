@@ -4,9 +4,11 @@ ghost use Rattle.std.specs.Str.{bytes_eq};
 ghost use Rattle.reh_types.specs.declared.moves.Event.TheVariants.{Roll, Copy, Swap};
 ghost use Rattle.reh_types.specs.declared.moves.Move.TheVariants.{Do};
 ghost use Rattle.reh_commands.specs.declared.commands.Command.TheVariants.{Make};
+ghost use Rattle.reh_commands.specs.Printed as printed;
 ghost use Rattle.reh_commands.specs.Script as script;
 
 use crate::commands::Command;
+use crate::parts::event_parts;
 use crate::words::{Arguments, Role};
 use reh_types::{Aim, Event, LedgerId, Move};
 use std::fmt;
@@ -256,6 +258,13 @@ impl Verb {
             Verb::Report => Command::Report,
             Verb::Survey => Command::Survey,
         }
+    }
+
+    /// The verb that makes an event.
+    pub fn of_event(event: &Event) -> Verb
+        ensures { result ≡ (printed.event_parts event.now).0 }
+    {
+        event_parts(event).0
     }
 }
 

@@ -1,12 +1,21 @@
 // The words of a line, and what those after a verb name.
-ghost use Rattle.std.specs.Prelude.{◌≡◌, ◌≤◌, ◌∷◌, [], length, map, MatchOption, not, position};
-ghost use Rattle.std.specs.List.{position_or_len};
+ghost use Rattle.std.specs.Prelude.{◌≡◌, ◌≤◌, ◌∷◌, ◌++◌, [], length, map, MatchOption, OnOk, not, position};
+ghost use Rattle.std.specs.Prelude.{false, slice_get, string_bytes};
+ghost use Rattle.std.specs.List.{list_all, position_or_len};
+ghost use Rattle.std.specs.Option.{option_map_or};
+ghost use Rattle.reh_commands.specs.Printed as printed;
 ghost use Rattle.reh_commands.specs.Script as script;
+ghost use Rattle.reh_commands.specs.Texts.{behind_spaces};
 
 use crate::commands::LineFault;
+use crate::texts::push_name;
 use reh_cluster::Names;
 use reh_types::BookieIx;
+use std::alloc::AllocError;
 use std::fmt;
+
+/// The first number with more digits than a word may have.
+const NUMBER_END: u64 = 10_000_000_000_000;
 
 /// What a word after a verb stands for.
 #[derive(Clone, Copy, PartialEq, Eq, Debug)]
@@ -89,14 +98,14 @@ impl Arguments {
     }
 
     /// The same with a bookie before the others.
-    fn with_bookie(self, bookie: BookieIx) -> Arguments
+    pub(crate) fn with_bookie(self, bookie: BookieIx) -> Arguments
         ensures { result ≡ script.with_bookie bookie self }
     {
         Arguments { bookie, ..self }
     }
 
     /// The same with a number before the others.
-    fn with_number(self, number: u64) -> Arguments
+    pub(crate) fn with_number(self, number: u64) -> Arguments
         ensures { result ≡ script.with_number number self }
     {
         Arguments {
@@ -105,6 +114,19 @@ impl Arguments {
             second: self.first,
             third: self.second,
             fourth: self.third,
+        }
+    }
+
+    /// The same without the first of the numbers.
+    fn without_number(&self) -> Arguments
+        ensures { result ≡ printed.without_number self.now }
+    {
+        Arguments {
+            bookie: self.bookie,
+            first: self.second,
+            second: self.third,
+            third: self.fourth,
+            fourth: 0,
         }
     }
 }
@@ -130,6 +152,69 @@ pub(crate) fn read_words(names: &Names, roles: &[Role], text: &[u8]) -> Result<A
             let others = read_words(names, roles, rest)?;
             let bookie = names.find(word).ok_or(LineFault::UnknownName)?;
             Ok(others.with_bookie(bookie))
+        }
+    }
+}
+
+/// Whether words of these roles can name what the arguments do: the bookie has a name that can be a word, and the
+/// numbers have at most 13 digits.
+pub(crate) fn can_name(names: &Names, roles: &[Role], a: &Arguments) -> bool
+    ensures { result ≡ printed.can_name names.now (map script.kind_of roles.now) a.now }
+{
+    let [role, roles @ ..] = roles else {
+        return true;
+    };
+    match role.kind() {
+        Kind::Name => has_word(names, a.bookie) && can_name(names, roles, a),
+        Kind::Number => a.first < NUMBER_END && can_name(names, roles, &a.without_number()),
+    }
+}
+
+/// Whether the bookie has a name, and that can be a word.
+fn has_word(names: &Names, bookie: BookieIx) -> bool
+    ensures { result ≡ option_map_or printed.is_word (slice_get names.now bookie) false }
+{
+    match names.name(bookie) {
+        Some(name) => is_word(name.as_bytes()),
+        None => false,
+    }
+}
+
+/// Whether a text can be a word: it isn't empty, and has no space, tab or line end.
+fn is_word(text: &[u8]) -> bool
+    ensures { result ≡ printed.is_word text.now }
+{
+    !text.is_empty() && are_letters(text)
+}
+
+/// Whether no byte is a space's or below it.
+fn are_letters(text: &[u8]) -> bool
+    ensures { result ≡ list_all printed.is_letter text.now }
+{
+    text.iter().all(|byte| *byte > b' ')
+}
+
+/// Adds the words of these roles that name what the arguments do, each after a space.
+pub(crate) fn push_words(
+    text: &mut String,
+    names: &Names,
+    roles: &[Role],
+    a: &Arguments,
+) -> Result<(), AllocError>
+    ensures { OnOk result (string_bytes text.new ≡ string_bytes text.old
+        ++ behind_spaces (printed.words_for names.now (map script.kind_of roles.now) a.now)) }
+{
+    let [role, roles @ ..] = roles else {
+        return Ok(());
+    };
+    match role.kind() {
+        Kind::Name => {
+            push_name(text, names, a.bookie)?;
+            push_words(text, names, roles, a)
+        }
+        Kind::Number => {
+            write!(text, " {}", a.first)?;
+            push_words(text, names, roles, &a.without_number())
         }
     }
 }

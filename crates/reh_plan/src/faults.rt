@@ -1,4 +1,5 @@
 // Why there is no plan, and why something of a plan is not done.
+use reh_commands::Verb;
 use reh_types::{Event, Refusal};
 use std::alloc::AllocError;
 use std::error::Error;
@@ -47,30 +48,25 @@ impl fmt::Display for Reason {
     fn fmt<W: fmt::Write>(&self, f: &mut fmt::Formatter<W>) -> fmt::Result {
         match self {
             Reason::NoWorker { fragment } => write!(f, "fragment {fragment}: no worker"),
-            Reason::Refused { event, refusal } => match event {
-                Event::Copy {
-                    fragment,
-                    index,
-                    ..
-                } => write!(
-                    f,
-                    "fragment {fragment} index {index}: copy refused {refusal}"
-                ),
-                Event::Swap {
-                    fragment,
-                    index,
-                    ..
-                } => write!(
-                    f,
-                    "fragment {fragment} index {index}: swap refused {refusal}"
-                ),
-                Event::Acquire { .. } => write!(f, "acquire refused {refusal}"),
-                Event::Grace { .. } => write!(f, "grace refused {refusal}"),
-                Event::Fence { .. } => write!(f, "fence refused {refusal}"),
-                Event::Seal { .. } => write!(f, "seal refused {refusal}"),
-                Event::Finish { .. } => write!(f, "finish refused {refusal}"),
-                _ => write!(f, "refused {refusal}"),
-            },
+            Reason::Refused { event, refusal } => {
+                let verb = Verb::of_event(event).name();
+                match event {
+                    Event::Copy {
+                        fragment,
+                        index,
+                        ..
+                    }
+                    | Event::Swap {
+                        fragment,
+                        index,
+                        ..
+                    } => write!(
+                        f,
+                        "fragment {fragment} index {index}: {verb} refused {refusal}"
+                    ),
+                    _ => write!(f, "{verb} refused {refusal}"),
+                }
+            }
             Reason::NoRoom => write!(f, "no room in the script"),
             Reason::NoTask => write!(f, "no task"),
         }

@@ -3,7 +3,6 @@
 
 mod faults;
 mod jobs;
-mod lines;
 mod named;
 mod planning;
 mod plans;

@@ -1,5 +1,5 @@
 // A plan as it grows: a script beside the session on which its commands are made.
-ghost use Rattle.std.specs.Prelude.{◌≡◌, ◌==◌, ◌+◌, ◌≤◌, ◌∷◌, ◌++◌, [], true, false, length, IfOk, OnOk, OnErr, MatchResult, None, Some, Ok};
+ghost use Rattle.std.specs.Prelude.{◌≡◌, ◌==◌, ◌+◌, ◌≤◌, ◌∷◌, ◌++◌, [], true, false, not, length, IfOk, OnOk, OnErr, MatchResult, None, Some, Ok};
 ghost use Rattle.std.specs.Prelude.{IsTrue};
 ghost use Rattle.reh_types.specs.declared.limits.TheConstants.{MAX_SCRIPT_BYTES};
 ghost use Rattle.reh_model.specs.Book.{new_book};
@@ -14,9 +14,8 @@ ghost use Rattle.reh_types.specs.Sets.{Set, numbers};
 ghost use Rattle.reh_plan.specs.Plans.{Asks, IsMade, Makes, Works, Loses, is_nobodys, has_lf, loss_of, IsLeaving};
 
 use crate::faults::{PlanFault, Reason, Stop};
-use crate::lines::{event_line, is_line};
 use reh_cluster::{Names, State};
-use reh_commands::{Command, parse_line};
+use reh_commands::{Command, command_text, parse_line};
 use reh_session::Session;
 use reh_types::{BookieIx, Event, LedgerId, MAX_LEDGERS, MAX_SCRIPT_BYTES, Move, Refusal};
 use std::alloc::{AllocError, Global};
@@ -29,7 +28,7 @@ pub(crate) enum Outcome {
     Made,
     /// It was refused.
     Refused(Refusal),
-    /// No line asks for it: the script has no room for a further one.
+    /// It has no line, or the script has no room for its line.
     Unwritten,
 }
 
@@ -143,21 +142,20 @@ impl Plan {
         }
     }
 
-    /// Makes an event and writes its command. Where the event is refused, or there is no room for the line, nothing
-    /// changes.
-    ///
-    /// The command is written as text and read back as a script is: it is kept only where it asks for this very event.
+    /// Makes an event and writes its command. Where the event is refused, or has no line, or there is no room for its line,
+    /// nothing changes.
     fn make(&mut self, event: &Event) -> Result<Outcome, PlanFault>
         ensures { MatchResult result
             (λ outcome. Makes self.old event.now outcome self.new) (λ _. self.new ≡ self.old) }
     {
         let alloc = self.session.allocator();
-        let written = event_line(alloc, self.session.state().names(), event)?;
+        let command = Command::Make(Move::Do(*event));
+        let Some(written) = command_text(alloc, self.session.state().names(), &command)? else {
+            return Ok(Outcome::Unwritten);
+        };
         let line = written.as_bytes();
         let length = self.text.len();
-        if !has_room(length, line, COMMENT_BYTES)
-            || !asks_for(self.session.state().names(), line, event)
-        {
+        if !has_room(length, line, COMMENT_BYTES) {
             return Ok(Outcome::Unwritten);
         }
         push_line(&mut self.text, line)?;
@@ -214,25 +212,17 @@ fn push_line(text: &mut Vec<u8>, line: &[u8]) -> Result<(), AllocError>
     Ok(())
 }
 
-/// Whether a line asks for this event, with the bookies of these names.
-fn asks_for(names: &Names, line: &[u8], event: &Event) -> bool
-    ensures line { IsTrue result → has_lf line.now ≡ false }
-    ensures asked { IsTrue result → asked names.now line.now ≡ Some (Ok (Make (Do event.now))) }
-{
-    if !is_line(line) {
-        return false;
-    }
-    let command = parse_line(names, line);
-    match &command {
-        Some(Ok(Command::Make(Move::Do(asked)))) => *asked == *event,
-        _ => false,
-    }
-}
-
 /// Whether a line asks for nothing and has no answer.
 fn is_comment(names: &Names, line: &[u8]) -> bool
     ensures line { IsTrue result → has_lf line.now ≡ false }
     ensures asked { IsTrue result → asked names.now line.now ≡ None }
 {
     is_line(line) && parse_line(names, line).is_none()
+}
+
+/// Whether a text is one line, without an LF.
+fn is_line(text: &[u8]) -> bool
+    ensures { result ≡ not (has_lf text.now) }
+{
+    !text.contains(&b'\n')
 }

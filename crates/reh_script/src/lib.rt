@@ -11,7 +11,9 @@ pub use book_plays::play_book;
 pub use faults::PipeFault;
 pub use openings::{Opened, open_picture, open_text};
 pub use pipes::pipe;
-pub use reh_commands::{Command, LineFault, Role, Verb, parse_line, reply_text, report_text};
+pub use reh_commands::{
+    Command, LineFault, Role, Verb, command_text, parse_line, reply_text, report_text,
+};
 pub use reh_lines::{
     FromRead, Gathered, PiecesIn, PiecesOut, StreamFault, TextIn, TextOut, ToWrite, write_all,
 };
