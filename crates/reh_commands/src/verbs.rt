@@ -68,19 +68,19 @@ pub enum Verb {
 
 /// What the table says of a verb: its name, the roles of the words after it, and what its command does.
 #[derive(Clone, Copy)]
-struct Row {
+struct VerbRow {
     name: &'static str,
     roles: &'static [Role],
     summary: &'static str,
 }
 
-impl Row {
+impl VerbRow {
     /// The row of these.
     #[inline(always)]
-    fn new(name: &'static str, roles: &'static [Role], summary: &'static str) -> Row
+    fn new(name: &'static str, roles: &'static [Role], summary: &'static str) -> VerbRow
         ensures { result ≡ record { name = name.entry; roles = roles.entry; summary = summary.entry } }
     {
-        Row {
+        VerbRow {
             name,
             roles,
             summary,
@@ -189,39 +189,47 @@ impl Verb {
 
     /// Its row of the table.
     #[inline(always)]
-    fn row(self) -> Row
+    fn row(self) -> VerbRow
         ensures name { result.name.now ≡ (script.form_of self).name }
         ensures roles { result.roles.now ≡ (script.form_of self).roles }
     {
         match self {
-            Verb::Lose => Row::new("lose", BOOKIE, "the bookie's registration is lost"),
-            Verb::Join => Row::new("join", BOOKIE, "the bookie registers again"),
-            Verb::Audit => Row::new(
+            Verb::Lose => VerbRow::new("lose", BOOKIE, "the bookie's registration is lost"),
+            Verb::Join => VerbRow::new("join", BOOKIE, "the bookie registers again"),
+            Verb::Audit => VerbRow::new(
                 "audit",
                 &[],
                 "missing members are published after the delay",
             ),
-            Verb::Acquire => Row::new("acquire", TASK, "the worker locks the ledger's task"),
-            Verb::Release => Row::new("release", TASK, "the worker gives the lock back"),
-            Verb::Finish => Row::new("finish", TASK, "the ledger's task ends, with its lock"),
-            Verb::Expire => Row::new("expire", WORKER, "the worker's session and its locks end"),
-            Verb::Grace => Row::new("grace", TASK, "the worker grants the writer a grace"),
-            Verb::Tick => Row::new("tick", &[Role::Ticks], "the clock goes on by N ticks"),
-            Verb::Roll => Row::new("roll", ROLL, "the writer puts the bookie at the index"),
-            Verb::Fence => Row::new("fence", TASK, "the worker fences the writer off"),
-            Verb::Seal => Row::new("seal", TASK, "the worker recovers and closes the ledger"),
-            Verb::Copy => Row::new("copy", MEMBER, "the worker's bookie takes the copies"),
-            Verb::Swap => Row::new("swap", MEMBER, "the worker's bookie takes the place"),
-            Verb::Disable => Row::new("disable", &[], "AutoRecovery is disabled"),
-            Verb::Enable => Row::new("enable", &[], "AutoRecovery is enabled again"),
-            Verb::Undo => Row::new("undo", &[], "the newest event is undone"),
-            Verb::Redo => Row::new("redo", &[], "the event undone last is made again"),
-            Verb::Clock => Row::new("clock", &[], "the clock is read"),
-            Verb::Checkout => Row::new("checkout", PLACE, "what a scan finds goes into the hand"),
-            Verb::Spend => Row::new("spend", &[], "the oldest finding of the hand is posted"),
-            Verb::Discard => Row::new("discard", &[], "the oldest finding is given back"),
-            Verb::Report => Row::new("report", &[], "the cluster is shown as it is"),
-            Verb::Survey => Row::new("survey", &[], "what can't be read any more is counted"),
+            Verb::Acquire => VerbRow::new("acquire", TASK, "the worker locks the ledger's task"),
+            Verb::Release => VerbRow::new("release", TASK, "the worker gives the lock back"),
+            Verb::Finish => VerbRow::new("finish", TASK, "the ledger's task ends, with its lock"),
+            Verb::Expire => VerbRow::new(
+                "expire",
+                WORKER,
+                "the worker's session and its locks end",
+            ),
+            Verb::Grace => VerbRow::new("grace", TASK, "the worker grants the writer a grace"),
+            Verb::Tick => VerbRow::new("tick", &[Role::Ticks], "the clock goes on by N ticks"),
+            Verb::Roll => VerbRow::new("roll", ROLL, "the writer puts the bookie at the index"),
+            Verb::Fence => VerbRow::new("fence", TASK, "the worker fences the writer off"),
+            Verb::Seal => VerbRow::new("seal", TASK, "the worker recovers and closes the ledger"),
+            Verb::Copy => VerbRow::new("copy", MEMBER, "the worker's bookie takes the copies"),
+            Verb::Swap => VerbRow::new("swap", MEMBER, "the worker's bookie takes the place"),
+            Verb::Disable => VerbRow::new("disable", &[], "AutoRecovery is disabled"),
+            Verb::Enable => VerbRow::new("enable", &[], "AutoRecovery is enabled again"),
+            Verb::Undo => VerbRow::new("undo", &[], "the newest event is undone"),
+            Verb::Redo => VerbRow::new("redo", &[], "the event undone last is made again"),
+            Verb::Clock => VerbRow::new("clock", &[], "the clock is read"),
+            Verb::Checkout => VerbRow::new(
+                "checkout",
+                PLACE,
+                "what a scan finds goes into the hand",
+            ),
+            Verb::Spend => VerbRow::new("spend", &[], "the oldest finding of the hand is posted"),
+            Verb::Discard => VerbRow::new("discard", &[], "the oldest finding is given back"),
+            Verb::Report => VerbRow::new("report", &[], "the cluster is shown as it is"),
+            Verb::Survey => VerbRow::new("survey", &[], "what can't be read any more is counted"),
         }
     }
 

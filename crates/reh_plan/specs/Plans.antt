@@ -21,8 +21,8 @@ use Rattle.reh_lines.specs.Lines.{lines_of, ended}
 use Rattle.reh_commands.specs.declared.commands.Command.{Command}
 use Rattle.reh_commands.specs.declared.commands.Command.TheVariants.{Make}
 use Rattle.reh_commands.specs.declared.commands.LineFault.{LineFault}
-use Rattle.reh_plan.specs.declared.plans.Outcome.{Outcome}
-use Rattle.reh_plan.specs.declared.plans.Outcome.TheVariants.{Made, Refused, Unwritten}
+use Rattle.reh_plan.specs.declared.plans.Attempt.{Attempt}
+use Rattle.reh_plan.specs.declared.plans.Attempt.TheVariants.{Made, Refused, Unwritten}
 
 -- Scripts of events
 
@@ -75,7 +75,7 @@ pub record IsMade (d : Draft) (event : Event) (n : Draft) : Type 0 where
       × (n.lines ≡ d.lines ++ line ∷ [])
 
 -- what becomes of a plan that is to make an event: it does so, or stays as it is
-abbrev pub Makes : Draft → Event → Outcome → Draft → Type 0
+abbrev pub Makes : Draft → Event → Attempt → Draft → Type 0
 Makes d event Made n = IsMade d event n
 Makes d event (Refused refusal) n = n ≡ d
 Makes d event Unwritten n = n ≡ d

@@ -75,28 +75,28 @@ impl fmt::Display for Reason {
 
 /// Why a step of a plan is not made: something is left then, or there is no plan.
 #[derive(Clone, Copy, PartialEq, Eq, Debug)]
-pub(crate) enum Stop {
+pub(crate) enum StepFault {
     /// Something is left for this reason.
     Left(Reason),
     /// There is no plan.
     Fault(PlanFault),
 }
 
-impl From<PlanFault> for Stop {
-    fn from(fault: PlanFault) -> Stop {
-        Stop::Fault(fault)
+impl From<PlanFault> for StepFault {
+    fn from(fault: PlanFault) -> StepFault {
+        StepFault::Fault(fault)
     }
 }
 
 /// The first reason why something is left, after one step more.
 pub(crate) fn first_reason(
     left: Option<Reason>,
-    step: Result<(), Stop>,
+    step: Result<(), StepFault>,
 ) -> Result<Option<Reason>, PlanFault> {
     match step {
         Ok(()) => Ok(left),
-        Err(Stop::Fault(fault)) => Err(fault),
-        Err(Stop::Left(reason)) => match left {
+        Err(StepFault::Fault(fault)) => Err(fault),
+        Err(StepFault::Left(reason)) => match left {
             Some(first) => Ok(Some(first)),
             None => Ok(Some(reason)),
         },

@@ -2,10 +2,10 @@
 #![tactic(auto, using(crate::proofs::PlanLaws::works_on, crate::proofs::PlanLaws::works_none, crate::proofs::PlanLaws::works_same, crate::proofs::PlanLaws::works_made, crate::proofs::PlanLaws::works_alone))]
 
 mod faults;
-mod jobs;
 mod named;
 mod planning;
 mod plans;
+mod repairs;
 mod workers;
 
 pub use faults::PlanFault;

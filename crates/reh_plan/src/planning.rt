@@ -11,8 +11,8 @@ ghost use Rattle.reh_plan.specs.Plans.{Asks, Works, Loses, GoesOnBy, IsWithout, 
 ghost use Rattle.reh_plan.specs.Plans as plans;
 
 use crate::faults::{PlanFault, Reason, first_reason};
-use crate::jobs::Job;
 use crate::plans::Plan;
+use crate::repairs::Repair;
 use crate::workers::Workers;
 use reh_audit::under_of;
 use reh_cluster::{Ledger, State};
@@ -177,9 +177,9 @@ fn work_at(
 }
 
 /// The job of the ledger at a place of the picture.
-fn job_at(state: &State, place: usize) -> Option<Job> {
+fn job_at(state: &State, place: usize) -> Option<Repair> {
     let ledger = state.ledgers().get(place)?;
-    Some(Job {
+    Some(Repair {
         place,
         ledger: ledger.id(),
     })

@@ -13,7 +13,7 @@ ghost use Rattle.reh_plan.specs.Replies.{ok_answers};
 ghost use Rattle.reh_types.specs.Sets.{Set, numbers};
 ghost use Rattle.reh_plan.specs.Plans.{Asks, IsMade, Makes, Works, Loses, is_nobodys, has_lf, loss_of, IsLeaving};
 
-use crate::faults::{PlanFault, Reason, Stop};
+use crate::faults::{PlanFault, Reason, StepFault};
 use reh_cluster::{Names, State};
 use reh_commands::{Command, command_text, parse_line};
 use reh_session::Session;
@@ -23,7 +23,7 @@ use std::marker::Model;
 
 /// What became of an event that a plan was to make.
 #[derive(Clone, Copy, PartialEq, Eq, Debug)]
-pub(crate) enum Outcome {
+pub(crate) enum Attempt {
     /// It was made, and its command is the plan's last line.
     Made,
     /// It was refused.
@@ -100,23 +100,23 @@ impl Plan {
             return Ok(());
         }
         match self.make(&Event::Lose { bookie })? {
-            Outcome::Made => Ok(()),
+            Attempt::Made => Ok(()),
             _ => Err(PlanFault::NoRoom),
         }
     }
 
     /// Makes an event and writes its command, or says why nothing changes.
-    pub(crate) fn work(&mut self, event: &Event) -> Result<(), Stop>
+    pub(crate) fn work(&mut self, event: &Event) -> Result<(), StepFault>
         ensures ok { OnOk result (IsMade self.old event.now self.new) }
         ensures err { OnErr result (self.new ≡ self.old) }
     {
         match self.make(event)? {
-            Outcome::Made => Ok(()),
-            Outcome::Refused(refusal) => Err(Stop::Left(Reason::Refused {
+            Attempt::Made => Ok(()),
+            Attempt::Refused(refusal) => Err(StepFault::Left(Reason::Refused {
                 event: *event,
                 refusal,
             })),
-            Outcome::Unwritten => Err(Stop::Left(Reason::NoRoom)),
+            Attempt::Unwritten => Err(StepFault::Left(Reason::NoRoom)),
         }
     }
 
@@ -136,36 +136,36 @@ impl Plan {
         ensures { (allowed : Set numbers) → Works allowed self.old self.new }
     {
         match self.work(event) {
-            Err(Stop::Fault(fault)) => Err(fault),
-            Err(Stop::Left(_)) => Ok(()),
+            Err(StepFault::Fault(fault)) => Err(fault),
+            Err(StepFault::Left(_)) => Ok(()),
             Ok(()) => Ok(()),
         }
     }
 
     /// Makes an event and writes its command. Where the event is refused, or has no line, or there is no room for its line,
     /// nothing changes.
-    fn make(&mut self, event: &Event) -> Result<Outcome, PlanFault>
+    fn make(&mut self, event: &Event) -> Result<Attempt, PlanFault>
         ensures { MatchResult result
             (λ outcome. Makes self.old event.now outcome self.new) (λ _. self.new ≡ self.old) }
     {
         let alloc = self.session.allocator();
         let command = Command::Make(Move::Do(*event));
         let Some(written) = command_text(alloc, self.session.state().names(), &command)? else {
-            return Ok(Outcome::Unwritten);
+            return Ok(Attempt::Unwritten);
         };
         let line = written.as_bytes();
         let length = self.text.len();
         if !has_room(length, line, COMMENT_BYTES) {
-            return Ok(Outcome::Unwritten);
+            return Ok(Attempt::Unwritten);
         }
         push_line(&mut self.text, line)?;
         match self.session.act(event) {
-            Ok(()) => Ok(Outcome::Made),
+            Ok(()) => Ok(Attempt::Made),
             Err(refusal) => {
                 self.text.truncate(length);
                 match refusal {
                     Refusal::NoMemory => Err(PlanFault::NoMemory),
-                    refusal => Ok(Outcome::Refused(refusal)),
+                    refusal => Ok(Attempt::Refused(refusal)),
                 }
             }
         }

@@ -2,8 +2,8 @@
 use Rattle.reh_types.specs.Sets.{Set, numbers}
 use Rattle.reh_plan.specs.Plans.{Draft, Works}
 use Rattle.reh_plan.proofs.PlanLaws.{works_done, works_same}
-use Rattle.reh_plan.proofs.jobs.Job.close.Goals as goal
-use Rattle.reh_plan.proofs.jobs.Job.close.Goals.{then-eq+in_ok-work, else-eq}
+use Rattle.reh_plan.proofs.repairs.Repair.close.Goals as goal
+use Rattle.reh_plan.proofs.repairs.Repair.close.Goals.{then-eq+in_ok-work, else-eq}
 
 pub returns : goal.returns
 returns c =

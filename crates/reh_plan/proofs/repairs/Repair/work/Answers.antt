@@ -1,6 +1,6 @@
 -- The task's end is work too.
 use Rattle.reh_plan.proofs.PlanLaws.{works_on}
-use Rattle.reh_plan.proofs.jobs.Job.work.Goals as goal
+use Rattle.reh_plan.proofs.repairs.Repair.work.Goals as goal
 
 pub returns-clause-works : goal.returns-clause-works
 returns-clause-works c =

@@ -2,7 +2,7 @@
 use Rattle.reh_types.specs.Sets.{Set, numbers}
 use Rattle.reh_plan.specs.Plans.{Draft, Works}
 use Rattle.reh_plan.proofs.PlanLaws.{works_done}
-use Rattle.reh_plan.proofs.jobs.Job.fill.Goals as goal
+use Rattle.reh_plan.proofs.repairs.Repair.fill.Goals as goal
 
 pub returns-clause-works : goal.returns-clause-works
 returns-clause-works c =

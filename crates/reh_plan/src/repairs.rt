@@ -6,7 +6,7 @@ ghost use Rattle.reh_types.specs.Sets.{Set, numbers};
 ghost use Rattle.reh_plan.specs.Plans.{Works};
 ghost use Rattle.reh_plan.specs.Workers.{can_work};
 
-use crate::faults::{PlanFault, Reason, Stop, first_reason};
+use crate::faults::{PlanFault, Reason, StepFault, first_reason};
 use crate::plans::Plan;
 use crate::workers::Workers;
 use reh_audit::is_under;
@@ -14,9 +14,9 @@ use reh_cluster::{Ledger, State};
 use reh_types::{BookieIx, Event, LedgerId, LedgerState, Refusal};
 use std::alloc::{AllocError, Global};
 
-/// A ledger by its place in the picture, and its id.
+/// A ledger to be repaired, by its place in the picture, and its id.
 #[derive(Clone, Copy)]
-pub(crate) struct Job {
+pub(crate) struct Repair {
     pub place: usize,
     pub ledger: LedgerId,
 }
@@ -29,7 +29,7 @@ struct Gap {
     entries: u64,
 }
 
-impl Job {
+impl Repair {
     // What there is to do
 
     /// The ledger as it stands.
@@ -88,13 +88,18 @@ impl Job {
     // What is done
 
     /// Locks the task by a worker that can take places of the fragment.
-    fn lock(&self, plan: &mut Plan, workers: &Workers, fragment: usize) -> Result<BookieIx, Stop>
+    fn lock(
+        &self,
+        plan: &mut Plan,
+        workers: &Workers,
+        fragment: usize,
+    ) -> Result<BookieIx, StepFault>
         ensures works { Works workers.now plan.old plan.new }
         ensures worker { IfOk result (λ worker. set.contains workers.now worker ≡ true) }
     {
         let Some(worker) = self.worker(plan.state(), workers, fragment) else {
             let fragment = fragment as u64;
-            return Err(Stop::Left(Reason::NoWorker { fragment }));
+            return Err(StepFault::Left(Reason::NoWorker { fragment }));
         };
         let ledger = self.ledger;
         match self.owner(plan.state()) {
@@ -117,7 +122,7 @@ impl Job {
     }
 
     /// Grants the writer of an open ledger its grace, if it needs another bookie.
-    pub(crate) fn grant(&self, plan: &mut Plan, workers: &Workers) -> Result<(), Stop>
+    pub(crate) fn grant(&self, plan: &mut Plan, workers: &Workers) -> Result<(), StepFault>
         ensures { Works workers.now plan.old plan.new }
     {
         // The check of this function has to meet the types of what stops a step by their names.
@@ -134,7 +139,7 @@ impl Job {
     }
 
     /// Recovers a ledger that isn't closed, if some member of its last ensemble isn't registered.
-    fn close(&self, plan: &mut Plan, workers: &Workers) -> Result<(), Stop>
+    fn close(&self, plan: &mut Plan, workers: &Workers) -> Result<(), StepFault>
         ensures { Works workers.now plan.old plan.new }
     {
         // The check of this function has to meet the types of what stops a step by their names.
@@ -151,7 +156,7 @@ impl Job {
     }
 
     /// Has a worker copy the entries of a missing member's place, and take it.
-    fn fill(&self, plan: &mut Plan, workers: &mut Workers, gap: &Gap) -> Result<(), Stop>
+    fn fill(&self, plan: &mut Plan, workers: &mut Workers, gap: &Gap) -> Result<(), StepFault>
         ensures works { Works workers.old plan.old plan.new }
         ensures workers { workers.new ≡ workers.old }
     {
@@ -203,7 +208,7 @@ impl Job {
     }
 
     /// Ends the task, if that can be done, or else gives the lock back.
-    fn end(&self, plan: &mut Plan) -> Result<(), Stop>
+    fn end(&self, plan: &mut Plan) -> Result<(), StepFault>
         ensures { (allowed : Set numbers) → Works allowed plan.old plan.new }
     {
         let Some(worker) = self.owner(plan.state()) else {
@@ -211,9 +216,9 @@ impl Job {
         };
         let ledger = self.ledger;
         match plan.work(&Event::Finish { worker, ledger }) {
-            Err(Stop::Left(reason)) => {
+            Err(StepFault::Left(reason)) => {
                 plan.work(&Event::Release { worker, ledger })?;
-                Err(Stop::Left(reason))
+                Err(StepFault::Left(reason))
             }
             ended => ended,
         }

@@ -1,7 +1,7 @@
 -- The plan goes on by work alone.
 use Rattle.std.proofs.Common.{◌≡◌}
 use Rattle.reh_plan.specs.Plans.{Works}
-use Rattle.reh_plan.proofs.jobs.Job.work.Given as goal
+use Rattle.reh_plan.proofs.repairs.Repair.work.Given as goal
 
 abbrev pub invariant-loop-gap : goal.invariant-loop-gap
 invariant-loop-gap l = record {

@@ -3,8 +3,8 @@ use Rattle.std.proofs.Common.{refl}
 use Rattle.reh_types.specs.Sets.{Set, numbers}
 use Rattle.reh_plan.specs.Plans.{Draft, Works}
 use Rattle.reh_plan.proofs.PlanLaws.{first_true, works_done, works_none, works_same}
-use Rattle.reh_plan.proofs.jobs.Job.lock.Goals as goal
-use Rattle.reh_plan.proofs.jobs.Job.lock.Goals.{in-Some-2+in_ok-work-in-Some-2, in-None}
+use Rattle.reh_plan.proofs.repairs.Repair.lock.Goals as goal
+use Rattle.reh_plan.proofs.repairs.Repair.lock.Goals.{in-Some-2+in_ok-work-in-Some-2, in-None}
 
 -- what becomes of the plan where the worker's own lock is asked for
 pub returns-in_err-work-clause-works : goal.returns-in_err-work-clause-works
