@@ -109,8 +109,8 @@ fn grant_all(plan: &mut Plan, workers: &Workers) -> Result<(), PlanFault>
     // The check of this loop has to meet the types of what stops a step by their names.
     let _stop: Option<(Reason, Refusal, Event)> = None;
     for place in 0..plan.state().ledgers().len() {
-        if let Some(job) = job_at(plan.state(), place) {
-            let granted = job.grant(plan, workers);
+        if let Some(repair) = repair_at(plan.state(), place) {
+            let granted = repair.grant(plan, workers);
             first_reason(None, granted)?;
         }
     }
@@ -167,17 +167,17 @@ fn work_at(
     ensures works { Works workers.old plan.old plan.new }
     ensures workers { workers.new ≡ workers.old }
 {
-    let Some(job) = job_at(plan.state(), place) else {
+    let Some(repair) = repair_at(plan.state(), place) else {
         return Ok(None);
     };
-    if !job.has_task(plan.state()) {
+    if !repair.has_task(plan.state()) {
         return Ok(None);
     }
-    job.work(alloc, plan, workers)
+    repair.work(alloc, plan, workers)
 }
 
-/// The job of the ledger at a place of the picture.
-fn job_at(state: &State, place: usize) -> Option<Repair> {
+/// The repair of the ledger at a place of the picture.
+fn repair_at(state: &State, place: usize) -> Option<Repair> {
     let ledger = state.ledgers().get(place)?;
     Some(Repair {
         place,
