@@ -1,0 +1,3 @@
+pub mod Lists
+pub mod LastLemmas
+pub mod LinesLemmas
