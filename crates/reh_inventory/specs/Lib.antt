@@ -6,3 +6,4 @@ pub mod Heads
 pub mod Contents
 pub mod Ledgers
 pub mod Lines
+pub mod Inventories

@@ -1,5 +1,5 @@
 -- One range more is read, and the next one has to begin after its end.
-use Rattle.std.proofs.Common.{ℕ, ◌+◌, sym, ap, ◌∙◌, map, take}
+use Rattle.std.proofs.Common.{◌+◌, sym, ap, ◌∙◌, map, take}
 use Rattle.serde_json.specs.View.{view}
 use Rattle.reh_census.specs.declared.ledgers.Range.{Range}
 use Rattle.reh_inventory.specs.Contents.{next_after}

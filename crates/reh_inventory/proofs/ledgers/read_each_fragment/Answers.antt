@@ -1,5 +1,5 @@
 -- One fragment more is read, and the next one has to begin after it does.
-use Rattle.std.proofs.Common.{ℕ, ◌+◌, sym, ap, ◌∙◌, map, take, arith}
+use Rattle.std.proofs.Common.{◌+◌, sym, ap, ◌∙◌, map, take, arith}
 use Rattle.serde_json.specs.View.{view}
 use Rattle.reh_inventory.specs.declared.ledgers.Fragment.{Fragment}
 use Rattle.reh_inventory.specs.declared.members.TheConstants.{MAX_NUMBER}

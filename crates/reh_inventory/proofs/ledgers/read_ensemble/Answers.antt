@@ -1,5 +1,4 @@
 -- One member more is read, and its name joins the ensemble.
-use Rattle.std.proofs.Common.{sym}
 use Rattle.reh_inventory.proofs.Lists.{HasMade-next}
 use Rattle.reh_inventory.proofs.ledgers.read_ensemble.Goals as goal
 
