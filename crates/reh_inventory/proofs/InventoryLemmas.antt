@@ -5,7 +5,7 @@ use Rattle.std.proofs.lemmas.List.{map-append, take-append-drop}
 use Rattle.std.proofs.lemmas.List.Sums.{fold-append}
 use Rattle.reh_inventory.specs.declared.inventories.InventoryFault.{InventoryFault}
 use Rattle.reh_inventory.specs.Inventories.{Inventory, and_bytes, added_bytes, inventory_of, no_lines}
-use Rattle.reh_inventory.proofs.Lists.{passed_to, rest_from}
+use Rattle.reh_inventory_fields.proofs.Lists.{passed_to, rest_from}
 
 -- after a fault no line is looked at
 fold-err : (found : InventoryFault) (lines : List (List ℕ)) → fold and_bytes (Err found) lines ≡ Err found

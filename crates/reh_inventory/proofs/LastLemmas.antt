@@ -3,10 +3,10 @@ use Rattle.std.proofs.Common.{◌≡◌, ◌+◌, ◌<◌, List, [], ◌∷◌, 
 use Rattle.std.specs.List.{last_or}
 use Rattle.std.specs.Option.{option_map_or}
 use Rattle.serde_json.specs.Data.{Data}
-use Rattle.reh_inventory.specs.declared.fields.Field.{Field}
-use Rattle.reh_inventory.specs.declared.fields.Field.TheVariants as field
-use Rattle.reh_inventory.specs.declared.members.TheConstants.{MAX_NUMBER}
-use Rattle.reh_inventory.specs.Members.{number_of}
+use Rattle.reh_inventory_fields.specs.declared.fields.Field.{Field}
+use Rattle.reh_inventory_fields.specs.declared.fields.Field.TheVariants as field
+use Rattle.reh_inventory_fields.specs.declared.members.TheConstants.{MAX_NUMBER}
+use Rattle.reh_inventory_fields.specs.Members.{number_of}
 use Rattle.reh_inventory.specs.Contents.{two_numbers, ends_of, next_after}
 use Rattle.reh_inventory.specs.Ledgers.{bounds_after}
 

@@ -1,4 +1,3 @@
-pub mod Lists
 pub mod LastLemmas
 pub mod LinesLemmas
 pub mod InventoryLemmas

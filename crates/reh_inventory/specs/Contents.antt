@@ -14,19 +14,19 @@ use Rattle.reh_model.specs.Checks.{first_reason, reason_unless}
 use Rattle.reh_fields.specs.Members.{elements, is_object}
 use Rattle.reh_census.specs.declared.ledgers.Range.{Range}
 use Rattle.reh_census_file.specs.declared.lists.TheConstants.{MAX_NAMES}
-use Rattle.reh_inventory.specs.declared.fields.Field.{Field}
-use Rattle.reh_inventory.specs.declared.fields.Field.TheVariants as field
-use Rattle.reh_inventory.specs.declared.faults.Fault.{Fault}
-use Rattle.reh_inventory.specs.declared.faults.Fault.TheVariants.{WrongKind, Limit, Twice, EntriesOrLacks}
+use Rattle.reh_inventory_fields.specs.declared.fields.Field.{Field}
+use Rattle.reh_inventory_fields.specs.declared.fields.Field.TheVariants as field
+use Rattle.reh_inventory_fields.specs.declared.faults.Fault.{Fault}
+use Rattle.reh_inventory_fields.specs.declared.faults.Fault.TheVariants.{WrongKind, Limit, Twice, EntriesOrLacks}
 use Rattle.reh_inventory.specs.declared.contents.Content.{Content}
 use Rattle.reh_inventory.specs.declared.contents.Entries.{Entries}
 use Rattle.reh_inventory.specs.declared.contents.Entries.TheVariants.{Holds, Lacks}
-use Rattle.reh_inventory.specs.declared.members.TheConstants.{MAX_NUMBER}
-use Rattle.reh_inventory.specs.declared.places.Place.{Place}
-use Rattle.reh_inventory.specs.declared.places.Place.TheVariants as place
-use Rattle.reh_inventory.specs.Faults.{fault_at, fault_along}
-use Rattle.reh_inventory.specs.Members.{has, flag_if_there, list_in, mark_of, text_of, list_of, name_fault}
-use Rattle.reh_inventory.specs.Members.{list_fault as list_within_fault}
+use Rattle.reh_inventory_fields.specs.declared.members.TheConstants.{MAX_NUMBER}
+use Rattle.reh_inventory_fields.specs.declared.places.Place.{Place}
+use Rattle.reh_inventory_fields.specs.declared.places.Place.TheVariants as place
+use Rattle.reh_inventory_fields.specs.Faults.{fault_at, fault_along}
+use Rattle.reh_inventory_fields.specs.Members.{has, flag_if_there, list_in, mark_of, text_of, list_of, name_fault}
+use Rattle.reh_inventory_fields.specs.Members.{list_fault as list_within_fault}
 
 -- Ranges of entries
 

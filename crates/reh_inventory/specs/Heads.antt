@@ -12,16 +12,16 @@ use Rattle.reh_types.specs.declared.limits.TheConstants.{MAX_DELAY, MAX_GRACE}
 use Rattle.reh_model.specs.Checks.{first_reason, reason_if, reason_unless}
 use Rattle.reh_fields.specs.Members.{is_object}
 use Rattle.reh_census_file.specs.declared.lists.TheConstants.{MAX_NAMES}
-use Rattle.reh_inventory.specs.declared.fields.Field.TheVariants as field
-use Rattle.reh_inventory.specs.declared.faults.Fault.{Fault}
-use Rattle.reh_inventory.specs.declared.faults.Fault.TheVariants.{WrongKind, Limit, Twice}
+use Rattle.reh_inventory_fields.specs.declared.fields.Field.TheVariants as field
+use Rattle.reh_inventory_fields.specs.declared.faults.Fault.{Fault}
+use Rattle.reh_inventory_fields.specs.declared.faults.Fault.TheVariants.{WrongKind, Limit, Twice}
 use Rattle.reh_inventory.specs.declared.heads.Bookie.{Bookie}
 use Rattle.reh_inventory.specs.declared.heads.Head.{Head}
-use Rattle.reh_inventory.specs.declared.places.Place.{Place}
-use Rattle.reh_inventory.specs.declared.places.Place.TheVariants as place
-use Rattle.reh_inventory.specs.Faults.{fault_at, fault_along}
-use Rattle.reh_inventory.specs.Members.{has, flag_in, text_in, flag_if_there, number_of, flag_of, mark_of, text_of, list_of}
-use Rattle.reh_inventory.specs.Members.{number_fault, list_fault, name_fault, name_if_there_fault, name_if_there}
+use Rattle.reh_inventory_fields.specs.declared.places.Place.{Place}
+use Rattle.reh_inventory_fields.specs.declared.places.Place.TheVariants as place
+use Rattle.reh_inventory_fields.specs.Faults.{fault_at, fault_along}
+use Rattle.reh_inventory_fields.specs.Members.{has, flag_in, text_in, flag_if_there, number_of, flag_of, mark_of, text_of, list_of}
+use Rattle.reh_inventory_fields.specs.Members.{number_fault, list_fault, name_fault, name_if_there_fault, name_if_there}
 
 -- Bookies
 

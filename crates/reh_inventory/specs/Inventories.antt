@@ -5,15 +5,15 @@ use Rattle.std.specs.Fmt.{decimal}
 use Rattle.std.specs.List.{list_any}
 use Rattle.std.specs.Option.{is_some}
 use Rattle.reh_model.specs.Checks.{first_reason, reason_if, reason_unless}
-use Rattle.reh_inventory.specs.declared.faults.Fault.{Fault}
+use Rattle.reh_inventory_fields.specs.declared.faults.Fault.{Fault}
 use Rattle.reh_inventory.specs.declared.heads.Head.{Head}
 use Rattle.reh_inventory.specs.declared.inventories.InventoryFault.{InventoryFault}
 use Rattle.reh_inventory.specs.declared.inventories.InventoryFault.TheVariants as fault
 use Rattle.reh_inventory.specs.declared.ledgers.LedgerLine.{LedgerLine}
 use Rattle.reh_inventory.specs.declared.lines.Line.{Line}
 use Rattle.reh_inventory.specs.declared.lines.Line.TheVariants as line
-use Rattle.reh_inventory.specs.declared.places.Place.{Place}
-use Rattle.reh_inventory.specs.Expected.{fault_text as line_fault_text}
+use Rattle.reh_inventory_fields.specs.declared.places.Place.{Place}
+use Rattle.reh_inventory_fields.specs.Expected.{fault_text as line_fault_text}
 use Rattle.reh_inventory.specs.Lines.{located_line_of}
 
 -- the first line, if it came, the ids of the ledgers in the order of their lines, how many of them could not be read, and

@@ -12,20 +12,20 @@ use Rattle.serde_json.specs.Data.{Data}
 use Rattle.serde_json.specs.Find.{as_str}
 use Rattle.reh_model.specs.Checks.{first_reason, reason_unless}
 use Rattle.reh_fields.specs.Members.{is_object}
-use Rattle.reh_inventory.specs.declared.fields.Field.TheVariants as field
-use Rattle.reh_inventory.specs.declared.faults.Fault.{Fault}
-use Rattle.reh_inventory.specs.declared.faults.Fault.TheVariants.{WrongKind, Limit}
+use Rattle.reh_inventory_fields.specs.declared.fields.Field.TheVariants as field
+use Rattle.reh_inventory_fields.specs.declared.faults.Fault.{Fault}
+use Rattle.reh_inventory_fields.specs.declared.faults.Fault.TheVariants.{WrongKind, Limit}
 use Rattle.reh_inventory.specs.declared.ledgers.Fragment.{Fragment}
 use Rattle.reh_inventory.specs.declared.ledgers.LedgerLine.{LedgerLine}
 use Rattle.reh_inventory.specs.declared.ledgers.LedgerState.{LedgerState}
 use Rattle.reh_inventory.specs.declared.ledgers.LedgerState.TheVariants.{Open, InRecovery, Closed}
 use Rattle.reh_inventory.specs.declared.ledgers.Sizes.{Sizes}
-use Rattle.reh_inventory.specs.declared.members.TheConstants.{MAX_ENSEMBLE, MAX_NUMBER}
-use Rattle.reh_inventory.specs.declared.places.Place.{Place}
-use Rattle.reh_inventory.specs.declared.places.Place.TheVariants as place
-use Rattle.reh_inventory.specs.Faults.{fault_at, fault_along}
-use Rattle.reh_inventory.specs.Members.{text_in, integer_in, list_in, number_of, text_of, list_of, number_fault, list_fault}
-use Rattle.reh_inventory.specs.Members.{number_if_there, number_if_there_fault, text_fault}
+use Rattle.reh_inventory_fields.specs.declared.members.TheConstants.{MAX_ENSEMBLE, MAX_NUMBER}
+use Rattle.reh_inventory_fields.specs.declared.places.Place.{Place}
+use Rattle.reh_inventory_fields.specs.declared.places.Place.TheVariants as place
+use Rattle.reh_inventory_fields.specs.Faults.{fault_at, fault_along}
+use Rattle.reh_inventory_fields.specs.Members.{text_in, integer_in, list_in, number_of, text_of, list_of, number_fault, list_fault}
+use Rattle.reh_inventory_fields.specs.Members.{number_if_there, number_if_there_fault, text_fault}
 use Rattle.reh_inventory.specs.Contents.{contents_fault, contents_in}
 
 -- Fragments

@@ -11,16 +11,16 @@ use Rattle.serde_json.specs.Data.{Data}
 use Rattle.serde_json.specs.Read.{read}
 use Rattle.reh_model.specs.Checks.{first_reason, reason_unless}
 use Rattle.reh_fields.specs.Members.{is_object}
-use Rattle.reh_inventory.specs.declared.fields.Field.TheVariants as field
-use Rattle.reh_inventory.specs.declared.faults.Fault.{Fault}
-use Rattle.reh_inventory.specs.declared.faults.Fault.TheVariants.{NotJson, WrongKind, Limit}
+use Rattle.reh_inventory_fields.specs.declared.fields.Field.TheVariants as field
+use Rattle.reh_inventory_fields.specs.declared.faults.Fault.{Fault}
+use Rattle.reh_inventory_fields.specs.declared.faults.Fault.TheVariants.{NotJson, WrongKind, Limit}
 use Rattle.reh_inventory.specs.declared.lines.Line.{Line}
 use Rattle.reh_inventory.specs.declared.lines.Line.TheVariants.{Head, Ledger, Unread, End}
-use Rattle.reh_inventory.specs.declared.members.TheConstants.{MAX_NUMBER}
-use Rattle.reh_inventory.specs.declared.places.Place.{Place}
-use Rattle.reh_inventory.specs.declared.places.Place.TheVariants as place
-use Rattle.reh_inventory.specs.Faults.{fault_at}
-use Rattle.reh_inventory.specs.Members.{has, flag_in, flag_if_there, flag_of, mark_of, number_of, number_fault}
+use Rattle.reh_inventory_fields.specs.declared.members.TheConstants.{MAX_NUMBER}
+use Rattle.reh_inventory_fields.specs.declared.places.Place.{Place}
+use Rattle.reh_inventory_fields.specs.declared.places.Place.TheVariants as place
+use Rattle.reh_inventory_fields.specs.Faults.{fault_at}
+use Rattle.reh_inventory_fields.specs.Members.{has, flag_in, flag_if_there, flag_of, mark_of, number_of, number_fault}
 use Rattle.reh_inventory.specs.Heads.{head_fault, head_in}
 use Rattle.reh_inventory.specs.Ledgers.{id_fault, ledger_fault, ledger_in}
 

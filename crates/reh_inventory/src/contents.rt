@@ -3,17 +3,14 @@ ghost use Rattle.std.specs.Prelude.{◌≡◌, ◌<◌, ◌≤◌, [], ◌∷◌
 ghost use Rattle.std.specs.Result.{result_err};
 ghost use Rattle.serde_json.specs.View.{view};
 ghost use Rattle.reh_census_file.specs.declared.lists.TheConstants.{MAX_NAMES};
-ghost use Rattle.reh_inventory.specs.Faults.{FailsWith, FailsAt, fault_at};
-ghost use Rattle.reh_inventory.specs.Members.{mark_of, text_of};
+ghost use Rattle.reh_inventory_fields.specs.Faults.{FailsWith, FailsAt, fault_at};
+ghost use Rattle.reh_inventory_fields.specs.Members.{mark_of, text_of};
 ghost use Rattle.reh_inventory.specs.Contents as model;
 
-use crate::faults::Fault;
-use crate::fields::Field;
-use crate::members::{MAX_NUMBER, flag_if_there, has, list, list_within, name};
-use crate::names::Name;
-use crate::places::{LineFault, Place};
 use reh_census::{Range, Ranges};
 use reh_census_file::{MAX_NAMES, NameList as Names};
+use reh_inventory_fields::members::{MAX_NUMBER, flag_if_there, has, list, list_within, name};
+use reh_inventory_fields::{Fault, Field, LineFault, Name, Place};
 use serde_json::Value;
 use std::alloc::Global;
 use std::marker::Model;

@@ -3,18 +3,15 @@ ghost use Rattle.std.specs.Prelude.{◌≡◌, ◌<◌, ◌≤◌, [], ◌∷◌
 ghost use Rattle.std.specs.Result.{result_err};
 ghost use Rattle.serde_json.specs.View.{view};
 ghost use Rattle.reh_census_file.specs.declared.lists.TheConstants.{MAX_NAMES};
-ghost use Rattle.reh_inventory.specs.Faults.{FailsWith, FailsAt, fault_at};
-ghost use Rattle.reh_inventory.specs.Members.{list_of, number_of, text_of, name_if_there as name_if_there_in};
+ghost use Rattle.reh_inventory_fields.specs.Faults.{FailsWith, FailsAt, fault_at};
+ghost use Rattle.reh_inventory_fields.specs.Members.{list_of, number_of, text_of, name_if_there as name_if_there_in};
 ghost use Rattle.reh_inventory.specs.Heads as model;
 
-use crate::faults::Fault;
-use crate::fields::Field;
-use crate::members::{
+use reh_census_file::{MAX_NAMES, NameList as Names};
+use reh_inventory_fields::members::{
     flag, flag_if_there, has, list_within, name, name_if_there, number_within, text,
 };
-use crate::names::Name;
-use crate::places::{LineFault, Place};
-use reh_census_file::{MAX_NAMES, NameList as Names};
+use reh_inventory_fields::{Fault, Field, LineFault, Name, Place};
 use reh_types::{MAX_DELAY, MAX_GRACE};
 use serde_json::Value;
 use std::alloc::Global;

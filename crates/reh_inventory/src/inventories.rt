@@ -3,12 +3,11 @@ ghost use Rattle.std.specs.Prelude.{◌≡◌, ◌≢◌, ◌<◌, ◌^◌, Ok, 
 ghost use Rattle.std.specs.Result.{result_err};
 ghost use Rattle.reh_inventory.specs.Inventories as model;
 
-use crate::faults::Fault;
 use crate::heads::Head;
 use crate::ledgers::LedgerLine;
 use crate::lines::{Line, read_line};
-use crate::places::LineFault;
 use indexmap::IndexSet;
+use reh_inventory_fields::{Fault, LineFault};
 use std::alloc::{AllocError, AllocFailed, Global};
 use std::fmt;
 use std::marker::Model;

@@ -2,19 +2,16 @@
 ghost use Rattle.std.specs.Prelude.{◌≡◌, ◌<◌, ◌≤◌, true, Some, [], ◌∷◌, ◌++◌, length, map, IfOk, OnOk};
 ghost use Rattle.std.specs.Result.{result_err};
 ghost use Rattle.serde_json.specs.View.{view};
-ghost use Rattle.reh_inventory.specs.Faults.{FailsWith, FailsAt, fault_at};
-ghost use Rattle.reh_inventory.specs.Members.{list_of, number_of, number_if_there as number_if_there_in};
+ghost use Rattle.reh_inventory_fields.specs.Faults.{FailsWith, FailsAt, fault_at};
+ghost use Rattle.reh_inventory_fields.specs.Members.{list_of, number_of, number_if_there as number_if_there_in};
 ghost use Rattle.reh_inventory.specs.Ledgers as model;
 
 use crate::contents::{ContentList, read_contents};
-use crate::faults::Fault;
-use crate::fields::Field;
-use crate::members::{
+use reh_inventory_fields::members::{
     MAX_ENSEMBLE, MAX_NUMBER, integer, list, list_within, name_of, number_if_there, number_within,
     text,
 };
-use crate::names::{Ensemble, Name};
-use crate::places::{LineFault, Place};
+use reh_inventory_fields::{Ensemble, Fault, Field, LineFault, Name, Place};
 use serde_json::Value;
 use std::alloc::Global;
 use std::marker::Model;

@@ -2,16 +2,14 @@
 ghost use Rattle.std.specs.Prelude.{◌≡◌, ◌≢◌, Ok, Err, MatchResult, IfOk, IfErr};
 ghost use Rattle.std.specs.Result.{result_err};
 ghost use Rattle.serde_json.specs.View.{view};
-ghost use Rattle.reh_inventory.specs.Faults.{FailsAt};
-ghost use Rattle.reh_inventory.specs.Members.{number_of};
+ghost use Rattle.reh_inventory_fields.specs.Faults.{FailsAt};
+ghost use Rattle.reh_inventory_fields.specs.Members.{number_of};
 ghost use Rattle.reh_inventory.specs.Lines as model;
 
-use crate::faults::Fault;
-use crate::fields::Field;
 use crate::heads::{Head, read_head};
 use crate::ledgers::{LedgerLine, read_id, read_ledger};
-use crate::members::{MAX_NUMBER, flag, flag_if_there, has, number_within};
-use crate::places::{LineFault, Place};
+use reh_inventory_fields::members::{MAX_NUMBER, flag, flag_if_there, has, number_within};
+use reh_inventory_fields::{Fault, Field, LineFault, Place};
 use serde_json::Value;
 use std::alloc::Global;
 

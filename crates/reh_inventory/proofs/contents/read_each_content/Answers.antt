@@ -2,10 +2,10 @@
 use Rattle.std.proofs.Common.{sym, ap, ◌∙◌, ◌++◌, ◌∷◌, [], map, take, length, arith, length-append}
 use Rattle.std.proofs.lemmas.List.{map-append}
 use Rattle.serde_json.specs.View.{view}
-use Rattle.reh_inventory.specs.declared.fields.Field.TheVariants as field
-use Rattle.reh_inventory.specs.Members.{text_of}
+use Rattle.reh_inventory_fields.specs.declared.fields.Field.TheVariants as field
+use Rattle.reh_inventory_fields.specs.Members.{text_of}
 use Rattle.reh_inventory.specs.Contents.{bookies_in}
-use Rattle.reh_inventory.proofs.Lists.{HasMade-next, passed_to}
+use Rattle.reh_inventory_fields.proofs.Lists.{HasMade-next, passed_to}
 use Rattle.reh_inventory.proofs.contents.read_each_content.Goals as goal
 
 pub loop-i-preserved : goal.loop-i-preserved

@@ -2,7 +2,7 @@
 use Rattle.std.proofs.Common.{◌≡◌, map, take, length}
 use Rattle.serde_json.specs.View.{view}
 use Rattle.reh_inventory.specs.Contents.{content_fault, content_in, bookies_in}
-use Rattle.reh_inventory.proofs.Lists.{HasMade}
+use Rattle.reh_inventory_fields.proofs.Lists.{HasMade}
 use Rattle.reh_inventory.proofs.contents.read_each_content.Given as goal
 
 abbrev pub invariant-loop-i : goal.invariant-loop-i

@@ -4,7 +4,7 @@ use Rattle.serde_json.specs.View.{view}
 use Rattle.reh_census.specs.declared.ledgers.Range.{Range}
 use Rattle.reh_inventory.specs.Contents.{next_after}
 use Rattle.reh_inventory.proofs.LastLemmas.{next_after-push}
-use Rattle.reh_inventory.proofs.Lists.{HasMade-next, passed_to}
+use Rattle.reh_inventory_fields.proofs.Lists.{HasMade-next, passed_to}
 use Rattle.reh_inventory.proofs.contents.read_ranges.Goals as goal
 
 pub loop-i-preserved : goal.loop-i-preserved

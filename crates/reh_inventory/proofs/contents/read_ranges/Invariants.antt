@@ -1,10 +1,10 @@
 -- The values so far have no fault; theirs are the ranges, and the least entry is the one after them.
 use Rattle.std.proofs.Common.{◌≡◌, map, take}
 use Rattle.serde_json.specs.View.{view}
-use Rattle.reh_inventory.specs.declared.places.Place.TheVariants as place
-use Rattle.reh_inventory.specs.Faults.{fault_at}
+use Rattle.reh_inventory_fields.specs.declared.places.Place.TheVariants as place
+use Rattle.reh_inventory_fields.specs.Faults.{fault_at}
 use Rattle.reh_inventory.specs.Contents.{range_fault, range_in, next_after}
-use Rattle.reh_inventory.proofs.Lists.{HasMade}
+use Rattle.reh_inventory_fields.proofs.Lists.{HasMade}
 use Rattle.reh_inventory.proofs.contents.read_ranges.Given as goal
 
 abbrev pub invariant-loop-i : goal.invariant-loop-i

@@ -1,10 +1,10 @@
 -- The bookies so far have no fault; theirs are the names.
 use Rattle.std.proofs.Common.{◌≡◌, map, take, length}
 use Rattle.serde_json.specs.View.{view}
-use Rattle.reh_inventory.specs.declared.places.Place.TheVariants as place
-use Rattle.reh_inventory.specs.Faults.{fault_at}
+use Rattle.reh_inventory_fields.specs.declared.places.Place.TheVariants as place
+use Rattle.reh_inventory_fields.specs.Faults.{fault_at}
 use Rattle.reh_inventory.specs.Heads.{bookie_fault, bookie_in, names_in}
-use Rattle.reh_inventory.proofs.Lists.{HasMade}
+use Rattle.reh_inventory_fields.proofs.Lists.{HasMade}
 use Rattle.reh_inventory.proofs.heads.read_each_bookie.Given as goal
 
 abbrev pub invariant-loop-i : goal.invariant-loop-i

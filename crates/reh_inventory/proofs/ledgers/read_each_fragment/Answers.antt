@@ -2,10 +2,10 @@
 use Rattle.std.proofs.Common.{◌+◌, sym, ap, ◌∙◌, map, take, arith}
 use Rattle.serde_json.specs.View.{view}
 use Rattle.reh_inventory.specs.declared.ledgers.Fragment.{Fragment}
-use Rattle.reh_inventory.specs.declared.members.TheConstants.{MAX_NUMBER}
+use Rattle.reh_inventory_fields.specs.declared.members.TheConstants.{MAX_NUMBER}
 use Rattle.reh_inventory.specs.Ledgers.{bounds_after}
 use Rattle.reh_inventory.proofs.LastLemmas.{bounds_after-push}
-use Rattle.reh_inventory.proofs.Lists.{HasMade-next, passed_to}
+use Rattle.reh_inventory_fields.proofs.Lists.{HasMade-next, passed_to}
 use Rattle.reh_inventory.proofs.ledgers.read_each_fragment.Goals as goal
 
 pub loop-i-preserved : goal.loop-i-preserved

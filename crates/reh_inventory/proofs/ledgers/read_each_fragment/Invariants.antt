@@ -1,9 +1,9 @@
 -- The values so far have no fault; theirs are the fragments, and the bounds are those of the next one.
 use Rattle.std.proofs.Common.{◌≡◌, ◌≤◌, map, take}
 use Rattle.serde_json.specs.View.{view}
-use Rattle.reh_inventory.specs.declared.members.TheConstants.{MAX_NUMBER}
+use Rattle.reh_inventory_fields.specs.declared.members.TheConstants.{MAX_NUMBER}
 use Rattle.reh_inventory.specs.Ledgers.{fragment_fault, fragment_in, bounds_after}
-use Rattle.reh_inventory.proofs.Lists.{HasMade}
+use Rattle.reh_inventory_fields.proofs.Lists.{HasMade}
 use Rattle.reh_inventory.proofs.ledgers.read_each_fragment.Given as goal
 
 abbrev pub invariant-loop-i : goal.invariant-loop-i

@@ -1,5 +1,5 @@
 -- One member more is read, and its name joins the ensemble.
-use Rattle.reh_inventory.proofs.Lists.{HasMade-next}
+use Rattle.reh_inventory_fields.proofs.Lists.{HasMade-next}
 use Rattle.reh_inventory.proofs.ledgers.read_ensemble.Goals as goal
 
 pub loop-i-preserved : goal.loop-i-preserved

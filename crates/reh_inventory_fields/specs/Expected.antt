@@ -2,15 +2,15 @@
 use Rattle.std.specs.Prelude.{ℕ, List, ◌++◌, codes, if◌then◌else◌, Option, None, Some}
 use Rattle.std.specs.Fmt.{decimal}
 use Rattle.std.specs.Str.{bytes_eq}
-use Rattle.reh_inventory.specs.declared.fields.Field.{Field}
-use Rattle.reh_inventory.specs.declared.fields.Field.TheVariants as field
-use Rattle.reh_inventory.specs.declared.faults.Fault.{Fault}
-use Rattle.reh_inventory.specs.declared.faults.Fault.TheVariants.{NotJson, Missing, WrongKind, Limit, Twice}
-use Rattle.reh_inventory.specs.declared.faults.Fault.TheVariants.{EntriesOrLacks, NoMemory}
-use Rattle.reh_inventory.specs.declared.places.Place.{Place}
-use Rattle.reh_inventory.specs.declared.places.Place.TheVariants as place
-use Rattle.reh_inventory.specs.declared.places.LineFault.{LineFault}
-use Rattle.reh_inventory.specs.Fields.{field_name}
+use Rattle.reh_inventory_fields.specs.declared.fields.Field.{Field}
+use Rattle.reh_inventory_fields.specs.declared.fields.Field.TheVariants as field
+use Rattle.reh_inventory_fields.specs.declared.faults.Fault.{Fault}
+use Rattle.reh_inventory_fields.specs.declared.faults.Fault.TheVariants.{NotJson, Missing, WrongKind, Limit, Twice}
+use Rattle.reh_inventory_fields.specs.declared.faults.Fault.TheVariants.{EntriesOrLacks, NoMemory}
+use Rattle.reh_inventory_fields.specs.declared.places.Place.{Place}
+use Rattle.reh_inventory_fields.specs.declared.places.Place.TheVariants as place
+use Rattle.reh_inventory_fields.specs.declared.places.LineFault.{LineFault}
+use Rattle.reh_inventory_fields.specs.Fields.{field_name}
 
 -- Paths
 

@@ -1,6 +1,6 @@
 // Where a line's first fault is, and what was expected there.
 ghost use Rattle.std.specs.Prelude.{◌≡◌};
-ghost use Rattle.reh_inventory.specs.Expected.{element_field, faulty_field, wanted_text, expected_text};
+ghost use Rattle.reh_inventory_fields.specs.Expected.{element_field, faulty_field, wanted_text, expected_text};
 
 use crate::faults::Fault;
 use crate::fields::Field;
@@ -53,7 +53,7 @@ impl Place {
 
 impl fmt::Display for Place {
     ghost use Rattle.std.specs.Prelude.{Some};
-    ghost use Rattle.reh_inventory.specs.Expected.{place_text};
+    ghost use Rattle.reh_inventory_fields.specs.Expected.{place_text};
 
     ghost output = { λ here. Some (place_text here) };
 
@@ -84,7 +84,7 @@ struct Path {
 
 impl fmt::Display for Path {
     ghost use Rattle.std.specs.Prelude.{Some};
-    ghost use Rattle.reh_inventory.specs.Expected.{path_text};
+    ghost use Rattle.reh_inventory_fields.specs.Expected.{path_text};
 
     ghost output = { λ path. Some (path_text path.place path.field) };
 
@@ -115,7 +115,7 @@ impl LineFault {
     ghost use Rattle.std.specs.Prelude.{None};
 
     /// A fault with its place.
-    pub(crate) fn new(fault: Fault, place: Place) -> LineFault
+    pub fn new(fault: Fault, place: Place) -> LineFault
         ensures { result ≡ record { fault = fault; place = place; column = None } }
     {
         LineFault {
@@ -217,7 +217,7 @@ const _: () = prove!(MAX_NUMBER == 9_223_372_036_854_775_807);
 
 impl fmt::Display for LineFault {
     ghost use Rattle.std.specs.Prelude.{Some};
-    ghost use Rattle.reh_inventory.specs.Expected.{fault_text};
+    ghost use Rattle.reh_inventory_fields.specs.Expected.{fault_text};
 
     ghost output = { λ located. Some (fault_text located) };
 
@@ -243,7 +243,7 @@ impl fmt::Display for LineFault {
 
 impl From<AllocError> for LineFault {
     ghost use Rattle.std.specs.Prelude.{◌≡◌};
-    ghost use Rattle.reh_inventory.specs.declared.faults.Fault.TheVariants.{NoMemory};
+    ghost use Rattle.reh_inventory_fields.specs.declared.faults.Fault.TheVariants.{NoMemory};
 
     ghost from_gives = { λ _ located. located.fault ≡ NoMemory };
 
@@ -254,7 +254,7 @@ impl From<AllocError> for LineFault {
 
 impl<T: Drop> From<AllocFailed<T>> for LineFault {
     ghost use Rattle.std.specs.Prelude.{◌≡◌};
-    ghost use Rattle.reh_inventory.specs.declared.faults.Fault.TheVariants.{NoMemory};
+    ghost use Rattle.reh_inventory_fields.specs.declared.faults.Fault.TheVariants.{NoMemory};
 
     ghost from_gives = { λ _ located. located.fault ≡ NoMemory };
 
@@ -267,8 +267,8 @@ impl<T: Drop> From<AllocFailed<T>> for LineFault {
 impl From<serde_json::Error> for LineFault {
     ghost use Rattle.std.specs.Prelude.{◌≡◌};
     ghost use Rattle.serde_json.specs.Errors.{IsMemory};
-    ghost use Rattle.reh_inventory.specs.declared.faults.Fault.TheVariants.{NoMemory, NotJson};
-    ghost use Rattle.reh_inventory.specs.declared.places.Place.TheVariants as place;
+    ghost use Rattle.reh_inventory_fields.specs.declared.faults.Fault.TheVariants.{NoMemory, NotJson};
+    ghost use Rattle.reh_inventory_fields.specs.declared.places.Place.TheVariants as place;
 
     ghost from_gives = { λ error located. (IsMemory error → located.fault ≡ NoMemory)
         × (¬ IsMemory error → (located.fault ≡ NotJson) × (located.place ≡ place.Line)) };

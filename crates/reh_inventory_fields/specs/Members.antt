@@ -9,11 +9,11 @@ use Rattle.serde_json.specs.Find.{get, as_number, as_u64, as_i64, as_bool, as_st
 use Rattle.reh_model.specs.Checks.{first_reason, reason_unless}
 use Rattle.reh_fields.specs.Members.{elements}
 use Rattle.reh_fields.specs.Names.{is_name}
-use Rattle.reh_inventory.specs.declared.fields.Field.{Field}
-use Rattle.reh_inventory.specs.declared.faults.Fault.{Fault}
-use Rattle.reh_inventory.specs.declared.faults.Fault.TheVariants.{Missing, WrongKind, Limit}
-use Rattle.reh_inventory.specs.declared.members.TheConstants.{MAX_NUMBER}
-use Rattle.reh_inventory.specs.Fields.{field_name}
+use Rattle.reh_inventory_fields.specs.declared.fields.Field.{Field}
+use Rattle.reh_inventory_fields.specs.declared.faults.Fault.{Fault}
+use Rattle.reh_inventory_fields.specs.declared.faults.Fault.TheVariants.{Missing, WrongKind, Limit}
+use Rattle.reh_inventory_fields.specs.declared.members.TheConstants.{MAX_NUMBER}
+use Rattle.reh_inventory_fields.specs.Fields.{field_name}
 
 -- whether the member is there
 abbrev pub has : Data → Field → Bool

@@ -1,7 +1,7 @@
 -- The names of the fields of an inventory's lines.
 use Rattle.std.specs.Prelude.{ℕ, List, codes}
-use Rattle.reh_inventory.specs.declared.fields.Field.{Field}
-use Rattle.reh_inventory.specs.declared.fields.Field.TheVariants as field
+use Rattle.reh_inventory_fields.specs.declared.fields.Field.{Field}
+use Rattle.reh_inventory_fields.specs.declared.fields.Field.TheVariants as field
 
 abbrev pub field_name : Field → List ℕ
 field_name field.Line = codes "line"

@@ -77,7 +77,7 @@ pub enum Field {
 }
 
 impl Field {
-    ghost use Rattle.reh_inventory.specs.Fields.{field_name};
+    ghost use Rattle.reh_inventory_fields.specs.Fields.{field_name};
 
     /// Its name in a line.
     pub fn name(self) -> &'static str
@@ -124,7 +124,7 @@ impl Field {
 
 impl fmt::Display for Field {
     ghost use Rattle.std.specs.Prelude.{Some};
-    ghost use Rattle.reh_inventory.specs.Fields.{field_name};
+    ghost use Rattle.reh_inventory_fields.specs.Fields.{field_name};
 
     ghost output = { λ field. Some (field_name field) };
 

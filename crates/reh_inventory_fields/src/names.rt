@@ -21,7 +21,7 @@ impl Model for Name {
 
 impl Name {
     /// A copy of a text.
-    pub(crate) fn new(alloc: Global, text: &str) -> Result<Name, AllocError>
+    pub fn new(alloc: Global, text: &str) -> Result<Name, AllocError>
         ensures { IfOk result (λ copy. copy ≡ text.now) }
     {
         let text = String::from_str(alloc, text)?;
@@ -62,7 +62,7 @@ impl Model for Ensemble {
 
 impl Ensemble {
     /// These members.
-    pub(crate) fn of(items: Vec<Name>) -> Ensemble
+    pub fn of(items: Vec<Name>) -> Ensemble
         ensures { result ≡ items.items }
     {
         Ensemble { items }

@@ -2,9 +2,9 @@
 ghost use Rattle.std.specs.Prelude.{◌≡◌, ◌≤◌, Ok, Err, None, Some, map, length, option_map, IfOk, IfErr};
 ghost use Rattle.std.specs.Result.{result_err};
 ghost use Rattle.serde_json.specs.View.{view};
-ghost use Rattle.reh_inventory.specs.Faults.{FailsWith};
-ghost use Rattle.reh_inventory.specs.Members as model;
-ghost use Rattle.reh_inventory.specs.Members.{list_of, number_of, text_of};
+ghost use Rattle.reh_inventory_fields.specs.Faults.{FailsWith};
+ghost use Rattle.reh_inventory_fields.specs.Members as model;
+ghost use Rattle.reh_inventory_fields.specs.Members.{list_of, number_of, text_of};
 
 use crate::faults::Fault;
 use crate::fields::Field;
@@ -14,13 +14,13 @@ use serde_json::Value;
 use std::alloc::Global;
 
 /// The greatest id, entry, version, length and count.
-pub(crate) const MAX_NUMBER: u64 = 9_223_372_036_854_775_807;
+pub const MAX_NUMBER: u64 = 9_223_372_036_854_775_807;
 
 /// The largest ensemble.
-pub(crate) const MAX_ENSEMBLE: u64 = 64;
+pub const MAX_ENSEMBLE: u64 = 64;
 
 /// Whether the member is there.
-pub(crate) fn has(object: &Value, field: Field) -> bool
+pub fn has(object: &Value, field: Field) -> bool
     ensures { result ≡ model.has (view object.now) field }
 {
     object.get(field.name()).is_some()
@@ -44,7 +44,7 @@ fn number(object: &Value, field: Field) -> Result<u64, Fault>
 }
 
 /// A member that is a number below 2^63, which may be below 0.
-pub(crate) fn integer(object: &Value, field: Field) -> Result<i64, Fault>
+pub fn integer(object: &Value, field: Field) -> Result<i64, Fault>
     ensures { result ≡ model.integer_in (view object.now) field }
 {
     member(object, field)?
@@ -53,7 +53,7 @@ pub(crate) fn integer(object: &Value, field: Field) -> Result<i64, Fault>
 }
 
 /// A member that is true or false.
-pub(crate) fn flag(object: &Value, field: Field) -> Result<bool, Fault>
+pub fn flag(object: &Value, field: Field) -> Result<bool, Fault>
     ensures { result ≡ model.flag_in (view object.now) field }
 {
     member(object, field)?
@@ -62,7 +62,7 @@ pub(crate) fn flag(object: &Value, field: Field) -> Result<bool, Fault>
 }
 
 /// A member that needn't be there and is true or false: false where it isn't there.
-pub(crate) fn flag_if_there(object: &Value, field: Field) -> Result<bool, Fault>
+pub fn flag_if_there(object: &Value, field: Field) -> Result<bool, Fault>
     ensures { result ≡ model.flag_if_there (view object.now) field }
 {
     match object.get(field.name()) {
@@ -72,7 +72,7 @@ pub(crate) fn flag_if_there(object: &Value, field: Field) -> Result<bool, Fault>
 }
 
 /// A member that is a text.
-pub(crate) fn text(object: &Value, field: Field) -> Result<&str, Fault>
+pub fn text(object: &Value, field: Field) -> Result<&str, Fault>
     ensures ok { IfOk result (λ text. model.text_in (view object.now) field ≡ Ok text.now) }
     ensures err { IfErr result (λ fault. model.text_in (view object.now) field ≡ Err fault) }
 {
@@ -82,7 +82,7 @@ pub(crate) fn text(object: &Value, field: Field) -> Result<&str, Fault>
 }
 
 /// A member that is a list.
-pub(crate) fn list(object: &Value, field: Field) -> Result<&[Value], Fault>
+pub fn list(object: &Value, field: Field) -> Result<&[Value], Fault>
     ensures fault { result_err result ≡ result_err (model.list_in (view object.now) field) }
     ensures list { IfOk result (λ list. list_of (view object.now) field ≡ map view list.now) }
 {
@@ -93,12 +93,7 @@ pub(crate) fn list(object: &Value, field: Field) -> Result<&[Value], Fault>
 }
 
 /// A member that is a number from the least to the most.
-pub(crate) fn number_within(
-    object: &Value,
-    field: Field,
-    least: u64,
-    most: u64,
-) -> Result<u64, Fault>
+pub fn number_within(object: &Value, field: Field, least: u64, most: u64) -> Result<u64, Fault>
     ensures fault { result_err result ≡ model.number_fault (view object.now) field least most }
     ensures number { IfOk result (λ n. number_of (view object.now) field ≡ n) }
     ensures within { IfOk result (λ n. n ≤ most) }
@@ -112,7 +107,7 @@ pub(crate) fn number_within(
 }
 
 /// A member that needn't be there and is a number up to the greatest.
-pub(crate) fn number_if_there(object: &Value, field: Field) -> Result<Option<u64>, Fault>
+pub fn number_if_there(object: &Value, field: Field) -> Result<Option<u64>, Fault>
     ensures fault { result_err result ≡ model.number_if_there_fault (view object.now) field }
     ensures number { IfOk result
         (λ number. number ≡ model.number_if_there (view object.now) field) }
@@ -125,7 +120,7 @@ pub(crate) fn number_if_there(object: &Value, field: Field) -> Result<Option<u64
 }
 
 /// A member that is a list with from the least to the most elements.
-pub(crate) fn list_within(
+pub fn list_within(
     object: &Value,
     field: Field,
     least: usize,
@@ -143,7 +138,7 @@ pub(crate) fn list_within(
 }
 
 /// A copy of a text that must be a name.
-pub(crate) fn name_of(alloc: Global, field: Field, text: &str) -> Result<Name, Fault>
+pub fn name_of(alloc: Global, field: Field, text: &str) -> Result<Name, Fault>
     ensures fault { FailsWith result (model.text_fault field text.now) }
     ensures name { IfOk result (λ name. name ≡ text.now) }
 {
@@ -155,7 +150,7 @@ pub(crate) fn name_of(alloc: Global, field: Field, text: &str) -> Result<Name, F
 }
 
 /// A member that is a name.
-pub(crate) fn name(alloc: Global, object: &Value, field: Field) -> Result<Name, Fault>
+pub fn name(alloc: Global, object: &Value, field: Field) -> Result<Name, Fault>
     ensures fault { FailsWith result (model.name_fault (view object.now) field) }
     ensures name { IfOk result (λ name. text_of (view object.now) field ≡ name) }
 {
@@ -164,11 +159,7 @@ pub(crate) fn name(alloc: Global, object: &Value, field: Field) -> Result<Name, 
 }
 
 /// A member that needn't be there and is a name.
-pub(crate) fn name_if_there(
-    alloc: Global,
-    object: &Value,
-    field: Field,
-) -> Result<Option<Name>, Fault>
+pub fn name_if_there(alloc: Global, object: &Value, field: Field) -> Result<Option<Name>, Fault>
     ensures fault { FailsWith result (model.name_if_there_fault (view object.now) field) }
     ensures name { IfOk result (λ name. name ≡ model.name_if_there (view object.now) field) }
 {

@@ -23,7 +23,7 @@ pub enum Fault {
 
 impl From<AllocError> for Fault {
     ghost use Rattle.std.specs.Prelude.{◌≡◌};
-    ghost use Rattle.reh_inventory.specs.declared.faults.Fault.TheVariants.{NoMemory};
+    ghost use Rattle.reh_inventory_fields.specs.declared.faults.Fault.TheVariants.{NoMemory};
 
     ghost from_gives = { λ _ fault. fault ≡ NoMemory };
 
@@ -34,7 +34,7 @@ impl From<AllocError> for Fault {
 
 impl<T: Drop> From<AllocFailed<T>> for Fault {
     ghost use Rattle.std.specs.Prelude.{◌≡◌};
-    ghost use Rattle.reh_inventory.specs.declared.faults.Fault.TheVariants.{NoMemory};
+    ghost use Rattle.reh_inventory_fields.specs.declared.faults.Fault.TheVariants.{NoMemory};
 
     ghost from_gives = { λ _ fault. fault ≡ NoMemory };
 

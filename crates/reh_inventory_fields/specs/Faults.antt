@@ -2,10 +2,10 @@
 use Rattle.std.specs.Prelude.{◌≡◌, ◌≢◌, ℕ, ◌+◌, List, [], ◌∷◌, ◌++◌, Option, None, Some, Result, MatchResult}
 use Rattle.std.specs.Option.{option_map, option_or}
 use Rattle.serde_json.specs.Data.{Data}
-use Rattle.reh_inventory.specs.declared.faults.Fault.{Fault}
-use Rattle.reh_inventory.specs.declared.faults.Fault.TheVariants.{NoMemory}
-use Rattle.reh_inventory.specs.declared.places.Place.{Place}
-use Rattle.reh_inventory.specs.declared.places.LineFault.{LineFault}
+use Rattle.reh_inventory_fields.specs.declared.faults.Fault.{Fault}
+use Rattle.reh_inventory_fields.specs.declared.faults.Fault.TheVariants.{NoMemory}
+use Rattle.reh_inventory_fields.specs.declared.places.Place.{Place}
+use Rattle.reh_inventory_fields.specs.declared.places.LineFault.{LineFault}
 
 -- The call fails with this fault, and succeeds where there is none; but for lack of memory it may always fail.
 abbrev pub FailsWith : {A : Type 0} → Result A Fault → Option Fault → Type 0
