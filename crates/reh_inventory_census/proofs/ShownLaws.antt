@@ -1,6 +1,6 @@
 -- A ledger of a census that is made of a line says of each entry what the line says.
-use Rattle.std.proofs.Common.{◌≡◌, ◌<◌, ◌≤◌, ◌+◌, ◌-◌, ℕ, zero, suc, Bool, true, false, not, ◌&&◌, ◌||◌, nat_le, nat_lt, nat_eq, ◌==◌, List, [], ◌∷◌, length, map}
-use Rattle.std.proofs.Common.{if◌then◌else◌, cond, Option, None, Some, unwrap_or, position, get_or, refl, sym, ap, ◌∙◌, subst, arith, eq-eqb, true≢false, ◌≢◌, ◌⊎◌, inl, inr}
+use Rattle.std.proofs.Common.{◌≡◌, ◌<◌, ◌+◌, ℕ, zero, suc, Bool, true, false, not, ◌&&◌, ◌||◌, nat_lt, ◌==◌, List, [], ◌∷◌, length, map}
+use Rattle.std.proofs.Common.{if◌then◌else◌, Option, None, Some, unwrap_or, position, get_or, refl, sym, ap, ◌∙◌, subst, arith, eq-eqb, true≢false, ◌≢◌, ◌⊎◌, inl, inr}
 use Rattle.std.specs.List.{list_any}
 use Rattle.std.specs.Option.{is_some, option_map_or}
 use Rattle.std.specs.Prelude.{slice_get, Result, Ok, Err, IfOk}

@@ -1,5 +1,5 @@
 -- Which fragments of a line stop, and where the entries that are counted end.
-use Rattle.std.proofs.Common.{◌≡◌, ◌<◌, ◌≤◌, ◌+◌, ◌-◌, ℕ, zero, suc, max, Bool, true, false, ◌&&◌, nat_lt, List, [], ◌∷◌, length, map}
+use Rattle.std.proofs.Common.{◌≡◌, ◌<◌, ◌≤◌, ◌+◌, ◌-◌, ℕ, zero, suc, max, Bool, true, false, ◌&&◌, nat_lt, List, [], length, map}
 use Rattle.std.proofs.Common.{Option, None, Some, unwrap_or, get_or, refl, sym, ap, ◌∙◌, subst, arith, true≢false}
 use Rattle.std.specs.Option.{is_some, is_none, option_map_or}
 use Rattle.std.specs.Prelude.{All, slice_get}
@@ -11,7 +11,7 @@ use Rattle.reh_census.specs.Ledgers.{IsFragment}
 use Rattle.reh_census.specs.Striping.{range}
 use Rattle.reh_inventory.specs.declared.ledgers.Fragment.{Fragment}
 use Rattle.reh_inventory.specs.declared.ledgers.LedgerLine.{LedgerLine}
-use Rattle.reh_inventory_census.specs.Counted.{end_of, end_told, first_of, fragment_of, has_loose, last_first, open_end, stop_of}
+use Rattle.reh_inventory_census.specs.Counted.{end_of, first_of, fragment_of, last_first, open_end}
 
 abbrev pub first_in : Option Fragment → ℕ
 first_in o = option_map_or (λ fragment. fragment.first) o 0
