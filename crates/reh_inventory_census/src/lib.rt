@@ -5,4 +5,4 @@ mod counted;
 mod numbers;
 
 pub use counted::{CountFault, cautious_ledger_of, ledger_of};
-pub use numbers::{NumberFault, number_members};
+pub use numbers::{NumberFault, number_bookies, number_members};

@@ -1,11 +1,11 @@
-// The numbers of the members of ensembles: a member that the first line doesn't have gets a number of its own.
+// The numbers of bookies: those of the first line, and then members of ensembles that the first line doesn't have.
 ghost use Rattle.std.specs.Prelude.{◌≡◌, IfErr, OnOk, fold, length};
 ghost use Rattle.reh_census_file.specs.Names.{with_name};
 ghost use Rattle.reh_census_file.specs.declared.lists.TheConstants.{MAX_NAMES};
 ghost use Rattle.reh_inventory_census.specs.Numbers as model;
 
 use reh_census_file::{MAX_NAMES, NameList};
-use reh_inventory::LedgerLine;
+use reh_inventory::{Head, LedgerLine};
 use reh_inventory_fields::Name;
 use std::alloc::AllocError;
 
@@ -34,7 +34,7 @@ impl From<AllocError> for NumberFault {
 fn number_member(names: &mut NameList, name: &Name) -> Result<(), NumberFault>
     ensures named { OnOk result (names.new ≡ with_name names.old name.now) }
     ensures full { IfErr result (λ fault. fault ≡ NumberFault.TooMany
-        → length names.old ≡ MAX_NAMES) }
+        → length names.new ≡ MAX_NAMES) }
 {
     if names.len() < MAX_NAMES {
         names.add(name.as_str())?;
@@ -46,9 +46,24 @@ fn number_member(names: &mut NameList, name: &Name) -> Result<(), NumberFault>
     }
 }
 
+/// Gives each bookie of the first line that has no number the next one: its place among the names. After an `Err` some may
+/// have theirs.
+pub fn number_bookies(names: &mut NameList, head: &Head) -> Result<(), NumberFault>
+    ensures numbered { OnOk result (names.new ≡ model.with_bookies names.old head.now) }
+    ensures full { IfErr result (λ fault. fault ≡ NumberFault.TooMany
+        → length names.new ≡ MAX_NAMES) }
+{
+    for bookie in head.bookies.as_slice() {
+        number_member(names, &bookie.name)?;
+    }
+    Ok(())
+}
+
 /// Gives each member of an ensemble that has no number the next one. After an `Err` some may have theirs.
 fn number_ensemble(names: &mut NameList, ensemble: &[Name]) -> Result<(), NumberFault>
-    ensures { OnOk result (names.new ≡ fold with_name names.old ensemble.now) }
+    ensures numbered { OnOk result (names.new ≡ fold with_name names.old ensemble.now) }
+    ensures full { IfErr result (λ fault. fault ≡ NumberFault.TooMany
+        → length names.new ≡ MAX_NAMES) }
 {
     for name in ensemble {
         number_member(names, name)?;
@@ -59,7 +74,9 @@ fn number_ensemble(names: &mut NameList, ensemble: &[Name]) -> Result<(), Number
 /// Gives each member of the ledger's ensembles that has no number the next one: its place among the names. After an `Err`
 /// some may have theirs.
 pub fn number_members(names: &mut NameList, line: &LedgerLine) -> Result<(), NumberFault>
-    ensures { OnOk result (names.new ≡ model.with_members names.old line.now) }
+    ensures numbered { OnOk result (names.new ≡ model.with_members names.old line.now) }
+    ensures full { IfErr result (λ fault. fault ≡ NumberFault.TooMany
+        → length names.new ≡ MAX_NAMES) }
 {
     for fragment in line.fragments.as_slice() {
         number_ensemble(names, fragment.ensemble.as_slice())?;
