@@ -1,0 +1,3 @@
+pub mod LastLemmas
+pub mod LinesLemmas
+pub mod InventoryLemmas

@@ -1,0 +1,31 @@
+-- One content more is read, and the name of its bookie joins those before it.
+use Rattle.std.proofs.Common.{sym, ap, ◌∙◌, ◌++◌, ◌∷◌, [], map, take, length, arith, length-append}
+use Rattle.std.proofs.lemmas.List.{map-append}
+use Rattle.serde_json.specs.View.{view}
+use Rattle.reh_inventory_fields.specs.declared.fields.Field.TheVariants as field
+use Rattle.reh_inventory_fields.specs.Members.{text_of}
+use Rattle.reh_inventory.specs.Contents.{bookies_in}
+use Rattle.reh_inventory_fields.proofs.Lists.{HasMade-next, passed_to}
+use Rattle.reh_inventory.proofs.contents.read_each_content.Goals as goal
+
+pub loop-i-preserved : goal.loop-i-preserved
+loop-i-preserved c =
+    let so_far = c.loop-i.invariant in
+    let value = c.index-values-i.result in
+    let more = c.in_ok-read_content.ensures in record {
+      made =
+          HasMade-next _ _ c.args.values.now c.loop-i.i value c.loop-i-test.true c.index-values-i.is
+          c.loop-i.contents.items _ so_far.made
+          (rw (← so_far.names) more.fault)
+          (rw (← more.content) c.in_ok-push.ensures.items);
+      names = more.named ∙ ap (λ ns. ns ++ text_of (view value) field.Bookie ∷ []) so_far.names
+          ∙ sym (ap bookies_in (passed_to view c.args.values.now c.loop-i.i value c.loop-i-test.true c.index-values-i.is)
+          ∙ map-append (λ d. text_of d field.Bookie) (map view (take c.loop-i.i c.args.values.now)) _);
+      count =
+          omega (
+            arith,
+            ap length more.named,
+            length-append c.loop-i.names (text_of (view value) field.Bookie ∷ []),
+            so_far.count,
+          );
+    }

@@ -1,0 +1,24 @@
+-- One range more is read, and the next one has to begin after its end.
+use Rattle.std.proofs.Common.{◌+◌, sym, ap, ◌∙◌, map, take}
+use Rattle.serde_json.specs.View.{view}
+use Rattle.reh_census.specs.declared.ledgers.Range.{Range}
+use Rattle.reh_inventory.specs.Contents.{next_after}
+use Rattle.reh_inventory.proofs.LastLemmas.{next_after-push}
+use Rattle.reh_inventory_fields.proofs.Lists.{HasMade-next, passed_to}
+use Rattle.reh_inventory.proofs.contents.read_ranges.Goals as goal
+
+pub loop-i-preserved : goal.loop-i-preserved
+loop-i-preserved c =
+    let so_far = c.loop-i.invariant in
+    let value = c.index-values-i.result in
+    let one = c.in_ok-range.ensures in record {
+      made =
+          HasMade-next _ _ c.args.values.now c.loop-i.i value c.loop-i-test.true c.index-values-i.is
+          c.loop-i.ranges.items _ so_far.made
+          (rw (← so_far.least) one.fault)
+          (rw (← one.range) c.in_ok-push.ensures.items);
+      least = ap (λ (r : Range). r.last + 1) one.range
+          ∙ sym (ap (next_after c.args.field)
+          (passed_to view c.args.values.now c.loop-i.i value c.loop-i-test.true c.index-values-i.is)
+          ∙ next_after-push c.args.field (map view (take c.loop-i.i c.args.values.now)) (view value));
+    }

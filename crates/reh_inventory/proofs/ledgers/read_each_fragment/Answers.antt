@@ -1,0 +1,26 @@
+-- One fragment more is read, and the next one has to begin after it does.
+use Rattle.std.proofs.Common.{◌+◌, sym, ap, ◌∙◌, map, take, arith}
+use Rattle.serde_json.specs.View.{view}
+use Rattle.reh_inventory.specs.declared.ledgers.Fragment.{Fragment}
+use Rattle.reh_inventory_fields.specs.declared.members.TheConstants.{MAX_NUMBER}
+use Rattle.reh_inventory.specs.Ledgers.{bounds_after}
+use Rattle.reh_inventory.proofs.LastLemmas.{bounds_after-push}
+use Rattle.reh_inventory_fields.proofs.Lists.{HasMade-next, passed_to}
+use Rattle.reh_inventory.proofs.ledgers.read_each_fragment.Goals as goal
+
+pub loop-i-preserved : goal.loop-i-preserved
+loop-i-preserved c =
+    let so_far = c.loop-i.invariant in
+    let value = c.index-values-i.result in
+    let one = c.in_ok-fragment.ensures in record {
+      made =
+          HasMade-next _ _ c.args.values.now c.loop-i.i value c.loop-i-test.true c.index-values-i.is
+          c.loop-i.fragments.items _ so_far.made
+          (rw (← so_far.bounds) one.fault)
+          (rw (← one.fragment) c.in_ok-push.ensures.items);
+      bounds = ap (λ (f : Fragment). (f.first + 1, MAX_NUMBER)) one.fragment
+          ∙ sym (ap bounds_after
+          (passed_to view c.args.values.now c.loop-i.i value c.loop-i-test.true c.index-values-i.is)
+          ∙ bounds_after-push (map view (take c.loop-i.i c.args.values.now)) (view value));
+      within = omega arith;
+    }

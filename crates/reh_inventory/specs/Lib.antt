@@ -1,0 +1,5 @@
+pub mod Heads
+pub mod Contents
+pub mod Ledgers
+pub mod Lines
+pub mod Inventories

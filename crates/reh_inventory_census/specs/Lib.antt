@@ -1,0 +1,3 @@
+pub mod Counted
+pub mod Shown
+pub mod Numbers

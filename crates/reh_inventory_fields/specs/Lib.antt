@@ -1,0 +1,4 @@
+pub mod Fields
+pub mod Faults
+pub mod Expected
+pub mod Members
