@@ -94,7 +94,7 @@ pub(crate) fn open_file(rt: &HostRuntime, path: &str) -> Result<File, RunFault> 
 }
 
 /// Reads on in a file, up to so many bytes more; or says that it can't be read, and the system's reason.
-fn read_on(
+pub(crate) fn read_on(
     rt: &HostRuntime,
     path: &str,
     file: File,
@@ -108,7 +108,7 @@ fn read_on(
 }
 
 /// How many bytes of a picture are read: a byte more than one may have.
-const PICTURE_BYTES: u64 = MAX_PICTURE_BYTES as u64 + 1;
+pub(crate) const PICTURE_BYTES: u64 = MAX_PICTURE_BYTES as u64 + 1;
 
 /// How many bytes of a census are read after as many as of a picture: a longer one is cut.
 const MORE_CENSUS_BYTES: u64 = 1 << 28;
@@ -144,7 +144,7 @@ fn read_script(rt: &HostRuntime, path: &str) -> Result<Vec<u8>, RunFault> {
 }
 
 /// That a file can't be opened or read, or out of memory.
-fn unread(alloc: Global, failed: &str, path: &str, error: io::Error) -> RunFault {
+pub(crate) fn unread(alloc: Global, failed: &str, path: &str, error: io::Error) -> RunFault {
     match RunFault::from(error) {
         RunFault::NoMemory => RunFault::NoMemory,
         _ => match unread_text(alloc, failed, path, error) {

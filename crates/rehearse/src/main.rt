@@ -8,6 +8,7 @@ mod checks;
 mod faults;
 mod files;
 mod inputs;
+mod inventories;
 mod names;
 mod plans;
 mod progress;
