@@ -10,7 +10,13 @@ use std::alloc::Global;
 pub(crate) fn check_file(rt: &HostRuntime, path: &str) -> Result<(), RunFault> {
     let begins = INVENTORY_BEGINS.as_bytes();
     let mut bytes = Vec::new(rt.alloc());
-    let file = read_on(rt, path, open_file(rt, path)?, begins.len() as u64, &mut bytes)?;
+    let file = read_on(
+        rt,
+        path,
+        open_file(rt, path)?,
+        begins.len() as u64,
+        &mut bytes,
+    )?;
     let text = if bytes.as_slice() == begins {
         check_inventory(rt, path, file, bytes)?
     } else {

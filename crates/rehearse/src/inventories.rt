@@ -35,7 +35,9 @@ fn read_inventory(
     file: File,
     start: Vec<u8>,
 ) -> Result<Inventory, RunFault> {
-    let mut reader = BufReader::new(alloc, file).map_err(|error| unread(alloc, "read", path, error))?;
+    let mut reader = BufReader::new(alloc, file).map_err(|error| unread(
+        alloc, "read", path, error,
+    ))?;
     let mut inventory = Inventory::new(alloc);
     let mut line = start;
     for number in 1..u64::MAX {
@@ -79,7 +81,9 @@ fn refused(alloc: Global, path: &str, line: u64, fault: InventoryFault) -> RunFa
 /// That the last line isn't there.
 fn cut(alloc: Global, path: &str, inventory: &Inventory) -> RunFault {
     let ledgers = inventory.ledgers();
-    match format!(in alloc; "inventory {path}: expected a last line, after the lines of {ledgers} ledgers: the file was cut") {
+    match format!(in alloc;
+        "inventory {path}: expected a last line, after the lines of {ledgers} ledgers: the file was cut"
+    ) {
         Ok(text) => RunFault::Unfit(text),
         Err(want) => RunFault::from(want),
     }
@@ -90,9 +94,16 @@ fn counts_text(alloc: Global, inventory: &Inventory) -> Result<String, AllocErro
     let (mut bookies, mut registered) = (0, 0);
     if let Some(head) = inventory.head() {
         bookies = head.bookies.as_slice().len();
-        registered = head.bookies.as_slice().iter().filter(|bookie| bookie.is_up).count();
+        registered = head
+            .bookies
+            .as_slice()
+            .iter()
+            .filter(|bookie| bookie.is_up)
+            .count();
     }
     let ledgers = inventory.ledgers();
     let unread = inventory.unread();
-    format!(in alloc; "ok\nbookies {bookies} registered {registered}\nledgers {ledgers} unread {unread}\n")
+    format!(in alloc;
+        "ok\nbookies {bookies} up {registered}\nledgers {ledgers} unread {unread}\n"
+    )
 }
