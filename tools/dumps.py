@@ -45,9 +45,10 @@ LEDGER_HEADING = re.compile(f"ledgerID: ({NUMBER})")
 METADATA = re.compile(r"LedgerMetadata\{([^{}\[\]]*), ensembles=\{([^{}]*)\}(?:, customMetadata=\{[^{}]*\})?\}")
 FRAGMENT = re.compile(rf"({NUMBER})=\[([^\[\]{{}}=]*)")
 LEDGERS = re.compile("ledgerID|LedgerMetadata")
+STRANGE_FIELD = "the metadata has a field that isn't known, or twice"
 STATES = {"OPEN", "IN_RECOVERY", "CLOSED"}
 SIZES = ["ensembleSize", "writeQuorumSize", "ackQuorumSize"]
-FIELDS = {"formatVersion", "state", "length", "lastEntryId", "digestType", "password"}
+FIELDS = {"formatVersion", "state", "length", "lastEntryId", "digestType", "password", *SIZES}
 
 # The same in a znode: its first line, its fields with their block before them, and the znode's own facts after them.
 ZNODE_HEADING = re.compile(r"BookieMetadataFormatVersion\s+([0-9]+)")
@@ -182,18 +183,15 @@ def open_dump(file: str) -> BinaryIO:
         raise Fault(f"{file}: {error.strerror}")
 
 
-def text_of(data: bytes, file: str, number: int) -> str:
-    """Returns the text of a dump, from this line on."""
-    try:
-        return data.decode("utf-8")
-    except UnicodeDecodeError as error:
-        raise Fault(f"{file}:{number + data.count(bytes([10]), 0, error.start)}: this is no text")
-
-
 def read_text(file: str) -> str:
     """Returns the text of a dump."""
     with open_dump(file) as it:
-        return text_of(it.read(), file, 1)
+        data = it.read()
+    try:
+        return data.decode()
+    except UnicodeDecodeError as error:
+        number = data.count(b"\n", 0, error.start) + 1
+        raise Fault(f"{file}:{number}: this is no text")
 
 
 def is_json(file: str) -> bool:
@@ -206,13 +204,17 @@ def lines_of(file: str) -> Iterator[Line]:
     """Yields the lines of what the shell printed, but for empty ones."""
     with open_dump(file) as it:
         for number, data in enumerate(it, 1):
-            line = text_of(data, file, number)
-            if not line.endswith("\n"):
-                raise Fault(f"{file}:{number}: the last line has no end, as if the dump was cut")
+            place = f"{file}:{number}"
+            try:
+                line = data.decode()
+            except UnicodeDecodeError:
+                raise Fault(f"{place}: this is no text")
+            if line[-1] != "\n":
+                raise Fault(f"{place}: the last line has no end, as if the dump was cut")
             logged = LOGGED.match(line)
             line = (line[logged.end() :] if logged else line).rstrip()
             if line:
-                yield Line(f"{file}:{number}", line, logged is not None)
+                yield Line(place, line, logged is not None)
 
 
 def data_lines(file: str, data: Pattern[str], passed: Passed) -> Iterator[Line]:
@@ -342,7 +344,7 @@ def single_fields(members: Iterable[Tuple[str, str, str]], known: Set[str]) -> D
     fields: Dict[str, str] = {}
     for name, value, place in members:
         if name not in known or name in fields:
-            raise Fault(f"{place}: the metadata has a field that isn't known, or twice")
+            raise Fault(f"{place}: {STRANGE_FIELD}")
         fields[name] = value
     return fields
 
@@ -354,7 +356,11 @@ def fragments_by_shell(text: str, place: str) -> List[Tuple[int, Tuple[str, ...]
         found = FRAGMENT.fullmatch(part)
         if not (found and text.endswith("]")):
             raise Fault(f"{place}: the ensembles can't be read")
-        fragments.append((int(found[1]), tuple(name_in(name, place) for name in found[2].split(", "))))
+        members = tuple(found[2].split(", "))
+        for name in members:
+            if not is_name(name):
+                name_in(name, place)
+        fragments.append((int(found[1]), members))
     return fragments
 
 
@@ -364,7 +370,9 @@ def metadata_by_shell(line: Line) -> Metadata:
     if not found:
         raise Fault(f"{line.place}: this is no whole metadata of a ledger, as if the dump was cut")
     pairs = [pair.partition("=") for pair in found[1].split(", ")]
-    fields = single_fields([(name, value, line.place) for name, _, value in pairs], FIELDS.union(SIZES))
+    fields = {name: value for name, _, value in pairs}
+    if len(fields) < len(pairs) or not FIELDS.issuperset(fields):
+        raise Fault(f"{line.place}: {STRANGE_FIELD}")
     return metadata_of(fields, SIZES, fragments_by_shell(found[2], line.place), line.place)
 
 

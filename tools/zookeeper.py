@@ -255,11 +255,11 @@ def open_cluster(address: str) -> Iterator[Cluster]:
         import kazoo.exceptions
     except ImportError:
         raise Fault(NO_CLIENT)
-    # The client would say on standard error what is said in a fault.
-    quiet = logging.getLogger("quiet")
+    # What a fault says isn't said by the client, too; and it doesn't connect again, as its requests are lost then.
+    quiet = logging.getLogger("kazoo")
     quiet.addHandler(logging.NullHandler())
     quiet.propagate = False
-    client = kazoo.client.KazooClient(hosts=hosts, timeout=MAX_SECONDS, logger=quiet)
+    client = kazoo.client.KazooClient(hosts=hosts, timeout=MAX_SECONDS, connection_retry={"max_tries": 0})
     try:
         client.start(timeout=MAX_SECONDS)
     except client.handler.timeout_exception:
