@@ -4,10 +4,11 @@ docs/PICTURE.md tells where each dump comes from. A fault has the file and the l
 as it may hold a password.
 """
 
+import io
 import json
 import re
 from functools import lru_cache
-from typing import Any, BinaryIO, Callable, Dict, FrozenSet, Iterable, Iterator, List, NamedTuple, NoReturn, Optional
+from typing import Any, Callable, Dict, FrozenSet, Iterable, Iterator, List, NamedTuple, NoReturn, Optional
 from typing import Pattern, Set, Tuple
 
 MAX_NAME_BYTES = 300
@@ -175,55 +176,58 @@ def by_name(name: str) -> List[Tuple[int, str]]:
     return [(int(part), "") if part.isdigit() else (-1, part) for part in re.findall(r"[0-9]+|[^0-9]+", name)]
 
 
-def open_dump(file: str) -> BinaryIO:
+class Dump(NamedTuple):
+    """A dump that is open, by its name. It is read once, as it may come out of a pipe."""
+
+    file: str
+    stream: io.BufferedReader
+
+    def is_json(self) -> bool:
+        """Whether this is an admin endpoint's answer, and not what the shell printed."""
+        return self.stream.peek(1).lstrip().startswith((b"{", b"["))
+
+    def text(self) -> str:
+        """Returns the whole text."""
+        with self.stream as it:
+            data = it.read()
+        try:
+            return data.decode()
+        except UnicodeDecodeError as error:
+            number = data.count(b"\n", 0, error.start) + 1
+            raise Fault(f"{self.file}:{number}: this is no text")
+
+    def lines(self) -> Iterator[Line]:
+        """Yields the lines of what the shell printed, but for empty ones."""
+        with self.stream as it:
+            for number, data in enumerate(it, 1):
+                place = f"{self.file}:{number}"
+                try:
+                    line = data.decode()
+                except UnicodeDecodeError:
+                    raise Fault(f"{place}: this is no text")
+                if line[-1] != "\n":
+                    raise Fault(f"{place}: the last line has no end, as if the dump was cut")
+                logged = LOGGED.match(line)
+                line = (line[logged.end() :] if logged else line).rstrip()
+                if line:
+                    yield Line(place, line, logged is not None)
+
+
+def open_dump(file: str) -> Dump:
     """Opens a dump."""
     try:
-        return open(file, "rb", buffering=1 << 20)
+        return Dump(file, open(file, "rb", buffering=1 << 20))
     except OSError as error:
         raise Fault(f"{file}: {error.strerror}")
 
 
-def read_text(file: str) -> str:
-    """Returns the text of a dump."""
-    with open_dump(file) as it:
-        data = it.read()
-    try:
-        return data.decode()
-    except UnicodeDecodeError as error:
-        number = data.count(b"\n", 0, error.start) + 1
-        raise Fault(f"{file}:{number}: this is no text")
-
-
-def is_json(file: str) -> bool:
-    """Whether a dump is an admin endpoint's answer, and not what the shell printed."""
-    with open_dump(file) as it:
-        return it.read(4096).lstrip().startswith((b"{", b"["))
-
-
-def lines_of(file: str) -> Iterator[Line]:
-    """Yields the lines of what the shell printed, but for empty ones."""
-    with open_dump(file) as it:
-        for number, data in enumerate(it, 1):
-            place = f"{file}:{number}"
-            try:
-                line = data.decode()
-            except UnicodeDecodeError:
-                raise Fault(f"{place}: this is no text")
-            if line[-1] != "\n":
-                raise Fault(f"{place}: the last line has no end, as if the dump was cut")
-            logged = LOGGED.match(line)
-            line = (line[logged.end() :] if logged else line).rstrip()
-            if line:
-                yield Line(place, line, logged is not None)
-
-
-def data_lines(file: str, data: Pattern[str], passed: Passed) -> Iterator[Line]:
+def data_lines(dump: Dump, data: Pattern[str], passed: Passed) -> Iterator[Line]:
     """Yields the lines of a dump that have data, which begin so, and those that nothing is known of.
 
     Lines of a log without data are passed over, with an exception's lines after them, if `passed` is to be told of them.
     """
     is_after = False
-    for line in lines_of(file):
+    for line in dump.lines():
         if passed is None or data.match(line.text):
             is_after = line.is_logged
             yield line
@@ -234,17 +238,17 @@ def data_lines(file: str, data: Pattern[str], passed: Passed) -> Iterator[Line]:
             yield line
 
 
-def some_lines(file: str, data: Pattern[str], passed: Passed) -> List[Line]:
+def some_lines(dump: Dump, data: Pattern[str], passed: Passed) -> List[Line]:
     """Returns these lines of a dump that has some."""
-    lines = list(data_lines(file, data, passed))
+    lines = list(data_lines(dump, data, passed))
     if not lines:
-        raise Fault(f"{file}:1: nothing stands here")
+        raise Fault(f"{dump.file}:1: nothing stands here")
     return lines
 
 
-def read_object(file: str) -> List[Member]:
+def read_object(dump: Dump) -> List[Member]:
     """Returns the members of the JSON object that an admin endpoint answered."""
-    text = read_text(file)
+    file, text = dump.file, dump.text()
     try:
         value = json.loads(text, object_pairs_hook=Pairs)
     except (ValueError, RecursionError) as error:
@@ -311,10 +315,10 @@ def bookies_by_shell(lines: List[Line], kind: str) -> List[Listed]:
     return listed
 
 
-def bookies_by_admin(file: str) -> List[Listed]:
+def bookies_by_admin(dump: Dump) -> List[Listed]:
     """Returns what `list_bookies` answered: the bookies with their hostnames, or null."""
     listed = []
-    for name, host, place in read_object(file):
+    for name, host, place in read_object(dump):
         if not (host is None or isinstance(host, str) and re.fullmatch(r"\S*", host)):
             raise Fault(f"{place}: a list of bookies has names with a hostname or null")
         listed.append(Listed(name_in(name, place), None, told(host), place))
@@ -323,7 +327,8 @@ def bookies_by_admin(file: str) -> List[Listed]:
 
 def read_bookies(file: str, kind: str, passed: Passed) -> List[Listed]:
     """Returns the bookies of a list, whichever form it has."""
-    return bookies_by_admin(file) if is_json(file) else bookies_by_shell(some_lines(file, LISTED, passed), kind)
+    dump = open_dump(file)
+    return bookies_by_admin(dump) if dump.is_json() else bookies_by_shell(some_lines(dump, LISTED, passed), kind)
 
 
 def metadata_of(fields: Dict[str, str], sizes: List[str], fragments: Any, place: str) -> Metadata:
@@ -466,9 +471,9 @@ def ledgers_by_shell(lines: Iterable[Line], file: str) -> Iterator[Ledger]:
         raise Fault(f"{place}: no ledger stands here")
 
 
-def ledgers_by_admin(file: str) -> Iterator[Ledger]:
+def ledgers_by_admin(dump: Dump) -> Iterator[Ledger]:
     """Yields what `ledger/list` or `ledger/metadata` answered: the ledgers' metadata, as text."""
-    for key, value, place in read_object(file):
+    for key, value, place in read_object(dump):
         lines = [Line(place, line) for line in value.splitlines()] if isinstance(value, str) else []
         if not lines:
             raise Fault(f"{place}: the metadata is no text: ask with print_metadata=true, without decode_meta")
@@ -477,14 +482,15 @@ def ledgers_by_admin(file: str) -> Iterator[Ledger]:
 
 def read_ledgers(file: str, passed: Passed) -> Iterator[Ledger]:
     """Yields the ledgers of a list, whichever form it has."""
-    return ledgers_by_admin(file) if is_json(file) else ledgers_by_shell(data_lines(file, LEDGERS, passed), file)
+    dump = open_dump(file)
+    return ledgers_by_admin(dump) if dump.is_json() else ledgers_by_shell(data_lines(dump, LEDGERS, passed), file)
 
 
 def read_metadata(word: str, passed: Passed) -> Ledger:
     """Returns the ledger of a word `ID=FILE`."""
     number, file = part_word(word)
     ledger = number_in(number, f"the id of `{word}`", "--metadata")
-    return ledger_by_text(ledger, some_lines(file, ZNODE, passed))
+    return ledger_by_text(ledger, some_lines(open_dump(file), ZNODE, passed))
 
 
 def part_word(word: str) -> Tuple[str, str]:
@@ -546,15 +552,21 @@ def ledger_in(text: str, named: Optional[int], line: Line) -> int:
 def read_holdings(
     word: str, data: Pattern[str], entries_of: Callable[[List[Line], Optional[int]], Dict[int, Entries]], passed: Passed
 ) -> List[Holding]:
-    """Returns what the bookie of a word `BOOKIE=FILE` or `BOOKIE/LEDGER=FILE` holds, by a dump of this form."""
+    """Returns what the bookie of a word `BOOKIE=FILE` or `BOOKIE/LEDGER=FILE` holds, by a dump of this form.
+
+    A dump that has nothing but lines that are passed over tells nothing of the ledger that is named.
+    """
     before, file = part_word(word)
     bookie, slash, number = before.partition("/")
     named = number_in(number, f"the ledger of `{before}=`", "the command line") if slash else None
-    lines = some_lines(file, data, passed)
-    entries = entries_of(lines, named)
+    lines = list(data_lines(open_dump(file), data, passed))
+    entries = entries_of(lines, named) if lines else {}
+    place = lines[0].place if lines else f"{file}:1"
+    if passed and named is not None and not lines:
+        return [Holding(bookie, named, frozenset(), frozenset(), place)]
     if not entries:
-        raise Fault(f"{lines[-1].place}: no entry of any ledger stands here: name the ledger, as BOOKIE/LEDGER=FILE")
-    return [Holding(bookie, ledger, held, asked, lines[0].place) for ledger, (held, asked) in entries.items()]
+        raise Fault(f"{place}: no entry of any ledger stands here: name the ledger, as BOOKIE/LEDGER=FILE")
+    return [Holding(bookie, ledger, held, asked, place) for ledger, (held, asked) in entries.items()]
 
 
 def read_index(word: str, passed: Passed) -> List[Holding]:
@@ -583,10 +595,10 @@ def missing_by_shell(lines: Iterable[Line]) -> Dict[int, Set[str]]:
     return missing
 
 
-def missing_by_admin(file: str) -> Dict[int, Set[str]]:
+def missing_by_admin(dump: Dump) -> Dict[int, Set[str]]:
     """Returns what `list_under_replicated_ledger?printmissingreplica=true` answered: the replicas by their ledgers."""
     missing = {}
-    for key, names, place in read_object(file):
+    for key, names, place in read_object(dump):
         if not (isinstance(names, list) and all(isinstance(name, str) for name in names)):
             raise Fault(f"{place}: the missing replicas aren't a list of names: ask with printmissingreplica=true")
         missing[number_in(key, "the ledger's id", place)] = {name_in(name, place) for name in names}
@@ -595,7 +607,8 @@ def missing_by_admin(file: str) -> Dict[int, Set[str]]:
 
 def read_missing(file: str, passed: Passed) -> Dict[int, Set[str]]:
     """Returns the ledgers of a list of those that have a task, with the replicas that it names missing."""
-    return missing_by_admin(file) if is_json(file) else missing_by_shell(data_lines(file, TASKS, passed))
+    dump = open_dump(file)
+    return missing_by_admin(dump) if dump.is_json() else missing_by_shell(data_lines(dump, TASKS, passed))
 
 
 def compare_facts(listed: Iterable[Listed]) -> None:
@@ -635,7 +648,7 @@ def registered_by(files: Dict[str, List[str]], passed: Passed) -> Bookies:
 
 def configured(file: str, field: str) -> Optional[int]:
     """Returns a number of `server_config`, if it has this field."""
-    members = [member for member in read_object(file) if member.key == field]
+    members = [member for member in read_object(open_dump(file)) if member.key == field]
     return number_in(str(members[-1].value), field, members[-1].place) if members else None
 
 
