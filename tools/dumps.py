@@ -12,6 +12,8 @@ from typing import Any, Callable, Dict, FrozenSet, Iterable, Iterator, List, Nam
 from typing import Pattern, Set, Tuple
 
 MAX_NAME_BYTES = 300
+# How many bytes of a dump are read at once.
+BUFFER = 1 << 20
 
 GRACE_FIELD = "openLedgerRereplicationGracePeriod"
 DEFAULT_GRACE_MS = 30_000
@@ -216,7 +218,7 @@ class Dump(NamedTuple):
 def open_dump(file: str) -> Dump:
     """Opens a dump."""
     try:
-        return Dump(file, open(file, "rb", buffering=1 << 20))
+        return Dump(file, io.BufferedReader(io.FileIO(file), BUFFER))
     except OSError as error:
         raise Fault(f"{file}: {error.strerror}")
 
@@ -292,13 +294,13 @@ def told(text: Optional[str]) -> Optional[str]:
 def listed_by_id(line: Line) -> Optional[Listed]:
     """Returns the bookie of a line `BookieID:bk1:3181, IP:10.0.0.1, Port:3181, Hostname:bk1`."""
     found = LISTED_BY_ID.fullmatch(line.text)
-    return found and Listed(name_in(found[1], line.place), told(found[2]), told(found[3]), line.place)
+    return Listed(name_in(found[1], line.place), told(found[2]), told(found[3]), line.place) if found else None
 
 
 def listed_by_address(line: Line) -> Optional[Listed]:
     """Returns the bookie of an older line `bk1:3181 10.0.0.1 (bk1)`, with a tab, or of a bare `bk1:3181`."""
     found = LISTED_BY_ADDRESS.fullmatch(line.text)
-    return found and Listed(name_in(found[1], line.place), told(found[2]), told(found[3]), line.place)
+    return Listed(name_in(found[1], line.place), told(found[2]), told(found[3]), line.place) if found else None
 
 
 def bookies_by_shell(lines: List[Line], kind: str) -> List[Listed]:
@@ -513,9 +515,9 @@ def entries_indexed(lines: List[Line], named: Optional[int]) -> Dict[int, Entrie
             entries.setdefault(ledger, set())
         elif indexed and ledger is None:
             raise Fault(f"{line.place}: name the ledger, as BOOKIE/LEDGER=FILE")
-        elif indexed and indexed[2] != "N/A":
-            entries[ledger].add(int(indexed[1]))
-        elif not (indexed or INDEX_FACT.fullmatch(line.text)):
+        elif indexed and ledger is not None:
+            entries[ledger].update([] if indexed[2] == "N/A" else [int(indexed[1])])
+        elif not INDEX_FACT.fullmatch(line.text):
             unknown(line, "an index")
     return {ledger: Entries(frozenset(held), None) for ledger, held in entries.items()}
 
