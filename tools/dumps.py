@@ -262,7 +262,7 @@ def read_object(dump: Dump) -> List[Member]:
         found = max(before, text.find(json.dumps(key), before))
         number += text.count("\n", before, found)
         members.append(Member(key, member, f"{file}:{number}"))
-        before = found
+        before = found + 1
     return members
 
 
