@@ -40,7 +40,7 @@ HEADINGS = {"rw": "ReadWrite Bookies :", "ro": "Readonly Bookies :", "all": "All
 NO_BOOKIE = "No bookie exists!"
 LISTED_BY_ID = re.compile(r"BookieID:(\S+), IP:(\S*), Port:\S*, Hostname:(\S*)")
 LISTED_BY_ADDRESS = re.compile(r"([^\s,:]+:[0-9]{1,5})(?:\s+(\S+) \((\S+)\))?")
-LISTED = re.compile(rf"BookieID:|\w+ Bookies|{NO_BOOKIE}|{LISTED_BY_ADDRESS.pattern}$")
+LISTED = re.compile(rf"BookieID:|(?:ReadWrite|Readonly|All) Bookies|{NO_BOOKIE}|{LISTED_BY_ADDRESS.pattern}$")
 UNRESOLVED = {"", "UNKNOWN", "N/A"}
 
 # A ledger and its metadata as BookKeeper prints them, and its fragments among them.
@@ -61,7 +61,8 @@ ZNODE_BLOCKS = {"segment": {"ensembleMember", "firstEntryId"}, "customMetadata":
 ZNODE_FACTS = {"cZxid", "mZxid", "pZxid", "ctime", "mtime", "cversion", "dataVersion", "aclVersion"}
 ZNODE_FACTS |= {"ephemeralOwner", "dataLength", "numChildren"}
 
-ZNODE = re.compile(r"LedgerMetadata|BookieMetadataFormatVersion|\s*(?:\w+: |\w+ = |\w+ \{|\}$)")
+ZNODE_WORDS = "|".join(sorted({*ZNODE_SIZES, *ZNODE_FIELDS, *ZNODE_FACTS}.union(*ZNODE_BLOCKS.values())))
+ZNODE = re.compile(rf"LedgerMetadata|BookieMetadataFormatVersion|\s*(?:(?:{ZNODE_WORDS})(?:: | = )|\w+ \{{$|\}}$)")
 
 # What `ledger` prints of an index, and `readledger` of entries.
 INDEX_HEADING = re.compile(f"===== LEDGER: ({NUMBER}) =====")
