@@ -259,7 +259,10 @@ def open_cluster(address: str) -> Iterator[Cluster]:
     quiet = logging.getLogger("kazoo")
     quiet.addHandler(logging.NullHandler())
     quiet.propagate = False
-    client = kazoo.client.KazooClient(hosts=hosts, timeout=MAX_SECONDS, connection_retry={"max_tries": 0})
+    try:
+        client = kazoo.client.KazooClient(hosts=hosts, timeout=MAX_SECONDS, connection_retry={"max_tries": 0})
+    except ValueError:
+        raise Fault(f"{address}: this is no HOST:PORT,HOST:PORT/ROOT")
     try:
         client.start(timeout=MAX_SECONDS)
     except client.handler.timeout_exception:
