@@ -649,10 +649,10 @@ def registered_by(files: Dict[str, List[str]], passed: Passed) -> Bookies:
     return {name: Shown(name in writing or name in reading, name in reading) for name in {**writing, **reading, **known}}
 
 
-def configured(file: str, field: str) -> Optional[int]:
-    """Returns a number of `server_config`, if it has this field."""
-    members = [member for member in read_object(open_dump(file)) if member.key == field]
-    return number_in(str(members[-1].value), field, members[-1].place) if members else None
+def configured(file: str, fields: Set[str]) -> Dict[str, int]:
+    """Returns those of these fields that `server_config` has, which are numbers."""
+    members = [member for member in read_object(open_dump(file)) if member.key in fields]
+    return {key: number_in(str(value), key, place) for key, value, place in members}
 
 
 def merged_ledgers(ledgers: Iterable[Ledger]) -> Dict[int, Ledger]:

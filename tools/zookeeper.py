@@ -192,6 +192,8 @@ class Cluster:
     def __init__(self, server: Server, root: str) -> None:
         self.server = server
         self.root = root
+        # Under Pulsar the racks stand beside the root of the ledgers.
+        self.racks = f"{root.rpartition('/')[0]}/bookies"
         self.judge_layout()
 
     def judge_layout(self) -> None:
@@ -221,13 +223,13 @@ class Cluster:
         }
 
     def shape(self) -> Shape:
-        """Returns all but the ledgers. Under Pulsar the racks stand beside the root of the ledgers."""
+        """Returns all but the ledgers."""
         delay = self.server.data(f"{self.root}/underreplication/lostBookieRecoveryDelay")
         if delay is not None and not re.fullmatch(rb"[0-9]{1,10}", delay):
             raise Fault(f"{self.root}/underreplication/lostBookieRecoveryDelay: this is no number of seconds")
         return Shape(
             self.bookies(),
-            self.server.data(f"{self.root.rpartition('/')[0]}/bookies"),
+            self.server.data(self.racks),
             None if delay is None else int(delay),
             self.missing(),
             self.server.data(f"{self.root}/underreplication/disable") is not None,
