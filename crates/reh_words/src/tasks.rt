@@ -283,7 +283,7 @@ fn talk_command<'a>(alloc: Global) -> Result<Command<'a>, Error> {
 /// The command `check`.
 fn check_command<'a>(alloc: Global) -> Result<Command<'a>, Error> {
     let command = Command::new(alloc, "check")
-        .about("Says how much a picture shows, or where it is wrong")
+        .about("Says how much a picture or an inventory shows, or where it is wrong")
         .arg(picture_arg(alloc))?;
     Ok(command)
 }

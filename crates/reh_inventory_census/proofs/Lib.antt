@@ -1,4 +1,0 @@
-pub mod RangeLemmas
-pub mod StopLaws
-pub mod ShownLaws
-pub mod NumberLemmas

@@ -1,3 +1,0 @@
-pub mod Counted
-pub mod Shown
-pub mod Numbers
