@@ -103,7 +103,5 @@ fn counts_text(alloc: Global, inventory: &Inventory) -> Result<String, AllocErro
     }
     let ledgers = inventory.ledgers();
     let unread = inventory.unread();
-    format!(in alloc;
-        "ok\nbookies {bookies} up {registered}\nledgers {ledgers} unread {unread}\n"
-    )
+    format!(in alloc; "ok\nbookies {bookies} up {registered}\nledgers {ledgers} unread {unread}\n")
 }
