@@ -117,10 +117,9 @@ fn line_fault(located: LineFault) -> InventoryFault
     ensures memory { located.fault ≡ Fault.NoMemory → result ≡ InventoryFault.NoMemory }
     ensures line { located.fault ≢ Fault.NoMemory → result ≡ InventoryFault.Line located }
 {
-    if located.fault == Fault::NoMemory {
-        InventoryFault::NoMemory
-    } else {
-        InventoryFault::Line(located)
+    match located.fault {
+        Fault::NoMemory => InventoryFault::NoMemory,
+        _ => InventoryFault::Line(located),
     }
 }
 
