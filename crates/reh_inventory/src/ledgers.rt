@@ -58,7 +58,7 @@ impl Model for FragmentList {
 
 impl FragmentList {
     /// These fragments.
-    pub(crate) fn of(items: Vec<Fragment>) -> FragmentList
+    pub fn of(items: Vec<Fragment>) -> FragmentList
         ensures { result ≡ items.items }
     {
         FragmentList { items }
@@ -69,6 +69,14 @@ impl FragmentList {
         ensures { result.now ≡ self.now }
     {
         &self.items
+    }
+
+    /// Takes the last fragment off, if there is one.
+    pub fn pop(&mut self) -> Option<Fragment>
+        ensures last { result ≡ slice_get self.old (length self.old - 1) }
+        ensures rest { self.new ≡ take (length self.old - 1) self.old }
+    {
+        self.items.pop()
     }
 }
 

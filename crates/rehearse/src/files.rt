@@ -3,6 +3,7 @@ ghost use Rattle.std.specs.Prelude.{◌≡◌, false, None, length, IfOk, OnOk, 
 ghost use Rattle.std.specs.Io.{ReadsAtMost};
 
 use crate::faults::RunFault;
+use crate::inventories::INVENTORY_BEGINS;
 use reh_census_file::is_census;
 use reh_script::{FromRead, StreamFault, TextIn};
 use reh_types::{MAX_PICTURE_BYTES, MAX_SCRIPT_BYTES};
@@ -120,14 +121,34 @@ pub(crate) fn read_picture(rt: &HostRuntime, path: &str) -> Result<Vec<u8>, RunF
     Ok(bytes)
 }
 
-/// The bytes of an input's file: all of a census, and of a picture as many as are read of one.
-pub(crate) fn read_input_file(rt: &HostRuntime, path: &str) -> Result<Vec<u8>, RunFault> {
+/// What was read of an input's file.
+#[derive(Drop)]
+pub(crate) enum InputBytes {
+    /// The bytes of a picture or of a census.
+    Whole(Vec<u8>),
+    /// The file of an inventory, with the bytes that were read of it.
+    Inventory(File, Vec<u8>),
+}
+
+/// The bytes of an input's file: all of a census, of a picture as many as are read of one, and of an inventory its beginning.
+pub(crate) fn read_input_file(rt: &HostRuntime, path: &str) -> Result<InputBytes, RunFault> {
+    let begins = INVENTORY_BEGINS.as_bytes();
     let mut bytes = Vec::new(rt.alloc());
-    let file = read_on(rt, path, open_file(rt, path)?, PICTURE_BYTES, &mut bytes)?;
+    let file = read_on(
+        rt,
+        path,
+        open_file(rt, path)?,
+        begins.len() as u64,
+        &mut bytes,
+    )?;
+    if bytes.as_slice() == begins {
+        return Ok(InputBytes::Inventory(file, bytes));
+    }
+    let file = read_on(rt, path, file, PICTURE_BYTES, &mut bytes)?;
     if is_census(&bytes) {
         read_on(rt, path, file, MORE_CENSUS_BYTES, &mut bytes)?;
     }
-    Ok(bytes)
+    Ok(InputBytes::Whole(bytes))
 }
 
 /// The bytes of a script's file, and of a longer one a byte more than a script may have.

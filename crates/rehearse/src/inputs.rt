@@ -6,7 +6,8 @@ ghost use Rattle.reh_inputs.specs.Named.{taken_of as model_taken};
 ghost use Rattle.rehearse.specs.Inputs as model;
 
 use crate::faults::RunFault;
-use crate::files::{read_input_file, write_out};
+use crate::files::{InputBytes, read_input_file, write_out};
+use crate::inventories::count_inventory;
 use crate::progress::{Progress, Teller};
 use reh_census_file::{CensusFault, NamedCensus, census_text};
 use reh_census_json::census_json;
@@ -127,7 +128,7 @@ fn read_files<R: thread::Threads + Wait + Sync>(
             requires { number < length files.now }
             ensures { model.IsInSlot slot.exit.now }
         {
-            *slot = Some(read_one(rt, files[number]));
+            *slot = Some(read_one(rt, files[number], inputs.strict));
             progress.count();
         },
     );
@@ -177,10 +178,16 @@ fn push_read(read: &mut Vec<Input>, one: Input) -> Result<(), AllocError>
 }
 
 /// What a file shows.
-fn read_one(rt: &HostRuntime, path: &str) -> Result<Input, RunFault>
+fn read_one(rt: &HostRuntime, path: &str, strict: bool) -> Result<Input, RunFault>
     ensures { IfOk result model.IsOfBytes }
 {
-    let bytes = read_input_file(rt, path)?;
+    let bytes = match read_input_file(rt, path)? {
+        InputBytes::Whole(bytes) => bytes,
+        InputBytes::Inventory(file, start) => {
+            let census = count_inventory(rt.alloc(), path, file, start, strict)?;
+            return Ok(Input::Census(census));
+        }
+    };
     match read_input(rt.alloc(), &bytes) {
         Ok(input) => Ok(input),
         Err(fault) => Err(unreadable(rt.alloc(), path, fault)),

@@ -1,10 +1,12 @@
-// An inventory that is checked, line by line.
+// Inventories, read line by line: one that is checked, and one whose ledgers are counted.
 use crate::faults::RunFault;
 use crate::files::unread;
+use reh_census_file::{NameList, NamedCensus};
 use reh_inventory::{Inventory, InventoryFault};
+use reh_inventory_census::{CountFault, InventoryCount, in_order, number_line};
 use std::alloc::{AllocError, Global};
 use std::fs::File;
-use std::io::{BufRead, BufReader, Read};
+use std::io::{BufRead, BufReader, Read, Seek};
 
 /// How an inventory begins.
 pub(crate) const INVENTORY_BEGINS: &str = "{\"inventory\"";
@@ -54,10 +56,10 @@ fn read_inventory(
 }
 
 /// Reads the rest of a line of which some bytes may be there.
-fn read_line(
+fn read_line<R: Read + Drop>(
     alloc: Global,
     path: &str,
-    reader: &mut BufReader<File>,
+    reader: &mut BufReader<R>,
     line: &mut Vec<u8>,
 ) -> Result<(), RunFault> {
     let mut part = reader.by_ref().take(MAX_LINE_BYTES);
@@ -104,4 +106,126 @@ fn counts_text(alloc: Global, inventory: &Inventory) -> Result<String, AllocErro
     let ledgers = inventory.ledgers();
     let unread = inventory.unread();
     format!(in alloc; "ok\nbookies {bookies} up {registered}\nledgers {ledgers} unread {unread}\n")
+}
+
+/// The census of the inventory in a file of which this was read. Its lines are read twice: first the names of all bookies,
+/// so that each has its number, in their order, before any ledger is counted. Where a file can't be read twice, as a pipe, all
+/// of it is kept in memory.
+pub(crate) fn count_inventory(
+    alloc: Global,
+    path: &str,
+    file: File,
+    start: Vec<u8>,
+    is_strict: bool,
+) -> Result<NamedCensus, RunFault> {
+    let mut file = file;
+    if file.rewind().is_err() {
+        let mut bytes = start;
+        file.read_to_end(&mut bytes)
+            .map_err(|error| unread(alloc, "read", path, error))?;
+        return count_bytes(alloc, path, &bytes, is_strict);
+    }
+    let mut reader = reader_of(alloc, path, file)?;
+    let names = names_in(alloc, path, &mut reader)?;
+    let mut file = reader.into_inner();
+    file.rewind()
+        .map_err(|error| unread(alloc, "read", path, error))?;
+    let mut reader = reader_of(alloc, path, file)?;
+    count_lines(alloc, path, &mut reader, names, is_strict)
+}
+
+/// The census of the inventory of these bytes.
+fn count_bytes(
+    alloc: Global,
+    path: &str,
+    bytes: &[u8],
+    is_strict: bool,
+) -> Result<NamedCensus, RunFault> {
+    let names = names_in(alloc, path, &mut reader_of(alloc, path, bytes)?)?;
+    count_lines(
+        alloc,
+        path,
+        &mut reader_of(alloc, path, bytes)?,
+        names,
+        is_strict,
+    )
+}
+
+/// A reader that reads ahead.
+fn reader_of<R: Read + Drop>(alloc: Global, path: &str, inner: R) -> Result<BufReader<R>, RunFault> {
+    BufReader::new(alloc, inner).map_err(|error| unread(alloc, "read", path, error))
+}
+
+/// The names of the bookies that an inventory has, in their order.
+fn names_in<R: Read + Drop>(
+    alloc: Global,
+    path: &str,
+    reader: &mut BufReader<R>,
+) -> Result<NameList, RunFault> {
+    let mut names = NameList::new(alloc);
+    let mut line = Vec::new(alloc);
+    for number in 1..u64::MAX {
+        read_line(alloc, path, reader, &mut line)?;
+        if line.is_empty() {
+            break;
+        }
+        match number_line(alloc, &mut names, &line) {
+            Ok(()) => line.clear(),
+            Err(fault) => return Err(uncounted(alloc, path, number, fault)),
+        }
+    }
+    let ordered = in_order(alloc, &names)?;
+    Ok(ordered)
+}
+
+/// The census of an inventory's lines, where bookies have the numbers of these names.
+fn count_lines<R: Read + Drop>(
+    alloc: Global,
+    path: &str,
+    reader: &mut BufReader<R>,
+    names: NameList,
+    is_strict: bool,
+) -> Result<NamedCensus, RunFault> {
+    let mut line = Vec::new(alloc);
+    read_line(alloc, path, reader, &mut line)?;
+    let mut count = match InventoryCount::begin(alloc, names, is_strict, &line) {
+        Ok(count) => count,
+        Err(fault) => return Err(uncounted(alloc, path, 1, fault)),
+    };
+    for number in 2..u64::MAX {
+        line.clear();
+        read_line(alloc, path, reader, &mut line)?;
+        if line.is_empty() {
+            break;
+        }
+        if let Err(fault) = count.add(alloc, &line) {
+            return Err(uncounted(alloc, path, number, fault));
+        }
+    }
+    count.finish(alloc)
+        .map_err(|fault| uncounted(alloc, path, 1, fault))
+}
+
+/// The fault of a line that can't be counted.
+fn uncounted(alloc: Global, path: &str, line: u64, fault: CountFault) -> RunFault {
+    let text = match fault {
+        CountFault::Line(fault) => return refused(alloc, path, line, fault),
+        CountFault::NoMemory => return RunFault::NoMemory,
+        CountFault::TooManyBookies => format!(in alloc;
+            "inventory {path}: line {line}: there are more than 4096 bookies"
+        ),
+        CountFault::Unfit(id) => format!(in alloc;
+            "inventory {path}: line {line}: ledger {id} can't be counted"
+        ),
+        CountFault::HoldsThoughEmpty(id) => format!(in alloc;
+            "inventory {path}: line {line}: a bookie that is shown as empty holds entries of ledger {id}: leave out one of the two"
+        ),
+        CountFault::TooMany => format!(in alloc;
+            "inventory {path}: there are more entries, ledgers or fragments than can be counted"
+        ),
+    };
+    match text {
+        Ok(text) => RunFault::Unfit(text),
+        Err(want) => RunFault::from(want),
+    }
 }

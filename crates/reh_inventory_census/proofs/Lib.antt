@@ -1,0 +1,4 @@
+pub mod RangeLemmas
+pub mod StopLaws
+pub mod ShownLaws
+pub mod NumberLemmas

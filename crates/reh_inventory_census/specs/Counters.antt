@@ -1,0 +1,35 @@
+-- What a counter has counted.
+use Rattle.std.specs.Prelude.{◌≡◌, ℕ, Bool, List, map, length, if◌then◌else◌}
+use Rattle.std.specs.List.{flat_map}
+use Rattle.reh_census.specs.Bookies.{bookies_of, holders}
+use Rattle.reh_census.specs.Counting.{count_entries}
+use Rattle.reh_inventory.specs.declared.ledgers.LedgerLine.{LedgerLine}
+use Rattle.reh_inventory_census.specs.declared.counter.Counter.{Counter}
+use Rattle.reh_inventory_census.specs.Counted.{assumed, counted}
+use Rattle.reh_inventory_census.specs.Counting.{CountsLedgers, is_held}
+use Rattle.reh_inventory_census.specs.Parts.{parts_of as model_parts}
+
+abbrev pub parts_of : LedgerLine → List LedgerLine
+parts_of line = model_parts line
+
+-- both count alike, in the same cluster
+pub record IsOfSame (one other : Counter) : Type 0 where
+  pub names : one.names ≡ other.names
+  pub bookies : one.bookies ≡ other.bookies
+  pub assumes : one.assumes_striped ≡ other.assumes_striped
+  pub strict : one.is_strict ≡ other.is_strict
+
+abbrev pub holders_of : Counter → List ℕ
+holders_of c = holders (bookies_of c.bookies)
+
+-- it has counted these parts of ledgers
+pub record CountsParts (parts : List LedgerLine) (c : Counter) : Type 0 where
+  pub counts : CountsLedgers (holders_of c) (map (counted c.names c.assumes_striped c.is_strict) parts) c.counts
+  pub assumed_by : c.assumed
+      ≡ (if c.is_strict then 0
+      else count_entries (holders_of c) (map (assumed c.names c.assumes_striped) parts) is_held)
+
+-- it has counted the ledgers of these lines
+pub record CountsLines (lines : List LedgerLine) (c : Counter) : Type 0 where
+  pub parts : CountsParts (flat_map parts_of lines) c
+  pub ledgers : c.ledgers ≡ length lines

@@ -1,0 +1,9 @@
+pub mod Bookies
+pub mod Census
+pub mod Counted
+pub mod Counters
+pub mod Counting
+pub mod Faults
+pub mod Numbers
+pub mod Parts
+pub mod Shown

@@ -1,0 +1,36 @@
+-- The numbers of bookies, and of the members of ensembles: their places among the names.
+use Rattle.std.specs.Prelude.{ℕ, List, fold, Result, Ok, Err}
+use Rattle.reh_census_file.specs.Names.{with_name}
+use Rattle.reh_inventory.specs.declared.heads.Bookie.{Bookie}
+use Rattle.reh_inventory.specs.declared.heads.Head.{Head}
+use Rattle.reh_inventory.specs.declared.ledgers.Fragment.{Fragment}
+use Rattle.reh_inventory.specs.declared.ledgers.LedgerLine.{LedgerLine}
+use Rattle.reh_inventory.specs.declared.lines.Line.{Line}
+use Rattle.reh_inventory.specs.declared.lines.Line.TheVariants as line
+use Rattle.reh_inventory_fields.specs.declared.faults.Fault.{Fault}
+use Rattle.reh_inventory_fields.specs.declared.places.Place.{Place}
+
+abbrev pub with_bookie : List (List ℕ) → Bookie → List (List ℕ)
+with_bookie names bookie = with_name names bookie.name
+
+-- the names with those of the first line's bookies that weren't there, each as the last
+abbrev pub with_bookies : List (List ℕ) → Head → List (List ℕ)
+with_bookies names head = fold with_bookie names head.bookies
+
+abbrev pub with_ensemble : List (List ℕ) → Fragment → List (List ℕ)
+with_ensemble names fragment = fold with_name names fragment.ensemble
+
+-- the names with those of the ledger's members that weren't there, each as the last
+abbrev pub with_members : List (List ℕ) → LedgerLine → List (List ℕ)
+with_members names line = fold with_ensemble names line.fragments
+
+-- the names with those of the bookies that a line names, as bookies or as members of ensembles
+abbrev pub with_line : List (List ℕ) → Line → List (List ℕ)
+with_line names (line.Head head) = with_bookies names head
+with_line names (line.Ledger ledger) = with_members names ledger
+with_line names (line.Unread id) = names
+with_line names (line.End ledgers) = names
+
+abbrev pub with_said : List (List ℕ) → Result Line (Fault × Place) → List (List ℕ)
+with_said names (Ok said) = with_line names said
+with_said names (Err found) = names

@@ -1,0 +1,85 @@
+// The bookies of an inventory's first line, as a census has them.
+ghost use Rattle.std.specs.Prelude.{◌≡◌, ◌<◌, ◌≤◌, IfOk, OnOk, fold, length, map, slice_get, position};
+ghost use Rattle.std.specs.Option.{option_map_or};
+ghost use Rattle.std.specs.Str.{bytes_eq};
+ghost use Rattle.reh_census_file.specs.declared.lists.TheConstants.{MAX_NAMES};
+ghost use Rattle.reh_inventory_census.specs.Bookies as model;
+
+use reh_census::{Bookie as CountedBookie, Bookies};
+use reh_census_file::{MAX_NAMES, NameList};
+use reh_inventory::{Bookie, Head};
+use std::alloc::{AllocError, Global};
+
+/// Adds the rack of a bookie as the last, unless it is there.
+fn add_rack(racks: &mut NameList, bookie: &Bookie) -> Result<(), AllocError>
+    requires { length racks.old < MAX_NAMES }
+    ensures { OnOk result (racks.new ≡ model.with_rack racks.old bookie.now) }
+{
+    if let Some(rack) = &bookie.rack {
+        racks.add(rack.as_str())?;
+    }
+    Ok(())
+}
+
+/// The racks of the first line, each once, as its bookies first name them.
+pub(crate) fn racks_of(alloc: Global, bookies: &[Bookie]) -> Result<NameList, AllocError>
+    requires { length bookies.now ≤ MAX_NAMES }
+    ensures { IfOk result (λ racks. racks ≡ model.racks_of bookies.now) }
+{
+    let mut racks = NameList::new(alloc);
+    for bookie in bookies {
+        add_rack(&mut racks, bookie)?;
+    }
+    Ok(racks)
+}
+
+/// The bookie of this name, as a census has it. One that the first line doesn't have isn't registered.
+fn bookie_of(racks: &NameList, bookies: &[Bookie], name: &str) -> CountedBookie
+    ensures { result ≡ model.bookie_of racks.now bookies.now name.now }
+{
+    let Some(place) = bookies
+        .iter()
+        .position(|bookie| bookie.name.as_str() == name) else {
+        return CountedBookie {
+            is_registered: false,
+            is_read_only: false,
+            is_empty: false,
+            rack: None,
+        };
+    };
+    let bookie = &bookies[place];
+    CountedBookie {
+        is_registered: bookie.is_up,
+        is_read_only: bookie.is_read_only,
+        is_empty: bookie.is_empty,
+        rack: rack_number(racks, bookie),
+    }
+}
+
+/// The number of a bookie's rack.
+fn rack_number(racks: &NameList, bookie: &Bookie) -> Option<u16>
+    ensures { result ≡ model.rack_number racks.now bookie.now }
+{
+    match &bookie.rack {
+        Some(rack) => racks.find(rack.as_str().as_bytes()),
+        None => None,
+    }
+}
+
+/// The bookies of these names, as a census has them.
+pub(crate) fn bookies_of(
+    alloc: Global,
+    names: &NameList,
+    racks: &NameList,
+    bookies: &[Bookie],
+) -> Result<Bookies, AllocError>
+    ensures { IfOk result (λ counted. counted ≡ map (model.bookie_of racks.now bookies.now) names.now) }
+{
+    let mut counted = Vec::new(alloc);
+    for number in 0..names.len() {
+        if let Some(name) = names.name(number as u16) {
+            counted.push(bookie_of(racks, bookies, name))?;
+        }
+    }
+    Ok(Bookies::of(counted))
+}

@@ -1,0 +1,123 @@
+// The census of an inventory, line after line.
+ghost use Rattle.std.specs.Prelude.{◌≡◌, ◌++◌, ◌∷◌, [], ℕ, Bool, List, IfOk, OnOk, option_map, string_bytes};
+ghost use Rattle.reh_inventory_census.specs.Census as model;
+
+use crate::bookies::{bookies_of, racks_of};
+use crate::counter::Counter;
+use crate::counts::Counts;
+use crate::faults::CountFault;
+use reh_census::Judged;
+use reh_census_file::{NameList, NamedCensus};
+use reh_inventory::{Head, Inventory, InventoryFault};
+use reh_tally::census_of_counts;
+use std::alloc::{AllocError, Global};
+
+/// What was counted of the lines of an inventory, the first line among them.
+#[derive(Drop)]
+pub struct InventoryCount {
+    inventory: Inventory,
+    counter: Counter,
+    racks: NameList,
+    taken: Option<String>,
+}
+
+/// When an inventory was taken, if that is told.
+fn taken_of(alloc: Global, head: &Head) -> Result<Option<String>, AllocError>
+    ensures { IfOk result (λ taken. option_map string_bytes taken ≡ head.now.taken) }
+{
+    match &head.taken {
+        Some(time) => Ok(Some(String::from_str(alloc, time.as_str())?)),
+        None => Ok(None),
+    }
+}
+
+impl InventoryCount {
+    /// Nothing counted but an inventory's first line. Bookies have the numbers of these names; one that isn't among them
+    /// counts as not registered. In a strict count what is assumed counts as untold.
+    pub fn begin(
+        alloc: Global,
+        names: NameList,
+        is_strict: bool,
+        first_line: &[u8],
+    ) -> Result<InventoryCount, CountFault>
+        ensures { IfOk result (model.IsCount names is_strict (first_line.now ∷ [])) }
+    {
+        let mut inventory = Inventory::new(alloc);
+        inventory.add(alloc, first_line)?;
+        let Some(head) = inventory.head() else {
+            return Err(CountFault::Line(InventoryFault::NoHead));
+        };
+        let racks = racks_of(alloc, head.bookies.as_slice())?;
+        let bookies = bookies_of(alloc, &names, &racks, head.bookies.as_slice())?;
+        let counter = Counter {
+            names,
+            bookies,
+            assumes_striped: head.assumes_striped,
+            is_strict,
+            counts: Counts::new(alloc),
+            ledgers: 0,
+            assumed: 0,
+        };
+        let taken = taken_of(alloc, head)?;
+        Ok(InventoryCount {
+            inventory,
+            counter,
+            racks,
+            taken,
+        })
+    }
+
+    /// Adds the next line. After an `Err` a part of it may be counted.
+    pub fn add(&mut self, alloc: Global, line: &[u8]) -> Result<(), CountFault>
+        ensures { OnOk result ((names : List (List ℕ)) (strict : Bool) (lines : List (List ℕ))
+            → model.IsCount names strict lines self.old
+            → model.IsCount names strict (lines ++ line.now ∷ []) self.new) }
+    {
+        match self.inventory.add(alloc, line)? {
+            Some(ledger) => self.counter.add(alloc, ledger),
+            None => Ok(()),
+        }
+    }
+
+    /// What the lines say so far.
+    pub fn inventory(&self) -> &Inventory
+        ensures { result.now ≡ self.now.inventory }
+    {
+        &self.inventory
+    }
+
+    /// The census of the ledgers that the lines have. Where no last line came, it says that a ledger wasn't judged.
+    pub fn finish(self, alloc: Global) -> Result<NamedCensus, CountFault>
+        ensures { IfOk result (λ census. (names : List (List ℕ)) (strict : Bool) (lines : List (List ℕ))
+            → model.IsCount names strict lines self → model.IsCensusOf names strict lines census) }
+    {
+        let InventoryCount {
+            inventory,
+            counter,
+            racks,
+            taken,
+        } = self;
+        let judged = Judged {
+            ledgers: counter.ledgers,
+            assumed: counter.assumed,
+            unread: inventory.unread(),
+            missing: u64::from(!inventory.is_whole()),
+        };
+        let counts = counter.counts;
+        let census = census_of_counts(
+            alloc,
+            counts.entries,
+            counts.tails,
+            counts.ensembles,
+            judged,
+        )?;
+        Ok(NamedCensus::of(
+            counter.names,
+            racks,
+            counter.bookies,
+            census,
+            counter.is_strict,
+            taken,
+        ))
+    }
+}

@@ -1,0 +1,100 @@
+// What is counted of the ledgers of an inventory, line after line.
+ghost use Rattle.std.specs.Prelude.{◌≡◌, ◌++◌, ◌∷◌, [], ℕ, List, OnOk, IfOk, IfErr, IfSome};
+ghost use Rattle.reh_census.specs.Bookies.{bookies_of, holders};
+ghost use Rattle.reh_census.specs.Counting.{count_entries};
+ghost use Rattle.reh_inventory.specs.declared.ledgers.LedgerLine.{LedgerLine as LineValue};
+ghost use Rattle.reh_inventory_census.specs.Counters as model;
+ghost use Rattle.reh_inventory_census.specs.Counted.{assumed as assumed_of};
+ghost use Rattle.reh_inventory_census.specs.Counting.{is_held};
+
+use crate::counted::{assumed_ledger, counted_ledger};
+use crate::counts::{Counts, held_among};
+use crate::faults::{CountFault, unfit};
+use crate::parts::{alone, has_parts};
+use reh_census::Bookies;
+use reh_census_file::NameList;
+use reh_inventory::{LedgerLine, LedgerState};
+use reh_tally::entries_of;
+use std::alloc::Global;
+
+/// Ledgers of an inventory, counted.
+#[derive(Drop)]
+pub(crate) struct Counter {
+    pub(crate) names: NameList,
+    pub(crate) bookies: Bookies,
+    pub(crate) assumes_striped: bool,
+    pub(crate) is_strict: bool,
+    pub(crate) counts: Counts,
+    pub(crate) ledgers: u64,
+    pub(crate) assumed: u64,
+}
+
+/// How many entries of a part of a ledger have a known copy by an assumption; 0 with `is_strict`.
+fn count_assumed(
+    alloc: Global,
+    names: &NameList,
+    bookies: &Bookies,
+    assumes_striped: bool,
+    line: &LedgerLine,
+) -> Result<u64, CountFault>
+    ensures { IfOk result (λ assumed. assumed
+        ≡ count_entries (holders (bookies_of bookies.now)) (assumed_of names.now assumes_striped line.now ∷ []) is_held) }
+{
+    let ledger = assumed_ledger(alloc, names, assumes_striped, line).map_err(|fault| unfit(
+        line.id, fault,
+    ))?;
+    let entries = entries_of(alloc, bookies, &[ledger])?;
+    held_among(&entries).ok_or(CountFault::TooMany)
+}
+
+impl Counter {
+    /// Adds a part of a ledger.
+    fn add_part(&mut self, alloc: Global, line: &LedgerLine) -> Result<(), CountFault>
+        ensures fixed { model.IsOfSame self.old self.new }
+        ensures ledgers { self.new.ledgers ≡ self.old.ledgers }
+        ensures added { OnOk result ((parts : List LineValue) → model.CountsParts parts self.old
+            → model.CountsParts (parts ++ line.now ∷ []) self.new) }
+    {
+        let names = &self.names;
+        let ledger = counted_ledger(alloc, names, self.assumes_striped, self.is_strict, line).map_err(|fault| unfit(
+            line.id, fault,
+        ))?;
+        self.counts.add(alloc, &self.bookies, ledger)?;
+        if !self.is_strict {
+            let assumed = count_assumed(alloc, &self.names, &self.bookies, self.assumes_striped, line)?;
+            self.assumed = self.assumed.checked_add(assumed).ok_or(CountFault::TooMany)?;
+        }
+        Ok(())
+    }
+
+    /// Adds the parts of a ledger.
+    fn add_parts(&mut self, alloc: Global, line: LedgerLine) -> Result<(), CountFault>
+        ensures fixed { model.IsOfSame self.old self.new }
+        ensures ledgers { self.new.ledgers ≡ self.old.ledgers }
+        ensures added { OnOk result ((parts : List LineValue) → model.CountsParts parts self.old
+            → model.CountsParts (parts ++ model.parts_of line) self.new) }
+    {
+        if !has_parts(&line) {
+            return self.add_part(alloc, &line);
+        }
+        let mut part = line;
+        let state = part.state;
+        let Some(last) = part.fragments.pop() else { return Ok(()) };
+        part.state = LedgerState::Closed { end: last.first };
+        self.add_part(alloc, &part)?;
+        part.state = state;
+        part.fragments = alone(alloc, last)?;
+        self.add_part(alloc, &part)
+    }
+
+    /// Adds a ledger. After an `Err` a part of it may be counted.
+    pub(crate) fn add(&mut self, alloc: Global, line: LedgerLine) -> Result<(), CountFault>
+        ensures fixed { model.IsOfSame self.old self.new }
+        ensures added { OnOk result ((lines : List LineValue) → model.CountsLines lines self.old
+            → model.CountsLines (lines ++ line ∷ []) self.new) }
+    {
+        self.add_parts(alloc, line)?;
+        self.ledgers = self.ledgers.checked_add(1).ok_or(CountFault::TooMany)?;
+        Ok(())
+    }
+}

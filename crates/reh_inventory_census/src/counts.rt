@@ -1,0 +1,165 @@
+// What is counted of ledgers, one after another.
+ghost use Rattle.std.specs.Prelude.{◌≡◌, ◌≤◌, ◌^◌, ◌++◌, ◌∷◌, [], ℕ, List, IfSome, IsTrue, OnOk};
+ghost use Rattle.reh_census.specs.Bookies.{bookies_of, holders};
+ghost use Rattle.reh_census.specs.Counting as census;
+ghost use Rattle.reh_census.specs.Ledgers.{Ledger as LedgerValue};
+ghost use Rattle.reh_tally.specs.Few.{capped};
+ghost use Rattle.reh_inventory_census.specs.Counting as model;
+
+use reh_census::{Bookies, Counted, CountedEnsemble, CountedTail, Ledger};
+use reh_tally::{ensembles_of, entries_of, merged, merged_ensembles, merged_tails, tails_of};
+use std::alloc::{AllocError, Global};
+use std::mem;
+
+/// How far is counted.
+const MOST: u64 = 1 << 63;
+
+/// Of how many lines at most nothing is joined, beside twice as many as the last time were left.
+const LEAST_TO_JOIN: usize = 1 << 16;
+
+/// Why no more can be counted.
+#[derive(Clone, Copy, PartialEq, Eq, Debug)]
+pub(crate) enum CountsFault {
+    /// A census counts no more entries, ledgers or fragments.
+    TooMany,
+    /// There is no memory.
+    NoMemory,
+}
+
+impl From<AllocError> for CountsFault {
+    ghost use Rattle.std.specs.Prelude.{◌≡◌};
+    ghost use Rattle.reh_inventory_census.specs.declared.counts.CountsFault.TheVariants.{NoMemory};
+
+    ghost from_gives = { λ _ fault. fault ≡ NoMemory };
+
+    fn from(_want: AllocError) -> CountsFault {
+        CountsFault::NoMemory
+    }
+}
+
+/// Entries, tails and ensembles of ledgers, counted. Equal ones are joined from time to time.
+#[derive(Drop)]
+pub(crate) struct Counts {
+    pub(crate) entries: Vec<Counted>,
+    pub(crate) tails: Vec<CountedTail>,
+    pub(crate) ensembles: Vec<CountedEnsemble>,
+    to_join: usize,
+}
+
+/// How many entries were counted.
+fn entries_in(entries: &[Counted]) -> u64
+    ensures { result ≡ capped (census.entries_in entries.now) }
+{
+    let mut total: u64 = 0;
+    for counted in entries {
+        total = total.saturating_add(counted.count);
+    }
+    total
+}
+
+/// How many ledgers that aren't closed.
+fn tails_in(tails: &[CountedTail]) -> u64
+    ensures { result ≡ capped (census.tails_in tails.now) }
+{
+    let mut total: u64 = 0;
+    for counted in tails {
+        total = total.saturating_add(counted.count);
+    }
+    total
+}
+
+/// How many fragments.
+fn ensembles_in(ensembles: &[CountedEnsemble]) -> u64
+    ensures { result ≡ capped (census.ensembles_in ensembles.now) }
+{
+    let mut total: u64 = 0;
+    for counted in ensembles {
+        total = total.saturating_add(counted.count);
+    }
+    total
+}
+
+/// How many of the entries have a known copy, if a number of 64 bits can say that.
+pub(crate) fn held_among(entries: &[Counted]) -> Option<u64>
+    ensures { IfSome result (λ held. held ≡ census.count_in entries.now model.is_held) }
+{
+    let mut held: u64 = 0;
+    for counted in entries {
+        if !counted.class.known.as_slice().is_empty() {
+            held = held.checked_add(counted.count)?;
+        }
+    }
+    Some(held)
+}
+
+impl Counts {
+    /// Nothing counted.
+    pub(crate) fn new(alloc: Global) -> Counts
+        ensures { (holders : List ℕ) → model.CountsLedgers holders [] result }
+    {
+        Counts {
+            entries: Vec::new(alloc),
+            tails: Vec::new(alloc),
+            ensembles: Vec::new(alloc),
+            to_join: LEAST_TO_JOIN,
+        }
+    }
+
+    /// How many lines a census of this would have, if none were joined.
+    fn len(&self) -> usize {
+        let others = self.tails.len().saturating_add(self.ensembles.len());
+        self.entries.len().saturating_add(others)
+    }
+
+    /// Adds what is counted of a ledger. After an `Err` a part of it may be there.
+    pub(crate) fn add(
+        &mut self,
+        alloc: Global,
+        bookies: &Bookies,
+        ledger: Ledger,
+    ) -> Result<(), CountsFault>
+        ensures { OnOk result ((ledgers : List LedgerValue)
+            → model.CountsLedgers (holders (bookies_of bookies.now)) ledgers self.old
+            → model.CountsLedgers (holders (bookies_of bookies.now)) (ledgers ++ ledger ∷ []) self.new) }
+    {
+        let ledgers = [ledger];
+        let mut entries = entries_of(alloc, bookies, &ledgers)?;
+        self.entries.append(&mut entries)?;
+        let mut tails = tails_of(alloc, &ledgers)?;
+        self.tails.append(&mut tails)?;
+        let mut ensembles = ensembles_of(alloc, &ledgers)?;
+        self.ensembles.append(&mut ensembles)?;
+        if self.len() >= self.to_join {
+            self.join(alloc)?;
+        }
+        Ok(())
+    }
+
+    /// Whether a census counts so much.
+    fn are_few(&self) -> bool
+        ensures { IsTrue result → model.AreFewCounts self.now.entries.items self.now.tails.items self.now.ensembles.items }
+    {
+        let most = entries_in(&self.entries)
+            .max(tails_in(&self.tails))
+            .max(ensembles_in(&self.ensembles));
+        most <= MOST
+    }
+
+    /// Joins equal lines. After an `Err` some may be gone.
+    fn join(&mut self, alloc: Global) -> Result<(), CountsFault>
+        ensures { OnOk result ((holders : List ℕ) (ledgers : List LedgerValue)
+            → model.CountsLedgers holders ledgers self.old → model.CountsLedgers holders ledgers self.new) }
+    {
+        if !self.are_few() {
+            return Err(CountsFault::TooMany);
+        }
+        let ensembles = mem::replace(&mut self.ensembles, Vec::new(alloc));
+        self.ensembles = merged_ensembles(alloc, ensembles)?;
+        let tails = mem::replace(&mut self.tails, Vec::new(alloc));
+        self.tails = merged_tails(alloc, tails)?;
+        let entries = mem::replace(&mut self.entries, Vec::new(alloc));
+        self.entries = merged(alloc, entries)?;
+        self.to_join = self.len().saturating_mul(2).max(LEAST_TO_JOIN);
+        Ok(())
+    }
+}

@@ -1,0 +1,15 @@
+// The census of an inventory.
+#![tactic(auto)]
+
+mod bookies;
+mod census;
+mod counted;
+mod counter;
+mod counts;
+mod faults;
+mod numbers;
+mod parts;
+
+pub use census::InventoryCount;
+pub use faults::CountFault;
+pub use numbers::{number_line, in_order};
