@@ -8,6 +8,7 @@ use Rattle.std.specs.Str.{bytes_eq}
 use Rattle.std.proofs.lemmas.Bool.Decides.{nat_tests}
 use Rattle.std.proofs.lemmas.List.Quantifiers.{position-Some}
 use Rattle.std.proofs.lemmas.Slice.Eq.{bytes_eq-Decides}
+use Rattle.reh_census.specs.declared.ledgers.Content.{Content as CountedContent}
 use Rattle.reh_census.specs.declared.ledgers.Range.{Range}
 use Rattle.reh_census.specs.declared.ledgers.Told.{Told}
 use Rattle.reh_census.specs.declared.ledgers.Told.TheVariants as told
@@ -20,7 +21,7 @@ use Rattle.reh_inventory_census.specs.declared.counted.Reading.{Reading}
 use Rattle.reh_inventory.specs.declared.ledgers.Fragment.{Fragment}
 use Rattle.reh_inventory.specs.declared.ledgers.LedgerLine.{LedgerLine}
 use Rattle.reh_inventory_census.specs.Counted.{number_in, covers, is_lacking, speaks_of_none, speaks_partly, told_as, is_partial, told_by, content_by, rest_of, has_content}
-use Rattle.reh_inventory_census.specs.Counted.{cautiously_counted, counted_by, end_of, heard_by, has_loose, is_told_partly, leaves_member, reading_of, stop_of}
+use Rattle.reh_inventory_census.specs.Counted.{counted, counted_by, ledger_with, end_of, heard_by, has_loose, is_told_partly, leaves_member, reading_of, stop_of}
 use Rattle.reh_inventory_census.proofs.StopLaws.{closed-inner, loose-inner, entry_below}
 use Rattle.reh_inventory_census.specs.Shown.{SaysNoMore, Shows, ensemble_of, speaks_of, entries_say, content_says, rest_says, contents_say, told_says}
 
@@ -340,24 +341,29 @@ shows-by names assumes strict line whole sound = record {
       (leaves-at line.contents line.fragments f (leaves-inner line.contents name none (ensemble_of line f) member))));
 }
 
+-- the ledger of a line that is read so, and of what it tells, is that of the line
+pub made-of-line : (names : List (List ℕ)) (assumes strict : Bool) (line : LedgerLine) (reading : Reading)
+    (contents : List CountedContent) (rest : Told) → reading ≡ reading_of strict line
+    → contents ≡ map (content_by names reading) line.contents → rest ≡ rest_of assumes reading
+    → ledger_with names reading line contents rest ≡ counted names assumes strict line
+made-of-line names assumes strict line reading contents rest read told others = λ i.
+    ledger_with names (read i) line
+    ((told ∙ ap (λ (r : Reading). map (content_by names r) line.contents) read) i)
+    ((others ∙ ap (rest_of assumes) read) i)
+
 -- the ledger of a call's result, where no bookie is told partly
-pub shows_result : (names : List (List ℕ)) (assumes strict : Bool) (line : LedgerLine) (reading : Reading)
-    (r : Result Ledger UnfitFault) → reading ≡ reading_of strict line → is_told_partly assumes reading line ≡ false
-    → IfOk r (λ g. g ≡ counted_by names assumes reading line) → IfOk r (λ g. IsLedger g)
-    → IfOk r (λ g. Shows names assumes strict line g)
-shows_result names assumes strict line reading (Ok g) read whole made sound =
-    let same : g ≡ cautiously_counted names assumes strict line =
-    made ∙ ap (λ (reading : Reading). counted_by names assumes reading line) read in
+pub shows_result : (names : List (List ℕ)) (assumes strict : Bool) (line : LedgerLine) (r : Result Ledger UnfitFault)
+    → IfOk r (λ g. g ≡ counted names assumes strict line) → IfOk r (λ g. IsLedger g)
+    → IfOk r (λ g. is_told_partly assumes (reading_of strict line) line ≡ false → Shows names assumes strict line g)
+shows_result names assumes strict line (Ok g) made sound = λ whole.
     let P : Ledger → Type 0 = λ one. Shows names assumes strict line one in
     let Q : Ledger → Type 0 = λ one. IsLedger one in
-    subst P (sym same)
-    (shows-by names assumes strict line
-    (sym (ap (λ (reading : Reading). is_told_partly assumes reading line) read) ∙ whole) (subst Q same sound))
-shows_result names assumes strict line reading (Err e) read whole made sound = made
+    subst P (sym made) (shows-by names assumes strict line whole (subst Q made sound))
+shows_result names assumes strict line (Err e) made sound = made
 
 says-by : (names : List (List ℕ)) (assumes strict : Bool) (line : LedgerLine)
-    → IsLedger (cautiously_counted names assumes strict line)
-    → SaysNoMore names assumes strict line (cautiously_counted names assumes strict line)
+    → IsLedger (counted names assumes strict line)
+    → SaysNoMore names assumes strict line (counted names assumes strict line)
 says-by names assumes strict line sound = record {
   fragments = refl;
   says = λ f entry name within from to own.
@@ -375,7 +381,7 @@ says-by names assumes strict line sound = record {
 
 -- the ledger of a call's result, where bookies that are told partly count as untold
 pub says_result : (names : List (List ℕ)) (assumes strict : Bool) (line : LedgerLine) (r : Result Ledger UnfitFault)
-    → IfOk r (λ g. g ≡ cautiously_counted names assumes strict line) → IfOk r (λ g. IsLedger g)
+    → IfOk r (λ g. g ≡ counted names assumes strict line) → IfOk r (λ g. IsLedger g)
     → IfOk r (λ g. SaysNoMore names assumes strict line g)
 says_result names assumes strict line (Ok g) made sound =
     let P : Ledger → Type 0 = λ one. SaysNoMore names assumes strict line one in

@@ -29,8 +29,12 @@ as_counted racks b = record {
 abbrev pub unregistered : CountedBookie
 unregistered = record { is_registered = false; is_read_only = false; is_empty = false; rack = None }
 
+-- where the bookie of this name stands
+abbrev pub place_of : List Bookie → List ℕ → Option ℕ
+place_of bookies name = position (λ (b : Bookie). bytes_eq b.name name) bookies
+
 -- the bookie of this name
 abbrev pub bookie_of : List (List ℕ) → List Bookie → List ℕ → CountedBookie
 bookie_of racks bookies name =
     option_map_or (as_counted racks)
-    (option_and_then (slice_get bookies) (position (λ (b : Bookie). bytes_eq name b.name) bookies)) unregistered
+    (option_and_then (slice_get bookies) (place_of bookies name)) unregistered

@@ -1,9 +1,9 @@
 -- The census of an inventory: that of the ledgers which its lines have.
-use Rattle.std.specs.Prelude.{◌≡◌, ℕ, Bool, true, false, not, List, [], ◌∷◌, Option, None, Some, Result, Ok, cond, length, map, option_map, string_bytes}
+use Rattle.std.specs.Prelude.{◌≡◌, ℕ, Bool, true, false, not, List, [], ◌∷◌, Option, None, Some, Result, Ok, length, map, option_map, string_bytes, if◌then◌else◌}
 use Rattle.std.specs.List.{flat_map}
 use Rattle.std.specs.Option.{IsSomeAnd, option_map_or}
 use Rattle.reh_census.specs.Bookies.{bookies_of as census_bookies, holders}
-use Rattle.reh_census.specs.Counting.{CountsEnsembles, CountsEntries, CountsTails}
+use Rattle.reh_census.specs.declared.censuses.Judged.{Judged}
 use Rattle.reh_census.specs.Ledgers.{Ledger}
 use Rattle.reh_census.specs.Order.{IsInOrder}
 use Rattle.reh_census_file.specs.Values.{NamedCensus}
@@ -13,7 +13,7 @@ use Rattle.reh_inventory.specs.Inventories.{Inventory, inventory_of, ledger_in}
 use Rattle.reh_inventory_census.specs.declared.census.InventoryCount.{InventoryCount}
 use Rattle.reh_inventory_census.specs.Bookies.{bookie_of, racks_of}
 use Rattle.reh_inventory_census.specs.Counters.{CountsLines}
-use Rattle.reh_inventory_census.specs.Counting.{assumed_in}
+use Rattle.reh_inventory_census.specs.Counting.{CountsLedgers, assumed_in, counts_in}
 use Rattle.reh_inventory_census.specs.Parts.{ledgers_of}
 
 -- the ledger of a line, if it has one that was read
@@ -39,22 +39,26 @@ pub record IsCount (names : List (List ℕ)) (strict : Bool) (lines : List (List
   pub strict_is : count.counter.is_strict ≡ strict
   pub ledgers : CountsLines (ledger_lines lines) count.counter
 
--- how a census judged an inventory, with what counts the ledgers of its lines; one that has no last line announces one
--- ledger that nobody saw
+-- how an inventory was judged: where no last line came, a ledger may be missing
+abbrev pub judged_by : Inventory → ℕ → ℕ → Judged
+judged_by inventory ledgers assumed = record {
+  ledgers = ledgers;
+  assumed = assumed;
+  unread = inventory.unread;
+  missing = if inventory.is_whole then 0 else 1;
+}
+
+-- the census of the ledgers of these lines
 pub record IsCensusBy (names : List (List ℕ)) (strict : Bool) (head : Head) (inventory : Inventory) (lines : List LedgerLine) (c : NamedCensus) : Type 0 where
   pub names_are : c.names ≡ names
   pub racks : c.racks ≡ racks_of head.bookies
   pub bookies : c.bookies ≡ map (bookie_of (racks_of head.bookies) head.bookies) names
-  pub entries : CountsEntries c.census.entries (holders (census_bookies c.bookies))
-      (flat_map (ledgers_of names head.assumes_striped strict) lines)
-  pub tails : CountsTails c.census.tails (flat_map (ledgers_of names head.assumes_striped strict) lines)
-  pub ensembles : CountsEnsembles c.census.ensembles (flat_map (ledgers_of names head.assumes_striped strict) lines)
+  pub counts : CountsLedgers (holders (census_bookies c.bookies))
+      (flat_map (ledgers_of names head.assumes_striped strict) lines) (counts_in c.census)
   pub order : IsInOrder c.census
-  pub ledgers : c.census.judged.ledgers ≡ length lines
-  pub assumed : c.census.judged.assumed
-      ≡ assumed_in (holders (census_bookies c.bookies)) names head.assumes_striped strict lines
-  pub unread : c.census.judged.unread ≡ inventory.unread
-  pub missing : c.census.judged.missing ≡ cond inventory.is_whole 0 1
+  pub judged : c.census.judged
+      ≡ judged_by inventory (length lines)
+      (assumed_in (holders (census_bookies c.bookies)) names head.assumes_striped strict lines)
   pub strict_is : c.is_strict ≡ strict
   pub taken : c.taken ≡ head.taken
 

@@ -1,29 +1,25 @@
 // The bookies of an inventory's first line, as a census has them.
-ghost use Rattle.std.specs.Prelude.{◌≡◌, ◌<◌, ◌≤◌, IfOk, OnOk, fold, length, map, slice_get, position};
-ghost use Rattle.std.specs.Option.{option_map_or};
-ghost use Rattle.std.specs.Str.{bytes_eq};
-ghost use Rattle.reh_census_file.specs.declared.lists.TheConstants.{MAX_NAMES};
+ghost use Rattle.std.specs.Prelude.{◌≡◌, IfOk, OnOk, map};
 ghost use Rattle.reh_inventory_census.specs.Bookies as model;
 
+use crate::numbers::{NumberFault, number_member};
 use reh_census::{Bookie as CountedBookie, Bookies};
-use reh_census_file::{MAX_NAMES, NameList};
+use reh_census_file::NameList;
 use reh_inventory::{Bookie, Head};
 use std::alloc::{AllocError, Global};
 
 /// Adds the rack of a bookie as the last, unless it is there.
-fn add_rack(racks: &mut NameList, bookie: &Bookie) -> Result<(), AllocError>
-    requires { length racks.old < MAX_NAMES }
+fn add_rack(racks: &mut NameList, bookie: &Bookie) -> Result<(), NumberFault>
     ensures { OnOk result (racks.new ≡ model.with_rack racks.old bookie.now) }
 {
-    if let Some(rack) = &bookie.rack {
-        racks.add(rack.as_str())?;
+    match &bookie.rack {
+        Some(rack) => number_member(racks, rack),
+        None => Ok(()),
     }
-    Ok(())
 }
 
 /// The racks of the first line, each once, as its bookies first name them.
-pub(crate) fn racks_of(alloc: Global, bookies: &[Bookie]) -> Result<NameList, AllocError>
-    requires { length bookies.now ≤ MAX_NAMES }
+pub(crate) fn racks_of(alloc: Global, bookies: &[Bookie]) -> Result<NameList, NumberFault>
     ensures { IfOk result (λ racks. racks ≡ model.racks_of bookies.now) }
 {
     let mut racks = NameList::new(alloc);
@@ -33,21 +29,20 @@ pub(crate) fn racks_of(alloc: Global, bookies: &[Bookie]) -> Result<NameList, Al
     Ok(racks)
 }
 
-/// The bookie of this name, as a census has it. One that the first line doesn't have isn't registered.
-fn bookie_of(racks: &NameList, bookies: &[Bookie], name: &str) -> CountedBookie
-    ensures { result ≡ model.bookie_of racks.now bookies.now name.now }
+/// The number of a bookie's rack.
+fn rack_number(racks: &NameList, bookie: &Bookie) -> Option<u16>
+    ensures { result ≡ model.rack_number racks.now bookie.now }
 {
-    let Some(place) = bookies
-        .iter()
-        .position(|bookie| bookie.name.as_str() == name) else {
-        return CountedBookie {
-            is_registered: false,
-            is_read_only: false,
-            is_empty: false,
-            rack: None,
-        };
-    };
-    let bookie = &bookies[place];
+    match &bookie.rack {
+        Some(rack) => racks.find(rack.as_str().as_bytes()),
+        None => None,
+    }
+}
+
+/// A bookie of the first line, as a census has it.
+fn counted(racks: &NameList, bookie: &Bookie) -> CountedBookie
+    ensures { result ≡ model.as_counted racks.now bookie.now }
+{
     CountedBookie {
         is_registered: bookie.is_up,
         is_read_only: bookie.is_read_only,
@@ -56,13 +51,31 @@ fn bookie_of(racks: &NameList, bookies: &[Bookie], name: &str) -> CountedBookie
     }
 }
 
-/// The number of a bookie's rack.
-fn rack_number(racks: &NameList, bookie: &Bookie) -> Option<u16>
-    ensures { result ≡ model.rack_number racks.now bookie.now }
+/// Where the bookie of this name stands in the first line.
+fn place_of(bookies: &[Bookie], name: &str) -> Option<usize>
+    ensures { result ≡ model.place_of bookies.now name.now }
 {
-    match &bookie.rack {
-        Some(rack) => racks.find(rack.as_str().as_bytes()),
+    bookies
+        .iter()
+        .position(|bookie| bookie.name.as_str() == name)
+}
+
+/// The bookie of this name, as a census has it. One that the first line doesn't have isn't registered.
+fn bookie_of(racks: &NameList, bookies: &[Bookie], name: &str) -> CountedBookie
+    ensures { result ≡ model.bookie_of racks.now bookies.now name.now }
+{
+    let found = match place_of(bookies, name) {
+        Some(place) => bookies.get(place),
         None => None,
+    };
+    match found {
+        Some(bookie) => counted(racks, bookie),
+        None => CountedBookie {
+            is_registered: false,
+            is_read_only: false,
+            is_empty: false,
+            rack: None,
+        },
     }
 }
 

@@ -4,12 +4,11 @@ ghost use Rattle.reh_inventory_census.specs.Census as model;
 
 use crate::bookies::{bookies_of, racks_of};
 use crate::counter::Counter;
-use crate::counts::Counts;
+use crate::counts::{Counts, MOST};
 use crate::faults::CountFault;
 use reh_census::Judged;
 use reh_census_file::{NameList, NamedCensus};
 use reh_inventory::{Head, Inventory, InventoryFault};
-use reh_tally::census_of_counts;
 use std::alloc::{AllocError, Global};
 
 /// What was counted of the lines of an inventory, the first line among them.
@@ -28,6 +27,18 @@ fn taken_of(alloc: Global, head: &Head) -> Result<Option<String>, AllocError>
     match &head.taken {
         Some(time) => Ok(Some(String::from_str(alloc, time.as_str())?)),
         None => Ok(None),
+    }
+}
+
+/// How an inventory was judged, of which so many ledgers were counted, and so many entries rest on an assumption.
+fn judged_by(inventory: &Inventory, ledgers: u64, assumed: u64) -> Judged
+    ensures { result ≡ model.judged_by inventory.now ledgers assumed }
+{
+    Judged {
+        ledgers,
+        assumed,
+        unread: inventory.unread(),
+        missing: if inventory.is_whole() { 0 } else { 1 },
     }
 }
 
@@ -97,20 +108,11 @@ impl InventoryCount {
             racks,
             taken,
         } = self;
-        let judged = Judged {
-            ledgers: counter.ledgers,
-            assumed: counter.assumed,
-            unread: inventory.unread(),
-            missing: u64::from(!inventory.is_whole()),
-        };
-        let counts = counter.counts;
-        let census = census_of_counts(
-            alloc,
-            counts.entries,
-            counts.tails,
-            counts.ensembles,
-            judged,
-        )?;
+        let judged = judged_by(&inventory, counter.ledgers, counter.assumed);
+        if judged.unread >= MOST {
+            return Err(CountFault::TooMany);
+        }
+        let census = counter.counts.into_census(alloc, judged)?;
         Ok(NamedCensus::of(
             counter.names,
             racks,

@@ -1,5 +1,5 @@
 // The ledger of a line, as a census counts it.
-ghost use Rattle.std.specs.Prelude.{◌≡◌, ◌≢◌, ◌<◌, None, Some, fold, length, map, IfErr, IfOk, IfSome};
+ghost use Rattle.std.specs.Prelude.{◌≡◌, ◌<◌, false, None, Some, fold, length, map, IfErr, IfOk};
 ghost use Rattle.std.specs.List.{list_any};
 ghost use Rattle.reh_census.specs.Ledgers.{IsLedger};
 ghost use Rattle.reh_census.specs.Striping.{range};

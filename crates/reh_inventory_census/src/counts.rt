@@ -1,18 +1,23 @@
 // What is counted of ledgers, one after another.
-ghost use Rattle.std.specs.Prelude.{◌≡◌, ◌≤◌, ◌^◌, ◌++◌, ◌∷◌, [], ℕ, List, IfSome, IsTrue, OnOk};
+ghost use Rattle.std.specs.Prelude.{◌≡◌, ◌≤◌, ◌^◌, ◌++◌, ◌∷◌, [], ℕ, List, IfOk, IfSome, IsTrue, OnOk};
+ghost use Rattle.reh_census.specs.Counting.{not_judged};
+ghost use Rattle.reh_census.specs.Order.{IsInOrder};
 ghost use Rattle.reh_census.specs.Bookies.{bookies_of, holders};
 ghost use Rattle.reh_census.specs.Counting as census;
 ghost use Rattle.reh_census.specs.Ledgers.{Ledger as LedgerValue};
-ghost use Rattle.reh_tally.specs.Few.{capped};
+ghost use Rattle.reh_tally.specs.Few.{AreFewCounts, capped};
 ghost use Rattle.reh_inventory_census.specs.Counting as model;
 
-use reh_census::{Bookies, Counted, CountedEnsemble, CountedTail, Ledger};
-use reh_tally::{ensembles_of, entries_of, merged, merged_ensembles, merged_tails, tails_of};
+use reh_census::{Bookies, Census, Counted, CountedEnsemble, CountedTail, Judged, Ledger};
+use reh_tally::{
+    TallyFault, census_of_counts, ensembles_of, entries_of, merged, merged_ensembles, merged_tails, tails_of,
+};
 use std::alloc::{AllocError, Global};
+use std::marker::Model;
 use std::mem;
 
 /// How far is counted.
-const MOST: u64 = 1 << 63;
+pub(crate) const MOST: u64 = 1 << 63;
 
 /// Of how many lines at most nothing is joined, beside twice as many as the last time were left.
 const LEAST_TO_JOIN: usize = 1 << 16;
@@ -40,10 +45,22 @@ impl From<AllocError> for CountsFault {
 /// Entries, tails and ensembles of ledgers, counted. Equal ones are joined from time to time.
 #[derive(Drop)]
 pub(crate) struct Counts {
-    pub(crate) entries: Vec<Counted>,
-    pub(crate) tails: Vec<CountedTail>,
-    pub(crate) ensembles: Vec<CountedEnsemble>,
+    entries: Vec<Counted>,
+    tails: Vec<CountedTail>,
+    ensembles: Vec<CountedEnsemble>,
     to_join: usize,
+}
+
+impl Model for Counts {
+    ghost use Rattle.std.specs.Prelude.{All};
+    ghost use Rattle.reh_census.specs.Tails.{IsTail};
+    ghost use Rattle.reh_inventory_census.specs.Counting as model;
+
+    ghost Value = { model.Counts };
+
+    ghost view = { λ c. model.counts_by c.entries.items c.tails.items c.ensembles.items };
+
+    ghost invariant = { λ c. All (λ t. IsTail t.tail) c.tails.items };
 }
 
 /// How many entries were counted.
@@ -137,7 +154,7 @@ impl Counts {
 
     /// Whether a census counts so much.
     fn are_few(&self) -> bool
-        ensures { IsTrue result → model.AreFewCounts self.now.entries.items self.now.tails.items self.now.ensembles.items }
+        ensures { IsTrue result → AreFewCounts self.now.entries self.now.tails self.now.ensembles }
     {
         let most = entries_in(&self.entries)
             .max(tails_in(&self.tails))
@@ -161,5 +178,18 @@ impl Counts {
         self.entries = merged(alloc, entries)?;
         self.to_join = self.len().saturating_mul(2).max(LEAST_TO_JOIN);
         Ok(())
+    }
+
+    /// The census of this.
+    pub(crate) fn into_census(self, alloc: Global, judged: Judged) -> Result<Census, TallyFault>
+        requires { not_judged judged ≤ 2 ^ 63 }
+        ensures counts { IfOk result (λ census. (holders : List ℕ) (ledgers : List LedgerValue)
+            → model.CountsLedgers holders ledgers self
+            → model.CountsLedgers holders ledgers (model.counts_in census)) }
+        ensures order { IfOk result (λ census. IsInOrder census) }
+        ensures judged { IfOk result (λ census. census.judged ≡ judged) }
+    {
+        let census = census_of_counts(alloc, self.entries, self.tails, self.ensembles, judged)?;
+        Ok(census)
     }
 }

@@ -33,7 +33,7 @@ impl From<AllocError> for NumberFault {
 
 /// Gives a bookie the next number, if it has none.
 #[tactic(auto, using(crate::proofs::NumberLemmas::with_name_there))]
-fn number_member(names: &mut NameList, name: &Name) -> Result<(), NumberFault>
+pub(crate) fn number_member(names: &mut NameList, name: &Name) -> Result<(), NumberFault>
     ensures named { OnOk result (names.new ≡ with_name names.old name.now) }
     ensures full { IfErr result (λ fault. fault ≡ NumberFault.TooMany
         → length names.new ≡ MAX_NAMES) }
