@@ -2,3 +2,6 @@ pub mod RangeLemmas
 pub mod StopLaws
 pub mod ShownLaws
 pub mod NumberLemmas
+pub mod CounterLaws
+pub mod PartsLaws
+pub mod CensusLaws

@@ -1,20 +1,40 @@
 -- The census of an inventory: that of the ledgers which its lines have.
-use Rattle.std.specs.Prelude.{◌≡◌, ℕ, Bool, true, false, not, List, [], ◌∷◌, Option, None, Some, Result, Ok, length, map, option_map, string_bytes, if◌then◌else◌}
+use Rattle.std.specs.Prelude.{◌≡◌, ℕ, Bool, List, [], ◌∷◌, Option, None, Some, Result, Ok, Err, length, map, option_map, string_bytes, if◌then◌else◌}
 use Rattle.std.specs.List.{flat_map}
 use Rattle.std.specs.Option.{IsSomeAnd, option_map_or}
-use Rattle.reh_census.specs.Bookies.{bookies_of as census_bookies, holders}
 use Rattle.reh_census.specs.declared.censuses.Judged.{Judged}
-use Rattle.reh_census.specs.Ledgers.{Ledger}
+use Rattle.reh_census.specs.Bookies.{bookies_of as census_bookies, holders}
+use Rattle.reh_census.specs.Counting.{count_entries}
 use Rattle.reh_census.specs.Order.{IsInOrder}
 use Rattle.reh_census_file.specs.Values.{NamedCensus}
 use Rattle.reh_inventory.specs.declared.heads.Head.{Head}
 use Rattle.reh_inventory.specs.declared.ledgers.LedgerLine.{LedgerLine}
+use Rattle.reh_inventory.specs.declared.lines.Line.{Line}
+use Rattle.reh_inventory.specs.declared.lines.Line.TheVariants as line
 use Rattle.reh_inventory.specs.Inventories.{Inventory, inventory_of, ledger_in}
+use Rattle.reh_inventory.specs.Lines.{located_line_of}
 use Rattle.reh_inventory_census.specs.declared.census.InventoryCount.{InventoryCount}
 use Rattle.reh_inventory_census.specs.Bookies.{bookie_of, racks_of}
+use Rattle.reh_inventory_census.specs.Counted.{assumed, counted}
 use Rattle.reh_inventory_census.specs.Counters.{CountsLines}
-use Rattle.reh_inventory_census.specs.Counting.{CountsLedgers, assumed_in, counts_in}
-use Rattle.reh_inventory_census.specs.Parts.{ledgers_of}
+use Rattle.reh_inventory_census.specs.Counting.{CountsLedgers, counts_in, is_held}
+use Rattle.reh_inventory_census.specs.Parts.{parts_in}
+use Rattle.reh_inventory_fields.specs.declared.faults.Fault.{Fault}
+use Rattle.reh_inventory_fields.specs.declared.places.Place.{Place}
+
+-- the first line that a line is, if it is one
+abbrev pub head_of : Line → Option Head
+head_of (line.Head head) = Some head
+head_of (line.Ledger ledger) = None
+head_of (line.Unread id) = None
+head_of (line.End ledgers) = None
+
+abbrev pub head_said : Result Line (Fault × Place) → Option Head
+head_said (Ok said) = head_of said
+head_said (Err found) = None
+
+abbrev pub head_in : List ℕ → Option Head
+head_in bytes = head_said (located_line_of bytes)
 
 -- the ledger of a line, if it has one that was read
 abbrev pub ledger_line : List ℕ → List LedgerLine
@@ -32,10 +52,10 @@ pub record IsCluster (names : List (List ℕ)) (head : Head) (count : InventoryC
   pub assumes : count.counter.assumes_striped ≡ head.assumes_striped
   pub taken : option_map string_bytes count.taken ≡ head.taken
 
--- these lines were counted
-pub record IsCount (names : List (List ℕ)) (strict : Bool) (lines : List (List ℕ)) (count : InventoryCount) : Type 0 where
-  pub inventory : inventory_of lines ≡ Ok count.inventory
-  pub cluster : IsSomeAnd count.inventory.head (λ head. IsCluster names head count)
+-- this first line was read, and these lines after it were counted
+pub record IsCount (names : List (List ℕ)) (strict : Bool) (first : List ℕ) (lines : List (List ℕ)) (count : InventoryCount) : Type 0 where
+  pub inventory : inventory_of (first ∷ lines) ≡ Ok count.inventory
+  pub cluster : IsSomeAnd (head_in first) (λ head. IsCluster names head count)
   pub strict_is : count.counter.is_strict ≡ strict
   pub ledgers : CountsLines (ledger_lines lines) count.counter
 
@@ -48,22 +68,27 @@ judged_by inventory ledgers assumed = record {
   missing = if inventory.is_whole then 0 else 1;
 }
 
--- the census of the ledgers of these lines
+-- how many entries of the ledgers of these lines have a known copy by an assumption; with `strict` none
+abbrev pub assumed_in : List ℕ → List (List ℕ) → Bool → Bool → List LedgerLine → ℕ
+assumed_in holders names assumes strict lines =
+    if strict then 0 else count_entries holders (map (assumed names assumes) (parts_in lines)) is_held
+
+-- the census of the ledgers of these lines, in the cluster of a first line
 pub record IsCensusBy (names : List (List ℕ)) (strict : Bool) (head : Head) (inventory : Inventory) (lines : List LedgerLine) (c : NamedCensus) : Type 0 where
   pub names_are : c.names ≡ names
   pub racks : c.racks ≡ racks_of head.bookies
   pub bookies : c.bookies ≡ map (bookie_of (racks_of head.bookies) head.bookies) names
   pub counts : CountsLedgers (holders (census_bookies c.bookies))
-      (flat_map (ledgers_of names head.assumes_striped strict) lines) (counts_in c.census)
-  pub order : IsInOrder c.census
+      (map (counted names head.assumes_striped strict) (parts_in lines)) (counts_in c.census)
   pub judged : c.census.judged
       ≡ judged_by inventory (length lines)
       (assumed_in (holders (census_bookies c.bookies)) names head.assumes_striped strict lines)
+  pub order : IsInOrder c.census
   pub strict_is : c.is_strict ≡ strict
   pub taken : c.taken ≡ head.taken
 
--- it is the census of these lines
-pub record IsCensusOf (names : List (List ℕ)) (strict : Bool) (lines : List (List ℕ)) (c : NamedCensus) : Type 0 where
+-- it is the census of this first line and these lines after it
+pub record IsCensusOf (names : List (List ℕ)) (strict : Bool) (first : List ℕ) (lines : List (List ℕ)) (c : NamedCensus) : Type 0 where
   pub inventory : Inventory
-  pub is_read : inventory_of lines ≡ Ok inventory
-  pub counted : IsSomeAnd inventory.head (λ head. IsCensusBy names strict head inventory (ledger_lines lines) c)
+  pub is_read : inventory_of (first ∷ lines) ≡ Ok inventory
+  pub counted : IsSomeAnd (head_in first) (λ head. IsCensusBy names strict head inventory (ledger_lines lines) c)

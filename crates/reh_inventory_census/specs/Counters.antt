@@ -1,16 +1,12 @@
 -- What a counter has counted.
-use Rattle.std.specs.Prelude.{◌≡◌, ℕ, Bool, List, map, length, if◌then◌else◌}
-use Rattle.std.specs.List.{flat_map}
+use Rattle.std.specs.Prelude.{◌≡◌, ℕ, Bool, List, [], ◌∷◌, map, length, if◌then◌else◌}
 use Rattle.reh_census.specs.Bookies.{bookies_of, holders}
 use Rattle.reh_census.specs.Counting.{count_entries}
 use Rattle.reh_inventory.specs.declared.ledgers.LedgerLine.{LedgerLine}
 use Rattle.reh_inventory_census.specs.declared.counter.Counter.{Counter}
 use Rattle.reh_inventory_census.specs.Counted.{assumed, counted}
 use Rattle.reh_inventory_census.specs.Counting.{CountsLedgers, is_held}
-use Rattle.reh_inventory_census.specs.Parts.{parts_of as model_parts}
-
-abbrev pub parts_of : LedgerLine → List LedgerLine
-parts_of line = model_parts line
+use Rattle.reh_inventory_census.specs.Parts.{parts_in}
 
 -- both count alike, in the same cluster
 pub record IsOfSame (one other : Counter) : Type 0 where
@@ -22,6 +18,12 @@ pub record IsOfSame (one other : Counter) : Type 0 where
 abbrev pub holders_of : Counter → List ℕ
 holders_of c = holders (bookies_of c.bookies)
 
+-- how many entries more have a known copy by an assumption, with those of this part; with `strict` none
+abbrev pub assumed_more : Counter → LedgerLine → ℕ
+assumed_more c part =
+    if c.is_strict then 0
+    else count_entries (holders_of c) (assumed c.names c.assumes_striped part ∷ []) is_held
+
 -- it has counted these parts of ledgers
 pub record CountsParts (parts : List LedgerLine) (c : Counter) : Type 0 where
   pub counts : CountsLedgers (holders_of c) (map (counted c.names c.assumes_striped c.is_strict) parts) c.counts
@@ -31,5 +33,5 @@ pub record CountsParts (parts : List LedgerLine) (c : Counter) : Type 0 where
 
 -- it has counted the ledgers of these lines
 pub record CountsLines (lines : List LedgerLine) (c : Counter) : Type 0 where
-  pub parts : CountsParts (flat_map parts_of lines) c
+  pub parts : CountsParts (parts_in lines) c
   pub ledgers : c.ledgers ≡ length lines

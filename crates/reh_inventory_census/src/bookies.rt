@@ -1,5 +1,6 @@
 // The bookies of an inventory's first line, as a census has them.
-ghost use Rattle.std.specs.Prelude.{◌≡◌, IfOk, OnOk, map};
+ghost use Rattle.std.specs.Prelude.{◌≡◌, IfOk, OnOk, map, slice_get};
+ghost use Rattle.std.specs.Option.{option_map_or};
 ghost use Rattle.reh_inventory_census.specs.Bookies as model;
 
 use crate::numbers::{NumberFault, number_member};
@@ -7,6 +8,14 @@ use reh_census::{Bookie as CountedBookie, Bookies};
 use reh_census_file::NameList;
 use reh_inventory::{Bookie, Head};
 use std::alloc::{AllocError, Global};
+
+/// A bookie that isn't registered.
+const UNREGISTERED: CountedBookie = CountedBookie {
+    is_registered: false,
+    is_read_only: false,
+    is_empty: false,
+    rack: None,
+};
 
 /// Adds the rack of a bookie as the last, unless it is there.
 fn add_rack(racks: &mut NameList, bookie: &Bookie) -> Result<(), NumberFault>
@@ -70,12 +79,18 @@ fn bookie_of(racks: &NameList, bookies: &[Bookie], name: &str) -> CountedBookie
     };
     match found {
         Some(bookie) => counted(racks, bookie),
-        None => CountedBookie {
-            is_registered: false,
-            is_read_only: false,
-            is_empty: false,
-            rack: None,
-        },
+        None => UNREGISTERED,
+    }
+}
+
+/// The bookie of the name of that number, as a census has it.
+fn bookie_at(racks: &NameList, bookies: &[Bookie], names: &NameList, number: u16) -> CountedBookie
+    ensures { result ≡ option_map_or (model.bookie_of racks.now bookies.now)
+        (slice_get names.now number) model.unregistered }
+{
+    match names.name(number) {
+        Some(name) => bookie_of(racks, bookies, name),
+        None => UNREGISTERED,
     }
 }
 
@@ -90,9 +105,7 @@ pub(crate) fn bookies_of(
 {
     let mut counted = Vec::new(alloc);
     for number in 0..names.len() {
-        if let Some(name) = names.name(number as u16) {
-            counted.push(bookie_of(racks, bookies, name))?;
-        }
+        counted.push(bookie_at(racks, bookies, names, number as u16))?;
     }
     Ok(Bookies::of(counted))
 }

@@ -1,14 +1,16 @@
 // The census of an inventory, line after line.
-ghost use Rattle.std.specs.Prelude.{◌≡◌, ◌++◌, ◌∷◌, [], ℕ, Bool, List, IfOk, OnOk, option_map, string_bytes};
+ghost use Rattle.std.specs.Prelude.{◌≡◌, ◌++◌, ◌∷◌, [], ℕ, Bool, List, Ok, IfOk, OnOk, option_map, string_bytes};
+ghost use Rattle.reh_inventory.specs.Lines.{located_line_of};
 ghost use Rattle.reh_inventory_census.specs.Census as model;
 
 use crate::bookies::{bookies_of, racks_of};
 use crate::counter::Counter;
 use crate::counts::{Counts, MOST};
 use crate::faults::CountFault;
+use crate::numbers::line_fault;
 use reh_census::Judged;
 use reh_census_file::{NameList, NamedCensus};
-use reh_inventory::{Head, Inventory, InventoryFault};
+use reh_inventory::{Head, Inventory, InventoryFault, Line, read_line};
 use std::alloc::{AllocError, Global};
 
 /// What was counted of the lines of an inventory, the first line among them.
@@ -42,6 +44,17 @@ fn judged_by(inventory: &Inventory, ledgers: u64, assumed: u64) -> Judged
     }
 }
 
+/// The first line of an inventory.
+fn read_head(alloc: Global, bytes: &[u8]) -> Result<Head, CountFault>
+    ensures { IfOk result (λ head. located_line_of bytes.now ≡ Ok (Line.Head head)) }
+{
+    match read_line(alloc, bytes) {
+        Ok(Line::Head(head)) => Ok(head),
+        Ok(_) => Err(CountFault::Line(InventoryFault::NoHead)),
+        Err(fault) => Err(line_fault(fault)),
+    }
+}
+
 impl InventoryCount {
     /// Nothing counted but an inventory's first line. Bookies have the numbers of these names; one that isn't among them
     /// counts as not registered. In a strict count what is assumed counts as untold.
@@ -51,13 +64,9 @@ impl InventoryCount {
         is_strict: bool,
         first_line: &[u8],
     ) -> Result<InventoryCount, CountFault>
-        ensures { IfOk result (model.IsCount names is_strict (first_line.now ∷ [])) }
+        ensures { IfOk result (model.IsCount names is_strict first_line.now []) }
     {
-        let mut inventory = Inventory::new(alloc);
-        inventory.add(alloc, first_line)?;
-        let Some(head) = inventory.head() else {
-            return Err(CountFault::Line(InventoryFault::NoHead));
-        };
+        let head = read_head(alloc, first_line)?;
         let racks = racks_of(alloc, head.bookies.as_slice())?;
         let bookies = bookies_of(alloc, &names, &racks, head.bookies.as_slice())?;
         let counter = Counter {
@@ -69,7 +78,9 @@ impl InventoryCount {
             ledgers: 0,
             assumed: 0,
         };
-        let taken = taken_of(alloc, head)?;
+        let taken = taken_of(alloc, &head)?;
+        let mut inventory = Inventory::new(alloc);
+        inventory.add_line(Line::Head(head))?;
         Ok(InventoryCount {
             inventory,
             counter,
@@ -80,12 +91,15 @@ impl InventoryCount {
 
     /// Adds the next line. After an `Err` a part of it may be counted.
     pub fn add(&mut self, alloc: Global, line: &[u8]) -> Result<(), CountFault>
-        ensures { OnOk result ((names : List (List ℕ)) (strict : Bool) (lines : List (List ℕ))
-            → model.IsCount names strict lines self.old
-            → model.IsCount names strict (lines ++ line.now ∷ []) self.new) }
+        ensures { OnOk result ((names : List (List ℕ)) (strict : Bool) (first : List ℕ) (lines : List (List ℕ))
+            → model.IsCount names strict first lines self.old
+            → model.IsCount names strict first (lines ++ line.now ∷ []) self.new) }
     {
         match self.inventory.add(alloc, line)? {
-            Some(ledger) => self.counter.add(alloc, ledger),
+            Some(ledger) => {
+                self.counter.add(alloc, ledger)?;
+                Ok(())
+            }
             None => Ok(()),
         }
     }
@@ -99,8 +113,10 @@ impl InventoryCount {
 
     /// The census of the ledgers that the lines have. Where no last line came, it says that a ledger wasn't judged.
     pub fn finish(self, alloc: Global) -> Result<NamedCensus, CountFault>
-        ensures { IfOk result (λ census. (names : List (List ℕ)) (strict : Bool) (lines : List (List ℕ))
-            → model.IsCount names strict lines self → model.IsCensusOf names strict lines census) }
+        ensures { IfOk result (λ census.
+            (names : List (List ℕ)) (strict : Bool) (first : List ℕ) (lines : List (List ℕ))
+            → model.IsCount names strict first lines self
+            → model.IsCensusOf names strict first lines census) }
     {
         let InventoryCount {
             inventory,

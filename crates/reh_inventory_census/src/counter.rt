@@ -1,17 +1,18 @@
 // What is counted of the ledgers of an inventory, line after line.
-ghost use Rattle.std.specs.Prelude.{◌≡◌, ◌++◌, ◌∷◌, [], ℕ, List, OnOk, IfOk, IfErr, IfSome};
+ghost use Rattle.std.specs.Prelude.{◌≡◌, ◌+◌, ◌++◌, ◌∷◌, [], ℕ, List, OnOk, IfOk, IfErr, IfSome};
 ghost use Rattle.reh_census.specs.Bookies.{bookies_of, holders};
 ghost use Rattle.reh_census.specs.Counting.{count_entries};
 ghost use Rattle.reh_inventory.specs.declared.ledgers.LedgerLine.{LedgerLine as LineValue};
 ghost use Rattle.reh_inventory_census.specs.Counters as model;
-ghost use Rattle.reh_inventory_census.specs.Counted.{assumed as assumed_of};
+ghost use Rattle.reh_inventory_census.specs.Counted.{assumed as assumed_of, counted as counted_of};
+ghost use Rattle.reh_inventory_census.specs.Parts.{parts_of};
 ghost use Rattle.reh_inventory_census.specs.Counting.{is_held};
 
 use crate::counted::{assumed_ledger, counted_ledger};
 use crate::counts::{Counts, held_among};
 use crate::faults::{CountFault, unfit};
 use crate::parts::{alone, has_parts};
-use reh_census::Bookies;
+use reh_census::{Bookies, Ledger};
 use reh_census_file::NameList;
 use reh_inventory::{LedgerLine, LedgerState};
 use reh_tally::entries_of;
@@ -29,7 +30,22 @@ pub(crate) struct Counter {
     pub(crate) assumed: u64,
 }
 
-/// How many entries of a part of a ledger have a known copy by an assumption; 0 with `is_strict`.
+/// The ledger of a part, as a census counts it.
+fn part_of(
+    alloc: Global,
+    names: &NameList,
+    assumes_striped: bool,
+    is_strict: bool,
+    line: &LedgerLine,
+) -> Result<Ledger, CountFault>
+    ensures { IfOk result (λ ledger. ledger ≡ counted_of names.now assumes_striped is_strict line.now) }
+{
+    counted_ledger(alloc, names, assumes_striped, is_strict, line).map_err(|fault| unfit(
+        line.id, fault,
+    ))
+}
+
+/// How many entries of a part of a ledger have a known copy by an assumption.
 fn count_assumed(
     alloc: Global,
     names: &NameList,
@@ -48,6 +64,17 @@ fn count_assumed(
 }
 
 impl Counter {
+    /// How many entries have a known copy by an assumption, with those of one part more.
+    fn assumed_with(&self, alloc: Global, line: &LedgerLine) -> Result<u64, CountFault>
+        ensures { IfOk result (λ assumed. assumed ≡ self.now.assumed + model.assumed_more self.now line.now) }
+    {
+        if self.is_strict {
+            return Ok(self.assumed);
+        }
+        let more = count_assumed(alloc, &self.names, &self.bookies, self.assumes_striped, line)?;
+        self.assumed.checked_add(more).ok_or(CountFault::TooMany)
+    }
+
     /// Adds a part of a ledger.
     fn add_part(&mut self, alloc: Global, line: &LedgerLine) -> Result<(), CountFault>
         ensures fixed { model.IsOfSame self.old self.new }
@@ -55,15 +82,10 @@ impl Counter {
         ensures added { OnOk result ((parts : List LineValue) → model.CountsParts parts self.old
             → model.CountsParts (parts ++ line.now ∷ []) self.new) }
     {
-        let names = &self.names;
-        let ledger = counted_ledger(alloc, names, self.assumes_striped, self.is_strict, line).map_err(|fault| unfit(
-            line.id, fault,
-        ))?;
+        let assumed = self.assumed_with(alloc, line)?;
+        let ledger = part_of(alloc, &self.names, self.assumes_striped, self.is_strict, line)?;
         self.counts.add(alloc, &self.bookies, ledger)?;
-        if !self.is_strict {
-            let assumed = count_assumed(alloc, &self.names, &self.bookies, self.assumes_striped, line)?;
-            self.assumed = self.assumed.checked_add(assumed).ok_or(CountFault::TooMany)?;
-        }
+        self.assumed = assumed;
         Ok(())
     }
 
@@ -72,10 +94,11 @@ impl Counter {
         ensures fixed { model.IsOfSame self.old self.new }
         ensures ledgers { self.new.ledgers ≡ self.old.ledgers }
         ensures added { OnOk result ((parts : List LineValue) → model.CountsParts parts self.old
-            → model.CountsParts (parts ++ model.parts_of line) self.new) }
+            → model.CountsParts (parts ++ parts_of line) self.new) }
     {
         if !has_parts(&line) {
-            return self.add_part(alloc, &line);
+            self.add_part(alloc, &line)?;
+            return Ok(());
         }
         let mut part = line;
         let state = part.state;
@@ -84,7 +107,8 @@ impl Counter {
         self.add_part(alloc, &part)?;
         part.state = state;
         part.fragments = alone(alloc, last)?;
-        self.add_part(alloc, &part)
+        self.add_part(alloc, &part)?;
+        Ok(())
     }
 
     /// Adds a ledger. After an `Err` a part of it may be counted.

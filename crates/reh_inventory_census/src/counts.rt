@@ -139,17 +139,41 @@ impl Counts {
             → model.CountsLedgers (holders (bookies_of bookies.now)) ledgers self.old
             → model.CountsLedgers (holders (bookies_of bookies.now)) (ledgers ++ ledger ∷ []) self.new) }
     {
+        self.append(alloc, bookies, ledger)?;
+        self.join_if_long(alloc)?;
+        Ok(())
+    }
+
+    /// Adds the lines of a ledger as the last ones. After an `Err` a part of them may be there.
+    fn append(
+        &mut self,
+        alloc: Global,
+        bookies: &Bookies,
+        ledger: Ledger,
+    ) -> Result<(), AllocError>
+        ensures { OnOk result ((ledgers : List LedgerValue)
+            → model.CountsLedgers (holders (bookies_of bookies.now)) ledgers self.old
+            → model.CountsLedgers (holders (bookies_of bookies.now)) (ledgers ++ ledger ∷ []) self.new) }
+    {
         let ledgers = [ledger];
         let mut entries = entries_of(alloc, bookies, &ledgers)?;
-        self.entries.append(&mut entries)?;
         let mut tails = tails_of(alloc, &ledgers)?;
-        self.tails.append(&mut tails)?;
         let mut ensembles = ensembles_of(alloc, &ledgers)?;
+        self.entries.append(&mut entries)?;
+        self.tails.append(&mut tails)?;
         self.ensembles.append(&mut ensembles)?;
-        if self.len() >= self.to_join {
-            self.join(alloc)?;
-        }
         Ok(())
+    }
+
+    /// Joins equal lines, if there are many. After an `Err` some may be gone.
+    fn join_if_long(&mut self, alloc: Global) -> Result<(), CountsFault>
+        ensures { OnOk result ((holders : List ℕ) (ledgers : List LedgerValue)
+            → model.CountsLedgers holders ledgers self.old → model.CountsLedgers holders ledgers self.new) }
+    {
+        if self.len() < self.to_join {
+            return Ok(());
+        }
+        self.join(alloc)
     }
 
     /// Whether a census counts so much.

@@ -101,7 +101,7 @@ pub fn number_line(alloc: Global, names: &mut NameList, bytes: &[u8]) -> Result<
 }
 
 /// A fault of a line by itself, or that there is no memory to read it.
-fn line_fault(located: LineFault) -> CountFault {
+pub(crate) fn line_fault(located: LineFault) -> CountFault {
     match located.fault {
         Fault::NoMemory => CountFault::NoMemory,
         _ => CountFault::Line(InventoryFault::Line(located)),
