@@ -7,6 +7,7 @@ use Rattle.reh_census.specs.Ledgers.{Ledger}
 use Rattle.reh_census.specs.Order.{IsInOrder}
 use Rattle.reh_census_file.specs.Values.{named_by}
 use Rattle.reh_inventory.specs.declared.heads.Head.{Head}
+use Rattle.reh_inventory.specs.declared.ledgers.LedgerLine.{LedgerLine}
 use Rattle.reh_inventory.specs.declared.lines.Line.{Line}
 use Rattle.reh_inventory.specs.declared.lines.Line.TheVariants as line
 use Rattle.reh_inventory.specs.Inventories.{added, added_said, no_lines}
@@ -21,7 +22,7 @@ use Rattle.reh_inventory_census.specs.Parts.{parts_in}
 use Rattle.reh_inventory_fields.specs.declared.faults.Fault.{Fault}
 use Rattle.reh_inventory_fields.specs.declared.places.Place.{Place}
 
-no-ledger : (strict : Bool) → 0 ≡ (if strict then 0 else 0)
+no-ledger : (strict : Bool) → ◌≡◌ {A = ℕ} 0 (if strict then 0 else 0)
 no-ledger true = refl
 no-ledger false = refl
 
@@ -64,6 +65,7 @@ finished names strict first lines count census counts order judged was = record 
   counted = on (head_in first) was.cluster;
 }
   where
+    ledgers : List LedgerLine
     ledgers = ledger_lines lines
 
     who : List ℕ

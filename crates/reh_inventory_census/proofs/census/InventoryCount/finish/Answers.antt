@@ -1,6 +1,13 @@
--- holes
+-- The census of what was counted.
+use Rattle.std.proofs.Common.{◌≡◌, ◌∙◌, ap, sym, subst}
+use Rattle.reh_census_file.specs.Values.{NamedCensus}
+use Rattle.reh_inventory_census.specs.Census.{IsCensusOf, IsCount}
 use Rattle.reh_inventory_census.proofs.CensusLaws.{finished}
 use Rattle.reh_inventory_census.proofs.census.InventoryCount.finish.Goals as goal
 
 pub returns : goal.returns
-returns c = ?
+returns c = λ names strict first lines was.
+    let P : NamedCensus → Type 0 = λ census. IsCensusOf names strict first lines census in
+    subst P (sym c.of.ensures)
+    (finished names strict first lines c.args.self c.in_ok-census.census c.in_ok-census.ensures.counts
+    c.in_ok-census.ensures.order (c.in_ok-census.ensures.judged ∙ c.judged_by-judged.ensures) was)
