@@ -1,5 +1,5 @@
 -- What is read of the files of a cluster, and what is said of it.
-use Rattle.std.specs.Prelude.{◌≡◌, ℕ, ◌%◌, Bool, true, false, if◌then◌else◌, List, [], ◌++◌, All, Option, Result, Ok, Err, String, codes, length, slice_get, string_bytes, vec_len, IfOk}
+use Rattle.std.specs.Prelude.{◌≡◌, ◌⊎◌, ℕ, ◌%◌, Bool, true, false, if◌then◌else◌, List, [], ◌++◌, All, Option, Result, Ok, Err, String, codes, length, slice_get, string_bytes, vec_len, IfOk}
 use Rattle.std.specs.Borrow.{Bor}
 use Rattle.std.specs.Fmt.{decimal}
 use Rattle.std.specs.Option.{IsSomeAnd, option_and_then, option_map_or}
@@ -26,22 +26,28 @@ use Rattle.reh_words.specs.declared.tasks.Inputs.{Inputs}
 use Rattle.reh_words.specs.declared.tasks.RiskWords.{RiskWords}
 use Rattle.reh_words.specs.declared.tasks.StopWords.{StopWords}
 use Rattle.reh_words.specs.declared.tasks.WaveWords.{WaveWords}
+use Rattle.rehearse.specs.Inventories.{IsOfLines}
 use Rattle.rehearse.specs.declared.faults.RunFault.{RunFault}
 use Rattle.rehearse.specs.declared.faults.RunFault.TheVariants.{NoMemory, Unfit}
 
--- it is what some bytes show
-abbrev pub IsOfBytes : Input → Type 0
-IsOfBytes input = (bytes : List ℕ) × IsRead bytes input
+-- it is the census of some lines of an inventory
+abbrev pub IsOfInventory : Input → Type 0
+IsOfInventory (Picture l) = ⊥
+IsOfInventory (Census c) = IsOfLines c
+
+-- it is what some bytes show, or some lines of an inventory
+abbrev pub IsOfFile : Input → Type 0
+IsOfFile input = ((bytes : List ℕ) × IsRead bytes input) ⊎ IsOfInventory input
 
 -- a file was read: what it shows is there, or its fault
 abbrev pub IsInSlot : Option (Result Input RunFault) → Type 0
-IsInSlot slot = IsSomeAnd slot (λ read. IfOk read IsOfBytes)
+IsInSlot slot = IsSomeAnd slot (λ read. IfOk read IsOfFile)
 
 -- what all files show together, each an input
 pub record IsOfFiles (words : Inputs) (gathered : Gathered) : Type 0 where
   pub inputs : List Input
   pub each_file : length inputs ≡ vec_len words.files
-  pub are_read : All IsOfBytes inputs
+  pub are_read : All IsOfFile inputs
   pub gathers : Gathers inputs words.strict gathered
 
 -- what is said of a stop, by all files
@@ -80,7 +86,7 @@ census_by as_json census = if as_json then json_of census else text_of census
 pub record SaysCensus (words : CensusWords) (text : String Global) : Type 0 where
   pub inputs : List Input
   pub each_file : length inputs ≡ vec_len words.inputs.files
-  pub are_read : All IsOfBytes inputs
+  pub are_read : All IsOfFile inputs
   pub gathered : Gathered
   pub gathers : Gathers inputs words.inputs.strict gathered
   pub says : string_bytes text ≡ census_by words.as_json (named_of gathered words.inputs.strict (taken_of inputs))

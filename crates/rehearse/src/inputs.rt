@@ -116,7 +116,7 @@ fn read_files<R: thread::Threads + Wait + Sync>(
     progress: &Progress,
 ) -> Result<Vec<Input>, RunFault>
     ensures each { IfOk result (λ read. length read.items ≡ vec_len inputs.now.files) }
-    ensures read { IfOk result (λ read. All model.IsOfBytes read.items) }
+    ensures read { IfOk result (λ read. All model.IsOfFile read.items) }
 {
     let files = inputs.files.as_slice();
     let mut slots = slots_of(rt.alloc(), files)?;
@@ -150,7 +150,7 @@ fn slots_of(alloc: Global, files: &[&str]) -> Result<Vec<Slot>, AllocError>
 fn read_of(alloc: Global, slots: Vec<Slot>) -> Result<Vec<Input>, RunFault>
     requires { All model.IsInSlot slots.items }
     ensures each { IfOk result (λ read. length read.items ≡ length slots.items) }
-    ensures read { IfOk result (λ read. All model.IsOfBytes read.items) }
+    ensures read { IfOk result (λ read. All model.IsOfFile read.items) }
 {
     let mut read = Vec::new(alloc);
     for slot in slots {
@@ -163,7 +163,7 @@ fn read_of(alloc: Global, slots: Vec<Slot>) -> Result<Vec<Input>, RunFault>
 /// What a file that was read shows.
 fn taken(slot: Slot) -> Result<Input, RunFault>
     requires { model.IsInSlot slot }
-    ensures { IfOk result model.IsOfBytes }
+    ensures { IfOk result model.IsOfFile }
 {
     let Some(read) = slot else { unreachable!() };
     read
@@ -179,7 +179,7 @@ fn push_read(read: &mut Vec<Input>, one: Input) -> Result<(), AllocError>
 
 /// What a file shows.
 fn read_one(rt: &HostRuntime, path: &str, strict: bool) -> Result<Input, RunFault>
-    ensures { IfOk result model.IsOfBytes }
+    ensures { IfOk result model.IsOfFile }
 {
     let bytes = match read_input_file(rt, path)? {
         InputBytes::Whole(bytes) => bytes,

@@ -1,4 +1,7 @@
 // Inventories, read line by line: one that is checked, and one whose ledgers are counted.
+ghost use Rattle.std.specs.Prelude.{Bool, IfOk, OnOk};
+ghost use Rattle.rehearse.specs.Inventories as model;
+
 use crate::faults::RunFault;
 use crate::files::unread;
 use reh_census_file::{NameList, NamedCensus};
@@ -117,7 +120,9 @@ pub(crate) fn count_inventory(
     file: File,
     start: Vec<u8>,
     is_strict: bool,
-) -> Result<NamedCensus, RunFault> {
+) -> Result<NamedCensus, RunFault>
+    ensures { IfOk result model.IsOfLines }
+{
     let mut file = file;
     if file.rewind().is_err() {
         let mut bytes = start;
@@ -140,7 +145,9 @@ fn count_bytes(
     path: &str,
     bytes: &[u8],
     is_strict: bool,
-) -> Result<NamedCensus, RunFault> {
+) -> Result<NamedCensus, RunFault>
+    ensures { IfOk result model.IsOfLines }
+{
     let names = names_in(alloc, path, &mut reader_of(alloc, path, bytes)?)?;
     count_lines(
         alloc,
@@ -178,6 +185,48 @@ fn names_in<R: Read + Drop>(
     Ok(ordered)
 }
 
+/// Begins to count, with an inventory's first line.
+fn begin(
+    alloc: Global,
+    path: &str,
+    names: NameList,
+    is_strict: bool,
+    line: &[u8],
+) -> Result<InventoryCount, RunFault>
+    ensures { IfOk result (model.IsCounting is_strict) }
+{
+    match InventoryCount::begin(alloc, names, is_strict, line) {
+        Ok(count) => Ok(count),
+        Err(fault) => Err(uncounted(alloc, path, 1, fault)),
+    }
+}
+
+/// Counts the line of this number.
+fn add(
+    alloc: Global,
+    path: &str,
+    number: u64,
+    count: &mut InventoryCount,
+    line: &[u8],
+) -> Result<(), RunFault>
+    ensures { OnOk result ((strict : Bool) → model.IsCounting strict count.old → model.IsCounting strict count.new) }
+{
+    match count.add(alloc, line) {
+        Ok(()) => Ok(()),
+        Err(fault) => Err(uncounted(alloc, path, number, fault)),
+    }
+}
+
+/// The census of what was counted.
+fn finish(alloc: Global, path: &str, count: InventoryCount) -> Result<NamedCensus, RunFault>
+    ensures { IfOk result (λ census. (strict : Bool) → model.IsCounting strict count → model.IsOfLines census) }
+{
+    match count.finish(alloc) {
+        Ok(census) => Ok(census),
+        Err(fault) => Err(uncounted(alloc, path, 1, fault)),
+    }
+}
+
 /// The census of an inventory's lines, where bookies have the numbers of these names.
 fn count_lines<R: Read + Drop>(
     alloc: Global,
@@ -185,25 +234,22 @@ fn count_lines<R: Read + Drop>(
     reader: &mut BufReader<R>,
     names: NameList,
     is_strict: bool,
-) -> Result<NamedCensus, RunFault> {
+) -> Result<NamedCensus, RunFault>
+    ensures { IfOk result model.IsOfLines }
+{
     let mut line = Vec::new(alloc);
     read_line(alloc, path, reader, &mut line)?;
-    let mut count = match InventoryCount::begin(alloc, names, is_strict, &line) {
-        Ok(count) => count,
-        Err(fault) => return Err(uncounted(alloc, path, 1, fault)),
-    };
+    let mut count = begin(alloc, path, names, is_strict, &line)?;
     for number in 2..u64::MAX {
         line.clear();
         read_line(alloc, path, reader, &mut line)?;
         if line.is_empty() {
             break;
         }
-        if let Err(fault) = count.add(alloc, &line) {
-            return Err(uncounted(alloc, path, number, fault));
-        }
+        add(alloc, path, number, &mut count, &line)?;
     }
-    count.finish(alloc)
-        .map_err(|fault| uncounted(alloc, path, 1, fault))
+    let census = finish(alloc, path, count)?;
+    Ok(census)
 }
 
 /// The fault of a line that can't be counted.

@@ -1,0 +1,5 @@
+-- The census of the lines that were read.
+use Rattle.rehearse.proofs.inventories.count_lines.Goals as goal
+
+pub returns : goal.returns
+returns g c = c.in_ok-census.ensures c.args.is_strict c.loop-number.invariant
