@@ -3,13 +3,16 @@ ghost use Rattle.std.specs.Prelude.{◌<◌, ◌≤◌, vec_len};
 ghost use Rattle.reh_crew.specs.declared.threads.TheConstants.{MAX_WORKERS};
 ghost use Rattle.reh_words.specs.declared.tasks.TheConstants.{MAX_FILES};
 
+use crate::helps;
 use crate::questions::asked_of_files;
 use clap::error::ErrorKind;
 use clap::{Arg, ArgAction, ArgMatches, Command, Error, value_parser};
 use reh_census::Question;
 use reh_commands::Verb;
 use reh_crew::{MAX_OPERATORS, MAX_WORKERS};
+use reh_help::{Topic, topic_named};
 use std::alloc::{AllocError, Global};
+use std::convert::AsStr;
 
 /// What the program is asked to do.
 #[derive(Drop)]
@@ -30,6 +33,21 @@ pub enum Task<'a> {
     Census(CensusWords<'a>),
     /// Plans what is to be done without some bookies of a picture.
     Plan(PlanWords<'a>),
+    /// Says what the commands of a script and its refusals mean.
+    Help(HelpTopic<'a>),
+}
+
+/// What help is asked for.
+#[derive(Clone, Copy)]
+pub enum HelpTopic<'a> {
+    /// On the commands of a script.
+    Script,
+    /// On all refusals.
+    Refusals,
+    /// On this one.
+    Refusal(Topic),
+    /// On this word, of which there is none.
+    Unknown(&'a str),
 }
 
 /// Where the picture of a drill is, and its scripts, of which there are 1 to 8.
@@ -128,24 +146,14 @@ const VERSION: &str = "1.0.0";
 const ABOUT: &str =
     "Rehearses Apache BookKeeper AutoRecovery on a picture of a cluster, and not on the cluster.";
 
-const WAYS: &str =
-    "Without a command, standard input holds a picture, a line with a single %, and a script.
-A picture is JSON: the bookies, the ledgers' metadata, and which entries each bookie holds.
-A script has a command a line. For example:
-
-  lose b2:3181
-  audit
-  acquire b4:3181 7
-  copy b4:3181 7 0 1 0
-  swap b4:3181 7 0 1 0
-  undo
-  report";
-
 /// What these words ask for, the program's own name first; or `clap`'s text of what is wrong with them, or of help.
 /// `None` is for words that the parser lets through though they lack what their command needs. There are none.
 pub fn task_of<'a>(alloc: Global, words: &'a [String]) -> Result<Option<Task<'a>>, Error> {
-    match command(alloc, WAYS)?.try_get_matches_from(words) {
-        Ok(matches) => Ok(asked_task(alloc, &matches)?),
+    match command(alloc, helps::PROGRAM)?.try_get_matches_from(words) {
+        Ok(matches) => match matches.subcommand() {
+            Some(("help", given)) => asked_help(alloc, given.get_str("TOPIC")),
+            _ => Ok(asked_task(alloc, &matches)?),
+        },
         Err(error) => {
             if error.kind() == ErrorKind::DisplayHelp {
                 show_help(alloc, words)?;
@@ -212,8 +220,36 @@ fn asked_plan<'a>(
     })
 }
 
+/// The help that is asked for. That of the program and of a command comes as an error, as by `--help`.
+fn asked_help<'a>(alloc: Global, topic: Option<&'a str>) -> Result<Option<Task<'a>>, Error> {
+    let topic = match topic {
+        None => {
+            show_help(alloc, &["rehearse", "--help"])?;
+            return Ok(None);
+        }
+        Some("script") => HelpTopic::Script,
+        Some("refusals") => HelpTopic::Refusals,
+        Some(word) => match topic_named(word) {
+            Some(topic) => HelpTopic::Refusal(topic),
+            None => {
+                show_command(alloc, word)?;
+                HelpTopic::Unknown(word)
+            }
+        },
+    };
+    Ok(Some(Task::Help(topic)))
+}
+
+/// Help, as an error, for a word that is a command.
+fn show_command(alloc: Global, word: &str) -> Result<(), Error> {
+    match command(alloc, helps::PROGRAM)?.find_subcommand(word) {
+        Some(_) => show_help(alloc, &["rehearse", word, "--help"]),
+        None => Ok(()),
+    }
+}
+
 /// Help, as an error, for words that ask for it. It has the list of commands, which is made here alone.
-fn show_help(alloc: Global, words: &[String]) -> Result<(), Error> {
+fn show_help<S: AsStr>(alloc: Global, words: &[S]) -> Result<(), Error> {
     let ways = all_ways(alloc)?;
     command(alloc, ways.as_str())?.try_get_matches_from(words)?;
     Ok(())
@@ -221,7 +257,7 @@ fn show_help(alloc: Global, words: &[String]) -> Result<(), Error> {
 
 /// The ways to call the program, with the commands of a script: each with its words, and what it does.
 fn all_ways(alloc: Global) -> Result<String, AllocError> {
-    let mut ways = format!(in alloc; "{WAYS}\n\nThe commands of a script:\n\n")?;
+    let mut ways = format!(in alloc; "{}\nThe commands of a script:\n\n", helps::PROGRAM)?;
     for verb in Verb::all() {
         let command = format!(in alloc; "{verb}")?;
         let summary = verb.summary();
@@ -231,8 +267,8 @@ fn all_ways(alloc: Global) -> Result<String, AllocError> {
 }
 
 /// The command line: no word, `run PICTURE SCRIPT --workers N`, `talk PICTURE`, `check PICTURE`,
-/// `drill PICTURE SCRIPT..`, `ok-to-stop --lose BOOKIE,.. FILE..`, `waves FILE..`, `risk FILE..`, `census FILE..`, or
-/// `plan --lose BOOKIE,.. --to BOOKIE,.. PICTURE`.
+/// `drill PICTURE SCRIPT..`, `ok-to-stop --lose BOOKIE,.. FILE..`, `waves FILE..`, `risk FILE..`, `census FILE..`,
+/// `plan --lose BOOKIE,.. --to BOOKIE,.. PICTURE`, or `help TOPIC`.
 fn command<'a>(alloc: Global, ways: &'a str) -> Result<Command<'a>, Error> {
     let command = Command::new(alloc, "rehearse")
         .version(VERSION)
@@ -247,12 +283,10 @@ fn command<'a>(alloc: Global, ways: &'a str) -> Result<Command<'a>, Error> {
         .subcommand(waves_command(alloc)?)?
         .subcommand(risk_command(alloc)?)?
         .subcommand(census_command(alloc)?)?
-        .subcommand(plan_command(alloc)?)?;
+        .subcommand(plan_command(alloc)?)?
+        .subcommand(help_command(alloc)?)?;
     Ok(command)
 }
-
-/// What is said after the help of a command that plays.
-const UNREAD: &str = "Where a picture is refused or can't be read, check says where and why.";
 
 /// The command `run`.
 fn run_command<'a>(alloc: Global) -> Result<Command<'a>, Error> {
@@ -264,7 +298,7 @@ fn run_command<'a>(alloc: Global) -> Result<Command<'a>, Error> {
     );
     let command = Command::new(alloc, "run")
         .about("Plays a script on a picture, each in a file")
-        .after_help(UNREAD)
+        .after_help(helps::RUN)
         .arg(picture_arg(alloc))?
         .arg(script)?
         .arg(workers)?;
@@ -275,7 +309,7 @@ fn run_command<'a>(alloc: Global) -> Result<Command<'a>, Error> {
 fn talk_command<'a>(alloc: Global) -> Result<Command<'a>, Error> {
     let command = Command::new(alloc, "talk")
         .about("Plays what is typed on a picture: each line is answered before more is read")
-        .after_help(UNREAD)
+        .after_help(helps::TALK)
         .arg(picture_arg(alloc))?;
     Ok(command)
 }
@@ -284,6 +318,7 @@ fn talk_command<'a>(alloc: Global) -> Result<Command<'a>, Error> {
 fn check_command<'a>(alloc: Global) -> Result<Command<'a>, Error> {
     let command = Command::new(alloc, "check")
         .about("Says how much a picture or an inventory shows, or where it is wrong")
+        .after_help(helps::CHECK)
         .arg(picture_arg(alloc))?;
     Ok(command)
 }
@@ -296,7 +331,7 @@ fn drill_command<'a>(alloc: Global) -> Result<Command<'a>, Error> {
         .help("Files with the scripts of the operators, 1 to 8");
     let command = Command::new(alloc, "drill")
         .about("Plays scripts on a picture, each by an operator with a thread of its own")
-        .after_help(UNREAD)
+        .after_help(helps::DRILL)
         .arg(picture_arg(alloc))?
         .arg(scripts)?;
     Ok(command)
@@ -316,6 +351,7 @@ fn plan_command<'a>(alloc: Global) -> Result<Command<'a>, Error> {
         .help("The bookies that may take their places; by default all");
     let command = Command::new(alloc, "plan")
         .about("Plays AutoRecovery without some bookies, and prints the script")
+        .after_help(helps::PLAN)
         .arg(lost)?
         .arg(allowed)?
         .arg(picture_arg(alloc))?;
@@ -339,6 +375,7 @@ fn stop_command<'a>(alloc: Global) -> Result<Command<'a>, Error> {
         .help("The racks whose bookies are to stop, with commas between them");
     let command = Command::new(alloc, "ok-to-stop")
         .about("Says whether bookies may be stopped, and what that leaves with too few copies")
+        .after_help(helps::STOP)
         .arg(bookies)?
         .arg(racks)?;
     with_inputs(alloc, with_question(alloc, command)?)
@@ -349,6 +386,7 @@ fn waves_command<'a>(alloc: Global) -> Result<Command<'a>, Error> {
     let racks = flag_arg(alloc, "racks").help("Each round is of one rack");
     let command = Command::new(alloc, "waves")
         .about("Parts the bookies into rounds, each of which may be stopped together")
+        .after_help(helps::WAVES)
         .arg(racks)?;
     with_inputs(alloc, with_question(alloc, command)?)
 }
@@ -358,16 +396,29 @@ fn risk_command<'a>(alloc: Global) -> Result<Command<'a>, Error> {
     let pairs = flag_arg(alloc, "pairs").help("Each two bookies, too");
     let command = Command::new(alloc, "risk")
         .about("Says what the loss of each bookie and each rack would cost, the worst first")
+        .after_help(helps::RISK)
         .arg(pairs)?;
     with_inputs(alloc, with_question(alloc, command)?)
 }
 
 /// The command `census`.
 fn census_command<'a>(alloc: Global) -> Result<Command<'a>, Error> {
-    let command = Command::new(alloc, "census").about(
-        "Prints the census of files, which as text is read in their place",
-    );
+    let command = Command::new(alloc, "census")
+        .about("Prints the census of files, which as text is read in their place")
+        .after_help(helps::CENSUS);
     with_inputs(alloc, command)
+}
+
+/// The command `help`.
+fn help_command<'a>(alloc: Global) -> Result<Command<'a>, Error> {
+    let topic = Arg::new(alloc, "TOPIC").help(
+        "A command, script, refusals, or the number or the name of a refusal",
+    );
+    let command = Command::new(alloc, "help")
+        .about("Says what a command does, the lines of a script, or a refusal")
+        .after_help(helps::HELP)
+        .arg(topic)?;
+    Ok(command)
 }
 
 /// What `--keep` may be: one less than the ack quorum, or so many copies.

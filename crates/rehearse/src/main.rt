@@ -1,5 +1,5 @@
 // Rehearses events on a picture of a cluster, from standard input or from files, by one operator or several; checks a
-// picture; or plans what is to be done without some of its bookies.
+// picture; plans what is to be done without some of its bookies; or prints help.
 #![tactic(auto)]
 
 ghost use Rattle.std.specs.Prelude.{◌≡◌, false};
@@ -7,11 +7,13 @@ ghost use Rattle.std.specs.Prelude.{◌≡◌, false};
 mod checks;
 mod faults;
 mod files;
+mod helps;
 mod inputs;
 mod inventories;
 mod names;
 mod plans;
 mod progress;
+mod prompts;
 mod runs;
 mod stops;
 mod waves;
@@ -20,8 +22,10 @@ use checks::check_file;
 use clap::Error;
 use faults::{RunFault, after_flush, status_of, want_of_memory};
 use files::{LateFile, open_file, read_picture, read_scripts};
+use helps::help_on;
 use inputs::census_over;
 use plans::plan_file;
+use prompts::Typed;
 use reh_crew::{OpenGate, Plain};
 use reh_drill::drill_over;
 use reh_script::{FromRead, Gathered, TextOut, ToWrite, pipe, run};
@@ -67,6 +71,7 @@ fn perform<R: Threads + Wait + Sync + Copy + Send + 'static>(
         Task::Risk(words) => risk_over(rt, threads, &words),
         Task::Census(words) => census_over(rt, threads, &words),
         Task::Plan(words) => plan_file(rt, &words),
+        Task::Help(topic) => help_on(rt, topic),
     };
     end(rt, done)
 }
@@ -126,12 +131,12 @@ fn play<R: Threads + Wait + Sync>(
     after_flush(played, flushed)
 }
 
-/// Plays standard input on a picture file: what a read brings is answered before the next.
+/// Plays standard input on a picture file: what a read brings is answered before the next. Whoever types sees a prompt.
 fn talk<W: TextOut>(rt: &HostRuntime, picture: &str, writer: &mut W) -> Result<(), RunFault>
     requires { W.has_failed writer.old ≡ false }
 {
     let mut picture = FromRead::new(open_file(rt, picture).map_err(RunFault::without_reason)?);
-    let mut script = FromRead::new(rt.reader());
+    let mut script = Typed::new(rt, FromRead::new(rt.reader()));
     run(rt.alloc(), &Plain, &mut picture, &mut script, writer)?;
     Ok(())
 }

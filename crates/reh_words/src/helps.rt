@@ -1,0 +1,168 @@
+// What help says of each command after its words: uses to try, and the statuses that it may end with.
+
+/// What stands after a command's words in help: a note, uses that can be tried in the folder of the documents, and the
+/// statuses. Each command may end with those that aren't given here.
+macro_rules! after {
+    ($note:literal, uses: [$($use:literal),+], zero: $zero:literal, words: $words:literal, read: $read:literal, more: [$($more:literal),*]) => {
+        concat!(
+            $note,
+            "Examples:\n",
+            $("  rehearse ", $use, "\n",)+
+            "\nExit status:\n",
+            "  0  ", $zero, "\n",
+            "  2  ", $words, "\n",
+            "  3  what a file holds is refused\n",
+            "  4  ", $read, "\n",
+            "  5  an answer can't be written\n",
+            "  6  there is no memory\n",
+            $("  ", $more, "\n",)*
+        )
+    };
+}
+
+/// Of the program itself.
+pub(crate) const PROGRAM: &str = after!(
+    "Without a command, standard input holds a picture, a line with a single %, and a script.
+A picture is JSON: the bookies, the ledgers' metadata, and which entries each bookie holds.
+A script has a command a line. For example:
+
+  lose b2:3181
+  audit
+  acquire b4:3181 7
+  copy b4:3181 7 0 1 0
+  swap b4:3181 7 0 1 0
+  undo
+  report
+
+",
+    uses: ["< examples/lose-tick-and-undo", "< examples/rolling-restart"],
+    zero: "all lines are answered, even if refused",
+    words: "the words of the command line are wrong",
+    read: "a file can't be read, or a script is longer than 1 MiB",
+    more: []
+);
+
+/// Of `run`.
+pub(crate) const RUN: &str = after!(
+    "Where a picture is refused or can't be read, check says where and why.
+
+",
+    uses: [
+        "run examples/cluster.json examples/maintenance.script",
+        "run --workers 2 examples/cluster.json examples/outage.script"
+    ],
+    zero: "all lines are answered, even if refused",
+    words: "the words of the command line are wrong",
+    read: "a file can't be read, or a script is longer than 1 MiB",
+    more: ["7  a worker can't be started"]
+);
+
+/// Of `talk`.
+pub(crate) const TALK: &str = after!(
+    "Where a picture is refused or can't be read, check says where and why.
+
+",
+    uses: [
+        "talk examples/cluster.json",
+        "talk examples/cluster.json < examples/outage.script"
+    ],
+    zero: "all lines are answered, even if refused",
+    words: "the words of the command line are wrong",
+    read: "a file can't be read, or a script is longer than 1 MiB",
+    more: []
+);
+
+/// Of `check`.
+pub(crate) const CHECK: &str = after!(
+    "",
+    uses: ["check examples/cluster.json", "check examples/racks.json"],
+    zero: "the picture or the inventory is accepted",
+    words: "the words of the command line are wrong",
+    read: "a file can't be read",
+    more: []
+);
+
+/// Of `drill`.
+pub(crate) const DRILL: &str = after!(
+    "Where a picture is refused or can't be read, check says where and why.
+
+",
+    uses: [
+        "drill examples/cluster.json examples/restarts-1.script examples/restarts-2.script",
+        "drill examples/cluster.json examples/decommission.script"
+    ],
+    zero: "all lines are answered, even if refused",
+    words: "the words of the command line are wrong",
+    read: "a file can't be read, or a script is longer than 1 MiB",
+    more: ["7  an operator can't be started, or the drill's tape can't be closed"]
+);
+
+/// Of `ok-to-stop`.
+pub(crate) const STOP: &str = after!(
+    "",
+    uses: [
+        "ok-to-stop --lose b2:3181 examples/cluster.json",
+        "ok-to-stop --lose-rack r1 --for-good examples/racks.json"
+    ],
+    zero: "the answer is yes",
+    words: "the words of the command line are wrong, or name a bookie or rack that is unknown, or one twice",
+    read: "a file can't be read",
+    more: ["8  the answer is no", "9  the answer is unknown"]
+);
+
+/// Of `waves`.
+pub(crate) const WAVES: &str = after!(
+    "",
+    uses: ["waves examples/racks.json", "waves --racks examples/racks.json"],
+    zero: "the answer is printed",
+    words: "the words of the command line are wrong",
+    read: "a file can't be read",
+    more: []
+);
+
+/// Of `risk`.
+pub(crate) const RISK: &str = after!(
+    "",
+    uses: ["risk examples/cluster.json", "risk --pairs examples/racks.json"],
+    zero: "the answer is printed",
+    words: "the words of the command line are wrong",
+    read: "a file can't be read",
+    more: []
+);
+
+/// Of `census`.
+pub(crate) const CENSUS: &str = after!(
+    "",
+    uses: [
+        "census examples/cluster.json",
+        "census --format json examples/cluster.json"
+    ],
+    zero: "the answer is printed",
+    words: "the words of the command line are wrong",
+    read: "a file can't be read",
+    more: []
+);
+
+/// Of `plan`.
+pub(crate) const PLAN: &str = after!(
+    "",
+    uses: [
+        "plan --lose b2:3181 examples/cluster.json",
+        "plan --lose b2:3181 --to b4:3181,b5:3181 examples/cluster.json"
+    ],
+    zero: "the answer is printed",
+    words: "the words of the command line are wrong, or name a bookie or rack that is unknown, or one twice",
+    read: "a file can't be read, or a script is longer than 1 MiB",
+    more: []
+);
+
+/// Of `help`.
+pub(crate) const HELP: &str = "Examples:
+  rehearse help script
+  rehearse help 26
+
+Exit status:
+  0  the answer is printed
+  2  the words of the command line are wrong
+  5  an answer can't be written
+  6  there is no memory";

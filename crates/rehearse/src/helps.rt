@@ -1,0 +1,32 @@
+// Help on scripts and refusals.
+use crate::faults::RunFault;
+use crate::files::write_out;
+use reh_help::{refusal_page, refusals_page, script_page};
+use reh_words::HelpTopic;
+use std::alloc::{AllocError, Global};
+
+/// Prints the page of a topic.
+pub(crate) fn help_on(rt: &HostRuntime, topic: HelpTopic<'_>) -> Result<(), RunFault> {
+    let page = match topic {
+        HelpTopic::Script => script_page(rt.alloc())?,
+        HelpTopic::Refusals => refusals_page(rt.alloc())?,
+        HelpTopic::Refusal(refusal) => refusal_page(rt.alloc(), &refusal)?,
+        HelpTopic::Unknown(word) => return Err(no_help(rt.alloc(), word)),
+    };
+    write_out(rt, page.as_bytes())
+}
+
+/// That there is no help on a word.
+fn no_help(alloc: Global, word: &str) -> RunFault {
+    match no_help_text(alloc, word) {
+        Ok(text) => RunFault::Misnamed(text),
+        Err(want) => RunFault::from(want),
+    }
+}
+
+/// The text of it.
+fn no_help_text(alloc: Global, word: &str) -> Result<String, AllocError> {
+    format!(in alloc;
+        "no help on '{word}': it is no command, not script or refusals, and no number or name of a refusal"
+    )
+}

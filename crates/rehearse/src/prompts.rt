@@ -1,0 +1,71 @@
+// The prompt for whoever types a script.
+ghost use Rattle.std.specs.Prelude.{◌≡◌};
+
+use reh_script::{StreamFault, TextIn};
+use std::io::IsTerminal;
+
+/// A script on standard input. Before each line a prompt is shown on standard error, where both are terminals.
+#[derive(Drop)]
+pub(crate) struct Typed<'a, R: TextIn> {
+    rt: &'a HostRuntime,
+    inner: R,
+    is_prompted: bool,
+    begins_line: bool,
+}
+
+impl<'a, R: TextIn> Typed<'a, R> {
+    /// The script that this reader takes from standard input.
+    pub(crate) fn new(rt: &'a HostRuntime, inner: R) -> Self
+        ensures { result.inner ≡ inner }
+    {
+        let is_prompted = rt.stdin().is_terminal() && rt.stderr().is_terminal();
+        Typed {
+            rt,
+            inner,
+            is_prompted,
+            begins_line: true,
+        }
+    }
+
+    /// Shows the prompt, where a line begins.
+    fn prompt(&self) {
+        if self.is_prompted && self.begins_line {
+            let _ = eprint!(self.rt; "> ");
+        }
+    }
+
+    /// Ends the line on which the prompt is.
+    fn end_line(&self) {
+        if self.is_prompted {
+            let _ = eprintln!(self.rt; "");
+        }
+    }
+}
+
+impl<R: TextIn> TextIn for Typed<'_, R> {
+    ghost remaining = { λ s. R.remaining s.inner };
+
+    ghost has_failed = { λ s. R.has_failed s.inner };
+
+    ghost calls = { λ s. R.calls s.inner };
+
+    ghost before = { λ s. R.before s.inner };
+
+    fn take(&mut self, buffer: &mut [u8]) -> Result<usize, StreamFault> {
+        self.prompt();
+        let taken = self.inner.take(buffer);
+        if taken.unwrap_or(0) == 0 {
+            self.end_line();
+        }
+        self.begins_line = ends_line(taken, buffer);
+        taken
+    }
+}
+
+/// Whether what was taken ends a line.
+fn ends_line(taken: Result<usize, StreamFault>, buffer: &[u8]) -> bool {
+    match taken {
+        Ok(count) if 0 < count => buffer.get(count - 1) == Some(&b'\n'),
+        _ => false,
+    }
+}
