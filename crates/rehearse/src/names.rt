@@ -1,50 +1,73 @@
-// Bookies that words of the command line name.
+// Bookies and racks that words of the command line name.
 use crate::faults::RunFault;
-use reh_inputs::ClusterNames;
+use reh_cluster::Names;
+use reh_inputs::{Cluster, ClusterNames};
+use reh_near::near_to;
+use reh_types::BookieIx;
 use std::alloc::{AllocError, Global};
 
-/// That the word of this number names no bookie of the picture in a file; or out of memory.
-pub(crate) fn unknown(alloc: Global, path: &str, words: &[&str], number: usize) -> RunFault {
-    let name = name_at(words, number);
-    misnamed(format!(in alloc; "{path} has no bookie '{name}'"))
+/// That the word of this number names no bookie of the picture in a file, and what is near; or out of memory.
+pub(crate) fn unknown(
+    alloc: Global,
+    path: &str,
+    names: &Names,
+    words: &[&str],
+    number: usize,
+) -> RunFault {
+    misnamed(unknown_text(alloc, path, names, name_at(words, number)))
 }
 
-/// That the name is no bookie's of any input, with the full name of the one bookie that lacks only its
-/// port; or out of memory.
-pub(crate) fn unknown_to_all(alloc: Global, names: &ClusterNames, name: &str) -> RunFault {
-    misnamed(match only_longer(names, name) {
-        Some(full) => format!(in alloc;
-            "no input has a bookie '{name}': its full name is '{full}'"
-        ),
-        None => format!(in alloc; "no input has a bookie '{name}'"),
-    })
-}
-
-/// The name of the one bookie that has this name before its port.
-fn only_longer<'a>(names: &'a ClusterNames, name: &str) -> Option<&'a str> {
-    let mut found: Option<&'a str> = None;
-    for other in names.as_slice() {
-        if is_before_port(name, other.as_str()) {
-            if found.is_some() {
-                return None;
-            }
-            found = Some(other.as_str());
+/// The text of that.
+fn unknown_text(
+    alloc: Global,
+    path: &str,
+    names: &Names,
+    name: &str,
+) -> Result<String, AllocError> {
+    let mut known = Vec::new(alloc);
+    for number in 0..names.len() {
+        if let Some(other) = names.name(BookieIx(number as u8)) {
+            known.push(other)?;
         }
     }
-    found
+    let near = near_to(alloc, &known, name.as_bytes())?;
+    format!(in alloc; "{path} has no bookie '{name}'{near}")
 }
 
-/// Whether the longer name is this one, a colon and a port.
-fn is_before_port(name: &str, longer: &str) -> bool {
-    match longer.rsplit_once(':') {
-        Some((before, _port)) => before.as_bytes() == name.as_bytes(),
-        None => false,
+/// That the name is no bookie's of any input, and what is near; or out of memory.
+pub(crate) fn unknown_to_all(alloc: Global, names: &ClusterNames, name: &str) -> RunFault {
+    misnamed(unknown_to_all_text(alloc, names, name))
+}
+
+/// The text of that.
+fn unknown_to_all_text(
+    alloc: Global,
+    names: &ClusterNames,
+    name: &str,
+) -> Result<String, AllocError> {
+    let mut known = Vec::new(alloc);
+    for other in names.as_slice() {
+        known.push(other.as_str())?;
     }
+    let near = near_to(alloc, &known, name.as_bytes())?;
+    format!(in alloc; "no input has a bookie '{name}'{near}")
 }
 
-/// That the name is no bookie's rack; or out of memory.
-pub(crate) fn unknown_rack(alloc: Global, name: &str) -> RunFault {
-    misnamed(format!(in alloc; "no bookie is in rack '{name}'"))
+/// That the name is no bookie's rack, and what is near; or out of memory.
+pub(crate) fn unknown_rack(alloc: Global, cluster: &Cluster, name: &str) -> RunFault {
+    misnamed(unknown_rack_text(alloc, cluster, name))
+}
+
+/// The text of that.
+fn unknown_rack_text(alloc: Global, cluster: &Cluster, name: &str) -> Result<String, AllocError> {
+    let mut racks = Vec::new(alloc);
+    for number in cluster.rack_numbers(alloc)?.iter() {
+        if let Some(shown) = cluster.shown().get(*number as usize) {
+            racks.push(shown.rack().unwrap_or(""))?;
+        }
+    }
+    let near = near_to(alloc, &racks, name.as_bytes())?;
+    format!(in alloc; "no bookie is in rack '{name}'{near}")
 }
 
 /// That no bookie is named; or out of memory.

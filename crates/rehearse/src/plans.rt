@@ -37,7 +37,7 @@ fn bookies_of(
         alloc, words, again.word,
     ))?;
     match first_unknown(names, words) {
-        Some(number) => Err(unknown(alloc, picture, words, number)),
+        Some(number) => Err(unknown(alloc, picture, names, words, number)),
         None => Ok(bookies),
     }
 }

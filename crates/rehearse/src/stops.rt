@@ -7,7 +7,7 @@ use crate::files::write_out;
 use crate::inputs::{gather_files, too_many};
 use crate::names::{ambiguous, named_again, nobody, unknown_rack, unknown_to_all};
 use crate::progress::{Progress, Teller};
-use reh_inputs::ClusterNames;
+use reh_inputs::Cluster;
 use reh_stop::{Asked, Said, StopFault, answer_stop};
 use reh_words::StopWords;
 use std::alloc::Global;
@@ -46,18 +46,18 @@ fn said_of<R: thread::Threads + Wait + Sync>(
     };
     match answer_stop(rt.alloc(), &gathered, &asked) {
         Ok(said) => Ok(said),
-        Err(fault) => Err(fault_of(rt.alloc(), gathered.cluster.names(), fault)),
+        Err(fault) => Err(fault_of(rt.alloc(), &gathered.cluster, fault)),
     }
 }
 
 /// The fault of a run that answers nothing.
-fn fault_of(alloc: Global, names: &ClusterNames, fault: StopFault<'_>) -> RunFault {
+fn fault_of(alloc: Global, cluster: &Cluster, fault: StopFault<'_>) -> RunFault {
     match fault {
         StopFault::Nobody => nobody(alloc),
         StopFault::Ambiguous(word) => ambiguous(alloc, word),
-        StopFault::UnknownBookie(name) => unknown_to_all(alloc, names, name),
+        StopFault::UnknownBookie(name) => unknown_to_all(alloc, cluster.names(), name),
         StopFault::Twice(name) => named_again(alloc, name),
-        StopFault::UnknownRack(name) => unknown_rack(alloc, name),
+        StopFault::UnknownRack(name) => unknown_rack(alloc, cluster, name),
         StopFault::TooMany => too_many(alloc),
         StopFault::NoMemory => RunFault::NoMemory,
     }
