@@ -3,6 +3,7 @@ pub mod Census
 pub mod Counted
 pub mod Counters
 pub mod Counting
+pub mod Empties
 pub mod Faults
 pub mod Numbers
 pub mod Parts

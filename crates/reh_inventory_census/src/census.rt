@@ -1,6 +1,9 @@
 // The census of an inventory, line after line.
-ghost use Rattle.std.specs.Prelude.{◌≡◌, ◌++◌, ◌∷◌, [], ℕ, Bool, List, Ok, IfOk, OnOk, option_map, string_bytes};
+ghost use Rattle.std.specs.Prelude.{◌≡◌, ◌++◌, ◌∷◌, [], ℕ, Bool, List, Ok, false, IfOk, IfSome, OnOk, option_map, string_bytes};
+ghost use Rattle.std.specs.List.{list_any};
+ghost use Rattle.reh_inventory.specs.Inventories.{ledger_in};
 ghost use Rattle.reh_inventory.specs.Lines.{located_line_of};
+ghost use Rattle.reh_inventory_census.specs.Empties.{holds_though_empty};
 ghost use Rattle.reh_inventory_census.specs.Census as model;
 
 use crate::bookies::{bookies_of, racks_of};
@@ -91,7 +94,10 @@ impl InventoryCount {
 
     /// Adds the next line. After an `Err` a part of it may be counted.
     pub fn add(&mut self, alloc: Global, line: &[u8]) -> Result<(), CountFault>
-        ensures { OnOk result ((names : List (List ℕ)) (strict : Bool) (first : List ℕ) (lines : List (List ℕ))
+        ensures empties { OnOk result (IfSome (ledger_in line.now) (λ ledger.
+            list_any (holds_though_empty self.old.counter.names self.old.counter.bookies) ledger.contents
+            ≡ false)) }
+        ensures counted { OnOk result ((names : List (List ℕ)) (strict : Bool) (first : List ℕ) (lines : List (List ℕ))
             → model.IsCount names strict first lines self.old
             → model.IsCount names strict first (lines ++ line.now ∷ []) self.new) }
     {

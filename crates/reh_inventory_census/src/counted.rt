@@ -122,7 +122,7 @@ fn told_by(alloc: Global, reading: Reading, content: &Content) -> Result<Told, A
 }
 
 /// The number of the bookie of this name; one that isn't among the names isn't registered.
-fn number_of(names: &NameList, name: &Name) -> u16
+pub(crate) fn number_of(names: &NameList, name: &Name) -> u16
     ensures { result ≡ model.number_in names.now name.now }
 {
     names.find(name.as_str().as_bytes()).unwrap_or(u16::MAX)

@@ -1,15 +1,18 @@
 // What is counted of the ledgers of an inventory, line after line.
-ghost use Rattle.std.specs.Prelude.{◌≡◌, ◌+◌, ◌++◌, ◌∷◌, [], ℕ, List, OnOk, IfOk, IfErr, IfSome};
+ghost use Rattle.std.specs.Prelude.{◌≡◌, ◌+◌, ◌++◌, ◌∷◌, [], false, ℕ, List, OnOk, IfOk, IfErr, IfSome};
 ghost use Rattle.reh_census.specs.Bookies.{bookies_of, holders};
 ghost use Rattle.reh_census.specs.Counting.{count_entries};
 ghost use Rattle.reh_inventory.specs.declared.ledgers.LedgerLine.{LedgerLine as LineValue};
 ghost use Rattle.reh_inventory_census.specs.Counters as model;
 ghost use Rattle.reh_inventory_census.specs.Counted.{assumed as assumed_of, counted as counted_of};
+ghost use Rattle.std.specs.List.{list_any};
+ghost use Rattle.reh_inventory_census.specs.Empties.{holds_though_empty};
 ghost use Rattle.reh_inventory_census.specs.Parts.{parts_of};
 ghost use Rattle.reh_inventory_census.specs.Counting.{is_held};
 
 use crate::counted::{assumed_ledger, counted_ledger};
 use crate::counts::{Counts, held_among};
+use crate::empties::are_refilled;
 use crate::faults::{CountFault, unfit};
 use crate::parts::{alone, has_parts};
 use reh_census::{Bookies, Ledger};
@@ -116,7 +119,12 @@ impl Counter {
         ensures fixed { model.IsOfSame self.old self.new }
         ensures added { OnOk result ((lines : List LineValue) → model.CountsLines lines self.old
             → model.CountsLines (lines ++ line ∷ []) self.new) }
+        ensures empties { OnOk result
+            (list_any (holds_though_empty self.old.names self.old.bookies) line.contents ≡ false) }
     {
+        if are_refilled(&self.names, &self.bookies, line.contents.as_slice()) {
+            return Err(CountFault::HoldsThoughEmpty(line.id));
+        }
         self.add_parts(alloc, line)?;
         self.ledgers = self.ledgers.checked_add(1).ok_or(CountFault::TooMany)?;
         Ok(())

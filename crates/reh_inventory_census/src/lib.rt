@@ -6,6 +6,7 @@ mod census;
 mod counted;
 mod counter;
 mod counts;
+mod empties;
 mod faults;
 mod numbers;
 mod parts;
