@@ -74,7 +74,13 @@ impl Counter {
         if self.is_strict {
             return Ok(self.assumed);
         }
-        let more = count_assumed(alloc, &self.names, &self.bookies, self.assumes_striped, line)?;
+        let more = count_assumed(
+            alloc,
+            &self.names,
+            &self.bookies,
+            self.assumes_striped,
+            line,
+        )?;
         self.assumed.checked_add(more).ok_or(CountFault::TooMany)
     }
 
@@ -86,7 +92,13 @@ impl Counter {
             → model.CountsParts (parts ++ line.now ∷ []) self.new) }
     {
         let assumed = self.assumed_with(alloc, line)?;
-        let ledger = part_of(alloc, &self.names, self.assumes_striped, self.is_strict, line)?;
+        let ledger = part_of(
+            alloc,
+            &self.names,
+            self.assumes_striped,
+            self.is_strict,
+            line,
+        )?;
         self.counts.add(alloc, &self.bookies, ledger)?;
         self.assumed = assumed;
         Ok(())
@@ -105,7 +117,9 @@ impl Counter {
         }
         let mut part = line;
         let state = part.state;
-        let Some(last) = part.fragments.pop() else { return Ok(()) };
+        let Some(last) = part.fragments.pop() else {
+            return Ok(())
+        };
         part.state = LedgerState::Closed { end: last.first };
         self.add_part(alloc, &part)?;
         part.state = state;

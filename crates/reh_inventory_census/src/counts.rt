@@ -10,7 +10,8 @@ ghost use Rattle.reh_inventory_census.specs.Counting as model;
 
 use reh_census::{Bookies, Census, Counted, CountedEnsemble, CountedTail, Judged, Ledger};
 use reh_tally::{
-    TallyFault, census_of_counts, ensembles_of, entries_of, merged, merged_ensembles, merged_tails, tails_of,
+    TallyFault, census_of_counts, ensembles_of, entries_of, merged, merged_ensembles, merged_tails,
+    tails_of,
 };
 use std::alloc::{AllocError, Global};
 use std::marker::Model;
@@ -145,12 +146,7 @@ impl Counts {
     }
 
     /// Adds the lines of a ledger as the last ones. After an `Err` a part of them may be there.
-    fn append(
-        &mut self,
-        alloc: Global,
-        bookies: &Bookies,
-        ledger: Ledger,
-    ) -> Result<(), AllocError>
+    fn append(&mut self, alloc: Global, bookies: &Bookies, ledger: Ledger) -> Result<(), AllocError>
         ensures { OnOk result ((ledgers : List LedgerValue)
             → model.CountsLedgers (holders (bookies_of bookies.now)) ledgers self.old
             → model.CountsLedgers (holders (bookies_of bookies.now)) (ledgers ++ ledger ∷ []) self.new) }

@@ -13,4 +13,4 @@ mod parts;
 
 pub use census::InventoryCount;
 pub use faults::CountFault;
-pub use numbers::{number_line, in_order};
+pub use numbers::{in_order, number_line};

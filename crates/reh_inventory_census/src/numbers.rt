@@ -5,8 +5,8 @@ ghost use Rattle.reh_census_file.specs.declared.lists.TheConstants.{MAX_NAMES};
 ghost use Rattle.reh_inventory.specs.Lines.{located_line_of};
 ghost use Rattle.reh_inventory_census.specs.Numbers as model;
 
-use reh_census_file::{MAX_NAMES, NameList};
 use crate::faults::CountFault;
+use reh_census_file::{MAX_NAMES, NameList};
 use reh_inventory::{Fault, Head, InventoryFault, LedgerLine, Line, LineFault, read_line};
 use reh_inventory_fields::Name;
 use std::alloc::{AllocError, Global};

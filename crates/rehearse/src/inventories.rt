@@ -159,7 +159,11 @@ fn count_bytes(
 }
 
 /// A reader that reads ahead.
-fn reader_of<R: Read + Drop>(alloc: Global, path: &str, inner: R) -> Result<BufReader<R>, RunFault> {
+fn reader_of<R: Read + Drop>(
+    alloc: Global,
+    path: &str,
+    inner: R,
+) -> Result<BufReader<R>, RunFault> {
     BufReader::new(alloc, inner).map_err(|error| unread(alloc, "read", path, error))
 }
 

@@ -13,7 +13,7 @@ made c =
     let P : Ledger → Type 0 = λ of_line. IfOk c.make_ledger.result (λ g. g ≡ of_line) in
     subst P
     (made-of-line c.args.names.now c.args.assumes_striped c.args.is_strict c.args.line.now c.reading_of-reading.result
-    c.in_ok-contents.contents.items c.rest_of-rest.result c.reading_of-reading.ensures 
+    c.in_ok-contents.contents.items c.rest_of-rest.result c.reading_of-reading.ensures
     ((λ i. c.in_ok-contents.ensures i)
     ∙ ap (map (content_by c.args.names.now c.reading_of-reading.result)) c.as_slice.ensures)
     c.rest_of-rest.ensures)

@@ -7,5 +7,5 @@ returns-in-Ok c = λ strict was. record {
   names = was.names;
   first = was.first;
   lines = was.lines ++ c.args.line.now ∷ [];
-  counted = c.in-Ok.ensures was.names strict was.first was.lines was.counted;
+  counted = c.in-Ok.ensures.counted was.names strict was.first was.lines was.counted;
 }
