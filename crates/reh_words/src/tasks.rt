@@ -472,7 +472,7 @@ fn with_inputs<'a>(alloc: Global, command: Command<'a>) -> Result<Command<'a>, E
         .required(true)
         .num_args(1..=MAX_FILES)
         .help(
-            "Files with pictures of one cluster, or with censuses of them, which are judged as one",
+            "Files with pictures or inventories of one cluster, or with censuses of them, judged as one",
         );
     let command = command
         .arg(format)?
