@@ -6,14 +6,19 @@ use reh_words::HelpTopic;
 use std::alloc::{AllocError, Global};
 
 /// Prints the page of a topic.
-pub(crate) fn help_on(rt: &HostRuntime, topic: HelpTopic<'_>) -> Result<(), RunFault> {
-    let page = match topic {
-        HelpTopic::Script => script_page(rt.alloc())?,
-        HelpTopic::Refusals => refusals_page(rt.alloc())?,
-        HelpTopic::Refusal(refusal) => refusal_page(rt.alloc(), &refusal)?,
-        HelpTopic::Unknown(word) => return Err(no_help(rt.alloc(), word)),
-    };
+pub(crate) fn help_on(rt: &HostRuntime, topic: &HelpTopic<'_>) -> Result<(), RunFault> {
+    let page = page_on(rt.alloc(), topic)?;
     write_out(rt, page.as_bytes())
+}
+
+/// The page of a topic, or that there is none.
+fn page_on(alloc: Global, topic: &HelpTopic<'_>) -> Result<String, RunFault> {
+    match topic {
+        HelpTopic::Script => Ok(script_page(alloc)?),
+        HelpTopic::Refusals => Ok(refusals_page(alloc)?),
+        HelpTopic::Refusal(refusal) => Ok(refusal_page(alloc, refusal)?),
+        HelpTopic::Unknown(word) => Err(no_help(alloc, word)),
+    }
 }
 
 /// That there is no help on a word.

@@ -71,7 +71,7 @@ fn perform<R: Threads + Wait + Sync + Copy + Send + 'static>(
         Task::Risk(words) => risk_over(rt, threads, &words),
         Task::Census(words) => census_over(rt, threads, &words),
         Task::Plan(words) => plan_file(rt, &words),
-        Task::Help(topic) => help_on(rt, topic),
+        Task::Help(topic) => help_on(rt, &topic),
     };
     end(rt, done)
 }
