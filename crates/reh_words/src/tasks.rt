@@ -50,11 +50,13 @@ pub enum PlayWords<'a> {
     Talk {
         picture: &'a str,
     },
-    /// Each in a file; and who makes the surveys.
+    /// Each in a file; who makes the surveys; and the file for the picture of the state at the end, if it is to be
+    /// written.
     Files {
         picture: &'a str,
         script: &'a str,
         crew: Crew,
+        picture_out: Option<&'a str>,
     },
 }
 
@@ -185,10 +187,12 @@ fn asked_of_picture<'a>(
         }
         ("run", Some(script)) if 0 < workers && workers <= MAX_WORKERS => {
             let crew = Crew { workers };
+            let picture_out = given.get_str("picture-out");
             Task::Play(PlayWords::Files {
                 picture,
                 script,
                 crew,
+                picture_out,
             })
         }
         // The parser asks for a script, and lets no other number of scripts or workers through.
@@ -230,7 +234,7 @@ fn all_ways(alloc: Global) -> Result<String, AllocError> {
     Ok(ways)
 }
 
-/// The command line: no word, `run PICTURE SCRIPT --workers N`, `talk PICTURE`, `check PICTURE`,
+/// The command line: no word, `run PICTURE SCRIPT --workers N --picture-out FILE`, `talk PICTURE`, `check PICTURE`,
 /// `drill PICTURE SCRIPT..`, `ok-to-stop --lose BOOKIE,.. FILE..`, `waves FILE..`, `risk FILE..`, `census FILE..`, or
 /// `plan --lose BOOKIE,.. --to BOOKIE,.. PICTURE`.
 fn command<'a>(alloc: Global, ways: &'a str) -> Result<Command<'a>, Error> {
@@ -262,12 +266,17 @@ fn run_command<'a>(alloc: Global) -> Result<Command<'a>, Error> {
     let workers = workers_arg(alloc)?.help(
         "How many workers make each survey, 1 to 8; by default 1",
     );
+    let picture_out = Arg::new(alloc, "picture-out")
+        .long("picture-out")
+        .value_name("FILE")
+        .help("A file for the picture of the state at the end");
     let command = Command::new(alloc, "run")
         .about("Plays a script on a picture, each in a file")
         .after_help(UNREAD)
         .arg(picture_arg(alloc))?
         .arg(script)?
-        .arg(workers)?;
+        .arg(workers)?
+        .arg(picture_out)?;
     Ok(command)
 }
 

@@ -10,6 +10,7 @@ mod files;
 mod inputs;
 mod inventories;
 mod names;
+mod outs;
 mod plans;
 mod progress;
 mod runs;
@@ -21,6 +22,7 @@ use clap::Error;
 use faults::{RunFault, after_flush, status_of, want_of_memory};
 use files::{LateFile, open_file, read_picture, read_scripts};
 use inputs::census_over;
+use outs::run_out;
 use plans::plan_file;
 use reh_crew::{OpenGate, Plain};
 use reh_drill::drill_over;
@@ -56,6 +58,12 @@ fn perform<R: Threads + Wait + Sync + Copy + Send + 'static>(
     task: Task<'_>,
 ) -> ExitCode {
     let done = match task {
+        Task::Play(PlayWords::Files {
+            picture,
+            script,
+            crew,
+            picture_out: Some(out),
+        }) => run_out(rt, threads, picture, script, crew, out),
         Task::Play(input) => play(rt, threads, input),
         Task::Check { picture } => check_file(rt, picture),
         Task::Drill(files) => drill(rt, threads, files),
@@ -120,6 +128,7 @@ fn play<R: Threads + Wait + Sync>(
             picture,
             script,
             crew,
+            picture_out: _,
         } => run_files(rt, threads, picture, script, crew, &mut writer),
     };
     let flushed = writer.flush();

@@ -1,0 +1,64 @@
+-- How deep what is written nests.
+use Rattle.std.proofs.Common.{◌≡◌, ℕ, zero, suc, ◌+◌, ◌<◌, ◌≤◌, List, [], ◌∷◌, ◌++◌, map, refl, arith}
+use Rattle.std.proofs.Math.Nat.{max-le}
+use Rattle.serde_json.specs.Data.{Data, depth, items_depth}
+use Rattle.serde_json.specs.View.{items_of}
+use Rattle.reh_types.specs.declared.names.LedgerState.{LedgerState}
+use Rattle.reh_types.specs.declared.names.LedgerState.TheVariants.{Open, InRecovery, Closed}
+use Rattle.reh_model.specs.Metadata.{Fragment}
+use Rattle.reh_model.specs.Cluster.{Cluster, Ledger}
+use Rattle.reh_picture_out.specs.Written.{bookie_data_at, bookies_data, member_data, fragment_data, ledger_data, last_data}
+use Rattle.reh_picture_out.specs.Written.{range_data, content_data, ledgers_data, written_data}
+
+-- a list nests no deeper than each element
+pub depth-made : {A : Type 0} (f : A → Data) (n : ℕ) → ((x : A) → depth (f x) ≤ n) → (xs : List A)
+    → items_depth (items_of (map f xs)) ≤ n
+depth-made f n each [] = omega arith
+depth-made f n each (x ∷ xs) = max-le (each x) (depth-made f n each xs)
+
+pub depth-push : (n : ℕ) (ds : List Data) (d : Data) → items_depth (items_of ds) ≤ n → depth d ≤ n
+    → items_depth (items_of (ds ++ d ∷ [])) ≤ n
+depth-push n [] d flat one = max-le one flat
+depth-push n (x ∷ ds) d flat one =
+    let first : depth x ≤ n = omega (arith, flat) in
+    let rest : items_depth (items_of ds) ≤ n = omega (arith, flat) in
+    max-le first (depth-push n ds d rest one)
+
+depth-last : (state : LedgerState) → depth (last_data state) ≤ 0
+depth-last Open = omega arith
+depth-last InRecovery = omega arith
+depth-last (Closed end) = omega arith
+
+none : 0 ≤ 0
+none = omega arith
+
+pub depth-bookies : (s : Cluster) → items_depth (items_of (bookies_data s)) ≤ 1
+depth-bookies s = depth-made (bookie_data_at s) 1 (λ b. omega arith) _
+
+depth-fragment : (names : List (List ℕ)) (fragment : Fragment) → depth (fragment_data names fragment) ≤ 2
+depth-fragment names fragment =
+    let members : items_depth (items_of (map (member_data names) fragment.ensemble)) ≤ 0 =
+    depth-made (member_data names) 0 (λ b. none) fragment.ensemble in
+    omega (arith, members)
+
+depth-ledger : (names : List (List ℕ)) (g : Ledger) → depth (ledger_data names g) ≤ 4
+depth-ledger names g =
+    let fragments : items_depth (items_of (map (fragment_data names) g.metadata.fragments)) ≤ 2 =
+    depth-made (fragment_data names) 2 (depth-fragment names) g.metadata.fragments in
+    let last = depth-last g.metadata.state in
+    omega (arith, fragments, last)
+
+pub depth-ledgers : (names : List (List ℕ)) (ledgers : List Ledger) → items_depth (items_of (ledgers_data names ledgers)) ≤ 4
+depth-ledgers names ledgers = depth-made (ledger_data names) 4 (depth-ledger names) ledgers
+
+pub depth-content : (name : List ℕ) (ledger : ℕ) (ranges : List (ℕ × ℕ)) → depth (content_data name ledger ranges) ≤ 3
+depth-content name ledger ranges =
+    let entries : items_depth (items_of (map range_data ranges)) ≤ 1 =
+    depth-made range_data 1 (λ r. omega arith) ranges in
+    omega (arith, entries)
+
+pub depth-written : (delay grace : ℕ) (bookies ledgers contents : List Data)
+    → items_depth (items_of bookies) ≤ 1 → items_depth (items_of ledgers) ≤ 4 → items_depth (items_of contents) ≤ 3
+    → depth (written_data delay grace bookies ledgers contents) ≤ 6
+depth-written zero grace bookies ledgers contents b l c = omega (arith, b, l, c)
+depth-written (suc delay) grace bookies ledgers contents b l c = omega (arith, b, l, c)

@@ -1,0 +1,134 @@
+-- The JSON that is written of a cluster.
+use Rattle.std.specs.Prelude.{◌≡◌, ℕ, zero, suc, ◌-◌, ◌≤◌, negsuc, Bool, List, [], ◌∷◌, map, codes, length, unwrap_or, slice_get}
+use Rattle.std.specs.List.{range_with_len}
+use Rattle.serde_json.specs.Data.{Num, unsigned, negative, Data, boolean, number, string, array, object, Items, no_items}
+use Rattle.serde_json.specs.Data.{item, member, no_members, items_depth}
+use Rattle.serde_json.specs.View.{items_of}
+use Rattle.reh_types.specs.declared.names.LedgerState.{LedgerState}
+use Rattle.reh_types.specs.declared.names.LedgerState.TheVariants.{Open, InRecovery, Closed}
+use Rattle.reh_model.specs.Contents.{Contents}
+use Rattle.reh_model.specs.Metadata.{Metadata, Fragment}
+use Rattle.reh_model.specs.Cluster.{Cluster, Ledger, is_up}
+use Rattle.reh_picture.specs.Contents.{holding_in, held_in}
+use Rattle.reh_picture.specs.declared.pictures.TheConstants.{DELAY_FORMAT, FIRST_FORMAT}
+
+-- Bookies
+
+-- the name of a bookie, empty where there is no such bookie
+abbrev pub name_at : List (List ℕ) → ℕ → List ℕ
+name_at names bookie = unwrap_or (slice_get names bookie) []
+
+abbrev pub bookie_data : List ℕ → Bool → Data
+bookie_data name up = object (member (codes "name") (string name) (member (codes "up") (boolean up) no_members))
+
+abbrev pub bookie_data_at : Cluster → ℕ → Data
+bookie_data_at s bookie = bookie_data (name_at s.names bookie) (is_up s bookie)
+
+abbrev pub bookies_data : Cluster → List Data
+bookies_data s = map (bookie_data_at s) (range_with_len 0 (length s.names))
+
+-- Ledgers
+
+abbrev pub member_data : List (List ℕ) → ℕ → Data
+member_data names bookie = string (name_at names bookie)
+
+abbrev pub members_data : List (List ℕ) → List ℕ → List Data
+members_data names members = map (member_data names) members
+
+abbrev pub fragment_data : List (List ℕ) → Fragment → Data
+fragment_data names fragment =
+    object
+    (member (codes "ensemble") (array (items_of (members_data names fragment.ensemble)))
+    (member (codes "firstEntry") (number (unsigned fragment.first)) no_members))
+
+abbrev pub fragments_data : List (List ℕ) → List Fragment → List Data
+fragments_data names fragments = map (fragment_data names) fragments
+
+-- one less than the end, -1 at end 0
+abbrev pub last_number : ℕ → Num
+last_number zero = negative (negsuc zero)
+last_number (suc n) = unsigned n
+
+-- the last entry id, -1 unless the ledger is closed
+abbrev pub last_data : LedgerState → Data
+last_data Open = number (negative (negsuc zero))
+last_data InRecovery = number (negative (negsuc zero))
+last_data (Closed end) = number (last_number end)
+
+abbrev pub state_text : LedgerState → List ℕ
+state_text Open = codes "OPEN"
+state_text InRecovery = codes "IN_RECOVERY"
+state_text (Closed end) = codes "CLOSED"
+
+abbrev pub metadata_data : ℕ → Metadata → Items → Data
+metadata_data id m fragments =
+    object
+    (member (codes "ackQuorumSize") (number (unsigned m.ack_quorum))
+    (member (codes "ensembleSize") (number (unsigned m.size))
+    (member (codes "fragments") (array fragments)
+    (member (codes "id") (number (unsigned id))
+    (member (codes "lastEntryId") (last_data m.state)
+    (member (codes "state") (string (state_text m.state))
+    (member (codes "version") (number (unsigned m.version))
+    (member (codes "writeQuorumSize") (number (unsigned m.write_quorum)) no_members))))))))
+
+abbrev pub ledger_data : List (List ℕ) → Ledger → Data
+ledger_data names g = metadata_data g.id g.metadata (items_of (fragments_data names g.metadata.fragments))
+
+abbrev pub ledgers_data : List (List ℕ) → List Ledger → List Data
+ledgers_data names ledgers = map (ledger_data names) ledgers
+
+-- Contents
+
+abbrev pub range_data : ℕ × ℕ → Data
+range_data range = array (item (number (unsigned range.0)) (item (number (unsigned range.1)) no_items))
+
+abbrev pub content_data : List ℕ → ℕ → List (ℕ × ℕ) → Data
+content_data name ledger ranges =
+    object
+    (member (codes "bookie") (string name)
+    (member (codes "entries") (array (items_of (map range_data ranges)))
+    (member (codes "ledger") (number (unsigned ledger)) no_members)))
+
+-- These contents, read, are what is held.
+pub record AreContents (names : List (List ℕ)) (held : Contents) (contents : List Data) : Type 0 where
+  pub held_are : held_in (map (holding_in names) contents) ≡ held
+  pub flat : items_depth (items_of contents) ≤ 3
+
+-- Pictures
+
+-- of the first format, which has no delay
+abbrev pub first_data : ℕ → List Data → List Data → List Data → Data
+first_data grace bookies ledgers contents =
+    object
+    (member (codes "bookies") (array (items_of bookies))
+    (member (codes "contents") (array (items_of contents))
+    (member (codes "format") (number (unsigned FIRST_FORMAT))
+    (member (codes "grace") (number (unsigned grace))
+    (member (codes "ledgers") (array (items_of ledgers)) no_members)))))
+
+-- of the format that has one
+abbrev pub delayed_data : ℕ → ℕ → List Data → List Data → List Data → Data
+delayed_data delay grace bookies ledgers contents =
+    object
+    (member (codes "bookies") (array (items_of bookies))
+    (member (codes "contents") (array (items_of contents))
+    (member (codes "format") (number (unsigned DELAY_FORMAT))
+    (member (codes "grace") (number (unsigned grace))
+    (member (codes "ledgers") (array (items_of ledgers))
+    (member (codes "lostDelayTicks") (number (unsigned delay)) no_members))))))
+
+abbrev pub written_data : ℕ → ℕ → List Data → List Data → List Data → Data
+written_data zero grace bookies ledgers contents = first_data grace bookies ledgers contents
+written_data (suc delay) grace bookies ledgers contents = delayed_data (suc delay) grace bookies ledgers contents
+
+-- the picture of a cluster with these contents
+abbrev pub picture_data : Cluster → List Data → Data
+picture_data s contents =
+    written_data s.delay s.grace (bookies_data s) (ledgers_data s.names s.parts.ledgers) contents
+
+-- The value is the picture of the cluster, with contents that say what is held.
+pub record IsPicture (s : Cluster) (d : Data) : Type 0 where
+  pub contents : List Data
+  pub data_is : d ≡ picture_data s contents
+  pub are_contents : AreContents s.names s.parts.held contents

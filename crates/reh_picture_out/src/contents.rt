@@ -1,0 +1,110 @@
+// What the bookies of a picture hold, as JSON.
+ghost use Rattle.std.specs.Prelude.{◌≡◌, ◌*◌, ◌<◌, ◌≤◌, ◌&&◌, nat_eq, nat_lt, map, length, IfOk, OnOk};
+ghost use Rattle.serde_json.specs.View.{view};
+ghost use Rattle.reh_types.specs.declared.limits.TheConstants.{ENTRIES_IN_WORD, ENTRY_END};
+ghost use Rattle.reh_picture_out.specs.Holdings.{Adds, LiesWithin};
+ghost use Rattle.reh_picture_out.specs.Written.{range_data, content_data, AreContents};
+
+use crate::bookies::name_of;
+use crate::ranges::ranges_of;
+use reh_cluster::{Ledger, State};
+use reh_picture::PictureFault;
+use reh_types::{BookieIx, ENTRIES_IN_WORD, LedgerId, MAX_PICTURE_BYTES};
+use serde_json::{Value, json};
+use std::alloc::{AllocError, Global};
+
+/// More ranges than this take more bytes than a picture may have: each takes 6 at least, as in `[0,0],`.
+const MAX_RANGES: usize = MAX_PICTURE_BYTES / 6;
+
+/// A range of entries.
+fn range_value(alloc: Global, range: (u32, u32)) -> Result<Value, AllocError>
+    ensures { IfOk result (λ v. view v ≡ range_data range) }
+{
+    json!(in alloc; [range.0, range.1])
+}
+
+/// Ranges of entries.
+fn range_values(alloc: Global, ranges: &[(u32, u32)]) -> Result<Vec<Value>, AllocError>
+    ensures { IfOk result (λ values. map view values.items ≡ map range_data ranges.now) }
+{
+    let mut values = Vec::new(alloc);
+    for range in ranges {
+        values.push(range_value(alloc, *range)?)?;
+    }
+    Ok(values)
+}
+
+/// What a bookie holds of a ledger.
+fn content_value(
+    alloc: Global,
+    name: &str,
+    ledger: LedgerId,
+    ranges: &[(u32, u32)],
+) -> Result<Value, AllocError>
+    ensures { IfOk result (λ v. view v ≡ content_data name.now ledger ranges.now) }
+{
+    let ranges = range_values(alloc, ranges)?;
+    json!(in alloc; {"bookie": name, "ledger": ledger.0, "entries": ranges})
+}
+
+/// Adds what a bookie holds of a ledger, if it holds an entry of it, and gives how many ranges there is room for then.
+fn push_content(
+    alloc: Global,
+    state: &State,
+    bookie: BookieIx,
+    ledger: &Ledger,
+    contents: &mut Vec<Value>,
+    room: usize,
+) -> Result<usize, PictureFault>
+    requires bookie { bookie < length state.now.names }
+    requires end { ENTRIES_IN_WORD * ledger.now.words ≤ ENTRY_END }
+    requires within { LiesWithin state.now.parts.held ledger.now }
+    ensures { OnOk result (Adds state.now.names state.now.parts.held
+        (λ b l. nat_eq b bookie && nat_eq l ledger.now.id) (map view contents.old.items) (map view contents.new.items)) }
+{
+    let end = ENTRIES_IN_WORD as u32 * ledger.words() as u32;
+    let ranges = ranges_of(alloc, state.row(bookie, ledger.id()), end)?;
+    if ranges.is_empty() {
+        return Ok(room);
+    }
+    if ranges.len() > room {
+        return Err(PictureFault::TooLong);
+    }
+    let name = name_of(state.names(), bookie);
+    contents.push(content_value(alloc, name, ledger.id(), &ranges)?)?;
+    Ok(room - ranges.len())
+}
+
+/// Adds what all bookies hold of a ledger.
+fn push_contents(
+    alloc: Global,
+    state: &State,
+    ledger: &Ledger,
+    contents: &mut Vec<Value>,
+    room: usize,
+) -> Result<usize, PictureFault>
+    requires end { ENTRIES_IN_WORD * ledger.now.words ≤ ENTRY_END }
+    requires within { LiesWithin state.now.parts.held ledger.now }
+    ensures { OnOk result (Adds state.now.names state.now.parts.held
+        (λ b l. nat_lt b (length state.now.names) && nat_eq l ledger.now.id)
+        (map view contents.old.items) (map view contents.new.items)) }
+{
+    let mut room = room;
+    for bookie in 0..state.names().len() {
+        room = push_content(alloc, state, BookieIx(bookie as u8), ledger, contents, room)?;
+    }
+    Ok(room)
+}
+
+/// What the bookies hold. A bookie that holds no entry of a ledger has no content for it.
+pub(crate) fn content_values(alloc: Global, state: &State) -> Result<Vec<Value>, PictureFault>
+    ensures { IfOk result
+        (λ values. AreContents state.now.names state.now.parts.held (map view values.items)) }
+{
+    let mut contents = Vec::new(alloc);
+    let mut room = MAX_RANGES;
+    for ledger in state.ledgers() {
+        room = push_contents(alloc, state, ledger, &mut contents, room)?;
+    }
+    Ok(contents)
+}

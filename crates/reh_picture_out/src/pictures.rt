@@ -1,0 +1,80 @@
+// The text of a picture.
+ghost use Rattle.std.specs.Prelude.{◌≡◌, Ok, map, string_bytes, IfOk};
+ghost use Rattle.serde_json.specs.View.{view};
+ghost use Rattle.reh_picture.specs.Pictures.{picture_of};
+ghost use Rattle.reh_picture_out.specs.Kept.{kept_of};
+ghost use Rattle.reh_picture_out.specs.Written.{written_data, IsPicture};
+
+use crate::bookies::bookie_values;
+use crate::contents::content_values;
+use crate::ledgers::ledger_values;
+use reh_cluster::State;
+use reh_picture::{PictureFault, read_picture};
+use serde_json::{Value, json};
+use std::alloc::{AllocError, Global};
+
+/// The text of a picture that shows the state, as far as a picture can: `kept_of` says what is kept. It has format 1,
+/// or format 2 where there is a delay for lost bookies.
+///
+/// The text is read back before it is given out, so what no picture can hold is refused with the fault that reading
+/// finds: `BadName`, a bookie's name with other bytes than 0x21 to 0x7E or more than 300 of them, or `TooLong`, more
+/// than 8,388,608 bytes. `NoMemory` comes only where a growth was refused. What a picture has no field for is left
+/// out: `Unshown` says what that is.
+pub fn picture_text(alloc: Global, state: &State) -> Result<String, PictureFault>
+    ensures { IfOk result (λ text. picture_of (string_bytes text) ≡ Ok (kept_of state.now)) }
+{
+    let value = picture_value(alloc, state)?;
+    let text = value.to_string(alloc)?;
+    drop(value);
+    read_picture(alloc, text.as_bytes())?;
+    Ok(text)
+}
+
+/// The picture as JSON.
+fn picture_value(alloc: Global, state: &State) -> Result<Value, PictureFault>
+    ensures { IfOk result (λ v. IsPicture state.now (view v)) }
+{
+    let bookies = bookie_values(alloc, state)?;
+    let ledgers = ledger_values(alloc, state.names(), state.ledgers())?;
+    let contents = content_values(alloc, state)?;
+    let value = written_value(
+        alloc,
+        state.delay(),
+        state.grace(),
+        bookies,
+        ledgers,
+        contents,
+    )?;
+    Ok(value)
+}
+
+/// The picture of these parts.
+fn written_value(
+    alloc: Global,
+    delay: u64,
+    grace: u64,
+    bookies: Vec<Value>,
+    ledgers: Vec<Value>,
+    contents: Vec<Value>,
+) -> Result<Value, AllocError>
+    ensures { IfOk result (λ v. view v ≡ written_data delay grace
+        (map view bookies.items) (map view ledgers.items) (map view contents.items)) }
+{
+    match delay {
+        0 => json!(in alloc; {
+            "format": 1u64,
+            "grace": grace,
+            "bookies": bookies,
+            "ledgers": ledgers,
+            "contents": contents
+        }),
+        _ => json!(in alloc; {
+            "format": 2u64,
+            "grace": grace,
+            "lostDelayTicks": delay,
+            "bookies": bookies,
+            "ledgers": ledgers,
+            "contents": contents
+        }),
+    }
+}

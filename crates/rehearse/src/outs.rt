@@ -1,0 +1,151 @@
+// Runs that write the picture of the state at their end.
+ghost use Rattle.std.specs.Prelude.{◌≡◌, false, length};
+
+use crate::faults::{RunFault, after_flush};
+use crate::files::{LateFile, read_picture, unwritten};
+use crate::runs::play_by;
+use reh_cluster::State;
+use reh_picture::{BookieMarks, Holding, PictureFault, list_picture};
+use reh_picture_out::{Unshown, picture_text};
+use reh_script::{Gathered, Opened, PipeFault, TextOut, ToWrite, open_picture};
+use reh_words::Crew;
+use std::fs::File;
+use std::io::Write;
+use std::sync::Wait;
+use std::thread::Threads;
+use std::{fs, io};
+
+/// Plays a script file on a picture file, to standard output. Where all of it was answered, and the answers are written,
+/// it writes the picture of the state at the end to a file, and says on standard error what that picture leaves out.
+pub(crate) fn run_out<R: Threads + Wait + Sync>(
+    rt: &HostRuntime,
+    threads: &R,
+    picture: &str,
+    script: &str,
+    crew: Crew,
+    out: &str,
+) -> Result<(), RunFault> {
+    let bytes = read_picture(rt, picture).map_err(RunFault::without_reason)?;
+    let mut rehearsal = open_picture(rt.alloc(), &bytes)?;
+    let mut writer = Gathered::new(rt.alloc(), ToWrite::new(io::writer(rt)))?;
+    let played = play_file(rt, threads, &mut rehearsal, script, crew, &mut writer);
+    let flushed = writer.flush();
+    after_flush(played, flushed)?;
+    // A book always shows its state.
+    let Some(state) = rehearsal.book.whole() else {
+        return Ok(());
+    };
+    let text = text_of(rt, out, state)?;
+    write_whole(rt, out, text.as_str())?;
+    say_unshown(rt, out, Unshown::of(state));
+    say_marks(rt, picture, out, &bytes);
+    Ok(())
+}
+
+/// Plays a script file at the book of a picture. The script is opened at its first read.
+fn play_file<R: Threads + Wait + Sync, W: TextOut>(
+    rt: &HostRuntime,
+    threads: &R,
+    rehearsal: &mut Opened,
+    script: &str,
+    crew: Crew,
+    writer: &mut W,
+) -> Result<(), RunFault>
+    requires out { length rehearsal.old.book.book.out ≡ rehearsal.old.seat.out }
+    requires writes { W.has_failed writer.old ≡ false }
+{
+    let mut script = LateFile::new(rt, script);
+    let played = play_by(threads, rt.alloc(), crew, rehearsal, &mut script, writer);
+    match script.into_unopened() {
+        Some(fault) => Err(fault.without_reason()),
+        None => Ok(played.map_err(PipeFault::from)?),
+    }
+}
+
+/// The text of the picture of a state; or that no picture holds it, and why.
+fn text_of(rt: &HostRuntime, out: &str, state: &State) -> Result<String, RunFault> {
+    match picture_text(rt.alloc(), state) {
+        Ok(text) => Ok(text),
+        Err(PictureFault::NoMemory) => Err(RunFault::NoMemory),
+        Err(fault) => {
+            let reason = format!(in rt.alloc(); "cannot write {out}: no picture holds the state at the end: {fault}")?;
+            Err(RunFault::Unwritten(reason))
+        }
+    }
+}
+
+/// Writes a file whole, or leaves it as it was: the text is written to a file beside it, `.part` after its name, which
+/// takes its place once all of it is on the disk. What is no file, as a device, and a link stay as they are, too.
+fn write_whole(rt: &HostRuntime, path: &str, text: &str) -> Result<(), RunFault> {
+    if is_other(rt, path) {
+        let reason = format!(in rt.alloc(); "cannot write {path}: it is no file")?;
+        return Err(RunFault::Unwritten(reason));
+    }
+    let part = format!(in rt.alloc(); "{path}.part")?;
+    let file = File::create_new(rt, part.as_str())
+        .map_err(|error| unwritten(rt.alloc(), part.as_str(), error))?;
+    let written = fill(file, text).and_then(|()| fs::rename(rt, part.as_str(), path));
+    match written {
+        Ok(()) => Ok(()),
+        Err(error) => {
+            let _ = fs::remove_file(rt, part.as_str());
+            Err(unwritten(rt.alloc(), path, error))
+        }
+    }
+}
+
+/// Whether there is something of this path that is no file.
+fn is_other(rt: &HostRuntime, path: &str) -> bool {
+    match fs::symlink_metadata(rt, path) {
+        Ok(metadata) => !metadata.is_file(),
+        Err(_) => false,
+    }
+}
+
+/// Writes a text to a new file, and to the disk.
+fn fill(file: File, text: &str) -> io::Result<()> {
+    let mut file = file;
+    file.write_all(text.as_bytes())?;
+    file.sync_all()
+}
+
+/// Says what of the state at the end a picture has no field for.
+fn say_unshown(rt: &HostRuntime, out: &str, unshown: Unshown) {
+    let Unshown {
+        tasks,
+        locks,
+        clock,
+        is_disabled,
+    } = unshown;
+    if tasks > 0 {
+        let _ = eprintln!(rt; "note: {out} leaves out tasks: {tasks}");
+    }
+    if locks > 0 {
+        let _ = eprintln!(rt; "note: {out} leaves out locks: {locks}");
+    }
+    if clock > 0 {
+        let _ = eprintln!(rt; "note: {out} leaves out the clock, and when bookies were lost: {clock}");
+    }
+    if is_disabled {
+        let _ = eprintln!(rt; "note: {out} leaves out that AutoRecovery is disabled");
+    }
+}
+
+/// Says which fields of the picture that was played on the new one leaves out, as a rehearsal passes over them.
+fn say_marks(rt: &HostRuntime, picture: &str, out: &str, bytes: &[u8]) {
+    let has_marks = match list_picture(rt.alloc(), bytes) {
+        Ok(listed) => {
+            listed.marks.iter().any(is_marked)
+                || listed.listing.holdings.iter().any(Holding::is_assumed)
+        }
+        Err(_) => true,
+    };
+    if has_marks {
+        let _ = eprintln!(rt; "note: {out} leaves out readOnly, empty, rack and assumed of {picture}");
+    }
+}
+
+/// Whether a bookie has a mark.
+fn is_marked(marks: &BookieMarks) -> bool {
+    marks.is_read_only() || marks.is_empty() || marks.rack().is_some()
+}
