@@ -16,7 +16,6 @@ use Rattle.reh_picture.specs.Bookies.{names_in, registration_in, registrations_i
 use Rattle.reh_picture_out.specs.Kept.{lost_at_start}
 use Rattle.reh_picture_out.specs.Written.{name_at, bookie_data_at, bookies_data}
 use Rattle.reh_picture_out.proofs.Lists.{read_all, map-map}
-use Rattle.std.specs.Prelude.{codes}
 
 names_sym : (x y : List ℕ) → bytes_eq x y ≡ false → bytes_eq y x ≡ false
 names_sym x y differ = go (bytes_eq y x) refl

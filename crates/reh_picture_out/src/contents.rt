@@ -60,7 +60,7 @@ fn push_content(
     requires end { ENTRIES_IN_WORD * ledger.now.words ≤ ENTRY_END }
     requires within { LiesWithin state.now.parts.held ledger.now }
     ensures { OnOk result (Adds state.now.names state.now.parts.held
-        (λ b l. nat_eq b bookie && nat_eq l ledger.now.id) (map view contents.old.items) (map view contents.new.items)) }
+        (λ b l. nat_eq b bookie && nat_eq ledger.now.id l) (map view contents.old.items) (map view contents.new.items)) }
 {
     let end = ENTRIES_IN_WORD as u32 * ledger.words() as u32;
     let ranges = ranges_of(alloc, state.row(bookie, ledger.id()), end)?;
@@ -86,7 +86,7 @@ fn push_contents(
     requires end { ENTRIES_IN_WORD * ledger.now.words ≤ ENTRY_END }
     requires within { LiesWithin state.now.parts.held ledger.now }
     ensures { OnOk result (Adds state.now.names state.now.parts.held
-        (λ b l. nat_lt b (length state.now.names) && nat_eq l ledger.now.id)
+        (λ b l. nat_lt b (length state.now.names) && nat_eq ledger.now.id l)
         (map view contents.old.items) (map view contents.new.items)) }
 {
     let mut room = room;
