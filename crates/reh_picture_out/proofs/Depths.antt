@@ -1,5 +1,5 @@
 -- How deep what is written nests.
-use Rattle.std.proofs.Common.{◌≡◌, ℕ, zero, suc, ◌+◌, ◌<◌, ◌≤◌, List, [], ◌∷◌, ◌++◌, map, refl, arith}
+use Rattle.std.proofs.Common.{◌≡◌, ℕ, zero, suc, Bool, ◌+◌, ◌<◌, ◌≤◌, List, [], ◌∷◌, ◌++◌, map, refl, arith}
 use Rattle.std.proofs.Math.Nat.{max-le}
 use Rattle.serde_json.specs.Data.{Data, depth, items_depth}
 use Rattle.serde_json.specs.View.{items_of}
@@ -29,11 +29,18 @@ depth-last Open = omega arith
 depth-last InRecovery = omega arith
 depth-last (Closed end) = omega arith
 
+-- one level more
+up : (n : ℕ) {m : ℕ} → m ≤ n → suc m ≤ suc n
+up n {m} h = omega (arith, h)
+
 none : 0 ≤ 0
 none = omega arith
 
 pub depth-bookies : (s : Cluster) → items_depth (items_of (bookies_data s)) ≤ 1
 depth-bookies s = depth-made (bookie_data_at s) 1 (λ b. omega arith) _
+
+flat-member : 0 ≤ 3
+flat-member = omega arith
 
 depth-fragment : (names : List (List ℕ)) (fragment : Fragment) → depth (fragment_data names fragment) ≤ 2
 depth-fragment names fragment =
@@ -45,14 +52,18 @@ depth-ledger : (names : List (List ℕ)) (g : Ledger) → depth (ledger_data nam
 depth-ledger names g =
     let fragments : items_depth (items_of (map (fragment_data names) g.metadata.fragments)) ≤ 2 =
     depth-made (fragment_data names) 2 (depth-fragment names) g.metadata.fragments in
-    let last = depth-last g.metadata.state in
-    omega (arith, fragments, last)
+    let listed : suc (items_depth (items_of (map (fragment_data names) g.metadata.fragments))) ≤ 3 =
+    omega (arith, fragments) in
+    let last : depth (last_data g.metadata.state) ≤ 3 = omega (arith, depth-last g.metadata.state) in
+    up 3 (max-le flat-member (max-le flat-member (max-le listed (max-le flat-member
+    (max-le last (max-le flat-member (max-le flat-member (max-le flat-member flat-member))))))))
 
 pub depth-ledgers : (names : List (List ℕ)) (ledgers : List Ledger) → items_depth (items_of (ledgers_data names ledgers)) ≤ 4
 depth-ledgers names ledgers = depth-made (ledger_data names) 4 (depth-ledger names) ledgers
 
-pub depth-content : (name : List ℕ) (ledger : ℕ) (ranges : List (ℕ × ℕ)) → depth (content_data name ledger ranges) ≤ 3
-depth-content name ledger ranges =
+pub depth-content : (assumed : Bool) (name : List ℕ) (ledger : ℕ) (ranges : List (ℕ × ℕ))
+    → depth (content_data assumed name ledger ranges) ≤ 3
+depth-content assumed name ledger ranges =
     let entries : items_depth (items_of (map range_data ranges)) ≤ 1 =
     depth-made range_data 1 (λ r. omega arith) ranges in
     omega (arith, entries)
@@ -60,5 +71,15 @@ depth-content name ledger ranges =
 pub depth-written : (delay grace : ℕ) (bookies ledgers contents : List Data)
     → items_depth (items_of bookies) ≤ 1 → items_depth (items_of ledgers) ≤ 4 → items_depth (items_of contents) ≤ 3
     → depth (written_data delay grace bookies ledgers contents) ≤ 6
-depth-written zero grace bookies ledgers contents b l c = omega (arith, b, l, c)
-depth-written (suc delay) grace bookies ledgers contents b l c = omega (arith, b, l, c)
+depth-written delay grace bookies ledgers contents b l c =
+    let bookies_in : suc (items_depth (items_of bookies)) ≤ 5 = omega (arith, b) in
+    let ledgers_in : suc (items_depth (items_of ledgers)) ≤ 5 = omega (arith, l) in
+    let contents_in : suc (items_depth (items_of contents)) ≤ 5 = omega (arith, c) in
+    let flat : 0 ≤ 5 = omega arith in
+    go delay bookies_in ledgers_in contents_in flat
+  where
+    go : (delay : ℕ) → suc (items_depth (items_of bookies)) ≤ 5 → suc (items_depth (items_of ledgers)) ≤ 5
+        → suc (items_depth (items_of contents)) ≤ 5 → 0 ≤ 5
+        → depth (written_data delay grace bookies ledgers contents) ≤ 6
+    go zero b l c flat = up 5 (max-le b (max-le c (max-le flat (max-le flat (max-le l flat)))))
+    go (suc delay) b l c flat = up 5 (max-le b (max-le c (max-le flat (max-le flat (max-le l (max-le flat flat))))))

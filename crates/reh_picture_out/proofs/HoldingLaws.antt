@@ -1,12 +1,12 @@
 -- What contents say that is held, as they grow.
-use Rattle.std.proofs.Common.{◌≡◌, ℕ, ◌+◌, ◌<◌, ◌≤◌, Bool, true, false, ◌&&◌, ◌||◌, nat_eq, nat_lt, nat_le, List, [], ◌∷◌, ◌++◌, map, length, take, get_or, refl, sym, ap, ◌∙◌, arith, lt-ltb, inl, inr}
-use Rattle.std.specs.Prelude.{◌==◌, ◌*◌, All, Option, None, Some}
+use Rattle.std.proofs.Common.{◌≡◌, ℕ, zero, suc, subst, ◌+◌, ◌<◌, ◌≤◌, Bool, true, false, ◌&&◌, ◌||◌, nat_eq, nat_lt, nat_le, List, [], ◌∷◌, ◌++◌, map, length, take, get_or, refl, sym, ap, ◌∙◌, arith, lt-ltb, inl, inr}
+use Rattle.std.specs.Prelude.{◌*◌, cond, All, Option, None, Some}
 use Rattle.std.specs.List.{IsDistinct, list_any, flat_map, find}
-use Rattle.std.specs.Option.{IsSome}
+use Rattle.std.specs.Option.{IsSome, is_some, option_map_or}
 use Rattle.std.specs.Ordering.{eq_by_cmp}
 use Rattle.std.specs.Str.{bytes_eq}
 use Rattle.std.proofs.Math.Bool.{or-false}
-use Rattle.std.proofs.lemmas.Bool.{cases_order}
+use Rattle.std.proofs.lemmas.Bool.{cases_order, false≢true}
 use Rattle.std.proofs.lemmas.Bool.Decides.{nat_tests}
 use Rattle.std.proofs.lemmas.Grind.{flat_map-append}
 use Rattle.std.proofs.lemmas.List.{map-append, take_more}
@@ -14,19 +14,21 @@ use Rattle.std.proofs.lemmas.List.Concat.{flat_map-cons}
 use Rattle.std.proofs.lemmas.List.Folds.{list_any-append}
 use Rattle.serde_json.specs.Data.{Data, items_depth}
 use Rattle.serde_json.specs.View.{items_of}
+use Rattle.reh_types.specs.declared.limits.TheConstants.{ENTRIES_IN_WORD, ENTRY_END}
 use Rattle.reh_types.specs.Sets.{triples, triple_cmp, contains-from_list, same_set, items}
 use Rattle.reh_model.specs.Contents.{Contents, has}
 use Rattle.reh_model.specs.Striping.{range}
-use Rattle.reh_model.specs.Cluster.{Ledger, ledger_among}
-use Rattle.reh_model.specs.WellFormed.{IsCopy}
+use Rattle.reh_model.specs.Cluster.{Cluster, Ledger, ledger_among, words_among}
+use Rattle.reh_model.specs.WellFormed.{IsCopy, IsWellFormed}
+use Rattle.reh_model.proofs.LedgerLaws.{found_itself}
 use Rattle.reh_model.proofs.ContentsLaws.{has-copies_of, All-copy}
 use Rattle.reh_fields.specs.Names.{bookie_in}
 use Rattle.reh_fields.proofs.Elements.{elements-items_of}
 use Rattle.reh_held.proofs.WrittenLaws.{turn_round}
 use Rattle.reh_picture.specs.Contents.{ends_of, holding_in, copies_within, copies_in, held_in}
 use Rattle.reh_picture_out.specs.Ranges.{is_within, is_in}
-use Rattle.reh_picture_out.specs.Holdings.{held_by, Adds}
-use Rattle.reh_picture_out.specs.Written.{name_at, range_data, content_data}
+use Rattle.reh_picture_out.specs.Holdings.{held_by, Adds, LiesWithin}
+use Rattle.reh_picture_out.specs.Written.{name_at, range_data, content_data, AreContents}
 use Rattle.reh_picture_out.proofs.Depths.{depth-push, depth-content}
 use Rattle.reh_picture_out.proofs.NamesLaws.{bookie_in-name_at}
 use Rattle.reh_picture_out.proofs.RangeLaws.{any-range}
@@ -67,11 +69,11 @@ module _ (b l e : ℕ) where
       ∙ (λ i. first i || any-copies bookie ledger ranges i) ∙ both test (is_within e r) (is_in ranges e)
 
   -- one content more
-  has-pushed : (names : List (List ℕ)) (ds : List Data) (name : List ℕ) (ledger : ℕ) (ranges : List (ℕ × ℕ))
-      → has (held_by names (ds ++ content_data name ledger ranges ∷ [])) b l e
+  has-pushed : (assumed : Bool) (names : List (List ℕ)) (ds : List Data) (name : List ℕ) (ledger : ℕ) (ranges : List (ℕ × ℕ))
+      → has (held_by names (ds ++ content_data assumed name ledger ranges ∷ [])) b l e
       ≡ (has (held_by names ds) b l e || ((nat_eq b (bookie_in names name) && nat_eq l ledger) && is_in ranges e))
-  has-pushed names ds name ledger ranges =
-      let d = content_data name ledger ranges in
+  has-pushed assumed names ds name ledger ranges =
+      let d = content_data assumed name ledger ranges in
       let before = map (holding_in names) ds in
       let bookie = bookie_in names name in
       let one : list_any is_it (flat_map copies_in (holding_in names d ∷ []))
@@ -89,12 +91,12 @@ module _ (b l e : ℕ) where
 
 -- Additions
 
-abbrev TestOf : ℕ → ℕ → ℕ → ℕ → Bool
-TestOf bookie ledger b l = nat_eq b bookie && nat_eq ledger l
+abbrev is_of : ℕ → ℕ → ℕ → ℕ → Bool
+is_of bookie ledger b l = nat_eq b bookie && nat_eq ledger l
 
 -- what is told of one bookie and one ledger is told of what the test passes
 guarded : (held : Contents) (bookie ledger e b l : ℕ) (told : Bool) → told ≡ has held bookie ledger e
-    → ((nat_eq b bookie && nat_eq l ledger) && told) ≡ (TestOf bookie ledger b l && has held b l e)
+    → ((nat_eq b bookie && nat_eq l ledger) && told) ≡ (is_of bookie ledger b l && has held b l e)
 guarded held bookie ledger e b l told is =
     ap (λ t. (nat_eq b bookie && t) && told) (turn_round l ledger)
     ∙ elim (nat_eq b bookie) as (λ t. nat_eq b bookie ≡ t → ((t && nat_eq ledger l) && told) ≡ ((t && nat_eq ledger l) && has held b l e)) [
@@ -111,21 +113,21 @@ guarded held bookie ledger e b l told is =
 
 module _ (names : List (List ℕ)) (held : Contents) where
   -- a content of a bookie and a ledger
-  pub Adds-one : (bookie ledger : ℕ) (ranges : List (ℕ × ℕ)) → IsDistinct bytes_eq names → bookie < length names
+  pub Adds-one : (assumed : Bool) (bookie ledger : ℕ) (ranges : List (ℕ × ℕ)) → IsDistinct bytes_eq names → bookie < length names
       → ((e : ℕ) → is_in ranges e ≡ has held bookie ledger e) → (ds : List Data)
-      → Adds names held (TestOf bookie ledger) ds (ds ++ content_data (name_at names bookie) ledger ranges ∷ [])
-  Adds-one bookie ledger ranges apart within told ds = record {
+      → Adds names held (is_of bookie ledger) ds (ds ++ content_data assumed (name_at names bookie) ledger ranges ∷ [])
+  Adds-one assumed bookie ledger ranges apart within told ds = record {
     more = λ b l e.
-        has-pushed b l e names ds (name_at names bookie) ledger ranges
+        has-pushed b l e assumed names ds (name_at names bookie) ledger ranges
         ∙ ap (λ k. has (held_by names ds) b l e || ((nat_eq b k && nat_eq l ledger) && is_in ranges e))
         (bookie_in-name_at names bookie apart within)
         ∙ ap (λ t. has (held_by names ds) b l e || t) (guarded held bookie ledger e b l (is_in ranges e) (told e));
-    flat = λ flat. depth-push 3 ds _ flat (depth-content (name_at names bookie) ledger ranges);
+    flat = λ flat. depth-push 3 ds _ flat (depth-content assumed (name_at names bookie) ledger ranges);
   }
 
   -- no content, where nothing is held
   pub Adds-none : (bookie ledger : ℕ) → ((e : ℕ) → false ≡ has held bookie ledger e) → (ds : List Data)
-      → Adds names held (TestOf bookie ledger) ds ds
+      → Adds names held (is_of bookie ledger) ds ds
   Adds-none bookie ledger told ds = record {
     more = λ b l e.
         sym (or-false (has (held_by names ds) b l e))
@@ -166,7 +168,7 @@ module _ (names : List (List ℕ)) (held : Contents) where
 abbrev pub is_below : ℕ → ℕ → ℕ → ℕ → Bool
 is_below n ledger b l = nat_lt b n && nat_eq ledger l
 
-pub below-next : (n ledger b l : ℕ) → is_below (n + 1) ledger b l ≡ (is_below n ledger b l || TestOf n ledger b l)
+pub below-next : (n ledger b l : ℕ) → is_below (n + 1) ledger b l ≡ (is_below n ledger b l || is_of n ledger b l)
 below-next n ledger b l =
     let next : nat_lt b (n + 1) ≡ (nat_lt b n || nat_eq b n) = elim (cases_order b n) [
       | inl is ↦
@@ -211,15 +213,13 @@ among-next n ledgers i g within is b l =
       spread false p q = refl
 
 found : (l : ℕ) (ledgers : List Ledger) → IsSome (ledger_among ledgers l) → list_any (λ g. nat_eq g.id l) ledgers ≡ true
-found l [] there = absurd there
+found l [] there = absurd (false≢true there)
 found l (g ∷ ledgers) there =
-    elim (nat_eq g.id l) as (λ t. nat_eq g.id l ≡ t → IsSome (if_found t g ledgers) → (t || list_any (λ g. nat_eq g.id l) ledgers) ≡ true) [
-      | true ↦ λ _ _. refl
-      | false ↦ λ _ later. found l ledgers later
-    ] refl there where
-      abbrev if_found : Bool → Ledger → List Ledger → Option Ledger
-      if_found true g ledgers = Some g
-      if_found false g ledgers = ledger_among ledgers l
+    elim (nat_eq g.id l) as (λ t. is_some (cond t (Some g) (ledger_among ledgers l)) ≡ true
+    → (t || list_any (λ g. nat_eq g.id l) ledgers) ≡ true) [
+      | true ↦ λ _. refl
+      | false ↦ λ later. found l ledgers later
+    ] there
 
 -- after all of them, what is told is what is held
 pub held-all : (names : List (List ℕ)) (held : Contents) (ledgers : List Ledger) (ds : List Data)
@@ -231,6 +231,53 @@ held-all names held ledgers ds copies added =
     ∙ elim (has held q.0 q.1 q.2) as (λ t. has held q.0 q.1 q.2 ≡ t → (is_among (length names) ledgers q.0 q.1 && t) ≡ t) [
       | true ↦ λ one.
           let copy = All-copy (IsCopy (length names) ledgers) held copies q one in
-          (λ i. (lt-ltb q.0 (length names) copy.0 i && found q.1 ledgers copy.1.0 i) && true)
+          (λ i. (lt-ltb q.0 (length names) copy.0 i && found q.1 ledgers copy.1 i) && true)
       | false ↦ λ _. sym (never (is_among (length names) ledgers q.0 q.1))
     ] refl)
+
+-- Ledgers of a cluster
+
+module _ (s : Cluster) (good : IsWellFormed s) (ledgers : List Ledger) (same : ledgers ≡ s.parts.ledgers) (k : ℕ)
+    (g : Ledger) (within : k < length ledgers) (is : g ≡ get_or ledgers k g) where
+  there : k < length s.parts.ledgers
+  there = omega (arith, within, ap length same)
+
+  is_there : g ≡ get_or s.parts.ledgers k g
+  is_there = is ∙ ap (λ gs. get_or gs k g) same
+
+  -- no entry of a ledger's words is past the greatest one
+  pub ledger-end : ENTRIES_IN_WORD * g.words ≤ ENTRY_END
+  ledger-end =
+      let words : g.words ≡ (get_or s.parts.ledgers k g).words = ap (λ (h : Ledger). h.words) is_there in
+      let bound = (good.ledgers.each k g there).words in
+      omega (arith, words, bound)
+
+  -- what is held of it lies within them
+  pub lies-within : LiesWithin s.parts.held g
+  lies-within = λ b e one.
+      let copy = All-copy (IsCopy (length s.names) s.parts.ledgers) s.parts.held good.contents.copies (b, g.id, e) one in
+      let here : ledger_among s.parts.ledgers g.id ≡ Some g =
+      ap (λ (h : Ledger). ledger_among s.parts.ledgers h.id) is_there
+      ∙ found_itself s.parts.ledgers good.ledgers.different k g there ∙ ap Some (sym is_there) in
+      let words : words_among s.parts.ledgers g.id ≡ g.words = ap (λ o. option_map_or (λ h. h.words) o 0) here in
+      omega (arith, copy.2, words)
+
+-- all of a list
+pub take-past : {X : Type 0} (xs : List X) (n : ℕ) → length xs ≤ n → take n xs ≡ xs
+take-past [] zero past = refl
+take-past [] (suc n) past = refl
+take-past (x ∷ xs) zero past = absurd (omega arith)
+take-past (x ∷ xs) (suc n) past = ap (λ ys. x ∷ ys) (take-past xs n (omega arith))
+
+-- the contents of all ledgers
+pub contents-all : (s : Cluster) (ds : List Data) (ledgers : List Ledger) (k : ℕ) → IsWellFormed s
+    → ledgers ≡ s.parts.ledgers → length ledgers ≤ k
+    → Adds s.names s.parts.held (is_among (length s.names) (take k ledgers)) [] ds → AreContents s.names s.parts.held ds
+contents-all s ds ledgers k good same past added =
+    let all : take k ledgers ≡ s.parts.ledgers = take-past ledgers k past ∙ same in
+    let whole : Adds s.names s.parts.held (is_among (length s.names) s.parts.ledgers) [] ds =
+    subst (λ gs. Adds s.names s.parts.held (is_among (length s.names) gs) [] ds) all added in
+    record {
+      held_are = held-all s.names s.parts.held s.parts.ledgers ds good.contents.copies whole;
+      flat = whole.flat (omega arith);
+    }

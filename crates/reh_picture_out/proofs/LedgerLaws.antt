@@ -34,9 +34,7 @@ closed_at last = Closed (unwrap_or (option_and_then end_after (result_ok (ok_or 
 -- an end within the limit
 end-small : (state : LedgerState) (first : ℕ) → ForSome (end_of_state state) (λ end. (first ≤ end) × (end ≤ ENTRY_END))
     → ForSome (end_of_state state) (λ end. end ≤ ENTRY_END)
-end-small Open first within = within
-end-small InRecovery first within = within
-end-small (Closed end) first within = within.1
+end-small state first within = λ end is. (within end is).1
 
 -- the state, and the end of a closed ledger
 state-back : (id : ℕ) (m : Metadata) (fragments : Items) (state : LedgerState)
@@ -46,8 +44,9 @@ state-back id m fragments Open within = refl
 state-back id m fragments InRecovery within = refl
 state-back id m fragments (Closed zero) within = refl
 state-back id m fragments (Closed (suc n)) within =
-    let small : nat_lt n (2 ^ 63) ≡ true = lt-ltb n (2 ^ 63) (omega (arith, within)) in
-    let last : nat_le n MAX_ENTRY_ID ≡ true = le-leb n MAX_ENTRY_ID (omega (arith, within)) in
+    let fits : suc n ≤ ENTRY_END = within (suc n) refl in
+    let small : nat_lt n (2 ^ 63) ≡ true = lt-ltb n (2 ^ 63) (omega (arith, fits)) in
+    let last : nat_le n MAX_ENTRY_ID ≡ true = le-leb n MAX_ENTRY_ID (omega (arith, fits)) in
     let end : n + 1 ≡ suc n = omega arith in
     ap (λ b. closed_at (if b then Some (pos n) else None)) small ∙ ap (λ b. closed_by b n) last ∙ ap Closed end
 

@@ -33,3 +33,16 @@ map-map g f (x ∷ xs) = ap (λ ys. g (f x) ∷ ys) (map-map g f xs)
 pub map-same : {A B : Type 0} (f g : A → B) → ((x : A) → f x ≡ g x) → (xs : List A) → map f xs ≡ map g xs
 map-same f g each [] = refl
 map-same f g each (x ∷ xs) = λ j. each x j ∷ map-same f g each xs j
+
+-- the same element is read with another default
+read_same : {A : Type 0} (xs : List A) (i : ℕ) (d e : A) → i < length xs → get_or xs i d ≡ get_or xs i e
+read_same [] i d e within = absurd (omega arith)
+read_same (x ∷ xs) zero d e within = refl
+read_same (x ∷ xs) (suc i) d e within = read_same xs i d e (omega arith)
+
+-- one value more is made, of what is read at the place
+pub made_there : {A : Type 0} (f : A → Data) (xs : List A) (i : ℕ) (d : A) → i < length xs
+    → (vs : List Value) (v : Value) → map view vs ≡ map f (take i xs) → view v ≡ f (get_or xs i d)
+    → map view (vs ++ v ∷ []) ≡ map f (take (i + 1) xs)
+made_there f xs i d within vs v so_far made =
+    made_more f xs i (get_or xs i d) within (read_same xs i d (get_or xs i d) within) vs v so_far made

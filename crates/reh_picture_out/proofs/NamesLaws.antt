@@ -1,5 +1,5 @@
 -- Bookies that are written by their names are found again, and their registrations are the same.
-use Rattle.std.proofs.Common.{◌≡◌, ℕ, ◌+◌, ◌<◌, Bool, true, false, List, [], ◌∷◌, map, length, get_or, refl, sym, ap, ◌∙◌, arith, lt-ltb}
+use Rattle.std.proofs.Common.{◌≡◌, ℕ, suc, ◌+◌, ◌<◌, Bool, true, false, List, [], ◌∷◌, map, length, get_or, refl, sym, ap, ◌∙◌, arith, lt-ltb}
 use Rattle.std.specs.Prelude.{nat_lt, slice_get, unwrap_or, is_none, Option, Some, None, if◌then◌else◌}
 use Rattle.std.specs.List.{IsDistinct, position_or_len, range_with_len}
 use Rattle.std.specs.Option.{option_map_or}
@@ -11,6 +11,8 @@ use Rattle.std.proofs.lemmas.Map.Keys.{apart_from_distinct}
 use Rattle.std.proofs.lemmas.Option.{slice_get-get_or, unwrap_or-slice_get}
 use Rattle.std.proofs.lemmas.Slice.Eq.{bytes_eq-Decides}
 use Rattle.reh_model.specs.Cluster.{Cluster, bookie_named, is_up}
+use Rattle.reh_fields.specs.declared.fields.Field.TheVariants as field
+use Rattle.reh_fields.specs.Members.{text_of}
 use Rattle.reh_fields.specs.Names.{bookie_in}
 use Rattle.reh_picture.specs.Bookies.{names_in, registration_in, registrations_in}
 use Rattle.reh_picture_out.specs.Kept.{lost_at_start}
@@ -52,7 +54,7 @@ bookie_in-name_at names b apart within =
 -- the names are the same
 pub names-back : (s : Cluster) → names_in (bookies_data s) ≡ s.names
 names-back s =
-    map-map _ (bookie_data_at s) (range_with_len 0 (length s.names))
+    map-map (λ d. text_of d field.Name) (bookie_data_at s) (range_with_len 0 (length s.names))
     ∙ read_all s.names 0 (name_at s.names) [] (λ i within. name_at-there s.names i)
 
 registered : (lost : Option ℕ) → (if is_none lost then None else Some 0) ≡ lost_at_start lost
@@ -64,7 +66,7 @@ pub registrations-back : (s : Cluster) → length s.parts.lost_at ≡ length s.n
     → registrations_in (bookies_data s) ≡ map lost_at_start s.parts.lost_at
 registrations-back s each =
     let starts : List (Option ℕ) = map lost_at_start s.parts.lost_at in
-    map-map _ (bookie_data_at s) (range_with_len 0 (length s.names))
+    map-map registration_in (bookie_data_at s) (range_with_len 0 (length s.names))
     ∙ ap (λ n. map (λ b. registration_in (bookie_data_at s b)) (range_with_len 0 n)) (sym each ∙ sym (length-starts s.parts.lost_at))
     ∙ read_all starts 0 (λ b. registration_in (bookie_data_at s b)) None (λ i within.
     let there : i < length s.parts.lost_at = omega (arith, within, length-starts s.parts.lost_at) in
@@ -74,4 +76,4 @@ registrations-back s each =
   where
     length-starts : (lost : List (Option ℕ)) → length (map lost_at_start lost) ≡ length lost
     length-starts [] = refl
-    length-starts (l ∷ lost) = ap (λ n. n + 1) (length-starts lost)
+    length-starts (l ∷ lost) = ap suc (length-starts lost)

@@ -83,12 +83,14 @@ ledgers_data names ledgers = map (ledger_data names) ledgers
 abbrev pub range_data : ℕ × ℕ → Data
 range_data range = array (item (number (unsigned range.0)) (item (number (unsigned range.1)) no_items))
 
-abbrev pub content_data : List ℕ → ℕ → List (ℕ × ℕ) → Data
-content_data name ledger ranges =
+-- what a bookie holds of a ledger, assumed or told
+abbrev pub content_data : Bool → List ℕ → ℕ → List (ℕ × ℕ) → Data
+content_data assumed name ledger ranges =
     object
+    (member (codes "assumed") (boolean assumed)
     (member (codes "bookie") (string name)
     (member (codes "entries") (array (items_of (map range_data ranges)))
-    (member (codes "ledger") (number (unsigned ledger)) no_members)))
+    (member (codes "ledger") (number (unsigned ledger)) no_members))))
 
 -- These contents, read, are what is held.
 pub record AreContents (names : List (List ℕ)) (held : Contents) (contents : List Data) : Type 0 where

@@ -37,20 +37,22 @@ fn range_values(alloc: Global, ranges: &[(u32, u32)]) -> Result<Vec<Value>, Allo
 /// What a bookie holds of a ledger.
 fn content_value(
     alloc: Global,
+    assumed: bool,
     name: &str,
     ledger: LedgerId,
     ranges: &[(u32, u32)],
 ) -> Result<Value, AllocError>
-    ensures { IfOk result (λ v. view v ≡ content_data name.now ledger ranges.now) }
+    ensures { IfOk result (λ v. view v ≡ content_data assumed name.now ledger ranges.now) }
 {
     let ranges = range_values(alloc, ranges)?;
-    json!(in alloc; {"bookie": name, "ledger": ledger.0, "entries": ranges})
+    json!(in alloc; {"bookie": name, "ledger": ledger.0, "assumed": assumed, "entries": ranges})
 }
 
 /// Adds what a bookie holds of a ledger, if it holds an entry of it, and gives how many ranges there is room for then.
 fn push_content(
     alloc: Global,
     state: &State,
+    assumed: bool,
     bookie: BookieIx,
     ledger: &Ledger,
     contents: &mut Vec<Value>,
@@ -71,7 +73,7 @@ fn push_content(
         return Err(PictureFault::TooLong);
     }
     let name = name_of(state.names(), bookie);
-    contents.push(content_value(alloc, name, ledger.id(), &ranges)?)?;
+    contents.push(content_value(alloc, assumed, name, ledger.id(), &ranges)?)?;
     Ok(room - ranges.len())
 }
 
@@ -79,6 +81,7 @@ fn push_content(
 fn push_contents(
     alloc: Global,
     state: &State,
+    assumed: bool,
     ledger: &Ledger,
     contents: &mut Vec<Value>,
     room: usize,
@@ -91,20 +94,32 @@ fn push_contents(
 {
     let mut room = room;
     for bookie in 0..state.names().len() {
-        room = push_content(alloc, state, BookieIx(bookie as u8), ledger, contents, room)?;
+        room = push_content(
+            alloc,
+            state,
+            assumed,
+            BookieIx(bookie as u8),
+            ledger,
+            contents,
+            room,
+        )?;
     }
     Ok(room)
 }
 
-/// What the bookies hold. A bookie that holds no entry of a ledger has no content for it.
-pub(crate) fn content_values(alloc: Global, state: &State) -> Result<Vec<Value>, PictureFault>
+/// What the bookies hold, all of it assumed or told. A bookie that holds no entry of a ledger has no content for it.
+pub(crate) fn content_values(
+    alloc: Global,
+    state: &State,
+    assumed: bool,
+) -> Result<Vec<Value>, PictureFault>
     ensures { IfOk result
         (λ values. AreContents state.now.names state.now.parts.held (map view values.items)) }
 {
     let mut contents = Vec::new(alloc);
     let mut room = MAX_RANGES;
     for ledger in state.ledgers() {
-        room = push_contents(alloc, state, ledger, &mut contents, room)?;
+        room = push_contents(alloc, state, assumed, ledger, &mut contents, room)?;
     }
     Ok(contents)
 }

@@ -14,16 +14,22 @@ use serde_json::{Value, json};
 use std::alloc::{AllocError, Global};
 
 /// The text of a picture that shows the state, as far as a picture can: `kept_of` says what is kept. It has format 1,
-/// or format 2 where there is a delay for lost bookies.
+/// or format 2 where there is a delay for lost bookies. Contents have the mark `assumed` or not, all of them: a rehearsal
+/// doesn't look at it.
 ///
 /// The text is read back before it is given out, so what no picture can hold is refused with the fault that reading
 /// finds: `BadName`, a bookie's name with other bytes than 0x21 to 0x7E or more than 300 of them, or `TooLong`, more
 /// than 8,388,608 bytes. `NoMemory` comes only where a growth was refused. What a picture has no field for is left
 /// out: `Unshown` says what that is.
-pub fn picture_text(alloc: Global, state: &State) -> Result<String, PictureFault>
+pub fn picture_text(
+    alloc: Global,
+    state: &State,
+    assumed: bool,
+) -> Result<String, PictureFault>
     ensures { IfOk result (λ text. picture_of (string_bytes text) ≡ Ok (kept_of state.now)) }
 {
-    let value = picture_value(alloc, state)?;
+    state.assert_well_formed();
+    let value = picture_value(alloc, state, assumed)?;
     let text = value.to_string(alloc)?;
     drop(value);
     read_picture(alloc, text.as_bytes())?;
@@ -31,12 +37,16 @@ pub fn picture_text(alloc: Global, state: &State) -> Result<String, PictureFault
 }
 
 /// The picture as JSON.
-fn picture_value(alloc: Global, state: &State) -> Result<Value, PictureFault>
+fn picture_value(
+    alloc: Global,
+    state: &State,
+    assumed: bool,
+) -> Result<Value, PictureFault>
     ensures { IfOk result (λ v. IsPicture state.now (view v)) }
 {
     let bookies = bookie_values(alloc, state)?;
     let ledgers = ledger_values(alloc, state.names(), state.ledgers())?;
-    let contents = content_values(alloc, state)?;
+    let contents = content_values(alloc, state, assumed)?;
     let value = written_value(
         alloc,
         state.delay(),

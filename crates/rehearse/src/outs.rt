@@ -9,6 +9,7 @@ use reh_picture::{BookieMarks, Holding, PictureFault, list_picture};
 use reh_picture_out::{Unshown, picture_text};
 use reh_script::{Gathered, Opened, PipeFault, TextOut, ToWrite, open_picture};
 use reh_words::Crew;
+use std::alloc::{AllocError, Global};
 use std::fs::File;
 use std::io::Write;
 use std::sync::Wait;
@@ -35,10 +36,11 @@ pub(crate) fn run_out<R: Threads + Wait + Sync>(
     let Some(state) = rehearsal.book.whole() else {
         return Ok(());
     };
-    let text = text_of(rt, out, state)?;
+    let marks = marks_of(rt, &bytes);
+    let text = text_of(rt, out, state, marks.assumed)?;
     write_whole(rt, out, text.as_str())?;
     say_unshown(rt, out, Unshown::of(state));
-    say_marks(rt, picture, out, &bytes);
+    say_marks(rt, picture, out, marks);
     Ok(())
 }
 
@@ -62,16 +64,30 @@ fn play_file<R: Threads + Wait + Sync, W: TextOut>(
     }
 }
 
-/// The text of the picture of a state; or that no picture holds it, and why.
-fn text_of(rt: &HostRuntime, out: &str, state: &State) -> Result<String, RunFault> {
-    match picture_text(rt.alloc(), state) {
-        Ok(text) => Ok(text),
-        Err(PictureFault::NoMemory) => Err(RunFault::NoMemory),
-        Err(fault) => {
-            let reason = format!(in rt.alloc(); "cannot write {out}: no picture holds the state at the end: {fault}")?;
-            Err(RunFault::Unwritten(reason))
-        }
+/// The text of the picture of a state, whose contents are assumed or told; or that no picture holds it, and why.
+fn text_of(
+    rt: &HostRuntime,
+    out: &str,
+    state: &State,
+    assumed: bool,
+) -> Result<String, RunFault> {
+    picture_text(rt.alloc(), state, assumed).map_err(|fault| unheld(rt.alloc(), out, fault))
+}
+
+/// That no picture holds a state, or out of memory.
+fn unheld(alloc: Global, out: &str, fault: PictureFault) -> RunFault {
+    match fault {
+        PictureFault::NoMemory => RunFault::NoMemory,
+        fault => match unheld_text(alloc, out, &fault) {
+            Ok(text) => RunFault::Unwritten(text),
+            Err(want) => RunFault::from(want),
+        },
     }
+}
+
+/// Which fault a picture of the state would have.
+fn unheld_text(alloc: Global, out: &str, fault: &PictureFault) -> Result<String, AllocError> {
+    format!(in alloc; "cannot write {out}: no picture holds the state at the end: {fault}")
 }
 
 /// Writes a file whole, or leaves it as it was: the text is written to a file beside it, `.part` after its name, which
@@ -131,17 +147,36 @@ fn say_unshown(rt: &HostRuntime, out: &str, unshown: Unshown) {
     }
 }
 
-/// Says which fields of the picture that was played on the new one leaves out, as a rehearsal passes over them.
-fn say_marks(rt: &HostRuntime, picture: &str, out: &str, bytes: &[u8]) {
-    let has_marks = match list_picture(rt.alloc(), bytes) {
-        Ok(listed) => {
-            listed.marks.iter().any(is_marked)
-                || listed.listing.holdings.iter().any(Holding::is_assumed)
-        }
-        Err(_) => true,
-    };
-    if has_marks {
-        let _ = eprintln!(rt; "note: {out} leaves out readOnly, empty, rack and assumed of {picture}");
+/// Which marks a picture has that a rehearsal passes over.
+#[derive(Clone, Copy)]
+struct Marks {
+    /// Some bookie is read-only, came back without its disk, or has a rack.
+    bookies: bool,
+    /// Some content is assumed.
+    assumed: bool,
+}
+
+/// The marks of a picture. Where they can't be read, there may be any.
+fn marks_of(rt: &HostRuntime, bytes: &[u8]) -> Marks {
+    match list_picture(rt.alloc(), bytes) {
+        Ok(listed) => Marks {
+            bookies: listed.marks.iter().any(is_marked),
+            assumed: listed.listing.holdings.iter().any(Holding::is_assumed),
+        },
+        Err(_) => Marks {
+            bookies: true,
+            assumed: true,
+        },
+    }
+}
+
+/// Says which marks of the picture that was played on the new one leaves out, and which it has everywhere.
+fn say_marks(rt: &HostRuntime, picture: &str, out: &str, marks: Marks) {
+    if marks.bookies {
+        let _ = eprintln!(rt; "note: {out} leaves out readOnly, empty and rack of {picture}");
+    }
+    if marks.assumed {
+        let _ = eprintln!(rt; "note: {out} has all contents as assumed, since {picture} has some");
     }
 }
 
