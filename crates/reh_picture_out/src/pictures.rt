@@ -21,11 +21,7 @@ use std::alloc::{AllocError, Global};
 /// finds: `BadName`, a bookie's name with other bytes than 0x21 to 0x7E or more than 300 of them, or `TooLong`, more
 /// than 8,388,608 bytes. `NoMemory` comes only where a growth was refused. What a picture has no field for is left
 /// out: `Unshown` says what that is.
-pub fn picture_text(
-    alloc: Global,
-    state: &State,
-    assumed: bool,
-) -> Result<String, PictureFault>
+pub fn picture_text(alloc: Global, state: &State, assumed: bool) -> Result<String, PictureFault>
     ensures { IfOk result (λ text. picture_of (string_bytes text) ≡ Ok (kept_of state.now)) }
 {
     state.assert_well_formed();
@@ -37,11 +33,7 @@ pub fn picture_text(
 }
 
 /// The picture as JSON.
-fn picture_value(
-    alloc: Global,
-    state: &State,
-    assumed: bool,
-) -> Result<Value, PictureFault>
+fn picture_value(alloc: Global, state: &State, assumed: bool) -> Result<Value, PictureFault>
     ensures { IfOk result (λ v. IsPicture state.now (view v)) }
 {
     let bookies = bookie_values(alloc, state)?;

@@ -36,12 +36,18 @@ impl Unshown {
 fn count_tasks(ledgers: &[Ledger]) -> usize
     ensures { result ≡ count_by (λ g. is_some g.task) ledgers.now }
 {
-    ledgers.iter().filter(|ledger| ledger.task().is_some()).count()
+    ledgers
+        .iter()
+        .filter(|ledger| ledger.task().is_some())
+        .count()
 }
 
 /// How many ledgers have a lock.
 fn count_locks(ledgers: &[Ledger]) -> usize
     ensures { result ≡ count_by (λ g. is_some g.lock) ledgers.now }
 {
-    ledgers.iter().filter(|ledger| ledger.lock().is_some()).count()
+    ledgers
+        .iter()
+        .filter(|ledger| ledger.lock().is_some())
+        .count()
 }

@@ -58,12 +58,14 @@ fn perform<R: Threads + Wait + Sync + Copy + Send + 'static>(
     task: Task<'_>,
 ) -> ExitCode {
     let done = match task {
-        Task::Play(PlayWords::Files {
-            picture,
-            script,
-            crew,
-            picture_out: Some(out),
-        }) => run_out(rt, threads, picture, script, crew, out),
+        Task::Play(
+            PlayWords::Files {
+                picture,
+                script,
+                crew,
+                picture_out: Some(out),
+            },
+        ) => run_out(rt, threads, picture, script, crew, out),
         Task::Play(input) => play(rt, threads, input),
         Task::Check { picture } => check_file(rt, picture),
         Task::Drill(files) => drill(rt, threads, files),

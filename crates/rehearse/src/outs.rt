@@ -65,12 +65,7 @@ fn play_file<R: Threads + Wait + Sync, W: TextOut>(
 }
 
 /// The text of the picture of a state, whose contents are assumed or told; or that no picture holds it, and why.
-fn text_of(
-    rt: &HostRuntime,
-    out: &str,
-    state: &State,
-    assumed: bool,
-) -> Result<String, RunFault> {
+fn text_of(rt: &HostRuntime, out: &str, state: &State, assumed: bool) -> Result<String, RunFault> {
     picture_text(rt.alloc(), state, assumed).map_err(|fault| unheld(rt.alloc(), out, fault))
 }
 
@@ -98,8 +93,11 @@ fn write_whole(rt: &HostRuntime, path: &str, text: &str) -> Result<(), RunFault>
         return Err(RunFault::Unwritten(reason));
     }
     let part = format!(in rt.alloc(); "{path}.part")?;
-    let file = File::create_new(rt, part.as_str())
-        .map_err(|error| unwritten(rt.alloc(), part.as_str(), error))?;
+    let file = File::create_new(rt, part.as_str()).map_err(|error| unwritten(
+        rt.alloc(),
+        part.as_str(),
+        error,
+    ))?;
     let written = fill(file, text).and_then(|()| fs::rename(rt, part.as_str(), path));
     match written {
         Ok(()) => Ok(()),
@@ -140,7 +138,9 @@ fn say_unshown(rt: &HostRuntime, out: &str, unshown: Unshown) {
         let _ = eprintln!(rt; "note: {out} leaves out locks: {locks}");
     }
     if clock > 0 {
-        let _ = eprintln!(rt; "note: {out} leaves out the clock, and when bookies were lost: {clock}");
+        let _ = eprintln!(rt;
+            "note: {out} leaves out the clock, and when bookies were lost: {clock}"
+        );
     }
     if is_disabled {
         let _ = eprintln!(rt; "note: {out} leaves out that AutoRecovery is disabled");
