@@ -1,5 +1,5 @@
 -- A ledger that is written is read with the same metadata.
-use Rattle.std.proofs.Common.{◌≡◌, ℕ, zero, suc, ◌+◌, ◌^◌, ◌<◌, ◌≤◌, Bool, true, false, List, [], ◌∷◌, map, length, refl, sym, ap, ◌∙◌, arith, lt-ltb, le-leb, add-one}
+use Rattle.std.proofs.Common.{◌≡◌, ℕ, zero, suc, ◌-◌, ◌+◌, ◌^◌, ◌<◌, ◌≤◌, Bool, true, false, List, [], ◌∷◌, map, length, refl, sym, ap, ◌∙◌, arith, lt-ltb, le-leb, add-one}
 use Rattle.std.specs.Prelude.{ℤ, All, nat_lt, nat_le, pos, unwrap_or, Option, Some, None, if◌then◌else◌}
 use Rattle.std.specs.List.{IsDistinct}
 use Rattle.std.specs.Option.{ForSome, ok_or, option_and_then}
@@ -48,7 +48,9 @@ state-back id m fragments (Closed (suc n)) within =
     let small : nat_lt n (2 ^ 63) ≡ true = lt-ltb n (2 ^ 63) (omega (arith, fits)) in
     let last : nat_le n MAX_ENTRY_ID ≡ true = le-leb n MAX_ENTRY_ID (omega (arith, fits)) in
     let end : n + 1 ≡ suc n = omega arith in
-    ap (λ b. closed_at (if b then Some (pos n) else None)) small ∙ ap (λ b. closed_by b n) last ∙ ap Closed end
+    let before : suc n - 1 ≡ n = omega arith in
+    ap (λ k. closed_at (if nat_lt k (2 ^ 63) then Some (pos k) else None)) before
+    ∙ ap (λ b. closed_at (if b then Some (pos n) else None)) small ∙ ap (λ b. closed_by b n) last ∙ ap Closed end
 
 module _ (names : List (List ℕ)) (apart : IsDistinct bytes_eq names) where
   members-back : (members : List ℕ) → All (λ b. b < length names) members

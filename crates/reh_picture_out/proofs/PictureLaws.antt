@@ -72,13 +72,17 @@ read_as long text found =
 -- a picture without a fault shows what the fields of its value name
 without-fault : (fault : Option (PictureFault × Place)) (s state : Cluster)
     → result_map_both (λ s. s) (λ found. found.0) (unless_fault fault s) ≡ Ok state → state ≡ s
-without-fault None s state is = cc
-without-fault (Some found) s state is = cc
+without-fault None s state is =
+    let same : ◌≡◌ {A = Result Cluster PictureFault} (Ok s) (Ok state) = is in cc
+without-fault (Some found) s state is =
+    let never : ◌≡◌ {A = Result Cluster PictureFault} (Err found.0) (Ok state) = is in cc
 
 value-shown : (long text : Bool) (found : Option Data) (d : Data) (state : Cluster) → found ≡ Some d
     → read_as long text found ≡ Ok state → state ≡ pictured_cluster d
-value-shown true text found d state is ok = cc
-value-shown false false found d state is ok = cc
+value-shown true text found d state is ok =
+    let never : ◌≡◌ {A = Result Cluster PictureFault} (Err TooLong) (Ok state) = ok in cc
+value-shown false false found d state is ok =
+    let never : ◌≡◌ {A = Result Cluster PictureFault} (Err NotJson) (Ok state) = ok in cc
 value-shown false true found d state is ok =
     without-fault (fields_fault d) (pictured_cluster d) state (sym (ap (read_as false true) is) ∙ ok)
 

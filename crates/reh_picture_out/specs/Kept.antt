@@ -1,5 +1,5 @@
 -- What a picture keeps of a cluster.
-use Rattle.std.specs.Prelude.{ℕ, Option, None, Some, true, map}
+use Rattle.std.specs.Prelude.{ℕ, Option, None, true, map}
 use Rattle.std.specs.Option.{option_map}
 use Rattle.reh_model.specs.Contents.{Contents, greatest_held}
 use Rattle.reh_model.specs.Cluster.{Cluster, Ledger, cluster_of}

@@ -16,5 +16,5 @@ is_passed ranges first end e = is_in ranges e || option_map_or (λ first. nat_le
 
 -- The ranges have the entries below an end that pass the test; the last of them may be open, and begins below it.
 pub record IsPassing (test : ℕ → Bool) (end : ℕ) (ranges : List (ℕ × ℕ)) (first : Option ℕ) : Type 0 where
-  pub open : ForSome first (λ first. first < end)
+  pub begun : ForSome first (λ first. first < end)
   pub passed : (e : ℕ) → is_passed ranges first end e ≡ (nat_lt e end && test e)

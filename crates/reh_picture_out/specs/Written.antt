@@ -1,5 +1,6 @@
 -- The JSON that is written of a cluster.
-use Rattle.std.specs.Prelude.{◌≡◌, ℕ, zero, suc, ◌-◌, ◌≤◌, negsuc, Bool, List, [], ◌∷◌, map, codes, length, unwrap_or, slice_get}
+use Rattle.std.specs.Prelude.{◌≡◌, ℕ, zero, ◌-◌, ◌≤◌, ◌==◌, negsuc, Bool, if◌then◌else◌, List, [], map, codes, length}
+use Rattle.std.specs.Prelude.{unwrap_or, slice_get}
 use Rattle.std.specs.List.{range_with_len}
 use Rattle.serde_json.specs.Data.{Num, unsigned, negative, Data, boolean, number, string, array, object, Items, no_items}
 use Rattle.serde_json.specs.Data.{item, member, no_members, items_depth}
@@ -46,8 +47,7 @@ fragments_data names fragments = map (fragment_data names) fragments
 
 -- one less than the end, -1 at end 0
 abbrev pub last_number : ℕ → Num
-last_number zero = negative (negsuc zero)
-last_number (suc n) = unsigned n
+last_number end = if end == 0 then negative (negsuc zero) else unsigned (end - 1)
 
 -- the last entry id, -1 unless the ledger is closed
 abbrev pub last_data : LedgerState → Data
@@ -121,8 +121,8 @@ delayed_data delay grace bookies ledgers contents =
     (member (codes "lostDelayTicks") (number (unsigned delay)) no_members))))))
 
 abbrev pub written_data : ℕ → ℕ → List Data → List Data → List Data → Data
-written_data zero grace bookies ledgers contents = first_data grace bookies ledgers contents
-written_data (suc delay) grace bookies ledgers contents = delayed_data (suc delay) grace bookies ledgers contents
+written_data delay grace bookies ledgers contents =
+    if delay == 0 then first_data grace bookies ledgers contents else delayed_data delay grace bookies ledgers contents
 
 -- the picture of a cluster with these contents
 abbrev pub picture_data : Cluster → List Data → Data

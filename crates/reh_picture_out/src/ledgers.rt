@@ -1,8 +1,9 @@
 // The ledgers of a picture, as JSON.
 ghost use Rattle.std.specs.Prelude.{◌≡◌, map, IfOk};
+ghost use Rattle.serde_json.specs.Data.{number};
 ghost use Rattle.serde_json.specs.View.{view, items_view};
-ghost use Rattle.reh_picture_out.specs.Written.{members_data, fragment_data, fragments_data, last_data};
-ghost use Rattle.reh_picture_out.specs.Written.{state_text, metadata_data, ledger_data, ledgers_data};
+ghost use Rattle.reh_picture_out.specs.Written.{members_data, fragment_data, fragments_data, last_number};
+ghost use Rattle.reh_picture_out.specs.Written.{last_data, state_text, metadata_data, ledger_data, ledgers_data};
 
 use crate::bookies::name_of;
 use reh_cluster::{Ledger, Names};
@@ -49,15 +50,25 @@ fn fragment_values(
     Ok(values)
 }
 
-/// The last entry id of a ledger, which is -1 where it has no entry or isn't closed.
+/// The last entry id of a ledger that ends there, one less; -1 where it has no entry.
+fn value_before(end: u32) -> Value
+    ensures { view result ≡ number (last_number end) }
+{
+    if end == 0 {
+        Value::from(-1i64)
+    } else {
+        Value::from(end - 1)
+    }
+}
+
+/// The last entry id of a ledger, -1 unless it is closed.
 fn last_value(state: LedgerState) -> Value
     ensures { view result ≡ last_data state }
 {
     match state {
-        LedgerState::Open | LedgerState::InRecovery | LedgerState::Closed { end: 0 } => {
-            Value::from(-1i64)
-        }
-        LedgerState::Closed { end } => Value::from(end - 1),
+        LedgerState::Open => Value::from(-1i64),
+        LedgerState::InRecovery => Value::from(-1i64),
+        LedgerState::Closed { end } => value_before(end),
     }
 }
 

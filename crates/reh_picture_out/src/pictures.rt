@@ -62,21 +62,22 @@ fn written_value(
     ensures { IfOk result (λ v. view v ≡ written_data delay grace
         (map view bookies.items) (map view ledgers.items) (map view contents.items)) }
 {
-    match delay {
-        0 => json!(in alloc; {
+    if delay == 0 {
+        json!(in alloc; {
             "format": 1u64,
             "grace": grace,
             "bookies": bookies,
             "ledgers": ledgers,
             "contents": contents
-        }),
-        _ => json!(in alloc; {
+        })
+    } else {
+        json!(in alloc; {
             "format": 2u64,
             "grace": grace,
             "lostDelayTicks": delay,
             "bookies": bookies,
             "ledgers": ledgers,
             "contents": contents
-        }),
+        })
     }
 }

@@ -37,7 +37,7 @@ fn pass(
     is_there: bool,
 ) -> Result<Option<u32>, AllocError>
     requires { ForSome first (λ first. first < entry) }
-    ensures open { IfOk result (λ next. ForSome next (λ next. next < entry + 1)) }
+    ensures begun { IfOk result (λ next. ForSome next (λ next. next < entry + 1)) }
     ensures passed { IfOk result (λ next. (e : ℕ) → is_passed ranges.new.items next (entry + 1) e
         ≡ (is_passed ranges.old.items first entry e || (is_there && nat_eq e entry))) }
     ensures closed { IfOk result (λ next. (e : ℕ) → is_there ≡ false

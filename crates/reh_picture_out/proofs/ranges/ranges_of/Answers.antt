@@ -7,7 +7,7 @@ use Rattle.reh_picture_out.proofs.ranges.ranges_of.Goals as goal
 
 pub loop-entry-preserved : goal.loop-entry-preserved
 loop-entry-preserved c = record {
-  open = c.in_ok-pass.ensures.open;
+  begun = c.in_ok-pass.ensures.begun;
   passed = λ e.
       c.in_ok-pass.ensures.passed e
       ∙ (λ i. c.loop-entry.invariant.passed e i || (c.is_set.ensures i && nat_eq e c.loop-entry.entry))
