@@ -11,7 +11,6 @@ use Rattle.reh_model.specs.Contents.{Contents}
 use Rattle.reh_model.specs.Metadata.{Metadata, Fragment}
 use Rattle.reh_model.specs.Cluster.{Cluster, Ledger, is_up}
 use Rattle.reh_picture.specs.Contents.{holding_in, held_in}
-use Rattle.reh_picture.specs.declared.pictures.TheConstants.{DELAY_FORMAT, FIRST_FORMAT}
 
 -- Bookies
 
@@ -105,7 +104,7 @@ first_data grace bookies ledgers contents =
     object
     (member (codes "bookies") (array (items_of bookies))
     (member (codes "contents") (array (items_of contents))
-    (member (codes "format") (number (unsigned FIRST_FORMAT))
+    (member (codes "format") (number (unsigned 1))
     (member (codes "grace") (number (unsigned grace))
     (member (codes "ledgers") (array (items_of ledgers)) no_members)))))
 
@@ -115,7 +114,7 @@ delayed_data delay grace bookies ledgers contents =
     object
     (member (codes "bookies") (array (items_of bookies))
     (member (codes "contents") (array (items_of contents))
-    (member (codes "format") (number (unsigned DELAY_FORMAT))
+    (member (codes "format") (number (unsigned 2))
     (member (codes "grace") (number (unsigned grace))
     (member (codes "ledgers") (array (items_of ledgers))
     (member (codes "lostDelayTicks") (number (unsigned delay)) no_members))))))

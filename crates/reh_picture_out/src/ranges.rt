@@ -1,5 +1,5 @@
 // The ranges of entries that a row of words has.
-ghost use Rattle.std.specs.Prelude.{◌≡◌, ℕ, ◌+◌, ◌<◌, ◌≤◌, ◌&&◌, ◌||◌, nat_eq, nat_lt, IfOk};
+ghost use Rattle.std.specs.Prelude.{◌≡◌, ℕ, ◌+◌, ◌<◌, ◌≤◌, ◌&&◌, ◌||◌, false, nat_eq, nat_lt, IfOk};
 ghost use Rattle.std.specs.Option.{ForSome};
 ghost use Rattle.reh_types.specs.declared.limits.TheConstants.{ENTRY_END};
 ghost use Rattle.reh_held.specs.Rows as rows;
