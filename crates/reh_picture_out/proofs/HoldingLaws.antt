@@ -1,7 +1,7 @@
 -- What contents say that is held, as they grow.
-use Rattle.std.proofs.Common.{◌≡◌, ℕ, zero, suc, subst, ◌+◌, ◌<◌, ◌≤◌, Bool, true, false, ◌&&◌, ◌||◌, nat_eq, nat_lt, nat_le, List, [], ◌∷◌, ◌++◌, map, length, take, get_or, refl, sym, ap, ◌∙◌, arith, lt-ltb, inl, inr}
-use Rattle.std.specs.Prelude.{◌*◌, cond, All, Option, None, Some}
-use Rattle.std.specs.List.{IsDistinct, list_any, flat_map, find}
+use Rattle.std.proofs.Common.{◌≡◌, ℕ, zero, suc, subst, ◌+◌, ◌<◌, ◌≤◌, Bool, true, false, ◌&&◌, ◌||◌, nat_eq, nat_lt, List, [], ◌∷◌, ◌++◌, map, length, take, get_or, refl, sym, ap, ◌∙◌, arith, lt-ltb, inl, inr}
+use Rattle.std.specs.Prelude.{◌*◌, cond, All, Some}
+use Rattle.std.specs.List.{IsDistinct, list_any, flat_map}
 use Rattle.std.specs.Option.{IsSome, is_some, option_map_or}
 use Rattle.std.specs.Ordering.{eq_by_cmp}
 use Rattle.std.specs.Str.{bytes_eq}
@@ -12,8 +12,7 @@ use Rattle.std.proofs.lemmas.Grind.{flat_map-append}
 use Rattle.std.proofs.lemmas.List.{map-append, take_more}
 use Rattle.std.proofs.lemmas.List.Concat.{flat_map-cons}
 use Rattle.std.proofs.lemmas.List.Folds.{list_any-append}
-use Rattle.serde_json.specs.Data.{Data, items_depth}
-use Rattle.serde_json.specs.View.{items_of}
+use Rattle.serde_json.specs.Data.{Data}
 use Rattle.reh_types.specs.declared.limits.TheConstants.{ENTRIES_IN_WORD, ENTRY_END}
 use Rattle.reh_types.specs.Sets.{triples, triple_cmp, contains-from_list, same_set, items}
 use Rattle.reh_model.specs.Contents.{Contents, has}
@@ -25,7 +24,7 @@ use Rattle.reh_model.proofs.ContentsLaws.{has-copies_of, All-copy}
 use Rattle.reh_fields.specs.Names.{bookie_in}
 use Rattle.reh_fields.proofs.Elements.{elements-items_of}
 use Rattle.reh_held.proofs.WrittenLaws.{turn_round}
-use Rattle.reh_picture.specs.Contents.{ends_of, holding_in, copies_within, copies_in, held_in}
+use Rattle.reh_picture.specs.Contents.{ends_of, holding_in, copies_within, copies_in}
 use Rattle.reh_picture_out.specs.Ranges.{is_within, is_in}
 use Rattle.reh_picture_out.specs.Holdings.{held_by, Adds, LiesWithin}
 use Rattle.reh_picture_out.specs.Written.{name_at, range_data, content_data, AreContents}

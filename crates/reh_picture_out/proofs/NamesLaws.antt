@@ -1,6 +1,6 @@
 -- Bookies that are written by their names are found again, and their registrations are the same.
 use Rattle.std.proofs.Common.{◌≡◌, ℕ, suc, ◌+◌, ◌<◌, Bool, true, false, List, [], ◌∷◌, map, length, get_or, refl, sym, ap, ◌∙◌, arith, lt-ltb}
-use Rattle.std.specs.Prelude.{nat_lt, slice_get, unwrap_or, is_none, Option, Some, None, if◌then◌else◌}
+use Rattle.std.specs.Prelude.{nat_lt, unwrap_or, is_none, Option, Some, None, if◌then◌else◌}
 use Rattle.std.specs.List.{IsDistinct, position_or_len, range_with_len}
 use Rattle.std.specs.Option.{option_map_or}
 use Rattle.std.specs.Str.{bytes_eq}
@@ -10,7 +10,7 @@ use Rattle.std.proofs.lemmas.List.Sums.{position_or_len_is}
 use Rattle.std.proofs.lemmas.Map.Keys.{apart_from_distinct}
 use Rattle.std.proofs.lemmas.Option.{slice_get-get_or, unwrap_or-slice_get}
 use Rattle.std.proofs.lemmas.Slice.Eq.{bytes_eq-Decides}
-use Rattle.reh_model.specs.Cluster.{Cluster, bookie_named, is_up}
+use Rattle.reh_model.specs.Cluster.{Cluster, bookie_named}
 use Rattle.reh_fields.specs.declared.fields.Field.TheVariants as field
 use Rattle.reh_fields.specs.Members.{text_of}
 use Rattle.reh_fields.specs.Names.{bookie_in}

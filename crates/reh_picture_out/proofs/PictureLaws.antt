@@ -1,5 +1,5 @@
 -- What is written is read as what a picture keeps.
-use Rattle.std.proofs.Common.{◌≡◌, ℕ, zero, suc, ◌≤◌, Bool, true, false, List, map, length, refl, sym, ap, ◌∙◌, arith}
+use Rattle.std.proofs.Common.{◌≡◌, ℕ, zero, suc, ◌≤◌, Bool, true, false, List, map, length, sym, ap, ◌∙◌, arith}
 use Rattle.std.specs.Prelude.{Option, None, Some, Result, Ok, Err, if◌then◌else◌, nat_lt}
 use Rattle.std.specs.Option.{ok_or}
 use Rattle.std.specs.Result.{result_map_both}
@@ -16,7 +16,7 @@ use Rattle.reh_picture.specs.declared.places.Place.{Place}
 use Rattle.reh_picture.specs.declared.places.Place.TheVariants as place
 use Rattle.reh_picture.specs.Bookies.{names_in, registrations_in}
 use Rattle.reh_picture.specs.Ledgers.{ledger_in}
-use Rattle.reh_picture.specs.Pictures.{pictured_cluster, picture_of, picture_in, fields_fault, unless_fault, shown_by}
+use Rattle.reh_picture.specs.Pictures.{pictured_cluster, picture_of, fields_fault, unless_fault, shown_by}
 use Rattle.reh_picture_out.specs.Kept.{lost_at_start, kept_of}
 use Rattle.reh_picture_out.specs.Holdings.{held_by}
 use Rattle.reh_picture_out.specs.Written.{bookies_data, ledgers_data, written_data, picture_data, IsPicture}

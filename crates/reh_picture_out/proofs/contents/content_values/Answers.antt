@@ -1,8 +1,6 @@
 -- One ledger more, and all of them.
-use Rattle.std.proofs.Common.{◌+◌, [], map, length, take, refl}
-use Rattle.serde_json.specs.View.{view}
-use Rattle.reh_model.specs.Cluster.{Ledger}
-use Rattle.reh_picture_out.proofs.HoldingLaws.{Adds-nothing, Adds-then, among-next, is_among, is_below, ledger-end}
+use Rattle.std.proofs.Common.{◌+◌, [], length, take}
+use Rattle.reh_picture_out.proofs.HoldingLaws.{Adds-then, among-next, is_among, is_below, ledger-end}
 use Rattle.reh_picture_out.proofs.HoldingLaws.{lies-within, contents-all}
 use Rattle.reh_picture_out.proofs.contents.content_values.Goals as goal
 

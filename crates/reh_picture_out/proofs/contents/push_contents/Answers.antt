@@ -1,6 +1,5 @@
 -- One bookie more.
-use Rattle.std.proofs.Common.{◌+◌, map, refl}
-use Rattle.serde_json.specs.View.{view}
+use Rattle.std.proofs.Common.{◌+◌, refl}
 use Rattle.reh_picture_out.proofs.HoldingLaws.{Adds-nothing, Adds-then, below-next, is_below, is_of}
 use Rattle.reh_picture_out.proofs.contents.push_contents.Goals as goal
 

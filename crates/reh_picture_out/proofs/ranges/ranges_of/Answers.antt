@@ -1,7 +1,6 @@
 -- One entry more is passed.
-use Rattle.std.proofs.Common.{◌≡◌, ◌∙◌, ◌||◌, ◌&&◌, nat_eq, ap, refl}
+use Rattle.std.proofs.Common.{◌≡◌, ◌∙◌, ◌||◌, ◌&&◌, nat_eq, refl}
 use Rattle.reh_held.specs.Rows.{is_set}
-use Rattle.reh_picture_out.specs.Ranges.{is_in, is_passed}
 use Rattle.reh_picture_out.proofs.RangeLaws.{below-more}
 use Rattle.reh_picture_out.proofs.ranges.ranges_of.Goals as goal
 
