@@ -13,6 +13,8 @@ use Rattle.std.proofs.lemmas.List.{map-append, take_more}
 use Rattle.std.proofs.lemmas.List.Concat.{flat_map-cons}
 use Rattle.std.proofs.lemmas.List.Folds.{list_any-append}
 use Rattle.serde_json.specs.Data.{Data}
+use Rattle.serde_json.specs.View.{view}
+use Rattle.serde_json.specs.declared.value.Value.{Value}
 use Rattle.reh_types.specs.declared.limits.TheConstants.{ENTRIES_IN_WORD, ENTRY_END}
 use Rattle.reh_types.specs.Sets.{triples, triple_cmp, contains-from_list, same_set, items}
 use Rattle.reh_model.specs.Contents.{Contents, has}
@@ -135,6 +137,16 @@ module _ (names : List (List ℕ)) (held : Contents) where
     flat = λ flat. flat;
   }
 
+  -- the same with the value that stands for it
+  pub Adds-value : (assumed : Bool) (bookie ledger : ℕ) (ranges : List (ℕ × ℕ)) → IsDistinct bytes_eq names
+      → bookie < length names → ((e : ℕ) → is_in ranges e ≡ has held bookie ledger e) → (vs : List Value) (v : Value)
+      → view v ≡ content_data assumed (name_at names bookie) ledger ranges
+      → Adds names held (is_of bookie ledger) (map view vs) (map view (vs ++ v ∷ []))
+  Adds-value assumed bookie ledger ranges apart within told vs v is =
+      subst (λ ds. Adds names held (is_of bookie ledger) (map view vs) ds)
+      (sym (map-append view vs (v ∷ []) ∙ ap (λ d. map view vs ++ d ∷ []) is))
+      (Adds-one assumed bookie ledger ranges apart within told (map view vs))
+
   join : (x p q h : Bool) → ((x || (p && h)) || (q && h)) ≡ (x || ((p || q) && h))
   join true p q h = refl
   join false true true true = refl
@@ -162,6 +174,17 @@ module _ (names : List (List ℕ)) (held : Contents) where
         ∙ sym (ap (λ t. has (held_by names ds) b l e || (t && has held b l e)) (none b l));
     flat = λ flat. flat;
   }
+
+-- the ranges below an end are all that is held, where that lies below the end
+pub told-all : (held : Contents) (bookie ledger end : ℕ) (test told : ℕ → Bool)
+    → ((e : ℕ) → has held bookie ledger e ≡ true → e < end) → ((e : ℕ) → test e ≡ has held bookie ledger e)
+    → ((e : ℕ) → told e ≡ (nat_lt e end && test e)) → (e : ℕ) → told e ≡ has held bookie ledger e
+told-all held bookie ledger end test told within is below e =
+    below e ∙ ap (λ t. nat_lt e end && t) (is e)
+    ∙ elim (has held bookie ledger e) as (λ t. has held bookie ledger e ≡ t → (nat_lt e end && t) ≡ t) [
+      | true ↦ λ one. ap (λ t. t && true) (lt-ltb e end (within e one))
+      | false ↦ λ _. sym (never (nat_lt e end))
+    ] refl
 
 -- the bookies below a number
 abbrev pub is_below : ℕ → ℕ → ℕ → ℕ → Bool
