@@ -7,6 +7,7 @@ mod reports;
 mod scripts;
 mod surveys;
 mod texts;
+mod unknown;
 mod verbs;
 mod words;
 
@@ -15,5 +16,6 @@ pub use reports::{push_report, report_text};
 pub use scripts::{command_text, parse_line};
 pub use surveys::push_survey;
 pub use texts::{Named, reply_text};
+pub use unknown::unknown_word;
 pub use verbs::Verb;
 pub use words::Role;

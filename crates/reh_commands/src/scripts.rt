@@ -31,7 +31,7 @@ pub fn parse_line(names: &Names, line: &[u8]) -> Option<Result<Command, LineFaul
 }
 
 /// A line without the one CR at its end.
-fn without_cr(line: &[u8]) -> &[u8]
+pub(crate) fn without_cr(line: &[u8]) -> &[u8]
     ensures { result.now ≡ strip_carriage_return line.now }
 {
     match line {

@@ -47,7 +47,7 @@ pub enum Kind {
 
 impl Role {
     /// What a word of this role has to be.
-    fn kind(self) -> Kind
+    pub(crate) fn kind(self) -> Kind
         ensures { result ≡ script.kind_of self }
     {
         match self {

@@ -16,8 +16,11 @@ use std::alloc::{AllocError, Global};
 pub enum Task<'a> {
     /// Plays a script on a picture.
     Play(PlayWords<'a>),
-    /// Checks the picture in a file.
-    Check { picture: &'a str },
+    /// Checks the picture in a file, or a script on it.
+    Check {
+        picture: &'a str,
+        script: Option<&'a str>,
+    },
     /// Plays scripts on a picture, each by an operator of its own.
     Drill(DrillFiles<'a>),
     /// Says whether bookies may be stopped.
@@ -176,7 +179,10 @@ fn asked_of_picture<'a>(
     let scripts = given.get_strs("SCRIPT").unwrap_or(&[]);
     let workers = given.get_one("workers").unwrap_or(1);
     let task = match (command, scripts.first()) {
-        ("check", _) => Task::Check { picture },
+        ("check", script) => Task::Check {
+            picture,
+            script: script.copied(),
+        },
         ("talk", _) => Task::Play(PlayWords::Talk { picture }),
         ("plan", _) => Task::Plan(asked_plan(alloc, given, picture)?),
         ("drill", Some(_)) if scripts.len() <= MAX_OPERATORS => {
@@ -230,8 +236,8 @@ fn all_ways(alloc: Global) -> Result<String, AllocError> {
     Ok(ways)
 }
 
-/// The command line: no word, `run PICTURE SCRIPT --workers N`, `talk PICTURE`, `check PICTURE`,
-/// `drill PICTURE SCRIPT..`, `ok-to-stop --lose BOOKIE,.. FILE..`, `waves FILE..`, `risk FILE..`, `census FILE..`, or
+/// The command line: no word, `run PICTURE SCRIPT --workers N`, `talk PICTURE`,
+/// `check PICTURE SCRIPT`, `drill PICTURE SCRIPT..`, `ok-to-stop --lose BOOKIE,.. FILE..`, `waves FILE..`, `risk FILE..`, `census FILE..`, or
 /// `plan --lose BOOKIE,.. --to BOOKIE,.. PICTURE`.
 fn command<'a>(alloc: Global, ways: &'a str) -> Result<Command<'a>, Error> {
     let command = Command::new(alloc, "rehearse")
@@ -282,9 +288,13 @@ fn talk_command<'a>(alloc: Global) -> Result<Command<'a>, Error> {
 
 /// The command `check`.
 fn check_command<'a>(alloc: Global) -> Result<Command<'a>, Error> {
+    let script = Arg::new(alloc, "SCRIPT").help(
+        "A file with a script: which of its lines are faulty, and what is near; nothing is played",
+    );
     let command = Command::new(alloc, "check")
         .about("Says how much a picture or an inventory shows, or where it is wrong")
-        .arg(picture_arg(alloc))?;
+        .arg(picture_arg(alloc))?
+        .arg(script)?;
     Ok(command)
 }
 

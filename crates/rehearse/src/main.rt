@@ -1,5 +1,5 @@
 // Rehearses events on a picture of a cluster, from standard input or from files, by one operator or several; checks a
-// picture; or plans what is to be done without some of its bookies.
+// picture or a script; or plans what is to be done without some of its bookies.
 #![tactic(auto)]
 
 ghost use Rattle.std.specs.Prelude.{◌≡◌, false};
@@ -16,7 +16,7 @@ mod runs;
 mod stops;
 mod waves;
 
-use checks::check_file;
+use checks::{check_file, check_script};
 use clap::Error;
 use faults::{RunFault, after_flush, status_of, want_of_memory};
 use files::{LateFile, open_file, read_picture, read_scripts};
@@ -57,7 +57,17 @@ fn perform<R: Threads + Wait + Sync + Copy + Send + 'static>(
 ) -> ExitCode {
     let done = match task {
         Task::Play(input) => play(rt, threads, input),
-        Task::Check { picture } => check_file(rt, picture),
+        Task::Check {
+            picture,
+            script: None,
+        } => check_file(rt, picture),
+        Task::Check {
+            picture,
+            script: Some(script),
+        } => match check_script(rt, picture, script) {
+            Ok(status) => return ExitCode::from(status),
+            Err(fault) => Err(fault),
+        },
         Task::Drill(files) => drill(rt, threads, files),
         Task::Stop(stop) => match stop_over(rt, threads, &stop) {
             Ok(status) => return ExitCode::from(status),
