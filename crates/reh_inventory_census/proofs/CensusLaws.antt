@@ -1,6 +1,7 @@
 -- The census of an inventory's lines.
 use Rattle.std.proofs.Common.{◌≡◌, ℕ, Bool, true, false, List, [], ◌∷◌, map, refl, sym, ap, ◌∙◌, subst, if◌then◌else◌}
 use Rattle.std.specs.Prelude.{Option, None, Some, Ok, Result, option_map, string_bytes}
+use Rattle.std.specs.List.{list_all}
 use Rattle.std.specs.Option.{IsSomeAnd}
 use Rattle.reh_census.specs.Counting.{Census}
 use Rattle.reh_census.specs.Ledgers.{Ledger}
@@ -18,6 +19,7 @@ use Rattle.reh_inventory_census.specs.Census.{IsCensusBy, IsCensusOf, IsCluster,
 use Rattle.reh_inventory_census.specs.Counted.{counted}
 use Rattle.reh_inventory_census.specs.Counters.{CountsLines, holders_of}
 use Rattle.reh_inventory_census.specs.Counting.{CountsLedgers, counts_in}
+use Rattle.reh_inventory_census.specs.Numbers.{members_named}
 use Rattle.reh_inventory_census.specs.Parts.{parts_in}
 use Rattle.reh_inventory_fields.specs.declared.faults.Fault.{Fault}
 use Rattle.reh_inventory_fields.specs.declared.places.Place.{Place}
@@ -32,6 +34,7 @@ pub nothing-counted : (c : Counter) → CountsLedgers (holders_of c) [] c.counts
 nothing-counted c none ledgers assumed = record {
   parts = record { counts = none; assumed_by = assumed ∙ no-ledger c.is_strict };
   ledgers = ledgers;
+  named = refl;
 }
 
 -- nothing is counted but a first line
@@ -80,6 +83,8 @@ finished names strict first lines count census counts order judged was = record 
         let P : List Ledger → Type 0 = λ gs. CountsLedgers who gs (counts_in census) in
         record {
           names_are = cluster.names_are;
+          named = cluster.named;
+          members = ap (λ names. list_all (members_named names) ledgers) (sym cluster.names_are) ∙ was.ledgers.named;
           racks = cluster.racks;
           bookies = cluster.bookies;
           counts = subst P

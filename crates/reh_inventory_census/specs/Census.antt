@@ -1,6 +1,6 @@
 -- The census of an inventory: that of the ledgers which its lines have.
-use Rattle.std.specs.Prelude.{◌≡◌, ℕ, Bool, List, [], ◌∷◌, Option, None, Some, Result, Ok, Err, length, map, option_map, string_bytes, if◌then◌else◌}
-use Rattle.std.specs.List.{flat_map}
+use Rattle.std.specs.Prelude.{◌≡◌, ℕ, Bool, true, List, [], ◌∷◌, Option, None, Some, Result, Ok, Err, length, map, option_map, string_bytes, if◌then◌else◌}
+use Rattle.std.specs.List.{flat_map, list_all}
 use Rattle.std.specs.Option.{IsSomeAnd, option_map_or}
 use Rattle.reh_census.specs.declared.censuses.Judged.{Judged}
 use Rattle.reh_census.specs.Bookies.{bookies_of as census_bookies, holders}
@@ -18,6 +18,7 @@ use Rattle.reh_inventory_census.specs.Bookies.{bookie_of, racks_of}
 use Rattle.reh_inventory_census.specs.Counted.{assumed, counted}
 use Rattle.reh_inventory_census.specs.Counters.{CountsLines}
 use Rattle.reh_inventory_census.specs.Counting.{CountsLedgers, counts_in, is_held}
+use Rattle.reh_inventory_census.specs.Numbers.{bookies_named, members_named}
 use Rattle.reh_inventory_census.specs.Parts.{parts_in}
 use Rattle.reh_inventory_fields.specs.declared.faults.Fault.{Fault}
 use Rattle.reh_inventory_fields.specs.declared.places.Place.{Place}
@@ -44,9 +45,10 @@ ledger_line bytes = option_map_or (λ ledger. ledger ∷ []) (ledger_in bytes) [
 abbrev pub ledger_lines : List (List ℕ) → List LedgerLine
 ledger_lines lines = flat_map ledger_line lines
 
--- the cluster of a first line, where bookies have the numbers of these names
+-- the cluster of a first line, where bookies have the numbers of these names, each of them one
 pub record IsCluster (names : List (List ℕ)) (head : Head) (count : InventoryCount) : Type 0 where
   pub names_are : count.counter.names ≡ names
+  pub named : bookies_named names head.bookies ≡ true
   pub racks : count.racks ≡ racks_of head.bookies
   pub bookies : count.counter.bookies ≡ map (bookie_of (racks_of head.bookies) head.bookies) names
   pub assumes : count.counter.assumes_striped ≡ head.assumes_striped
@@ -73,9 +75,12 @@ abbrev pub assumed_in : List ℕ → List (List ℕ) → Bool → Bool → List 
 assumed_in holders names assumes strict lines =
     if strict then 0 else count_entries holders (map (assumed names assumes) (parts_in lines)) is_held
 
--- the census of the ledgers of these lines, in the cluster of a first line
+-- the census of the ledgers of these lines, in the cluster of a first line, where each bookie and each member of an
+-- ensemble is among the names
 pub record IsCensusBy (names : List (List ℕ)) (strict : Bool) (head : Head) (inventory : Inventory) (lines : List LedgerLine) (c : NamedCensus) : Type 0 where
   pub names_are : c.names ≡ names
+  pub named : bookies_named names head.bookies ≡ true
+  pub members : list_all (members_named names) lines ≡ true
   pub racks : c.racks ≡ racks_of head.bookies
   pub bookies : c.bookies ≡ map (bookie_of (racks_of head.bookies) head.bookies) names
   pub counts : CountsLedgers (holders (census_bookies c.bookies))

@@ -1,11 +1,13 @@
 -- What a counter has counted.
-use Rattle.std.specs.Prelude.{◌≡◌, ℕ, Bool, List, [], ◌∷◌, map, length, if◌then◌else◌}
+use Rattle.std.specs.Prelude.{◌≡◌, ℕ, Bool, true, List, [], ◌∷◌, map, length, if◌then◌else◌}
+use Rattle.std.specs.List.{list_all}
 use Rattle.reh_census.specs.Bookies.{bookies_of, holders}
 use Rattle.reh_census.specs.Counting.{count_entries}
 use Rattle.reh_inventory.specs.declared.ledgers.LedgerLine.{LedgerLine}
 use Rattle.reh_inventory_census.specs.declared.counter.Counter.{Counter}
 use Rattle.reh_inventory_census.specs.Counted.{assumed, counted}
 use Rattle.reh_inventory_census.specs.Counting.{CountsLedgers, is_held}
+use Rattle.reh_inventory_census.specs.Numbers.{members_named}
 use Rattle.reh_inventory_census.specs.Parts.{parts_in}
 
 -- both count alike, in the same cluster
@@ -31,7 +33,8 @@ pub record CountsParts (parts : List LedgerLine) (c : Counter) : Type 0 where
       ≡ (if c.is_strict then 0
       else count_entries (holders_of c) (map (assumed c.names c.assumes_striped) parts) is_held)
 
--- it has counted the ledgers of these lines
+-- it has counted the ledgers of these lines, each of whose members has a number
 pub record CountsLines (lines : List LedgerLine) (c : Counter) : Type 0 where
   pub parts : CountsParts (parts_in lines) c
   pub ledgers : c.ledgers ≡ length lines
+  pub named : list_all (members_named c.names) lines ≡ true

@@ -1,5 +1,8 @@
 -- The numbers of bookies, and of the members of ensembles: their places among the names.
-use Rattle.std.specs.Prelude.{ℕ, List, fold, Result, Ok, Err}
+use Rattle.std.specs.Prelude.{ℕ, Bool, List, fold, position, Result, Ok, Err}
+use Rattle.std.specs.List.{list_all}
+use Rattle.std.specs.Option.{is_some}
+use Rattle.std.specs.Str.{bytes_eq}
 use Rattle.reh_census_file.specs.Names.{with_name}
 use Rattle.reh_inventory.specs.declared.heads.Bookie.{Bookie}
 use Rattle.reh_inventory.specs.declared.heads.Head.{Head}
@@ -34,3 +37,21 @@ with_line names (line.End ledgers) = names
 abbrev pub with_said : List (List ℕ) → Result Line (Fault × Place) → List (List ℕ)
 with_said names (Ok said) = with_line names said
 with_said names (Err found) = names
+
+-- Bookies that have numbers
+
+abbrev pub is_named : List (List ℕ) → List ℕ → Bool
+is_named names name = is_some (position (bytes_eq name) names)
+
+abbrev pub bookie_named : List (List ℕ) → Bookie → Bool
+bookie_named names bookie = is_named names bookie.name
+
+abbrev pub bookies_named : List (List ℕ) → List Bookie → Bool
+bookies_named names bookies = list_all (bookie_named names) bookies
+
+abbrev pub ensemble_named : List (List ℕ) → Fragment → Bool
+ensemble_named names fragment = list_all (is_named names) fragment.ensemble
+
+-- whether each member of the ledger's ensembles has one
+abbrev pub members_named : List (List ℕ) → LedgerLine → Bool
+members_named names line = list_all (ensemble_named names) line.fragments

@@ -10,7 +10,7 @@ use crate::bookies::{bookies_of, racks_of};
 use crate::counter::Counter;
 use crate::counts::{Counts, MOST};
 use crate::faults::CountFault;
-use crate::numbers::line_fault;
+use crate::numbers::{are_named, line_fault};
 use reh_census::Judged;
 use reh_census_file::{NameList, NamedCensus};
 use reh_inventory::{Head, Inventory, InventoryFault, Line, read_line};
@@ -59,8 +59,8 @@ fn read_head(alloc: Global, bytes: &[u8]) -> Result<Head, CountFault>
 }
 
 impl InventoryCount {
-    /// Nothing counted but an inventory's first line. Bookies have the numbers of these names; one that isn't among them
-    /// counts as not registered. In a strict count what is assumed counts as untold.
+    /// Nothing counted but an inventory's first line. Bookies have the numbers of these names: all bookies of the first
+    /// line, and of the lines to come. In a strict count what is assumed counts as untold.
     pub fn begin(
         alloc: Global,
         names: NameList,
@@ -70,6 +70,9 @@ impl InventoryCount {
         ensures { IfOk result (model.IsCount names is_strict first_line.now []) }
     {
         let head = read_head(alloc, first_line)?;
+        if !are_named(&names, head.bookies.as_slice()) {
+            return Err(CountFault::Unnamed);
+        }
         let racks = racks_of(alloc, head.bookies.as_slice())?;
         let bookies = bookies_of(alloc, &names, &racks, head.bookies.as_slice())?;
         let counter = Counter {

@@ -170,7 +170,7 @@ fn end_after(ranges: &[Range], least: u64) -> u64
 }
 
 /// One past the greatest entry that a bookie is told or assumed to hold; 0 where there is none.
-fn end_told(contents: &[Content]) -> u64
+pub fn end_told(contents: &[Content]) -> u64
     ensures { result ≡ model.end_told contents.now }
 {
     let mut end = 0;
@@ -183,7 +183,7 @@ fn end_told(contents: &[Content]) -> u64
 }
 
 /// Where a ledger in this state ends, if that is known.
-fn end_of(state: LedgerState) -> Option<u64>
+pub fn end_of(state: LedgerState) -> Option<u64>
     ensures { result ≡ model.end_of state }
 {
     match state {
@@ -204,7 +204,7 @@ fn state_of(state: LedgerState) -> State
 }
 
 /// Where the fragment of this number stops: where the next one begins, or where the ledger ends, if that is known.
-fn stop_of(line: &LedgerLine, fragment: usize) -> Option<u64>
+pub fn stop_of(line: &LedgerLine, fragment: usize) -> Option<u64>
     requires { fragment < length line.now.fragments }
     ensures { result ≡ model.stop_of line.now fragment }
 {
@@ -258,7 +258,7 @@ fn fragments_of(
 }
 
 /// The first entry of the last fragment, 0 where there is none.
-fn last_first(line: &LedgerLine) -> u64
+pub fn last_first(line: &LedgerLine) -> u64
     ensures { result ≡ model.last_first line.now }
 {
     match line.fragments.as_slice().last() {

@@ -14,6 +14,7 @@ use crate::counted::{assumed_ledger, counted_ledger};
 use crate::counts::{Counts, held_among};
 use crate::empties::are_refilled;
 use crate::faults::{CountFault, unfit};
+use crate::numbers::has_named_members;
 use crate::parts::{alone, has_parts};
 use reh_census::{Bookies, Ledger};
 use reh_census_file::NameList;
@@ -136,6 +137,9 @@ impl Counter {
         ensures empties { OnOk result
             (list_any (holds_though_empty self.old.names self.old.bookies) line.contents ≡ false) }
     {
+        if !has_named_members(&self.names, &line) {
+            return Err(CountFault::Unnamed);
+        }
         if are_refilled(&self.names, &self.bookies, line.contents.as_slice()) {
             return Err(CountFault::HoldsThoughEmpty(line.id));
         }

@@ -13,6 +13,8 @@ pub enum CountFault {
     Line(InventoryFault),
     /// It has more bookies than a census can name, with the lines before.
     TooManyBookies,
+    /// It names a bookie, as one of the cluster or as a member of an ensemble, that isn't among the names.
+    Unnamed,
     /// No census can count the ledger of this id: a bookie stands twice in an ensemble of it, for instance.
     Unfit(u64),
     /// It says that a bookie which came back without its disk holds entries of the ledger of this id.

@@ -12,5 +12,6 @@ mod numbers;
 mod parts;
 
 pub use census::InventoryCount;
+pub use counted::{end_of, end_told, last_first, stop_of};
 pub use faults::CountFault;
 pub use numbers::{in_order, number_line};

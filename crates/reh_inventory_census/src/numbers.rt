@@ -7,7 +7,9 @@ ghost use Rattle.reh_inventory_census.specs.Numbers as model;
 
 use crate::faults::CountFault;
 use reh_census_file::{MAX_NAMES, NameList};
-use reh_inventory::{Fault, Head, InventoryFault, LedgerLine, Line, LineFault, read_line};
+use reh_inventory::{
+    Bookie, Fault, Fragment, Head, InventoryFault, LedgerLine, Line, LineFault, read_line,
+};
 use reh_inventory_fields::Name;
 use std::alloc::{AllocError, Global};
 
@@ -29,6 +31,41 @@ impl From<AllocError> for NumberFault {
     fn from(_want: AllocError) -> NumberFault {
         NumberFault::NoMemory
     }
+}
+
+/// Whether a bookie has a number.
+fn is_named(names: &NameList, name: &Name) -> bool
+    ensures { result ≡ model.is_named names.now name.now }
+{
+    names.find(name.as_str().as_bytes()).is_some()
+}
+
+/// Whether each of these bookies has one.
+pub(crate) fn are_named(names: &NameList, bookies: &[Bookie]) -> bool
+    ensures { result ≡ model.bookies_named names.now bookies.now }
+{
+    bookies.iter().all(|bookie| is_named(names, &bookie.name))
+}
+
+/// Whether each member of a fragment's ensemble has one.
+fn has_named_ensemble(names: &NameList, fragment: &Fragment) -> bool
+    ensures { result ≡ model.ensemble_named names.now fragment.now }
+{
+    fragment
+        .ensemble
+        .as_slice()
+        .iter()
+        .all(|name| is_named(names, name))
+}
+
+/// Whether each member of the ledger's ensembles has one.
+pub(crate) fn has_named_members(names: &NameList, line: &LedgerLine) -> bool
+    ensures { result ≡ model.members_named names.now line.now }
+{
+    line.fragments
+        .as_slice()
+        .iter()
+        .all(|fragment| has_named_ensemble(names, fragment))
 }
 
 /// Gives a bookie the next number, if it has none.

@@ -2,7 +2,7 @@
 use Rattle.std.specs.Prelude.{◌≡◌, ℕ, Bool, true, false, List, [], map, take, Option, None, Some, codes}
 use Rattle.std.specs.Option.{option_map_or}
 use Rattle.std.specs.Str.{bytes_eq}
-use Rattle.std.specs.Str.Parse.{ParsesUnsigned, ExplainsUnsignedError, HasUnsignedDigitsIfOk}
+use Rattle.std.specs.Str.Parse.{digits_value, without_leading_plus, ParsesUnsigned, ExplainsUnsignedError, HasUnsignedDigitsIfOk}
 use Rattle.clap.specs.Words.{ReadsOne, first_value, found_of, matched_of, one_text, raw_values}
 use Rattle.clap.specs.declared.parser.matches.ArgMatches.{ArgMatches}
 use Rattle.reh_census.specs.declared.questions.Keep.{Keep}
@@ -10,6 +10,7 @@ use Rattle.reh_census.specs.declared.questions.Keep.TheVariants.{AckQuorum, Copi
 use Rattle.reh_census.specs.declared.questions.Question.{Question}
 use Rattle.reh_words.specs.declared.tasks.TheConstants.{MAX_FILES}
 use Rattle.reh_words.specs.declared.tasks.CensusWords.{CensusWords}
+use Rattle.reh_words.specs.declared.tasks.CutWords.{CutWords}
 use Rattle.reh_words.specs.declared.tasks.Inputs.{Inputs}
 use Rattle.reh_words.specs.declared.tasks.RiskWords.{RiskWords}
 use Rattle.reh_words.specs.declared.tasks.StopWords.{StopWords}
@@ -94,10 +95,22 @@ pub record IsCensus (given : ArgMatches) (words : CensusWords) : Type 0 where
   pub reads : IsInputs given words.inputs
   pub prints : words.as_json ≡ is_json given
 
+-- the number that a ledger's word says
+abbrev pub id_of : List ℕ → ℕ
+id_of word = digits_value 10 (without_leading_plus word)
+
+-- what `cut` is asked
+pub record IsCut (given : ArgMatches) (words : CutWords) : Type 0 where
+  pub reads : word_of given (codes "INVENTORY") ≡ Some words.inventory.now
+  pub ledgers : words.ledgers.items ≡ map id_of (words_of given (codes "ledgers"))
+  pub held : IsFlag given (codes "assume-held") words.assume_held
+  pub empty : IsFlag given (codes "assume-empty") words.assume_empty
+
 -- what one of these commands asks
 abbrev pub IsAsked : List ℕ → ArgMatches → Task → Type 0
 IsAsked command given (task.Stop stop) = (command ≡ codes "ok-to-stop") × IsStop given stop
 IsAsked command given (task.Waves words) = (command ≡ codes "waves") × IsWaves given words
 IsAsked command given (task.Risk words) = (command ≡ codes "risk") × IsRisk given words
 IsAsked command given (task.Census words) = (command ≡ codes "census") × IsCensus given words
+IsAsked command given (task.Cut words) = (command ≡ codes "cut") × IsCut given words
 IsAsked command given other = ⊥

@@ -143,6 +143,21 @@ pub(crate) const CENSUS: &str = after!(
     more: []
 );
 
+/// Of `cut`.
+pub(crate) const CUT: &str = after!(
+    "An inventory shows a whole cluster, and a picture at most 64 bookies and 512 ledgers of at most 65536 entries.
+
+",
+    uses: [
+        "cut --ledgers 7 examples/cluster.jsonl",
+        "cut --ledgers 7,8 --assume-held examples/cluster.jsonl"
+    ],
+    zero: "the picture is printed",
+    words: "the words of the command line are wrong",
+    read: "a file can't be read",
+    more: []
+);
+
 /// Of `plan`.
 pub(crate) const PLAN: &str = after!(
     "",

@@ -2,7 +2,9 @@
 ghost use Rattle.std.specs.Prelude.{◌≡◌, map, IfOk, IfSome};
 ghost use Rattle.reh_words.specs.Asked as model;
 
-use crate::tasks::{CensusWords, Crew, Inputs, MAX_FILES, RiskWords, StopWords, Task, WaveWords};
+use crate::tasks::{
+    CensusWords, Crew, CutWords, Inputs, MAX_FILES, RiskWords, StopWords, Task, WaveWords,
+};
 use clap::ArgMatches;
 use reh_census::{Keep, Question};
 use reh_crew::MAX_WORKERS;
@@ -21,6 +23,10 @@ pub(crate) fn asked_of_files<'a>(
         "waves" => Task::Waves(asked_waves(alloc, given)?),
         "risk" => Task::Risk(asked_risk(alloc, given)?),
         "census" => Task::Census(asked_census(alloc, given)?),
+        "cut" => match asked_cut(alloc, given)? {
+            Some(words) => Task::Cut(words),
+            None => return Ok(None),
+        },
         _ => return Ok(None),
     };
     Ok(Some(task))
@@ -71,6 +77,46 @@ fn asked_census<'a>(alloc: Global, given: &ArgMatches<'a>) -> Result<CensusWords
         inputs: asked_inputs(alloc, given)?,
         as_json: is_json(given),
     })
+}
+
+/// What these matches of `cut` ask for. The parser lets no word for a ledger's id through but a number.
+fn asked_cut<'a>(alloc: Global, given: &ArgMatches<'a>) -> Result<Option<CutWords<'a>>, AllocError>
+    ensures { IfOk result (λ words. IfSome words (model.IsCut given.now)) }
+{
+    let words = words_of(alloc, given, "ledgers")?;
+    match (given.get_str("INVENTORY"), ids_of(alloc, &words)?) {
+        (Some(inventory), Some(ledgers)) => Ok(Some(CutWords {
+            inventory,
+            ledgers,
+            assume_held: is_given(given, "assume-held"),
+            assume_empty: is_given(given, "assume-empty"),
+        })),
+        _ => Ok(None),
+    }
+}
+
+/// The id that a word says, unless it is no number.
+fn id_of(word: &str) -> Option<u64>
+    ensures { IfSome result (λ id. id ≡ model.id_of word.now) }
+{
+    match word.parse::<u64>() {
+        Ok(id) => Some(id),
+        Err(_) => None,
+    }
+}
+
+/// The ids that words say, unless one is no number.
+fn ids_of(alloc: Global, words: &[&str]) -> Result<Option<Vec<u64>>, AllocError>
+    ensures { IfOk result (λ ids. IfSome ids (λ ids. ids.items ≡ map model.id_of (map (λ word. word.now) words.now))) }
+{
+    let mut ids = Vec::new(alloc);
+    for word in words {
+        match id_of(word) {
+            Some(id) => ids.push(id)?,
+            None => return Ok(None),
+        }
+    }
+    Ok(Some(ids))
 }
 
 /// The words of an argument.

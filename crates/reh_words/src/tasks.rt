@@ -31,6 +31,8 @@ pub enum Task<'a> {
     Risk(RiskWords<'a>),
     /// Prints the census of files.
     Census(CensusWords<'a>),
+    /// Prints the picture of some ledgers of an inventory.
+    Cut(CutWords<'a>),
     /// Plans what is to be done without some bookies of a picture.
     Plan(PlanWords<'a>),
     /// Says what the commands of a script and its refusals mean.
@@ -130,6 +132,16 @@ pub struct RiskWords<'a> {
 pub struct CensusWords<'a> {
     pub inputs: Inputs<'a>,
     pub as_json: bool,
+}
+
+/// What is asked: the picture of the ledgers of these ids, of the inventory in a file. What nobody tells of a bookie's entries
+/// is assumed to be held, or not to be held, or, where neither is given, refused.
+#[derive(Drop)]
+pub struct CutWords<'a> {
+    pub inventory: &'a str,
+    pub ledgers: Vec<u64>,
+    pub assume_held: bool,
+    pub assume_empty: bool,
 }
 
 /// What is asked: a plan for a picture without these bookies, of which the allowed ones take the places, or any.
@@ -268,7 +280,7 @@ fn all_ways(alloc: Global) -> Result<String, AllocError> {
 
 /// The command line: no word, `run PICTURE SCRIPT --workers N`, `talk PICTURE`, `check PICTURE`,
 /// `drill PICTURE SCRIPT..`, `ok-to-stop --lose BOOKIE,.. FILE..`, `waves FILE..`, `risk FILE..`, `census FILE..`,
-/// `plan --lose BOOKIE,.. --to BOOKIE,.. PICTURE`, or `help TOPIC`.
+/// `cut --ledgers ID,.. INVENTORY`, `plan --lose BOOKIE,.. --to BOOKIE,.. PICTURE`, or `help TOPIC`.
 fn command<'a>(alloc: Global, ways: &'a str) -> Result<Command<'a>, Error> {
     let command = Command::new(alloc, "rehearse")
         .version(VERSION)
@@ -283,6 +295,7 @@ fn command<'a>(alloc: Global, ways: &'a str) -> Result<Command<'a>, Error> {
         .subcommand(waves_command(alloc)?)?
         .subcommand(risk_command(alloc)?)?
         .subcommand(census_command(alloc)?)?
+        .subcommand(cut_command(alloc)?)?
         .subcommand(plan_command(alloc)?)?
         .subcommand(help_command(alloc)?)?;
     Ok(command)
@@ -407,6 +420,35 @@ fn census_command<'a>(alloc: Global) -> Result<Command<'a>, Error> {
         .about("Prints the census of files, which as text is read in their place")
         .after_help(helps::CENSUS);
     with_inputs(alloc, command)
+}
+
+/// The command `cut`.
+fn cut_command<'a>(alloc: Global) -> Result<Command<'a>, Error> {
+    let ledgers = Arg::new(alloc, "ledgers")
+        .long("ledgers")
+        .value_name("ID")
+        .value_delimiter(',')
+        .value_parser(value_parser!(u64))
+        .action(ArgAction::Append)
+        .required(true)
+        .help("The ids of the ledgers, with commas between them");
+    let held = flag_arg(alloc, "assume-held").help(
+        "What nobody tells of a member's entries is assumed to be held",
+    );
+    let empty = flag_arg(alloc, "assume-empty")
+        .help("What nobody tells of a member's entries is assumed not to be held")
+        .conflicts_with("assume-held")?;
+    let inventory = Arg::new(alloc, "INVENTORY")
+        .required(true)
+        .help("A file with the inventory");
+    let command = Command::new(alloc, "cut")
+        .about("Prints the picture of some ledgers of an inventory, for a rehearsal")
+        .after_help(helps::CUT)
+        .arg(ledgers)?
+        .arg(held)?
+        .arg(empty)?
+        .arg(inventory)?;
+    Ok(command)
 }
 
 /// The command `help`.

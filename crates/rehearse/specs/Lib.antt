@@ -1,3 +1,4 @@
+pub mod Cuts
 pub mod Faults
 pub mod Inputs
 pub mod Inventories

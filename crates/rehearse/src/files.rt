@@ -89,9 +89,10 @@ impl TextIn for LateFile<'_> {
     }
 }
 
-/// The file of this path; or that it can't be opened, and the system's reason.
+/// The file of this path, or standard input, if that is `-`; or that it can't be opened, and the system's reason.
 pub(crate) fn open_file(rt: &HostRuntime, path: &str) -> Result<File, RunFault> {
-    fs::open(rt, path).map_err(|error| unread(rt.alloc(), "open", path, error))
+    let place = if path == "-" { "/dev/stdin" } else { path };
+    fs::open(rt, place).map_err(|error| unread(rt.alloc(), "open", path, error))
 }
 
 /// Reads on in a file, up to so many bytes more; or says that it can't be read, and the system's reason.

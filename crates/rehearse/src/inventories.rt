@@ -59,7 +59,7 @@ fn read_inventory(
 }
 
 /// Reads the rest of a line of which some bytes may be there.
-fn read_line<R: Read + Drop>(
+pub(crate) fn read_line<R: Read + Drop>(
     alloc: Global,
     path: &str,
     reader: &mut BufReader<R>,
@@ -73,7 +73,7 @@ fn read_line<R: Read + Drop>(
 }
 
 /// The fault of an inventory's line.
-fn refused(alloc: Global, path: &str, line: u64, fault: InventoryFault) -> RunFault {
+pub(crate) fn refused(alloc: Global, path: &str, line: u64, fault: InventoryFault) -> RunFault {
     match fault {
         InventoryFault::NoMemory => RunFault::NoMemory,
         _ => match format!(in alloc; "inventory {path}: line {line}: {fault}") {
@@ -159,7 +159,7 @@ fn count_bytes(
 }
 
 /// A reader that reads ahead.
-fn reader_of<R: Read + Drop>(
+pub(crate) fn reader_of<R: Read + Drop>(
     alloc: Global,
     path: &str,
     inner: R,
@@ -263,6 +263,9 @@ fn uncounted(alloc: Global, path: &str, line: u64, fault: CountFault) -> RunFaul
         CountFault::NoMemory => return RunFault::NoMemory,
         CountFault::TooManyBookies => format!(in alloc;
             "inventory {path}: line {line}: there are more than 4096 bookies"
+        ),
+        CountFault::Unnamed => format!(in alloc;
+            "inventory {path}: line {line}: it names a bookie that no line had when the names were read: the file has changed"
         ),
         CountFault::Unfit(id) => format!(in alloc;
             "inventory {path}: line {line}: ledger {id} can't be counted"

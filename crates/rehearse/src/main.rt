@@ -1,10 +1,11 @@
 // Rehearses events on a picture of a cluster, from standard input or from files, by one operator or several; checks a
-// picture; plans what is to be done without some of its bookies; or prints help.
+// picture; cuts a picture out of an inventory; plans what is to be done without some of a picture's bookies; or prints help.
 #![tactic(auto)]
 
 ghost use Rattle.std.specs.Prelude.{◌≡◌, false};
 
 mod checks;
+mod cuts;
 mod faults;
 mod files;
 mod helps;
@@ -20,6 +21,7 @@ mod waves;
 
 use checks::check_file;
 use clap::Error;
+use cuts::cut_over;
 use faults::{RunFault, after_flush, status_of, want_of_memory};
 use files::{LateFile, open_file, read_picture, read_scripts};
 use helps::help_on;
@@ -70,6 +72,7 @@ fn perform<R: Threads + Wait + Sync + Copy + Send + 'static>(
         Task::Waves(words) => waves_over(rt, threads, &words),
         Task::Risk(words) => risk_over(rt, threads, &words),
         Task::Census(words) => census_over(rt, threads, &words),
+        Task::Cut(words) => cut_over(rt, &words),
         Task::Plan(words) => plan_file(rt, &words),
         Task::Help(topic) => help_on(rt, &topic),
     };

@@ -1,0 +1,38 @@
+-- The ledgers of an inventory that are asked for, and their picture.
+use Rattle.std.specs.Prelude.{◌≡◌, ℕ, Bool, true, ◌==◌, List, Ok}
+use Rattle.std.specs.List.{filter, list_all, list_any}
+use Rattle.std.specs.Option.{IsSomeAnd}
+use Rattle.reh_cut.specs.Cuts.{IsCut}
+use Rattle.reh_cut.specs.declared.chosen.ChosenLedgers.{ChosenLedgers}
+use Rattle.reh_cut.specs.declared.said.Assume.{Assume}
+use Rattle.reh_inventory.specs.declared.ledgers.LedgerLine.{LedgerLine}
+use Rattle.reh_inventory.specs.Inventories.{Inventory, inventory_of}
+use Rattle.reh_inventory_census.specs.Census.{ledger_lines}
+
+abbrev pub has_id : ℕ → LedgerLine → Bool
+has_id id line = line.id == id
+
+abbrev pub is_asked : List ℕ → ℕ → Bool
+is_asked ids id = list_any (λ asked. asked == id) ids
+
+-- the ledgers of these ids, in the order of the lines
+abbrev pub chosen_of : List ℕ → List (List ℕ) → List LedgerLine
+chosen_of ids lines = filter (λ line. is_asked ids line.id) (ledger_lines lines)
+
+-- whether each id has its ledger
+abbrev pub has_all : List ℕ → List LedgerLine → Bool
+has_all ids ledgers = list_all (λ id. list_any (has_id id) ledgers) ids
+
+-- these lines came, and the ledgers of these ids were chosen of them
+pub record IsChosen (ids : List ℕ) (lines : List (List ℕ)) (c : ChosenLedgers) : Type 0 where
+  pub inventory : inventory_of lines ≡ Ok c.inventory
+  pub ids_are : c.ids.items ≡ ids
+  pub ledgers_are : c.ledgers.items ≡ chosen_of ids lines
+
+-- The lines are a whole inventory, which has a ledger of each id, and the text is the picture of these ledgers.
+pub record IsCutOf (ids : List ℕ) (lines : List (List ℕ)) (assume : Assume) (text : List ℕ) : Type 0 where
+  pub inventory : Inventory
+  pub is_read : inventory_of lines ≡ Ok inventory
+  pub is_whole : inventory.is_whole ≡ true
+  pub has_ledgers : has_all ids (chosen_of ids lines) ≡ true
+  pub cut : IsSomeAnd inventory.head (λ head. IsCut head (chosen_of ids lines) assume text)

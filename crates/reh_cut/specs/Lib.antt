@@ -1,0 +1,4 @@
+pub mod Said
+pub mod Cuts
+pub mod Chosen
+pub mod Faults

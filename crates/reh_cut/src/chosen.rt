@@ -1,0 +1,88 @@
+// The ledgers of an inventory that are asked for.
+ghost use Rattle.std.specs.Prelude.{◌≡◌, ◌++◌, ◌∷◌, [], ℕ, List, IfOk, OnOk, string_bytes};
+ghost use Rattle.std.specs.List.{list_any};
+ghost use Rattle.reh_cut.specs.Chosen as model;
+
+use crate::cuts::cut;
+use crate::faults::CutFault;
+use crate::said::Assume;
+use reh_inventory::{Inventory, InventoryFault, LedgerLine};
+use std::alloc::Global;
+
+/// The ledgers of some ids, of the lines that an inventory has so far.
+#[derive(Drop)]
+pub struct ChosenLedgers {
+    inventory: Inventory,
+    ids: Vec<u64>,
+    ledgers: Vec<LedgerLine>,
+}
+
+/// Whether one of these ledgers has this id.
+fn has_ledger(ledgers: &[LedgerLine], id: u64) -> bool
+    ensures { result ≡ list_any (model.has_id id) ledgers.now }
+{
+    ledgers.iter().any(|ledger| ledger.id == id)
+}
+
+impl ChosenLedgers {
+    /// Those of these ids, of no line.
+    pub fn new(alloc: Global, ids: Vec<u64>) -> ChosenLedgers
+        ensures { model.IsChosen ids.items [] result }
+    {
+        ChosenLedgers {
+            inventory: Inventory::new(alloc),
+            ids,
+            ledgers: Vec::new(alloc),
+        }
+    }
+
+    /// Whether the id is asked for.
+    fn is_asked(&self, id: u64) -> bool
+        ensures { result ≡ model.is_asked self.now.ids.items id }
+    {
+        self.ids.iter().any(|asked| *asked == id)
+    }
+
+    /// Adds the next line. After an `Err` nothing has changed, but where there was no memory.
+    pub fn add(&mut self, alloc: Global, line: &[u8]) -> Result<(), InventoryFault>
+        ensures { OnOk result ((ids : List ℕ) (lines : List (List ℕ)) → model.IsChosen ids lines self.old
+            → model.IsChosen ids (lines ++ line.now ∷ []) self.new) }
+    {
+        if let Some(ledger) = self.inventory.add(alloc, line)? {
+            if self.is_asked(ledger.id) {
+                self.ledgers.push(ledger)?;
+            }
+        }
+        Ok(())
+    }
+
+    /// Whether each id has its ledger.
+    fn has_all(&self) -> bool
+        ensures { result ≡ model.has_all self.now.ids.items self.now.ledgers.items }
+    {
+        self.ids.iter().all(|id| has_ledger(&self.ledgers, *id))
+    }
+
+    /// The first id without a ledger.
+    fn first_missing(&self) -> u64 {
+        let missing = self.ids.iter().find(|id| !has_ledger(&self.ledgers, **id));
+        missing.copied().unwrap_or(0)
+    }
+
+    /// The picture of these ledgers, once all lines came; `cut` says which that is.
+    pub fn cut(&self, alloc: Global, assume: Assume) -> Result<String, CutFault>
+        ensures { IfOk result (λ text. (ids : List ℕ) (lines : List (List ℕ)) → model.IsChosen ids lines self.now
+            → model.IsCutOf ids lines assume (string_bytes text)) }
+    {
+        let Some(head) = self.inventory.head() else {
+            return Err(CutFault::NotWhole);
+        };
+        if !self.inventory.is_whole() {
+            return Err(CutFault::NotWhole);
+        }
+        if !self.has_all() {
+            return Err(CutFault::NoLedger(self.first_missing()));
+        }
+        cut(alloc, head, &self.ledgers, assume)
+    }
+}

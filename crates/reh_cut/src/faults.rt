@@ -1,0 +1,99 @@
+// Why ledgers of an inventory have no picture.
+use reh_inventory::Name;
+use reh_picture::{LocatedFault, PictureFault};
+use reh_types::{MAX_BOOKIES, MAX_ENTRY_ID};
+use std::alloc::{AllocError, AllocFailed};
+use std::fmt;
+
+/// Why there is no picture of these ledgers.
+#[derive(Debug, Drop)]
+pub enum CutFault {
+    /// The last line of the inventory isn't there.
+    NotWhole,
+    /// No line has the ledger of this id, or it could not be read.
+    NoLedger(u64),
+    /// They name more bookies than a picture may have: so many.
+    TooManyBookies(usize),
+    /// The ledger of this id has entries up to this one, past those that a picture may have.
+    TooManyEntries(u64, u64),
+    /// A bookie that came back without its disk holds entries of the ledger of this id.
+    HoldsThoughEmpty(u64),
+    /// Nobody says what this bookie holds of the ledger of this id.
+    Untold(u64, Name),
+    /// What would be written is no picture.
+    NoPicture(LocatedFault),
+    /// What would be written isn't what the inventory says. It is a fault of this crate.
+    Differs,
+    /// There is no memory.
+    NoMemory,
+}
+
+impl fmt::Display for CutFault {
+    ghost use Rattle.std.specs.Prelude.{Some};
+    ghost use Rattle.reh_cut.specs.Faults.{fault_text};
+
+    ghost output = { λ fault. Some (fault_text fault) };
+
+    fn fmt<W: fmt::Write>(&self, f: &mut fmt::Formatter<W>) -> fmt::Result {
+        match self {
+            CutFault::NotWhole => write!(f, "expected a last line: the file was cut"),
+            CutFault::NoLedger(id) => {
+                write!(f, "no line has ledger {id}, or it could not be read")
+            }
+            CutFault::TooManyBookies(bookies) => write!(
+                f,
+                "these ledgers name {bookies} bookies, and a picture has at most {MAX_BOOKIES}: cut fewer ledgers"
+            ),
+            CutFault::TooManyEntries(id, last) => write!(
+                f,
+                "ledger {id} has entries up to {last}, and a picture up to {MAX_ENTRY_ID}"
+            ),
+            CutFault::HoldsThoughEmpty(id) => write!(
+                f,
+                "a bookie that is shown as empty holds entries of ledger {id}: leave out one of the two"
+            ),
+            CutFault::Untold(id, bookie) => write!(
+                f,
+                "nobody says what {bookie} holds of ledger {id}: --assume-held or --assume-empty says what stands for that"
+            ),
+            CutFault::NoPicture(fault) => {
+                write!(f, "the picture of these ledgers is refused: {fault}")
+            }
+            CutFault::Differs => write!(
+                f,
+                "the picture of these ledgers isn't what their lines say: a fault of this program"
+            ),
+            CutFault::NoMemory => write!(f, "expected more memory"),
+        }
+    }
+}
+
+impl From<AllocError> for CutFault {
+    ghost use Rattle.std.specs.Prelude.{◌≡◌};
+    ghost use Rattle.reh_cut.specs.declared.faults.CutFault.TheVariants.{NoMemory};
+
+    ghost from_gives = { λ _ fault. fault ≡ NoMemory };
+
+    fn from(_want: AllocError) -> CutFault {
+        CutFault::NoMemory
+    }
+}
+
+impl<T: Drop> From<AllocFailed<T>> for CutFault {
+    ghost use Rattle.std.specs.Prelude.{◌≡◌};
+    ghost use Rattle.reh_cut.specs.declared.faults.CutFault.TheVariants.{NoMemory};
+
+    ghost from_gives = { λ _ fault. fault ≡ NoMemory };
+
+    fn from(want: AllocFailed<T>) -> CutFault {
+        CutFault::from(AllocError::from(want))
+    }
+}
+
+/// A fault of what would be written, or that there is no memory to read it.
+pub(crate) fn no_picture(fault: LocatedFault) -> CutFault {
+    match fault.fault {
+        PictureFault::NoMemory => CutFault::NoMemory,
+        _ => CutFault::NoPicture(fault),
+    }
+}

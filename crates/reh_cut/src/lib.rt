@@ -1,0 +1,15 @@
+// From ledgers of an inventory to a picture of them.
+#![tactic(auto)]
+
+mod checks;
+mod chosen;
+mod cuts;
+mod faults;
+mod names;
+mod said;
+mod texts;
+
+pub use chosen::ChosenLedgers;
+pub use cuts::cut;
+pub use faults::CutFault;
+pub use said::Assume;

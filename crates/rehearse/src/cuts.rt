@@ -1,0 +1,100 @@
+// The picture of some ledgers of an inventory.
+ghost use Rattle.std.specs.Prelude.{IfOk, OnOk, ℕ, List};
+ghost use Rattle.rehearse.specs.Cuts as model;
+
+use crate::faults::RunFault;
+use crate::files::{open_file, write_out};
+use crate::inventories::{read_line, reader_of, refused};
+use reh_cut::{Assume, ChosenLedgers, CutFault};
+use reh_words::CutWords;
+use std::alloc::{AllocError, Global};
+use std::io::{BufReader, Read};
+
+/// Says to standard output what the picture is.
+pub(crate) fn cut_over(rt: &HostRuntime, words: &CutWords<'_>) -> Result<(), RunFault> {
+    let mut text = cut_of(rt, words)?;
+    text.push('\n')?;
+    write_out(rt, text.as_bytes())
+}
+
+/// The picture, as text.
+fn cut_of(rt: &HostRuntime, words: &CutWords<'_>) -> Result<String, RunFault>
+    ensures { IfOk result (model.IsCutFor words.now) }
+{
+    let alloc = rt.alloc();
+    let path = words.inventory;
+    let mut reader = reader_of(alloc, path, open_file(rt, path)?)?;
+    let ids = words.ledgers.clone()?;
+    let chosen = choose_lines(alloc, path, &mut reader, ids)?;
+    match chosen.cut(alloc, assumed(words)) {
+        Ok(text) => Ok(text),
+        Err(fault) => Err(uncut(alloc, path, &fault)),
+    }
+}
+
+/// What stands for what nobody tells.
+fn assumed(words: &CutWords<'_>) -> Assume
+    ensures { result ≡ model.assume_of words.now }
+{
+    if words.assume_held {
+        Assume::Held
+    } else if words.assume_empty {
+        Assume::Empty
+    } else {
+        Assume::Nothing
+    }
+}
+
+/// The ledgers of these ids, of the lines of an inventory.
+fn choose_lines<R: Read + Drop>(
+    alloc: Global,
+    path: &str,
+    reader: &mut BufReader<R>,
+    ids: Vec<u64>,
+) -> Result<ChosenLedgers, RunFault>
+    ensures { IfOk result (model.IsChoosing ids.items) }
+{
+    let mut chosen = ChosenLedgers::new(alloc, ids);
+    let mut line = Vec::new(alloc);
+    for number in 1..u64::MAX {
+        line.clear();
+        read_line(alloc, path, reader, &mut line)?;
+        if line.is_empty() {
+            break;
+        }
+        choose_line(alloc, path, number, &mut chosen, &line)?;
+    }
+    Ok(chosen)
+}
+
+/// Adds the line of this number.
+fn choose_line(
+    alloc: Global,
+    path: &str,
+    number: u64,
+    chosen: &mut ChosenLedgers,
+    line: &[u8],
+) -> Result<(), RunFault>
+    ensures { OnOk result ((ids : List ℕ) → model.IsChoosing ids chosen.old → model.IsChoosing ids chosen.new) }
+{
+    match chosen.add(alloc, line) {
+        Ok(()) => Ok(()),
+        Err(fault) => Err(refused(alloc, path, number, fault)),
+    }
+}
+
+/// Why there is no picture.
+fn uncut(alloc: Global, path: &str, fault: &CutFault) -> RunFault {
+    if let CutFault::NoMemory = fault {
+        return RunFault::NoMemory;
+    }
+    match uncut_text(alloc, path, fault) {
+        Ok(text) => RunFault::Unfit(text),
+        Err(want) => RunFault::from(want),
+    }
+}
+
+/// Why there is no picture, in words.
+fn uncut_text(alloc: Global, path: &str, fault: &CutFault) -> Result<String, AllocError> {
+    format!(in alloc; "inventory {path}: {fault}")
+}
