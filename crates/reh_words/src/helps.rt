@@ -145,12 +145,12 @@ pub(crate) const CENSUS: &str = after!(
 
 /// Of `cut`.
 pub(crate) const CUT: &str = after!(
-    "An inventory shows a whole cluster, and a picture at most 64 bookies and 512 ledgers of at most 65536 entries.
+    "A picture has at most 64 bookies and 512 ledgers, and entries up to 65535.
 
 ",
     uses: [
         "cut --ledgers 7 examples/cluster.jsonl",
-        "cut --ledgers 7,8 --assume-held examples/cluster.jsonl"
+        "cut --ledgers 7,9 --assume-held examples/cluster.jsonl"
     ],
     zero: "the picture is printed",
     words: "the words of the command line are wrong",
