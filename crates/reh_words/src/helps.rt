@@ -75,10 +75,13 @@ pub(crate) const TALK: &str = after!(
 /// Of `check`.
 pub(crate) const CHECK: &str = after!(
     "",
-    uses: ["check examples/cluster.json", "check examples/racks.json"],
-    zero: "the picture or the inventory is accepted",
+    uses: [
+        "check examples/cluster.json",
+        "check examples/cluster.json examples/maintenance.script"
+    ],
+    zero: "the picture or the inventory is accepted, and no line of the script is faulty",
     words: "the words of the command line are wrong",
-    read: "a file can't be read",
+    read: "a file can't be read, or a script is longer than 1 MiB",
     more: []
 );
 

@@ -1,3 +1,4 @@
+pub mod Colors
 pub mod Faults
 pub mod Inputs
 pub mod Inventories
