@@ -5,11 +5,17 @@ use Rattle.std.specs.Str.{bytes_eq}
 use Rattle.reh_colors.specs.declared.shades.Shade.{Shade}
 use Rattle.reh_colors.specs.declared.shades.Shade.TheVariants.{Red, Green, Yellow}
 
+-- what is answered to a faulty line
+abbrev pub is_fault : List ℕ → Bool
+is_fault answer =
+    bytes_eq answer (codes " too long")
+    || (bytes_eq answer (codes " unknown command")
+    || (bytes_eq answer (codes " bad words")
+    || bytes_eq answer (codes " unknown name")))
+
 -- an answer that refuses: a command, or the line itself
 abbrev pub is_refused : List ℕ → Bool
-is_refused answer =
-    starts_with nat_eq answer (codes " refused ")
-    || list_any (bytes_eq answer) (codes " too long" ∷ codes " unknown command" ∷ codes " bad words" ∷ codes " unknown name" ∷ [])
+is_refused answer = starts_with nat_eq answer (codes " refused ") || is_fault answer
 
 -- the colour of a verdict
 abbrev pub verdict_shade : List ℕ → Option Shade

@@ -56,11 +56,17 @@ fn answer_of(line: &[u8]) -> &[u8]
 fn is_refused(answer: &[u8]) -> bool
     ensures { result ≡ model.is_refused answer.now }
 {
-    answer.starts_with(b" refused ")
-        || matches!(
-            answer,
-            b" too long" | b" unknown command" | b" bad words" | b" unknown name"
-        )
+    answer.starts_with(b" refused ") || is_fault(answer)
+}
+
+/// Whether it is what is answered to a faulty line.
+fn is_fault(answer: &[u8]) -> bool
+    ensures { result ≡ model.is_fault answer.now }
+{
+    answer == " too long".as_bytes()
+        || answer == " unknown command".as_bytes()
+        || answer == " bad words".as_bytes()
+        || answer == " unknown name".as_bytes()
 }
 
 /// The colour of a line that has a verdict.

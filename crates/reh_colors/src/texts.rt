@@ -1,5 +1,5 @@
 // Texts in colour.
-ghost use Rattle.std.specs.Prelude.{◌≡◌, ◌==◌, ◌<◌, ◌++◌, ◌∷◌, [], false, length, IfOk, OnOk, MatchOption};
+ghost use Rattle.std.specs.Prelude.{◌≡◌, ◌==◌, ◌<◌, ◌++◌, ◌∷◌, [], false, length, position, IfOk, IfSome, OnOk, MatchOption};
 ghost use Rattle.std.specs.List.{list_any};
 ghost use Rattle.reh_colors.specs.Shades as model;
 
@@ -29,10 +29,17 @@ pub fn colored(alloc: Global, text: &[u8]) -> Result<Vec<u8>, AllocError>
 fn cut_line(text: &[u8]) -> Option<(&[u8], &[u8])>
     ensures lines { MatchOption result (model.lines text.now ≡ text.now ∷ [])
         (λ cut. model.lines text.now ≡ cut.0.now ∷ model.lines cut.1.now) }
-    ensures shorter { MatchOption result (0 ≡ 0) (λ cut. length cut.1.now < length text.now) }
+    ensures shorter { IfSome result (λ cut. length cut.1.now < length text.now) }
 {
-    let end = text.iter().position(|byte| *byte == b'\n')?;
+    let end = line_len(text)?;
     Some((&text[..end], &text[end + 1..]))
+}
+
+/// How many bytes stand before the first LF, if there is one.
+fn line_len(text: &[u8]) -> Option<usize>
+    ensures { result ≡ position (λ b. b == 10) text.now }
+{
+    text.iter().position(|byte| *byte == b'\n')
 }
 
 /// Adds a line, with codes if it has a colour.

@@ -1,5 +1,5 @@
 -- What is found in a script. Its lines are judged as a play judges them: by what each asks for.
-use Rattle.std.specs.Prelude.{ℕ, ◌+◌, Bool, true, false, List, [], ◌∷◌, ◌++◌, map, Option, None, Some, Result, Ok, Err, codes, slice_get}
+use Rattle.std.specs.Prelude.{ℕ, ◌+◌, Bool, true, false, List, [], ◌∷◌, ◌++◌, map, Option, None, Some, Result, Ok, Err, codes}
 use Rattle.std.specs.Fmt.{decimal}
 use Rattle.std.specs.Option.{option_map_or}
 use Rattle.reh_commands.specs.declared.commands.Command.{Command}
@@ -8,7 +8,7 @@ use Rattle.reh_commands.specs.declared.commands.LineFault.TheVariants.{TooLong, 
 use Rattle.reh_commands.specs.Answers.{asked}
 use Rattle.reh_commands.specs.Script.{form_of, verbs}
 use Rattle.reh_commands.specs.Texts.{line_fault_text}
-use Rattle.reh_lint.specs.Unknown.{line_words, unknown_name}
+use Rattle.reh_lint.specs.Unknown.{line_words, unknown_command, unknown_name}
 use Rattle.reh_near.specs.Near.{Told, told_nearest, near_to, near_text}
 
 -- whether a line asks for a command, and whether it has a fault of the language
@@ -36,7 +36,7 @@ near_word names word = option_map_or (near_to names) word (told_nearest [])
 
 -- what is near the word of a line that names nothing: no command, or no bookie
 abbrev pub near_it : List (List ℕ) → List ℕ → LineFault → Told
-near_it names line UnknownCommand = near_word verb_names (slice_get (line_words line) 0)
+near_it names line UnknownCommand = near_word verb_names (unknown_command (line_words line))
 near_it names line UnknownName = near_word names (unknown_name names (line_words line))
 near_it names line TooLong = told_nearest []
 near_it names line BadWords = told_nearest []

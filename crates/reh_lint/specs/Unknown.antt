@@ -1,7 +1,7 @@
 -- The word of a faulty line that names nothing.
-use Rattle.std.specs.Prelude.{ℕ, ◌&&◌, not, Bool, true, false, find, is_some, List, [], ◌∷◌, Option, None, Some}
+use Rattle.std.specs.Prelude.{ℕ, ◌&&◌, not, Bool, true, false, find, is_some, List, [], ◌∷◌, Option, None, Some, option_map}
 use Rattle.std.specs.List.{zip}
-use Rattle.std.specs.Option.{option_and_then, option_map_or}
+use Rattle.std.specs.Option.{option_and_then}
 use Rattle.std.specs.Str.Lines.{strip_carriage_return}
 use Rattle.reh_model.specs.Cluster.{bookie_named}
 use Rattle.reh_commands.specs.declared.words.Kind.{Kind}
@@ -23,9 +23,14 @@ is_unknown names pair = is_name (kind_of pair.1) && not (is_some (bookie_named n
 
 -- the first such word
 abbrev pub first_unknown : List (List ℕ) → List (List ℕ) → List Role → Option (List ℕ)
-first_unknown names words roles = option_map_or (λ pair. Some pair.0) (find (is_unknown names) (zip words roles)) None
+first_unknown names words roles = option_map (λ pair. pair.0) (find (is_unknown names) (zip words roles))
 
--- of a line's words, the first of which is a command, the first after it
+-- of a line's words, where the first is no command, that one
+abbrev pub unknown_command : List (List ℕ) → Option (List ℕ)
+unknown_command [] = None
+unknown_command (first ∷ words) = Some first
+
+-- and where it is one, the first after it that has to be a bookie's name and isn't
 abbrev pub unknown_name : List (List ℕ) → List (List ℕ) → Option (List ℕ)
 unknown_name names [] = None
 unknown_name names (first ∷ words) =

@@ -4,7 +4,7 @@ ghost use Rattle.reh_lint.specs.Lints as model;
 ghost use Rattle.reh_near.specs.Near.{told};
 
 use crate::names::{bookie_names, verb_names};
-use crate::unknown::{unknown_name, words_of};
+use crate::unknown::{unknown_command, unknown_name, words_of};
 use reh_cluster::Names;
 use reh_commands::LineFault;
 use reh_near::{Near, near_to};
@@ -39,7 +39,7 @@ impl<'a> Known<'a> {
         match fault {
             LineFault::UnknownCommand => {
                 let words = words_of(alloc, line)?;
-                near_word(alloc, &self.verbs, words.first().copied())
+                near_word(alloc, &self.verbs, unknown_command(&words))
             }
             LineFault::UnknownName => {
                 let words = words_of(alloc, line)?;

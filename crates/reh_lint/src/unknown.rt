@@ -13,9 +13,16 @@ pub(crate) fn words_of(alloc: Global, line: &[u8]) -> Result<Vec<&[u8]>, AllocEr
     ensures { IfOk result (λ words. map (λ word. word.now) words.items ≡ model.line_words line.now) }
 {
     without_cr(line)
-        .split(|byte| *byte == b' ' || *byte == b'\t')
+        .split(|byte| is_blank(*byte))
         .filter(|word| !word.is_empty())
         .collect(alloc)
+}
+
+/// Whether the byte parts words.
+fn is_blank(byte: u8) -> bool
+    ensures { result ≡ script.is_blank byte }
+{
+    byte == b' ' || byte == b'\t'
 }
 
 /// A line without the one CR at its end.
@@ -28,26 +35,51 @@ fn without_cr(line: &[u8]) -> &[u8]
     }
 }
 
-/// Of the words of a line the first that has to be a bookie's name and isn't.
+/// Of the words of a line with an unknown command, that command: the first.
+pub(crate) fn unknown_command<'a>(words: &[&'a [u8]]) -> Option<&'a [u8]>
+    ensures { option_map (λ word. word.now) result ≡ model.unknown_command (map (λ word. word.now) words.now) }
+{
+    match words {
+        [first, ..] => Some(*first),
+        [] => None,
+    }
+}
+
+/// Of the words of a line with an unknown name, that name: the first that has to be a bookie's and isn't.
 pub(crate) fn unknown_name<'a>(names: &Names, words: &[&'a [u8]]) -> Option<&'a [u8]>
     ensures { option_map (λ word. word.now) result ≡ model.unknown_name names.now (map (λ word. word.now) words.now) }
 {
-    let (first, words) = words.split_first()?;
-    let verb = verb_named(first)?;
-    first_unknown(names, words, verb.roles())
+    let [first, words @ ..] = words else {
+        return None;
+    };
+    match verb_named(first) {
+        Some(verb) => first_unknown(names, words, verb.roles()),
+        None => None,
+    }
 }
 
-/// The first of the words that stands for a bookie, by its role, and names none.
+/// The first of the words that has to be a bookie's name, by its role, and isn't.
 fn first_unknown<'a>(names: &Names, words: &[&'a [u8]], roles: &[Role]) -> Option<&'a [u8]>
     ensures { option_map (λ word. word.now) result
         ≡ model.first_unknown names.now (map (λ word. word.now) words.now) roles.now }
 {
-    for (word, role) in words.iter().zip(roles) {
-        if stands_for_bookie(*role) && names.find(word).is_none() {
-            return Some(*word);
-        }
+    let [word, words @ ..] = words else {
+        return None;
+    };
+    let [role, roles @ ..] = roles else {
+        return None;
+    };
+    if is_unknown(names, word, *role) {
+        return Some(*word);
     }
-    None
+    first_unknown(names, words, roles)
+}
+
+/// Whether a word of this role has to be a bookie's name and isn't.
+fn is_unknown(names: &Names, word: &[u8], role: Role) -> bool
+    ensures { result ≡ model.is_unknown names.now (word.now, role) }
+{
+    stands_for_bookie(role) && names.find(word).is_none()
 }
 
 /// Whether a word of this role has to be a bookie's name.
