@@ -1,10 +1,10 @@
 -- The lines of a text, and what is shown of them.
 use Rattle.std.proofs.Common.{◌≡◌, ◌∙◌, ◌+◌, ◌-◌, ◌<◌, ◌≤◌, ◌==◌, ◌++◌, ◌∷◌, [], ℕ, Bool, true, false, List, Some, None, cond, not, ap, append_assoc, arith, drop, length, map, nat_lt, position, refl, sym, take}
 use Rattle.std.proofs.lemmas.Bool.Decides.{nat_tests}
-use Rattle.std.proofs.lemmas.List.{take_rest}
+use Rattle.std.proofs.lemmas.List.{drop_all, take_rest}
 use Rattle.std.proofs.lemmas.List.Splits.{length-slice_split, slice_split_first}
 use Rattle.std.proofs.lemmas.Option.{cond_some}
-use Rattle.std.specs.List.{join_with_byte, onto_first, position_or_len, prefix_len}
+use Rattle.std.specs.List.{after_first, join_with_byte, onto_first, position_or_len, prefix_len}
 use Rattle.reh_colors.specs.Shades.{colored, lines, shown}
 
 none_more : (b : ℕ) (bs : List ℕ) (n : ℕ) (t : Bool) → (length bs ≤ n → lines bs ≡ bs ∷ [])
@@ -61,3 +61,19 @@ goes_on old mid new line more rest whole is added ended before =
 pub ends : (old new rest whole : List ℕ) → lines rest ≡ rest ∷ [] → new ≡ old ++ shown rest → old ++ colored rest ≡ whole
     → new ≡ whole
 ends old new rest whole is added before = added ∙ ap (λ (t : List ℕ). old ++ t) (sym (last_colored rest is)) ∙ before
+
+-- What stands after the first colon
+
+pub after_some : (xs : List ℕ) (i : ℕ) → Some i ≡ position (λ b. b == 58) xs
+    → take (length xs - (i + 1)) (drop (i + 1) xs) ≡ after_first (λ b. b == 58) xs
+after_some xs i found =
+    let n : ℕ = position_or_len (λ b. b == 58) xs in
+    let both = cond_some (nat_lt n (length xs)) n i (sym found) in
+    take_rest xs (i + 1) ∙ ap (λ k. drop (k + 1) xs) (sym both.1)
+
+pub after_none : (xs : List ℕ) → None ≡ position (λ b. b == 58) xs
+    → take (length xs - length xs) (drop (length xs) xs) ≡ after_first (λ b. b == 58) xs
+after_none xs none =
+    let n : ℕ = position_or_len (λ b. b == 58) xs in
+    let long : length xs ≤ n = grind (arith, none) in
+    take_rest xs (length xs) ∙ drop_all (length xs) xs (omega arith) ∙ sym (drop_all (n + 1) xs (omega (arith, long)))

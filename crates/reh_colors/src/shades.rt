@@ -1,5 +1,5 @@
 // The colour of a line.
-ghost use Rattle.std.specs.Prelude.{◌≡◌, ◌==◌};
+ghost use Rattle.std.specs.Prelude.{◌≡◌, ◌==◌, position};
 ghost use Rattle.std.specs.List.{after_first};
 ghost use Rattle.reh_colors.specs.Shades as model;
 
@@ -46,10 +46,17 @@ pub fn shade_of(line: &[u8]) -> Option<Shade>
 fn answer_of(line: &[u8]) -> &[u8]
     ensures { result.now ≡ after_first (λ b. b == 58) line.now }
 {
-    match line.iter().position(|byte| *byte == b':') {
+    match first_colon(line) {
         Some(colon) => &line[colon + 1..],
         None => &line[line.len()..],
     }
+}
+
+/// Where the first colon stands, if there is one.
+fn first_colon(line: &[u8]) -> Option<usize>
+    ensures { result ≡ position (λ b. b == 58) line.now }
+{
+    line.iter().position(|byte| *byte == b':')
 }
 
 /// Whether an answer refuses: a command, or the line itself.

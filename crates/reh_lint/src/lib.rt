@@ -6,4 +6,4 @@ mod lints;
 mod names;
 mod unknown;
 
-pub use lints::{Lint, lint};
+pub use lints::{Linted, lint};

@@ -14,7 +14,7 @@ use std::alloc::{AllocError, Global};
 /// What is found in a script: a line of text for each faulty line, how many lines ask for a command, and how many are
 /// faulty.
 #[derive(Drop)]
-pub struct Lint {
+pub struct Linted {
     pub text: String,
     pub commands: usize,
     pub faulty: usize,
@@ -24,7 +24,7 @@ pub struct Lint {
 /// `too long`, `unknown command`, `bad words` or `unknown name`, and no other line, with its number, that answer, and what
 /// is near its word. As in a play, of a script that is too long the lines are judged that end among its first 1,048,576
 /// bytes.
-pub fn lint(alloc: Global, names: &Names, path: &str, script: &[u8]) -> Result<Lint, AllocError>
+pub fn lint(alloc: Global, names: &Names, path: &str, script: &[u8]) -> Result<Linted, AllocError>
     ensures findings { IfOk result (λ lint. string_bytes lint.text
         ≡ model.findings path.now names.now 1 (answered_lines false script.now)) }
     ensures commands { IfOk result (λ lint. lint.commands
@@ -49,7 +49,12 @@ fn answered(script: &[u8]) -> &[u8]
 }
 
 /// What is found in the lines of a text.
-fn lint_lines(alloc: Global, known: &Known<'_>, path: &str, text: &[u8]) -> Result<Lint, AllocError>
+fn lint_lines(
+    alloc: Global,
+    known: &Known<'_>,
+    path: &str,
+    text: &[u8],
+) -> Result<Linted, AllocError>
     ensures findings { IfOk result (λ lint. string_bytes lint.text
         ≡ model.findings path.now known.now.names.now 1 (lines_of text.now)) }
     ensures commands { IfOk result (λ lint. lint.commands
@@ -57,7 +62,7 @@ fn lint_lines(alloc: Global, known: &Known<'_>, path: &str, text: &[u8]) -> Resu
     ensures faulty { IfOk result (λ lint. lint.faulty
         ≡ length (filter (model.is_faulty known.now.names.now) (lines_of text.now))) }
 {
-    let mut lint = Lint {
+    let mut lint = Linted {
         text: String::new(alloc),
         commands: 0,
         faulty: 0,
@@ -75,7 +80,7 @@ fn lint_lines(alloc: Global, known: &Known<'_>, path: &str, text: &[u8]) -> Resu
 
 /// Adds what is found in a line.
 fn lint_line(
-    lint: &mut Lint,
+    lint: &mut Linted,
     known: &Known<'_>,
     path: &str,
     number: usize,

@@ -11,7 +11,7 @@ use Rattle.reh_words.specs.declared.styles.Style.{Style}
 abbrev pub color_of : Option (List ℕ) → Color
 color_of None = Auto
 color_of (Some word) =
-    if bytes_eq (codes "always") word then Always else (if bytes_eq (codes "never") word then Never else Auto)
+    if bytes_eq word (codes "always") then Always else (if bytes_eq word (codes "never") then Never else Auto)
 
 pub record IsStyle (given : ArgMatches) (style : Style) : Type 0 where
   pub is_quiet : IsFlag given (codes "quiet") style.quiet

@@ -46,11 +46,11 @@ pub(crate) fn asked_style(given: &ArgMatches<'_>) -> Style
 
 /// The colour that a word asks for. The parser lets no other word through than the three.
 fn asked_color(word: Option<&str>) -> Color
-    ensures { result ≡ model.color_of (option_map (λ word. word.now) word) }
+    ensures { result ≡ model.color_of (option_map (λ word. word.now) word.entry) }
 {
-    match word.map(|word| word.as_bytes()) {
-        Some(b"always") => Color::Always,
-        Some(b"never") => Color::Never,
+    match word {
+        Some(word) if word.as_bytes() == "always".as_bytes() => Color::Always,
+        Some(word) if word.as_bytes() == "never".as_bytes() => Color::Never,
         _ => Color::Auto,
     }
 }
