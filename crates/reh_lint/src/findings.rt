@@ -4,7 +4,7 @@ ghost use Rattle.reh_lint.specs.Lints as model;
 ghost use Rattle.reh_near.specs.Near.{told};
 
 use crate::names::{bookie_names, verb_names};
-use crate::unknown::{unknown_command, unknown_name, words_of};
+use crate::unknown::{line_words, unknown_command, unknown_name};
 use reh_cluster::Names;
 use reh_commands::LineFault;
 use reh_near::{Near, near_to};
@@ -38,11 +38,11 @@ impl<'a> Known<'a> {
     {
         match fault {
             LineFault::UnknownCommand => {
-                let words = words_of(alloc, line)?;
+                let words = line_words(alloc, line)?;
                 near_word(alloc, &self.verbs, unknown_command(&words))
             }
             LineFault::UnknownName => {
-                let words = words_of(alloc, line)?;
+                let words = line_words(alloc, line)?;
                 near_word(alloc, &self.bookies, unknown_name(self.names, &words))
             }
             LineFault::TooLong | LineFault::BadWords => Ok(Near::Nothing),
@@ -57,7 +57,7 @@ fn near_word<'a>(
     word: Option<&[u8]>,
 ) -> Result<Near<'a>, AllocError>
     ensures { IfOk result (λ near. told near ≡ model.near_word (map (λ name. name.now) names.now)
-        (option_map (λ word. word.now) word)) }
+        (option_map (λ word. word.now) word.entry)) }
 {
     match word {
         Some(word) => near_to(alloc, names, word),

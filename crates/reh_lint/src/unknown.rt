@@ -9,11 +9,17 @@ use reh_commands::{Role, Verb};
 use std::alloc::{AllocError, Global};
 
 /// The words of a line, without the one CR at its end.
-pub(crate) fn words_of(alloc: Global, line: &[u8]) -> Result<Vec<&[u8]>, AllocError>
+pub(crate) fn line_words(alloc: Global, line: &[u8]) -> Result<Vec<&[u8]>, AllocError>
     ensures { IfOk result (λ words. map (λ word. word.now) words.items ≡ model.line_words line.now) }
 {
-    without_cr(line)
-        .split(|byte| is_blank(*byte))
+    words_of(alloc, without_cr(line))
+}
+
+/// The words of a text.
+fn words_of(alloc: Global, text: &[u8]) -> Result<Vec<&[u8]>, AllocError>
+    ensures { IfOk result (λ words. map (λ word. word.now) words.items ≡ script.words_of text.now) }
+{
+    text.split(|byte| is_blank(*byte))
         .filter(|word| !word.is_empty())
         .collect(alloc)
 }

@@ -1,0 +1,15 @@
+-- The parts between blanks that aren't empty.
+use Rattle.std.proofs.Common.{◌==◌, length, not, rules, tests}
+use Rattle.std.proofs.lemmas.Iterator.Consumers.{YieldsList-from_filter, map_from_collect}
+use Rattle.std.proofs.lemmas.Iterator.Splits.{YieldsList-from_slice_split}
+use Rattle.reh_commands.specs.Script.{is_blank}
+use Rattle.reh_lint.proofs.unknown.words_of.Goals as goal
+
+pub returns : goal.returns
+returns c =
+    map_from_collect _ c.collect.ensures.ran
+    (YieldsList-from_filter _ (λ part. not (length part == 0))
+    (YieldsList-from_slice_split _ is_blank c.args.text.now c.split.ensures.rest c.split.ensures.done c.split.ensures.closure
+    (λ x r q k. search (rules, tests)))
+    c.filter.ensures.closure
+    (λ x r q k. search (rules, tests)))
