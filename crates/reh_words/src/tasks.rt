@@ -499,7 +499,7 @@ fn with_inputs<'a>(alloc: Global, command: Command<'a>) -> Result<Command<'a>, E
         );
     let command = command
         .arg(format)?
-        .arg(flag_arg(alloc, "strict").help("What is assumed counts as untold"))?
+        .arg(flag_arg(alloc, "strict").help("What the files assume of bookies counts as untold"))?
         .arg(workers)?
         .arg(files)?;
     Ok(command)
@@ -526,5 +526,5 @@ fn workers_arg<'a>(alloc: Global) -> Result<Arg<'a>, Error> {
 fn picture_arg<'a>(alloc: Global) -> Arg<'a> {
     Arg::new(alloc, "PICTURE")
         .required(true)
-        .help("A file with the picture")
+        .help("A file with the picture, as rehearse-picture makes it")
 }

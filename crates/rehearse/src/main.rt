@@ -29,7 +29,7 @@ use helps::help_on;
 use inputs::census_over;
 use looks::{Looks, say_fault};
 use plans::plan_file;
-use prompts::Typed;
+use prompts::{Typed, tell_input};
 use reh_crew::{OpenGate, Plain};
 use reh_drill::drill_over;
 use reh_script::{FromRead, Gathered, TextOut, ToWrite, pipe, run};
@@ -134,6 +134,7 @@ fn play<R: Threads + Wait + Sync>(
     let mut writer = Colored::new(rt.alloc(), gathered, looks.colors_answers);
     let played = match input {
         PlayWords::Pipe => {
+            tell_input(rt, looks);
             let mut reader = FromRead::new(rt.reader());
             pipe(rt.alloc(), &Plain, &mut reader, &mut writer).map_err(RunFault::from)
         }

@@ -1,4 +1,4 @@
-// The prompt for whoever types a script.
+// What is shown to whoever types.
 ghost use Rattle.std.specs.Prelude.{◌≡◌};
 
 use crate::looks::Looks;
@@ -61,6 +61,16 @@ impl<R: TextIn> TextIn for Typed<'_, R> {
         }
         self.begins_line = ends_line(taken, buffer);
         taken
+    }
+}
+
+/// Says what is read from standard input, where that and standard error are terminals and more than faults is said: whoever
+/// types the program's name alone would see nothing.
+pub(crate) fn tell_input(rt: &HostRuntime, looks: Looks) {
+    if !looks.is_quiet && rt.stdin().is_terminal() && rt.stderr().is_terminal() {
+        let _ = eprintln!(rt;
+            "reading a picture, a line with a single %, and a script; rehearse --help says more"
+        );
     }
 }
 
