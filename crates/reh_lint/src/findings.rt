@@ -1,6 +1,7 @@
 // What is found in a line.
 ghost use Rattle.std.specs.Prelude.{◌≡◌, ◌++◌, map, IfOk, OnOk, codes, option_map, string_bytes};
 ghost use Rattle.reh_lint.specs.Lints as model;
+ghost use Rattle.reh_lint.specs.Unknown as unknown;
 ghost use Rattle.reh_near.specs.Near.{told};
 
 use crate::names::{bookie_names, verb_names};
@@ -37,16 +38,28 @@ impl<'a> Known<'a> {
         ensures { IfOk result (λ near. told near ≡ model.near_it self.now.names.now line.now fault) }
     {
         match fault {
-            LineFault::UnknownCommand => {
-                let words = line_words(alloc, line)?;
-                near_word(alloc, &self.verbs, unknown_command(&words))
-            }
-            LineFault::UnknownName => {
-                let words = line_words(alloc, line)?;
-                near_word(alloc, &self.bookies, unknown_name(self.names, &words))
-            }
+            LineFault::UnknownCommand => self.near_command(alloc, line),
+            LineFault::UnknownName => self.near_name(alloc, line),
             LineFault::TooLong | LineFault::BadWords => Ok(Near::Nothing),
         }
+    }
+
+    /// What is near the unknown command of a line.
+    fn near_command(&self, alloc: Global, line: &[u8]) -> Result<Near<'a>, AllocError>
+        ensures { IfOk result (λ near. told near
+            ≡ model.near_word model.verb_names (unknown.unknown_command (unknown.line_words line.now))) }
+    {
+        let words = line_words(alloc, line)?;
+        near_word(alloc, &self.verbs, unknown_command(&words))
+    }
+
+    /// What is near the unknown name of a line.
+    fn near_name(&self, alloc: Global, line: &[u8]) -> Result<Near<'a>, AllocError>
+        ensures { IfOk result (λ near. told near
+            ≡ model.near_word self.now.names.now (unknown.unknown_name self.now.names.now (unknown.line_words line.now))) }
+    {
+        let words = line_words(alloc, line)?;
+        near_word(alloc, &self.bookies, unknown_name(self.names, &words))
     }
 }
 

@@ -1,5 +1,6 @@
 // The word of a faulty line that names nothing.
-ghost use Rattle.std.specs.Prelude.{◌≡◌, map, option_map, IfOk};
+ghost use Rattle.std.specs.Prelude.{◌≡◌, ◌==◌, filter, length, map, not, option_map, IfOk};
+ghost use Rattle.std.specs.List.{slice_split};
 ghost use Rattle.std.specs.Str.Lines.{strip_carriage_return};
 ghost use Rattle.reh_commands.specs.Script as script;
 ghost use Rattle.reh_lint.specs.Unknown as model;
@@ -19,9 +20,29 @@ pub(crate) fn line_words(alloc: Global, line: &[u8]) -> Result<Vec<&[u8]>, Alloc
 fn words_of(alloc: Global, text: &[u8]) -> Result<Vec<&[u8]>, AllocError>
     ensures { IfOk result (λ words. map (λ word. word.now) words.items ≡ script.words_of text.now) }
 {
-    text.split(|byte| is_blank(*byte))
-        .filter(|word| !word.is_empty())
-        .collect(alloc)
+    let parts = parts_of(alloc, text)?;
+    filled(alloc, &parts)
+}
+
+/// The parts of a text between spaces and tabs.
+fn parts_of(alloc: Global, text: &[u8]) -> Result<Vec<&[u8]>, AllocError>
+    ensures { IfOk result (λ parts. map (λ part. part.now) parts.items ≡ slice_split script.is_blank text.now) }
+{
+    text.split(|byte| is_blank(*byte)).collect(alloc)
+}
+
+/// Those of some parts that aren't empty.
+fn filled<'a>(alloc: Global, parts: &[&'a [u8]]) -> Result<Vec<&'a [u8]>, AllocError>
+    ensures { IfOk result (λ words. map (λ word. word.now) words.items
+        ≡ filter (λ part. not (length part == 0)) (map (λ part. part.now) parts.now)) }
+{
+    let mut words = Vec::new(alloc);
+    for part in parts {
+        if !part.is_empty() {
+            words.push(*part)?;
+        }
+    }
+    Ok(words)
 }
 
 /// Whether the byte parts words.
