@@ -13,6 +13,9 @@ pub struct Style {
     pub color: Color,
 }
 
+/// Where the arguments stand in help: after all others.
+const LAST: usize = 900;
+
 /// What `--color` may be.
 const COLORS: &[&str] = &["auto", "always", "never"];
 
@@ -23,12 +26,14 @@ pub(crate) fn with_style<'a>(alloc: Global, command: Command<'a>) -> Result<Comm
         .short('q')
         .action(ArgAction::SetTrue)
         .global(true)
+        .display_order(LAST)
         .help("Nothing but faults on standard error: no progress, no prompt");
     let color = Arg::new(alloc, "color")
         .long("color")
         .value_name("WHEN")
         .value_parser(COLORS)
         .global(true)
+        .display_order(LAST + 1)
         .help("Refusals and verdicts in colour; by default auto: on a terminal");
     let command = command.arg(quiet)?.arg(color)?;
     Ok(command)

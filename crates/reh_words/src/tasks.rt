@@ -167,7 +167,10 @@ pub fn request_of<'a>(alloc: Global, words: &'a [String]) -> Result<Option<Reque
                 Some(("help", given)) => asked_help(alloc, given.get_str("TOPIC"))?,
                 _ => asked_task(alloc, &matches)?,
             };
-            Ok(task.map(|task| Request { task, style }))
+            match task {
+                Some(task) => Ok(Some(Request { task, style })),
+                None => Ok(None),
+            }
         }
         Err(error) => {
             if error.kind() == ErrorKind::DisplayHelp {
