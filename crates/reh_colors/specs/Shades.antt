@@ -1,6 +1,6 @@
 -- Which lines have a colour, and how a text is shown with these.
 use Rattle.std.specs.Prelude.{ℕ, ◌==◌, ◌&&◌, ◌||◌, not, nat_eq, Bool, true, false, if◌then◌else◌, List, [], ◌∷◌, ◌++◌, map, Option, None, Some, codes}
-use Rattle.std.specs.List.{after_first, join_with_byte, list_any, slice_split, starts_with}
+use Rattle.std.specs.List.{after_first, join_with_byte, slice_split, starts_with}
 use Rattle.std.specs.Str.{bytes_eq}
 use Rattle.reh_colors.specs.declared.shades.Shade.{Shade}
 use Rattle.reh_colors.specs.declared.shades.Shade.TheVariants.{Red, Green, Yellow}
