@@ -75,10 +75,13 @@ pub(crate) const TALK: &str = after!(
 /// Of `check`.
 pub(crate) const CHECK: &str = after!(
     "",
-    uses: ["check examples/cluster.json", "check examples/racks.json"],
-    zero: "the picture or the inventory is accepted",
+    uses: [
+        "check examples/cluster.json",
+        "check examples/cluster.json examples/maintenance.script"
+    ],
+    zero: "the picture or the inventory is accepted, and no line of the script is faulty",
     words: "the words of the command line are wrong",
-    read: "a file can't be read",
+    read: "a file can't be read, or a script is longer than 1 MiB",
     more: []
 );
 
@@ -99,7 +102,17 @@ pub(crate) const DRILL: &str = after!(
 
 /// Of `ok-to-stop`.
 pub(crate) const STOP: &str = after!(
-    "",
+    "A FILE shows a cluster: rehearse-inventory or rehearse-picture makes it. Bookies go by their names there.
+
+How an answer reads:
+
+  judged ..             how much was counted, and how much of it is assumed or unknown
+  copies, now, without  how many entries have 0, 1, 2 .. known copies, now and without the bookies
+  rules ..              for how many entries or ledgers each rule would be broken
+  ledger 7: ..          ledgers that speak against it, the worst first
+  ok-to-stop: ..        yes; no, and why; or unknown, where it depends on what no file tells
+
+",
     uses: [
         "ok-to-stop --lose b2:3181 examples/cluster.json",
         "ok-to-stop --lose-rack r1 --for-good examples/racks.json"
@@ -112,7 +125,9 @@ pub(crate) const STOP: &str = after!(
 
 /// Of `waves`.
 pub(crate) const WAVES: &str = after!(
-    "",
+    "A FILE shows a cluster: rehearse-inventory or rehearse-picture makes it.
+
+",
     uses: ["waves examples/racks.json", "waves --racks examples/racks.json"],
     zero: "the answer is printed",
     words: "the words of the command line are wrong",
@@ -122,7 +137,9 @@ pub(crate) const WAVES: &str = after!(
 
 /// Of `risk`.
 pub(crate) const RISK: &str = after!(
-    "",
+    "A FILE shows a cluster: rehearse-inventory or rehearse-picture makes it.
+
+",
     uses: ["risk examples/cluster.json", "risk --pairs examples/racks.json"],
     zero: "the answer is printed",
     words: "the words of the command line are wrong",
@@ -132,7 +149,9 @@ pub(crate) const RISK: &str = after!(
 
 /// Of `census`.
 pub(crate) const CENSUS: &str = after!(
-    "",
+    "A FILE shows a cluster: rehearse-inventory or rehearse-picture makes it.
+
+",
     uses: [
         "census examples/cluster.json",
         "census --format json examples/cluster.json"

@@ -3,9 +3,11 @@
 
 mod helps;
 mod questions;
+mod styles;
 mod tasks;
 
+pub use styles::Style;
 pub use tasks::{
     CensusWords, Crew, CutWords, DrillFiles, HelpTopic, Inputs, MAX_FILES, PlanWords, PlayWords,
-    RiskWords, StopWords, Task, WaveWords, task_of,
+    Request, RiskWords, StopWords, Task, WaveWords, request_of,
 };

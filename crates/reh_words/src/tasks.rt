@@ -5,6 +5,7 @@ ghost use Rattle.reh_words.specs.declared.tasks.TheConstants.{MAX_FILES};
 
 use crate::helps;
 use crate::questions::asked_of_files;
+use crate::styles::{Style, asked_style, with_style};
 use clap::error::ErrorKind;
 use clap::{Arg, ArgAction, ArgMatches, Command, Error, value_parser};
 use reh_census::Question;
@@ -14,13 +15,23 @@ use reh_help::{Topic, topic_named};
 use std::alloc::{AllocError, Global};
 use std::convert::AsStr;
 
+/// What the program is asked, and how it is to show what it says.
+#[derive(Drop)]
+pub struct Request<'a> {
+    pub task: Task<'a>,
+    pub style: Style,
+}
+
 /// What the program is asked to do.
 #[derive(Drop)]
 pub enum Task<'a> {
     /// Plays a script on a picture.
     Play(PlayWords<'a>),
-    /// Checks the picture in a file.
-    Check { picture: &'a str },
+    /// Checks the picture in a file, or a script on it.
+    Check {
+        picture: &'a str,
+        script: Option<&'a str>,
+    },
     /// Plays scripts on a picture, each by an operator of its own.
     Drill(DrillFiles<'a>),
     /// Says whether bookies may be stopped.
@@ -160,12 +171,19 @@ const ABOUT: &str =
 
 /// What these words ask for, the program's own name first; or `clap`'s text of what is wrong with them, or of help.
 /// `None` is for words that the parser lets through though they lack what their command needs. There are none.
-pub fn task_of<'a>(alloc: Global, words: &'a [String]) -> Result<Option<Task<'a>>, Error> {
+pub fn request_of<'a>(alloc: Global, words: &'a [String]) -> Result<Option<Request<'a>>, Error> {
     match command(alloc, helps::PROGRAM)?.try_get_matches_from(words) {
-        Ok(matches) => match matches.subcommand() {
-            Some(("help", given)) => asked_help(alloc, given.get_str("TOPIC")),
-            _ => Ok(asked_task(alloc, &matches)?),
-        },
+        Ok(matches) => {
+            let style = asked_style(&matches);
+            let task = match matches.subcommand() {
+                Some(("help", given)) => asked_help(alloc, given.get_str("TOPIC"))?,
+                _ => asked_task(alloc, &matches)?,
+            };
+            match task {
+                Some(task) => Ok(Some(Request { task, style })),
+                None => Ok(None),
+            }
+        }
         Err(error) => {
             if error.kind() == ErrorKind::DisplayHelp {
                 show_help(alloc, words)?;
@@ -196,7 +214,10 @@ fn asked_of_picture<'a>(
     let scripts = given.get_strs("SCRIPT").unwrap_or(&[]);
     let workers = given.get_one("workers").unwrap_or(1);
     let task = match (command, scripts.first()) {
-        ("check", _) => Task::Check { picture },
+        ("check", script) => Task::Check {
+            picture,
+            script: script.copied(),
+        },
         ("talk", _) => Task::Play(PlayWords::Talk { picture }),
         ("plan", _) => Task::Plan(asked_plan(alloc, given, picture)?),
         ("drill", Some(_)) if scripts.len() <= MAX_OPERATORS => {
@@ -278,7 +299,7 @@ fn all_ways(alloc: Global) -> Result<String, AllocError> {
     Ok(ways)
 }
 
-/// The command line: no word, `run PICTURE SCRIPT --workers N`, `talk PICTURE`, `check PICTURE`,
+/// The command line: no word, `run PICTURE SCRIPT --workers N`, `talk PICTURE`, `check PICTURE SCRIPT`,
 /// `drill PICTURE SCRIPT..`, `ok-to-stop --lose BOOKIE,.. FILE..`, `waves FILE..`, `risk FILE..`, `census FILE..`,
 /// `cut --ledgers ID,.. INVENTORY`, `plan --lose BOOKIE,.. --to BOOKIE,.. PICTURE`, or `help TOPIC`.
 fn command<'a>(alloc: Global, ways: &'a str) -> Result<Command<'a>, Error> {
@@ -286,7 +307,8 @@ fn command<'a>(alloc: Global, ways: &'a str) -> Result<Command<'a>, Error> {
         .version(VERSION)
         .about(ABOUT)
         .after_help(ways)
-        .disable_help_subcommand(true)
+        .disable_help_subcommand(true);
+    let command = with_style(alloc, command)?
         .subcommand(run_command(alloc)?)?
         .subcommand(talk_command(alloc)?)?
         .subcommand(check_command(alloc)?)?
@@ -329,10 +351,14 @@ fn talk_command<'a>(alloc: Global) -> Result<Command<'a>, Error> {
 
 /// The command `check`.
 fn check_command<'a>(alloc: Global) -> Result<Command<'a>, Error> {
+    let script = Arg::new(alloc, "SCRIPT").help(
+        "A file with a script: which of its lines are faulty, and what is near; nothing is played",
+    );
     let command = Command::new(alloc, "check")
         .about("Says how much a picture or an inventory shows, or where it is wrong")
         .after_help(helps::CHECK)
-        .arg(picture_arg(alloc))?;
+        .arg(picture_arg(alloc))?
+        .arg(script)?;
     Ok(command)
 }
 
@@ -518,7 +544,7 @@ fn with_inputs<'a>(alloc: Global, command: Command<'a>) -> Result<Command<'a>, E
         );
     let command = command
         .arg(format)?
-        .arg(flag_arg(alloc, "strict").help("What is assumed counts as untold"))?
+        .arg(flag_arg(alloc, "strict").help("What the files assume of bookies counts as untold"))?
         .arg(workers)?
         .arg(files)?;
     Ok(command)
@@ -545,5 +571,5 @@ fn workers_arg<'a>(alloc: Global) -> Result<Arg<'a>, Error> {
 fn picture_arg<'a>(alloc: Global) -> Arg<'a> {
     Arg::new(alloc, "PICTURE")
         .required(true)
-        .help("A file with the picture")
+        .help("A file with the picture, as rehearse-picture makes it")
 }

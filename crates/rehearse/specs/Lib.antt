@@ -1,3 +1,4 @@
+pub mod Colors
 pub mod Cuts
 pub mod Faults
 pub mod Inputs

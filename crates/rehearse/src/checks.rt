@@ -1,9 +1,30 @@
-// A picture or an inventory that is checked, and nothing played on it.
+// A picture, an inventory or a script that is checked, and nothing played.
 use crate::faults::RunFault;
-use crate::files::{PICTURE_BYTES, open_file, read_on, write_out};
+use crate::files::{PICTURE_BYTES, open_file, read_on, read_picture, read_script, write_out};
 use crate::inventories::{INVENTORY_BEGINS, check_inventory};
+use reh_lint::lint;
 use reh_picture::{Counts, check_picture};
+use reh_types::MAX_SCRIPT_BYTES;
 use std::alloc::Global;
+
+/// The status where lines of a script are faulty, as where a picture is refused.
+const FAULTY: u8 = 3;
+
+/// Checks the script in a file on the picture in another, says to standard output which lines are faulty, and gives the
+/// status.
+pub(crate) fn check_script(rt: &HostRuntime, picture: &str, path: &str) -> Result<u8, RunFault> {
+    let bytes = read_picture(rt, picture)?;
+    let state = check_picture(rt.alloc(), &bytes)?;
+    let script = read_script(rt, path)?;
+    let mut lint = lint(rt.alloc(), state.names(), path, &script)?;
+    let (commands, faulty) = (lint.commands, lint.faulty);
+    write!(lint.text, "commands {commands} faulty {faulty}\n")?;
+    write_out(rt, lint.text.as_bytes())?;
+    if script.len() > MAX_SCRIPT_BYTES {
+        return Err(RunFault::TooLong);
+    }
+    Ok(if faulty > 0 { FAULTY } else { 0 })
+}
 
 /// Checks the picture or the inventory in a file, and says to standard output how much there is in it. It is an inventory
 /// if it begins as one.

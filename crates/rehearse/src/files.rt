@@ -153,7 +153,7 @@ pub(crate) fn read_input_file(rt: &HostRuntime, path: &str) -> Result<InputBytes
 }
 
 /// The bytes of a script's file, and of a longer one a byte more than a script may have.
-fn read_script(rt: &HostRuntime, path: &str) -> Result<Vec<u8>, RunFault> {
+pub(crate) fn read_script(rt: &HostRuntime, path: &str) -> Result<Vec<u8>, RunFault> {
     let mut bytes = Vec::new(rt.alloc());
     read_on(
         rt,

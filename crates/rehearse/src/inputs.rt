@@ -8,6 +8,7 @@ ghost use Rattle.rehearse.specs.Inputs as model;
 use crate::faults::RunFault;
 use crate::files::{InputBytes, read_input_file, write_out};
 use crate::inventories::count_inventory;
+use crate::looks::Looks;
 use crate::progress::{Progress, Teller};
 use reh_census_file::{CensusFault, NamedCensus, census_text};
 use reh_census_json::census_json;
@@ -56,9 +57,10 @@ fn gather_read<R: thread::Threads + Sync>(
 pub(crate) fn census_over<R: thread::Threads + Wait + Sync + Copy + Send + 'static>(
     rt: &HostRuntime,
     threads: &R,
+    looks: Looks,
     words: &CensusWords<'_>,
 ) -> Result<(), RunFault> {
-    let teller = Teller::begin(rt, threads, words.inputs.files.len());
+    let teller = Teller::begin(rt, threads, looks, words.inputs.files.len());
     let text = census_of(rt, threads, words, &teller.progress);
     teller.end(threads);
     write_out(rt, text?.as_bytes())

@@ -1,16 +1,19 @@
 // Rehearses events on a picture of a cluster, from standard input or from files, by one operator or several; checks a
-// picture; cuts a picture out of an inventory; plans what is to be done without some of a picture's bookies; or prints help.
+// picture or a script; cuts a picture out of an inventory; plans what is to be done without some of a picture's bookies; or
+// prints help.
 #![tactic(auto)]
 
 ghost use Rattle.std.specs.Prelude.{◌≡◌, false};
 
 mod checks;
+mod colors;
 mod cuts;
 mod faults;
 mod files;
 mod helps;
 mod inputs;
 mod inventories;
+mod looks;
 mod names;
 mod plans;
 mod progress;
@@ -19,19 +22,21 @@ mod runs;
 mod stops;
 mod waves;
 
-use checks::check_file;
+use checks::{check_file, check_script};
 use clap::Error;
+use colors::Colored;
 use cuts::cut_over;
 use faults::{RunFault, after_flush, status_of, want_of_memory};
 use files::{LateFile, open_file, read_picture, read_scripts};
 use helps::help_on;
 use inputs::census_over;
+use looks::{Looks, say_fault};
 use plans::plan_file;
-use prompts::Typed;
+use prompts::{Typed, tell_input};
 use reh_crew::{OpenGate, Plain};
 use reh_drill::drill_over;
 use reh_script::{FromRead, Gathered, TextOut, ToWrite, pipe, run};
-use reh_words::{Crew, DrillFiles, PlayWords, Task, task_of};
+use reh_words::{Crew, DrillFiles, PlayWords, Request, Task, request_of};
 use runs::run_by;
 use std::process::ExitCode;
 use std::sync::Wait;
@@ -43,10 +48,10 @@ use waves::{risk_over, waves_over};
 fn main(rt: HostRuntime) -> ExitCode {
     let words = match words(&rt) {
         Ok(words) => words,
-        Err(fault) => return end(&rt, Err(fault)),
+        Err(fault) => return end(&rt, Looks::plain(), Err(fault)),
     };
-    match task_of(rt.alloc(), &words) {
-        Ok(Some(task)) => perform(&rt, &rt, task),
+    match request_of(rt.alloc(), &words) {
+        Ok(Some(request)) => perform(&rt, &rt, request),
         Ok(None) => {
             let _ = eprintln!(rt; "nothing is asked");
             ExitCode::from(2)
@@ -59,24 +64,35 @@ fn main(rt: HostRuntime) -> ExitCode {
 fn perform<R: Threads + Wait + Sync + Copy + Send + 'static>(
     rt: &HostRuntime,
     threads: &R,
-    task: Task<'_>,
+    request: Request<'_>,
 ) -> ExitCode {
-    let done = match task {
-        Task::Play(input) => play(rt, threads, input),
-        Task::Check { picture } => check_file(rt, picture),
-        Task::Drill(files) => drill(rt, threads, files),
-        Task::Stop(stop) => match stop_over(rt, threads, &stop) {
+    let looks = Looks::of(rt, request.style);
+    let done = match request.task {
+        Task::Play(input) => play(rt, threads, looks, input),
+        Task::Check {
+            picture,
+            script: None,
+        } => check_file(rt, picture),
+        Task::Check {
+            picture,
+            script: Some(script),
+        } => match check_script(rt, picture, script) {
             Ok(status) => return ExitCode::from(status),
             Err(fault) => Err(fault),
         },
-        Task::Waves(words) => waves_over(rt, threads, &words),
-        Task::Risk(words) => risk_over(rt, threads, &words),
-        Task::Census(words) => census_over(rt, threads, &words),
+        Task::Drill(files) => drill(rt, threads, looks, files),
+        Task::Stop(stop) => match stop_over(rt, threads, looks, &stop) {
+            Ok(status) => return ExitCode::from(status),
+            Err(fault) => Err(fault),
+        },
+        Task::Waves(words) => waves_over(rt, threads, looks, &words),
+        Task::Risk(words) => risk_over(rt, threads, looks, &words),
+        Task::Census(words) => census_over(rt, threads, looks, &words),
         Task::Cut(words) => cut_over(rt, &words),
         Task::Plan(words) => plan_file(rt, &words),
         Task::Help(topic) => help_on(rt, &topic),
     };
-    end(rt, done)
+    end(rt, looks, done)
 }
 
 /// The words of the command line. A word that is no text names no file.
@@ -86,11 +102,11 @@ fn words(rt: &HostRuntime) -> Result<Vec<String>, RunFault> {
 }
 
 /// Ends with the status of a run, and says its fault, if it has one.
-fn end(rt: &HostRuntime, run: Result<(), RunFault>) -> ExitCode {
+fn end(rt: &HostRuntime, looks: Looks, run: Result<(), RunFault>) -> ExitCode {
     match run {
         Ok(()) => ExitCode::SUCCESS,
         Err(fault) => {
-            let _ = eprintln!(rt; "{fault}");
+            say_fault(rt, looks, &fault);
             ExitCode::from(status_of(&fault))
         }
     }
@@ -99,10 +115,10 @@ fn end(rt: &HostRuntime, run: Result<(), RunFault>) -> ExitCode {
 /// Shows help, or what is wrong with the command line.
 fn show(rt: &HostRuntime, error: &Error) -> ExitCode {
     if let Err(fault) = want_of_memory(error) {
-        return end(rt, Err(fault));
+        return end(rt, Looks::plain(), Err(fault));
     }
     if error.print(rt).is_err() {
-        return end(rt, Err(RunFault::WriteFault));
+        return end(rt, Looks::plain(), Err(RunFault::WriteFault));
     }
     if error.use_stderr() {
         ExitCode::from(2)
@@ -115,15 +131,18 @@ fn show(rt: &HostRuntime, error: &Error) -> ExitCode {
 fn play<R: Threads + Wait + Sync>(
     rt: &HostRuntime,
     threads: &R,
+    looks: Looks,
     input: PlayWords<'_>,
 ) -> Result<(), RunFault> {
-    let mut writer = Gathered::new(rt.alloc(), ToWrite::new(io::writer(rt)))?;
+    let gathered = Gathered::new(rt.alloc(), ToWrite::new(io::writer(rt)))?;
+    let mut writer = Colored::new(rt.alloc(), gathered, looks.colors_answers);
     let played = match input {
         PlayWords::Pipe => {
+            tell_input(rt, looks);
             let mut reader = FromRead::new(rt.reader());
             pipe(rt.alloc(), &Plain, &mut reader, &mut writer).map_err(RunFault::from)
         }
-        PlayWords::Talk { picture } => talk(rt, picture, &mut writer),
+        PlayWords::Talk { picture } => talk(rt, looks, picture, &mut writer),
         PlayWords::Files {
             picture,
             script,
@@ -135,11 +154,16 @@ fn play<R: Threads + Wait + Sync>(
 }
 
 /// Plays standard input on a picture file: what a read brings is answered before the next. Whoever types sees a prompt.
-fn talk<W: TextOut>(rt: &HostRuntime, picture: &str, writer: &mut W) -> Result<(), RunFault>
+fn talk<W: TextOut>(
+    rt: &HostRuntime,
+    looks: Looks,
+    picture: &str,
+    writer: &mut W,
+) -> Result<(), RunFault>
     requires { W.has_failed writer.old ≡ false }
 {
     let mut picture = FromRead::new(open_file(rt, picture).map_err(RunFault::without_reason)?);
-    let mut script = Typed::new(rt, FromRead::new(rt.reader()));
+    let mut script = Typed::new(rt, looks, FromRead::new(rt.reader()));
     run(rt.alloc(), &Plain, &mut picture, &mut script, writer)?;
     Ok(())
 }
@@ -168,11 +192,13 @@ fn run_files<R: Threads + Wait + Sync, W: TextOut>(
 fn drill<R: Threads + Wait + Sync>(
     rt: &HostRuntime,
     threads: &R,
+    looks: Looks,
     files: DrillFiles<'_>,
 ) -> Result<(), RunFault> {
     let picture = read_picture(rt, files.picture).map_err(RunFault::without_reason)?;
     let scripts = read_scripts(rt, &files.scripts).map_err(RunFault::without_reason)?;
-    let mut writer = Gathered::new(rt.alloc(), ToWrite::new(io::writer(rt)))?;
+    let gathered = Gathered::new(rt.alloc(), ToWrite::new(io::writer(rt)))?;
+    let mut writer = Colored::new(rt.alloc(), gathered, looks.colors_answers);
     let drilled = drill_over(
         threads,
         rt.alloc(),

@@ -2,7 +2,7 @@
 use crate::faults::RunFault;
 use reh_cluster::Names;
 use reh_inputs::{Cluster, ClusterNames};
-use reh_near::near_to;
+use reh_near::{Near, near_to};
 use reh_types::BookieIx;
 use std::alloc::{AllocError, Global};
 
@@ -30,8 +30,21 @@ fn unknown_text(
             known.push(other)?;
         }
     }
-    let near = near_to(alloc, &known, name.as_bytes())?;
-    format!(in alloc; "{path} has no bookie '{name}'{near}")
+    let told = known_text(alloc, &known, name)?;
+    format!(in alloc; "{path} has no bookie '{name}'{told}")
+}
+
+/// What is told of the names that there are, behind one that there is not: those near it; else how many there are, and the
+/// first.
+fn known_text(alloc: Global, known: &[&str], name: &str) -> Result<String, AllocError> {
+    let near = near_to(alloc, known, name.as_bytes())?;
+    match (near, known) {
+        (Near::Nothing, [first, ..]) => {
+            let count = known.len();
+            format!(in alloc; ": there are {count}, such as '{first}'")
+        }
+        _ => format!(in alloc; "{near}"),
+    }
 }
 
 /// That the name is no bookie's of any input, and what is near; or out of memory.
@@ -49,8 +62,8 @@ fn unknown_to_all_text(
     for other in names.as_slice() {
         known.push(other.as_str())?;
     }
-    let near = near_to(alloc, &known, name.as_bytes())?;
-    format!(in alloc; "no input has a bookie '{name}'{near}")
+    let told = known_text(alloc, &known, name)?;
+    format!(in alloc; "no input has a bookie '{name}'{told}")
 }
 
 /// That the name is no bookie's rack, and what is near; or out of memory.
@@ -66,8 +79,8 @@ fn unknown_rack_text(alloc: Global, cluster: &Cluster, name: &str) -> Result<Str
             racks.push(shown.rack().unwrap_or(""))?;
         }
     }
-    let near = near_to(alloc, &racks, name.as_bytes())?;
-    format!(in alloc; "no bookie is in rack '{name}'{near}")
+    let told = known_text(alloc, &racks, name)?;
+    format!(in alloc; "no bookie is in rack '{name}'{told}")
 }
 
 /// That no bookie is named; or out of memory.

@@ -1,4 +1,5 @@
 // How far long work is, told to a terminal.
+use crate::looks::Looks;
 use std::alloc::Global;
 use std::io::IsTerminal;
 use std::sync::atomic::{AtomicU64, Ordering};
@@ -33,7 +34,7 @@ impl Progress {
     }
 }
 
-/// Says each second on standard error how far the work is, where that is a terminal. A thread of its own does so. Where
+/// Says each second on standard error how far the work is, where that is a terminal and more than faults is said. A thread of its own does so. Where
 /// there is none, or no memory for it, nothing is said.
 #[derive(Drop)]
 pub(crate) struct Teller {
@@ -46,9 +47,10 @@ impl Teller {
     pub(crate) fn begin<R: Threads + Wait + Copy + Send + 'static>(
         rt: &HostRuntime,
         threads: &R,
+        looks: Looks,
         files: usize,
     ) -> Teller {
-        let started = if rt.stderr().is_terminal() {
+        let started = if !looks.is_quiet && rt.stderr().is_terminal() {
             start(rt, threads, files)
         } else {
             None

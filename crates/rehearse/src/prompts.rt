@@ -1,10 +1,12 @@
-// The prompt for whoever types a script.
+// What is shown to whoever types.
 ghost use Rattle.std.specs.Prelude.{◌≡◌};
 
+use crate::looks::Looks;
 use reh_script::{StreamFault, TextIn};
 use std::io::IsTerminal;
 
-/// A script on standard input. Before each line a prompt is shown on standard error, where both are terminals.
+/// A script on standard input. Before each line a prompt is shown on standard error, where both are terminals and
+/// more than faults is said.
 #[derive(Drop)]
 pub(crate) struct Typed<'a, R: TextIn> {
     rt: &'a HostRuntime,
@@ -15,10 +17,10 @@ pub(crate) struct Typed<'a, R: TextIn> {
 
 impl<'a, R: TextIn> Typed<'a, R> {
     /// The script that this reader takes from standard input.
-    pub(crate) fn new(rt: &'a HostRuntime, inner: R) -> Self
+    pub(crate) fn new(rt: &'a HostRuntime, looks: Looks, inner: R) -> Self
         ensures { result.inner ≡ inner }
     {
-        let is_prompted = rt.stdin().is_terminal() && rt.stderr().is_terminal();
+        let is_prompted = !looks.is_quiet && rt.stdin().is_terminal() && rt.stderr().is_terminal();
         Typed {
             rt,
             inner,
@@ -59,6 +61,16 @@ impl<R: TextIn> TextIn for Typed<'_, R> {
         }
         self.begins_line = ends_line(taken, buffer);
         taken
+    }
+}
+
+/// Says what is read from standard input, where that and standard error are terminals and more than faults is said: whoever
+/// types the program's name alone would see nothing.
+pub(crate) fn tell_input(rt: &HostRuntime, looks: Looks) {
+    if !looks.is_quiet && rt.stdin().is_terminal() && rt.stderr().is_terminal() {
+        let _ = eprintln!(rt;
+            "reading a picture, a line with a single %, and a script; rehearse --help says more"
+        );
     }
 }
 

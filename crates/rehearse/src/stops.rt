@@ -3,8 +3,8 @@ ghost use Rattle.std.specs.Prelude.{IfOk};
 ghost use Rattle.rehearse.specs.Inputs.{SaysStop};
 
 use crate::faults::RunFault;
-use crate::files::write_out;
 use crate::inputs::{gather_files, too_many};
+use crate::looks::{Looks, show_answer};
 use crate::names::{ambiguous, named_again, nobody, unknown_rack, unknown_to_all};
 use crate::progress::{Progress, Teller};
 use reh_inputs::Cluster;
@@ -18,13 +18,14 @@ use std::thread;
 pub(crate) fn stop_over<R: thread::Threads + Wait + Sync + Copy + Send + 'static>(
     rt: &HostRuntime,
     threads: &R,
+    looks: Looks,
     stop: &StopWords<'_>,
 ) -> Result<u8, RunFault> {
-    let teller = Teller::begin(rt, threads, stop.inputs.files.len());
+    let teller = Teller::begin(rt, threads, looks, stop.inputs.files.len());
     let said = said_of(rt, threads, stop, &teller.progress);
     teller.end(threads);
     let said = said?;
-    write_out(rt, said.text.as_bytes())?;
+    show_answer(rt, looks, said.text.as_bytes())?;
     Ok(said.status)
 }
 

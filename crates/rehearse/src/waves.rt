@@ -5,6 +5,7 @@ ghost use Rattle.rehearse.specs.Inputs.{SaysRisk, SaysWaves};
 use crate::faults::RunFault;
 use crate::files::write_out;
 use crate::inputs::{gather_files, unfit};
+use crate::looks::Looks;
 use crate::progress::{Progress, Teller};
 use reh_stop::{AskedRisk, AskedWaves, RoundFault, answer_risk, answer_waves};
 use reh_words::{RiskWords, WaveWords};
@@ -16,9 +17,10 @@ use std::thread;
 pub(crate) fn waves_over<R: thread::Threads + Wait + Sync + Copy + Send + 'static>(
     rt: &HostRuntime,
     threads: &R,
+    looks: Looks,
     words: &WaveWords<'_>,
 ) -> Result<(), RunFault> {
-    let teller = Teller::begin(rt, threads, words.inputs.files.len());
+    let teller = Teller::begin(rt, threads, looks, words.inputs.files.len());
     let text = waves_of(rt, threads, words, &teller.progress);
     teller.end(threads);
     write_out(rt, text?.as_bytes())
@@ -49,9 +51,10 @@ fn waves_of<R: thread::Threads + Wait + Sync>(
 pub(crate) fn risk_over<R: thread::Threads + Wait + Sync + Copy + Send + 'static>(
     rt: &HostRuntime,
     threads: &R,
+    looks: Looks,
     words: &RiskWords<'_>,
 ) -> Result<(), RunFault> {
-    let teller = Teller::begin(rt, threads, words.inputs.files.len());
+    let teller = Teller::begin(rt, threads, looks, words.inputs.files.len());
     let text = risk_of(rt, threads, words, &teller.progress);
     teller.end(threads);
     write_out(rt, text?.as_bytes())

@@ -1,0 +1,2 @@
+pub mod Lints
+pub mod Unknown
