@@ -6,6 +6,6 @@ mod questions;
 mod tasks;
 
 pub use tasks::{
-    CensusWords, Crew, DrillFiles, HelpTopic, Inputs, MAX_FILES, PlanWords, PlayWords, RiskWords,
-    StopWords, Task, WaveWords, task_of,
+    CensusWords, Crew, DrillFiles, HelpTopic, Inputs, MAX_FILES, PlanWords, PlayOut, PlayWords,
+    RiskWords, StopWords, Task, WaveWords, task_of,
 };

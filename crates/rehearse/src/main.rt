@@ -11,6 +11,7 @@ mod helps;
 mod inputs;
 mod inventories;
 mod names;
+mod outs;
 mod plans;
 mod progress;
 mod prompts;
@@ -24,6 +25,7 @@ use faults::{RunFault, after_flush, status_of, want_of_memory};
 use files::{LateFile, open_file, read_picture, read_scripts};
 use helps::help_on;
 use inputs::census_over;
+use outs::run_out;
 use plans::plan_file;
 use prompts::Typed;
 use reh_crew::{OpenGate, Plain};
@@ -61,6 +63,7 @@ fn perform<R: Threads + Wait + Sync + Copy + Send + 'static>(
 ) -> ExitCode {
     let done = match task {
         Task::Play(input) => play(rt, threads, input),
+        Task::PlayOut(words) => run_out(rt, threads, &words),
         Task::Check { picture } => check_file(rt, picture),
         Task::Drill(files) => drill(rt, threads, files),
         Task::Stop(stop) => match stop_over(rt, threads, &stop) {
