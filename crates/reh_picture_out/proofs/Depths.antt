@@ -1,5 +1,5 @@
 -- How deep what is written nests.
-use Rattle.std.proofs.Common.{◌≡◌, ℕ, zero, suc, Bool, ◌+◌, ◌<◌, ◌≤◌, List, [], ◌∷◌, ◌++◌, map, arith}
+use Rattle.std.proofs.Common.{ℕ, suc, Bool, ◌≤◌, List, [], ◌∷◌, ◌++◌, map, arith}
 use Rattle.std.proofs.Math.Nat.{max-le}
 use Rattle.serde_json.specs.Data.{Data, depth, items_depth}
 use Rattle.serde_json.specs.View.{items_of}
@@ -7,12 +7,12 @@ use Rattle.reh_types.specs.declared.names.LedgerState.{LedgerState}
 use Rattle.reh_types.specs.declared.names.LedgerState.TheVariants.{Open, InRecovery, Closed}
 use Rattle.reh_model.specs.Metadata.{Fragment}
 use Rattle.reh_model.specs.Cluster.{Cluster, Ledger}
-use Rattle.std.specs.Prelude.{Option, None, Some}
+use Rattle.std.specs.Prelude.{◌==◌, true, false, if◌then◌else◌, Option, None, Some}
 use Rattle.reh_model.specs.Cluster.{is_up}
 use Rattle.reh_picture.specs.Marks.{BookieMarks}
 use Rattle.reh_picture_out.specs.Marks.{kept_marks}
 use Rattle.reh_picture_out.specs.Written.{name_at, bookie_data, bookie_data_at, bookies_data, member_data, fragment_data, ledger_data, last_data}
-use Rattle.reh_picture_out.specs.Written.{range_data, content_data, ledgers_data, written_data}
+use Rattle.reh_picture_out.specs.Written.{range_data, content_data, ledgers_data, first_data, delayed_data, written_data}
 
 -- a list nests no deeper than each element
 pub depth-made : {A : Type 0} (f : A → Data) (n : ℕ) → ((x : A) → depth (f x) ≤ n) → (xs : List A)
@@ -89,10 +89,11 @@ depth-written delay grace bookies ledgers contents b l c =
     let ledgers_in : suc (items_depth (items_of ledgers)) ≤ 5 = omega (arith, l) in
     let contents_in : suc (items_depth (items_of contents)) ≤ 5 = omega (arith, c) in
     let flat : 0 ≤ 5 = omega arith in
-    go delay bookies_in ledgers_in contents_in flat
+    go (delay == 0) bookies_in ledgers_in contents_in flat
   where
-    go : (delay : ℕ) → suc (items_depth (items_of bookies)) ≤ 5 → suc (items_depth (items_of ledgers)) ≤ 5
+    go : (first : Bool) → suc (items_depth (items_of bookies)) ≤ 5 → suc (items_depth (items_of ledgers)) ≤ 5
         → suc (items_depth (items_of contents)) ≤ 5 → 0 ≤ 5
-        → depth (written_data delay grace bookies ledgers contents) ≤ 6
-    go zero b l c flat = up 5 (max-le b (max-le c (max-le flat (max-le flat (max-le l flat)))))
-    go (suc delay) b l c flat = up 5 (max-le b (max-le c (max-le flat (max-le flat (max-le l (max-le flat flat))))))
+        → depth (if first then first_data grace bookies ledgers contents else delayed_data delay grace bookies ledgers contents)
+        ≤ 6
+    go true b l c flat = up 5 (max-le b (max-le c (max-le flat (max-le flat (max-le l flat)))))
+    go false b l c flat = up 5 (max-le b (max-le c (max-le flat (max-le flat (max-le l (max-le flat flat))))))

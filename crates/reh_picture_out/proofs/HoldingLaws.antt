@@ -1,6 +1,6 @@
 -- What contents say that is held, as they grow.
 use Rattle.std.proofs.Common.{◌≡◌, ℕ, zero, suc, subst, ◌+◌, ◌<◌, ◌≤◌, Bool, true, false, ◌&&◌, ◌||◌, nat_eq, nat_lt, List, [], ◌∷◌, ◌++◌, map, length, take, get_or, refl, sym, ap, ◌∙◌, arith, lt-ltb, inl, inr}
-use Rattle.std.specs.Prelude.{◌*◌, cond, All, Some}
+use Rattle.std.specs.Prelude.{◌*◌, not, cond, All, Some}
 use Rattle.std.specs.List.{IsDistinct, list_any, flat_map}
 use Rattle.std.specs.Option.{IsSome, is_some, option_map_or}
 use Rattle.std.specs.Ordering.{eq_by_cmp}
@@ -28,9 +28,9 @@ use Rattle.reh_fields.specs.Names.{bookie_in}
 use Rattle.reh_fields.proofs.Elements.{elements-items_of}
 use Rattle.reh_held.proofs.WrittenLaws.{turn_round}
 use Rattle.reh_picture.specs.Contents.{Holding, ends_of, holding_in, copies_within, copies_in}
-use Rattle.reh_picture_out.specs.Marks.{has_assumed}
+use Rattle.reh_picture_out.specs.Marks.{is_told, lacks_content, has_assumed}
 use Rattle.reh_picture_out.specs.Ranges.{is_within, is_in}
-use Rattle.reh_picture_out.specs.Holdings.{held_by, Adds, LiesWithin}
+use Rattle.reh_picture_out.specs.Holdings.{held_by, tells, Adds, LiesWithin}
 use Rattle.reh_picture_out.specs.Written.{name_at, range_data, content_data, IsMarked, AreContents}
 use Rattle.reh_picture_out.proofs.Depths.{depth-push, depth-content}
 use Rattle.reh_picture_out.proofs.NamesLaws.{bookie_in-name_at}
@@ -94,7 +94,7 @@ module _ (b l e : ℕ) where
 
 -- Additions
 
-abbrev is_of : ℕ → ℕ → ℕ → ℕ → Bool
+abbrev pub is_of : ℕ → ℕ → ℕ → ℕ → Bool
 is_of bookie ledger b l = nat_eq b bookie && nat_eq ledger l
 
 -- what is told of one bookie and one ledger is told of what the test passes
@@ -114,6 +114,35 @@ guarded held bookie ledger e b l told is =
       | false ↦ λ _. refl
     ] refl
 
+-- the bookie and the ledger that pass the test
+is_of-there : (bookie ledger b l : ℕ) → is_of bookie ledger b l ≡ true → (bookie ≡ b) × (ledger ≡ l)
+is_of-there bookie ledger b l pass =
+    elim (nat_eq b bookie) as (λ t. nat_eq b bookie ≡ t → (t && nat_eq ledger l) ≡ true → (bookie ≡ b) × (ledger ≡ l)) [
+      | true ↦ λ same_bookie same_ledger.
+          let here : bookie ≡ b = grind (arith, nat_tests, same_bookie) in
+          let there : ledger ≡ l = grind (arith, nat_tests, same_ledger) in
+          (here, there)
+      | false ↦ λ _ never. absurd (false≢true never)
+    ] refl pass
+
+of_there : (bookie ledger b l : ℕ) → (bookie ≡ b) × (ledger ≡ l) → (nat_eq bookie b && nat_eq ledger l) ≡ true
+of_there bookie ledger b l here =
+    let one : nat_eq bookie b ≡ true = grind (arith, nat_tests, here.0) in
+    let other : nat_eq ledger l ≡ true = grind (arith, nat_tests, here.1) in
+    λ i. one i && other i
+
+or-true : (t : Bool) → (t || (true || false)) ≡ true
+or-true true = refl
+or-true false = refl
+
+-- one content more
+tells-pushed : (names : List (List ℕ)) (ds : List Data) (d : Data) (b l : ℕ)
+    → tells names (ds ++ d ∷ []) b l ≡ (tells names ds b l || tells names (d ∷ []) b l)
+tells-pushed names ds d b l =
+    ap (λ hs. is_told hs b l) (map-append (holding_in names) ds (d ∷ []))
+    ∙ list_any-append (λ (h : Holding). nat_eq h.bookie b && nat_eq h.ledger l) (map (holding_in names) ds)
+    (holding_in names d ∷ [])
+
 module _ (names : List (List ℕ)) (held : Contents) (began : List Holding) where
   -- a content of a bookie and a ledger
   pub Adds-one : (assumed : Bool) (bookie ledger : ℕ) (ranges : List (ℕ × ℕ)) → IsDistinct bytes_eq names → bookie < length names
@@ -129,13 +158,26 @@ module _ (names : List (List ℕ)) (held : Contents) (began : List Holding) wher
     marked = λ all.
         let one : IsMarked began (content_data assumed (name_at names bookie) ledger ranges) = marked in
         All-push (IsMarked began) ds (content_data assumed (name_at names bookie) ledger ranges) all one;
+    stays = λ b l one.
+        tells-pushed names ds (content_data assumed (name_at names bookie) ledger ranges) b l
+        ∙ ap (λ t. t || tells names (content_data assumed (name_at names bookie) ledger ranges ∷ []) b l) one;
+    again = λ b l pass was.
+        let here = is_of-there bookie ledger b l pass in
+        tells-pushed names ds (content_data assumed (name_at names bookie) ledger ranges) b l
+        ∙ ap (λ k. tells names ds b l || ((nat_eq k b && nat_eq ledger l) || false)) (bookie_in-name_at names bookie apart within)
+        ∙ ap (λ t. tells names ds b l || (t || false)) (of_there bookie ledger b l here)
+        ∙ or-true (tells names ds b l);
     flat = λ flat. depth-push 3 ds _ flat (depth-content assumed (name_at names bookie) ledger ranges);
   }
 
   -- no content, where nothing is held
-  pub Adds-none : (bookie ledger : ℕ) → ((e : ℕ) → false ≡ has held bookie ledger e) → (ds : List Data)
-      → Adds names held began (is_of bookie ledger) ds ds
-  Adds-none bookie ledger told ds = record {
+  pub Adds-none : (bookie ledger : ℕ) → is_told began bookie ledger ≡ false → ((e : ℕ) → false ≡ has held bookie ledger e)
+      → (ds : List Data) → Adds names held began (is_of bookie ledger) ds ds
+  Adds-none bookie ledger untold told ds = record {
+    stays = λ b l one. one;
+    again = λ b l pass was.
+        let here = is_of-there bookie ledger b l pass in
+        absurd (false≢true (sym untold ∙ (λ i. is_told began (here.0 i) (here.1 i)) ∙ was));
     more = λ b l e.
         sym (or-false (has (held_by names ds) b l e))
         ∙ ap (λ t. has (held_by names ds) b l e || t)
@@ -171,6 +213,12 @@ module _ (names : List (List ℕ)) (held : Contents) (began : List Holding) wher
         second.more b l e ∙ ap (λ t. t || (q b l && has held b l e)) (first.more b l e)
         ∙ join (has (held_by names old) b l e) (p b l) (q b l) (has held b l e)
         ∙ sym (ap (λ t. has (held_by names old) b l e || (t && has held b l e)) (is b l));
+    stays = λ b l one. second.stays b l (first.stays b l one);
+    again = λ b l pass was.
+        elim (p b l) as (λ t. p b l ≡ t → (t || q b l) ≡ true → tells names new b l ≡ true) [
+          | true ↦ λ one _. second.stays b l (first.again b l one was)
+          | false ↦ λ _ other. second.again b l other was
+        ] refl (sym (is b l) ∙ pass);
     marked = λ all. second.marked (first.marked all);
     flat = λ flat. second.flat (first.flat flat);
   }
@@ -181,6 +229,8 @@ module _ (names : List (List ℕ)) (held : Contents) (began : List Holding) wher
     more = λ b l e.
         sym (or-false (has (held_by names ds) b l e))
         ∙ sym (ap (λ t. has (held_by names ds) b l e || (t && has held b l e)) (none b l));
+    stays = λ b l one. one;
+    again = λ b l pass was. absurd (false≢true (sym (none b l) ∙ pass));
     marked = λ all. all;
     flat = λ flat. flat;
   }
@@ -305,13 +355,29 @@ take-past (x ∷ xs) (suc n) past = ap (λ ys. x ∷ ys) (take-past xs n (omega 
 pub contents-all : (s : Cluster) (began : List Holding) (ds : List Data) (ledgers : List Ledger) (k : ℕ) → IsWellFormed s
     → ledgers ≡ s.parts.ledgers → length ledgers ≤ k
     → Adds s.names s.parts.held began (is_among (length s.names) (take k ledgers)) [] ds
-    → AreContents s.names s.parts.held began ds
+    → AreContents s began ds
 contents-all s began ds ledgers k good same past added =
     let all : take k ledgers ≡ s.parts.ledgers = take-past ledgers k past ∙ same in
     let whole : Adds s.names s.parts.held began (is_among (length s.names) s.parts.ledgers) [] ds =
     subst (λ gs. Adds s.names s.parts.held began (is_among (length s.names) gs) [] ds) all added in
     record {
       held_are = held-all s.names s.parts.held began s.parts.ledgers ds good.contents.copies whole;
+      again = whole.again;
       marked = whole.marked (All-nil (IsMarked began));
       flat = whole.flat (omega arith);
     }
+
+-- a bookie without a content was not told
+pub lacks-told : (told : List Holding) (bookie ledger : ℕ) (ranges : List (ℕ × ℕ))
+    → true ≡ lacks_content told bookie ledger ranges → is_told told bookie ledger ≡ false
+lacks-told told bookie ledger ranges is = second (nat_eq (length ranges) 0) (is_told told bookie ledger) is
+  where
+    second : (p q : Bool) → true ≡ (p && not q) → q ≡ false
+    second true true is = absurd (false≢true (sym is))
+    second true false is = refl
+    second false q is = absurd (false≢true (sym is))
+
+pub below-none : (ledger b l : ℕ) → is_below 0 ledger b l ≡ false
+below-none ledger b l =
+    let none : nat_lt b 0 ≡ false = grind (arith, nat_tests) in
+    ap (λ t. t && nat_eq ledger l) none

@@ -1,12 +1,14 @@
 -- A ledger that is written is read with the same metadata.
 use Rattle.std.proofs.Common.{◌≡◌, ℕ, zero, suc, ◌-◌, ◌+◌, ◌^◌, ◌<◌, ◌≤◌, Bool, true, List, [], ◌∷◌, map, length, refl, ap, ◌∙◌, arith, lt-ltb, le-leb}
-use Rattle.std.specs.Prelude.{ℤ, All, nat_lt, nat_le, pos, unwrap_or, Option, Some, None, if◌then◌else◌}
+use Rattle.std.specs.Prelude.{◌==◌, false, negsuc, ℤ, All, nat_lt, nat_le, pos, unwrap_or, Option, Some, None, if◌then◌else◌}
 use Rattle.std.specs.List.{IsDistinct}
 use Rattle.std.specs.Option.{ForSome, ok_or, option_and_then}
 use Rattle.std.specs.Result.{result_ok}
 use Rattle.std.specs.Str.{bytes_eq}
 use Rattle.std.proofs.lemmas.List.Elements.{All-head, All-tail}
-use Rattle.serde_json.specs.Data.{Items}
+use Rattle.serde_json.specs.Data.{Items, Num, unsigned, negative}
+use Rattle.serde_json.specs.Find.{as_i64}
+use Rattle.std.proofs.lemmas.Bool.Decides.{nat_tests}
 use Rattle.serde_json.specs.View.{items_of}
 use Rattle.reh_types.specs.declared.limits.TheConstants.{ENTRY_END, MAX_ENTRY_ID}
 use Rattle.reh_types.specs.declared.names.LedgerState.{LedgerState}
@@ -31,6 +33,9 @@ closed_by small n = Closed (unwrap_or (if small then Some (n + 1) else None) 0)
 abbrev closed_at : Option ℤ → LedgerState
 closed_at last = Closed (unwrap_or (option_and_then end_after (result_ok (ok_or last (WrongKind field.LastEntryId)))) 0)
 
+abbrev as_closed : Num → LedgerState
+as_closed last = closed_at (as_i64 last)
+
 -- an end within the limit
 end-small : (state : LedgerState) (first : ℕ) → ForSome (end_of_state state) (λ end. (first ≤ end) × (end ≤ ENTRY_END))
     → ForSome (end_of_state state) (λ end. end ≤ ENTRY_END)
@@ -49,7 +54,8 @@ state-back id m fragments (Closed (suc n)) within =
     let last : nat_le n MAX_ENTRY_ID ≡ true = le-leb n MAX_ENTRY_ID (omega (arith, fits)) in
     let end : n + 1 ≡ suc n = omega arith in
     let before : suc n - 1 ≡ n = omega arith in
-    ap (λ k. closed_at (if nat_lt k (2 ^ 63) then Some (pos k) else None)) before
+    let more : (suc n == 0) ≡ false = grind (arith, nat_tests) in
+    ap as_closed (ap (λ b. if b then negative (negsuc zero) else unsigned (suc n - 1)) more ∙ ap unsigned before)
     ∙ ap (λ b. closed_at (if b then Some (pos n) else None)) small ∙ ap (λ b. closed_by b n) last ∙ ap Closed end
 
 module _ (names : List (List ℕ)) (apart : IsDistinct bytes_eq names) where

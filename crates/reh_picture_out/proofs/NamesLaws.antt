@@ -1,6 +1,6 @@
 -- Bookies that are written by their names are found again, and their registrations are the same.
-use Rattle.std.proofs.Common.{◌≡◌, ℕ, suc, ◌+◌, ◌<◌, Bool, true, false, List, [], ◌∷◌, map, length, get_or, refl, sym, ap, ◌∙◌, arith, lt-ltb}
-use Rattle.std.specs.Prelude.{nat_lt, unwrap_or, is_none, Option, Some, None, if◌then◌else◌}
+use Rattle.std.proofs.Common.{◌≡◌, ℕ, suc, ◌<◌, Bool, true, false, List, [], ◌∷◌, map, length, get_or, refl, sym, ap, ◌∙◌, arith, lt-ltb, zero-add}
+use Rattle.std.specs.Prelude.{◌&&◌, nat_eq, nat_lt, slice_get, unwrap_or, is_none, Option, Some, None, if◌then◌else◌}
 use Rattle.std.specs.List.{IsDistinct, position_or_len, range_with_len}
 use Rattle.std.specs.Option.{option_map_or}
 use Rattle.std.specs.Str.{bytes_eq}
@@ -17,7 +17,8 @@ use Rattle.reh_fields.specs.Names.{bookie_in}
 use Rattle.reh_picture.specs.Bookies.{names_in, registration_in, registrations_in}
 use Rattle.reh_picture_out.specs.Kept.{lost_at_start}
 use Rattle.reh_picture.specs.Marks.{BookieMarks, bookie_marks}
-use Rattle.reh_picture_out.specs.Marks.{kept_marks}
+use Rattle.reh_model.specs.Contents.{count_held}
+use Rattle.reh_picture_out.specs.Marks.{no_marks, marks_at, kept_marks}
 use Rattle.reh_picture_out.specs.Written.{name_at, bookie_data, bookie_data_at, bookies_data}
 use Rattle.reh_picture_out.proofs.Lists.{read_all, map-map, map-same}
 
@@ -57,7 +58,7 @@ bookie_in-name_at names b apart within =
 pub names-back : (s : Cluster) (marks : List BookieMarks) → names_in (bookies_data s marks) ≡ s.names
 names-back s marks =
     map-map (λ d. text_of d field.Name) (bookie_data_at s marks) (range_with_len 0 (length s.names))
-    ∙ read_all s.names 0 (name_at s.names) [] (λ i within. name_at-there s.names i)
+    ∙ read_all s.names 0 (name_at s.names) [] (λ i within. ap (name_at s.names) (zero-add i) ∙ name_at-there s.names i)
 
 -- a bookie is read as it is written
 up-back : (name : List ℕ) (up : Bool) (marks : BookieMarks) → flag_of (bookie_data name up marks) field.Up ≡ up
@@ -96,7 +97,8 @@ registrations-back s marks each =
     ∙ ap (λ n. map (λ b. registration_in (bookie_data_at s marks b)) (range_with_len 0 n)) (sym each ∙ sym (length-starts s.parts.lost_at))
     ∙ read_all starts 0 (λ b. registration_in (bookie_data_at s marks b)) None (λ i within.
     let there : i < length s.parts.lost_at = omega (arith, within, length-starts s.parts.lost_at) in
-    ap (λ (up : Bool). if up then None else Some 0) (up-back (name_at s.names i) (is_up s i) (kept_marks s marks i))
+    ap (λ b. registration_in (bookie_data_at s marks b)) (zero-add i)
+    ∙ ap (λ (up : Bool). if◌then◌else◌ {A = Option ℕ} up None (Some 0)) (up-back (name_at s.names i) (is_up s i) (kept_marks s marks i))
     ∙ ap (λ (o : Option (Option ℕ)). if option_map_or is_none o false then None else Some 0)
     (slice_get-get_or s.parts.lost_at i None there)
     ∙ registered (get_or s.parts.lost_at i None) ∙ sym (get_or-map lost_at_start s.parts.lost_at i None None there))
@@ -104,3 +106,21 @@ registrations-back s marks each =
     length-starts : (lost : List (Option ℕ)) → length (map lost_at_start lost) ≡ length lost
     length-starts [] = refl
     length-starts (l ∷ lost) = ap suc (length-starts lost)
+
+-- a bookie that is written with the parts that were read of it
+pub bookie-at : (s : Cluster) (all : List BookieMarks) (b : ℕ) (marks : BookieMarks) (name : List ℕ) (up : Bool) (count : ℕ)
+    (is_empty : Bool) → Some marks ≡ slice_get all b → name ≡ name_at s.names b → up ≡ is_up s b
+    → count ≡ count_held s.parts.held b → is_empty ≡ (marks.is_empty && nat_eq count 0)
+    → bookie_data name up (record marks { is_empty = is_empty }) ≡ bookie_data_at s all b
+bookie-at s all b marks name up count is_empty marks_is name_is up_is count_is empty_is =
+    let was : marks ≡ marks_at all b = ap (λ o. unwrap_or o no_marks) marks_is in
+    let stays : is_empty ≡ (kept_marks s all b).is_empty =
+    empty_is ∙ (λ i. (was i).is_empty && nat_eq (count_is i) 0) in
+    λ i. bookie_data (name_is i) (up_is i) (record (was i) { is_empty = stays i })
+
+pub plain-at : (s : Cluster) (all : List BookieMarks) (b : ℕ) (name : List ℕ) (up : Bool) → None ≡ slice_get all b
+    → name ≡ name_at s.names b → up ≡ is_up s b → bookie_data name up no_marks ≡ bookie_data_at s all b
+plain-at s all b name up none name_is up_is =
+    let was : no_marks ≡ marks_at all b = ap (λ o. unwrap_or o no_marks) none in
+    λ i. bookie_data (name_is i) (up_is i)
+    (record (was i) { is_empty = (was i).is_empty && nat_eq (count_held s.parts.held b) 0 })

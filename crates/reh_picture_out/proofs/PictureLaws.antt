@@ -1,7 +1,8 @@
 -- What is written is read as what a picture keeps.
-use Rattle.std.proofs.Common.{◌≡◌, ℕ, zero, suc, ◌≤◌, Bool, true, false, List, map, length, refl, sym, ap, subst, ◌∙◌, arith}
-use Rattle.std.specs.Prelude.{Option, None, Some, Result, Ok, Err, if◌then◌else◌, nat_lt}
+use Rattle.std.proofs.Common.{◌≡◌, ℕ, ◌≤◌, Bool, true, false, List, map, length, refl, sym, ap, subst, ◌∙◌, arith}
+use Rattle.std.specs.Prelude.{◌==◌, Option, None, Some, Result, Ok, Err, if◌then◌else◌, nat_lt}
 use Rattle.std.specs.Option.{ok_or, option_or}
+use Rattle.std.proofs.lemmas.Bool.Decides.{nat_tests}
 use Rattle.std.proofs.lemmas.List.Elements.{All-map, All-same}
 use Rattle.std.specs.Result.{result_map_both}
 use Rattle.std.specs.Str.{is_utf8}
@@ -24,10 +25,10 @@ use Rattle.reh_picture.specs.Contents.{Holding, holding_in}
 use Rattle.reh_picture.specs.Marks.{BookieMarks, bookie_marks}
 use Rattle.reh_picture.specs.Listings.{ListsFields, ListsJson, listing_fault, located_json, located_listing}
 use Rattle.reh_picture.specs.Pictures.{pictured_cluster, picture_of, json_in, names_of, fields_fault, unless_fault, shown_by}
-use Rattle.reh_picture_out.specs.Marks.{has_assumed, KeepsMarksIn}
+use Rattle.reh_picture_out.specs.Marks.{is_told, has_assumed, KeepsMarksIn}
 use Rattle.reh_picture_out.specs.Kept.{lost_at_start, kept_of}
 use Rattle.reh_picture_out.specs.Holdings.{held_by}
-use Rattle.reh_picture_out.specs.Written.{bookies_data, ledgers_data, written_data, picture_data, IsMarked, IsPicture}
+use Rattle.reh_picture_out.specs.Written.{bookies_data, ledgers_data, first_data, delayed_data, written_data, picture_data, IsMarked, IsPicture}
 use Rattle.reh_picture_out.proofs.NamesLaws.{names-back, registrations-back, all-marks-back}
 use Rattle.reh_picture_out.proofs.LedgerLaws.{ledgers-back}
 use Rattle.reh_picture_out.proofs.Depths.{depth-bookies, depth-ledgers, depth-written}
@@ -38,20 +39,33 @@ shown delay grace bookies ledgers contents =
     cluster_of names (registrations_in bookies) grace delay true
     (map (ledger_in names (held_by names contents)) ledgers) (held_by names contents)
 
+abbrev written_by : Bool → ℕ → ℕ → List Data → List Data → List Data → Data
+written_by first delay grace bookies ledgers contents =
+    if first then first_data grace bookies ledgers contents else delayed_data delay grace bookies ledgers contents
+
 -- what the fields of the value name
 shown-written : (delay grace : ℕ) (bookies ledgers contents : List Data)
     → pictured_cluster (written_data delay grace bookies ledgers contents) ≡ shown delay grace bookies ledgers contents
-shown-written zero grace bookies ledgers contents =
-    λ i. shown 0 grace (elements-items_of bookies i) (elements-items_of ledgers i) (elements-items_of contents i)
-shown-written (suc delay) grace bookies ledgers contents =
-    λ i. shown (suc delay) grace (elements-items_of bookies i) (elements-items_of ledgers i) (elements-items_of contents i)
+shown-written delay grace bookies ledgers contents = go (delay == 0) refl
+  where
+    go : (first : Bool) → (delay == 0) ≡ first
+        → pictured_cluster (written_by first delay grace bookies ledgers contents) ≡ shown delay grace bookies ledgers contents
+    go true is =
+        let none : 0 ≡ delay = grind (arith, nat_tests, is) in
+        λ i. shown (none i) grace (elements-items_of bookies i) (elements-items_of ledgers i) (elements-items_of contents i)
+    go false is =
+        λ i. shown delay grace (elements-items_of bookies i) (elements-items_of ledgers i) (elements-items_of contents i)
 
 -- the lists of the value
 listed-written : (delay grace : ℕ) (bookies ledgers contents : List Data)
     → (list_of (written_data delay grace bookies ledgers contents) field.Bookies ≡ bookies)
     × (list_of (written_data delay grace bookies ledgers contents) field.Contents ≡ contents)
-listed-written zero grace bookies ledgers contents = (elements-items_of bookies, elements-items_of contents)
-listed-written (suc delay) grace bookies ledgers contents = (elements-items_of bookies, elements-items_of contents)
+listed-written delay grace bookies ledgers contents = go (delay == 0)
+  where
+    go : (first : Bool) → (list_of (written_by first delay grace bookies ledgers contents) field.Bookies ≡ bookies)
+        × (list_of (written_by first delay grace bookies ledgers contents) field.Contents ≡ contents)
+    go true = (elements-items_of bookies, elements-items_of contents)
+    go false = (elements-items_of bookies, elements-items_of contents)
 
 -- the value shows what is kept of the cluster
 picture-back : (s : Cluster) (marks : List BookieMarks) (told : List Holding) (d : Data) → IsWellFormed s
@@ -131,6 +145,7 @@ marks-kept s began d bytes picture reads none = λ new lists.
     picture.contents in
     let contents : list_of d field.Contents ≡ picture.contents =
     ap (λ d. list_of d field.Contents) picture.data_is ∙ written.1 in
+    let names : names_of d ≡ s.names = ap names_of picture.data_is ∙ ap names_in written.0 ∙ names-back s marks in
     record {
       bookies =
           fields.marks
@@ -138,7 +153,11 @@ marks-kept s began d bytes picture reads none = λ new lists.
           ∙ all-marks-back s marks;
       contents =
           let P = λ (h : Holding). h.is_assumed ≡ has_assumed told h.ledger in
-          All-same P _ _ (sym fields.listing.holdings_are)
+          All-same P _ _ fields.listing.holdings_are
           (All-map P (holding_in (names_of d)) (list_of d field.Contents)
-          (All-same (IsMarked told) _ _ (sym contents) picture.are_contents.marked));
+          (All-same (IsMarked told) _ _ contents picture.are_contents.marked));
+      told = λ b l there was.
+          ap (λ hs. is_told hs b l)
+          (fields.listing.holdings_are ∙ (λ i. map (holding_in (names i)) (contents i)))
+          ∙ picture.are_contents.again b l there was;
     }

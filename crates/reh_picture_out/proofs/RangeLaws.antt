@@ -205,4 +205,6 @@ clear-row words end clear e =
 -- no entry is in no ranges
 pub none-in : (ranges : List (ℕ × ℕ)) (t : Bool) → true ≡ (nat_eq (length ranges) 0 && t) → (e : ℕ) → false ≡ is_in ranges e
 none-in [] t is e = refl
-none-in (r ∷ ranges) t is e = absurd (false≢true (sym is))
+none-in (r ∷ ranges) t is e =
+    let some : nat_eq (suc (length ranges)) 0 ≡ false = grind (arith, nat_tests) in
+    absurd (false≢true (sym (is ∙ ap (λ b. b && t) some)))

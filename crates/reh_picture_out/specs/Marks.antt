@@ -1,5 +1,5 @@
 -- Which marks a picture of a cluster has, after a picture that a rehearsal began with.
-use Rattle.std.specs.Prelude.{◌≡◌, ℕ, All, Bool, false, not, ◌&&◌, nat_eq, List, map, length, None, unwrap_or, slice_get}
+use Rattle.std.specs.Prelude.{◌≡◌, ℕ, All, Bool, true, false, not, ◌&&◌, nat_eq, nat_lt, List, map, length, None, unwrap_or, slice_get}
 use Rattle.std.specs.List.{list_any, range_with_len}
 use Rattle.reh_model.specs.Contents.{count_held}
 use Rattle.reh_model.specs.Cluster.{Cluster}
@@ -39,12 +39,18 @@ has_assumed told ledger = list_any (λ h. h.is_assumed && nat_eq h.ledger ledger
 
 -- Pictures
 
+-- whether the cluster has such a bookie and such a ledger
+abbrev pub is_there : Cluster → ℕ → ℕ → Bool
+is_there s bookie ledger = nat_lt bookie (length s.names) && list_any (λ g. nat_eq g.id ledger) s.parts.ledgers
+
 -- The new picture has the marks of the old one's bookies that stay, and all contents of a ledger are assumed where one of
--- them was.
+-- them was. Where the old one had a content, it has one.
 pub record KeepsMarks (s : Cluster) (old new : Listed) : Type 0 where
   pub bookies : new.marks.items ≡ map (kept_marks s old.marks.items) (range_with_len 0 (length s.names))
   pub contents :
       All (λ h. h.is_assumed ≡ has_assumed old.listing.holdings.items h.ledger) new.listing.holdings.items
+  pub told : (b l : ℕ) → is_there s b l ≡ true → is_told old.listing.holdings.items b l ≡ true
+      → is_told new.listing.holdings.items b l ≡ true
 
 -- whatever these bytes list as a picture
 abbrev pub KeepsMarksIn : Cluster → Listed → List ℕ → Type 0

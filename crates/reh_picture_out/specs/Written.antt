@@ -1,5 +1,5 @@
 -- The JSON that is written of a cluster.
-use Rattle.std.specs.Prelude.{◌≡◌, ℕ, zero, ◌-◌, ◌≤◌, ◌==◌, negsuc, Bool, if◌then◌else◌, List, [], map, codes, length}
+use Rattle.std.specs.Prelude.{◌≡◌, ℕ, zero, ◌-◌, ◌≤◌, ◌==◌, negsuc, Bool, true, if◌then◌else◌, List, [], map, codes, length}
 use Rattle.std.specs.Prelude.{All, Option, None, Some, unwrap_or, slice_get}
 use Rattle.std.specs.List.{range_with_len}
 use Rattle.serde_json.specs.Data.{Num, unsigned, negative, Data, boolean, number, string, array, object, Items, no_items}
@@ -7,14 +7,13 @@ use Rattle.serde_json.specs.Data.{item, Members, member, no_members, items_depth
 use Rattle.serde_json.specs.View.{items_of}
 use Rattle.reh_types.specs.declared.names.LedgerState.{LedgerState}
 use Rattle.reh_types.specs.declared.names.LedgerState.TheVariants.{Open, InRecovery, Closed}
-use Rattle.reh_model.specs.Contents.{Contents}
 use Rattle.reh_model.specs.Metadata.{Metadata, Fragment}
 use Rattle.reh_model.specs.Cluster.{Cluster, Ledger, is_up}
 use Rattle.reh_fields.specs.declared.fields.Field.TheVariants as field
 use Rattle.reh_fields.specs.Members.{mark_of, number_of}
 use Rattle.reh_picture.specs.Contents.{Holding, holding_in, held_in}
 use Rattle.reh_picture.specs.Marks.{BookieMarks}
-use Rattle.reh_picture_out.specs.Marks.{kept_marks, has_assumed}
+use Rattle.reh_picture_out.specs.Marks.{kept_marks, is_told, has_assumed, is_there}
 
 -- Bookies
 
@@ -110,9 +109,11 @@ content_data assumed name ledger ranges =
 abbrev pub IsMarked : List Holding → Data → Type 0
 IsMarked told d = mark_of d field.Assumed ≡ has_assumed told (number_of d field.Ledger)
 
--- These contents, read, are what is held, and have the marks that stay.
-pub record AreContents (names : List (List ℕ)) (held : Contents) (told : List Holding) (contents : List Data) : Type 0 where
-  pub held_are : held_in (map (holding_in names) contents) ≡ held
+-- These contents, read, are what a cluster's bookies hold, and have the marks that stay; there is one for what was told.
+pub record AreContents (s : Cluster) (told : List Holding) (contents : List Data) : Type 0 where
+  pub held_are : held_in (map (holding_in s.names) contents) ≡ s.parts.held
+  pub again : (b l : ℕ) → is_there s b l ≡ true → is_told told b l ≡ true
+      → is_told (map (holding_in s.names) contents) b l ≡ true
   pub marked : All (IsMarked told) contents
   pub flat : items_depth (items_of contents) ≤ 3
 
@@ -153,4 +154,4 @@ picture_data s marks contents =
 pub record IsPicture (s : Cluster) (marks : List BookieMarks) (told : List Holding) (d : Data) : Type 0 where
   pub contents : List Data
   pub data_is : d ≡ picture_data s marks contents
-  pub are_contents : AreContents s.names s.parts.held told contents
+  pub are_contents : AreContents s told contents

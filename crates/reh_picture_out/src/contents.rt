@@ -135,7 +135,7 @@ pub(crate) fn content_values(
     told: &[Holding],
 ) -> Result<Vec<Value>, PictureFault>
     ensures { IfOk result
-        (λ values. AreContents state.now.names state.now.parts.held told.now (map view values.items)) }
+        (λ values. AreContents state.now told.now (map view values.items)) }
 {
     let mut contents = Vec::new(alloc);
     let mut room = MAX_RANGES;

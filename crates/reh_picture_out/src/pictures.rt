@@ -41,9 +41,11 @@ pub fn picture_text(alloc: Global, state: &State, began: &Listed) -> Result<Stri
 fn picture_value(alloc: Global, state: &State, began: &Listed) -> Result<Value, PictureFault>
     ensures { IfOk result (λ v. IsPicture state.now began.now.marks.items began.now.listing.holdings.items (view v)) }
 {
-    let bookies = bookie_values(alloc, state, &began.marks)?;
+    let marks = began.marks.as_slice();
+    let bookies = bookie_values(alloc, state, marks)?;
     let ledgers = ledger_values(alloc, state.names(), state.ledgers())?;
-    let contents = content_values(alloc, state, &began.listing.holdings)?;
+    let told = began.listing.holdings.as_slice();
+    let contents = content_values(alloc, state, told)?;
     let value = written_value(
         alloc,
         state.delay(),

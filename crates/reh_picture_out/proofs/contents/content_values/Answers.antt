@@ -1,5 +1,5 @@
 -- One ledger more, and all of them.
-use Rattle.std.proofs.Common.{◌+◌, [], length, take}
+use Rattle.std.proofs.Common.{◌+◌, length, take}
 use Rattle.reh_picture_out.proofs.HoldingLaws.{Adds-then, among-next, is_among, is_below, ledger-end}
 use Rattle.reh_picture_out.proofs.HoldingLaws.{lies-within, contents-all}
 use Rattle.reh_picture_out.proofs.contents.content_values.Goals as goal
@@ -22,7 +22,7 @@ loop-ledger-preserved c =
     let g = c.ledger-item.result in
     Adds-then c.args.state.now.names c.args.state.now.parts.held c.args.told.now
     (is_among bookies (take i ledgers)) (is_below bookies g.id) (is_among bookies (take (i + 1) ledgers)) _ _ _
-    c.loop-ledger.invariant c.in_ok-push_contents.ensures
+    c.loop-ledger.invariant c.in_ok-room.ensures
     (among-next bookies ledgers i g c.loop-ledger-test.true c.ledger-item.is)
 
 pub returns : goal.returns

@@ -1,5 +1,4 @@
 -- The ranges so far, with the one that is open, have the entries so far.
-use Rattle.std.proofs.Common.{◌≡◌, ◌<◌, ◌&&◌}
 use Rattle.reh_held.specs.Rows.{is_set}
 use Rattle.reh_picture_out.specs.Ranges.{IsPassing}
 use Rattle.reh_picture_out.proofs.ranges.ranges_of.Given as goal
