@@ -1,5 +1,6 @@
 // Runs that write the picture of the state at their end.
 ghost use Rattle.std.specs.Prelude.{◌≡◌, Ok, false, length, string_bytes, IfOk};
+ghost use Rattle.reh_model.specs.Session.{state_of};
 ghost use Rattle.reh_picture.specs.Pictures.{picture_of};
 ghost use Rattle.reh_picture_out.specs.Kept.{kept_of};
 ghost use Rattle.reh_picture_out.specs.Marks.{KeepsMarksIn};
@@ -29,18 +30,26 @@ pub(crate) fn run_out<R: Threads + Wait + Sync>(
     words: &PlayOut<'_>,
 ) -> Result<(), RunFault> {
     let bytes = read_picture(rt, words.picture).map_err(RunFault::without_reason)?;
-    let mut rehearsal = open_picture(rt.alloc(), &bytes)?;
+    let mut rehearsal = open_rehearsal(rt.alloc(), &bytes)?;
     let began = list_picture(rt.alloc(), &bytes)?;
     let mut writer = Gathered::new(rt.alloc(), ToWrite::new(io::writer(rt)))?;
     let played = play_file(rt, threads, words, &mut rehearsal, &mut writer);
     let flushed = writer.flush();
     after_flush(played, flushed)?;
-    let state = rehearsal.book.whole().unwrap();
+    let state = state_at_end(&rehearsal);
     let text = text_of(rt.alloc(), words.out, state, &began)?;
     write_whole(rt, words.out, text.as_str())?;
     say_unshown(rt, words.out, Unshown::of(state));
     say_marks(rt, words, state, &began);
     Ok(())
+}
+
+/// Opens a book on a picture. No ticket is out.
+fn open_rehearsal(alloc: Global, bytes: &[u8]) -> Result<Opened, RunFault>
+    ensures { IfOk result (λ rehearsal. length rehearsal.book.book.out ≡ rehearsal.seat.out) }
+{
+    let rehearsal = open_picture(alloc, bytes)?;
+    Ok(rehearsal)
 }
 
 /// Plays a script file at the book of a picture. The script is opened at its first read.
@@ -55,10 +64,27 @@ fn play_file<R: Threads + Wait + Sync, W: TextOut>(
     requires writes { W.has_failed writer.old ≡ false }
 {
     let mut script = LateFile::new(rt, words.script);
-    let played = play_by(threads, rt.alloc(), words.crew, rehearsal, &mut script, writer);
+    let played = play_by(
+        threads,
+        rt.alloc(),
+        words.crew,
+        rehearsal,
+        &mut script,
+        writer,
+    );
     match script.into_unopened() {
         Some(fault) => Err(fault.without_reason()),
         None => Ok(played.map_err(PipeFault::from)?),
+    }
+}
+
+/// The state of the book of a rehearsal, which always shows it.
+fn state_at_end(rehearsal: &Opened) -> &State
+    ensures { result.now ≡ state_of rehearsal.now.book.book.session }
+{
+    match rehearsal.book.whole() {
+        Some(state) => state,
+        None => unreachable!(),
     }
 }
 
