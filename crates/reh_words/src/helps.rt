@@ -3,7 +3,7 @@
 /// What stands after a command's words in help: a note, uses that can be tried in the folder of the documents, and the
 /// statuses. Each command may end with those that aren't given here.
 macro_rules! after {
-    ($note:literal, uses: [$($use:literal),+], zero: $zero:literal, words: $words:literal, read: $read:literal, more: [$($more:literal),*]) => {
+    ($note:literal, uses: [$($use:literal),+], zero: $zero:literal, words: $words:literal, read: $read:literal, write: $write:literal, more: [$($more:literal),*]) => {
         concat!(
             $note,
             "Examples:\n",
@@ -13,7 +13,7 @@ macro_rules! after {
             "  2  ", $words, "\n",
             "  3  what a file holds is refused\n",
             "  4  ", $read, "\n",
-            "  5  an answer can't be written\n",
+            "  5  ", $write, "\n",
             "  6  there is no memory\n",
             $("  ", $more, "\n",)*
         )
@@ -39,6 +39,7 @@ A script has a command a line. For example:
     zero: "all lines are answered, even if refused",
     words: "the words of the command line are wrong",
     read: "a file can't be read, or a script is longer than 1 MiB",
+    write: "an answer can't be written",
     more: []
 );
 
@@ -54,6 +55,7 @@ pub(crate) const RUN: &str = after!(
     zero: "all lines are answered, even if refused",
     words: "the words of the command line are wrong",
     read: "a file can't be read, or a script is longer than 1 MiB",
+    write: "an answer or the picture of the end can't be written",
     more: ["7  a worker can't be started"]
 );
 
@@ -69,6 +71,7 @@ pub(crate) const TALK: &str = after!(
     zero: "all lines are answered, even if refused",
     words: "the words of the command line are wrong",
     read: "a file can't be read, or a script is longer than 1 MiB",
+    write: "an answer can't be written",
     more: []
 );
 
@@ -82,6 +85,7 @@ pub(crate) const CHECK: &str = after!(
     zero: "the picture or the inventory is accepted, and no line of the script is faulty",
     words: "the words of the command line are wrong",
     read: "a file can't be read, or a script is longer than 1 MiB",
+    write: "an answer can't be written",
     more: []
 );
 
@@ -97,6 +101,7 @@ pub(crate) const DRILL: &str = after!(
     zero: "all lines are answered, even if refused",
     words: "the words of the command line are wrong",
     read: "a file can't be read, or a script is longer than 1 MiB",
+    write: "an answer can't be written",
     more: ["7  an operator can't be started, or the drill's tape can't be closed"]
 );
 
@@ -120,6 +125,7 @@ How an answer reads:
     zero: "the answer is yes",
     words: "the words of the command line are wrong, or name a bookie or rack that is unknown, or one twice",
     read: "a file can't be read",
+    write: "an answer can't be written",
     more: ["8  the answer is no", "9  the answer is unknown"]
 );
 
@@ -132,6 +138,7 @@ pub(crate) const WAVES: &str = after!(
     zero: "the answer is printed",
     words: "the words of the command line are wrong",
     read: "a file can't be read",
+    write: "an answer can't be written",
     more: []
 );
 
@@ -144,6 +151,7 @@ pub(crate) const RISK: &str = after!(
     zero: "the answer is printed",
     words: "the words of the command line are wrong",
     read: "a file can't be read",
+    write: "an answer can't be written",
     more: []
 );
 
@@ -159,6 +167,7 @@ pub(crate) const CENSUS: &str = after!(
     zero: "the answer is printed",
     words: "the words of the command line are wrong",
     read: "a file can't be read",
+    write: "an answer can't be written",
     more: []
 );
 
@@ -187,6 +196,7 @@ pub(crate) const PLAN: &str = after!(
     zero: "the answer is printed",
     words: "the words of the command line are wrong, or name a bookie or rack that is unknown, or one twice",
     read: "a file can't be read, or a script is longer than 1 MiB",
+    write: "an answer can't be written",
     more: []
 );
 

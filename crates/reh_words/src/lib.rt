@@ -8,6 +8,6 @@ mod tasks;
 
 pub use styles::Style;
 pub use tasks::{
-    CensusWords, Crew, CutWords, DrillFiles, HelpTopic, Inputs, MAX_FILES, PlanWords, PlayWords,
-    Request, RiskWords, StopWords, Task, WaveWords, request_of,
+    CensusWords, Crew, CutWords, DrillFiles, HelpTopic, Inputs, MAX_FILES, PlanWords, PlayOut,
+    PlayWords, Request, RiskWords, StopWords, Task, WaveWords, request_of,
 };

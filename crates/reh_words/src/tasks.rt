@@ -27,6 +27,8 @@ pub struct Request<'a> {
 pub enum Task<'a> {
     /// Plays a script on a picture.
     Play(PlayWords<'a>),
+    /// Plays a script on a picture, and writes a picture of the end.
+    PlayOut(PlayOut<'a>),
     /// Checks the picture in a file, or a script on it.
     Check {
         picture: &'a str,
@@ -87,6 +89,15 @@ pub enum PlayWords<'a> {
         script: &'a str,
         crew: Crew,
     },
+}
+
+/// Where a picture and a script are, each in a file; who makes the surveys; and the file for the picture of the end.
+#[derive(Clone, Copy)]
+pub struct PlayOut<'a> {
+    pub picture: &'a str,
+    pub script: &'a str,
+    pub crew: Crew,
+    pub out: &'a str,
 }
 
 /// How many workers make each survey of a run, from 1 to 8.
@@ -226,11 +237,19 @@ fn asked_of_picture<'a>(
         }
         ("run", Some(script)) if 0 < workers && workers <= MAX_WORKERS => {
             let crew = Crew { workers };
-            Task::Play(PlayWords::Files {
-                picture,
-                script,
-                crew,
-            })
+            match given.get_str("picture-out") {
+                Some(out) => Task::PlayOut(PlayOut {
+                    picture,
+                    script,
+                    crew,
+                    out,
+                }),
+                None => Task::Play(PlayWords::Files {
+                    picture,
+                    script,
+                    crew,
+                }),
+            }
         }
         // The parser asks for a script, and lets no other number of scripts or workers through.
         _ => return Ok(None),
@@ -299,7 +318,7 @@ fn all_ways(alloc: Global) -> Result<String, AllocError> {
     Ok(ways)
 }
 
-/// The command line: no word, `run PICTURE SCRIPT --workers N`, `talk PICTURE`, `check PICTURE SCRIPT`,
+/// The command line: no word, `run PICTURE SCRIPT --workers N --picture-out FILE`, `talk PICTURE`, `check PICTURE SCRIPT`,
 /// `drill PICTURE SCRIPT..`, `ok-to-stop --lose BOOKIE,.. FILE..`, `waves FILE..`, `risk FILE..`, `census FILE..`,
 /// `cut --ledgers ID,.. INVENTORY`, `plan --lose BOOKIE,.. --to BOOKIE,.. PICTURE`, or `help TOPIC`.
 fn command<'a>(alloc: Global, ways: &'a str) -> Result<Command<'a>, Error> {
@@ -331,12 +350,17 @@ fn run_command<'a>(alloc: Global) -> Result<Command<'a>, Error> {
     let workers = workers_arg(alloc)?.help(
         "How many workers make each survey, 1 to 8; by default 1",
     );
+    let picture_out = Arg::new(alloc, "picture-out")
+        .long("picture-out")
+        .value_name("FILE")
+        .help("A file for the picture of the state at the end");
     let command = Command::new(alloc, "run")
         .about("Plays a script on a picture, each in a file")
         .after_help(helps::RUN)
         .arg(picture_arg(alloc))?
         .arg(script)?
-        .arg(workers)?;
+        .arg(workers)?
+        .arg(picture_out)?;
     Ok(command)
 }
 

@@ -16,7 +16,7 @@ use Rattle.reh_script.specs.declared.faults.PipeFault.TheVariants as pipe_fault
 use Rattle.rehearse.specs.declared.faults.RunFault.{RunFault}
 use Rattle.reh_lines.specs.declared.streams.StreamFault.{StreamFault}
 use Rattle.rehearse.specs.declared.faults.RunFault.TheVariants.{Picture, ReadFault, TooLong, WriteFault, NoMemory}
-use Rattle.rehearse.specs.declared.faults.RunFault.TheVariants.{NoThread, Refused, Unfit, Misnamed, Unread, Close}
+use Rattle.rehearse.specs.declared.faults.RunFault.TheVariants.{NoThread, Refused, Unfit, Misnamed, Unread, Unwritten, Close}
 
 -- how a run ends once its answers were flushed: a failed flush is a write fault where answers were lost, and any
 -- other fault stays
@@ -37,6 +37,7 @@ status_number (Unread reason) = 4
 status_number ReadFault = 4
 status_number TooLong = 4
 status_number WriteFault = 5
+status_number (Unwritten reason) = 5
 status_number NoMemory = 6
 status_number NoThread = 7
 status_number (Close cause) = 7
@@ -63,6 +64,7 @@ run_fault_text (Unread reason) = string_bytes reason
 run_fault_text ReadFault = codes "read fault"
 run_fault_text TooLong = codes "script too long"
 run_fault_text WriteFault = codes "write fault"
+run_fault_text (Unwritten reason) = string_bytes reason
 run_fault_text NoMemory = codes "no memory"
 run_fault_text NoThread = codes "no thread"
 run_fault_text (Close cause) = codes "close: " ++ cause_text cause

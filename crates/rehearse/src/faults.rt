@@ -30,6 +30,8 @@ pub enum RunFault {
     TooLong,
     /// A write failed, or took no byte.
     WriteFault,
+    /// The picture of the state at the end can't be written, for the reason that this says.
+    Unwritten(String),
     /// There is no memory.
     NoMemory,
     /// There is no thread for a survey, or for an operator.
@@ -58,7 +60,7 @@ pub fn status_of(fault: &RunFault) -> u8
         RunFault::Misnamed(_) => 2,
         RunFault::Picture(_) | RunFault::Refused(..) | RunFault::Unfit(_) => 3,
         RunFault::Unread(_) | RunFault::ReadFault | RunFault::TooLong => 4,
-        RunFault::WriteFault => 5,
+        RunFault::WriteFault | RunFault::Unwritten(_) => 5,
         RunFault::NoMemory => 6,
         RunFault::Close(_) | RunFault::NoThread => 7,
     }
@@ -81,6 +83,7 @@ impl fmt::Display for RunFault {
             RunFault::ReadFault => write!(f, "read fault"),
             RunFault::TooLong => write!(f, "script too long"),
             RunFault::WriteFault => write!(f, "write fault"),
+            RunFault::Unwritten(reason) => write!(f, "{reason}"),
             RunFault::NoMemory => write!(f, "no memory"),
             RunFault::NoThread => write!(f, "no thread"),
             RunFault::Close(CloseCause::Seats) => write!(f, "close: 1 Seats"),

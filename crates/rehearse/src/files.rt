@@ -176,6 +176,17 @@ pub(crate) fn unread(alloc: Global, failed: &str, path: &str, error: io::Error) 
     }
 }
 
+/// That a file can't be written, or out of memory.
+pub(crate) fn unwritten(alloc: Global, path: &str, error: io::Error) -> RunFault {
+    match RunFault::from(error) {
+        RunFault::NoMemory => RunFault::NoMemory,
+        _ => match unread_text(alloc, "write", path, error) {
+            Ok(text) => RunFault::Unwritten(text),
+            Err(want) => RunFault::from(want),
+        },
+    }
+}
+
 /// What could not be done with a file, and the system's reason.
 fn unread_text(
     alloc: Global,

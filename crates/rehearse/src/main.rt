@@ -15,6 +15,7 @@ mod inputs;
 mod inventories;
 mod looks;
 mod names;
+mod outs;
 mod plans;
 mod progress;
 mod prompts;
@@ -31,6 +32,7 @@ use files::{LateFile, open_file, read_picture, read_scripts};
 use helps::help_on;
 use inputs::census_over;
 use looks::{Looks, say_fault};
+use outs::run_out;
 use plans::plan_file;
 use prompts::{Typed, tell_input};
 use reh_crew::{OpenGate, Plain};
@@ -69,6 +71,7 @@ fn perform<R: Threads + Wait + Sync + Copy + Send + 'static>(
     let looks = Looks::of(rt, request.style);
     let done = match request.task {
         Task::Play(input) => play(rt, threads, looks, input),
+        Task::PlayOut(words) => run_out(rt, threads, &words),
         Task::Check {
             picture,
             script: None,

@@ -1,13 +1,15 @@
 // Runs whose surveys may be made by several workers.
-ghost use Rattle.std.specs.Prelude.{◌≡◌, ◌⊎◌, false, IfOk, OnOk};
+ghost use Rattle.std.specs.Prelude.{◌≡◌, ◌⊎◌, false, length, IfOk, OnOk};
 ghost use Rattle.reh_model.specs.Survey as model;
 ghost use Rattle.reh_crew.specs.Surveys.{FindsSurvey};
+ghost use Rattle.reh_play.specs.Plays.{is_write_fault};
+ghost use Rattle.reh_script.specs.BookPlays.{Transcribes};
 ghost use Rattle.reh_script.specs.Pipes.{loses_output};
 ghost use Rattle.reh_script.specs.Runs.{Runs, RunsOut};
 
 use reh_cluster::State;
 use reh_crew::{BySurvey, OpenGate, Plain, SurveyFault, SurveyLine, Threads};
-use reh_script::{PipeFault, TextIn, TextOut, run};
+use reh_script::{Opened, PipeFault, PlayFault, TextIn, TextOut, play_book, run};
 use reh_words::Crew;
 use std::alloc::Global;
 use std::sync::Wait;
@@ -42,6 +44,34 @@ pub(crate) fn run_by<T: thread::Threads + Wait + Sync, P: TextIn, R: TextIn, W: 
         ensures { FindsSurvey state.now result }
     { survey_by(rt, alloc, crew, state) };
     run(alloc, &BySurvey { call }, picture, script, writer)
+}
+
+/// Reads a script, and writes the transcript of it at the book of a picture, which it leaves where the script ends.
+pub(crate) fn play_by<T: thread::Threads + Wait + Sync, R: TextIn, W: TextOut>(
+    rt: &T,
+    alloc: Global,
+    crew: Crew,
+    rehearsal: &mut Opened,
+    script: &mut R,
+    writer: &mut W,
+) -> Result<(), PlayFault>
+    requires out { length rehearsal.old.book.book.out ≡ rehearsal.old.seat.out }
+    requires script { R.has_failed script.old ≡ false }
+    requires writes { W.has_failed writer.old ≡ false }
+    ensures transcribes { Transcribes rehearsal.old.names rehearsal.old.seat.number result
+        (R.has_failed script.new) (R.remaining script.old) (R.remaining script.new)
+        rehearsal.old.book.book rehearsal.new.book.book (W.contents writer.old) (W.contents writer.new) }
+    ensures seen { OnOk result (W.seen writer.new ≡ W.contents writer.new) }
+    ensures write { W.has_failed writer.new ≡ is_write_fault result }
+{
+    let Opened { book, seat, names } = rehearsal;
+    if crew.workers == 1 {
+        return play_book(alloc, book, seat, names, &Plain, script, writer);
+    }
+    let call = |alloc: Global, state: &State| -> Result<Vec<SurveyLine>, SurveyFault>
+        ensures { FindsSurvey state.now result }
+    { survey_by(rt, alloc, crew, state) };
+    play_book(alloc, book, seat, names, &BySurvey { call }, script, writer)
 }
 
 /// The survey of a state by the workers of a crew.
