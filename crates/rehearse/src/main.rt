@@ -71,7 +71,7 @@ fn perform<R: Threads + Wait + Sync + Copy + Send + 'static>(
     let looks = Looks::of(rt, request.style);
     let done = match request.task {
         Task::Play(input) => play(rt, threads, looks, input),
-        Task::PlayOut(words) => run_out(rt, threads, &words),
+        Task::PlayOut(words) => run_out(rt, threads, looks, &words),
         Task::Check {
             picture,
             script: None,

@@ -5,8 +5,10 @@ ghost use Rattle.reh_picture.specs.Pictures.{picture_of};
 ghost use Rattle.reh_picture_out.specs.Kept.{kept_of};
 ghost use Rattle.reh_picture_out.specs.Marks.{KeepsMarksIn};
 
+use crate::colors::Colored;
 use crate::faults::{RunFault, after_flush};
 use crate::files::{LateFile, read_picture, unwritten};
+use crate::looks::Looks;
 use crate::runs::play_by;
 use reh_cluster::State;
 use reh_picture::{Holding, Listed, PictureFault, list_picture};
@@ -27,20 +29,24 @@ use std::{fs, io};
 pub(crate) fn run_out<R: Threads + Wait + Sync>(
     rt: &HostRuntime,
     threads: &R,
+    looks: Looks,
     words: &PlayOut<'_>,
 ) -> Result<(), RunFault> {
     let bytes = read_picture(rt, words.picture).map_err(RunFault::without_reason)?;
     let mut rehearsal = open_rehearsal(rt.alloc(), &bytes)?;
     let began = list_picture(rt.alloc(), &bytes)?;
-    let mut writer = Gathered::new(rt.alloc(), ToWrite::new(io::writer(rt)))?;
+    let gathered = Gathered::new(rt.alloc(), ToWrite::new(io::writer(rt)))?;
+    let mut writer = Colored::new(rt.alloc(), gathered, looks.colors_answers);
     let played = play_file(rt, threads, words, &mut rehearsal, &mut writer);
     let flushed = writer.flush();
     after_flush(played, flushed)?;
     let state = state_at_end(&rehearsal);
     let text = text_of(rt.alloc(), words.out, state, &began)?;
     write_whole(rt, words.out, text.as_str())?;
-    say_unshown(rt, words.out, Unshown::of(state));
-    say_marks(rt, words, state, &began);
+    if !looks.is_quiet {
+        say_unshown(rt, words.out, Unshown::of(state));
+        say_marks(rt, words, state, &began);
+    }
     Ok(())
 }
 
