@@ -150,7 +150,7 @@ pub(crate) const CUT: &str = after!(
 ",
     uses: [
         "cut --ledgers 7 examples/cluster.jsonl",
-        "cut --ledgers 7,8 --assume-held examples/cluster.jsonl"
+        "cut --ledgers 7,9 --assume-held examples/cluster.jsonl"
     ],
     zero: "the picture is printed",
     words: "the words of the command line are wrong",
