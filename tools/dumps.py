@@ -166,8 +166,8 @@ class Holding(NamedTuple):
 
 Range = Tuple[int, int]
 Bookies = Dict[str, Shown]
-# What is called with each line of a log that is passed over. Without it, none is.
-Passed = Optional[Callable[[Line], None]]
+# What is called with each line of a log that is passed over.
+Passed = Callable[[Line], None]
 
 
 def unknown(line: Line, what: str) -> NoReturn:
@@ -228,11 +228,11 @@ def open_dump(file: str) -> Dump:
 def data_lines(dump: Dump, data: Pattern[str], passed: Passed) -> Iterator[Line]:
     """Yields the lines of a dump that have data, which begin so, and those that nothing is known of.
 
-    Lines of a log without data are passed over, with an exception's lines after them, if `passed` is to be told of them.
+    Lines of a log without data are passed over, with an exception's lines after them.
     """
     is_after = False
     for line in dump.lines():
-        if passed is None or data.match(line.text):
+        if data.match(line.text):
             is_after = line.is_logged
             yield line
         elif line.is_logged or CHATTER.match(line.text) or is_after and STACK.match(line.text):
@@ -566,7 +566,7 @@ def read_holdings(
     lines = list(data_lines(open_dump(file), data, passed))
     entries = entries_of(lines, named) if lines else {}
     place = lines[0].place if lines else f"{file}:1"
-    if passed and named is not None and not lines:
+    if named is not None and not lines:
         return [Holding(bookie, named, frozenset(), frozenset(), place)]
     if not entries:
         raise Fault(f"{place}: no entry of any ledger stands here: name the ledger, as BOOKIE/LEDGER=FILE")
@@ -675,26 +675,13 @@ def members_of(ledger: Ledger) -> Set[str]:
     return {name for _, members in ledger.metadata.fragments for name in members}
 
 
-def put(ranges: List[Range], first: int, last: int) -> None:
-    """Adds entries past those that are there, if there are some from the first to the last."""
-    if first > last:
-        return
-    if ranges and ranges[-1][1] + 1 == first:
-        first = ranges.pop()[0]
-    ranges.append((first, last))
-
-
 def ranges_of(entries: Iterable[int]) -> List[Range]:
     """Returns entries as ranges."""
     ranges: List[Range] = []
     for entry in sorted(entries):
-        put(ranges, entry, entry)
+        first = ranges.pop()[0] if ranges and ranges[-1][1] + 1 == entry else entry
+        ranges.append((first, entry))
     return ranges
-
-
-def names_of(names: Iterable[str]) -> str:
-    """Returns names in their order, as a note has them."""
-    return " ".join(sorted(names, key=by_name))
 
 
 def compact(value: Any) -> str:
