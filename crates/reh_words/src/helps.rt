@@ -107,7 +107,7 @@ pub(crate) const DRILL: &str = after!(
 
 /// Of `ok-to-stop`.
 pub(crate) const STOP: &str = after!(
-    "A FILE shows a cluster: rehearse-inventory or rehearse-picture makes it. Bookies go by their names there.
+    "A FILE shows a cluster: rehearse-inventory makes it. Bookies go by their names there.
 
 How an answer reads:
 
@@ -131,7 +131,7 @@ How an answer reads:
 
 /// Of `waves`.
 pub(crate) const WAVES: &str = after!(
-    "A FILE shows a cluster: rehearse-inventory or rehearse-picture makes it.
+    "A FILE shows a cluster: rehearse-inventory makes it.
 
 ",
     uses: ["waves examples/racks.json", "waves --racks examples/racks.json"],
@@ -144,7 +144,7 @@ pub(crate) const WAVES: &str = after!(
 
 /// Of `risk`.
 pub(crate) const RISK: &str = after!(
-    "A FILE shows a cluster: rehearse-inventory or rehearse-picture makes it.
+    "A FILE shows a cluster: rehearse-inventory makes it.
 
 ",
     uses: ["risk examples/cluster.json", "risk --pairs examples/racks.json"],
@@ -157,7 +157,7 @@ pub(crate) const RISK: &str = after!(
 
 /// Of `census`.
 pub(crate) const CENSUS: &str = after!(
-    "A FILE shows a cluster: rehearse-inventory or rehearse-picture makes it.
+    "A FILE shows a cluster: rehearse-inventory makes it.
 
 ",
     uses: [

@@ -595,5 +595,5 @@ fn workers_arg<'a>(alloc: Global) -> Result<Arg<'a>, Error> {
 fn picture_arg<'a>(alloc: Global) -> Arg<'a> {
     Arg::new(alloc, "PICTURE")
         .required(true)
-        .help("A file with the picture, as rehearse-picture makes it")
+        .help("A file with the picture, as rehearse cut prints it")
 }
