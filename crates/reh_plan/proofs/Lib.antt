@@ -4,3 +4,5 @@ pub mod NamedLaws
 pub mod ReplyLaws
 pub mod Planned
 pub mod NamesLaws
+pub mod FilledLaws
+pub mod SummaryLaws

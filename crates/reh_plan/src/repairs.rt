@@ -1,8 +1,6 @@
 // What is done for one ledger, as AutoRecovery does it: its lock, the recovery of an open one, and the places of missing
 // members.
-ghost use Rattle.std.specs.Prelude.{◌≡◌, IfOk, IfSome, true};
-ghost use Rattle.reh_types.specs.Sets as set;
-ghost use Rattle.reh_types.specs.Sets.{Set, numbers};
+ghost use Rattle.std.specs.Prelude.{◌≡◌, ℕ, Bool, IfOk, IfSome, true};
 ghost use Rattle.reh_plan.specs.Plans.{Works};
 ghost use Rattle.reh_plan.specs.Workers.{can_work};
 
@@ -95,7 +93,7 @@ impl Repair {
         fragment: usize,
     ) -> Result<BookieIx, StepFault>
         ensures works { Works workers.now plan.old plan.new }
-        ensures worker { IfOk result (λ worker. set.contains workers.now worker ≡ true) }
+        ensures worker { IfOk result (λ worker. workers.now worker ≡ true) }
     {
         let Some(worker) = self.worker(plan.state(), workers, fragment) else {
             let fragment = fragment as u64;
@@ -209,7 +207,7 @@ impl Repair {
 
     /// Ends the task, if that can be done, or else gives the lock back.
     fn end(&self, plan: &mut Plan) -> Result<(), StepFault>
-        ensures { (allowed : Set numbers) → Works allowed plan.old plan.new }
+        ensures { (may : ℕ → Bool) → Works may plan.old plan.new }
     {
         let Some(worker) = self.owner(plan.state()) else {
             return Ok(());

@@ -1,7 +1,7 @@
 // Who takes the places of missing members.
 ghost use Rattle.std.specs.Prelude.{◌≡◌, true, not, ◌&&◌, IfOk, IfSome};
 ghost use Rattle.reh_types.specs.Sets as set;
-ghost use Rattle.reh_plan.specs.Workers.{can_work};
+ghost use Rattle.reh_plan.specs.Workers.{can_work, may_work};
 
 use reh_cluster::{Ledger, State};
 use reh_meta::Fragment;
@@ -9,31 +9,35 @@ use reh_types::{BookieIx, BookieSet, MAX_BOOKIES};
 use std::alloc::{AllocError, Global};
 use std::marker::Model;
 
-/// The bookies that may take places, and how much each bookie holds. Contracts see the former.
+/// The bookies that may take places, which are those that are allowed to and can be written to, and how much each bookie
+/// holds. Contracts see whether a bookie is one of the former.
 #[derive(Drop)]
 pub(crate) struct Workers {
     allowed: BookieSet,
+    read_only: BookieSet,
     /// How many entries each of the bookies that there can be holds: those of the picture, and about as many as it has
     /// copied since.
     loads: Vec<u64>,
 }
 
 impl Model for Workers {
-    ghost use Rattle.reh_types.specs.Sets.{Set, numbers};
+    ghost use Rattle.std.specs.Prelude.{ℕ, Bool};
+    ghost use Rattle.reh_plan.specs.Workers.{may_work};
 
-    ghost Value = { Set numbers };
+    ghost Value = { ℕ → Bool };
 
-    ghost view = { λ workers. workers.allowed };
+    ghost view = { λ workers. may_work workers.allowed workers.read_only };
 }
 
 impl Workers {
-    /// With what the bookies hold now. Only those that are allowed take places.
+    /// With what the bookies hold now. Only those that are allowed take places, and none that is read-only.
     pub(crate) fn of(
         alloc: Global,
         state: &State,
         allowed: &BookieSet,
+        read_only: &BookieSet,
     ) -> Result<Workers, AllocError>
-        ensures { IfOk result (λ workers. workers ≡ allowed.now) }
+        ensures { IfOk result (λ workers. workers ≡ may_work allowed.now read_only.now) }
     {
         let mut loads = Vec::new(alloc);
         for number in 0..MAX_BOOKIES as u8 {
@@ -41,6 +45,7 @@ impl Workers {
         }
         Ok(Workers {
             allowed: allowed.copied(),
+            read_only: read_only.copied(),
             loads,
         })
     }
@@ -94,7 +99,14 @@ impl Workers {
     fn can_join(&self, state: &State, worker: BookieIx, members: &BookieSet) -> bool
         ensures { result ≡ (can_work self.now state.now worker && not (set.contains members.now worker)) }
     {
-        self.allowed.contains(worker) && state.is_up(worker) && !members.contains(worker)
+        self.may_work(worker) && state.is_up(worker) && !members.contains(worker)
+    }
+
+    /// Whether the bookie may take places.
+    fn may_work(&self, worker: BookieIx) -> bool
+        ensures { result ≡ self.now worker }
+    {
+        self.allowed.contains(worker) && !self.read_only.contains(worker)
     }
 
     /// Notes that the bookie holds so many entries more.
