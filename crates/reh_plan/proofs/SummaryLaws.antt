@@ -1,14 +1,47 @@
--- A survey has few lines.
-use Rattle.std.proofs.Common.{◌≡◌, ℕ, ◌+◌, ◌*◌, ◌≤◌, List, [], ◌∷◌, ◌++◌, length, ◌∙◌, arith, length-append, length-map}
+-- What bookies are given, one after another; and that a survey has few lines.
+use Rattle.std.proofs.Common.{◌≡◌, ℕ, ◌+◌, ◌-◌, ◌*◌, ◌<◌, ◌≤◌, List, [], ◌∷◌, ◌++◌, length, map, get_or, ◌∙◌, ap, sym, arith, length-append, length-map}
 use Rattle.std.specs.Prelude.{All}
-use Rattle.std.specs.List.{enumerate_from, flat_map}
+use Rattle.std.specs.List.{enumerate_from, flat_map, range_with_len}
 use Rattle.std.proofs.lemmas.List.Elements.{All-head, All-tail}
-use Rattle.std.proofs.lemmas.List.FromFn.{length-enumerate_from}
+use Rattle.std.proofs.lemmas.List.FromFn.{length-enumerate_from, length-map-range_with_len, get_or-map-range_with_len, map-range_with_len_more}
 use Rattle.reh_types.specs.declared.limits.TheConstants.{MAX_FRAGMENTS, MAX_LEDGERS}
 use Rattle.reh_model.specs.Cluster.{Cluster, Ledger}
+use Rattle.reh_model.specs.Contents.{count_held}
 use Rattle.reh_model.specs.Metadata.{IsMetadata}
 use Rattle.reh_model.specs.Survey.{line_of, lines_of, survey}
 use Rattle.reh_model.specs.WellFormed.{IsLedger, IsWellFormed}
+use Rattle.reh_plan.specs.Plans.{Draft}
+use Rattle.reh_plan.specs.Summaries.{holdings_of, places_of, share_of}
+use Rattle.reh_plan.specs.declared.summaries.Share.{Share}
+
+-- one bookie more is counted
+pub held_more : (s : Cluster) (n count : ℕ) (held more : List ℕ) → count ≡ count_held s.parts.held n
+    → held ≡ map (λ bookie. count_held s.parts.held bookie) (range_with_len 0 n) → more ≡ held ++ count ∷ []
+    → more ≡ map (λ bookie. count_held s.parts.held bookie) (range_with_len 0 (n + 1))
+held_more s n count held more counted so_far grown =
+    grown ∙ (λ i. so_far i ++ counted i ∷ [])
+    ∙ sym (map-range_with_len_more (λ bookie. count_held s.parts.held bookie) 0 n n (omega arith))
+
+-- what a bookie held before
+pub held_before : (s : Cluster) (held : List ℕ) (n before : ℕ) → held ≡ holdings_of s → n < length held
+    → before ≡ get_or held n before → before ≡ count_held s.parts.held n
+held_before s held n before is within at =
+    let size : length held ≡ length s.names =
+    ap length is ∙ length-map-range_with_len (λ bookie. count_held s.parts.held bookie) 0 (length s.names) in
+    at ∙ ap (λ (xs : List ℕ). get_or xs n before) is
+    ∙ get_or-map-range_with_len (λ bookie. count_held s.parts.held bookie) 0 (length s.names) n n before
+    (omega (arith, within, size)) (omega arith)
+
+-- what one bookie more is given
+pub share_more : (d : Draft) (n places count before entries : ℕ) (shares more : List Share) → places ≡ places_of d.events n
+    → count ≡ count_held d.state.parts.held n → before ≡ count_held d.opening.parts.held n → entries ≡ count - before
+    → shares ≡ map (share_of d) (range_with_len 0 n)
+    → more ≡ shares ++ (record { bookie = n; places = places; entries = entries }) ∷ []
+    → more ≡ map (share_of d) (range_with_len 0 (n + 1))
+share_more d n places count before entries shares more taken now then less so_far grown =
+    grown
+    ∙ (λ i. so_far i ++ (record { bookie = n; places = taken i; entries = (less ∙ (λ j. now j - then j)) i }) ∷ [])
+    ∙ sym (map-range_with_len_more (share_of d) 0 n n (omega arith))
 
 one_ledger : (s : Cluster) (g : Ledger) → length (lines_of s g) ≡ length g.metadata.fragments
 one_ledger s g =

@@ -4,9 +4,9 @@ use Rattle.reh_types.specs.Sets as set
 use Rattle.reh_types.specs.Sets.{Set, numbers}
 use Rattle.reh_model.specs.Cluster.{Cluster, is_up}
 
--- whether the bookie may do AutoRecovery's work: it is allowed to, and can be written to
-abbrev pub may_work : Set numbers → Set numbers → ℕ → Bool
-may_work allowed read_only bookie = set.contains allowed bookie && not (set.contains read_only bookie)
+-- whether a bookie may do AutoRecovery's work, by those that are allowed to and those that are read-only
+abbrev pub may_work : Set numbers × Set numbers → ℕ → Bool
+may_work sets bookie = set.contains sets.0 bookie && not (set.contains sets.1 bookie)
 
 -- whether the bookie may do that work, and is registered
 abbrev pub can_work : (ℕ → Bool) → Cluster → ℕ → Bool

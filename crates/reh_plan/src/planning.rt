@@ -59,10 +59,10 @@ pub fn plan(
         transcript state.names 0 (starting (new_book (opened_session state))) 1 p.plan.lines
         ≡ ok_answers state.names 1 p.plan.lines) }
     ensures lost { IfOk result (λ p. IsWithout state (set.contains lost.now) p.plan.state) }
-    ensures order { IfOk result (λ p. GoesOnBy (may_work allowed.now read_only.now)
+    ensures order { IfOk result (λ p. GoesOnBy (may_work (allowed.now, read_only.now))
         (losses_of state (set.contains lost.now) (length state.names)) p.plan.events) }
     ensures filled { IfOk result (λ p. list_all
-        (is_filled_by (can_work (may_work allowed.now read_only.now) p.plan.state)) p.plan.events ≡ true) }
+        (is_filled_by (can_work (may_work (allowed.now, read_only.now)) p.plan.state)) p.plan.events ≡ true) }
     ensures named { IfOk result (λ p. AllNamed p.plan.state p.plan.lines p.plan.state.parts.ledgers) }
     ensures only { IfOk result (λ p. OnlyLeft state.names p.plan.state p.plan.lines) }
     ensures sum { IfOk result (λ p. IsSum p.plan p.summary) }
@@ -122,7 +122,7 @@ fn ticks_to_publish(state: &State) -> u64 {
 
 /// Grants a grace to the writers of all open ledgers that need another bookie, and waits until it is over.
 fn grant_all(plan: &mut Plan, workers: &Workers) -> Result<(), PlanFault>
-    ensures { Works workers.now plan.old plan.new }
+    ensures { Works (may_work workers.now) plan.old plan.new }
 {
     // The check of this loop has to meet the types of what stops a step by their names.
     let _stop: Option<(Reason, Refusal, Event)> = None;
@@ -154,7 +154,7 @@ fn work_all(
     plan: &mut Plan,
     workers: &mut Workers,
 ) -> Result<Vec<Option<Reason>>, PlanFault>
-    ensures { Works workers.old plan.old plan.new }
+    ensures { Works (may_work workers.old) plan.old plan.new }
 {
     // The check of this loop has to meet the types of what stops a step by their names.
     let _stop: Option<(Reason, Refusal, Event)> = None;
@@ -182,7 +182,7 @@ fn work_at(
     workers: &mut Workers,
     place: usize,
 ) -> Result<Option<Reason>, PlanFault>
-    ensures works { Works workers.old plan.old plan.new }
+    ensures works { Works (may_work workers.old) plan.old plan.new }
     ensures workers { workers.new ≡ workers.old }
 {
     let Some(repair) = repair_at(plan.state(), place) else {

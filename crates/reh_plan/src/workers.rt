@@ -10,7 +10,7 @@ use std::alloc::{AllocError, Global};
 use std::marker::Model;
 
 /// The bookies that may take places, which are those that are allowed to and can be written to, and how much each bookie
-/// holds. Contracts see whether a bookie is one of the former.
+/// holds. Contracts see both sets.
 #[derive(Drop)]
 pub(crate) struct Workers {
     allowed: BookieSet,
@@ -21,12 +21,11 @@ pub(crate) struct Workers {
 }
 
 impl Model for Workers {
-    ghost use Rattle.std.specs.Prelude.{ℕ, Bool};
-    ghost use Rattle.reh_plan.specs.Workers.{may_work};
+    ghost use Rattle.reh_types.specs.Sets.{Set, numbers};
 
-    ghost Value = { ℕ → Bool };
+    ghost Value = { Set numbers × Set numbers };
 
-    ghost view = { λ workers. may_work workers.allowed workers.read_only };
+    ghost view = { λ workers. (workers.allowed, workers.read_only) };
 }
 
 impl Workers {
@@ -37,7 +36,7 @@ impl Workers {
         allowed: &BookieSet,
         read_only: &BookieSet,
     ) -> Result<Workers, AllocError>
-        ensures { IfOk result (λ workers. workers ≡ may_work allowed.now read_only.now) }
+        ensures { IfOk result (λ workers. workers ≡ (allowed.now, read_only.now)) }
     {
         let mut loads = Vec::new(alloc);
         for number in 0..MAX_BOOKIES as u8 {
@@ -53,7 +52,7 @@ impl Workers {
     /// Who takes places of a fragment: the worker that has the ledger's lock, if it can; else one that is in no
     /// ensemble of the ledger; else one that isn't in the fragment's. Of several it is the one that holds least.
     pub(crate) fn choose(&self, state: &State, ledger: &Ledger, fragment: usize) -> Option<BookieIx>
-        ensures { IfSome result (λ worker. can_work self.now state.now worker ≡ true) }
+        ensures { IfSome result (λ worker. can_work (may_work self.now) state.now worker ≡ true) }
     {
         let members = members_of(ledger.metadata().fragments().get(fragment)?);
         if let Some(lock) = ledger.lock()
@@ -70,7 +69,7 @@ impl Workers {
     /// Of the bookies that can join these members, the one that holds least, and of several such the first.
     fn least_outside(&self, state: &State, members: &BookieSet) -> Option<BookieIx>
         ensures { IfSome result (λ worker.
-            (can_work self.now state.now worker && not (set.contains members.now worker)) ≡ true) }
+            (can_work (may_work self.now) state.now worker && not (set.contains members.now worker)) ≡ true) }
     {
         let none = MAX_BOOKIES as u8;
         let mut least = none;
@@ -97,14 +96,14 @@ impl Workers {
 
     /// Whether the bookie may take places, is registered, and is none of these members.
     fn can_join(&self, state: &State, worker: BookieIx, members: &BookieSet) -> bool
-        ensures { result ≡ (can_work self.now state.now worker && not (set.contains members.now worker)) }
+        ensures { result ≡ (can_work (may_work self.now) state.now worker && not (set.contains members.now worker)) }
     {
-        self.may_work(worker) && state.is_up(worker) && !members.contains(worker)
+        self.is_able(worker) && state.is_up(worker) && !members.contains(worker)
     }
 
     /// Whether the bookie may take places.
-    fn may_work(&self, worker: BookieIx) -> bool
-        ensures { result ≡ self.now worker }
+    fn is_able(&self, worker: BookieIx) -> bool
+        ensures { result ≡ may_work self.now worker }
     {
         self.allowed.contains(worker) && !self.read_only.contains(worker)
     }

@@ -1,13 +1,14 @@
 -- An open ledger is fenced first.
 use Rattle.std.proofs.Common.{ℕ, Bool}
 use Rattle.reh_plan.specs.Plans.{Draft, Works}
+use Rattle.reh_plan.specs.Workers.{may_work}
 use Rattle.reh_plan.proofs.PlanLaws.{works_done, works_same}
 use Rattle.reh_plan.proofs.repairs.Repair.close.Goals as goal
 use Rattle.reh_plan.proofs.repairs.Repair.close.Goals.{then-eq+in_ok-work, else-eq}
 
 pub returns : goal.returns
 returns c =
-    let may : ℕ → Bool = c.args.workers.now in
+    let may : ℕ → Bool = may_work c.args.workers.now in
     let d : Draft = c.args.plan.now in
     let fenced : Works may d c.if-eq.plan =
     elim c.if-eq.branch [

@@ -1,6 +1,7 @@
 -- Another worker's lock is given back first.
 use Rattle.std.proofs.Common.{ℕ, Bool, refl}
 use Rattle.reh_plan.specs.Plans.{Draft, Works}
+use Rattle.reh_plan.specs.Workers.{may_work}
 use Rattle.reh_plan.proofs.PlanLaws.{first_true, works_done, works_none, works_same}
 use Rattle.reh_plan.proofs.repairs.Repair.lock.Goals as goal
 use Rattle.reh_plan.proofs.repairs.Repair.lock.Goals.{in-Some-2+in_ok-work-in-Some-2, in-None}
@@ -8,7 +9,7 @@ use Rattle.reh_plan.proofs.repairs.Repair.lock.Goals.{in-Some-2+in_ok-work-in-So
 -- what becomes of the plan where the worker's own lock is asked for
 pub returns-in_err-work-clause-works : goal.returns-in_err-work-clause-works
 returns-in_err-work-clause-works c =
-    let may : ℕ → Bool = c.args.workers.now in
+    let may : ℕ → Bool = may_work c.args.workers.now in
     let d : Draft = c.args.plan.now in
     let free : Works may d c.match-owner.plan =
     elim c.match-owner.branch [
@@ -23,7 +24,7 @@ returns-in_err-work-clause-works c =
 
 pub returns-clause-works : goal.returns-clause-works
 returns-clause-works c =
-    let may : ℕ → Bool = c.args.workers.now in
+    let may : ℕ → Bool = may_work c.args.workers.now in
     let d : Draft = c.args.plan.now in
     let free : Works may d c.match-owner.plan =
     elim c.match-owner.branch [
