@@ -51,7 +51,7 @@ fn push_expected(text: &mut Vec<u8>, names: &Names, line: &[u8]) -> Result<(), A
         ≡ text.old.items ++ text_of (expected_lines names.now line.now)) }
 {
     if parse_line(names, line).is_some() {
-        push_line(text, "# expect ok".as_bytes())?;
+        push_line(text, b"# expect ok")?;
     }
     push_line(text, line)
 }
@@ -62,5 +62,6 @@ fn push_survey(alloc: Global, text: &mut Vec<u8>, lost: u64) -> Result<(), Alloc
 {
     let expected = format!(in alloc; "# expect lost {lost}")?;
     push_line(text, expected.as_bytes())?;
-    push_line(text, "survey".as_bytes())
+    push_line(text, b"survey")?;
+    Ok(())
 }

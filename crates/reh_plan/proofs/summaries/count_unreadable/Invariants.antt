@@ -5,6 +5,6 @@ use Rattle.reh_plan.proofs.summaries.count_unreadable.Given as goal
 
 abbrev pub invariant-loop-line : goal.invariant-loop-line
 invariant-loop-line l = record {
-  count : l.count ≡ sum_by (λ line. unwrap_or line.lost 0) (take l.line-index l.lines.items);
+  count : l.count ≡ sum_by (λ line. unwrap_or line.lost 0) (take l.line-index l.line-items);
   few : l.count ≤ 4294967296 * l.line-index;
 }
