@@ -146,7 +146,7 @@ state_after m s event is none =
 -- Registrations
 
 -- work leaves them
-lost_at-after : (may : ℕ → Bool) (s : Cluster) (event : Event) → is_work_by may event ≡ true
+pub lost_at-after : (may : ℕ → Bool) (s : Cluster) (event : Event) → is_work_by may event ≡ true
     → (after s event).parts.lost_at ≡ s.parts.lost_at
 lost_at-after may s Audit e = refl
 lost_at-after may s Enable e = refl

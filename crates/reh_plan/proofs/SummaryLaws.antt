@@ -1,5 +1,6 @@
 -- What bookies are given, one after another; and that a survey has few lines.
-use Rattle.std.proofs.Common.{◌≡◌, ℕ, ◌+◌, ◌-◌, ◌*◌, ◌<◌, ◌≤◌, List, [], ◌∷◌, ◌++◌, length, map, get_or, ◌∙◌, ap, sym, arith, length-append, length-map}
+use Rattle.std.proofs.Common.{◌≡◌, ℕ, ◌+◌, ◌-◌, ◌*◌, ◌<◌, ◌≤◌, List, [], ◌∷◌, ◌++◌, length, map, get_or, ◌∙◌, ap, sym, arith, length-append}
+use Rattle.std.proofs.lemmas.List.{length-map}
 use Rattle.std.specs.Prelude.{All}
 use Rattle.std.specs.List.{enumerate_from, flat_map, range_with_len}
 use Rattle.std.proofs.lemmas.List.Elements.{All-head, All-tail}
@@ -23,13 +24,13 @@ held_more s n count held more counted so_far grown =
     ∙ sym (map-range_with_len_more (λ bookie. count_held s.parts.held bookie) 0 n n (omega arith))
 
 -- what a bookie held before
-pub held_before : (s : Cluster) (held : List ℕ) (n before : ℕ) → held ≡ holdings_of s → n < length held
-    → before ≡ get_or held n before → before ≡ count_held s.parts.held n
-held_before s held n before is within at =
+pub held_before : (s : Cluster) (held : List ℕ) (n d : ℕ) → held ≡ holdings_of s → n < length held
+    → get_or held n d ≡ count_held s.parts.held n
+held_before s held n d is within =
     let size : length held ≡ length s.names =
     ap length is ∙ length-map-range_with_len (λ bookie. count_held s.parts.held bookie) 0 (length s.names) in
-    at ∙ ap (λ (xs : List ℕ). get_or xs n before) is
-    ∙ get_or-map-range_with_len (λ bookie. count_held s.parts.held bookie) 0 (length s.names) n n before
+    ap (λ (xs : List ℕ). get_or xs n d) is
+    ∙ get_or-map-range_with_len (λ bookie. count_held s.parts.held bookie) 0 (length s.names) n n d
     (omega (arith, within, size)) (omega arith)
 
 -- what one bookie more is given

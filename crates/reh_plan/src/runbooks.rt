@@ -1,6 +1,7 @@
 // A plan as a runbook: what each command is expected to be answered, and a survey at its end.
-ghost use Rattle.std.specs.Prelude.{◌≡◌, ◌≤◌, ◌++◌, length, IfOk, OnOk};
+ghost use Rattle.std.specs.Prelude.{◌≡◌, ◌≤◌, ◌++◌, length, is_some, IfOk, OnOk};
 ghost use Rattle.reh_types.specs.declared.limits.TheConstants.{MAX_SCRIPT_BYTES};
+ghost use Rattle.reh_commands.specs.Answers.{asked};
 ghost use Rattle.reh_commands.specs.Texts.{text_of};
 ghost use Rattle.reh_lines.specs.Lines.{lines_of};
 ghost use Rattle.reh_plan.specs.Runbooks.{expected_lines, with_expectations, survey_lines, runbook_lines};
@@ -50,10 +51,18 @@ fn push_expected(text: &mut Vec<u8>, names: &Names, line: &[u8]) -> Result<(), A
     ensures { OnOk result (text.new.items
         ≡ text.old.items ++ text_of (expected_lines names.now line.now)) }
 {
-    if parse_line(names, line).is_some() {
+    if has_answer(names, line) {
         push_line(text, b"# expect ok")?;
     }
-    push_line(text, line)
+    push_line(text, line)?;
+    Ok(())
+}
+
+/// Whether a line has an answer.
+fn has_answer(names: &Names, line: &[u8]) -> bool
+    ensures { result ≡ is_some (asked names.now line.now) }
+{
+    parse_line(names, line).is_some()
 }
 
 /// Adds a survey that is expected to find so many entries lost.

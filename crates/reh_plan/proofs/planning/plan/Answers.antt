@@ -1,5 +1,5 @@
 -- What the steps come to.
-use Rattle.std.proofs.Common.{◌≡◌, ℕ, Bool, Some, length, subst}
+use Rattle.std.proofs.Common.{◌≡◌, ◌∙◌, ℕ, Bool, Some, length, ap, sym, subst}
 use Rattle.reh_types.specs.Sets as set
 use Rattle.reh_types.specs.Sets.{Set, numbers}
 use Rattle.reh_model.specs.Book.{new_book}
@@ -8,13 +8,14 @@ use Rattle.reh_model.specs.Session.{replay, opened_session}
 use Rattle.reh_transcript.specs.Transcript.{starting, transcript}
 use Rattle.reh_plan.specs.Plans.{Asks, Draft, Loses, Works, losses_of}
 use Rattle.reh_plan.specs.Replies.{ok_answers}
+use Rattle.reh_plan.specs.Summaries.{holdings_of}
 use Rattle.reh_plan.specs.Workers.{may_work}
 use Rattle.reh_plan.proofs.FilledLaws.{filled_by}
 use Rattle.reh_plan.proofs.PlanLaws.{works_on}
 use Rattle.reh_plan.proofs.PlannedLaws.{IsPlanned, planned}
 use Rattle.reh_plan.proofs.planning.plan.Goals as goal
 
-all_of : (c : goal.After-drop-workers-inside-2) → IsPlanned c.args.state c.args.lost.now (may_work (c.args.allowed.now, c.args.read_only.now)) c.leave_all.new.plan
+all_of : (c : goal.After-drop-held-2) → IsPlanned c.args.state c.args.lost.now (may_work (c.args.allowed.now, c.args.read_only.now)) c.leave_all.new.plan
 all_of c =
     let l : Draft = c.lose_all.new.plan in
     let p : Draft = c.publish.new.plan in
@@ -30,6 +31,16 @@ all_of c =
     c.in_ok-plan.ensures c.in_ok-lose_all.ensures)
     (subst (λ (a : Set numbers × Set numbers). Works (may_work a) l w) c.in_ok-workers.ensures worked)
     c.in_ok-leave_all.ensures
+
+-- each step leaves the cluster on which the plan begins
+pub summary_of-requires-clause-held : goal.summary_of-requires-clause-held
+summary_of-requires-clause-held c =
+    let some : ℕ → Bool = may_work c.in_ok-workers.workers in
+    let opening : c.leave_all.new.plan.opening ≡ c.args.state =
+    c.in_ok-leave_all.ensures.opening ∙ c.work_all.ensures.opening ∙ c.grant_all.ensures.opening
+    ∙ (c.publish.ensures some).opening ∙ c.in_ok-lose_all.ensures.opening
+    ∙ ap (λ (d : Draft). d.opening) c.in_ok-plan.ensures in
+    c.deref-2.ensures.value ∙ c.in_ok-held.ensures.held ∙ ap holdings_of (sym opening)
 
 pub returns-clause-opening : goal.returns-clause-opening
 returns-clause-opening c = (all_of c).opening
