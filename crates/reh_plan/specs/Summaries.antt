@@ -59,7 +59,7 @@ abbrev pub share_text : List (List ℕ) → Share → List ℕ
 share_text names share =
     if (share.places == 0) && (share.entries == 0) then []
     else (spaced (codes "bookie" ∷ name_of names share.bookie ∷ codes "places" ∷ decimal share.places ∷ codes "entries"
-        ∷ decimal share.entries ∷ []) ++ codes "\n")
+    ∷ decimal share.entries ∷ []) ++ codes "\n")
 
 abbrev pub summary_text : List (List ℕ) → Summary → List ℕ
 summary_text names summary =

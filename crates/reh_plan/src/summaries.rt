@@ -85,11 +85,7 @@ fn push_share(text: &mut String, names: &Names, share: &Share) -> Result<(), All
     }
     text.push_str("bookie")?;
     push_name(text, names, share.bookie)?;
-    write!(
-        text,
-        " places {} entries {}\n",
-        share.places, share.entries
-    )
+    write!(text, " places {} entries {}\n", share.places, share.entries)
 }
 
 /// Adds a space and the bookie's name, or its number where the names have none for it.
@@ -116,11 +112,7 @@ pub(crate) fn holdings_of(alloc: Global, state: &State) -> Result<Vec<usize>, Al
 }
 
 /// What the plan comes to, where each bookie held so many entries before it.
-pub(crate) fn summary_of(
-    alloc: Global,
-    held: &[usize],
-    plan: &Plan,
-) -> Result<Summary, AllocError>
+pub(crate) fn summary_of(alloc: Global, held: &[usize], plan: &Plan) -> Result<Summary, AllocError>
     requires held { held.now ≡ model.holdings_of plan.now.opening }
     requires few { length held.now ≤ MAX_BOOKIES }
     ensures { IfOk result (λ summary. IsSum plan.now summary) }

@@ -20,5 +20,6 @@ one_more names before after rest more line whole parts grown is =
 
 pub loop-rest-preserved : goal.loop-rest-preserved
 loop-rest-preserved c =
-    one_more c.args.names.now c.loop-rest.text.items c.push_expected.new.text.items c.loop-rest.rest.now _ _ _
+    one_more c.args.names.now c.loop-rest.text.items c.push_expected.new.text.items c.loop-rest.rest.now c.first_line.result.1.now
+    c.first_line.result.0.now _
     c.first_line.ensures.lines c.in_ok-push_expected.ensures c.loop-rest.invariant

@@ -17,4 +17,4 @@ pub returns : goal.returns
 returns c =
     two_more c.args.text.now.items c.push_line.new.text.items c.push_line-2.new.text.items
     (codes "# expect lost " ++ decimal c.args.lost) (codes "survey") c.as_bytes.result.now
-    (c.as_bytes.ensures.value ∙ c.in_ok-expected.ensures) c.in_ok-push_line.ensures.ok c.in_ok-push_line-2.ensures.ok
+    (c.as_bytes.ensures.value ∙ c.in_ok-expected.ensures.ok) c.in_ok-push_line.ensures.ok c.in_ok-push_line-2.ensures.ok

@@ -15,4 +15,4 @@ returns-clause-few c =
     let size : length c.loop-number.held.items ≡ c.loop-number.number =
     ap length c.loop-number.invariant
     ∙ length-map-range_with_len (λ bookie. count_held c.args.state.now.parts.held bookie) 0 c.loop-number.number in
-    omega (arith, size, c.len.ensures.count, c.len.ensures.limit, c.loop-number.auto.number-end)
+    omega (arith, size, c.len-number-end.ensures.count, c.len-number-end.ensures.limit, c.loop-number.auto.number-end)

@@ -15,7 +15,7 @@ loop-number-preserved c =
     share_more c.args.plan.now n c.places_of.result c.count.result _ _ c.loop-number.shares.items c.push.new.self.items
     (c.places_of.ensures ∙ ap (λ (es : List Event). places_of es n) c.events.ensures)
     (c.count.ensures ∙ ap (λ (s : Cluster). count_held s.parts.held n) c.state-state.ensures)
-    (held_before c.args.plan.now.opening c.args.held.now n _ c.requires.held (omega arith))
+    (held_before c.args.plan.now.opening c.args.held.now n _ c.requires.held (omega (arith, c.loop-number-test.true)))
     c.saturating_sub.ensures c.loop-number.invariant c.in_ok-push.ensures.items
 
 pub returns : goal.returns
@@ -24,7 +24,7 @@ returns c =
     ap length c.requires.held
     ∙ length-map-range_with_len (λ bookie. count_held c.args.plan.now.opening.parts.held bookie) 0
     (length c.args.plan.now.opening.names) in
-    let all : c.loop-number.number ≡ length c.args.plan.now.opening.names = omega (arith, size) in
+    let all : c.loop-number.number ≡ length c.args.plan.now.opening.names = omega (arith, size, c.loop-number-test.false, c.loop-number.auto.number-end) in
     record {
       shares =
           c.loop-number.invariant
