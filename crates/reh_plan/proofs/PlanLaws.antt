@@ -146,20 +146,20 @@ state_after m s event is none =
 -- Registrations
 
 -- work leaves them
-lost_at-after : (allowed : Set numbers) (s : Cluster) (event : Event) → is_work_by allowed event ≡ true
+pub lost_at-after : (may : ℕ → Bool) (s : Cluster) (event : Event) → is_work_by may event ≡ true
     → (after s event).parts.lost_at ≡ s.parts.lost_at
-lost_at-after allowed s Audit e = refl
-lost_at-after allowed s Enable e = refl
-lost_at-after allowed s (Tick n) e = refl
-lost_at-after allowed s (Release w l) e = refl
-lost_at-after allowed s (Finish w l) e = refl
-lost_at-after allowed s (Acquire w l) e = refl
-lost_at-after allowed s (Grace w l) e = refl
-lost_at-after allowed s (Fence w l) e = refl
-lost_at-after allowed s (Seal w l) e = refl
-lost_at-after allowed s (Copy w l f i v) e = refl
-lost_at-after allowed s (Swap w l f i v) e = refl
-lost_at-after allowed s other e = absurd (true≢false (sym e))
+lost_at-after may s Audit e = refl
+lost_at-after may s Enable e = refl
+lost_at-after may s (Tick n) e = refl
+lost_at-after may s (Release w l) e = refl
+lost_at-after may s (Finish w l) e = refl
+lost_at-after may s (Acquire w l) e = refl
+lost_at-after may s (Grace w l) e = refl
+lost_at-after may s (Fence w l) e = refl
+lost_at-after may s (Seal w l) e = refl
+lost_at-after may s (Copy w l f i v) e = refl
+lost_at-after may s (Swap w l f i v) e = refl
+lost_at-after may s other e = absurd (true≢false (sym e))
 
 put_down : (t : ℕ) (o : Option (Option ℕ)) → option_map_or is_none (option_map (λ (_ : Option ℕ). Some t) o) false ≡ false
 put_down t None = refl
@@ -277,15 +277,15 @@ IsWithout-works s t u is_lost first same b =
 -- Plans
 
 -- no work yet
-works_nothing : (allowed : Set numbers) (events : List Event) → GoesOnBy allowed events events
-works_nothing allowed events = ([], sym (append-nil events), refl)
+works_nothing : (may : ℕ → Bool) (events : List Event) → GoesOnBy may events events
+works_nothing may events = ([], sym (append-nil events), refl)
 
 -- and work after work
-works_behind : (allowed : Set numbers) (a b c : List Event) → GoesOnBy allowed a b → GoesOnBy allowed b c → GoesOnBy allowed a c
-works_behind allowed a b c first then = (
+works_behind : (may : ℕ → Bool) (a b c : List Event) → GoesOnBy may a b → GoesOnBy may b c → GoesOnBy may a c
+works_behind may a b c first then = (
   first.0 ++ then.0,
   then.1 ∙ ap (λ (es : List Event). es ++ then.0) first.1 ∙ append_assoc a first.0 then.0,
-  list_all-append (is_work_by allowed) first.0 then.0 ∙ ap (λ t. t && list_all (is_work_by allowed) then.0) first.2 ∙ then.2,
+  list_all-append (is_work_by may) first.0 then.0 ∙ ap (λ t. t && list_all (is_work_by may) then.0) first.2 ∙ then.2,
 )
 
 -- the line of an event
@@ -299,47 +299,47 @@ made_commands d n event made =
     ∙ and_true (is_all_asked d)
 
 -- a plan that has gone on by work, and then does so again
-pub works_on : (allowed : Set numbers) (d n p : Draft) → Works allowed n p → Works allowed d n → Works allowed d p
-works_on allowed d n p then first = record {
+pub works_on : (may : ℕ → Bool) (d n p : Draft) → Works may n p → Works may d n → Works may d p
+works_on may d n p then first = record {
   opening = then.opening ∙ first.opening;
   lost_at = then.lost_at ∙ first.lost_at;
-  work = works_behind allowed d.events n.events p.events first.work then.work;
+  work = works_behind may d.events n.events p.events first.work then.work;
   commands = then.commands ∙ first.commands;
 }
 
-pub works_none : (allowed : Set numbers) (d : Draft) → Works allowed d d
-works_none allowed d = record { opening = refl; lost_at = refl; work = works_nothing allowed d.events; commands = refl }
+pub works_none : (may : ℕ → Bool) (d : Draft) → Works may d d
+works_none may d = record { opening = refl; lost_at = refl; work = works_nothing may d.events; commands = refl }
 
 -- and then stays
-pub works_same : (allowed : Set numbers) (d n p : Draft) → p ≡ n → Works allowed d n → Works allowed d p
-works_same allowed d n p same first = subst (λ (x : Draft). Works allowed d x) (sym same) first
+pub works_same : (may : ℕ → Bool) (d n p : Draft) → p ≡ n → Works may d n → Works may d p
+works_same may d n p same first = subst (λ (x : Draft). Works may d x) (sym same) first
 
 -- and then makes an event that is work
-pub works_made : (allowed : Set numbers) (d n p : Draft) (event : Event) → IsMade n event p
-    → is_work_by allowed event ≡ true → Works allowed d n → Works allowed d p
-works_made allowed d n p event made by first =
-    let then : Works allowed n p = record {
+pub works_made : (may : ℕ → Bool) (d n p : Draft) (event : Event) → IsMade n event p
+    → is_work_by may event ≡ true → Works may d n → Works may d p
+works_made may d n p event made by first =
+    let then : Works may n p = record {
       opening = made.opening;
-      lost_at = ap (λ (c : Cluster). c.parts.lost_at) made.state ∙ lost_at-after allowed n.state event by;
+      lost_at = ap (λ (c : Cluster). c.parts.lost_at) made.state ∙ lost_at-after may n.state event by;
       work = (event ∷ [], made.events, ap (λ t. t && true) by);
       commands = made_commands n p event made;
     } in
-    works_on allowed d n p then first
+    works_on may d n p then first
 
 -- if it is accepted
-pub works_done : {A B : Type 0} (allowed : Set numbers) (d n p : Draft) (event : Event) (r : Result A B)
-    → OnOk r (IsMade n event p) → OnErr r (p ≡ n) → is_work_by allowed event ≡ true
-    → Works allowed d n → Works allowed d p
-works_done allowed d n p event (Ok done) made same by first = works_made allowed d n p event made by first
-works_done allowed d n p event (Err stop) made same by first = works_same allowed d n p same first
+pub works_done : {A B : Type 0} (may : ℕ → Bool) (d n p : Draft) (event : Event) (r : Result A B)
+    → OnOk r (IsMade n event p) → OnErr r (p ≡ n) → is_work_by may event ≡ true
+    → Works may d n → Works may d p
+works_done may d n p event (Ok done) made same by first = works_made may d n p event made by first
+works_done may d n p event (Err stop) made same by first = works_same may d n p same first
 
 -- or an event of no bookie
-pub works_alone : (allowed : Set numbers) (d n p : Draft) (event : Event) → IsMade n event p → is_nobodys event ≡ true
-    → Works allowed d n → Works allowed d p
-works_alone allowed d n p Audit made nobodys = works_made allowed d n p Audit made refl
-works_alone allowed d n p (Tick ticks) made nobodys = works_made allowed d n p (Tick ticks) made refl
-works_alone allowed d n p Enable made nobodys = works_made allowed d n p Enable made refl
-works_alone allowed d n p other made nobodys = cc
+pub works_alone : (may : ℕ → Bool) (d n p : Draft) (event : Event) → IsMade n event p → is_nobodys event ≡ true
+    → Works may d n → Works may d p
+works_alone may d n p Audit made nobodys = works_made may d n p Audit made refl
+works_alone may d n p (Tick ticks) made nobodys = works_made may d n p (Tick ticks) made refl
+works_alone may d n p Enable made nobodys = works_made may d n p Enable made refl
+works_alone may d n p other made nobodys = cc
 
 -- plans that lose bookies
 pub loses_made : (d n : Draft) (bookie : ℕ) → is_up d.state bookie ≡ true → IsMade d (Lose bookie) n

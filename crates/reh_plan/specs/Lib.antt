@@ -2,3 +2,5 @@ pub mod Plans
 pub mod Replies
 pub mod Workers
 pub mod Named
+pub mod Summaries
+pub mod Runbooks

@@ -7,10 +7,8 @@ use Rattle.std.specs.Fmt.{decimal}
 use Rattle.reh_types.specs.declared.limits.TheConstants.{MAX_SCRIPT_BYTES}
 use Rattle.reh_types.specs.declared.moves.Event.{Event}
 use Rattle.reh_types.specs.declared.moves.Event.TheVariants.{Lose, Audit, Acquire, Release, Finish, Grace, Tick}
-use Rattle.reh_types.specs.declared.moves.Event.TheVariants.{Fence, Seal, Copy, Swap, Enable}
+use Rattle.reh_types.specs.declared.moves.Event.TheVariants.{Fence, Seal, Copy, Swap, Roll, Enable}
 use Rattle.reh_types.specs.declared.moves.Move.TheVariants.{Do}
-use Rattle.reh_types.specs.Sets as set
-use Rattle.reh_types.specs.Sets.{Set, numbers}
 use Rattle.reh_model.specs.Audit.{first_under}
 use Rattle.reh_model.specs.Cluster.{Cluster, Ledger, is_up}
 use Rattle.reh_model.specs.Session as model
@@ -95,24 +93,31 @@ losses_of s is_lost n = flat_map (loss_of s) (filter is_lost (range_with_len 0 n
 -- whether an event is AutoRecovery's, by bookies that may work: no bookie is lost or joins, no writer changes an
 -- ensemble, and who locks a task, recovers a ledger, copies or takes a place is one of them; whoever has a lock may give
 -- it back, or end the task
-abbrev pub is_work_by : Set numbers → Event → Bool
-is_work_by allowed Audit = true
-is_work_by allowed Enable = true
-is_work_by allowed (Tick ticks) = true
-is_work_by allowed (Release worker ledger) = true
-is_work_by allowed (Finish worker ledger) = true
-is_work_by allowed (Acquire worker ledger) = set.contains allowed worker
-is_work_by allowed (Grace worker ledger) = set.contains allowed worker
-is_work_by allowed (Fence worker ledger) = set.contains allowed worker
-is_work_by allowed (Seal worker ledger) = set.contains allowed worker
-is_work_by allowed (Copy worker ledger fragment index version) = set.contains allowed worker
-is_work_by allowed (Swap worker ledger fragment index version) = set.contains allowed worker
-is_work_by allowed other = false
+abbrev pub is_work_by : (ℕ → Bool) → Event → Bool
+is_work_by may Audit = true
+is_work_by may Enable = true
+is_work_by may (Tick ticks) = true
+is_work_by may (Release worker ledger) = true
+is_work_by may (Finish worker ledger) = true
+is_work_by may (Acquire worker ledger) = may worker
+is_work_by may (Grace worker ledger) = may worker
+is_work_by may (Fence worker ledger) = may worker
+is_work_by may (Seal worker ledger) = may worker
+is_work_by may (Copy worker ledger fragment index version) = may worker
+is_work_by may (Swap worker ledger fragment index version) = may worker
+is_work_by may other = false
 
 -- after these events there is nothing but such work
-abbrev pub GoesOnBy : Set numbers → List Event → List Event → Type 0
-GoesOnBy allowed before events =
-    (work : List Event) × (events ≡ before ++ work) × (list_all (is_work_by allowed) work ≡ true)
+abbrev pub GoesOnBy : (ℕ → Bool) → List Event → List Event → Type 0
+GoesOnBy may before events =
+    (work : List Event) × (events ≡ before ++ work) × (list_all (is_work_by may) work ≡ true)
+
+-- whether an event has none but such bookies copy or take a place
+abbrev pub is_filled_by : (ℕ → Bool) → Event → Bool
+is_filled_by can (Copy worker ledger fragment index version) = can worker
+is_filled_by can (Swap worker ledger fragment index version) = can worker
+is_filled_by can (Roll ledger index bookie) = can bookie
+is_filled_by can other = true
 
 -- whether an event is one of no bookie
 abbrev pub is_nobodys : Event → Bool
@@ -125,11 +130,11 @@ is_nobodys event = false
 abbrev pub is_all_asked : Draft → Bool
 is_all_asked d = list_all (λ line. is_some (asked d.opening.names line)) d.lines
 
--- the plan goes on from d to n by commands alone: work of the allowed bookies, by which no registration changes
-pub record Works (allowed : Set numbers) (d n : Draft) : Type 0 where
+-- the plan goes on from d to n by commands alone: work of bookies that may do it, by which no registration changes
+pub record Works (may : ℕ → Bool) (d n : Draft) : Type 0 where
   pub opening : n.opening ≡ d.opening
   pub lost_at : n.state.parts.lost_at ≡ d.state.parts.lost_at
-  pub work : GoesOnBy allowed d.events n.events
+  pub work : GoesOnBy may d.events n.events
   pub commands : is_all_asked n ≡ is_all_asked d
 
 -- the plan goes on from d to n by the commands of these losses alone, by which the bookies are lost

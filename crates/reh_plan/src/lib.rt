@@ -6,9 +6,13 @@ mod named;
 mod planning;
 mod plans;
 mod repairs;
+mod runbooks;
+mod summaries;
 mod workers;
 
 pub use faults::PlanFault;
 pub use named::{NamedTwice, find_bookies, first_unknown};
-pub use planning::plan;
+pub use planning::{Planned, plan};
 pub use plans::Plan;
+pub use runbooks::runbook;
+pub use summaries::{Share, Summary};

@@ -1,25 +1,35 @@
 // The plan for a cluster: bookies are lost, the auditor publishes, and AutoRecovery is played to its end.
-ghost use Rattle.std.specs.Prelude.{◌≡◌, ◌≤◌, length, IfOk, OnOk, Some, true};
+ghost use Rattle.std.specs.Prelude.{◌≡◌, ◌≤◌, ℕ, Bool, length, IfOk, OnOk, Some, true};
+ghost use Rattle.std.specs.List.{list_all};
 ghost use Rattle.reh_types.specs.declared.limits.TheConstants.{MAX_SCRIPT_BYTES};
 ghost use Rattle.reh_model.specs.Book.{new_book};
 ghost use Rattle.reh_model.specs.Session.{replay, opened_session};
 ghost use Rattle.reh_transcript.specs.Transcript.{starting, transcript};
 ghost use Rattle.reh_plan.specs.Replies.{ok_answers};
 ghost use Rattle.reh_types.specs.Sets as set;
-ghost use Rattle.reh_types.specs.Sets.{Set, numbers};
 ghost use Rattle.reh_plan.specs.Plans.{Asks, Works, Loses, GoesOnBy, IsWithout, AllNamed, OnlyLeft, IsNaming, losses_of};
-ghost use Rattle.reh_plan.specs.Plans as plans;
+ghost use Rattle.reh_plan.specs.Plans.{is_filled_by};
+ghost use Rattle.reh_plan.specs.Summaries.{IsSum};
+ghost use Rattle.reh_plan.specs.Workers.{can_work, may_work};
 
 use crate::faults::{PlanFault, Reason, first_reason};
 use crate::plans::Plan;
 use crate::repairs::Repair;
+use crate::summaries::{Summary, holdings_of, is_left, summary_of};
 use crate::workers::Workers;
-use reh_audit::under_of;
-use reh_cluster::{Ledger, State};
+use reh_cluster::State;
 use reh_types::{BookieIx, BookieSet, Event, MAX_BOOKIES, Refusal};
 use std::alloc::{AllocError, Global};
 
-/// The plan for a cluster of which these bookies are lost, where only the allowed bookies work.
+/// A plan, and what it comes to.
+#[derive(Drop)]
+pub struct Planned {
+    pub plan: Plan,
+    pub summary: Summary,
+}
+
+/// The plan for a cluster of which these bookies are lost, where only the allowed bookies work, but for those that are
+/// read-only; and what it comes to.
 ///
 /// The bookies are lost, the auditor publishes, once the delay for lost bookies is over, and AutoRecovery is played to
 /// its end: of each ledger with a task a worker takes the places of missing members. It is a bookie in no ensemble of
@@ -29,37 +39,45 @@ use std::alloc::{AllocError, Global};
 /// Each line of the script is a comment or asks for an event (`asks`), and played on this state each of these events is
 /// accepted (`accepted`): each line that has an answer is answered `ok` (`replies`). First those of the lost bookies
 /// that are registered are lost, and after that there is nothing but AutoRecovery's work, by which no registration
-/// changes, and in which none but the allowed bookies lock tasks, recover ledgers, copy or take places (`order`). So in
-/// the end the lost bookies aren't registered, and all others are as they were (`lost`). Each ledger that has a task
-/// then, or a member that isn't registered, is named in a comment (`named`), and no other is (`only`). The comment's
-/// reason is the first that was met for that ledger, which no clause says.
+/// changes, and in which none but allowed bookies that aren't read-only lock tasks, recover ledgers, copy or take places
+/// (`order`). Each bookie that copies entries or takes a place is registered, too (`filled`). In the end the lost bookies
+/// aren't registered, and all others are as they were (`lost`). Each ledger that has a task then, or a member that isn't
+/// registered, is named in a comment (`named`), and no other is (`only`). The comment's reason is the first that was met
+/// for that ledger, which no clause says. The summary tells for each bookie how many places it takes and how many
+/// entries it holds more in the end, how many ledgers are left, and how many entries can't be read (`sum`).
 pub fn plan(
     alloc: Global,
     state: State,
     lost: &BookieSet,
     allowed: &BookieSet,
-) -> Result<Plan, PlanFault>
-    ensures opening { IfOk result (λ plan. plan.opening ≡ state) }
-    ensures asks { IfOk result (λ plan. Asks state.names plan.lines plan.events) }
-    ensures accepted { IfOk result (λ plan. replay state plan.events ≡ Some plan.state) }
-    ensures replies { IfOk result (λ plan.
-        transcript state.names 0 (starting (new_book (opened_session state))) 1 plan.lines
-        ≡ ok_answers state.names 1 plan.lines) }
-    ensures lost { IfOk result (λ plan. IsWithout state (set.contains lost.now) plan.state) }
-    ensures order { IfOk result (λ plan. GoesOnBy allowed.now
-        (losses_of state (set.contains lost.now) (length state.names)) plan.events) }
-    ensures named { IfOk result (λ plan. AllNamed plan.state plan.lines plan.state.parts.ledgers) }
-    ensures only { IfOk result (λ plan. OnlyLeft state.names plan.state plan.lines) }
+    read_only: &BookieSet,
+) -> Result<Planned, PlanFault>
+    ensures opening { IfOk result (λ p. p.plan.opening ≡ state) }
+    ensures asks { IfOk result (λ p. Asks state.names p.plan.lines p.plan.events) }
+    ensures accepted { IfOk result (λ p. replay state p.plan.events ≡ Some p.plan.state) }
+    ensures replies { IfOk result (λ p.
+        transcript state.names 0 (starting (new_book (opened_session state))) 1 p.plan.lines
+        ≡ ok_answers state.names 1 p.plan.lines) }
+    ensures lost { IfOk result (λ p. IsWithout state (set.contains lost.now) p.plan.state) }
+    ensures order { IfOk result (λ p. GoesOnBy (may_work (allowed.now, read_only.now))
+        (losses_of state (set.contains lost.now) (length state.names)) p.plan.events) }
+    ensures filled { IfOk result (λ p. list_all
+        (is_filled_by (can_work (may_work (allowed.now, read_only.now)) p.plan.state)) p.plan.events ≡ true) }
+    ensures named { IfOk result (λ p. AllNamed p.plan.state p.plan.lines p.plan.state.parts.ledgers) }
+    ensures only { IfOk result (λ p. OnlyLeft state.names p.plan.state p.plan.lines) }
+    ensures sum { IfOk result (λ p. IsSum p.plan p.summary) }
 {
+    let held = holdings_of(alloc, &state)?;
     let mut plan = Plan::begin(alloc, state)?;
     lose_all(&mut plan, lost)?;
     publish(&mut plan)?;
-    let mut workers = Workers::of(alloc, plan.state(), allowed)?;
+    let mut workers = Workers::of(alloc, plan.state(), allowed, read_only)?;
     grant_all(&mut plan, &workers)?;
     let reasons = work_all(alloc, &mut plan, &mut workers)?;
     leave_all(&mut plan, &reasons)?;
     let _checked = plan.text();
-    Ok(plan)
+    let summary = summary_of(alloc, &held, &plan)?;
+    Ok(Planned { plan, summary })
 }
 
 /// Loses these bookies, those that are registered.
@@ -79,7 +97,7 @@ fn lose_all(plan: &mut Plan, lost: &BookieSet) -> Result<(), PlanFault>
 
 /// Has the auditor publish what is missing, once the delay for lost bookies is over. Where nothing is, nothing happens.
 fn publish(plan: &mut Plan) -> Result<(), PlanFault>
-    ensures { (allowed : Set numbers) → Works allowed plan.old plan.new }
+    ensures { (may : ℕ → Bool) → Works may plan.old plan.new }
 {
     plan.wait(ticks_to_publish(plan.state()))?;
     if !plan.state().is_enabled() {
@@ -104,7 +122,7 @@ fn ticks_to_publish(state: &State) -> u64 {
 
 /// Grants a grace to the writers of all open ledgers that need another bookie, and waits until it is over.
 fn grant_all(plan: &mut Plan, workers: &Workers) -> Result<(), PlanFault>
-    ensures { Works workers.now plan.old plan.new }
+    ensures { Works (may_work workers.now) plan.old plan.new }
 {
     // The check of this loop has to meet the types of what stops a step by their names.
     let _stop: Option<(Reason, Refusal, Event)> = None;
@@ -136,7 +154,7 @@ fn work_all(
     plan: &mut Plan,
     workers: &mut Workers,
 ) -> Result<Vec<Option<Reason>>, PlanFault>
-    ensures { Works workers.old plan.old plan.new }
+    ensures { Works (may_work workers.old) plan.old plan.new }
 {
     // The check of this loop has to meet the types of what stops a step by their names.
     let _stop: Option<(Reason, Refusal, Event)> = None;
@@ -164,7 +182,7 @@ fn work_at(
     workers: &mut Workers,
     place: usize,
 ) -> Result<Option<Reason>, PlanFault>
-    ensures works { Works workers.old plan.old plan.new }
+    ensures works { Works (may_work workers.old) plan.old plan.new }
     ensures workers { workers.new ≡ workers.old }
 {
     let Some(repair) = repair_at(plan.state(), place) else {
@@ -198,13 +216,6 @@ fn leave_all(plan: &mut Plan, reasons: &[Option<Reason>]) -> Result<(), PlanFaul
         }
     }
     Ok(())
-}
-
-/// Whether something is left to do for a ledger: it has a task, or some member of an ensemble isn't registered.
-fn is_left(state: &State, ledger: &Ledger) -> bool
-    ensures { result ≡ plans.is_left state.now ledger.now }
-{
-    ledger.task().is_some() || under_of(state, ledger).is_some()
 }
 
 /// The reason for a ledger; without one the ledger has no task.

@@ -1,6 +1,6 @@
 // A plan as it grows: a script beside the session on which its commands are made.
 ghost use Rattle.std.specs.Prelude.{◌≡◌, ◌==◌, ◌+◌, ◌≤◌, ◌∷◌, ◌++◌, [], true, false, not, length, IfOk, OnOk, OnErr, MatchResult, None, Some, Ok};
-ghost use Rattle.std.specs.Prelude.{IsTrue};
+ghost use Rattle.std.specs.Prelude.{ℕ, Bool, IsTrue};
 ghost use Rattle.reh_types.specs.declared.limits.TheConstants.{MAX_SCRIPT_BYTES};
 ghost use Rattle.reh_model.specs.Book.{new_book};
 ghost use Rattle.reh_model.specs.Session.{replay, opened_session};
@@ -10,7 +10,6 @@ ghost use Rattle.reh_commands.specs.Answers.{asked};
 ghost use Rattle.reh_lines.specs.Lines.{lines_of};
 ghost use Rattle.reh_transcript.specs.Transcript.{starting, transcript};
 ghost use Rattle.reh_plan.specs.Replies.{ok_answers};
-ghost use Rattle.reh_types.specs.Sets.{Set, numbers};
 ghost use Rattle.reh_plan.specs.Plans.{Asks, IsMade, Makes, Works, Loses, is_nobodys, has_lf, loss_of, IsLeaving};
 
 use crate::faults::{PlanFault, Reason, StepFault};
@@ -90,6 +89,13 @@ impl Plan {
         self.session.state()
     }
 
+    /// The events of its commands.
+    pub(crate) fn events(&self) -> &[Event]
+        ensures { result.now ≡ self.now.events }
+    {
+        self.session.done()
+    }
+
     /// Loses the bookie, if it is registered, and no other.
     pub(crate) fn lose(&mut self, bookie: BookieIx) -> Result<(), PlanFault>
         ensures { OnOk result (Loses self.old (λ b. bookie == b) (loss_of self.old.state bookie) self.new) }
@@ -122,7 +128,7 @@ impl Plan {
 
     /// Waits so many ticks, if any.
     pub(crate) fn wait(&mut self, ticks: u64) -> Result<(), PlanFault>
-        ensures { (allowed : Set numbers) → Works allowed self.old self.new }
+        ensures { (may : ℕ → Bool) → Works may self.old self.new }
     {
         if ticks == 0 {
             return Ok(());
@@ -133,7 +139,7 @@ impl Plan {
     /// Makes an event of no bookie and writes its command, where that can be done.
     pub(crate) fn attempt(&mut self, event: &Event) -> Result<(), PlanFault>
         requires { is_nobodys event.now ≡ true }
-        ensures { (allowed : Set numbers) → Works allowed self.old self.new }
+        ensures { (may : ℕ → Bool) → Works may self.old self.new }
     {
         match self.work(event) {
             Err(StepFault::Fault(fault)) => Err(fault),
@@ -202,7 +208,7 @@ fn has_room(written: usize, line: &[u8], spare: usize) -> bool
 }
 
 /// Adds a line with its LF, or else nothing.
-fn push_line(text: &mut Vec<u8>, line: &[u8]) -> Result<(), AllocError>
+pub(crate) fn push_line(text: &mut Vec<u8>, line: &[u8]) -> Result<(), AllocError>
     ensures ok { OnOk result (text.new.items ≡ text.old.items ++ (line.now ++ 10 ∷ [])) }
     ensures err { OnErr result (text.new.items ≡ text.old.items) }
 {

@@ -1,10 +1,8 @@
 // What is done for one ledger, as AutoRecovery does it: its lock, the recovery of an open one, and the places of missing
 // members.
-ghost use Rattle.std.specs.Prelude.{◌≡◌, IfOk, IfSome, true};
-ghost use Rattle.reh_types.specs.Sets as set;
-ghost use Rattle.reh_types.specs.Sets.{Set, numbers};
+ghost use Rattle.std.specs.Prelude.{◌≡◌, ℕ, Bool, IfOk, IfSome, true};
 ghost use Rattle.reh_plan.specs.Plans.{Works};
-ghost use Rattle.reh_plan.specs.Workers.{can_work};
+ghost use Rattle.reh_plan.specs.Workers.{can_work, may_work};
 
 use crate::faults::{PlanFault, Reason, StepFault, first_reason};
 use crate::plans::Plan;
@@ -94,8 +92,8 @@ impl Repair {
         workers: &Workers,
         fragment: usize,
     ) -> Result<BookieIx, StepFault>
-        ensures works { Works workers.now plan.old plan.new }
-        ensures worker { IfOk result (λ worker. set.contains workers.now worker ≡ true) }
+        ensures works { Works (may_work workers.now) plan.old plan.new }
+        ensures worker { IfOk result (λ worker. may_work workers.now worker ≡ true) }
     {
         let Some(worker) = self.worker(plan.state(), workers, fragment) else {
             let fragment = fragment as u64;
@@ -116,14 +114,14 @@ impl Repair {
 
     /// Who takes places of the fragment.
     fn worker(&self, state: &State, workers: &Workers, fragment: usize) -> Option<BookieIx>
-        ensures { IfSome result (λ worker. can_work workers.now state.now worker ≡ true) }
+        ensures { IfSome result (λ worker. can_work (may_work workers.now) state.now worker ≡ true) }
     {
         workers.choose(state, self.ledger_in(state)?, fragment)
     }
 
     /// Grants the writer of an open ledger its grace, if it needs another bookie.
     pub(crate) fn grant(&self, plan: &mut Plan, workers: &Workers) -> Result<(), StepFault>
-        ensures { Works workers.now plan.old plan.new }
+        ensures { Works (may_work workers.now) plan.old plan.new }
     {
         // The check of this function has to meet the types of what stops a step by their names.
         let _stop: Option<(Reason, Refusal)> = None;
@@ -140,7 +138,7 @@ impl Repair {
 
     /// Recovers a ledger that isn't closed, if some member of its last ensemble isn't registered.
     fn close(&self, plan: &mut Plan, workers: &Workers) -> Result<(), StepFault>
-        ensures { Works workers.now plan.old plan.new }
+        ensures { Works (may_work workers.now) plan.old plan.new }
     {
         // The check of this function has to meet the types of what stops a step by their names.
         let _stop: Option<(Reason, Refusal)> = None;
@@ -157,7 +155,7 @@ impl Repair {
 
     /// Has a worker copy the entries of a missing member's place, and take it.
     fn fill(&self, plan: &mut Plan, workers: &mut Workers, gap: &Gap) -> Result<(), StepFault>
-        ensures works { Works workers.old plan.old plan.new }
+        ensures works { Works (may_work workers.old) plan.old plan.new }
         ensures workers { workers.new ≡ workers.old }
     {
         // The check of this function has to meet the types of what stops a step by their names.
@@ -191,7 +189,7 @@ impl Repair {
         plan: &mut Plan,
         workers: &mut Workers,
     ) -> Result<Option<Reason>, PlanFault>
-        ensures works { Works workers.old plan.old plan.new }
+        ensures works { Works (may_work workers.old) plan.old plan.new }
         ensures workers { workers.new ≡ workers.old }
     {
         // The check of this loop has to meet the types of what stops a step by their names.
@@ -209,7 +207,7 @@ impl Repair {
 
     /// Ends the task, if that can be done, or else gives the lock back.
     fn end(&self, plan: &mut Plan) -> Result<(), StepFault>
-        ensures { (allowed : Set numbers) → Works allowed plan.old plan.new }
+        ensures { (may : ℕ → Bool) → Works may plan.old plan.new }
     {
         let Some(worker) = self.owner(plan.state()) else {
             return Ok(());

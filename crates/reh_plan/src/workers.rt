@@ -1,7 +1,7 @@
 // Who takes the places of missing members.
 ghost use Rattle.std.specs.Prelude.{◌≡◌, true, not, ◌&&◌, IfOk, IfSome};
 ghost use Rattle.reh_types.specs.Sets as set;
-ghost use Rattle.reh_plan.specs.Workers.{can_work};
+ghost use Rattle.reh_plan.specs.Workers.{can_work, may_work};
 
 use reh_cluster::{Ledger, State};
 use reh_meta::Fragment;
@@ -9,10 +9,12 @@ use reh_types::{BookieIx, BookieSet, MAX_BOOKIES};
 use std::alloc::{AllocError, Global};
 use std::marker::Model;
 
-/// The bookies that may take places, and how much each bookie holds. Contracts see the former.
+/// The bookies that may take places, which are those that are allowed to and can be written to, and how much each bookie
+/// holds. Contracts see both sets.
 #[derive(Drop)]
 pub(crate) struct Workers {
     allowed: BookieSet,
+    read_only: BookieSet,
     /// How many entries each of the bookies that there can be holds: those of the picture, and about as many as it has
     /// copied since.
     loads: Vec<u64>,
@@ -21,19 +23,20 @@ pub(crate) struct Workers {
 impl Model for Workers {
     ghost use Rattle.reh_types.specs.Sets.{Set, numbers};
 
-    ghost Value = { Set numbers };
+    ghost Value = { Set numbers × Set numbers };
 
-    ghost view = { λ workers. workers.allowed };
+    ghost view = { λ workers. (workers.allowed, workers.read_only) };
 }
 
 impl Workers {
-    /// With what the bookies hold now. Only those that are allowed take places.
+    /// With what the bookies hold now. Only those that are allowed take places, and none that is read-only.
     pub(crate) fn of(
         alloc: Global,
         state: &State,
         allowed: &BookieSet,
+        read_only: &BookieSet,
     ) -> Result<Workers, AllocError>
-        ensures { IfOk result (λ workers. workers ≡ allowed.now) }
+        ensures { IfOk result (λ workers. workers ≡ (allowed.now, read_only.now)) }
     {
         let mut loads = Vec::new(alloc);
         for number in 0..MAX_BOOKIES as u8 {
@@ -41,6 +44,7 @@ impl Workers {
         }
         Ok(Workers {
             allowed: allowed.copied(),
+            read_only: read_only.copied(),
             loads,
         })
     }
@@ -48,7 +52,7 @@ impl Workers {
     /// Who takes places of a fragment: the worker that has the ledger's lock, if it can; else one that is in no
     /// ensemble of the ledger; else one that isn't in the fragment's. Of several it is the one that holds least.
     pub(crate) fn choose(&self, state: &State, ledger: &Ledger, fragment: usize) -> Option<BookieIx>
-        ensures { IfSome result (λ worker. can_work self.now state.now worker ≡ true) }
+        ensures { IfSome result (λ worker. can_work (may_work self.now) state.now worker ≡ true) }
     {
         let members = members_of(ledger.metadata().fragments().get(fragment)?);
         if let Some(lock) = ledger.lock()
@@ -65,7 +69,7 @@ impl Workers {
     /// Of the bookies that can join these members, the one that holds least, and of several such the first.
     fn least_outside(&self, state: &State, members: &BookieSet) -> Option<BookieIx>
         ensures { IfSome result (λ worker.
-            (can_work self.now state.now worker && not (set.contains members.now worker)) ≡ true) }
+            (can_work (may_work self.now) state.now worker && not (set.contains members.now worker)) ≡ true) }
     {
         let none = MAX_BOOKIES as u8;
         let mut least = none;
@@ -92,9 +96,16 @@ impl Workers {
 
     /// Whether the bookie may take places, is registered, and is none of these members.
     fn can_join(&self, state: &State, worker: BookieIx, members: &BookieSet) -> bool
-        ensures { result ≡ (can_work self.now state.now worker && not (set.contains members.now worker)) }
+        ensures { result ≡ (can_work (may_work self.now) state.now worker && not (set.contains members.now worker)) }
     {
-        self.allowed.contains(worker) && state.is_up(worker) && !members.contains(worker)
+        self.is_able(worker) && state.is_up(worker) && !members.contains(worker)
+    }
+
+    /// Whether the bookie may take places.
+    fn is_able(&self, worker: BookieIx) -> bool
+        ensures { result ≡ may_work self.now worker }
+    {
+        self.allowed.contains(worker) && !self.read_only.contains(worker)
     }
 
     /// Notes that the bookie holds so many entries more.

@@ -183,6 +183,7 @@ pub(crate) const CUT: &str = after!(
     zero: "the picture is printed",
     words: "the words of the command line are wrong",
     read: "a file can't be read",
+    write: "an answer can't be written",
     more: []
 );
 
@@ -193,11 +194,11 @@ pub(crate) const PLAN: &str = after!(
         "plan --lose b2:3181 examples/cluster.json",
         "plan --lose b2:3181 --to b4:3181,b5:3181 examples/cluster.json"
     ],
-    zero: "the answer is printed",
+    zero: "nothing is left to do, and each entry can be read",
     words: "the words of the command line are wrong, or name a bookie or rack that is unknown, or one twice",
     read: "a file can't be read, or a script is longer than 1 MiB",
     write: "an answer can't be written",
-    more: []
+    more: ["8  something is left to do, or an entry can't be read"]
 );
 
 /// Of `help`.

@@ -166,12 +166,16 @@ pub struct CutWords<'a> {
     pub assume_empty: bool,
 }
 
-/// What is asked: a plan for a picture without these bookies, of which the allowed ones take the places, or any.
+/// What is asked: a plan for a picture without these bookies, of which the allowed ones take the places, or any; or only
+/// what it comes to.
 #[derive(Drop)]
 pub struct PlanWords<'a> {
     pub picture: &'a str,
     pub lost: Vec<&'a str>,
     pub allowed: Vec<&'a str>,
+    pub only_sums: bool,
+    /// Whether the script says what each command is expected to be answered.
+    pub expects: bool,
 }
 
 /// What `--version` says; a picture has the number of its format in itself.
@@ -269,6 +273,8 @@ fn asked_plan<'a>(
         picture,
         lost: lost.to_vec(alloc)?,
         allowed: allowed.to_vec(alloc)?,
+        only_sums: given.get_flag("summary"),
+        expects: given.get_flag("expect"),
     })
 }
 
@@ -320,7 +326,7 @@ fn all_ways(alloc: Global) -> Result<String, AllocError> {
 
 /// The command line: no word, `run PICTURE SCRIPT --workers N --picture-out FILE`, `talk PICTURE`, `check PICTURE SCRIPT`,
 /// `drill PICTURE SCRIPT..`, `ok-to-stop --lose BOOKIE,.. FILE..`, `waves FILE..`, `risk FILE..`, `census FILE..`,
-/// `cut --ledgers ID,.. INVENTORY`, `plan --lose BOOKIE,.. --to BOOKIE,.. PICTURE`, or `help TOPIC`.
+/// `cut --ledgers ID,.. INVENTORY`, `plan --lose BOOKIE,.. --to BOOKIE,.. --expect --summary PICTURE`, or `help TOPIC`.
 fn command<'a>(alloc: Global, ways: &'a str) -> Result<Command<'a>, Error> {
     let command = Command::new(alloc, "rehearse")
         .version(VERSION)
@@ -412,11 +418,17 @@ fn plan_command<'a>(alloc: Global) -> Result<Command<'a>, Error> {
         .value_name("BOOKIE")
         .value_delimiter(',')
         .help("The bookies that may take their places; by default all");
+    let expects = flag_arg(alloc, "expect").help("As a runbook, with the expected answers");
+    let sums = flag_arg(alloc, "summary")
+        .help("Only what the plan comes to")
+        .conflicts_with("expect")?;
     let command = Command::new(alloc, "plan")
         .about("Plays AutoRecovery without some bookies, and prints the script")
         .after_help(helps::PLAN)
         .arg(lost)?
         .arg(allowed)?
+        .arg(expects)?
+        .arg(sums)?
         .arg(picture_arg(alloc))?;
     Ok(command)
 }

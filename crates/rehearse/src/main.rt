@@ -92,7 +92,10 @@ fn perform<R: Threads + Wait + Sync + Copy + Send + 'static>(
         Task::Risk(words) => risk_over(rt, threads, looks, &words),
         Task::Census(words) => census_over(rt, threads, looks, &words),
         Task::Cut(words) => cut_over(rt, &words),
-        Task::Plan(words) => plan_file(rt, &words),
+        Task::Plan(words) => match plan_file(rt, &words) {
+            Ok(status) => return ExitCode::from(status),
+            Err(fault) => Err(fault),
+        },
         Task::Help(topic) => help_on(rt, &topic),
     };
     end(rt, looks, done)

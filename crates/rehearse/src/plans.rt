@@ -1,28 +1,78 @@
 // What is to be done without some bookies, planned from the file of a picture.
+ghost use Rattle.std.specs.Prelude.{◌≡◌, ◌&&◌, ℕ, nat_lt, false, slice_get};
+ghost use Rattle.std.specs.Option.{option_map_or};
+ghost use Rattle.reh_types.specs.declared.limits.TheConstants.{MAX_BOOKIES};
+ghost use Rattle.reh_types.specs.Sets as set;
+
 use crate::faults::RunFault;
 use crate::files::{read_picture, write_out};
 use crate::names::{named_twice, unknown};
 use reh_cluster::Names;
-use reh_picture::check_picture;
-use reh_plan::{PlanFault, find_bookies, first_unknown, plan};
+use reh_picture::{BookieMarks, check_picture, list_picture};
+use reh_plan::{PlanFault, Planned, find_bookies, first_unknown, plan, runbook};
 use reh_types::{BookieIx, BookieSet, MAX_BOOKIES};
 use reh_words::PlanWords;
 use std::alloc::Global;
 
-/// Writes the plan to standard output.
-pub(crate) fn plan_file(rt: &HostRuntime, words: &PlanWords<'_>) -> Result<(), RunFault> {
+/// Writes the plan to standard output, as a script or a runbook, or what it comes to, and gives the status.
+pub(crate) fn plan_file(rt: &HostRuntime, words: &PlanWords<'_>) -> Result<u8, RunFault> {
     let bytes = read_picture(rt, words.picture)?;
-    let state = check_picture(rt.alloc(), &bytes)?;
-    let lost = bookies_of(rt.alloc(), words.picture, state.names(), &words.lost)?;
+    let planned = plan_of(rt.alloc(), &bytes, words)?;
+    if words.only_sums {
+        let names = planned.plan.state().names();
+        let text = planned.summary.text(rt.alloc(), names)?;
+        write_out(rt, text.as_bytes())?;
+    } else if words.expects {
+        let text = runbook(rt.alloc(), &planned).map_err(unplanned)?;
+        write_out(rt, &text)?;
+    } else {
+        write_out(rt, planned.plan.text())?;
+    }
+    Ok(planned.summary.status())
+}
+
+/// The plan for the picture of these bytes.
+fn plan_of(alloc: Global, bytes: &[u8], words: &PlanWords<'_>) -> Result<Planned, RunFault> {
+    let state = check_picture(alloc, bytes)?;
+    let read_only = read_only_of(&list_picture(alloc, bytes)?.marks);
+    let lost = bookies_of(alloc, words.picture, state.names(), &words.lost)?;
     let allowed = if words.allowed.is_empty() {
         all_bookies()
     } else {
-        bookies_of(rt.alloc(), words.picture, state.names(), &words.allowed)?
+        bookies_of(alloc, words.picture, state.names(), &words.allowed)?
     };
-    match plan(rt.alloc(), state, &lost, &allowed) {
-        Ok(plan) => write_out(rt, plan.text()),
-        Err(PlanFault::NoMemory) => Err(RunFault::NoMemory),
-        Err(PlanFault::NoRoom) => Err(RunFault::TooLong),
+    plan(alloc, state, &lost, &allowed, &read_only).map_err(unplanned)
+}
+
+/// The fault of a run that has no plan.
+fn unplanned(fault: PlanFault) -> RunFault {
+    match fault {
+        PlanFault::NoMemory => RunFault::NoMemory,
+        PlanFault::NoRoom => RunFault::TooLong,
+    }
+}
+
+/// The bookies that are read-only.
+fn read_only_of(marks: &[BookieMarks]) -> BookieSet
+    ensures { (b : ℕ) → set.contains result b
+        ≡ (nat_lt b MAX_BOOKIES && option_map_or (λ m. m.is_read_only) (slice_get marks.now b) false) }
+{
+    let mut read_only = BookieSet::new();
+    for number in 0..MAX_BOOKIES {
+        if is_read_only(marks, number) {
+            read_only.insert(BookieIx(number as u8));
+        }
+    }
+    read_only
+}
+
+/// Whether the bookie of that number is read-only.
+fn is_read_only(marks: &[BookieMarks], number: usize) -> bool
+    ensures { result ≡ option_map_or (λ m. m.is_read_only) (slice_get marks.now number) false }
+{
+    match marks.get(number) {
+        Some(mark) => mark.is_read_only(),
+        None => false,
     }
 }
 

@@ -6,18 +6,18 @@ use Rattle.reh_plan.proofs.planning.publish.Goals.{then-not-is_enabled+in_ok-att
 
 pub returns-in_err-attempt : goal.returns-in_err-attempt
 returns-in_err-attempt c =
-    λ allowed.
-    works_on allowed c.args.plan.now c.wait.new.self c.attempt.new.self (c.attempt.ensures allowed) (c.wait.ensures allowed)
+    λ may.
+    works_on may c.args.plan.now c.wait.new.self c.attempt.new.self (c.attempt.ensures may) (c.wait.ensures may)
 
 pub returns : goal.returns
-returns c = λ allowed.
-    let before : Works allowed c.args.plan.now c.if-not-is_enabled.plan =
+returns c = λ may.
+    let before : Works may c.args.plan.now c.if-not-is_enabled.plan =
     elim c.if-not-is_enabled.branch [
       | then-not-is_enabled+in_ok-attempt w ↦
-          works_same allowed c.args.plan.now w.attempt.new.self c.if-not-is_enabled.plan w.plan-is
-          (works_on allowed c.args.plan.now c.wait.new.self w.attempt.new.self (w.attempt.ensures allowed)
-          (c.wait.ensures allowed))
+          works_same may c.args.plan.now w.attempt.new.self c.if-not-is_enabled.plan w.plan-is
+          (works_on may c.args.plan.now c.wait.new.self w.attempt.new.self (w.attempt.ensures may)
+          (c.wait.ensures may))
       | else-not-is_enabled w ↦
-          works_same allowed c.args.plan.now c.wait.new.self c.if-not-is_enabled.plan w.plan-is (c.wait.ensures allowed)
+          works_same may c.args.plan.now c.wait.new.self c.if-not-is_enabled.plan w.plan-is (c.wait.ensures may)
     ] in
-    works_on allowed c.args.plan.now c.if-not-is_enabled.plan c.attempt-2.new.self (c.attempt-2.ensures allowed) before
+    works_on may c.args.plan.now c.if-not-is_enabled.plan c.attempt-2.new.self (c.attempt-2.ensures may) before

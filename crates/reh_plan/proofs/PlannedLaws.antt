@@ -1,5 +1,5 @@
 -- What all of a plan's steps come to.
-use Rattle.std.proofs.Common.{◌≡◌, ◌∙◌, List, [], ◌++◌, length, true, None, is_some, sym, ap, subst, true≢false}
+use Rattle.std.proofs.Common.{◌≡◌, ◌∙◌, List, [], ◌++◌, ℕ, Bool, length, true, None, is_some, sym, ap, subst, true≢false}
 use Rattle.std.proofs.lemmas.List.Elements.{All-weaker}
 use Rattle.std.proofs.lemmas.List.Sums.{AllPass-from_list_all}
 use Rattle.reh_types.specs.declared.moves.Event.{Event}
@@ -13,10 +13,10 @@ use Rattle.reh_plan.proofs.PlanLaws.{IsWithout-works}
 abbrev pub empty_draft : Cluster → Draft
 empty_draft s = record { opening = s; state = s; events = []; lines = [] }
 
-pub record IsPlanned (s : Cluster) (lost allowed : Set numbers) (n : Draft) : Type 0 where
+pub record IsPlanned (s : Cluster) (lost : Set numbers) (may : ℕ → Bool) (n : Draft) : Type 0 where
   pub opening : n.opening ≡ s
   pub without : IsWithout s (set.contains lost) n.state
-  pub order : GoesOnBy allowed (losses_of s (set.contains lost) (length s.names)) n.events
+  pub order : GoesOnBy may (losses_of s (set.contains lost) (length s.names)) n.events
   pub only : OnlyLeft s.names n.state n.lines
 
 -- a plan without a comment
@@ -28,9 +28,9 @@ only_commands d all =
     d.lines (AllPass-from_list_all (λ line. is_some (asked d.opening.names line)) d.lines all)
 
 -- bookies are lost, work is done, and what is left is named
-pub planned : (s : Cluster) (lost allowed : Set numbers) (l w n : Draft) → Loses (empty_draft s) (set.contains lost) (losses_of s (set.contains lost) (length s.names)) l
-    → Works allowed l w → IsNaming w n → IsPlanned s lost allowed n
-planned s lost allowed l w n first then last =
+pub planned : (s : Cluster) (lost : Set numbers) (may : ℕ → Bool) (l w n : Draft) → Loses (empty_draft s) (set.contains lost) (losses_of s (set.contains lost) (length s.names)) l
+    → Works may l w → IsNaming w n → IsPlanned s lost may n
+planned s lost may l w n first then last =
     let opening : w.opening ≡ s = then.opening ∙ first.opening in
     let all : is_all_asked w ≡ true = then.commands ∙ first.commands in
     record {

@@ -1,0 +1,67 @@
+-- What a plan comes to.
+use Rattle.std.specs.Prelude.{◌≡◌, ℕ, ◌-◌, ◌==◌, ◌&&◌, Bool, false, List, [], ◌∷◌, ◌++◌, map, flat_map, length, count_by, sum_by}
+use Rattle.std.specs.Prelude.{unwrap_or, codes, if◌then◌else◌}
+use Rattle.std.specs.List.{range_with_len}
+use Rattle.std.specs.Fmt.{decimal}
+use Rattle.reh_types.specs.declared.moves.Event.{Event}
+use Rattle.reh_types.specs.declared.moves.Event.TheVariants.{Swap}
+use Rattle.reh_model.specs.Contents.{count_held}
+use Rattle.reh_model.specs.Cluster.{Cluster}
+use Rattle.reh_model.specs.Survey.{survey}
+use Rattle.reh_commands.specs.Texts.{name_of, spaced}
+use Rattle.reh_plan.specs.Plans.{Draft, is_left}
+use Rattle.reh_plan.specs.declared.summaries.Share.{Share}
+use Rattle.reh_plan.specs.declared.summaries.Summary.{Summary}
+
+-- whether the bookie takes a place by the event
+abbrev pub is_place_of : ℕ → Event → Bool
+is_place_of bookie (Swap worker ledger fragment index version) = worker == bookie
+is_place_of bookie other = false
+
+-- how many places the bookie takes by these events
+abbrev pub places_of : List Event → ℕ → ℕ
+places_of events bookie = count_by (is_place_of bookie) events
+
+-- how many entries each bookie holds
+abbrev pub holdings_of : Cluster → List ℕ
+holdings_of s = map (λ bookie. count_held s.parts.held bookie) (range_with_len 0 (length s.names))
+
+-- what a bookie is given: the places that it takes, and the entries that it holds more in the end
+abbrev pub share_of : Draft → ℕ → Share
+share_of d bookie = record {
+  bookie = bookie;
+  places = places_of d.events bookie;
+  entries = count_held d.state.parts.held bookie - count_held d.opening.parts.held bookie;
+}
+
+-- how many ledgers are left
+abbrev pub left_of : Cluster → ℕ
+left_of s = count_by (is_left s) s.parts.ledgers
+
+-- how many entries can't be read, of all fragments that have a stop
+abbrev pub unreadable_of : Cluster → ℕ
+unreadable_of s = sum_by (λ line. unwrap_or line.lost 0) (survey s)
+
+-- that is what the plan comes to
+pub record IsSum (d : Draft) (summary : Summary) : Type 0 where
+  pub shares : summary.shares.items ≡ map (share_of d) (range_with_len 0 (length d.opening.names))
+  pub left : summary.left ≡ left_of d.state
+  pub unreadable : summary.unreadable ≡ unreadable_of d.state
+
+-- whether nothing is left, and each entry can be read
+abbrev pub is_whole : Summary → Bool
+is_whole summary = (summary.left == 0) && (summary.unreadable == 0)
+
+-- Texts
+
+-- the line of a bookie that is given something
+abbrev pub share_text : List (List ℕ) → Share → List ℕ
+share_text names share =
+    if (share.places == 0) && (share.entries == 0) then []
+    else (spaced (codes "bookie" ∷ name_of names share.bookie ∷ codes "places" ∷ decimal share.places ∷ codes "entries"
+    ∷ decimal share.entries ∷ []) ++ codes "\n")
+
+abbrev pub summary_text : List (List ℕ) → Summary → List ℕ
+summary_text names summary =
+    flat_map (share_text names) summary.shares.items
+    ++ (codes "ledgers left " ++ (decimal summary.left ++ (codes "\nentries lost " ++ (decimal summary.unreadable ++ codes "\n"))))

@@ -1,0 +1,197 @@
+// What a plan comes to: what each bookie is given, what is left, and what can't be read.
+ghost use Rattle.std.specs.Prelude.{◌≡◌, ◌==◌, ◌^◌, ◌<◌, ◌≤◌, ◌++◌, length, unwrap_or, if◌then◌else◌, IfOk, OnOk, string_bytes, codes, flat_map};
+ghost use Rattle.reh_types.specs.declared.limits.TheConstants.{MAX_BOOKIES};
+ghost use Rattle.reh_commands.specs.Texts.{name_of};
+ghost use Rattle.reh_plan.specs.Plans as plans;
+ghost use Rattle.reh_plan.specs.Summaries as model;
+ghost use Rattle.reh_plan.specs.Summaries.{IsSum};
+
+use crate::plans::Plan;
+use reh_audit::under_of;
+use reh_cluster::{Ledger, Names, State};
+use reh_scan::survey_plain;
+use reh_types::{BookieIx, Event, SurveyLine};
+use std::alloc::{AllocError, Global};
+
+/// What a bookie is given by a plan.
+#[derive(Clone, Copy, PartialEq, Eq, Debug)]
+pub struct Share {
+    pub bookie: BookieIx,
+    /// How many places it takes.
+    pub places: usize,
+    /// How many entries it holds more in the end.
+    pub entries: usize,
+}
+
+/// What a plan comes to.
+#[derive(Drop)]
+pub struct Summary {
+    /// What each bookie is given, in picture order.
+    pub shares: Vec<Share>,
+    /// How many ledgers are left.
+    pub left: usize,
+    /// How many entries can't be read in the end, of all fragments whose entries are known.
+    pub unreadable: u64,
+}
+
+impl Summary {
+    /// Whether nothing is left, and each entry can be read.
+    pub fn is_whole(&self) -> bool
+        ensures { result ≡ model.is_whole self.now }
+    {
+        self.left == 0 && self.unreadable == 0
+    }
+
+    /// The exit status of a plan that comes to this: 8 where something is left or can't be read.
+    pub fn status(&self) -> u8
+        ensures { result ≡ (if model.is_whole self.now then 0 else 8) }
+    {
+        if self.is_whole() { 0 } else { 8 }
+    }
+
+    /// A line of each bookie that is given something, and what is left and can't be read.
+    pub fn text(&self, alloc: Global, names: &Names) -> Result<String, AllocError>
+        ensures { IfOk result (λ text. string_bytes text ≡ model.summary_text names.now self.now) }
+    {
+        let mut text = String::new(alloc);
+        push_shares(&mut text, names, &self.shares)?;
+        write!(
+            text,
+            "ledgers left {}\nentries lost {}\n",
+            self.left, self.unreadable
+        )?;
+        Ok(text)
+    }
+}
+
+/// Adds the lines of bookies that are given something.
+fn push_shares(text: &mut String, names: &Names, shares: &[Share]) -> Result<(), AllocError>
+    ensures { OnOk result (string_bytes text.new
+        ≡ string_bytes text.old ++ flat_map (model.share_text names.now) shares.now) }
+{
+    for share in shares {
+        push_share(text, names, share)?;
+    }
+    Ok(())
+}
+
+/// Adds the line of a bookie, if it is given something.
+fn push_share(text: &mut String, names: &Names, share: &Share) -> Result<(), AllocError>
+    ensures { OnOk result (string_bytes text.new
+        ≡ string_bytes text.old ++ model.share_text names.now share.now) }
+{
+    if share.places == 0 && share.entries == 0 {
+        return Ok(());
+    }
+    text.push_str("bookie")?;
+    push_name(text, names, share.bookie)?;
+    write!(text, " places {} entries {}\n", share.places, share.entries)
+}
+
+/// Adds a space and the bookie's name, or its number where the names have none for it.
+fn push_name(text: &mut String, names: &Names, bookie: BookieIx) -> Result<(), AllocError>
+    ensures { OnOk result (string_bytes text.new
+        ≡ string_bytes text.old ++ (codes " " ++ name_of names.now bookie)) }
+{
+    match names.name(bookie) {
+        Some(name) => write!(text, " {name}"),
+        None => write!(text, " {}", bookie.0),
+    }
+}
+
+/// How many entries each bookie holds, in picture order.
+pub(crate) fn holdings_of(alloc: Global, state: &State) -> Result<Vec<usize>, AllocError>
+    ensures held { IfOk result (λ held. held.items ≡ model.holdings_of state.now) }
+    ensures few { IfOk result (λ held. length held.items ≤ MAX_BOOKIES) }
+{
+    let mut held = Vec::new(alloc);
+    for number in 0..state.names().len() as u8 {
+        held.push(state.count(BookieIx(number)))?;
+    }
+    Ok(held)
+}
+
+/// What the plan comes to, where each bookie held so many entries before it.
+pub(crate) fn summary_of(alloc: Global, held: &[usize], plan: &Plan) -> Result<Summary, AllocError>
+    requires held { held.now ≡ model.holdings_of plan.now.opening }
+    requires few { length held.now ≤ MAX_BOOKIES }
+    ensures { IfOk result (λ summary. IsSum plan.now summary) }
+{
+    let state = plan.state();
+    let mut shares = Vec::new(alloc);
+    for (number, before) in held.iter().enumerate() {
+        let bookie = BookieIx(number as u8);
+        shares.push(Share {
+            bookie,
+            places: places_of(plan.events(), bookie),
+            entries: state.count(bookie).saturating_sub(*before),
+        })?;
+    }
+    Ok(Summary {
+        shares,
+        left: count_left(state),
+        unreadable: count_unreadable(alloc, state)?,
+    })
+}
+
+/// How many places the bookie takes by these events.
+fn places_of(events: &[Event], bookie: BookieIx) -> usize
+    ensures { result ≡ model.places_of events.now bookie }
+{
+    events
+        .iter()
+        .filter(|event| is_place_of(event, bookie))
+        .count()
+}
+
+/// Whether the bookie takes a place by the event.
+fn is_place_of(event: &Event, bookie: BookieIx) -> bool
+    ensures { result ≡ model.is_place_of bookie event.now }
+{
+    match event {
+        Event::Swap { worker, .. } => *worker == bookie,
+        _ => false,
+    }
+}
+
+/// Whether something is left to do for a ledger: it has a task, or some member of an ensemble isn't registered.
+pub(crate) fn is_left(state: &State, ledger: &Ledger) -> bool
+    ensures { result ≡ plans.is_left state.now ledger.now }
+{
+    ledger.task().is_some() || under_of(state, ledger).is_some()
+}
+
+/// How many ledgers are left.
+fn count_left(state: &State) -> usize
+    ensures { result ≡ model.left_of state.now }
+{
+    state
+        .ledgers()
+        .iter()
+        .filter(|ledger| is_left(state, ledger))
+        .count()
+}
+
+/// How many entries can't be read, of all fragments that have a stop.
+fn count_unreadable(alloc: Global, state: &State) -> Result<u64, AllocError>
+    ensures { IfOk result (λ count. count ≡ model.unreadable_of state.now) }
+{
+    let _limits = state.ledgers();
+    let lines = survey_plain(alloc, state)?;
+    let mut count = 0;
+    for line in &lines {
+        count += lost_by(line);
+    }
+    Ok(count)
+}
+
+/// How many entries of a line's fragment can't be read, as far as they are known.
+fn lost_by(line: &SurveyLine) -> u64
+    ensures value { result ≡ unwrap_or line.now.lost 0 }
+    ensures few { result < 2 ^ 32 }
+{
+    match line.lost {
+        Some(lost) => lost as u64,
+        None => 0,
+    }
+}
