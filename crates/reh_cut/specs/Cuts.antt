@@ -178,16 +178,20 @@ show_fragments rules line name holding =
 abbrev pub is_member : LedgerLine → List ℕ → Bool
 is_member line name = list_any (λ (fragment : Fragment). is_some (index_in fragment.ensemble name)) line.fragments
 
+-- whether the line names the bookie: as a member, or in a content
+abbrev pub names_bookie : LedgerLine → List ℕ → Bool
+names_bookie line name = is_member line name || is_some (content_of line name)
+
 -- nothing is listed past the bound
 abbrev pub ends_below : ℕ → Option Holding → Bool
 ends_below bound holding = option_map_or (λ h. list_all (is_below bound) h.ranges) holding true
 
--- of the bookie of that name, which has something listed where it is a member
+-- of the bookie of that name: there is a list just where the line names the bookie, and it shows each entry
 abbrev pub shows_content : Rules → LedgerLine → List ℕ → Option Holding → Bool
 shows_content rules line name holding =
-    (is_some holding || not (is_member line name))
-    && ends_below (bound_of line) holding
-    && show_fragments rules line name holding
+    if names_bookie line name
+    then is_some holding && ends_below (bound_of line) holding && show_fragments rules line name holding
+    else is_none holding
 
 abbrev pub shows_content_at : Head → Assume → LedgerLine → List (List ℕ) → List Holding → ℕ → Bool
 shows_content_at head assume line names holdings i =

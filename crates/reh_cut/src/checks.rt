@@ -367,13 +367,20 @@ fn show_fragments(rules: Rules, line: &LedgerLine, name: &str, holding: Option<&
 }
 
 /// Whether an ensemble of the ledger has the bookie as a member.
-pub(crate) fn is_member(line: &LedgerLine, name: &str) -> bool
+fn is_member(line: &LedgerLine, name: &str) -> bool
     ensures { result ≡ model.is_member line.now name.now }
 {
     line.fragments.as_slice().iter().any(|fragment| index_in(
         fragment.ensemble.as_slice(),
         name,
     ).is_some())
+}
+
+/// Whether the line names the bookie: as a member, or in a content.
+pub(crate) fn names_bookie(line: &LedgerLine, name: &str) -> bool
+    ensures { result ≡ model.names_bookie line.now name.now }
+{
+    is_member(line, name) || content_of(line, name).is_some()
 }
 
 /// Whether nothing is listed past the bound.
@@ -390,7 +397,10 @@ fn ends_below(bound: u64, holding: Option<&Holding>) -> bool
 fn shows_content(rules: Rules, line: &LedgerLine, name: &str, holding: Option<&Holding>) -> bool
     ensures { result ≡ model.shows_content rules line.now name.now (option_copied holding.entry) }
 {
-    (holding.is_some() || !is_member(line, name))
+    if !names_bookie(line, name) {
+        return holding.is_none();
+    }
+    holding.is_some()
         && ends_below(bound_of(line), holding)
         && show_fragments(rules, line, name, holding)
 }

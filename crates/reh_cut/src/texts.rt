@@ -1,5 +1,5 @@
 // The picture that is written, as JSON. No contract says what it is: it is read back, and compared with the lines.
-use crate::checks::{bookie_in, content_of, entries_of, is_member, rules_for, striping_of};
+use crate::checks::{bookie_in, content_of, entries_of, names_bookie, rules_for, striping_of};
 use crate::faults::CutFault;
 use crate::said::{Assume, Rules, Striping, is_sure, shown};
 use reh_census_file::NameList;
@@ -155,7 +155,7 @@ fn push_contents(
 ) -> Result<(), CutFault> {
     for number in 0..names.len() {
         if let Some(name) = names.name(number as u16) {
-            if is_member(line, name) || content_of(line, name).is_some() {
+            if names_bookie(line, name) {
                 let rules = rules_for(head, assume, name);
                 values.push(content_value(alloc, rules, line, name)?)?;
             }

@@ -145,7 +145,7 @@ pub(crate) const CENSUS: &str = after!(
 
 /// Of `cut`.
 pub(crate) const CUT: &str = after!(
-    "An inventory shows a whole cluster, and a picture at most 64 bookies and 512 ledgers of at most 65536 entries.
+    "A picture has at most 64 bookies and 512 ledgers, and entries up to 65535.
 
 ",
     uses: [

@@ -1,5 +1,6 @@
 -- The picture of ledgers of an inventory.
 use Rattle.std.specs.Prelude.{ℕ, List, String, string_bytes, if◌then◌else◌}
+use Rattle.std.specs.declared.alloc.Global.{Global}
 use Rattle.reh_cut.specs.Chosen.{IsChosen, IsCutOf}
 use Rattle.reh_cut.specs.declared.chosen.ChosenLedgers.{ChosenLedgers}
 use Rattle.reh_cut.specs.declared.said.Assume.{Assume}
@@ -16,6 +17,6 @@ abbrev pub assume_of : CutWords → Assume
 assume_of words = if words.assume_held then Held else (if words.assume_empty then Empty else Nothing)
 
 -- the text is the picture of the ledgers that are asked for, of some lines
-pub record IsCutFor (words : CutWords) (text : String) : Type 0 where
+pub record IsCutFor (words : CutWords) (text : String Global) : Type 0 where
   pub lines : List (List ℕ)
   pub cut : IsCutOf words.ledgers.items lines (assume_of words) (string_bytes text)

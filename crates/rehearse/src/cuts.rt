@@ -1,5 +1,5 @@
 // The picture of some ledgers of an inventory.
-ghost use Rattle.std.specs.Prelude.{IfOk, OnOk, ℕ, List};
+ghost use Rattle.std.specs.Prelude.{◌≡◌, IfOk, OnOk, ℕ, List};
 ghost use Rattle.rehearse.specs.Cuts as model;
 
 use crate::faults::RunFault;
@@ -24,8 +24,7 @@ fn cut_of(rt: &HostRuntime, words: &CutWords<'_>) -> Result<String, RunFault>
     let alloc = rt.alloc();
     let path = words.inventory;
     let mut reader = reader_of(alloc, path, open_file(rt, path)?)?;
-    let ids = words.ledgers.clone()?;
-    let chosen = choose_lines(alloc, path, &mut reader, ids)?;
+    let chosen = choose_lines(alloc, path, &mut reader, &words.ledgers)?;
     match chosen.cut(alloc, assumed(words)) {
         Ok(text) => Ok(text),
         Err(fault) => Err(uncut(alloc, path, &fault)),
@@ -50,11 +49,11 @@ fn choose_lines<R: Read + Drop>(
     alloc: Global,
     path: &str,
     reader: &mut BufReader<R>,
-    ids: Vec<u64>,
+    ids: &[u64],
 ) -> Result<ChosenLedgers, RunFault>
-    ensures { IfOk result (model.IsChoosing ids.items) }
+    ensures { IfOk result (model.IsChoosing ids.now) }
 {
-    let mut chosen = ChosenLedgers::new(alloc, ids);
+    let mut chosen = ChosenLedgers::new(alloc, Vec::from_slice(alloc, ids)?);
     let mut line = Vec::new(alloc);
     for number in 1..u64::MAX {
         line.clear();

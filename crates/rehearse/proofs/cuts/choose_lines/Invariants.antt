@@ -3,4 +3,4 @@ use Rattle.rehearse.specs.Cuts.{IsChoosing}
 use Rattle.rehearse.proofs.cuts.choose_lines.Given as goal
 
 abbrev pub invariant-loop-number : goal.invariant-loop-number
-invariant-loop-number g l = IsChoosing l.ids.items l.chosen
+invariant-loop-number g l = IsChoosing l.ids l.chosen
