@@ -182,7 +182,7 @@ fn names_in<R: Read + Drop>(
         }
         match number_line(alloc, &mut names, &line) {
             Ok(()) => line.clear(),
-            Err(fault) => return Err(uncounted(alloc, path, number, fault)),
+            Err(fault) => return Err(uncounted(alloc, path, number, &fault)),
         }
     }
     let ordered = in_order(alloc, &names)?;
@@ -201,7 +201,7 @@ fn begin(
 {
     match InventoryCount::begin(alloc, names, is_strict, line) {
         Ok(count) => Ok(count),
-        Err(fault) => Err(uncounted(alloc, path, 1, fault)),
+        Err(fault) => Err(uncounted(alloc, path, 1, &fault)),
     }
 }
 
@@ -217,7 +217,7 @@ fn add(
 {
     match count.add(alloc, line) {
         Ok(()) => Ok(()),
-        Err(fault) => Err(uncounted(alloc, path, number, fault)),
+        Err(fault) => Err(uncounted(alloc, path, number, &fault)),
     }
 }
 
@@ -227,7 +227,7 @@ fn finish(alloc: Global, path: &str, count: InventoryCount) -> Result<NamedCensu
 {
     match count.finish(alloc) {
         Ok(census) => Ok(census),
-        Err(fault) => Err(uncounted(alloc, path, 1, fault)),
+        Err(fault) => Err(uncounted(alloc, path, 1, &fault)),
     }
 }
 
@@ -257,9 +257,9 @@ fn count_lines<R: Read + Drop>(
 }
 
 /// The fault of a line that can't be counted.
-fn uncounted(alloc: Global, path: &str, line: u64, fault: CountFault) -> RunFault {
+fn uncounted(alloc: Global, path: &str, line: u64, fault: &CountFault) -> RunFault {
     let text = match fault {
-        CountFault::Line(fault) => return refused(alloc, path, line, fault),
+        CountFault::Line(fault) => return refused(alloc, path, line, *fault),
         CountFault::NoMemory => return RunFault::NoMemory,
         CountFault::TooManyBookies => format!(in alloc;
             "inventory {path}: line {line}: there are more than 4096 bookies"
