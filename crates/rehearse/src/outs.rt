@@ -35,17 +35,40 @@ pub(crate) fn run_out<R: Threads + Wait + Sync>(
     let bytes = read_picture(rt, words.picture).map_err(RunFault::without_reason)?;
     let mut rehearsal = open_rehearsal(rt.alloc(), &bytes)?;
     let began = list_picture(rt.alloc(), &bytes)?;
+    play_out(rt, threads, looks, words, &mut rehearsal)?;
+    write_end(rt, looks, words, state_at_end(&rehearsal), &began)
+}
+
+/// Plays a script file at the book of a picture, to standard output.
+fn play_out<R: Threads + Wait + Sync>(
+    rt: &HostRuntime,
+    threads: &R,
+    looks: Looks,
+    words: &PlayOut<'_>,
+    rehearsal: &mut Opened,
+) -> Result<(), RunFault>
+    requires { length rehearsal.old.book.book.out ≡ rehearsal.old.seat.out }
+{
     let gathered = Gathered::new(rt.alloc(), ToWrite::new(io::writer(rt)))?;
     let mut writer = Colored::new(rt.alloc(), gathered, looks.colors_answers);
-    let played = play_file(rt, threads, words, &mut rehearsal, &mut writer);
+    let played = play_file(rt, threads, words, rehearsal, &mut writer);
     let flushed = writer.flush();
-    after_flush(played, flushed)?;
-    let state = state_at_end(&rehearsal);
-    let text = text_of(rt.alloc(), words.out, state, &began)?;
+    after_flush(played, flushed)
+}
+
+/// Writes the picture of the state at the end to a file, and says what that picture leaves out.
+fn write_end(
+    rt: &HostRuntime,
+    looks: Looks,
+    words: &PlayOut<'_>,
+    state: &State,
+    began: &Listed,
+) -> Result<(), RunFault> {
+    let text = text_of(rt.alloc(), words.out, state, began)?;
     write_whole(rt, words.out, text.as_str())?;
     if !looks.is_quiet {
         say_unshown(rt, words.out, Unshown::of(state));
-        say_marks(rt, words, state, &began);
+        say_marks(rt, words, state, began);
     }
     Ok(())
 }
