@@ -84,12 +84,12 @@ fn choose_line(
 
 /// Why there is no picture.
 fn uncut(alloc: Global, path: &str, fault: &CutFault) -> RunFault {
-    if let CutFault::NoMemory = fault {
-        return RunFault::NoMemory;
-    }
-    match uncut_text(alloc, path, fault) {
-        Ok(text) => RunFault::Unfit(text),
-        Err(want) => RunFault::from(want),
+    match fault {
+        CutFault::NoMemory => RunFault::NoMemory,
+        fault => match uncut_text(alloc, path, fault) {
+            Ok(text) => RunFault::Unfit(text),
+            Err(want) => RunFault::from(want),
+        },
     }
 }
 
