@@ -1,14 +1,13 @@
 -- Why something can't be counted, seen by what has it.
-use Rattle.std.proofs.Common.{◌≡◌, ◌∙◌, ◌<◌, ◌≤◌, ◌+◌, ◌^◌, inl, inr, ℕ, zero, suc, Bool, true, false, true≢false, not, if◌then◌else◌, List, [], ◌∷◌, ◌++◌, Option, Some, None}
+use Rattle.std.proofs.Common.{◌≡◌, ◌∙◌, ◌<◌, ◌≤◌, ◌+◌, ◌^◌, inl, inr, ℕ, zero, suc, Bool, true, false, true≢false, not, if◌then◌else◌, List, [], ◌∷◌, ◌++◌, Option, Some, None, Vec}
 use Rattle.std.proofs.Common.{length, map, get_or, take, refl, ap, sym, subst, arith, nat_eq}
 use Rattle.std.specs.Prelude.{IfNone, IsErrAnd, IsSome, MatchResult, Result, slice_get}
 use Rattle.std.specs.List.{Contains, IsDistinct, flat_map, list_any}
-use Rattle.std.specs.Option.{IsSomeAnd, option_map}
+use Rattle.std.specs.Option.{IsSomeAnd}
+use Rattle.std.specs.declared.alloc.Global.{Global}
 use Rattle.std.proofs.lemmas.Bool.{cases_lt}
 use Rattle.std.proofs.lemmas.Bool.Decides.{nat_tests}
-use Rattle.std.proofs.lemmas.List.{take-map}
 use Rattle.std.proofs.lemmas.Map.Views.{Contains-from_any}
-use Rattle.std.proofs.lemmas.Option.{slice_get-map}
 use Rattle.std.proofs.lemmas.Result.{err_from_is_err_and}
 use Rattle.indexmap.specs.IndexSet.{insert_key}
 use Rattle.reh_census.specs.declared.censuses.CountedEnsemble.{CountedEnsemble}
@@ -30,7 +29,7 @@ use Rattle.reh_inputs.specs.declared.ledgers.Reading.{Reading}
 use Rattle.reh_inputs.specs.Faults.{IsGatherFault}
 use Rattle.reh_inputs.specs.Gathered.{fault_of_tally, ids_in, ledger_in}
 use Rattle.reh_inputs.specs.Inputs.{of_picture}
-use Rattle.reh_inputs.specs.Uncounted.{ComesAgain, HasUnfit, InputHasUnfit, IsCountFault, IsIdFault, IsUnfitAt, IsUnfitFault}
+use Rattle.reh_inputs.specs.Uncounted.{ComesAgain, HasUnfit, InputHasUnfit, IsCountFault, IsIdFault, IsListFault, IsUnfitAt, IsUnfitFault}
 use Rattle.reh_inputs.specs.United.{number_of}
 
 -- what is no more than that is no more than this, and who has such a ledger there has it here
@@ -88,20 +87,15 @@ same_number : (x y : ℕ) → nat_eq x y ≡ true → x ≡ y
 same_number x y same = grind (arith, nat_tests)
 
 -- an id that is there already, once those before it are each once
-pub comes_again : (before : List ℕ) (ledgers : List PicturedLedger) (k : ℕ) (g : PicturedLedger) (id : ℕ) (held after : List ℕ)
-    → k < length ledgers → g ≡ get_or ledgers k g → id ≡ g.id
-    → held ≡ before ++ map (λ (g : PicturedLedger). g.id) (take k ledgers)
+pub comes_again : (before ids : List ℕ) (k id : ℕ) (held after : List ℕ)
+    → k < length ids → id ≡ get_or ids k id → held ≡ before ++ take k ids
     → list_any (nat_eq id) held ≡ true → after ≡ insert_key nat_eq held id → IsDistinct nat_eq after
-    → ComesAgain before (map (λ (g : PicturedLedger). g.id) ledgers) id
-comes_again before ledgers k g id held after within is its same found added distinct =
-    let taken : held ≡ before ++ take k (map (λ (g : PicturedLedger). g.id) ledgers) =
-    same ∙ ap (λ (ids : List ℕ). before ++ ids) (sym (take-map (λ (g : PicturedLedger). g.id) k ledgers)) in
+    → ComesAgain before ids id
+comes_again before ids k id held after within is taken found added distinct =
     let kept : after ≡ held = added ∙ ap (λ (b : Bool). if b then held else held ++ id ∷ []) found in
     record {
       place = k;
-      is_there = slice_get-map (λ (g : PicturedLedger). g.id) ledgers k
-          ∙ ap (option_map (λ (g : PicturedLedger). g.id)) (slice_get-there ledgers k g within is)
-          ∙ ap (λ (n : ℕ). Some n) (sym its);
+      is_there = slice_get-there ids k id within is;
       each_once = subst (λ (ids : List ℕ). IsDistinct nat_eq ids) (kept ∙ taken) distinct;
       is_before = subst (λ (ids : List ℕ). Contains ids id) taken (Contains-from_any same_number id held found);
     }
@@ -126,6 +120,22 @@ ids_fault inputs strict k one before there same (gather.Twice number id) is =
     (subst (λ (ids : List ℕ). ComesAgain ids (of_picture ids_in one) id) same is.1))
 ids_fault inputs strict k one before there same gather.NoMemory is = tt
 ids_fault inputs strict k one before there same other is = absurd is
+
+-- the same of lists of ids
+pub list_fault : (lists : List (Vec ℕ Global)) (k : ℕ) (ids : Vec ℕ Global) (before : List ℕ)
+    → slice_get lists k ≡ Some ids → before ≡ flat_map (λ list. list.items) (take k lists)
+    → (fault : GatherFault) → IsIdFault k before ids.items fault → IsListFault lists fault
+list_fault lists k ids before there same (gather.Twice number id) is =
+    subst (λ (n : ℕ).
+    IsSomeAnd (slice_get lists n)
+    (λ list. ComesAgain (flat_map (λ (l : Vec ℕ Global). l.items) (take n lists)) list.items id))
+    (sym is.0)
+    (subst (λ (o : Option (Vec ℕ Global)).
+    IsSomeAnd o (λ list. ComesAgain (flat_map (λ (l : Vec ℕ Global). l.items) (take k lists)) list.items id))
+    (sym there)
+    (subst (λ (ids_before : List ℕ). ComesAgain ids_before ids.items id) same is.1))
+list_fault lists k ids before there same gather.NoMemory is = tt
+list_fault lists k ids before there same other is = absurd is
 
 -- Ledgers that can't be counted
 

@@ -1,7 +1,8 @@
 -- What can't be counted together: a ledger that comes twice, one that a census can't count, and more than it counts.
-use Rattle.std.specs.Prelude.{◌≡◌, ◌≤◌, ◌+◌, ◌^◌, ℕ, Bool, true, List, ◌++◌, Some, length, map, nat_eq, slice_get, take}
+use Rattle.std.specs.Prelude.{◌≡◌, ◌≤◌, ◌+◌, ◌^◌, ℕ, Bool, true, List, Vec, ◌++◌, Some, length, map, nat_eq, slice_get, take}
 use Rattle.std.specs.List.{Contains, IsDistinct, flat_map}
 use Rattle.std.specs.Option.{IsSomeAnd}
+use Rattle.std.specs.declared.alloc.Global.{Global}
 use Rattle.reh_census.specs.declared.censuses.CountedEnsemble.{CountedEnsemble}
 use Rattle.reh_census.specs.declared.censuses.CountedTail.{CountedTail}
 use Rattle.reh_census.specs.declared.censuses.Judged.{Judged}
@@ -36,6 +37,12 @@ abbrev pub IsTwice : List Input → ℕ → ℕ → Type 0
 IsTwice inputs input ledger =
     IsSomeAnd (slice_get inputs input)
     (λ one. ComesAgain (flat_map (of_picture ids_in) (take input inputs)) (of_picture ids_in one) ledger)
+
+-- the same of lists of ids, one for each input
+abbrev pub IsTwiceAmong : List (Vec ℕ Global) → ℕ → ℕ → Type 0
+IsTwiceAmong lists input ledger =
+    IsSomeAnd (slice_get lists input)
+    (λ ids. ComesAgain (flat_map (λ list. list.items) (take input lists)) ids.items ledger)
 
 -- A ledger that a census can't count
 
@@ -99,6 +106,12 @@ abbrev pub IsIdFault : ℕ → List ℕ → List ℕ → GatherFault → Type 0
 IsIdFault input before ids (gather.Twice number ledger) = (number ≡ input) × ComesAgain before ids ledger
 IsIdFault input before ids gather.NoMemory = Unit {0}
 IsIdFault input before ids other = ⊥
+
+-- why lists of ids can't join: one of them is the first that comes again, or there is no memory
+abbrev pub IsListFault : List (Vec ℕ Global) → GatherFault → Type 0
+IsListFault lists (gather.Twice input ledger) = IsTwiceAmong lists input ledger
+IsListFault lists gather.NoMemory = Unit {0}
+IsListFault lists other = ⊥
 
 -- why something can't be counted: it is not few, as is said; or it has a ledger that can't be counted, of this input and of
 -- this id; or there is no memory

@@ -16,6 +16,7 @@ ghost use Rattle.reh_inputs.specs.Uncounted.{AreFewTogether, AreFewWith, IsFewJu
 ghost use Rattle.reh_inputs.specs.United.{AreAlike, united};
 ghost use Rattle.reh_inputs.specs.declared.inputs.Input.{Input as InputValue};
 
+use crate::apart::{add_ids, ids_of};
 use crate::cluster::{Cluster, ClusterFault};
 use crate::empties::{EmptyHolds, check_empties};
 use crate::files::{Counts, add_files, judged_in, judged_of};
@@ -175,43 +176,15 @@ fn check_inputs(inputs: &[Input]) -> Result<(), GatherFault>
     Ok(())
 }
 
-/// Adds the ids of an input's ledgers. After an `Err` some of them may be there.
-fn add_ids(
-    ids: &mut IndexSet<u64>,
-    input: usize,
-    ledgers: &[PicturedLedger],
-) -> Result<(), GatherFault>
-    ensures added { OnOk result (ids.new.keys ≡ ids.old.keys ++ map (λ g. g.id) ledgers.now) }
-    ensures fault { IfErr result (IsIdFault input ids.old.keys (map (λ g. g.id) ledgers.now)) }
-{
-    for ledger in ledgers {
-        let id = ledger.id().0;
-        if !ids.insert(id)? {
-            return Err(GatherFault::Twice { input, ledger: id });
-        }
-    }
-    Ok(())
-}
-
-/// Adds the ids of an input's ledgers, if it is a picture.
-fn add_ids_in(ids: &mut IndexSet<u64>, input: usize, one: &Input) -> Result<(), GatherFault>
-    ensures added { OnOk result (ids.new.keys ≡ ids.old.keys ++ of_picture model.ids_in one.now) }
-    ensures fault { IfErr result (IsIdFault input ids.old.keys (of_picture model.ids_in one.now)) }
-{
-    match one {
-        Input::Picture(listed) => add_ids(ids, input, &listed.listing.ledgers),
-        Input::Census(_) => Ok(()),
-    }
-}
-
 /// The ids of the pictures' ledgers.
-fn ids_of(alloc: Global, inputs: &[Input]) -> Result<IndexSet<u64>, GatherFault>
+fn all_ids(alloc: Global, inputs: &[Input]) -> Result<IndexSet<u64>, GatherFault>
     ensures ids { IfOk result (λ ids. ids.keys ≡ flat_map (of_picture model.ids_in) inputs.now) }
     ensures fault { IfErr result (λ fault. (strict : Bool) → IsGatherFault inputs.now strict fault) }
 {
     let mut ids = IndexSet::new(alloc);
     for (input, one) in inputs.iter().enumerate() {
-        add_ids_in(&mut ids, input, one)?;
+        let more = ids_of(alloc, one)?;
+        add_ids(&mut ids, input, &more)?;
     }
     Ok(ids)
 }
@@ -222,7 +195,7 @@ fn each_id(alloc: Global, inputs: &[Input]) -> Result<Vec<u64>, GatherFault>
     ensures each_once { IfOk result (λ ids. IsDistinct nat_eq ids.items) }
     ensures fault { IfErr result (λ fault. (strict : Bool) → IsGatherFault inputs.now strict fault) }
 {
-    let ids = ids_of(alloc, inputs)?;
+    let ids = all_ids(alloc, inputs)?;
     let each = Vec::from_slice(alloc, ids.as_slice())?;
     Ok(each)
 }

@@ -1,6 +1,7 @@
 // The cluster that inputs show together: its bookies by number, and its ledgers as a census counts them.
 #![tactic(auto)]
 
+mod apart;
 mod by_ledger;
 mod cluster;
 mod empties;
@@ -15,6 +16,7 @@ mod shown;
 mod together;
 mod united;
 
+pub use apart::{check_ids, ids_of};
 pub use cluster::{Cluster, ClusterFault};
 pub use empties::{EmptyHolds, check_empties};
 pub use gathered::{GatherFault, gather};

@@ -143,6 +143,13 @@ impl Inventory {
         self.head.as_ref()
     }
 
+    /// The ids of the ledgers, in the order of their lines.
+    pub fn ids(&self) -> &[u64]
+        ensures { result.now ≡ self.now.ids }
+    {
+        self.ids.as_slice()
+    }
+
     /// How many lines of ledgers came, with those of ledgers that could not be read.
     pub fn ledgers(&self) -> u64
         ensures count { result ≡ length self.now.ids }

@@ -1,14 +1,15 @@
 -- What is read of the files of a cluster, and what is said of it.
-use Rattle.std.specs.Prelude.{◌≡◌, ◌⊎◌, ℕ, ◌%◌, Bool, true, false, if◌then◌else◌, List, [], ◌++◌, All, Option, Result, Ok, Err, String, codes, length, slice_get, string_bytes, vec_len, IfOk}
+use Rattle.std.specs.Prelude.{◌≡◌, ◌⊎◌, ℕ, ◌%◌, Bool, true, false, if◌then◌else◌, List, [], ◌++◌, All, Option, Result, Ok, Err, String, codes, length, map, nat_eq, slice_get, string_bytes, vec_len, IfOk}
 use Rattle.std.specs.Borrow.{Bor}
 use Rattle.std.specs.Fmt.{decimal}
+use Rattle.std.specs.List.{flat_map, IsDistinct}
 use Rattle.std.specs.Option.{IsSomeAnd, option_and_then, option_map_or}
 use Rattle.std.specs.declared.alloc.Global.{Global}
 use Rattle.reh_census_file.specs.Texts.{text_of}
 use Rattle.reh_census_file.specs.Values.{NamedCensus}
 use Rattle.reh_census_json.specs.Objects.{json_of}
-use Rattle.reh_inputs.specs.Gathered.{Gathers}
-use Rattle.reh_inputs.specs.Inputs.{IsRead}
+use Rattle.reh_inputs.specs.Gathered.{Gathers, ids_in}
+use Rattle.reh_inputs.specs.Inputs.{IsRead, of_picture}
 use Rattle.reh_inputs.specs.Named.{named_of, taken_of}
 use Rattle.reh_inputs.specs.declared.inputs.Input.{Input}
 use Rattle.reh_inputs.specs.declared.inputs.Input.TheVariants.{Picture, Census}
@@ -28,27 +29,47 @@ use Rattle.reh_words.specs.declared.tasks.StopWords.{StopWords}
 use Rattle.reh_words.specs.declared.tasks.WaveWords.{WaveWords}
 use Rattle.rehearse.specs.Inventories.{IsOfLines}
 use Rattle.rehearse.specs.declared.faults.RunFault.{RunFault}
+use Rattle.rehearse.specs.declared.inputs.FileInput.{FileInput}
+use Rattle.rehearse.specs.declared.inputs.Parted.{Parted}
+use Rattle.rehearse.specs.declared.inventories.CountedInventory.{CountedInventory}
 use Rattle.rehearse.specs.declared.faults.RunFault.TheVariants.{NoMemory, Unfit}
 
--- it is the census of some lines of an inventory
-abbrev pub IsOfInventory : Input → Type 0
-IsOfInventory (Picture l) = ⊥
-IsOfInventory (Census c) = IsOfLines c
+-- it is what some bytes show, with the ids of its ledgers
+pub record IsOfBytes (file : FileInput) : Type 0 where
+  pub bytes : List ℕ
+  pub is_read : IsRead bytes file.input
+  pub ids : file.ids.items ≡ of_picture ids_in file.input
 
--- it is what some bytes show, or some lines of an inventory
-abbrev pub IsOfFile : Input → Type 0
-IsOfFile input = ((bytes : List ℕ) × IsRead bytes input) ⊎ IsOfInventory input
+-- it is the census of some lines of an inventory, with the ids of their ledgers
+pub record IsOfInventory (file : FileInput) : Type 0 where
+  pub counted : CountedInventory
+  pub of_lines : IsOfLines counted
+  pub input : file.input ≡ Census counted.census
+  pub ids : file.ids ≡ counted.ids
+
+abbrev pub IsOfFile : FileInput → Type 0
+IsOfFile file = IsOfBytes file ⊎ IsOfInventory file
+
+-- what files show, and the ids of each one's ledgers
+pub record IsParted (files : List FileInput) (parted : Parted) : Type 0 where
+  pub inputs : parted.inputs.items ≡ map (λ file. file.input) files
+  pub ids : parted.ids.items ≡ map (λ file. file.ids) files
+
+-- no ledger stands twice in them: the ids of all their ledgers are each there once
+abbrev pub AreApart : List FileInput → Type 0
+AreApart files = IsDistinct nat_eq (flat_map (λ ids. ids.items) (map (λ file. file.ids) files))
 
 -- a file was read: what it shows is there, or its fault
-abbrev pub IsInSlot : Option (Result Input RunFault) → Type 0
+abbrev pub IsInSlot : Option (Result FileInput RunFault) → Type 0
 IsInSlot slot = IsSomeAnd slot (λ read. IfOk read IsOfFile)
 
--- what all files show together, each an input
+-- what all files show together, each an input, where no ledger stands in two of them
 pub record IsOfFiles (words : Inputs) (gathered : Gathered) : Type 0 where
-  pub inputs : List Input
-  pub each_file : length inputs ≡ vec_len words.files
-  pub are_read : All IsOfFile inputs
-  pub gathers : Gathers inputs words.strict gathered
+  pub files : List FileInput
+  pub each_file : length files ≡ vec_len words.files
+  pub are_read : All IsOfFile files
+  pub apart : AreApart files
+  pub gathers : Gathers (map (λ file. file.input) files) words.strict gathered
 
 -- what is said of a stop, by all files
 pub record SaysStop (words : StopWords) (said : Said) : Type 0 where
@@ -84,12 +105,15 @@ abbrev pub census_by : Bool → NamedCensus → List ℕ
 census_by as_json census = if as_json then json_of census else text_of census
 
 pub record SaysCensus (words : CensusWords) (text : String Global) : Type 0 where
-  pub inputs : List Input
-  pub each_file : length inputs ≡ vec_len words.inputs.files
-  pub are_read : All IsOfFile inputs
+  pub files : List FileInput
+  pub each_file : length files ≡ vec_len words.inputs.files
+  pub are_read : All IsOfFile files
+  pub apart : AreApart files
   pub gathered : Gathered
-  pub gathers : Gathers inputs words.inputs.strict gathered
-  pub says : string_bytes text ≡ census_by words.as_json (named_of gathered words.inputs.strict (taken_of inputs))
+  pub gathers : Gathers (map (λ file. file.input) files) words.inputs.strict gathered
+  pub says : string_bytes text
+      ≡ census_by words.as_json
+      (named_of gathered words.inputs.strict (taken_of (map (λ file. file.input) files)))
 
 -- Inputs that can't be judged together
 

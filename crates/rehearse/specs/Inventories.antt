@@ -1,8 +1,9 @@
 -- What was counted of the lines of an inventory.
-use Rattle.std.specs.Prelude.{ℕ, Bool, List}
-use Rattle.reh_census_file.specs.Values.{NamedCensus}
+use Rattle.std.specs.Prelude.{◌≡◌, ℕ, Bool, List, ◌∷◌, Ok}
+use Rattle.reh_inventory.specs.Inventories.{Inventory, inventory_of}
 use Rattle.reh_inventory_census.specs.Census.{IsCensusOf, IsCount}
 use Rattle.reh_inventory_census.specs.declared.census.InventoryCount.{InventoryCount}
+use Rattle.rehearse.specs.declared.inventories.CountedInventory.{CountedInventory}
 
 -- some first line was counted, and some lines after it
 pub record IsCounting (strict : Bool) (count : InventoryCount) : Type 0 where
@@ -11,10 +12,13 @@ pub record IsCounting (strict : Bool) (count : InventoryCount) : Type 0 where
   pub lines : List (List ℕ)
   pub counted : IsCount names strict first lines count
 
--- it is the census of some lines
-pub record IsOfLines (census : NamedCensus) : Type 0 where
+-- it is the census of some lines, and these are the ids of their ledgers
+pub record IsOfLines (inventory : CountedInventory) : Type 0 where
   pub strict : Bool
   pub names : List (List ℕ)
   pub first : List ℕ
   pub lines : List (List ℕ)
-  pub counted : IsCensusOf names strict first lines census
+  pub counted : IsCensusOf names strict first lines inventory.census
+  pub said : Inventory
+  pub is_read : inventory_of (first ∷ lines) ≡ Ok said
+  pub ids : inventory.ids.items ≡ said.ids

@@ -1,5 +1,6 @@
 // The files of a cluster, read by several workers, what they show together, and their census.
-ghost use Rattle.std.specs.Prelude.{◌≡◌, ◌<◌, ◌++◌, ◌∷◌, [], All, vec_len, length, IfOk, OnOk, string_bytes};
+ghost use Rattle.std.specs.Prelude.{◌≡◌, ◌<◌, ◌++◌, ◌∷◌, [], All, vec_len, length, nat_eq, IfOk, OnOk, string_bytes};
+ghost use Rattle.std.specs.List.{flat_map, IsDistinct};
 ghost use Rattle.std.specs.Option.{option_map};
 ghost use Rattle.reh_inputs.specs.Gathered.{Gathers};
 ghost use Rattle.reh_inputs.specs.Named.{taken_of as model_taken};
@@ -13,8 +14,8 @@ use crate::progress::{Progress, Teller};
 use reh_census_file::{CensusFault, NamedCensus, census_text};
 use reh_census_json::census_json;
 use reh_inputs::{
-    EmptyHolds, GatherFault, Gathered, Input, InputFault, gather, let_go, named_of, read_input,
-    taken_of,
+    EmptyHolds, GatherFault, Gathered, Input, InputFault, check_ids, gather, ids_of, let_go,
+    named_of, read_input, taken_of,
 };
 use reh_picture::{LocatedFault, PictureFault};
 use reh_types::BookieIx;
@@ -33,23 +34,38 @@ pub(crate) fn gather_files<R: thread::Threads + Wait + Sync>(
     ensures { IfOk result (λ gathered. model.IsOfFiles inputs.now gathered) }
 {
     let read = read_files(rt, threads, inputs, progress)?;
+    let read = parted(rt.alloc(), read)?;
     let gathered = gather_read(threads, rt.alloc(), inputs, &read)?;
-    let_go(threads, read, inputs.crew.workers);
+    let_go(threads, read.inputs, inputs.crew.workers);
     Ok(gathered)
 }
 
-/// What these inputs show together, once they are read.
+/// What these inputs show together, once they are read, where no ledger stands in two of them.
 fn gather_read<R: thread::Threads + Sync>(
     threads: &R,
     alloc: Global,
     inputs: &Inputs<'_>,
-    read: &[Input],
+    read: &Parted,
 ) -> Result<Gathered, RunFault>
-    ensures { IfOk result (λ gathered. Gathers read.now inputs.now.strict gathered) }
+    ensures gathers { IfOk result (λ gathered. Gathers read.now.inputs.items inputs.now.strict gathered) }
+    ensures apart { OnOk result (IsDistinct nat_eq (flat_map (λ ids. ids.items) read.now.ids.items)) }
 {
-    match gather(threads, alloc, read, inputs.strict, inputs.crew.workers) {
-        Ok(gathered) => Ok(gathered),
-        Err(fault) => Err(fault_of(alloc, inputs, read, fault)),
+    match gather(threads, alloc, &read.inputs, inputs.strict, inputs.crew.workers) {
+        Ok(gathered) => {
+            check_apart(alloc, inputs, read)?;
+            Ok(gathered)
+        }
+        Err(fault) => Err(fault_of(alloc, inputs, &read.inputs, fault)),
+    }
+}
+
+/// Checks that no ledger stands in two inputs.
+fn check_apart(alloc: Global, inputs: &Inputs<'_>, read: &Parted) -> Result<(), RunFault>
+    ensures { OnOk result (IsDistinct nat_eq (flat_map (λ ids. ids.items) read.now.ids.items)) }
+{
+    match check_ids(alloc, &read.ids) {
+        Ok(()) => Ok(()),
+        Err(fault) => Err(fault_of(alloc, inputs, &read.inputs, fault)),
     }
 }
 
@@ -77,9 +93,10 @@ fn census_of<R: thread::Threads + Wait + Sync>(
 {
     let inputs = &words.inputs;
     let read = read_files(rt, threads, inputs, progress)?;
+    let read = parted(rt.alloc(), read)?;
     let gathered = gather_read(threads, rt.alloc(), inputs, &read)?;
-    let taken = copy_taken(rt.alloc(), &read)?;
-    let_go(threads, read, inputs.crew.workers);
+    let taken = copy_taken(rt.alloc(), &read.inputs)?;
+    let_go(threads, read.inputs, inputs.crew.workers);
     let census = named_of(rt.alloc(), gathered, inputs.strict, taken)?;
     let text = say_census(rt.alloc(), &census, words.as_json)?;
     Ok(text)
@@ -107,8 +124,35 @@ fn copy_taken(alloc: Global, read: &[Input]) -> Result<Option<String>, AllocErro
     }
 }
 
+/// What a file shows, and the ids of its ledgers: a census file tells none.
+#[derive(Drop)]
+pub(crate) struct FileInput {
+    input: Input,
+    ids: Vec<u64>,
+}
+
+/// What files show, and the ids of each one's ledgers.
+#[derive(Drop)]
+pub(crate) struct Parted {
+    inputs: Vec<Input>,
+    ids: Vec<Vec<u64>>,
+}
+
+/// What these files show, and the ids, each in a list of its own.
+fn parted(alloc: Global, read: Vec<FileInput>) -> Result<Parted, AllocError>
+    ensures { IfOk result (model.IsParted read.items) }
+{
+    let mut inputs = Vec::new(alloc);
+    let mut ids = Vec::new(alloc);
+    for file in read {
+        inputs.push(file.input)?;
+        ids.push(file.ids)?;
+    }
+    Ok(Parted { inputs, ids })
+}
+
 /// What a file shows, once it is read.
-type Slot = Option<Result<Input, RunFault>>;
+type Slot = Option<Result<FileInput, RunFault>>;
 
 /// What each file shows, in order, read by the workers; or the first fault, also in that order.
 fn read_files<R: thread::Threads + Wait + Sync>(
@@ -116,7 +160,7 @@ fn read_files<R: thread::Threads + Wait + Sync>(
     threads: &R,
     inputs: &Inputs<'_>,
     progress: &Progress,
-) -> Result<Vec<Input>, RunFault>
+) -> Result<Vec<FileInput>, RunFault>
     ensures each { IfOk result (λ read. length read.items ≡ vec_len inputs.now.files) }
     ensures read { IfOk result (λ read. All model.IsOfFile read.items) }
 {
@@ -149,7 +193,7 @@ fn slots_of(alloc: Global, files: &[&str]) -> Result<Vec<Slot>, AllocError>
 }
 
 /// What each file shows, all of which are read, or the first fault.
-fn read_of(alloc: Global, slots: Vec<Slot>) -> Result<Vec<Input>, RunFault>
+fn read_of(alloc: Global, slots: Vec<Slot>) -> Result<Vec<FileInput>, RunFault>
     requires { All model.IsInSlot slots.items }
     ensures each { IfOk result (λ read. length read.items ≡ length slots.items) }
     ensures read { IfOk result (λ read. All model.IsOfFile read.items) }
@@ -163,7 +207,7 @@ fn read_of(alloc: Global, slots: Vec<Slot>) -> Result<Vec<Input>, RunFault>
 }
 
 /// What a file that was read shows.
-fn taken(slot: Slot) -> Result<Input, RunFault>
+fn taken(slot: Slot) -> Result<FileInput, RunFault>
     requires { model.IsInSlot slot }
     ensures { IfOk result model.IsOfFile }
 {
@@ -172,7 +216,7 @@ fn taken(slot: Slot) -> Result<Input, RunFault>
 }
 
 /// Adds what a file shows.
-fn push_read(read: &mut Vec<Input>, one: Input) -> Result<(), AllocError>
+fn push_read(read: &mut Vec<FileInput>, one: FileInput) -> Result<(), AllocError>
     ensures { OnOk result (read.new.items ≡ read.old.items ++ one ∷ []) }
 {
     read.push(one)?;
@@ -180,18 +224,24 @@ fn push_read(read: &mut Vec<Input>, one: Input) -> Result<(), AllocError>
 }
 
 /// What a file shows.
-fn read_one(rt: &HostRuntime, path: &str, strict: bool) -> Result<Input, RunFault>
+fn read_one(rt: &HostRuntime, path: &str, strict: bool) -> Result<FileInput, RunFault>
     ensures { IfOk result model.IsOfFile }
 {
     let bytes = match read_input_file(rt, path)? {
         InputBytes::Whole(bytes) => bytes,
         InputBytes::Inventory(file, start) => {
-            let census = count_inventory(rt.alloc(), path, file, start, strict)?;
-            return Ok(Input::Census(census));
+            let counted = count_inventory(rt.alloc(), path, file, start, strict)?;
+            return Ok(FileInput {
+                input: Input::Census(counted.census),
+                ids: counted.ids,
+            });
         }
     };
     match read_input(rt.alloc(), &bytes) {
-        Ok(input) => Ok(input),
+        Ok(input) => {
+            let ids = ids_of(rt.alloc(), &input)?;
+            Ok(FileInput { input, ids })
+        }
         Err(fault) => Err(unreadable(rt.alloc(), path, fault)),
     }
 }

@@ -111,6 +111,13 @@ fn counts_text(alloc: Global, inventory: &Inventory) -> Result<String, AllocErro
     format!(in alloc; "ok\nbookies {bookies} up {registered}\nledgers {ledgers} unread {unread}\n")
 }
 
+/// The census of an inventory, and the ids of its ledgers.
+#[derive(Drop)]
+pub(crate) struct CountedInventory {
+    pub(crate) census: NamedCensus,
+    pub(crate) ids: Vec<u64>,
+}
+
 /// The census of the inventory in a file of which this was read. Its lines are read twice: first the names of all bookies,
 /// so that each has its number, in their order, before any ledger is counted. Where a file can't be read twice, as a pipe, all
 /// of it is kept in memory.
@@ -120,7 +127,7 @@ pub(crate) fn count_inventory(
     file: File,
     start: Vec<u8>,
     is_strict: bool,
-) -> Result<NamedCensus, RunFault>
+) -> Result<CountedInventory, RunFault>
     ensures { IfOk result model.IsOfLines }
 {
     let mut file = file;
@@ -145,7 +152,7 @@ fn count_bytes(
     path: &str,
     bytes: &[u8],
     is_strict: bool,
-) -> Result<NamedCensus, RunFault>
+) -> Result<CountedInventory, RunFault>
     ensures { IfOk result model.IsOfLines }
 {
     let names = names_in(alloc, path, &mut reader_of(alloc, path, bytes)?)?;
@@ -221,12 +228,13 @@ fn add(
     }
 }
 
-/// The census of what was counted.
-fn finish(alloc: Global, path: &str, count: InventoryCount) -> Result<NamedCensus, RunFault>
-    ensures { IfOk result (λ census. (strict : Bool) → model.IsCounting strict count → model.IsOfLines census) }
+/// The census of what was counted, and the ids of its ledgers.
+fn finish(alloc: Global, path: &str, count: InventoryCount) -> Result<CountedInventory, RunFault>
+    ensures { IfOk result (λ counted. (strict : Bool) → model.IsCounting strict count → model.IsOfLines counted) }
 {
+    let ids = Vec::from_slice(alloc, count.inventory().ids())?;
     match count.finish(alloc) {
-        Ok(census) => Ok(census),
+        Ok(census) => Ok(CountedInventory { census, ids }),
         Err(fault) => Err(uncounted(alloc, path, 1, &fault)),
     }
 }
@@ -238,7 +246,7 @@ fn count_lines<R: Read + Drop>(
     reader: &mut BufReader<R>,
     names: NameList,
     is_strict: bool,
-) -> Result<NamedCensus, RunFault>
+) -> Result<CountedInventory, RunFault>
     ensures { IfOk result model.IsOfLines }
 {
     let mut line = Vec::new(alloc);
@@ -252,8 +260,8 @@ fn count_lines<R: Read + Drop>(
         }
         add(alloc, path, number, &mut count, &line)?;
     }
-    let census = finish(alloc, path, count)?;
-    Ok(census)
+    let counted = finish(alloc, path, count)?;
+    Ok(counted)
 }
 
 /// The fault of a line that can't be counted.

@@ -1,16 +1,16 @@
 -- The ids of one input more can't join those before.
 use Rattle.reh_model.proofs.ListLaws.{slice_get-there}
 use Rattle.reh_inputs.proofs.FaultLaws.{ids_fault, passed_on}
-use Rattle.reh_inputs.proofs.gathered.ids_of.Goals as goal
+use Rattle.reh_inputs.proofs.gathered.all_ids.Goals as goal
 
-pub returns-in_err-add_ids_in-clause-fault : goal.returns-in_err-add_ids_in-clause-fault
-returns-in_err-add_ids_in-clause-fault c =
+pub returns-in_err-add_ids-clause-fault : goal.returns-in_err-add_ids-clause-fault
+returns-in_err-add_ids-clause-fault c =
     let inputs = c.args.inputs.now in
     let k = c.loop-input.input in
     let one = c.index-inputs-input.result in
-    let fault = c.in_err-add_ids_in.field-0.0 in
+    let fault = c.in_err-add_ids.field-0.0 in
     passed_on _ _ c.from_residual.result fault c.from_residual.ensures.1
     (λ strict.
     ids_fault inputs strict k one c.loop-input.ids.keys
     (slice_get-there inputs k one c.loop-input-test.true c.index-inputs-input.is) c.loop-input.invariant fault
-    c.in_err-add_ids_in.ensures.fault)
+    c.in_err-add_ids.ensures.fault)

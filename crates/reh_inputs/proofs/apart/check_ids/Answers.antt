@@ -1,0 +1,15 @@
+-- The ids of one list more can't join those before.
+use Rattle.reh_model.proofs.ListLaws.{slice_get-there}
+use Rattle.reh_inputs.proofs.FaultLaws.{list_fault, passed_on}
+use Rattle.reh_inputs.proofs.apart.check_ids.Goals as goal
+
+pub returns-in_err-add_ids-clause-fault : goal.returns-in_err-add_ids-clause-fault
+returns-in_err-add_ids-clause-fault c =
+    let lists = c.args.lists.now in
+    let k = c.loop-input.input in
+    let ids = c.index-lists-input.result in
+    let fault = c.in_err-add_ids.field-0.0 in
+    passed_on _ _ c.from_residual.result fault c.from_residual.ensures.1
+    (list_fault lists k ids c.loop-input.seen.keys
+    (slice_get-there lists k ids c.loop-input-test.true c.index-lists-input.is) c.loop-input.invariant fault
+    c.in_err-add_ids.ensures.fault)
