@@ -36,6 +36,13 @@ impl ChosenLedgers {
         }
     }
 
+    /// What the lines say so far.
+    pub fn inventory(&self) -> &Inventory
+        ensures { result.now ≡ self.now.inventory }
+    {
+        &self.inventory
+    }
+
     /// Whether the id is asked for.
     fn is_asked(&self, id: u64) -> bool
         ensures { result ≡ model.is_asked self.now.ids.items id }

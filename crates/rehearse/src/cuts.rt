@@ -4,8 +4,10 @@ ghost use Rattle.rehearse.specs.Cuts as model;
 
 use crate::faults::RunFault;
 use crate::files::{open_file, write_out};
+use crate::inputs::unfit;
 use crate::inventories::{read_line, reader_of, refused};
 use reh_cut::{Assume, ChosenLedgers, CutFault};
+use reh_near::{Near, near_to};
 use reh_words::CutWords;
 use std::alloc::{AllocError, Global};
 use std::io::{BufReader, Read};
@@ -27,7 +29,7 @@ fn cut_of(rt: &HostRuntime, words: &CutWords<'_>) -> Result<String, RunFault>
     let chosen = choose_lines(alloc, path, &mut reader, &words.ledgers)?;
     match chosen.cut(alloc, assumed(words)) {
         Ok(text) => Ok(text),
-        Err(fault) => Err(uncut(alloc, path, &fault)),
+        Err(fault) => Err(uncut(alloc, path, chosen.inventory().ids(), &fault)),
     }
 }
 
@@ -82,18 +84,46 @@ fn choose_line(
     }
 }
 
-/// Why there is no picture.
-fn uncut(alloc: Global, path: &str, fault: &CutFault) -> RunFault {
+/// Why there is no picture of an inventory with ledgers of these ids.
+fn uncut(alloc: Global, path: &str, ids: &[u64], fault: &CutFault) -> RunFault {
     match fault {
         CutFault::NoMemory => RunFault::NoMemory,
-        fault => match uncut_text(alloc, path, fault) {
-            Ok(text) => RunFault::Unfit(text),
-            Err(want) => RunFault::from(want),
-        },
+        CutFault::NoLedger(id) => unfit(no_ledger_text(alloc, path, ids, *id)),
+        fault => unfit(format!(in alloc; "inventory {path}: {fault}")),
     }
 }
 
-/// Why there is no picture, in words.
-fn uncut_text(alloc: Global, path: &str, fault: &CutFault) -> Result<String, AllocError> {
-    format!(in alloc; "inventory {path}: {fault}")
+/// That there is no such ledger, and which ids are near.
+fn no_ledger_text(
+    alloc: Global,
+    path: &str,
+    ids: &[u64],
+    id: u64,
+) -> Result<String, AllocError> {
+    let fault = CutFault::NoLedger(id);
+    let near = near_text(alloc, ids, id)?;
+    format!(in alloc; "inventory {path}: {fault}{near}")
+}
+
+/// Which of these ids are near one that isn't among them.
+fn near_text(alloc: Global, ids: &[u64], id: u64) -> Result<String, AllocError> {
+    let texts = texts_of(alloc, ids)?;
+    let mut names = Vec::new(alloc);
+    for text in &texts {
+        names.push(text.as_str())?;
+    }
+    let word = format!(in alloc; "{id}")?;
+    match near_to(alloc, &names, word.as_bytes())? {
+        Near::Longer(one) => format!(in alloc; ": near it is '{one}'"),
+        near => format!(in alloc; "{near}"),
+    }
+}
+
+/// The ids in digits.
+fn texts_of(alloc: Global, ids: &[u64]) -> Result<Vec<String>, AllocError> {
+    let mut texts = Vec::new(alloc);
+    for id in ids {
+        texts.push(format!(in alloc; "{id}")?)?;
+    }
+    Ok(texts)
 }
