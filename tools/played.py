@@ -192,7 +192,11 @@ def read_play(commands: List[Line], told: Set[int], replies: Iterator[Reply], te
 
     def state(place: int) -> Optional[List[int]]:
         report, survey = (next(replies, None), next(replies, None)) if place in told else (None, None)
-        return telling.change_to(report.after, survey.after) if report and survey else None
+        if not report or not survey:
+            return None
+        # A survey has a line for each fragment, unless it was cut.
+        fragments = sum(line.startswith("fragment ") for line in report.after)
+        return telling.change_to(report.after, survey.after) if len(survey.after) == fragments else None
 
     start = state(0)
     steps = []
