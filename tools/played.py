@@ -5,19 +5,26 @@ told. All texts are kept as the program printed them.
 """
 
 import re
-from typing import Dict, Iterable, Iterator, List, NamedTuple, Optional, Set, Tuple
+from typing import IO, Callable, Dict, Iterable, Iterator, List, NamedTuple, Optional, Set, Tuple
 
 MAX_LINE_BYTES = 1024
 MAX_SCRIPT_BYTES = 1_048_576
 # How many states are told at most: a report of each is read.
 MOST_TOLD = 5000
 TELLING = b"report\nsurvey\n"
+# How a reply begins, which no line of a report or survey does.
+MARK = b"\nline "
 REPLY = re.compile(rb"line ([0-9]{1,13}): (.+)\n")
+BLOCK = 1 << 20
 # The commands whose events change what a picture shows, and those whose events don't.
 SHOWN_EVENTS = {"lose", "join", "roll", "fence", "seal", "copy", "swap", "spend"}
 OTHER_EVENTS = {"audit", "acquire", "release", "finish", "expire", "grace", "tick", "disable", "enable"}
 # The events that change which bookies are registered.
 REGISTRATIONS = {"lose", "join"}
+
+
+# Tells the slots of lines, by the line before them and its slot.
+Slots = Callable[[List[bytes], bytes, str], List[str]]
 
 
 class Line(NamedTuple):
@@ -34,7 +41,7 @@ class Reply(NamedTuple):
 
     number: int
     text: str
-    after: List[str]
+    after: bytes
 
 
 class Step(NamedTuple):
@@ -105,19 +112,32 @@ def told_script(commands: List[Line], told: Set[int]) -> bytes:
     return b"".join(parts)
 
 
-def replies_of(lines: Iterable[bytes]) -> Iterator[Reply]:
-    """Yields the replies that the program printed. One whose line was cut is left out."""
-    reply: Optional[Reply] = None
-    for line in lines:
-        found = REPLY.fullmatch(line)
-        if found:
-            if reply:
-                yield reply
-            reply = Reply(int(found[1]), shown(found[2]), [])
-        elif reply and line.endswith(b"\n"):
-            reply.after.append(line[:-1].decode("ascii", "backslashreplace"))
-    if reply:
-        yield reply
+def replies_of(stream: IO[bytes]) -> Iterator[Reply]:
+    """Yields the replies that the program prints. One whose line was cut is left out."""
+    text = b"\n"
+    while True:
+        block = stream.read(BLOCK)
+        text += block
+        begin = text.find(MARK)
+        while begin >= 0:
+            end = text.find(MARK, begin + 1)
+            if end < 0 and block:
+                break
+            found = REPLY.match(text, begin + 1)
+            if found:
+                yield Reply(int(found[1]), shown(found[2]), text[found.end() : end + 1 if end >= 0 else len(text)])
+            begin = end
+        text = text[max(begin, 0) :]
+        if not block:
+            return
+
+
+class Told(NamedTuple):
+    """A report or a survey as it was told: its text, its lines, and the slot of each."""
+
+    text: bytes
+    lines: List[bytes]
+    slots: List[str]
 
 
 class Telling:
@@ -131,53 +151,86 @@ class Telling:
         self.slots: Dict[str, int] = {}
         self.texts: Dict[str, int] = {}
         self.lines: Dict[str, str] = {}
-        self.told: Tuple[List[str], List[str]] = ([], [])
+        self.report = self.survey = Told(b"", [], [])
 
-    def change_to(self, report: List[str], survey: List[str]) -> List[int]:
+    def change_to(self, report: bytes, survey: bytes) -> List[int]:
         """Takes in the next report and survey, and returns what differs: slots and texts by turns, -1 for no text."""
-        if (report, survey) == self.told:
-            return []
-        lines = dict(keyed_report(report))
-        lines.update(keyed_survey(survey))
-        changed = [(key, text) for key, text in lines.items() if self.lines.get(key) != text]
-        changed += [(key, "") for key in self.lines.keys() - lines.keys()]
-        self.lines, self.told = lines, (report, survey)
-        return [number for key, text in sorted(changed, key=self.order) for number in self.numbered(key, text)]
+        changed: Dict[str, str] = {}
+        self.report = self.taken(self.report, report, report_slots, changed)
+        self.survey = self.taken(self.survey, survey, survey_slots, changed)
+        numbers: List[int] = []
+        for slot in sorted(changed, key=lambda it: self.slots.setdefault(it, len(self.slots))):
+            text = changed[slot]
+            if self.lines.get(slot, "") != text:
+                numbers += [self.slots[slot], self.texts.setdefault(text, len(self.texts)) if text else -1]
+            self.lines[slot] = text
+        return numbers
 
-    def order(self, change: Tuple[str, str]) -> int:
-        """Returns a slot's number, by which changes are put in order."""
-        return self.slots.setdefault(change[0], len(self.slots))
+    def taken(self, told: Told, text: bytes, slots_of: Slots, changed: Dict[str, str]) -> Told:
+        """Takes in a text. Only the lines between the first and the last that differ are gone through."""
+        if text == told.text:
+            return told
+        lines = text.split(b"\n")[:-1]
+        begin = common(told.lines, lines)
+        left = min(len(told.lines), len(lines)) - begin
+        end = min(common(reversed(told.lines), reversed(lines)), left)
+        between = lines[begin : len(lines) - end]
+        slots = slots_of(between, lines[begin - 1] if begin else b"", told.slots[begin - 1] if begin else "")
+        changed.update((slot, "") for slot in told.slots[begin : len(told.lines) - end])
+        changed.update((slot, kept_of(slot, line)) for slot, line in zip(slots, between))
+        return Told(text, lines, told.slots[:begin] + slots + told.slots[len(told.slots) - end :])
 
-    def numbered(self, key: str, text: str) -> Tuple[int, int]:
-        """Returns the numbers of a slot and of a text."""
-        return self.slots[key], self.texts.setdefault(text, len(self.texts)) if text else -1
+
+def common(one: Iterable[bytes], two: Iterable[bytes]) -> int:
+    """Returns how many lines are the same at the beginning."""
+    count = 0
+    for count, (a, b) in enumerate(zip(one, two), 1):
+        if a != b:
+            return count - 1
+    return count
 
 
-def keyed_report(report: List[str]) -> Iterator[Tuple[str, str]]:
-    """Yields a report's lines with their slots."""
-    bookie, ledger = 0, -1
-    for line in report:
-        kind, _, rest = line.partition(" ")
-        if kind == "bookie":
-            yield f"b{bookie}", line
+def kept_of(slot: str, line: bytes) -> str:
+    """Returns what is kept of a line: of a survey without the ledger and the fragment, which the slot says."""
+    text = line.decode("ascii", "backslashreplace")
+    return text.split(" ", 4)[4] if "s" in slot else text
+
+
+def place_in(slot: str) -> int:
+    """Returns the place that a slot names, or -1."""
+    found = re.match(r"[bl]([0-9]+)", slot)
+    return int(found[1]) if found else -1
+
+
+def report_slots(lines: List[bytes], _: bytes, before: str) -> List[str]:
+    """Returns the slots of lines of a report, which follow a line with the slot `before`."""
+    bookie, ledger = (place_in(before), -1) if not before.startswith("l") else (-1, place_in(before))
+    slots = []
+    for line in lines:
+        kind, _, rest = line.partition(b" ")
+        if kind == b"bookie":
             bookie += 1
-        elif kind == "ledger":
+            slots.append(f"b{bookie}")
+        elif kind == b"ledger":
             ledger += 1
-            yield f"l{ledger}", line
-        elif kind == "fragment":
-            yield f"l{ledger}f{rest.partition(' ')[0]}", line
+            slots.append(f"l{ledger}")
+        elif kind == b"fragment":
+            slots.append(f"l{ledger}f{rest.partition(b' ')[0].decode()}")
         else:
-            yield {"task": f"l{ledger}t", "lock": f"l{ledger}k", "clock": "c"}.get(kind, "a"), line
+            slots.append({b"task": f"l{ledger}t", b"lock": f"l{ledger}k", b"clock": "c"}.get(kind, "a"))
+    return slots
 
 
-def keyed_survey(survey: List[str]) -> Iterator[Tuple[str, str]]:
-    """Yields a survey's lines with their slots, without the ledger and the fragment that the slot says."""
-    ledger, before = -1, ""
-    for line in survey:
-        words = line.split(" ", 4)
-        if words[1] != before:
-            ledger, before = ledger + 1, words[1]
-        yield f"l{ledger}s{words[3]}", words[4]
+def survey_slots(lines: List[bytes], last: bytes, before: str) -> List[str]:
+    """Returns the slots of lines of a survey, which follow the line `last` with the slot `before`."""
+    ledger, number = place_in(before), last.split(b" ")[1] if last else b""
+    slots = []
+    for line in lines:
+        words = line.split(b" ", 4)
+        if words[1] != number:
+            ledger, number = ledger + 1, words[1]
+        slots.append(f"l{ledger}s{words[3].decode()}")
+    return slots
 
 
 class Play(NamedTuple):
@@ -195,8 +248,8 @@ def read_play(commands: List[Line], told: Set[int], replies: Iterator[Reply], te
         if not report or not survey:
             return None
         # A survey has a line for each fragment, unless it was cut.
-        fragments = sum(line.startswith("fragment ") for line in report.after)
-        return telling.change_to(report.after, survey.after) if len(survey.after) == fragments else None
+        is_whole = survey.after.count(b"\n") == report.after.count(b"\nfragment ")
+        return telling.change_to(report.after, survey.after) if is_whole else None
 
     start = state(0)
     steps = []
