@@ -1,14 +1,16 @@
 // The files of a cluster, read by several workers, what they show together, and their census.
-ghost use Rattle.std.specs.Prelude.{◌≡◌, ◌<◌, ◌++◌, ◌∷◌, [], All, vec_len, length, nat_eq, IfOk, OnOk, string_bytes};
+ghost use Rattle.std.specs.Prelude.{◌≡◌, ◌<◌, ◌++◌, ◌∷◌, [], All, List, vec_len, length, nat_eq, ℕ, IfOk, OnOk, string_bytes};
 ghost use Rattle.std.specs.List.{flat_map, IsDistinct};
 ghost use Rattle.std.specs.Option.{option_map};
 ghost use Rattle.reh_inputs.specs.Gathered.{Gathers};
+ghost use Rattle.reh_inputs.specs.Inputs.{IsRead};
 ghost use Rattle.reh_inputs.specs.Named.{taken_of as model_taken};
 ghost use Rattle.rehearse.specs.Inputs as model;
+ghost use Rattle.rehearse.specs.Inventories.{IsOfLines};
 
 use crate::faults::RunFault;
 use crate::files::{InputBytes, read_input_file, write_out};
-use crate::inventories::count_inventory;
+use crate::inventories::{CountedInventory, count_inventory};
 use crate::looks::Looks;
 use crate::progress::{Progress, Teller};
 use reh_census_file::{CensusFault, NamedCensus, census_text};
@@ -231,19 +233,32 @@ fn read_one(rt: &HostRuntime, path: &str, strict: bool) -> Result<FileInput, Run
         InputBytes::Whole(bytes) => bytes,
         InputBytes::Inventory(file, start) => {
             let counted = count_inventory(rt.alloc(), path, file, start, strict)?;
-            return Ok(FileInput {
-                input: Input::Census(counted.census),
-                ids: counted.ids,
-            });
+            return Ok(of_inventory(counted));
         }
     };
     match read_input(rt.alloc(), &bytes) {
-        Ok(input) => {
-            let ids = ids_of(rt.alloc(), &input)?;
-            Ok(FileInput { input, ids })
-        }
+        Ok(input) => Ok(of_bytes(rt.alloc(), input)?),
         Err(fault) => Err(unreadable(rt.alloc(), path, fault)),
     }
+}
+
+/// What an inventory shows.
+fn of_inventory(counted: CountedInventory) -> FileInput
+    requires { IsOfLines counted }
+    ensures { model.IsOfFile result }
+{
+    FileInput {
+        input: Input::Census(counted.census),
+        ids: counted.ids,
+    }
+}
+
+/// What the bytes of a file show.
+fn of_bytes(alloc: Global, input: Input) -> Result<FileInput, AllocError>
+    ensures { IfOk result (λ file. (bytes : List ℕ) → IsRead bytes input → model.IsOfFile file) }
+{
+    let ids = ids_of(alloc, &input)?;
+    Ok(FileInput { input, ids })
 }
 
 /// The fault of a run whose file is no input.

@@ -1,15 +1,20 @@
--- What the files show is gathered.
-use Rattle.std.proofs.Common.{subst, List}
+-- What the files show is gathered, where no ledger stands in two of them.
+use Rattle.std.proofs.Common.{subst, List, ℕ, nat_eq, Vec}
+use Rattle.std.specs.List.{flat_map, IsDistinct}
+use Rattle.std.specs.declared.alloc.Global.{Global}
 use Rattle.reh_inputs.specs.Gathered.{Gathers}
 use Rattle.reh_inputs.specs.declared.inputs.Input.{Input}
 use Rattle.rehearse.proofs.inputs.gather_files.Goals as goal
 
 pub returns : goal.returns
 returns g c = record {
-  inputs = c.in_ok-read.read.items;
+  files = c.in_ok-read.read.items;
   each_file = c.in_ok-read.ensures.each;
   are_read = c.in_ok-read.ensures.read;
+  apart =
+      subst (λ (ids : List (Vec ℕ Global)). IsDistinct nat_eq (flat_map (λ list. list.items) ids)) c.in_ok-read-2.ensures.ids
+      c.in_ok-gathered.ensures.apart;
   gathers =
-      subst (λ (inputs : List Input). Gathers inputs c.args.inputs.now.strict c.in_ok-gathered.gathered) c.deref.ensures.value
-      c.in_ok-gathered.ensures;
+      subst (λ (inputs : List Input). Gathers inputs c.args.inputs.now.strict c.in_ok-gathered.gathered)
+      c.in_ok-read-2.ensures.inputs c.in_ok-gathered.ensures.gathers;
 }

@@ -2,7 +2,7 @@
 use Rattle.std.proofs.Common.{ap, sym, subst, List, length, All, arith}
 use Rattle.std.proofs.lemmas.List.{length_push}
 use Rattle.std.proofs.lemmas.List.Elements.{All-push}
-use Rattle.reh_inputs.specs.declared.inputs.Input.{Input}
+use Rattle.rehearse.specs.declared.inputs.FileInput.{FileInput}
 use Rattle.rehearse.specs.Inputs.{IsOfFile}
 use Rattle.rehearse.proofs.inputs.read_of.Goals as goal
 
@@ -18,6 +18,6 @@ loop-slot-preserved c =
         length_push c.loop-slot.yielded c.in-Some.slot,
         c.loop-slot.invariant.0,
       ),
-      subst (λ (items : List Input). All IsOfFile items) (sym more)
+      subst (λ (items : List FileInput). All IsOfFile items) (sym more)
           (All-push IsOfFile read one c.loop-slot.invariant.1 c.in_ok-one.ensures),
     )

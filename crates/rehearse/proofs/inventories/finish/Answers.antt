@@ -1,4 +1,4 @@
--- The census of the lines that were counted.
+-- The census of the lines that were counted, and the ids of their ledgers.
 use Rattle.rehearse.proofs.inventories.finish.Goals as goal
 
 pub returns-in-Ok : goal.returns-in-Ok
@@ -8,4 +8,7 @@ returns-in-Ok c = λ strict was. record {
   first = was.first;
   lines = was.lines;
   counted = c.in-Ok.ensures was.names strict was.first was.lines was.counted;
+  said = c.args.count.inventory;
+  is_read = was.counted.inventory;
+  ids = c.in_ok-ids.ensures;
 }

@@ -1,0 +1,6 @@
+-- It is what those bytes show, with the ids of its ledgers.
+use Rattle.std.proofs.Common.{inl}
+use Rattle.rehearse.proofs.inputs.of_bytes.Goals as goal
+
+pub returns : goal.returns
+returns g c = λ bytes is. inl (record { bytes = bytes; is_read = is; ids = c.in_ok-ids.ensures })

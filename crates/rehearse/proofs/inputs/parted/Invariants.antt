@@ -1,0 +1,7 @@
+-- What the files that are passed show, and their ids.
+use Rattle.std.proofs.Common.{◌≡◌, map}
+use Rattle.rehearse.proofs.inputs.parted.Given as goal
+
+abbrev pub invariant-loop-file : goal.invariant-loop-file
+invariant-loop-file l =
+    (l.inputs.items ≡ map (λ file. file.input) l.yielded) × (l.ids.items ≡ map (λ file. file.ids) l.yielded)
