@@ -1,5 +1,7 @@
 -- The ids of one list more can't join those before.
+use Rattle.std.proofs.Common.{subst, List, ℕ}
 use Rattle.reh_model.proofs.ListLaws.{slice_get-there}
+use Rattle.reh_inputs.specs.Uncounted.{IsIdFault}
 use Rattle.reh_inputs.proofs.FaultLaws.{list_fault, passed_on}
 use Rattle.reh_inputs.proofs.apart.check_ids.Goals as goal
 
@@ -12,4 +14,4 @@ returns-in_err-add_ids-clause-fault c =
     passed_on _ _ c.from_residual.result fault c.from_residual.ensures.1
     (list_fault lists k ids c.loop-input.seen.keys
     (slice_get-there lists k ids c.loop-input-test.true c.index-lists-input.is) c.loop-input.invariant fault
-    c.in_err-add_ids.ensures.fault)
+    (subst (λ (list : List ℕ). IsIdFault k c.loop-input.seen.keys list fault) c.deref.ensures.value c.in_err-add_ids.ensures.fault))
