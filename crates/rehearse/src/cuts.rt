@@ -94,12 +94,7 @@ fn uncut(alloc: Global, path: &str, ids: &[u64], fault: &CutFault) -> RunFault {
 }
 
 /// That there is no such ledger, and which ids are near.
-fn no_ledger_text(
-    alloc: Global,
-    path: &str,
-    ids: &[u64],
-    id: u64,
-) -> Result<String, AllocError> {
+fn no_ledger_text(alloc: Global, path: &str, ids: &[u64], id: u64) -> Result<String, AllocError> {
     let fault = CutFault::NoLedger(id);
     let near = near_text(alloc, ids, id)?;
     format!(in alloc; "inventory {path}: {fault}{near}")

@@ -36,7 +36,7 @@ pub(crate) fn gather_files<R: thread::Threads + Wait + Sync>(
     ensures { IfOk result (λ gathered. model.IsOfFiles inputs.now gathered) }
 {
     let read = read_files(rt, threads, inputs, progress)?;
-    let read = parted(rt.alloc(), read)?;
+    let read = in_parts(rt.alloc(), read)?;
     let gathered = gather_read(threads, rt.alloc(), inputs, &read)?;
     let_go(threads, read.inputs, inputs.crew.workers);
     Ok(gathered)
@@ -52,7 +52,13 @@ fn gather_read<R: thread::Threads + Sync>(
     ensures gathers { IfOk result (λ gathered. Gathers read.now.inputs.items inputs.now.strict gathered) }
     ensures apart { OnOk result (IsDistinct nat_eq (flat_map (λ ids. ids.items) read.now.ids.items)) }
 {
-    match gather(threads, alloc, &read.inputs, inputs.strict, inputs.crew.workers) {
+    match gather(
+        threads,
+        alloc,
+        &read.inputs,
+        inputs.strict,
+        inputs.crew.workers,
+    ) {
         Ok(gathered) => {
             check_apart(alloc, inputs, read)?;
             Ok(gathered)
@@ -95,7 +101,7 @@ fn census_of<R: thread::Threads + Wait + Sync>(
 {
     let inputs = &words.inputs;
     let read = read_files(rt, threads, inputs, progress)?;
-    let read = parted(rt.alloc(), read)?;
+    let read = in_parts(rt.alloc(), read)?;
     let gathered = gather_read(threads, rt.alloc(), inputs, &read)?;
     let taken = copy_taken(rt.alloc(), &read.inputs)?;
     let_go(threads, read.inputs, inputs.crew.workers);
@@ -141,7 +147,7 @@ pub(crate) struct Parted {
 }
 
 /// What these files show, and the ids, each in a list of its own.
-fn parted(alloc: Global, read: Vec<FileInput>) -> Result<Parted, AllocError>
+fn in_parts(alloc: Global, read: Vec<FileInput>) -> Result<Parted, AllocError>
     ensures { IfOk result (model.IsParted read.items) }
 {
     let mut inputs = Vec::new(alloc);

@@ -1,6 +1,6 @@
 -- What the files that are passed show, and their ids.
 use Rattle.std.proofs.Common.{◌≡◌, map}
-use Rattle.rehearse.proofs.inputs.parted.Given as goal
+use Rattle.rehearse.proofs.inputs.in_parts.Given as goal
 
 abbrev pub invariant-loop-file : goal.invariant-loop-file
 invariant-loop-file l =
