@@ -24,5 +24,5 @@ returns g c = record {
       ∙ ap (census_by c.args.words.now.as_json)
       (c.in_ok-census.ensures
       ∙ ap (named_of c.in_ok-gathered.gathered c.args.words.now.inputs.strict)
-      (c.in_ok-taken.ensures ∙ ap taken_of c.in_ok-read-2.ensures.inputs));
+      (c.in_ok-taken.ensures ∙ ap taken_of (c.deref.ensures.value ∙ c.in_ok-read-2.ensures.inputs)));
 }

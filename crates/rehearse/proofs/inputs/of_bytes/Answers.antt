@@ -3,4 +3,4 @@ use Rattle.std.proofs.Common.{inl}
 use Rattle.rehearse.proofs.inputs.of_bytes.Goals as goal
 
 pub returns : goal.returns
-returns g c = λ bytes is. inl (record { bytes = bytes; is_read = is; ids = c.in_ok-ids.ensures })
+returns g bytes is = inl (record { bytes = bytes; is_read = is; ids = g.in_ok-ids.ensures })

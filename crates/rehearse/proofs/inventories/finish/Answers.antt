@@ -1,4 +1,6 @@
 -- The census of the lines that were counted, and the ids of their ledgers.
+use Rattle.std.proofs.Common.{◌∙◌, ap}
+use Rattle.reh_inventory.specs.Inventories.{Inventory}
 use Rattle.rehearse.proofs.inventories.finish.Goals as goal
 
 pub returns-in-Ok : goal.returns-in-Ok
@@ -10,5 +12,8 @@ returns-in-Ok c = λ strict was. record {
   counted = c.in-Ok.ensures was.names strict was.first was.lines was.counted;
   said = c.args.count.inventory;
   is_read = was.counted.inventory;
-  ids = c.in_ok-ids.ensures;
+  ids =
+      c.in_ok-ids.ensures.items
+      ∙ c.ids.ensures
+      ∙ ap (λ (inventory : Inventory). inventory.ids) c.inventory.ensures;
 }
