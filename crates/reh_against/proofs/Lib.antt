@@ -1,1 +1,2 @@
 pub mod FoundLaws
+pub mod WorstLaws
