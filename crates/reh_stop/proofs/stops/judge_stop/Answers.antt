@@ -3,8 +3,8 @@ use Rattle.std.proofs.Common.{◌∙◌, ap, sym, refl, subst, rules}
 use Rattle.reh_stop.specs.Named.{AreClear, names_in, texts}
 use Rattle.reh_stop.specs.declared.stops.Asked.{Asked}
 use Rattle.reh_stop.specs.Stops.{IsByNames}
-use Rattle.reh_stop.proofs.FaultLaws.{answered-by, refused-by}
-use Rattle.reh_stop.proofs.stops.answer_stop.Goals as goal
+use Rattle.reh_stop.proofs.FaultLaws.{judged-by, refused-by}
+use Rattle.reh_stop.proofs.stops.judge_stop.Goals as goal
 
 pub returns-clause-fault : goal.returns-clause-fault
 returns-clause-fault c =
@@ -25,10 +25,10 @@ returns-clause-fault c =
     } in
     refused-by g asked named (sym c.if-not-has_words.ensures)
     (subst (λ names. AreClear names asked.bookies.now) c.names-names.ensures (c.in_ok-word.ensures.none (search rules))) by
-    c.answer_named.result c.answer_named.ensures.fault
+    c.judge_named.result c.judge_named.ensures.fault
 
-pub returns-clause-answered : goal.returns-clause-answered
-returns-clause-answered c =
+pub returns-clause-judged : goal.returns-clause-judged
+returns-clause-judged c =
     let g = c.args.gathered.now in
     let asked = c.args.asked.now in
     let named : Asked = record {
@@ -44,6 +44,7 @@ returns-clause-answered c =
       question = refl;
       as_json = refl;
     } in
-    answered-by g asked named (sym c.if-not-has_words.ensures)
+    judged-by g asked named (sym c.if-not-has_words.ensures)
     (subst (λ names. AreClear names asked.bookies.now) c.names-names.ensures (c.in_ok-word.ensures.none (search rules))) by
-    c.answer_named.result c.answer_named.ensures.named c.answer_named.ensures.said c.answer_named.ensures.ledgers
+    c.judge_named.result c.judge_named.ensures.named c.judge_named.ensures.stopped c.judge_named.ensures.facts
+    c.judge_named.ensures.ledgers
