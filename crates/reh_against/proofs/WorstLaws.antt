@@ -1,5 +1,5 @@
 -- The worst of some, and of one more.
-use Rattle.std.proofs.Common.{◌≡◌, ◌∙◌, ◌+◌, ◌<◌, ◌≤◌, ◌++◌, ◌∷◌, [], ◌⊎◌, ℕ, Bool, true, false, List, ap, sym, subst, refl, inl, inr, length, get_or, map, arith, append_assoc, append-nil, length-append}
+use Rattle.std.proofs.Common.{◌≡◌, ◌∙◌, ◌+◌, ◌<◌, ◌≤◌, ◌++◌, ◌∷◌, [], ◌⊎◌, ℕ, Bool, true, false, List, ap, sym, subst, refl, inl, inr, length, get_or, take, drop, map, leb, arith, append_assoc, append-nil, length-append}
 use Rattle.std.specs.Prelude.{All, Contains, IsPermutation}
 use Rattle.std.specs.Cmp.{IsStrictWeakOrder}
 use Rattle.std.specs.Ordering.{is_lt, nat_cmp, ordering_then}
@@ -7,9 +7,9 @@ use Rattle.std.specs.declared.cmp.Ordering.{Ordering}
 use Rattle.std.specs.List.Sorted.{IsSortedBy}
 use Rattle.std.proofs.lemmas.Bool.Decides.{nat_tests}
 use Rattle.std.proofs.lemmas.Cmp.{back_total, nat_cmp_total, on_total, then_total}
-use Rattle.std.proofs.lemmas.List.{get_or-append-add, get_or-map, get_or_append_left, length-map, map-append}
-use Rattle.std.proofs.lemmas.List.Elements.{All-contains_itself, All-push, Contains-push}
-use Rattle.std.proofs.lemmas.List.Sorted.{All-permutation, IsPermutation-append_comm, IsPermutation-append_left, IsPermutation-append_right, IsPermutation-map, IsPermutation-trans, length_permutation, ranks_by, sorted_far}
+use Rattle.std.proofs.lemmas.List.{drop_all, get_or-append-add, get_or-drop, get_or-map, get_or-take, get_or_append_left, length-drop, length-map, length-take, length-take-le, map-append, take-append-drop}
+use Rattle.std.proofs.lemmas.List.Elements.{All-contains_itself, All-from_get_or, All-push, Contains-push}
+use Rattle.std.proofs.lemmas.List.Sorted.{All-permutation, IsPermutation-append_comm, IsPermutation-append_left, IsPermutation-append_right, IsPermutation-map, IsPermutation-refl, IsPermutation-trans, length_permutation, ranks_by, sorted_far}
 use Rattle.reh_against.specs.declared.found.Found.{Found}
 use Rattle.reh_against.specs.declared.kept.Kept.{Kept}
 use Rattle.reh_against.specs.Weighed.{found_of, kept_before}
@@ -214,3 +214,45 @@ pub kept-with-room : (kept now : List Kept) (more : Kept) → length kept < 10 �
 kept-with-room kept now more few same up found worst =
     with-room found (map found_of kept) (map found_of now) more.found (omega (arith, few, length-map kept found_of)) worst
     (found-same kept now more same) (sorted-map found_of comes_before now up)
+
+-- All at once
+
+-- the first ten of all in their order
+pub first-ten : (found order : List Found) → IsPermutation found order → IsSortedBy comes_before order
+    → AreWorst found (take 10 order)
+first-ten found order same up = record {
+  others = drop 10 order;
+  all = subst (λ (fs : List Found). IsPermutation found fs) (sym (take-append-drop 10 order)) same;
+  sorted = sorted-front comes_before (take 10 order) (drop 10 order)
+      (subst (λ (fs : List Found). IsSortedBy comes_before fs) (sym (take-append-drop 10 order)) up);
+  most = omega (arith, length-take 10 order);
+  full = by (leb 10 (length order)) refl;
+  worse = λ k d within.
+      All-from_get_or (λ other. comes_before other (get_or (take 10 order) k d) ≡ false) (drop 10 order) d
+      (λ j inside.
+      let few : k < 10 = omega (arith, within, length-take 10 order) in
+      subst (λ (x : Found). comes_before x (get_or (take 10 order) k d) ≡ false) (sym (get_or-drop 10 order j d))
+      (subst (λ (x : Found). comes_before (get_or order (10 + j) d) x ≡ false) (sym (get_or-take 10 order k d few))
+      (sorted_far comes_before before-orders order up k (10 + j) d (omega arith) (omega (arith, inside, length-drop 10 order)))));
+}
+  where
+    by : (b : Bool) → leb 10 (length order) ≡ b → (length (take 10 order) ≡ 10) ⊎ (drop 10 order ≡ [])
+    by true e =
+        let many : 10 ≤ length order = grind (arith, nat_tests) in
+        inl (length-take-le 10 order many)
+    by false e =
+        let few : length order ≤ 10 = grind (arith, nat_tests) in
+        inr (drop_all 10 order few)
+
+pub sorted-by-cmp : (order : List Found) → IsSortedBy (λ a b. is_lt (found_cmp a b)) order → IsSortedBy comes_before order
+sorted-by-cmp order up = λ k d low within. sym (same-order (get_or order (k + 1) d) (get_or order k d)) ∙ up k d low within
+
+pub none-worst : AreWorst [] []
+none-worst = record {
+  others = [];
+  all = IsPermutation-refl [];
+  sorted = λ k d low never. absurd (omega (arith, never));
+  most = omega arith;
+  full = inr refl;
+  worse = λ k d never. absurd (omega (arith, never));
+}

@@ -1,5 +1,5 @@
 // The ledgers that speak against a stop, of those that are added one after the other.
-ghost use Rattle.std.specs.Prelude.{◌≡◌, ◌⊎◌, ℕ, Bool, [], ◌∷◌, ◌++◌, All, Contains, Err, IfOk, List, OnOk, map, string_bytes};
+ghost use Rattle.std.specs.Prelude.{◌≡◌, ◌⊎◌, ℕ, Bool, [], ◌∷◌, ◌++◌, All, Contains, Err, IfOk, List, OnOk, length, map, string_bytes};
 ghost use Rattle.reh_census.specs.Bookies.{Bookies as BookiesValue, bookies_of, holders, is_flagged};
 ghost use Rattle.reh_census.specs.Ledgers.{Ledger as LedgerValue};
 ghost use Rattle.reh_census.specs.declared.answers.Answer.{Answer as AnswerValue};
@@ -89,6 +89,44 @@ impl Worst {
         self.added = place + 1;
         add_weighed(&mut self.kept, weight, id, place, ledger)?;
         Ok(())
+    }
+
+    /// Adds ledgers of this id, in their order.
+    pub fn add_all(
+        &mut self,
+        alloc: Global,
+        id: u64,
+        ledgers: Vec<Ledger>,
+        stop: &Stop<'_>,
+    ) -> Result<(), TallyFault>
+        ensures { OnOk result ((ids : List ℕ) (before : List LedgerValue)
+            → model.Weighs (bookies_of stop.now.bookies.now) stop.now.question.now (is_flagged stop.now.stopped.now)
+            stop.now.answer.now ids before self.old
+            → model.Weighs (bookies_of stop.now.bookies.now) stop.now.question.now (is_flagged stop.now.stopped.now)
+            stop.now.answer.now (ids ++ map (λ g. id) ledgers.items) (before ++ ledgers.items) self.new) }
+    {
+        for ledger in ledgers {
+            self.add(alloc, id, ledger, stop)?;
+        }
+        Ok(())
+    }
+
+    /// The worst of these ledgers, which have these ids.
+    pub fn of(
+        alloc: Global,
+        ids: &[u64],
+        ledgers: Vec<Ledger>,
+        stop: &Stop<'_>,
+    ) -> Result<Worst, TallyFault>
+        requires { length ids.now ≡ length ledgers.items }
+        ensures { IfOk result (model.Weighs (bookies_of stop.now.bookies.now) stop.now.question.now
+            (is_flagged stop.now.stopped.now) stop.now.answer.now ids.now ledgers.items) }
+    {
+        let mut worst = Worst::new(alloc);
+        for ledger in ledgers {
+            worst.add(alloc, ids[worst.added], ledger, stop)?;
+        }
+        Ok(worst)
     }
 
     /// What is said of the worst, the worst first: of each the number of its entries that speak against the stop, if it is
