@@ -124,7 +124,8 @@ impl Worst {
     {
         let mut worst = Worst::new(alloc);
         for ledger in ledgers {
-            worst.add(alloc, ids[worst.added], ledger, stop)?;
+            let place = worst.added;
+            worst.add(alloc, ids[place], ledger, stop)?;
         }
         Ok(worst)
     }
