@@ -1,6 +1,7 @@
 -- One more ledger is weighed; and what is said of those that are kept.
-use Rattle.std.proofs.Common.{◌≡◌, ◌∙◌, ◌+◌, ◌<◌, ◌++◌, ◌∷◌, [], ℕ, zero, suc, Bool, List, Option, None, Some, ap, refl, sym, subst, length, get_or, map, arith, append_assoc, append-nil, length-append}
+use Rattle.std.proofs.Common.{◌≡◌, ◌∙◌, ◌+◌, ◌<◌, ◌++◌, ◌∷◌, [], ℕ, zero, suc, Bool, List, Option, None, Some, ap, refl, sym, subst, length, get_or, take, map, arith, append_assoc, append-nil, length-append}
 use Rattle.std.specs.Prelude.{All, Contains, slice_get}
+use Rattle.std.proofs.lemmas.List.{length_push, map-append, take_more}
 use Rattle.std.proofs.lemmas.List.Elements.{All-append, All-contains, All-cons, All-head, All-nil, All-tail}
 use Rattle.std.proofs.lemmas.Option.{slice_get-get_or}
 use Rattle.reh_census.specs.declared.answers.Answer.{Answer}
@@ -81,6 +82,38 @@ weighs-more bookies question stopped answer old kept w id g is more are ids ledg
           (among-more ledgers g w id old.kept.items kept was.among
           (subst (λ (n : ℕ). All (Contains (old.kept.items ++ kept_by w id n g ∷ [])) kept) was.added are));
     }
+
+module _ (bookies : Bookies) (question : Question) (stopped : ℕ → Bool) (answer : Answer) where
+  -- of the same id, after others
+  pub weighs-next : (ids : List ℕ) (before ledgers : List Ledger) (id : ℕ) (g : Ledger) (worst : Worst)
+      → Weighs bookies question stopped answer ((ids ++ map (λ h. id) ledgers) ++ id ∷ []) ((before ++ ledgers) ++ g ∷ []) worst
+      → Weighs bookies question stopped answer (ids ++ map (λ h. id) (ledgers ++ g ∷ [])) (before ++ (ledgers ++ g ∷ [])) worst
+  weighs-next ids before ledgers id g worst was =
+      let same : (ids ++ map (λ (h : Ledger). id) ledgers) ++ id ∷ [] ≡ ids ++ map (λ (h : Ledger). id) (ledgers ++ g ∷ []) =
+      append_assoc ids (map (λ (h : Ledger). id) ledgers) (id ∷ [])
+      ∙ ap (λ (xs : List ℕ). ids ++ xs) (sym (map-append (λ (h : Ledger). id) ledgers (g ∷ []))) in
+      subst (λ (xs : List ℕ). Weighs bookies question stopped answer xs (before ++ (ledgers ++ g ∷ [])) worst) same
+      (subst (λ (gs : List Ledger).
+      Weighs bookies question stopped answer ((ids ++ map (λ h. id) ledgers) ++ id ∷ []) gs worst)
+      (append_assoc before ledgers (g ∷ [])) was)
+
+  pub weighs-none : (ids : List ℕ) (before : List Ledger) (worst : Worst) → Weighs bookies question stopped answer ids before worst
+      → Weighs bookies question stopped answer (ids ++ []) (before ++ []) worst
+  weighs-none ids before worst was =
+      subst (λ (xs : List ℕ). Weighs bookies question stopped answer xs (before ++ []) worst) (sym (append-nil ids))
+      (subst (λ (gs : List Ledger). Weighs bookies question stopped answer ids gs worst) (sym (append-nil before)) was)
+
+  -- of the next id
+  pub weighs-each : (ids : List ℕ) (ledgers : List Ledger) (place : ℕ) (g : Ledger) (worst : Worst) → length ledgers < length ids
+      → place ≡ length ledgers
+      → Weighs bookies question stopped answer (take (length ledgers) ids ++ get_or ids place 0 ∷ []) (ledgers ++ g ∷ []) worst
+      → Weighs bookies question stopped answer (take (length (ledgers ++ g ∷ [])) ids) (ledgers ++ g ∷ []) worst
+  weighs-each ids ledgers place g worst within at was =
+      subst (λ (xs : List ℕ). Weighs bookies question stopped answer xs (ledgers ++ g ∷ []) worst)
+      (ap (λ (k : ℕ). take (length ledgers) ids ++ get_or ids k 0 ∷ []) at
+      ∙ sym (take_more ids (length ledgers) 0 within)
+      ∙ ap (λ (k : ℕ). take k ids) (sym (length_push ledgers g)))
+      was
 
 -- What is said
 
