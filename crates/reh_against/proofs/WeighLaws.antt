@@ -1,20 +1,18 @@
 -- One more ledger is weighed; and what is said of those that are kept.
-use Rattle.std.proofs.Common.{◌≡◌, ◌∙◌, ◌+◌, ◌<◌, ◌++◌, ◌∷◌, [], ℕ, zero, suc, Bool, List, Option, None, Some, ap, refl, sym, subst, length, get_or, take, map, arith, append_assoc, append-nil, length-append}
+use Rattle.std.proofs.Common.{◌≡◌, ◌∙◌, ◌+◌, ◌<◌, ◌++◌, ◌∷◌, [], ℕ, zero, suc, Bool, List, Some, ap, refl, sym, subst, length, get_or, take, map, arith, append_assoc, append-nil, length-append}
 use Rattle.std.specs.Prelude.{All, Contains, slice_get}
 use Rattle.std.proofs.lemmas.List.{length_push, map-append, take_more}
 use Rattle.std.proofs.lemmas.List.Elements.{All-append, All-contains, All-cons, All-head, All-nil, All-tail}
-use Rattle.std.proofs.lemmas.Option.{slice_get-get_or}
 use Rattle.reh_census.specs.declared.answers.Answer.{Answer}
 use Rattle.reh_census.specs.declared.questions.Question.{Question}
 use Rattle.reh_census.specs.Bookies.{Bookies}
 use Rattle.reh_census.specs.Ledgers.{Ledger}
-use Rattle.reh_answer.specs.declared.against.Against.{Against}
 use Rattle.reh_against.specs.declared.found.Found.{Found}
 use Rattle.reh_against.specs.declared.kept.Kept.{Kept}
 use Rattle.reh_against.specs.declared.worst.Worst.{Worst}
 use Rattle.reh_against.specs.Weighed.{IsAmong, Weighs, found_of, kept_by}
 use Rattle.reh_against.specs.Weights.{weight}
-use Rattle.reh_against.specs.Worst.{AreWorst, Each, IsAgainst, SaysAgainst, found_from, found_if}
+use Rattle.reh_against.specs.Worst.{AreWorst, Each, found_from, found_if}
 
 -- Ledgers, and one more
 

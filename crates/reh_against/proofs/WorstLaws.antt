@@ -1,5 +1,5 @@
 -- The worst of some, and of one more.
-use Rattle.std.proofs.Common.{◌≡◌, ◌∙◌, ◌+◌, ◌<◌, ◌≤◌, ◌++◌, ◌∷◌, [], ◌⊎◌, ℕ, Bool, true, false, List, ap, sym, subst, refl, inl, inr, length, get_or, take, drop, map, leb, arith, append_assoc, append-nil, length-append}
+use Rattle.std.proofs.Common.{◌≡◌, ◌∙◌, ◌+◌, ◌<◌, ◌≤◌, ◌++◌, ◌∷◌, [], ◌⊎◌, Bool, true, false, List, ap, sym, subst, refl, inl, inr, length, get_or, take, drop, map, leb, arith, append_assoc, append-nil, length-append}
 use Rattle.std.specs.Prelude.{All, Contains, IsPermutation}
 use Rattle.std.specs.Cmp.{IsStrictWeakOrder}
 use Rattle.std.specs.Ordering.{is_lt, nat_cmp, ordering_then}

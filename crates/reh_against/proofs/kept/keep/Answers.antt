@@ -1,5 +1,5 @@
 -- Where ten are kept, the last of them goes, or the new one.
-use Rattle.std.proofs.Common.{◌≡◌, ◌∙◌, ◌++◌, ◌∷◌, [], List, sym, subst, arith}
+use Rattle.std.proofs.Common.{◌∙◌, ◌++◌, ◌∷◌, [], List, sym, subst, arith}
 use Rattle.std.specs.Prelude.{All, Contains}
 use Rattle.reh_against.specs.declared.kept.Kept.{Kept}
 use Rattle.reh_against.proofs.WorstLaws.{among-in-place, among-kept, among-same, kept-in-place, kept-left-out, kept-with-room}

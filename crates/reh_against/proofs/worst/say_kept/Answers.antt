@@ -1,5 +1,5 @@
 -- One more is said; and it is said of the ledgers of which they are.
-use Rattle.std.proofs.Common.{◌≡◌, ◌∙◌, ◌+◌, ◌++◌, ◌∷◌, [], ℕ, List, map, sym, subst, take, take_all, get_or, string_bytes, arith}
+use Rattle.std.proofs.Common.{◌≡◌, ◌∙◌, ◌+◌, ◌++◌, ◌∷◌, [], ℕ, List, map, sym, subst, take, take_all, string_bytes, arith}
 use Rattle.std.proofs.lemmas.List.{take_more}
 use Rattle.reh_census.specs.Bookies.{bookies_of, is_flagged}
 use Rattle.reh_census.specs.Ledgers.{Ledger}

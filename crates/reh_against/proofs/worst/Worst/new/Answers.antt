@@ -1,7 +1,6 @@
 -- There are none.
 use Rattle.std.proofs.Common.{[], List, map, refl, sym, subst, arith}
 use Rattle.std.specs.Prelude.{All}
-use Rattle.reh_census.specs.Ledgers.{Ledger}
 use Rattle.reh_against.specs.declared.kept.Kept.{Kept}
 use Rattle.reh_against.specs.Weighed.{IsAmong, found_of}
 use Rattle.reh_against.specs.Worst.{AreWorst}

@@ -1,5 +1,5 @@
 -- One ledger more.
-use Rattle.std.proofs.Common.{◌≡◌, ◌∙◌, ℕ, List, length, sym, subst, take, take_all, arith}
+use Rattle.std.proofs.Common.{◌∙◌, ℕ, List, length, sym, subst, take, take_all, arith}
 use Rattle.std.proofs.lemmas.Iterator.Adapters.{YieldsList-from_vec}
 use Rattle.std.proofs.lemmas.Iterator.Consumers.{YieldsList-end, YieldsList-turn}
 use Rattle.std.proofs.lemmas.List.{map-id}
