@@ -44,7 +44,7 @@ said-by g asked verdict against said ids ledgers judged says text status =
     let flags : List Bool = stopped_by g.cluster named in
     let question : asked.question ≡ named.question = sym judged.by_names.question in
     let as_json : asked.as_json ≡ named.as_json = sym judged.by_names.as_json in
-    let facts : verdict.facts ≡ facts_of g named flags = judged.facts ∙ ap (facts_of g named) judged.stopped in
+    let facts : verdict.facts ≡ facts_of g named flags = judged.facts ∙ ap (λ (set : List Bool). facts_of g named set) judged.stopped in
     record {
       some = judged.some;
       clear = judged.clear;
