@@ -8,10 +8,10 @@ ghost use Rattle.reh_stop.specs.Stops as model;
 ghost use Rattle.reh_tally.specs.Few.{AreFewCounts};
 ghost use Rattle.reh_tally.specs.declared.census.TallyFault.TheVariants.{TooMany};
 
-use crate::verdicts::Verdict;
 use crate::named::{
     first_ambiguous, first_twice, first_unknown, first_unknown_rack, names_in, stopped_of,
 };
+use crate::verdicts::Verdict;
 use reh_against::{Stop, against_of};
 use reh_answer::{Against, Facts, facts_of, json_of, status_of, text_of};
 use reh_census::{Bookies, Census, Question};
