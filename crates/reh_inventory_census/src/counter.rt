@@ -99,9 +99,7 @@ impl Counter {
     {
         let Parts { first, other } = split(line);
         self.add_part(alloc, &first)?;
-        let Some(other) = other else {
-            return Ok(())
-        };
+        let Some(other) = other else { return Ok(()) };
         let second = second(alloc, first, other)?;
         self.add_part(alloc, &second)?;
         Ok(())
