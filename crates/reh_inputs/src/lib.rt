@@ -20,7 +20,7 @@ pub use empties::{EmptyHolds, check_empties};
 pub use gathered::{GatherFault, gather};
 pub use inputs::{Input, InputFault, read_input};
 pub use ledgers::Reading;
-pub use named::{named_of, taken_of};
+pub use named::{named_of, names_of, taken_of};
 pub use names::{ClusterNames, MAX_CLUSTER_BOOKIES};
 pub use parts::let_go;
 pub use shown::Shown;

@@ -37,7 +37,7 @@ fn add_numbered(list: &mut NameList, names: &ClusterNames, number: usize) -> Res
 }
 
 /// The names of the bookies, as a census has them.
-fn names_of(alloc: Global, names: &ClusterNames) -> Result<NameList, AllocError>
+pub fn names_of(alloc: Global, names: &ClusterNames) -> Result<NameList, AllocError>
     ensures { IfOk result (λ list. list ≡ names.now) }
 {
     let mut list = NameList::new(alloc);

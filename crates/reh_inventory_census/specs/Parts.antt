@@ -7,7 +7,7 @@ use Rattle.std.specs.Option.{is_none, option_map_or}
 use Rattle.reh_inventory.specs.declared.ledgers.LedgerLine.{LedgerLine}
 use Rattle.reh_inventory.specs.declared.ledgers.LedgerState.TheVariants.{Closed}
 use Rattle.reh_inventory_census.specs.declared.parts.Other.{Other}
-use Rattle.reh_inventory_census.specs.declared.parts.Split.{Split}
+use Rattle.reh_inventory_census.specs.declared.parts.Parts.{Parts}
 use Rattle.reh_inventory_census.specs.Counted.{end_of, last_first}
 
 -- whether it is counted in two parts: it isn't closed, and has several fragments
@@ -34,5 +34,5 @@ parts_in lines = flat_map parts_of lines
 abbrev pub second : LedgerLine → Other → LedgerLine
 second first other = record first { state = other.state; fragments = other.last ∷ [] }
 
-abbrev pub both : Split → List LedgerLine
-both split = split.first ∷ option_map_or (λ other. second split.first other ∷ []) split.other []
+abbrev pub both : Parts → List LedgerLine
+both parts = parts.first ∷ option_map_or (λ other. second parts.first other ∷ []) parts.other []

@@ -15,7 +15,7 @@ use crate::counts::{Counts, held_among};
 use crate::empties::are_refilled;
 use crate::faults::{CountFault, unfit};
 use crate::numbers::has_named_members;
-use crate::parts::{Split, part_of, second, split};
+use crate::parts::{Parts, part_of, second, split};
 use reh_census::Bookies;
 use reh_census_file::NameList;
 use reh_inventory::LedgerLine;
@@ -97,7 +97,7 @@ impl Counter {
         ensures added { OnOk result ((parts : List LineValue) → model.CountsParts parts self.old
             → model.CountsParts (parts ++ parts_of line) self.new) }
     {
-        let Split { first, other } = split(line);
+        let Parts { first, other } = split(line);
         self.add_part(alloc, &first)?;
         let Some(other) = other else {
             return Ok(())

@@ -1,5 +1,5 @@
 // The ledgers of an inventory's lines, as its census counts them, one line after the other.
-ghost use Rattle.std.specs.Prelude.{◌≡◌, true, IfOk, map};
+ghost use Rattle.std.specs.Prelude.{◌≡◌, ◌++◌, ◌∷◌, [], true, IfOk, OnOk, map};
 ghost use Rattle.std.specs.Option.{IsSomeAnd};
 ghost use Rattle.reh_inventory_census.specs.Census.{head_in};
 ghost use Rattle.reh_inventory_census.specs.Counted.{counted as counted_of};
@@ -9,11 +9,19 @@ ghost use Rattle.reh_inventory_census.specs.Parts.{parts_of};
 use crate::census::read_head;
 use crate::faults::CountFault;
 use crate::numbers::has_named_members;
-use crate::parts::{Split, part_of, second, split};
+use crate::parts::{Parts, part_of, second, split};
 use reh_census::Ledger;
 use reh_census_file::NameList;
 use reh_inventory::LedgerLine;
-use std::alloc::Global;
+use std::alloc::{AllocError, Global};
+
+/// Adds a ledger.
+fn push(ledgers: &mut Vec<Ledger>, ledger: Ledger) -> Result<(), AllocError>
+    ensures { OnOk result (ledgers.new.items ≡ ledgers.old.items ++ ledger ∷ []) }
+{
+    ledgers.push(ledger)?;
+    Ok(())
+}
 
 /// How a census counts the ledgers of an inventory: by the numbers of these names.
 #[derive(Drop)]
@@ -51,14 +59,14 @@ impl InventoryLedgers {
         if !has_named_members(&self.names, &line) {
             return Err(CountFault::Unnamed);
         }
+        let Parts { first, other } = split(line);
         let mut ledgers = Vec::new(alloc);
-        let Split { first, other } = split(line);
-        ledgers.push(self.of_part(alloc, &first)?)?;
+        push(&mut ledgers, self.of_part(alloc, &first)?)?;
         let Some(other) = other else {
             return Ok(ledgers)
         };
         let second = second(alloc, first, other)?;
-        ledgers.push(self.of_part(alloc, &second)?)?;
+        push(&mut ledgers, self.of_part(alloc, &second)?)?;
         Ok(ledgers)
     }
 

@@ -12,7 +12,7 @@ use std::alloc::{AllocError, Global};
 
 /// The part of a ledger that is counted first, and what the other one has, if there is one.
 #[derive(Drop)]
-pub(crate) struct Split {
+pub(crate) struct Parts {
     pub(crate) first: LedgerLine,
     pub(crate) other: Option<Other>,
 }
@@ -35,11 +35,11 @@ fn has_parts(line: &LedgerLine) -> bool
 }
 
 /// The parts of a ledger, of which the second shares what is told with the first.
-pub(crate) fn split(line: LedgerLine) -> Split
+pub(crate) fn split(line: LedgerLine) -> Parts
     ensures { model.both result ≡ model.parts_of line }
 {
     if !has_parts(&line) {
-        return Split {
+        return Parts {
             first: line,
             other: None,
         };
@@ -47,10 +47,10 @@ pub(crate) fn split(line: LedgerLine) -> Split
     let mut first = line;
     let state = first.state;
     let Some(last) = first.fragments.pop() else {
-        return Split { first, other: None }
+        return Parts { first, other: None }
     };
     first.state = LedgerState::Closed { end: last.first };
-    Split {
+    Parts {
         first,
         other: Some(Other { state, last }),
     }

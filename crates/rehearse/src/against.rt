@@ -1,5 +1,5 @@
 // The ledgers of inventories that speak against a stop: the files are read once more.
-ghost use Rattle.std.specs.Prelude.{◌≡◌, ◌++◌, ℕ, Bool, List, Ok, IfOk, OnOk, map};
+ghost use Rattle.std.specs.Prelude.{◌≡◌, ◌++◌, ℕ, Bool, List, Ok, IfOk, OnOk, length, map};
 ghost use Rattle.reh_against.specs.Weighed.{Weighs};
 ghost use Rattle.reh_census.specs.Bookies.{bookies_of, is_flagged};
 ghost use Rattle.reh_census.specs.Ledgers.{Ledger as LedgerValue};
@@ -182,8 +182,25 @@ fn add_parts(
     }
 }
 
+/// The worst of pictures' ledgers.
+pub(crate) fn weigh(
+    alloc: Global,
+    ids: &[u64],
+    ledgers: Vec<Ledger>,
+    stop: &Stop<'_>,
+) -> Result<Worst, RunFault>
+    requires { length ids.now ≡ length ledgers.items }
+    ensures { IfOk result (Weighs (bookies_of stop.now.bookies.now) stop.now.question.now
+        (is_flagged stop.now.stopped.now) stop.now.answer.now ids.now ledgers.items) }
+{
+    match Worst::of(alloc, ids, ledgers, stop) {
+        Ok(worst) => Ok(worst),
+        Err(fault) => Err(unweighed(alloc, fault)),
+    }
+}
+
 /// The fault of a run whose ledgers can't be weighed.
-pub(crate) fn unweighed(alloc: Global, fault: TallyFault) -> RunFault {
+fn unweighed(alloc: Global, fault: TallyFault) -> RunFault {
     match fault {
         TallyFault::TooMany => too_many(alloc),
         TallyFault::NoMemory => RunFault::NoMemory,
