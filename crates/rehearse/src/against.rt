@@ -13,7 +13,7 @@ use crate::inventories::{INVENTORY_BEGINS, read_line, reader_of, refused, uncoun
 use reh_against::{Stop, Worst};
 use reh_census::Ledger;
 use reh_inputs::{ClusterNames, names_of};
-use reh_inventory::{InventoryFault, Line, LedgerLine};
+use reh_inventory::{InventoryFault, LedgerLine, Line};
 use reh_inventory_census::InventoryLedgers;
 use reh_tally::TallyFault;
 use reh_words::Inputs;
@@ -67,7 +67,13 @@ fn weigh_file(
     let alloc = rt.alloc();
     let begins = INVENTORY_BEGINS.as_bytes();
     let mut line = Vec::new(alloc);
-    let file = read_on(rt, path, open_file(rt, path)?, begins.len() as u64, &mut line)?;
+    let file = read_on(
+        rt,
+        path,
+        open_file(rt, path)?,
+        begins.len() as u64,
+        &mut line,
+    )?;
     if line.as_slice() != begins {
         return Ok(());
     }
