@@ -1,1 +1,3 @@
 pub mod FoundLaws
+pub mod WeighLaws
+pub mod WorstLaws

@@ -1,3 +1,4 @@
 pub mod Causes
+pub mod Weighed
 pub mod Weights
 pub mod Worst

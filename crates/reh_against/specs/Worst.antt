@@ -1,6 +1,6 @@
 -- The worst first.
-use Rattle.std.specs.Prelude.{◌≡◌, ℕ, ◌+◌, Bool, ◌&&◌, ◌||◌, ◌==◌, nat_lt, if◌then◌else◌, List, [], ◌∷◌, ◌++◌}
-use Rattle.std.specs.Prelude.{take, IsPermutation, slice_get, string_bytes, Some}
+use Rattle.std.specs.Prelude.{◌≡◌, ◌≤◌, ◌⊎◌, ℕ, ◌+◌, Bool, false, ◌&&◌, ◌||◌, ◌==◌, nat_lt, if◌then◌else◌, List, [], ◌∷◌, ◌++◌}
+use Rattle.std.specs.Prelude.{All, IsPermutation, length, slice_get, string_bytes, Some}
 use Rattle.std.specs.List.Sorted.{IsSortedBy}
 use Rattle.reh_census.specs.declared.answers.Answer.{Answer}
 use Rattle.reh_census.specs.declared.questions.Keep.{Keep}
@@ -32,12 +32,14 @@ comes_before a b =
     nat_lt b.weight.0 a.weight.0
     || ((b.weight.0 == a.weight.0) && (nat_lt a.ledger b.ledger || ((a.ledger == b.ledger) && nat_lt a.place b.place)))
 
--- the first ten of these, in an order in which the worst come first
+-- the ten worst of these, or all of them if there are fewer, worst first: none of the others comes before one of them
 pub record AreWorst (found worst : List Found) : Type 0 where
-  pub order : List Found
-  pub same : IsPermutation found order
-  pub sorted : IsSortedBy comes_before order
-  pub first : worst ≡ take 10 order
+  pub others : List Found
+  pub all : IsPermutation found (worst ++ others)
+  pub sorted : IsSortedBy comes_before worst
+  pub most : length worst ≤ 10
+  pub full : (length worst ≡ 10) ⊎ (others ≡ [])
+  pub worse : All (λ one. All (λ other. comes_before other one ≡ false) others) worst
 
 -- what is said of a ledger that was found among these, and why
 pub record IsAgainst (names : List (List ℕ)) (ledgers : List Ledger) (bookies : Bookies) (keep : Keep) (stopped : ℕ → Bool)

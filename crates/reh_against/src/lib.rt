@@ -4,10 +4,13 @@
 mod causes;
 mod entries;
 mod found;
+mod kept;
 mod members;
 mod picks;
 mod stops;
 mod weights;
+mod worst;
 
 pub use picks::against_of;
 pub use stops::Stop;
+pub use worst::Worst;

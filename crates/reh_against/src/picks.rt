@@ -1,6 +1,7 @@
 // The ledgers that speak against a stop, the worst first.
-ghost use Rattle.std.specs.Prelude.{◌≡◌, ◌<◌, [], ◌∷◌, ◌++◌, All, IfOk, Err, OnOk, length, map, string_bytes};
+ghost use Rattle.std.specs.Prelude.{◌≡◌, ◌<◌, [], ◌∷◌, ◌++◌, All, IfOk, Err, List, OnOk, Some, length, map, slice_get, string_bytes};
 ghost use Rattle.reh_census.specs.Bookies.{bookies_of, holders, is_flagged};
+ghost use Rattle.reh_census.specs.Ledgers.{Ledger as LedgerValue};
 ghost use Rattle.reh_tally.specs.Few.{AreFew};
 ghost use Rattle.reh_tally.specs.declared.census.TallyFault.TheVariants.{TooMany};
 ghost use Rattle.reh_against.specs.Weights.{weight};
@@ -8,6 +9,7 @@ ghost use Rattle.reh_against.specs.Worst as model;
 
 use crate::causes::cause_of;
 use crate::found::Found;
+use crate::kept::MOST;
 use crate::stops::Stop;
 use crate::weights::{entries_by, weight_of};
 use reh_answer::Against;
@@ -15,9 +17,6 @@ use reh_census::Ledger;
 use reh_tally::TallyFault;
 use std::alloc::{AllocError, Global};
 use std::cmp::Reverse;
-
-/// How many ledgers are named.
-const MOST: usize = 10;
 
 /// Adds a ledger that weighs something.
 fn add(found: &mut Vec<Found>, weight: u64, ledger: u64, place: usize) -> Result<(), AllocError>
@@ -79,6 +78,26 @@ fn worst_of(
 }
 
 /// What is said of a ledger that was found.
+pub(crate) fn say_of(
+    alloc: Global,
+    ledger: &Ledger,
+    stop: &Stop<'_>,
+    found: &Found,
+) -> Result<Against, AllocError>
+    ensures { IfOk result (λ against. (ledgers : List LedgerValue) → slice_get ledgers found.now.place ≡ Some ledger.now
+        → model.IsAgainst (map string_bytes stop.now.names.now) ledgers (bookies_of stop.now.bookies.now)
+        stop.now.question.now.keep (is_flagged stop.now.stopped.now) stop.now.answer.now found.now against) }
+{
+    let weight = found.weight.0;
+    let cause = cause_of(alloc, stop, weight, ledger)?;
+    Ok(Against {
+        ledger: found.ledger,
+        entries: entries_by(stop.answer, weight),
+        cause,
+    })
+}
+
+/// What is said of the one of these ledgers that was found.
 fn say(
     alloc: Global,
     ledgers: &[Ledger],
@@ -90,14 +109,8 @@ fn say(
         (bookies_of stop.now.bookies.now)
         stop.now.question.now.keep (is_flagged stop.now.stopped.now) stop.now.answer.now found.now against) }
 {
-    let weight = found.weight.0;
-    let ledger = &ledgers[found.place];
-    let cause = cause_of(alloc, stop, weight, ledger)?;
-    Ok(Against {
-        ledger: found.ledger,
-        entries: entries_by(stop.answer, weight),
-        cause,
-    })
+    let against = say_of(alloc, &ledgers[found.place], stop, found)?;
+    Ok(against)
 }
 
 /// What is said of each of these.

@@ -48,7 +48,7 @@ fn judged_by(inventory: &Inventory, ledgers: u64, assumed: u64) -> Judged
 }
 
 /// The first line of an inventory.
-fn read_head(alloc: Global, bytes: &[u8]) -> Result<Head, CountFault>
+pub(crate) fn read_head(alloc: Global, bytes: &[u8]) -> Result<Head, CountFault>
     ensures { IfOk result (λ head. located_line_of bytes.now ≡ Ok (Line.Head head)) }
 {
     match read_line(alloc, bytes) {

@@ -4,21 +4,21 @@ ghost use Rattle.reh_census.specs.Bookies.{bookies_of, holders};
 ghost use Rattle.reh_census.specs.Counting.{count_entries};
 ghost use Rattle.reh_inventory.specs.declared.ledgers.LedgerLine.{LedgerLine as LineValue};
 ghost use Rattle.reh_inventory_census.specs.Counters as model;
-ghost use Rattle.reh_inventory_census.specs.Counted.{assumed as assumed_of, counted as counted_of};
+ghost use Rattle.reh_inventory_census.specs.Counted.{assumed as assumed_of};
 ghost use Rattle.std.specs.List.{list_any};
 ghost use Rattle.reh_inventory_census.specs.Empties.{holds_though_empty};
 ghost use Rattle.reh_inventory_census.specs.Parts.{parts_of};
 ghost use Rattle.reh_inventory_census.specs.Counting.{is_held};
 
-use crate::counted::{assumed_ledger, counted_ledger};
+use crate::counted::assumed_ledger;
 use crate::counts::{Counts, held_among};
 use crate::empties::are_refilled;
 use crate::faults::{CountFault, unfit};
 use crate::numbers::has_named_members;
-use crate::parts::{alone, has_parts};
-use reh_census::{Bookies, Ledger};
+use crate::parts::{Parts, part_of, second, split};
+use reh_census::Bookies;
 use reh_census_file::NameList;
-use reh_inventory::{LedgerLine, LedgerState};
+use reh_inventory::LedgerLine;
 use reh_tally::entries_of;
 use std::alloc::Global;
 
@@ -32,21 +32,6 @@ pub(crate) struct Counter {
     pub(crate) counts: Counts,
     pub(crate) ledgers: u64,
     pub(crate) assumed: u64,
-}
-
-/// The ledger of a part, as a census counts it.
-fn part_of(
-    alloc: Global,
-    names: &NameList,
-    assumes_striped: bool,
-    is_strict: bool,
-    line: &LedgerLine,
-) -> Result<Ledger, CountFault>
-    ensures { IfOk result (λ ledger. ledger ≡ counted_of names.now assumes_striped is_strict line.now) }
-{
-    counted_ledger(alloc, names, assumes_striped, is_strict, line).map_err(|fault| unfit(
-        line.id, fault,
-    ))
 }
 
 /// How many entries of a part of a ledger have a known copy by an assumption.
@@ -112,20 +97,11 @@ impl Counter {
         ensures added { OnOk result ((parts : List LineValue) → model.CountsParts parts self.old
             → model.CountsParts (parts ++ parts_of line) self.new) }
     {
-        if !has_parts(&line) {
-            self.add_part(alloc, &line)?;
-            return Ok(());
-        }
-        let mut part = line;
-        let state = part.state;
-        let Some(last) = part.fragments.pop() else {
-            return Ok(())
-        };
-        part.state = LedgerState::Closed { end: last.first };
-        self.add_part(alloc, &part)?;
-        part.state = state;
-        part.fragments = alone(alloc, last)?;
-        self.add_part(alloc, &part)?;
+        let Parts { first, other } = split(line);
+        self.add_part(alloc, &first)?;
+        let Some(other) = other else { return Ok(()) };
+        let second = second(alloc, first, other)?;
+        self.add_part(alloc, &second)?;
         Ok(())
     }
 

@@ -8,10 +8,12 @@ mod counter;
 mod counts;
 mod empties;
 mod faults;
+mod ledgers;
 mod numbers;
 mod parts;
 
 pub use census::InventoryCount;
 pub use counted::{end_of, end_told, last_first, stop_of};
 pub use faults::CountFault;
+pub use ledgers::InventoryLedgers;
 pub use numbers::{in_order, number_line};

@@ -6,12 +6,12 @@ use Rattle.reh_inputs.specs.declared.together.Gathered.{Gathered}
 use Rattle.reh_waves.specs.Json.{ArePrintable}
 use Rattle.reh_stop.specs.Named.{AreClear}
 use Rattle.reh_stop.specs.Rounds.{AreUnsaid, IsUnprintable, IsUnsaidCost}
-use Rattle.reh_stop.specs.declared.stops.Said.{Said}
+use Rattle.reh_stop.specs.declared.verdicts.Verdict.{Verdict}
 use Rattle.reh_tally.specs.declared.census.TallyFault.{TallyFault}
 use Rattle.reh_tally.specs.declared.census.TallyFault.TheVariants as tally
 use Rattle.reh_tally.specs.Few.{AreFewCounts}
 use Rattle.reh_stop.proofs.GatheredLaws.{each_few}
-use Rattle.reh_stop.specs.Stops.{AreNamed, HasTooLarge, IsAnswered, IsByNames, IsFaultOf, IsGathered, IsOfLedgers, IsRefused, IsSaid, IsUnsaid, fault_of_tally, has_words, stopped_by}
+use Rattle.reh_stop.specs.Stops.{AnswersLedgers, AreNamed, HasTooLarge, IsByNames, IsFaultOf, IsGathered, IsJudged, IsRefused, IsUnsaid, facts_of, fault_of_tally, has_words, stopped_by}
 use Rattle.reh_stop.specs.declared.rounds.AskedRisk.{AskedRisk}
 use Rattle.reh_stop.specs.declared.rounds.AskedWaves.{AskedWaves}
 use Rattle.reh_stop.specs.declared.rounds.RoundFault.{RoundFault}
@@ -46,24 +46,27 @@ module _ (g : Gathered) (asked named : Asked) (some : has_words asked ≡ true) 
   refused TooMany is = (some, clear, named, by, is)
   refused NoMemory is = tt
 
-  pub refused-by : (result : Result Said StopFault) → IfErr result (IsUnsaid g named) → IfErr result (IsRefused g asked)
+  pub refused-by : {T : Type 0} (result : Result T StopFault) → IfErr result (IsUnsaid g named)
+      → IfErr result (IsRefused g asked)
   refused-by (Ok said) is = tt
   refused-by (Err fault) is = refused fault is
 
-  pub answered-by : (result : Result Said StopFault) → OnOk result (AreNamed g.cluster named)
-      → IfOk result (λ said. IsSaid g named (stopped_by g.cluster named) said)
-      → IfOk result (λ said. IsOfLedgers g named said)
-      → IfOk result (λ said. IsAnswered g asked said)
-  answered-by (Ok said) are says ledgers = record {
+  pub judged-by : (result : Result Verdict StopFault) → OnOk result (AreNamed g.cluster named)
+      → IfOk result (λ verdict. verdict.stopped ≡ stopped_by g.cluster named)
+      → IfOk result (λ verdict. verdict.facts ≡ facts_of g named verdict.stopped)
+      → IfOk result (λ verdict. AnswersLedgers g named verdict.facts.answer)
+      → IfOk result (λ verdict. IsJudged g asked verdict)
+  judged-by (Ok verdict) are stopped facts ledgers = record {
     some = some;
     clear = clear;
     named = named;
     by_names = by;
     are_named = are;
-    says = says;
+    stopped = stopped;
+    facts = facts;
     ledgers = ledgers;
   }
-  answered-by (Err fault) are says ledgers = tt
+  judged-by (Err fault) are stopped facts ledgers = tt
 
 -- what is wrong with names
 pub misnamed : (g : Gathered) (named : Asked) (fault : StopFault) → IsFaultOf g.cluster named fault → IsUnsaid g named fault
@@ -79,11 +82,12 @@ misnamed g named NoMemory never = tt
 too_large : (g : Gathered) → AreFewCounts g.census.entries g.census.tails g.census.ensembles → HasTooLarge g → IsGathered g → ⊥
 too_large g few too gathered = too (each_few g gathered.0 gathered.1 gathered.2 few)
 
-pub uncounted : (g : Gathered) (named : Asked) → AreNamed g.cluster named
+pub uncounted : {T : Type 0} (g : Gathered) (asked : Asked) (verdict : Verdict) → IsJudged g asked verdict
     → AreFewCounts g.census.entries g.census.tails g.census.ensembles → (fault : TallyFault)
-    → (◌≡◌ {A = Result Said TallyFault} (Err fault) (Err tally.TooMany) → HasTooLarge g) → IsUnsaid g named (fault_of_tally fault)
-uncounted g named are few tally.TooMany has = (are, has refl, too_large g few (has refl))
-uncounted g named are few tally.NoMemory has = tt
+    → (◌≡◌ {A = Result T TallyFault} (Err fault) (Err tally.TooMany) → HasTooLarge g) → IsRefused g asked (fault_of_tally fault)
+uncounted g asked verdict judged few tally.TooMany has =
+    (judged.some, judged.clear, judged.named, judged.by_names, (judged.are_named, has refl, too_large g few (has refl)))
+uncounted g asked verdict judged few tally.NoMemory has = tt
 
 -- Rounds and costs
 

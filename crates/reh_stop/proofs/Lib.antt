@@ -1,3 +1,4 @@
 mod FaultLaws
 pub mod GatheredLaws
+mod VerdictLaws
 mod WordLaws

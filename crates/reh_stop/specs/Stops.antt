@@ -1,6 +1,7 @@
 -- What is said of a stop.
 use Rattle.std.specs.Prelude.{◌≡◌, ◌<◌, ◌||◌, ℕ, Bool, true, false, not, nat_lt, Option, None, Some, All, List, [], ◌∷◌, length, map, position, slice_get, if◌then◌else◌, string_bytes}
 use Rattle.std.specs.List.{list_any}
+use Rattle.reh_census.specs.declared.answers.Answer.{Answer}
 use Rattle.reh_census.specs.Bookies.{bookies_of, holders, is_flagged}
 use Rattle.reh_census.specs.Striping.{range}
 use Rattle.reh_census.specs.Answers.{answer_on}
@@ -26,6 +27,7 @@ use Rattle.reh_stop.specs.declared.stops.Asked.{Asked}
 use Rattle.reh_stop.specs.declared.stops.Said.{Said}
 use Rattle.reh_stop.specs.declared.stops.StopFault.{StopFault}
 use Rattle.reh_stop.specs.declared.stops.StopFault.TheVariants as fault
+use Rattle.reh_stop.specs.declared.verdicts.Verdict.{Verdict}
 
 abbrev pub fault_of_tally : TallyFault → StopFault
 fault_of_tally tally.TooMany = fault.TooMany
@@ -41,10 +43,10 @@ abbrev pub text_by : Asked → Facts → List (List ℕ) → List Against → Li
 text_by asked facts names against =
     if asked.as_json then json_of facts names against [] else text_of facts asked.question names against []
 
--- the text and the status say the facts, and which ledgers speak against the stop
-pub record IsSaid (g : Gathered) (asked : Asked) (flags : List Bool) (said : Said) : Type 0 where
+-- the text and the status say the facts, and which of these ledgers speak against the stop
+pub record IsSaid (ids : List ℕ) (ledgers : List Ledger) (g : Gathered) (asked : Asked) (flags : List Bool) (said : Said) : Type 0 where
   pub against : List Against
-  pub says : SaysAgainst g.cluster.names g.ids.items g.ledgers.items (bookies_of g.bookies) asked.question
+  pub says : SaysAgainst g.cluster.names ids ledgers (bookies_of g.bookies) asked.question
       (is_flagged flags) (facts_of g asked flags).answer against
   pub text : string_bytes said.text ≡ text_by asked (facts_of g asked flags) g.cluster.names against
   pub status : said.status ≡ status_number (facts_of g asked flags).answer
@@ -53,6 +55,14 @@ pub record IsSaid (g : Gathered) (asked : Asked) (flags : List Bool) (said : Sai
 abbrev pub stopped_by : Cluster → Asked → List Bool
 stopped_by cluster asked =
     map (is_stopped cluster asked.bookies.now asked.racks.now) (range 0 (length cluster.names))
+
+-- the answer is that on the ledgers of all inputs
+abbrev pub AnswersLedgers : Gathered → Asked → Answer → Type 0
+AnswersLedgers g asked answer =
+    (ledgers : List Ledger) → AreLedgersOf g ledgers
+    → answer
+    ≡ answer_on (counting_of (holders (bookies_of g.bookies)) ledgers) (bookies_of g.bookies) asked.question
+    (not_judged g.census.judged) (is_flagged (stopped_by g.cluster asked))
 
 -- the status is the answer's on the ledgers of all inputs
 abbrev pub IsOfLedgers : Gathered → Asked → Said → Type 0
@@ -119,15 +129,30 @@ pub record IsByNames (cluster : Cluster) (asked named : Asked) : Type 0 where
 abbrev pub has_words : Asked → Bool
 has_words asked = nat_lt 0 (length asked.bookies.now) || nat_lt 0 (length asked.racks.now)
 
--- what is said of the bookies that the words name, of which each is clear and known
-pub record IsAnswered (g : Gathered) (asked : Asked) (said : Said) : Type 0 where
+-- what is said of the bookies that the words name, of which each is clear and known; these ledgers may speak against the stop
+pub record IsAnsweredBy (ids : List ℕ) (among : List Ledger) (g : Gathered) (asked : Asked) (said : Said) : Type 0 where
   pub some : has_words asked ≡ true
   pub clear : AreClear g.cluster.names asked.bookies.now
   pub named : Asked
   pub by_names : IsByNames g.cluster asked named
   pub are_named : AreNamed g.cluster named
-  pub says : IsSaid g named (stopped_by g.cluster named) said
+  pub says : IsSaid ids among g named (stopped_by g.cluster named) said
   pub ledgers : IsOfLedgers g named said
+
+-- where those of pictures may
+abbrev pub IsAnswered : Gathered → Asked → Said → Type 0
+IsAnswered g asked said = IsAnsweredBy g.ids.items g.ledgers.items g asked said
+
+-- the facts of a stop of the bookies that the words name, of which each is clear and known
+pub record IsJudged (g : Gathered) (asked : Asked) (verdict : Verdict) : Type 0 where
+  pub some : has_words asked ≡ true
+  pub clear : AreClear g.cluster.names asked.bookies.now
+  pub named : Asked
+  pub by_names : IsByNames g.cluster asked named
+  pub are_named : AreNamed g.cluster named
+  pub stopped : verdict.stopped ≡ stopped_by g.cluster named
+  pub facts : verdict.facts ≡ facts_of g named verdict.stopped
+  pub ledgers : AnswersLedgers g named verdict.facts.answer
 
 -- why nothing is said: there is no word; or a word can be read in two ways, the first of these; or, where none can, what
 -- is wrong with the names that the words give, or that a ledger is too large

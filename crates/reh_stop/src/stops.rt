@@ -1,10 +1,9 @@
 // Whether bookies may be stopped.
-ghost use Rattle.std.specs.Prelude.{◌≡◌, Err, List, map, string_bytes, IfErr, IfOk, OnOk};
-ghost use Rattle.reh_census.specs.Answers.{answer_on};
-ghost use Rattle.reh_census.specs.Bookies.{bookies_of as census_bookies, holders, is_flagged};
-ghost use Rattle.reh_census.specs.Counting.{IsCensus, counting_of, not_judged};
+ghost use Rattle.std.specs.Prelude.{◌≡◌, ℕ, Err, List, map, string_bytes, IfErr, IfOk, OnOk};
+ghost use Rattle.reh_census.specs.Bookies.{bookies_of as census_bookies, is_flagged};
 ghost use Rattle.reh_census.specs.Ledgers.{Ledger as LedgerValue};
-ghost use Rattle.reh_answer.specs.Texts.{status_number};
+ghost use Rattle.reh_against.specs.Worst.{SaysAgainst};
+ghost use Rattle.reh_inputs.specs.declared.together.Gathered.{Gathered as GatheredValue};
 ghost use Rattle.reh_stop.specs.Stops as model;
 ghost use Rattle.reh_tally.specs.Few.{AreFewCounts};
 ghost use Rattle.reh_tally.specs.declared.census.TallyFault.TheVariants.{TooMany};
@@ -12,9 +11,10 @@ ghost use Rattle.reh_tally.specs.declared.census.TallyFault.TheVariants.{TooMany
 use crate::named::{
     first_ambiguous, first_twice, first_unknown, first_unknown_rack, names_in, stopped_of,
 };
+use crate::verdicts::Verdict;
 use reh_against::{Stop, against_of};
 use reh_answer::{Against, Facts, facts_of, json_of, status_of, text_of};
-use reh_census::{BookieSet, Census, Question};
+use reh_census::{Bookies, Census, Question};
 use reh_inputs::{Cluster, Gathered};
 use reh_tally::TallyFault;
 use std::alloc::{AllocError, Global};
@@ -116,46 +116,6 @@ fn text_by(
     Ok(text)
 }
 
-/// What is said of the stop of these bookies.
-fn say(
-    alloc: Global,
-    gathered: &Gathered,
-    asked: &Asked<'_, '_>,
-    stopped: &BookieSet,
-) -> Result<Said, TallyFault>
-    ensures said { IfOk result (λ said. model.IsSaid gathered.now asked.now stopped.now said) }
-    ensures ledgers { IfOk result (λ said. (ledgers : List LedgerValue)
-        → IsCensus gathered.now.census (holders (census_bookies gathered.now.bookies)) ledgers
-        → said.status ≡ status_number (answer_on (counting_of (holders (census_bookies gathered.now.bookies)) ledgers)
-        (census_bookies gathered.now.bookies) asked.now.question (not_judged gathered.now.census.judged)
-        (is_flagged stopped.now))) }
-    ensures too_many { result ≡ Err TooMany → model.HasTooLarge gathered.now }
-{
-    let Gathered {
-        cluster,
-        bookies,
-        ids,
-        ledgers,
-        census,
-    } = gathered;
-    let names = cluster.names().as_slice();
-    let question = &asked.question;
-    let facts = facts_of(alloc, census, bookies, question, stopped)?;
-    let stop = Stop {
-        names,
-        bookies,
-        stopped,
-        question,
-        answer: &facts.answer,
-    };
-    let against = against_of(alloc, ids, ledgers, &stop)?;
-    let text = text_by(alloc, asked, &facts, names, &against)?;
-    Ok(Said {
-        text,
-        status: status_of(&facts.answer),
-    })
-}
-
 /// A census counts no more than it can: its type says so.
 fn check_counts(census: &Census)
     ensures { AreFewCounts census.now.entries census.now.tails census.now.ensembles }
@@ -166,22 +126,27 @@ fn check_counts(census: &Census)
 }
 
 /// Whether the bookies of these names may be stopped, by what inputs show together.
-fn answer_named<'a>(
+fn judge_named<'a>(
     alloc: Global,
     gathered: &Gathered,
     named: &Asked<'_, 'a>,
-) -> Result<Said, StopFault<'a>>
+) -> Result<Verdict, StopFault<'a>>
     ensures named { OnOk result (model.AreNamed gathered.now.cluster named.now) }
-    ensures said { IfOk result (λ said. model.IsSaid gathered.now named.now
-        (model.stopped_by gathered.now.cluster named.now) said) }
-    ensures ledgers { IfOk result (λ said. model.IsOfLedgers gathered.now named.now said) }
+    ensures stopped { IfOk result (λ verdict. verdict.stopped ≡ model.stopped_by gathered.now.cluster named.now) }
+    ensures facts { IfOk result (λ verdict. verdict.facts ≡ model.facts_of gathered.now named.now verdict.stopped) }
+    ensures ledgers { IfOk result (λ verdict. model.AnswersLedgers gathered.now named.now verdict.facts.answer) }
     ensures fault { IfErr result (model.IsUnsaid gathered.now named.now) }
 {
     check_names(&gathered.cluster, named)?;
-    check_counts(&gathered.census);
-    let stopped = stopped_of(alloc, &gathered.cluster, named.bookies, named.racks)?;
-    let said = say(alloc, gathered, named, &stopped)?;
-    Ok(said)
+    let Gathered {
+        cluster,
+        bookies,
+        census,
+        ..
+    } = gathered;
+    let stopped = stopped_of(alloc, cluster, named.bookies, named.racks)?;
+    let facts = facts_of(alloc, census, bookies, &named.question, &stopped)?;
+    Ok(Verdict { facts, stopped })
 }
 
 /// Whether some bookie or rack is named.
@@ -191,14 +156,13 @@ fn has_words(asked: &Asked<'_, '_>) -> bool
     0 < asked.bookies.len() || 0 < asked.racks.len()
 }
 
-/// Whether the bookies that the words name may be stopped, by what inputs show together: the text that says so, and the
-/// exit status.
-pub fn answer_stop<'a>(
+/// Whether the bookies that the words name may be stopped, by what inputs show together: the facts alone.
+pub fn judge_stop<'a>(
     alloc: Global,
     gathered: &Gathered,
     asked: &Asked<'_, 'a>,
-) -> Result<Said, StopFault<'a>>
-    ensures answered { IfOk result (λ said. model.IsAnswered gathered.now asked.now said) }
+) -> Result<Verdict, StopFault<'a>>
+    ensures judged { IfOk result (model.IsJudged gathered.now asked.now) }
     ensures fault { IfErr result (model.IsRefused gathered.now asked.now) }
 {
     if !has_words(asked) {
@@ -213,5 +177,90 @@ pub fn answer_stop<'a>(
         bookies: &bookies,
         ..*asked
     };
-    answer_named(alloc, gathered, &named)
+    judge_named(alloc, gathered, &named)
+}
+
+/// Which of the ledgers that inputs show speak against a stop.
+fn against_in(
+    alloc: Global,
+    gathered: &Gathered,
+    asked: &Asked<'_, '_>,
+    verdict: &Verdict,
+) -> Result<Vec<Against>, TallyFault>
+    ensures says { IfOk result (λ against. SaysAgainst gathered.now.cluster.names gathered.now.ids.items
+        gathered.now.ledgers.items (census_bookies gathered.now.bookies) asked.now.question
+        (is_flagged verdict.now.stopped) verdict.now.facts.answer against.items) }
+    ensures too_many { result ≡ Err TooMany → model.HasTooLarge gathered.now }
+{
+    let Gathered {
+        cluster,
+        bookies,
+        ids,
+        ledgers,
+        ..
+    } = gathered;
+    let stop = stop_of(cluster, bookies, asked, verdict);
+    let against = against_of(alloc, ids, ledgers, &stop)?;
+    Ok(against)
+}
+
+/// What a verdict is about, with the names of the bookies.
+pub fn stop_of<'v>(
+    cluster: &'v Cluster,
+    bookies: &'v Bookies,
+    asked: &'v Asked<'_, '_>,
+    verdict: &'v Verdict,
+) -> Stop<'v>
+    ensures names { map string_bytes result.names.now ≡ cluster.now.names }
+    ensures bookies { result.bookies.now ≡ bookies.now }
+    ensures stopped { result.stopped.now ≡ verdict.now.stopped }
+    ensures question { result.question.now ≡ asked.now.question }
+    ensures answer { result.answer.now ≡ verdict.now.facts.answer }
+{
+    Stop {
+        names: cluster.names().as_slice(),
+        bookies,
+        stopped: &verdict.stopped,
+        question: &asked.question,
+        answer: &verdict.facts.answer,
+    }
+}
+
+/// What is said of a stop, against which these ledgers speak.
+pub fn say_stop(
+    alloc: Global,
+    cluster: &Cluster,
+    asked: &Asked<'_, '_>,
+    verdict: &Verdict,
+    against: &[Against],
+) -> Result<Said, AllocError>
+    ensures { IfOk result (λ said. (g : GatheredValue) (ids : List ℕ) (ledgers : List LedgerValue) → g.cluster ≡ cluster.now
+        → model.IsJudged g asked.now verdict.now
+        → SaysAgainst g.cluster.names ids ledgers (census_bookies g.bookies) asked.now.question
+        (is_flagged verdict.now.stopped) verdict.now.facts.answer against.now
+        → model.IsAnsweredBy ids ledgers g asked.now said) }
+{
+    let Verdict { facts, .. } = verdict;
+    let text = text_by(alloc, asked, facts, cluster.names().as_slice(), against)?;
+    Ok(Said {
+        text,
+        status: status_of(&facts.answer),
+    })
+}
+
+/// Whether the bookies that the words name may be stopped, by what inputs show together: the text that says so, and the
+/// exit status.
+pub fn answer_stop<'a>(
+    alloc: Global,
+    gathered: &Gathered,
+    asked: &Asked<'_, 'a>,
+) -> Result<Said, StopFault<'a>>
+    ensures answered { IfOk result (λ said. model.IsAnswered gathered.now asked.now said) }
+    ensures fault { IfErr result (model.IsRefused gathered.now asked.now) }
+{
+    let verdict = judge_stop(alloc, gathered, asked)?;
+    check_counts(&gathered.census);
+    let against = against_in(alloc, gathered, asked, &verdict)?;
+    let said = say_stop(alloc, &gathered.cluster, asked, &verdict, &against)?;
+    Ok(said)
 }

@@ -5,6 +5,7 @@ use Rattle.std.specs.Fmt.{decimal}
 use Rattle.std.specs.List.{flat_map, IsDistinct}
 use Rattle.std.specs.Option.{IsSomeAnd, option_and_then, option_map_or}
 use Rattle.std.specs.declared.alloc.Global.{Global}
+use Rattle.reh_census.specs.Ledgers.{Ledger}
 use Rattle.reh_census_file.specs.Texts.{text_of}
 use Rattle.reh_census_file.specs.Values.{NamedCensus}
 use Rattle.reh_census_json.specs.Objects.{json_of}
@@ -17,7 +18,7 @@ use Rattle.reh_inputs.specs.declared.gathered.GatherFault.{GatherFault}
 use Rattle.reh_inputs.specs.declared.gathered.GatherFault.TheVariants as gather
 use Rattle.reh_inputs.specs.declared.together.Gathered.{Gathered}
 use Rattle.reh_stop.specs.Rounds.{SaysCost, SaysRounds}
-use Rattle.reh_stop.specs.Stops.{IsAnswered}
+use Rattle.reh_stop.specs.Stops.{IsAnsweredBy}
 use Rattle.reh_stop.specs.declared.rounds.AskedRisk.{AskedRisk}
 use Rattle.reh_stop.specs.declared.rounds.AskedWaves.{AskedWaves}
 use Rattle.reh_stop.specs.declared.stops.Asked.{Asked}
@@ -27,6 +28,7 @@ use Rattle.reh_words.specs.declared.tasks.Inputs.{Inputs}
 use Rattle.reh_words.specs.declared.tasks.RiskWords.{RiskWords}
 use Rattle.reh_words.specs.declared.tasks.StopWords.{StopWords}
 use Rattle.reh_words.specs.declared.tasks.WaveWords.{WaveWords}
+use Rattle.rehearse.specs.Against.{AreOfInventories}
 use Rattle.rehearse.specs.Inventories.{IsOfLines}
 use Rattle.rehearse.specs.declared.faults.RunFault.{RunFault}
 use Rattle.rehearse.specs.declared.inputs.FileInput.{FileInput}
@@ -71,6 +73,13 @@ pub record IsOfFiles (words : Inputs) (gathered : Gathered) : Type 0 where
   pub apart : AreApart files
   pub gathers : Gathers (map (λ file. file.input) files) words.strict gathered
 
+-- what is said of a stop, by what files show together, and by ledgers of inventories, which are read once more
+pub record SaysOf (gathered : Gathered) (strict : Bool) (asked : Asked) (said : Said) : Type 0 where
+  pub more_ids : List ℕ
+  pub more : List Ledger
+  pub of_inventories : AreOfInventories gathered.cluster.names strict more_ids more
+  pub answered : IsAnsweredBy (gathered.ids.items ++ more_ids) (gathered.ledgers.items ++ more) gathered asked said
+
 -- what is said of a stop, by all files
 pub record SaysStop (words : StopWords) (said : Said) : Type 0 where
   pub gathered : Gathered
@@ -80,7 +89,7 @@ pub record SaysStop (words : StopWords) (said : Said) : Type 0 where
   pub same_racks : asked.racks.now ≡ words.racks.items
   pub same_question : asked.question ≡ words.question
   pub same_form : asked.as_json ≡ words.as_json
-  pub answered : IsAnswered gathered asked said
+  pub says : SaysOf gathered words.inputs.strict asked said
 
 -- what is said of rounds
 abbrev pub waves_asked : WaveWords → AskedWaves

@@ -1,3 +1,4 @@
+pub mod Against
 pub mod Colors
 pub mod Cuts
 pub mod Faults

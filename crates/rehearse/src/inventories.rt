@@ -265,7 +265,7 @@ fn count_lines<R: Read + Drop>(
 }
 
 /// The fault of a line that can't be counted.
-fn uncounted(alloc: Global, path: &str, line: u64, fault: &CountFault) -> RunFault {
+pub(crate) fn uncounted(alloc: Global, path: &str, line: u64, fault: &CountFault) -> RunFault {
     let text = match fault {
         CountFault::Line(fault) => return refused(alloc, path, line, *fault),
         CountFault::NoMemory => return RunFault::NoMemory,

@@ -5,6 +5,7 @@
 
 ghost use Rattle.std.specs.Prelude.{◌≡◌, false};
 
+mod against;
 mod checks;
 mod colors;
 mod cuts;

@@ -1,14 +1,16 @@
 // Whether bookies may be stopped, judged from files.
 ghost use Rattle.std.specs.Prelude.{IfOk};
-ghost use Rattle.rehearse.specs.Inputs.{SaysStop};
+ghost use Rattle.rehearse.specs.Inputs.{SaysOf, SaysStop};
 
+use crate::against::{weigh, weigh_inventories};
 use crate::faults::RunFault;
 use crate::inputs::{gather_files, too_many};
 use crate::looks::{Looks, show_answer};
 use crate::names::{ambiguous, named_again, nobody, unknown_rack, unknown_to_all};
 use crate::progress::{Progress, Teller};
-use reh_inputs::Cluster;
-use reh_stop::{Asked, Said, StopFault, answer_stop};
+use reh_census::Answer;
+use reh_inputs::{Cluster, Gathered};
+use reh_stop::{Asked, Said, StopFault, judge_stop, say_stop, stop_of};
 use reh_words::StopWords;
 use std::alloc::Global;
 use std::sync::Wait;
@@ -45,9 +47,45 @@ fn said_of<R: thread::Threads + Wait + Sync>(
         question: stop.question,
         as_json: stop.as_json,
     };
-    match answer_stop(rt.alloc(), &gathered, &asked) {
-        Ok(said) => Ok(said),
-        Err(fault) => Err(fault_of(rt.alloc(), &gathered.cluster, fault)),
+    say(rt, stop, gathered, &asked)
+}
+
+/// What is said of the stop, by what the files show together.
+fn say(
+    rt: &HostRuntime,
+    stop: &StopWords<'_>,
+    gathered: Gathered,
+    asked: &Asked<'_, '_>,
+) -> Result<Said, RunFault>
+    ensures { IfOk result (SaysOf gathered stop.now.inputs.strict asked.now) }
+{
+    let alloc = rt.alloc();
+    let verdict = match judge_stop(alloc, &gathered, asked) {
+        Ok(verdict) => verdict,
+        Err(fault) => return Err(fault_of(alloc, &gathered.cluster, fault)),
+    };
+    let Gathered {
+        cluster,
+        bookies,
+        ids,
+        ledgers,
+        ..
+    } = gathered;
+    let about = stop_of(&cluster, &bookies, asked, &verdict);
+    let mut worst = weigh(alloc, &ids, ledgers, &about)?;
+    if has_against(verdict.answer()) {
+        weigh_inventories(rt, &stop.inputs, cluster.names(), &about, &mut worst)?;
+    }
+    let against = worst.say(alloc, &about)?;
+    let said = say_stop(alloc, &cluster, asked, &verdict, &against)?;
+    Ok(said)
+}
+
+/// Whether some ledger may speak against the stop.
+fn has_against(answer: &Answer) -> bool {
+    match answer {
+        Answer::Yes | Answer::NotJudged(_) => false,
+        Answer::No(..) | Answer::Unknown(..) | Answer::UnknownDisks(_) => true,
     }
 }
 

@@ -1,0 +1,86 @@
+// The ledgers of an inventory's lines, as its census counts them, one line after the other.
+ghost use Rattle.std.specs.Prelude.{◌≡◌, ◌++◌, ◌∷◌, [], true, IfOk, OnOk, map};
+ghost use Rattle.std.specs.Option.{IsSomeAnd};
+ghost use Rattle.reh_inventory_census.specs.Census.{head_in};
+ghost use Rattle.reh_inventory_census.specs.Counted.{counted as counted_of};
+ghost use Rattle.reh_inventory_census.specs.Numbers.{members_named};
+ghost use Rattle.reh_inventory_census.specs.Parts.{parts_of};
+
+use crate::census::read_head;
+use crate::faults::CountFault;
+use crate::numbers::has_named_members;
+use crate::parts::{Parts, part_of, second, split};
+use reh_census::Ledger;
+use reh_census_file::NameList;
+use reh_inventory::LedgerLine;
+use std::alloc::{AllocError, Global};
+
+/// Adds a ledger.
+fn push(ledgers: &mut Vec<Ledger>, ledger: Ledger) -> Result<(), AllocError>
+    ensures { OnOk result (ledgers.new.items ≡ ledgers.old.items ++ ledger ∷ []) }
+{
+    ledgers.push(ledger)?;
+    Ok(())
+}
+
+/// How a census counts the ledgers of an inventory: by the numbers of these names.
+#[derive(Drop)]
+pub struct InventoryLedgers {
+    names: NameList,
+    assumes_striped: bool,
+    is_strict: bool,
+}
+
+impl InventoryLedgers {
+    /// By an inventory's first line. In a strict count what is assumed counts as untold.
+    pub fn begin(
+        alloc: Global,
+        names: NameList,
+        is_strict: bool,
+        first_line: &[u8],
+    ) -> Result<InventoryLedgers, CountFault>
+        ensures { IfOk result (λ of. IsSomeAnd (head_in first_line.now) (λ head.
+            of ≡ record { names = names; assumes_striped = head.assumes_striped; is_strict = is_strict })) }
+    {
+        let head = read_head(alloc, first_line)?;
+        Ok(InventoryLedgers {
+            names,
+            assumes_striped: head.assumes_striped,
+            is_strict,
+        })
+    }
+
+    /// The ledgers of a line: one, or those of its two parts, where it isn't closed.
+    pub fn of_line(&self, alloc: Global, line: LedgerLine) -> Result<Vec<Ledger>, CountFault>
+        ensures named { IfOk result (λ ledgers. members_named self.now.names line ≡ true) }
+        ensures counted { IfOk result (λ ledgers. ledgers.items
+            ≡ map (counted_of self.now.names self.now.assumes_striped self.now.is_strict) (parts_of line)) }
+    {
+        if !has_named_members(&self.names, &line) {
+            return Err(CountFault::Unnamed);
+        }
+        let Parts { first, other } = split(line);
+        let mut ledgers = Vec::new(alloc);
+        push(&mut ledgers, self.of_part(alloc, &first)?)?;
+        let Some(other) = other else {
+            return Ok(ledgers)
+        };
+        let second = second(alloc, first, other)?;
+        push(&mut ledgers, self.of_part(alloc, &second)?)?;
+        Ok(ledgers)
+    }
+
+    /// The ledger of a part.
+    fn of_part(&self, alloc: Global, part: &LedgerLine) -> Result<Ledger, CountFault>
+        ensures { IfOk result (λ ledger. ledger
+            ≡ counted_of self.now.names self.now.assumes_striped self.now.is_strict part.now) }
+    {
+        part_of(
+            alloc,
+            &self.names,
+            self.assumes_striped,
+            self.is_strict,
+            part,
+        )
+    }
+}
