@@ -1,6 +1,7 @@
 -- One more ledger is weighed; and what is said of those that are kept.
 use Rattle.std.proofs.Common.{◌≡◌, ◌∙◌, ◌+◌, ◌<◌, ◌++◌, ◌∷◌, [], ℕ, zero, suc, Bool, List, Some, ap, refl, sym, subst, length, get_or, take, map, arith, append_assoc, append-nil, length-append}
-use Rattle.std.specs.Prelude.{All, Contains, slice_get}
+use Rattle.std.specs.Prelude.{All, Contains, Vec, slice_get}
+use Rattle.std.specs.declared.alloc.Global.{Global}
 use Rattle.std.proofs.lemmas.List.{length_push, map-append, take_more}
 use Rattle.std.proofs.lemmas.List.Elements.{All-append, All-contains, All-cons, All-head, All-nil, All-tail}
 use Rattle.reh_census.specs.declared.answers.Answer.{Answer}
@@ -11,12 +12,12 @@ use Rattle.reh_against.specs.declared.found.Found.{Found}
 use Rattle.reh_against.specs.declared.kept.Kept.{Kept}
 use Rattle.reh_against.specs.declared.worst.Worst.{Worst}
 use Rattle.reh_against.specs.Weighed.{IsAmong, Weighs, found_of, kept_by}
-use Rattle.reh_against.specs.Weights.{weight}
-use Rattle.reh_against.specs.Worst.{AreWorst, Each, found_from, found_if}
+use Rattle.reh_against.specs.Weights.{weight_of}
+use Rattle.reh_against.specs.Worst.{AreWorst, Each, alone, found_from, found_if}
 
 -- Ledgers, and one more
 
-pub found-last : (weight : Ledger → ℕ) (ids : List ℕ) (ledgers : List Ledger) (place id : ℕ) (g : Ledger)
+pub found-last : {X : Type 0} (weight : X → ℕ) (ids : List ℕ) (ledgers : List X) (place id : ℕ) (g : X)
     → length ids ≡ length ledgers
     → found_from weight place (ids ++ id ∷ []) (ledgers ++ g ∷ [])
     ≡ found_from weight place ids ledgers ++ found_if (weight g) id (place + length ledgers)
@@ -43,75 +44,63 @@ at-last : {X : Type 0} (xs : List X) (x : X) → slice_get (xs ++ x ∷ []) (len
 at-last [] x = refl
 at-last (y ∷ xs) x = at-last xs x
 
-pub among-more : (ledgers : List Ledger) (g : Ledger) (weight id : ℕ) (kept now : List Kept)
+pub among-more : (ledgers : List (List Ledger)) (parts : Vec Ledger Global) (weight id : ℕ) (kept now : List Kept)
     → All (IsAmong ledgers) kept
-    → All (Contains (kept ++ kept_by weight id (length ledgers) g ∷ [])) now
-    → All (IsAmong (ledgers ++ g ∷ [])) now
-among-more ledgers g weight id kept now among are = λ k d within.
-    let more : Kept = kept_by weight id (length ledgers) g in
-    All-contains (IsAmong (ledgers ++ g ∷ [])) (kept ++ more ∷ []) (get_or now k d)
-    (All-append (IsAmong (ledgers ++ g ∷ [])) kept (more ∷ [])
-    (λ j e inside. still-there ledgers (g ∷ []) (get_or kept j e).found.place (get_or kept j e).ledger (among j e inside))
-    (All-cons (IsAmong (ledgers ++ g ∷ [])) more [] (at-last ledgers g) (All-nil (IsAmong (ledgers ++ g ∷ [])))))
+    → All (Contains (kept ++ kept_by weight id (length ledgers) parts ∷ [])) now
+    → All (IsAmong (ledgers ++ parts.items ∷ [])) now
+among-more ledgers parts weight id kept now among are = λ k d within.
+    let more : Kept = kept_by weight id (length ledgers) parts in
+    let gs : List (List Ledger) = ledgers ++ parts.items ∷ [] in
+    All-contains (IsAmong gs) (kept ++ more ∷ []) (get_or now k d)
+    (All-append (IsAmong gs) kept (more ∷ [])
+    (λ j e inside.
+    still-there ledgers (parts.items ∷ []) (get_or kept j e).found.place (get_or kept j e).parts.items (among j e inside))
+    (All-cons (IsAmong gs) more [] (at-last ledgers parts.items) (All-nil (IsAmong gs))))
     (are k d within)
 
 pub weighs-more : (bookies : Bookies) (question : Question) (stopped : ℕ → Bool) (answer : Answer) (old : Worst) (kept : List Kept)
-    (w id : ℕ) (g : Ledger) → w ≡ weight bookies question stopped answer g
+    (w id : ℕ) (parts : Vec Ledger Global) → w ≡ weight_of bookies question stopped answer parts.items
     → ((found : List Found) → AreWorst found (map found_of old.kept.items)
     → AreWorst (found ++ found_if w id old.added) (map found_of kept))
-    → All (Contains (old.kept.items ++ kept_by w id old.added g ∷ [])) kept
-    → (ids : List ℕ) (ledgers : List Ledger) → Weighs bookies question stopped answer ids ledgers old
+    → All (Contains (old.kept.items ++ kept_by w id old.added parts ∷ [])) kept
+    → (ids : List ℕ) (ledgers : List (List Ledger)) → Weighs bookies question stopped answer ids ledgers old
     → (worst : Worst) → worst.kept.items ≡ kept → worst.added ≡ old.added + 1
-    → Weighs bookies question stopped answer (ids ++ id ∷ []) (ledgers ++ g ∷ []) worst
-weighs-more bookies question stopped answer old kept w id g is more are ids ledgers was worst has counts =
-    let of : Ledger → ℕ = weight bookies question stopped answer in
+    → Weighs bookies question stopped answer (ids ++ id ∷ []) (ledgers ++ parts.items ∷ []) worst
+weighs-more bookies question stopped answer old kept w id parts is more are ids ledgers was worst has counts =
+    let of : List Ledger → ℕ = weight_of bookies question stopped answer in
+    let gs : List (List Ledger) = ledgers ++ parts.items ∷ [] in
     let found : List Found = found_from of 0 ids ledgers in
     let place : old.added ≡ 0 + length ledgers = was.added ∙ omega arith in
-    let next : found ++ found_if w id old.added ≡ found_from of 0 (ids ++ id ∷ []) (ledgers ++ g ∷ []) =
-    (λ i. found ++ found_if (is i) id (place i)) ∙ sym (found-last of ids ledgers 0 id g was.each) in
+    let next : found ++ found_if w id old.added ≡ found_from of 0 (ids ++ id ∷ []) gs =
+    (λ i. found ++ found_if (is i) id (place i)) ∙ sym (found-last of ids ledgers 0 id parts.items was.each) in
     record {
-      each = omega (arith, was.each, length-append ids (id ∷ []), length-append ledgers (g ∷ []));
-      added = omega (arith, counts, was.added, length-append ledgers (g ∷ []));
+      each = omega (arith, was.each, length-append ids (id ∷ []), length-append ledgers (parts.items ∷ []));
+      added = omega (arith, counts, was.added, length-append ledgers (parts.items ∷ []));
       chosen =
-          subst (λ (ks : List Kept). AreWorst (found_from of 0 (ids ++ id ∷ []) (ledgers ++ g ∷ [])) (map found_of ks)) (sym has)
+          subst (λ (ks : List Kept). AreWorst (found_from of 0 (ids ++ id ∷ []) gs) (map found_of ks)) (sym has)
           (subst (λ (fs : List Found). AreWorst fs (map found_of kept)) next (more found was.chosen));
       among =
-          subst (λ (ks : List Kept). All (IsAmong (ledgers ++ g ∷ [])) ks) (sym has)
-          (among-more ledgers g w id old.kept.items kept was.among
-          (subst (λ (n : ℕ). All (Contains (old.kept.items ++ kept_by w id n g ∷ [])) kept) was.added are));
+          subst (λ (ks : List Kept). All (IsAmong gs) ks) (sym has)
+          (among-more ledgers parts w id old.kept.items kept was.among
+          (subst (λ (n : ℕ). All (Contains (old.kept.items ++ kept_by w id n parts ∷ [])) kept) was.added are));
     }
 
-module _ (bookies : Bookies) (question : Question) (stopped : ℕ → Bool) (answer : Answer) where
-  -- of the same id, after others
-  pub weighs-next : (ids : List ℕ) (before ledgers : List Ledger) (id : ℕ) (g : Ledger) (worst : Worst)
-      → Weighs bookies question stopped answer ((ids ++ map (λ h. id) ledgers) ++ id ∷ []) ((before ++ ledgers) ++ g ∷ []) worst
-      → Weighs bookies question stopped answer (ids ++ map (λ h. id) (ledgers ++ g ∷ [])) (before ++ (ledgers ++ g ∷ [])) worst
-  weighs-next ids before ledgers id g worst was =
-      let same : (ids ++ map (λ (h : Ledger). id) ledgers) ++ id ∷ [] ≡ ids ++ map (λ (h : Ledger). id) (ledgers ++ g ∷ []) =
-      append_assoc ids (map (λ (h : Ledger). id) ledgers) (id ∷ [])
-      ∙ ap (λ (xs : List ℕ). ids ++ xs) (sym (map-append (λ (h : Ledger). id) ledgers (g ∷ []))) in
-      subst (λ (xs : List ℕ). Weighs bookies question stopped answer xs (before ++ (ledgers ++ g ∷ [])) worst) same
-      (subst (λ (gs : List Ledger).
-      Weighs bookies question stopped answer ((ids ++ map (λ h. id) ledgers) ++ id ∷ []) gs worst)
-      (append_assoc before ledgers (g ∷ [])) was)
-
-  pub weighs-none : (ids : List ℕ) (before : List Ledger) (worst : Worst) → Weighs bookies question stopped answer ids before worst
-      → Weighs bookies question stopped answer (ids ++ []) (before ++ []) worst
-  weighs-none ids before worst was =
-      subst (λ (xs : List ℕ). Weighs bookies question stopped answer xs (before ++ []) worst) (sym (append-nil ids))
-      (subst (λ (gs : List Ledger). Weighs bookies question stopped answer ids gs worst) (sym (append-nil before)) was)
-
-  -- of the next id
-  pub weighs-each : (ids : List ℕ) (ledgers : List Ledger) (place : ℕ) (g : Ledger) (worst : Worst) → length ledgers < length ids
-      → place ≡ length ledgers
-      → Weighs bookies question stopped answer (take (length ledgers) ids ++ get_or ids place 0 ∷ []) (ledgers ++ g ∷ []) worst
-      → Weighs bookies question stopped answer (take (length (ledgers ++ g ∷ [])) ids) (ledgers ++ g ∷ []) worst
-  weighs-each ids ledgers place g worst within at was =
-      subst (λ (xs : List ℕ). Weighs bookies question stopped answer xs (ledgers ++ g ∷ []) worst)
-      (ap (λ (k : ℕ). take (length ledgers) ids ++ get_or ids k 0 ∷ []) at
-      ∙ sym (take_more ids (length ledgers) 0 within)
-      ∙ ap (λ (k : ℕ). take k ids) (sym (length_push ledgers g)))
-      was
+-- of the next id, where the ledgers before it and it are each counted as one
+pub weighs-each : (bookies : Bookies) (question : Question) (stopped : ℕ → Bool) (answer : Answer) (ids : List ℕ)
+    (ledgers : List Ledger) (place : ℕ) (g : Ledger) (parts : List Ledger) (worst : Worst) → length ledgers < length ids
+    → place ≡ length ledgers → parts ≡ alone g
+    → Weighs bookies question stopped answer (take (length ledgers) ids ++ get_or ids place 0 ∷ [])
+    (map alone ledgers ++ parts ∷ []) worst
+    → Weighs bookies question stopped answer (take (length (ledgers ++ g ∷ [])) ids) (map alone (ledgers ++ g ∷ [])) worst
+weighs-each bookies question stopped answer ids ledgers place g parts worst within at is was =
+    subst (λ (gs : List (List Ledger)).
+    Weighs bookies question stopped answer (take (length (ledgers ++ g ∷ [])) ids) gs worst)
+    (ap (λ (last : List Ledger). map alone ledgers ++ last ∷ []) is ∙ sym (map-append alone ledgers (g ∷ [])))
+    (subst (λ (xs : List ℕ). Weighs bookies question stopped answer xs (map alone ledgers ++ parts ∷ []) worst)
+    (ap (λ (k : ℕ). take (length ledgers) ids ++ get_or ids k 0 ∷ []) at
+    ∙ sym (take_more ids (length ledgers) 0 within)
+    ∙ ap (λ (k : ℕ). take k ids) (sym (length_push ledgers g)))
+    was)
 
 -- What is said
 
@@ -125,9 +114,9 @@ each-of f P S (k ∷ ks) (y ∷ ys) all each =
     (each.0 (All-head P k ks all), each-of f P S ks ys (All-tail P k ks all) each.1)
 
 -- of ledgers, where it is said whatever they are
-pub each-at : {K Y : Type 0} (S : List Ledger → K → Y → Type 0) (ks : List K) (ys : List Y)
-    → Each (λ k y. (ledgers : List Ledger) → S ledgers k y) ks ys
-    → (ledgers : List Ledger) → Each (S ledgers) ks ys
+pub each-at : {K Y : Type 0} (S : List (List Ledger) → K → Y → Type 0) (ks : List K) (ys : List Y)
+    → Each (λ k y. (ledgers : List (List Ledger)) → S ledgers k y) ks ys
+    → (ledgers : List (List Ledger)) → Each (S ledgers) ks ys
 each-at S [] [] each ledgers = tt
 each-at S [] (y ∷ ys) each ledgers = absurd each
 each-at S (k ∷ ks) [] each ledgers = absurd each

@@ -96,18 +96,22 @@ first_words names answer keep stopped entries =
 
 -- which members of the ledger are down
 
-abbrev pub is_member : Ledger → ℕ → Bool
-is_member g b = list_any (λ fragment. is_in fragment.ensemble b) g.fragments
+abbrev pub is_member_of : ℕ → Ledger → Bool
+is_member_of b g = list_any (λ fragment. is_in fragment.ensemble b) g.fragments
 
-abbrev pub is_down_member : Bookies → Ledger → ℕ → Bool
-is_down_member bookies g b = not (bookies.is_registered b) && is_member g b
+-- of one of its parts
+abbrev pub is_member : List Ledger → ℕ → Bool
+is_member parts b = list_any (is_member_of b) parts
+
+abbrev pub is_down_member : Bookies → List Ledger → ℕ → Bool
+is_down_member bookies parts b = not (bookies.is_registered b) && is_member parts b
 
 -- that the bookie is down, if it is
 abbrev pub down_if : List (List ℕ) → ℕ → Bool → List ℕ
 down_if names b is_down = if is_down then codes "; " ++ (name_of names b ++ codes " is down") else []
 
-abbrev pub down_words : List (List ℕ) → Bookies → Ledger → List ℕ
-down_words names bookies g = flat_map (λ b. down_if names b (is_down_member bookies g b)) bookies.names
+abbrev pub down_words : List (List ℕ) → Bookies → List Ledger → List ℕ
+down_words names bookies parts = flat_map (λ b. down_if names b (is_down_member bookies parts b)) bookies.names
 
 -- The cause
 
@@ -127,12 +131,12 @@ answer_words (UnknownDisks count) weight = codes "fewer known copies than are to
 answer_words (NotJudged count) weight = []
 
 -- by these entries of the ledger
-abbrev pub cause_by : List (List ℕ) → Bookies → Keep → (ℕ → Bool) → Answer → ℕ → Ledger → List Counted → List ℕ
-cause_by names bookies keep stopped answer weight g entries =
-    answer_words answer weight ++ (first_words names answer keep stopped entries ++ down_words names bookies g)
+abbrev pub cause_by : List (List ℕ) → Bookies → Keep → (ℕ → Bool) → Answer → ℕ → List Ledger → List Counted → List ℕ
+cause_by names bookies keep stopped answer weight parts entries =
+    answer_words answer weight ++ (first_words names answer keep stopped entries ++ down_words names bookies parts)
 
--- by some count of the ledger's entries
-abbrev pub IsCause : List (List ℕ) → Bookies → Keep → (ℕ → Bool) → Answer → ℕ → Ledger → List ℕ → Type 0
-IsCause names bookies keep stopped answer weight g cause =
-    (entries : List Counted) × CountsEntries entries (holders bookies) (g ∷ [])
-    × (cause ≡ cause_by names bookies keep stopped answer weight g entries)
+-- by some count of the entries of the ledger's parts
+abbrev pub IsCause : List (List ℕ) → Bookies → Keep → (ℕ → Bool) → Answer → ℕ → List Ledger → List ℕ → Type 0
+IsCause names bookies keep stopped answer weight parts cause =
+    (entries : List Counted) × CountsEntries entries (holders bookies) parts
+    × (cause ≡ cause_by names bookies keep stopped answer weight parts entries)

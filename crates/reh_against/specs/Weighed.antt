@@ -1,5 +1,6 @@
 -- Ledgers that are weighed one after the other.
-use Rattle.std.specs.Prelude.{◌≡◌, ℕ, Bool, List, All, length, map, slice_get, Some}
+use Rattle.std.specs.Prelude.{◌≡◌, ℕ, Bool, List, All, Vec, length, map, slice_get, Some}
+use Rattle.std.specs.declared.alloc.Global.{Global}
 use Rattle.reh_census.specs.declared.answers.Answer.{Answer}
 use Rattle.reh_census.specs.declared.questions.Question.{Question}
 use Rattle.reh_census.specs.Bookies.{Bookies}
@@ -7,26 +8,26 @@ use Rattle.reh_census.specs.Ledgers.{Ledger}
 use Rattle.reh_against.specs.declared.found.Found.{Found}
 use Rattle.reh_against.specs.declared.kept.Kept.{Kept}
 use Rattle.reh_against.specs.declared.worst.Worst.{Worst}
-use Rattle.reh_against.specs.Weights.{weight}
+use Rattle.reh_against.specs.Weights.{weight_of}
 use Rattle.reh_against.specs.Worst.{AreWorst, comes_before, found_by, found_from}
 
 abbrev pub found_of : Kept → Found
 found_of kept = kept.found
 
-abbrev pub kept_by : ℕ → ℕ → ℕ → Ledger → Kept
-kept_by weight id place ledger = record { found = found_by weight id place; ledger = ledger }
+abbrev pub kept_by : ℕ → ℕ → ℕ → Vec Ledger Global → Kept
+kept_by weight id place parts = record { found = found_by weight id place; parts = parts }
 
 abbrev pub kept_before : Kept → Kept → Bool
 kept_before one other = comes_before one.found other.found
 
 -- it is the ledger that was found at its place
-abbrev pub IsAmong : List Ledger → Kept → Type 0
-IsAmong ledgers kept = slice_get ledgers kept.found.place ≡ Some kept.ledger
+abbrev pub IsAmong : List (List Ledger) → Kept → Type 0
+IsAmong ledgers kept = slice_get ledgers kept.found.place ≡ Some kept.parts.items
 
--- these ledgers were weighed, in this order: the worst of them are kept
+-- these ledgers were weighed, each by its parts, in this order: the worst of them are kept
 pub record Weighs (bookies : Bookies) (question : Question) (stopped : ℕ → Bool) (answer : Answer) (ids : List ℕ)
-    (ledgers : List Ledger) (worst : Worst) : Type 0 where
+    (ledgers : List (List Ledger)) (worst : Worst) : Type 0 where
   pub each : length ids ≡ length ledgers
   pub added : worst.added ≡ length ledgers
-  pub chosen : AreWorst (found_from (weight bookies question stopped answer) 0 ids ledgers) (map found_of worst.kept.items)
+  pub chosen : AreWorst (found_from (weight_of bookies question stopped answer) 0 ids ledgers) (map found_of worst.kept.items)
   pub among : All (IsAmong ledgers) worst.kept.items

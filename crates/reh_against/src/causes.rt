@@ -9,7 +9,6 @@ use crate::stops::Stop;
 use reh_census::{Answer, Counted, Ledger, Rule};
 use reh_tally::entries_of;
 use std::alloc::{AllocError, Global};
-use std::slice;
 
 /// Adds what the rule says of the ledger, where entries have nothing to say.
 fn push_rule(text: &mut String, rule: Rule, weight: u64) -> Result<(), AllocError>
@@ -41,33 +40,33 @@ fn cause_by(
     alloc: Global,
     stop: &Stop<'_>,
     weight: u64,
-    ledger: &Ledger,
+    parts: &[Ledger],
     entries: &[Counted],
 ) -> Result<String, AllocError>
     ensures { IfOk result (λ cause. string_bytes cause ≡ model.cause_by (map string_bytes stop.now.names.now)
         (bookies_of stop.now.bookies.now)
-        stop.now.question.now.keep (is_flagged stop.now.stopped.now) stop.now.answer.now weight ledger.now entries.now) }
+        stop.now.question.now.keep (is_flagged stop.now.stopped.now) stop.now.answer.now weight parts.now entries.now) }
 {
     let mut text = String::new(alloc);
     push_answer(&mut text, stop.answer, weight)?;
     push_first(alloc, &mut text, stop, entries)?;
-    push_down(&mut text, stop.names, stop.bookies, ledger)?;
+    push_down(&mut text, stop.names, stop.bookies, parts)?;
     Ok(text)
 }
 
-/// Why the ledger speaks against the stop.
+/// Why the ledger of these parts speaks against the stop.
 pub(crate) fn cause_of(
     alloc: Global,
     stop: &Stop<'_>,
     weight: u64,
-    ledger: &Ledger,
+    parts: &[Ledger],
 ) -> Result<String, AllocError>
     ensures { IfOk result (λ cause. model.IsCause (map string_bytes stop.now.names.now)
         (bookies_of stop.now.bookies.now)
-        stop.now.question.now.keep (is_flagged stop.now.stopped.now) stop.now.answer.now weight ledger.now
+        stop.now.question.now.keep (is_flagged stop.now.stopped.now) stop.now.answer.now weight parts.now
         (string_bytes cause)) }
 {
-    let entries = entries_of(alloc, stop.bookies, slice::from_ref(ledger))?;
-    let cause = cause_by(alloc, stop, weight, ledger, &entries)?;
+    let entries = entries_of(alloc, stop.bookies, parts)?;
+    let cause = cause_by(alloc, stop, weight, parts, &entries)?;
     Ok(cause)
 }

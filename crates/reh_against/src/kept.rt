@@ -12,11 +12,11 @@ use std::alloc::AllocError;
 /// How many ledgers are named.
 pub(crate) const MOST: usize = 10;
 
-/// A ledger that was found, and the ledger itself.
+/// A ledger that was found, and the parts of the ledger itself.
 #[derive(Drop)]
 pub(crate) struct Kept {
     pub(crate) found: Found,
-    pub(crate) ledger: Ledger,
+    pub(crate) parts: Vec<Ledger>,
 }
 
 /// Whether the first comes before the other.

@@ -145,9 +145,9 @@ fn is_one_of(names: &[u16], bookie: u16) -> bool
     names.iter().any(|name| *name == bookie)
 }
 
-/// Whether the bookie is a member of the ledger.
-fn is_member(ledger: &Ledger, bookie: u16) -> bool
-    ensures { result ≡ model.is_member ledger.now bookie }
+/// Whether the bookie is a member of this part of a ledger.
+fn is_member_of(ledger: &Ledger, bookie: u16) -> bool
+    ensures { result ≡ model.is_member_of bookie ledger.now }
 {
     let fragments = ledger.fragments();
     fragments
@@ -155,11 +155,18 @@ fn is_member(ledger: &Ledger, bookie: u16) -> bool
         .any(|fragment| is_one_of(fragment.ensemble.as_slice(), bookie))
 }
 
-/// Whether it is one that is down.
-fn is_down_member(bookies: &Bookies, ledger: &Ledger, bookie: u16) -> bool
-    ensures { result ≡ model.is_down_member (bookies_of bookies.now) ledger.now bookie }
+/// Whether it is one of the ledger of these parts.
+fn is_member(parts: &[Ledger], bookie: u16) -> bool
+    ensures { result ≡ model.is_member parts.now bookie }
 {
-    !bookies.is_registered(bookie) && is_member(ledger, bookie)
+    parts.iter().any(|part| is_member_of(part, bookie))
+}
+
+/// Whether it is one that is down.
+fn is_down_member(bookies: &Bookies, parts: &[Ledger], bookie: u16) -> bool
+    ensures { result ≡ model.is_down_member (bookies_of bookies.now) parts.now bookie }
+{
+    !bookies.is_registered(bookie) && is_member(parts, bookie)
 }
 
 /// Adds that the bookie is down, if it is a member of the ledger that is.
@@ -167,14 +174,14 @@ fn push_if_down(
     text: &mut String,
     names: &[String],
     bookies: &Bookies,
-    ledger: &Ledger,
+    parts: &[Ledger],
     bookie: u16,
 ) -> Result<(), AllocError>
     ensures { OnOk result (string_bytes text.new ≡ string_bytes text.old
         ++ model.down_if (map string_bytes names.now) bookie (model.is_down_member
-        (bookies_of bookies.now) ledger.now bookie)) }
+        (bookies_of bookies.now) parts.now bookie)) }
 {
-    if !is_down_member(bookies, ledger, bookie) {
+    if !is_down_member(bookies, parts, bookie) {
         return Ok(());
     }
     text.push_str("; ")?;
@@ -187,13 +194,13 @@ pub(crate) fn push_down(
     text: &mut String,
     names: &[String],
     bookies: &Bookies,
-    ledger: &Ledger,
+    parts: &[Ledger],
 ) -> Result<(), AllocError>
     ensures { OnOk result (string_bytes text.new ≡ string_bytes text.old
-        ++ model.down_words (map string_bytes names.now) (bookies_of bookies.now) ledger.now) }
+        ++ model.down_words (map string_bytes names.now) (bookies_of bookies.now) parts.now) }
 {
     for bookie in 0..bookies.len() {
-        push_if_down(text, names, bookies, ledger, bookie)?;
+        push_if_down(text, names, bookies, parts, bookie)?;
     }
     Ok(())
 }

@@ -17,6 +17,7 @@ use reh_census::Ledger;
 use reh_tally::TallyFault;
 use std::alloc::{AllocError, Global};
 use std::cmp::Reverse;
+use std::slice;
 
 /// Adds a ledger that weighs something.
 fn add(found: &mut Vec<Found>, weight: u64, ledger: u64, place: usize) -> Result<(), AllocError>
@@ -50,7 +51,7 @@ fn found_in(
 {
     let mut found = Vec::new(alloc);
     for place in 0..ledgers.len() {
-        let weight = weight_of(alloc, &ledgers[place], stop)?;
+        let weight = weight_of(alloc, slice::from_ref(&ledgers[place]), stop)?;
         add(&mut found, weight, ids[place], place)?;
     }
     Ok(found)
@@ -80,16 +81,16 @@ fn worst_of(
 /// What is said of a ledger that was found.
 pub(crate) fn say_of(
     alloc: Global,
-    ledger: &Ledger,
+    parts: &[Ledger],
     stop: &Stop<'_>,
     found: &Found,
 ) -> Result<Against, AllocError>
-    ensures { IfOk result (λ against. (ledgers : List LedgerValue) → slice_get ledgers found.now.place ≡ Some ledger.now
+    ensures { IfOk result (λ against. (ledgers : List (List LedgerValue)) → slice_get ledgers found.now.place ≡ Some parts.now
         → model.IsAgainst (map string_bytes stop.now.names.now) ledgers (bookies_of stop.now.bookies.now)
         stop.now.question.now.keep (is_flagged stop.now.stopped.now) stop.now.answer.now found.now against) }
 {
     let weight = found.weight.0;
-    let cause = cause_of(alloc, stop, weight, ledger)?;
+    let cause = cause_of(alloc, stop, weight, parts)?;
     Ok(Against {
         ledger: found.ledger,
         entries: entries_by(stop.answer, weight),
@@ -105,11 +106,11 @@ fn say(
     found: &Found,
 ) -> Result<Against, AllocError>
     requires { found.now.place < length ledgers.now }
-    ensures { IfOk result (λ against. model.IsAgainst (map string_bytes stop.now.names.now) ledgers.now
-        (bookies_of stop.now.bookies.now)
-        stop.now.question.now.keep (is_flagged stop.now.stopped.now) stop.now.answer.now found.now against) }
+    ensures { IfOk result (λ against. model.IsAgainst (map string_bytes stop.now.names.now)
+        (map model.alone ledgers.now) (bookies_of stop.now.bookies.now) stop.now.question.now.keep
+        (is_flagged stop.now.stopped.now) stop.now.answer.now found.now against) }
 {
-    let against = say_of(alloc, &ledgers[found.place], stop, found)?;
+    let against = say_of(alloc, slice::from_ref(&ledgers[found.place]), stop, found)?;
     Ok(against)
 }
 
@@ -121,8 +122,8 @@ fn say_all(
     worst: &[Found],
 ) -> Result<Vec<Against>, AllocError>
     requires { All (λ f. f.place < length ledgers.now) worst.now }
-    ensures { IfOk result (λ against. model.Each (model.IsAgainst (map string_bytes stop.now.names.now) ledgers.now
-        (bookies_of stop.now.bookies.now) stop.now.question.now.keep
+    ensures { IfOk result (λ against. model.Each (model.IsAgainst (map string_bytes stop.now.names.now)
+        (map model.alone ledgers.now) (bookies_of stop.now.bookies.now) stop.now.question.now.keep
         (is_flagged stop.now.stopped.now) stop.now.answer.now) worst.now against.items) }
 {
     let mut against = Vec::new(alloc);
@@ -143,8 +144,8 @@ pub fn against_of(
     stop: &Stop<'_>,
 ) -> Result<Vec<Against>, TallyFault>
     requires { length ids.now ≡ length ledgers.now }
-    ensures said { IfOk result (λ against. model.SaysAgainst (map string_bytes stop.now.names.now) ids.now ledgers.now
-        (bookies_of stop.now.bookies.now) stop.now.question.now
+    ensures said { IfOk result (λ against. model.SaysAgainst (map string_bytes stop.now.names.now) ids.now
+        (map model.alone ledgers.now) (bookies_of stop.now.bookies.now) stop.now.question.now
         (is_flagged stop.now.stopped.now) stop.now.answer.now against.items) }
     ensures too_many { result ≡ Err TooMany → All (λ g. AreFew (holders (bookies_of stop.now.bookies.now))
         (g ∷ [])) ledgers.now → ⊥ }

@@ -1,5 +1,5 @@
 // How much of a ledger speaks against a stop.
-ghost use Rattle.std.specs.Prelude.{◌≡◌, [], ◌∷◌, IfOk, Err};
+ghost use Rattle.std.specs.Prelude.{◌≡◌, IfOk, Err};
 ghost use Rattle.reh_census.specs.Bookies.{bookies_of, holders, is_flagged};
 ghost use Rattle.reh_tally.specs.Few.{AreFew};
 ghost use Rattle.reh_tally.specs.declared.census.TallyFault.TheVariants.{TooMany};
@@ -10,7 +10,6 @@ use reh_census::{Answer, Judged, Ledger, Numbers, Question, Rule};
 use reh_rules::numbers_of;
 use reh_tally::{TallyFault, census_of};
 use std::alloc::Global;
-use std::slice;
 
 /// The number of the rule that is broken.
 fn broken_by(rule: Rule, numbers: &Numbers) -> u64
@@ -58,12 +57,12 @@ fn without_new(question: &Question) -> Question
     }
 }
 
-/// How much of a ledger speaks against the stop, by a census of it.
-fn counted_weight(alloc: Global, ledger: &Ledger, stop: &Stop<'_>) -> Result<u64, TallyFault>
-    ensures weight { IfOk result (λ weight. weight ≡ model.weight
+/// How much of a ledger speaks against the stop, by a census of its parts.
+fn counted_weight(alloc: Global, parts: &[Ledger], stop: &Stop<'_>) -> Result<u64, TallyFault>
+    ensures weight { IfOk result (λ weight. weight ≡ model.weight_of
         (bookies_of stop.now.bookies.now) stop.now.question.now
-        (is_flagged stop.now.stopped.now) stop.now.answer.now ledger.now) }
-    ensures too_many { result ≡ Err TooMany → AreFew (holders (bookies_of stop.now.bookies.now)) (ledger.now ∷ []) → ⊥ }
+        (is_flagged stop.now.stopped.now) stop.now.answer.now parts.now) }
+    ensures too_many { result ≡ Err TooMany → AreFew (holders (bookies_of stop.now.bookies.now)) parts.now → ⊥ }
 {
     let judged = Judged {
         ledgers: 1,
@@ -71,23 +70,23 @@ fn counted_weight(alloc: Global, ledger: &Ledger, stop: &Stop<'_>) -> Result<u64
         unread: 0,
         missing: 0,
     };
-    let census = census_of(alloc, stop.bookies, slice::from_ref(ledger), judged)?;
+    let census = census_of(alloc, stop.bookies, parts, judged)?;
     let question = without_new(stop.question);
     let numbers = numbers_of(alloc, &census, stop.bookies, &question, stop.stopped);
     Ok(weight_by(stop.answer, &numbers))
 }
 
-/// How much of a ledger speaks against the stop: nothing against a yes.
-pub(crate) fn weight_of(alloc: Global, ledger: &Ledger, stop: &Stop<'_>) -> Result<u64, TallyFault>
-    ensures weight { IfOk result (λ weight. weight ≡ model.weight
+/// How much of a ledger of these parts speaks against the stop: nothing against a yes.
+pub(crate) fn weight_of(alloc: Global, parts: &[Ledger], stop: &Stop<'_>) -> Result<u64, TallyFault>
+    ensures weight { IfOk result (λ weight. weight ≡ model.weight_of
         (bookies_of stop.now.bookies.now) stop.now.question.now
-        (is_flagged stop.now.stopped.now) stop.now.answer.now ledger.now) }
-    ensures too_many { result ≡ Err TooMany → AreFew (holders (bookies_of stop.now.bookies.now)) (ledger.now ∷ []) → ⊥ }
+        (is_flagged stop.now.stopped.now) stop.now.answer.now parts.now) }
+    ensures too_many { result ≡ Err TooMany → AreFew (holders (bookies_of stop.now.bookies.now)) parts.now → ⊥ }
 {
     match stop.answer {
         Answer::Yes | Answer::NotJudged(_) => Ok(0),
         Answer::No(..) | Answer::Unknown(..) | Answer::UnknownDisks(_) => {
-            counted_weight(alloc, ledger, stop)
+            counted_weight(alloc, parts, stop)
         }
     }
 }

@@ -7,7 +7,7 @@ ghost use Rattle.reh_census.specs.declared.questions.Question.{Question as Quest
 ghost use Rattle.reh_tally.specs.Few.{AreFew};
 ghost use Rattle.reh_tally.specs.declared.census.TallyFault.TheVariants.{TooMany};
 ghost use Rattle.reh_against.specs.declared.found.Found.{Found as FoundValue};
-ghost use Rattle.reh_against.specs.Worst.{AreWorst, Each, IsAgainst, SaysAgainst, found_if};
+ghost use Rattle.reh_against.specs.Worst.{AreWorst, Each, IsAgainst, SaysAgainst, alone as alone_of, found_if};
 ghost use Rattle.reh_against.specs.Weighed as model;
 
 use crate::found::Found;
@@ -21,7 +21,7 @@ use reh_tally::TallyFault;
 use std::alloc::{AllocError, Global};
 use std::cmp::Reverse;
 
-/// The ten worst of the ledgers that were added, each with the ledger itself, and how many were added.
+/// The ten worst of the ledgers that were added, each with its parts, and how many were added.
 #[derive(Drop)]
 pub struct Worst {
     kept: Vec<Kept>,
@@ -34,11 +34,11 @@ fn add_weighed(
     weight: u64,
     id: u64,
     place: usize,
-    ledger: Ledger,
+    parts: Vec<Ledger>,
 ) -> Result<(), AllocError>
     ensures worst { OnOk result ((found : List FoundValue) → AreWorst found (map model.found_of kept.old.items)
         → AreWorst (found ++ found_if weight id place) (map model.found_of kept.new.items)) }
-    ensures among { OnOk result (All (Contains (kept.old.items ++ model.kept_by weight id place ledger ∷ [])) kept.new.items) }
+    ensures among { OnOk result (All (Contains (kept.old.items ++ model.kept_by weight id place parts ∷ [])) kept.new.items) }
 {
     if weight == 0 {
         return Ok(());
@@ -48,8 +48,17 @@ fn add_weighed(
         ledger: id,
         place,
     };
-    keep(kept, Kept { found, ledger })?;
+    keep(kept, Kept { found, parts })?;
     Ok(())
+}
+
+/// A list of this ledger alone.
+fn alone(alloc: Global, ledger: Ledger) -> Result<Vec<Ledger>, AllocError>
+    ensures { IfOk result (λ parts. parts.items ≡ alone_of ledger) }
+{
+    let mut parts = Vec::new(alloc);
+    parts.push(ledger)?;
+    Ok(parts)
 }
 
 impl Worst {
@@ -64,54 +73,34 @@ impl Worst {
         }
     }
 
-    /// Adds a ledger of this id. It fails where the ledger alone has more entries than a census counts, or as many ledgers
-    /// were added as can be. After an `Err` some of the worst may be gone.
+    /// Adds the ledger of this id, which a census counts in these parts. It fails where they alone have more entries than a
+    /// census counts, or as many ledgers were added as can be. After an `Err` some of the worst may be gone.
     pub fn add(
         &mut self,
         alloc: Global,
         id: u64,
-        ledger: Ledger,
+        parts: Vec<Ledger>,
         stop: &Stop<'_>,
     ) -> Result<(), TallyFault>
-        ensures added { OnOk result ((ids : List ℕ) (ledgers : List LedgerValue)
+        ensures added { OnOk result ((ids : List ℕ) (ledgers : List (List LedgerValue))
             → model.Weighs (bookies_of stop.now.bookies.now) stop.now.question.now (is_flagged stop.now.stopped.now)
             stop.now.answer.now ids ledgers self.old
             → model.Weighs (bookies_of stop.now.bookies.now) stop.now.question.now (is_flagged stop.now.stopped.now)
-            stop.now.answer.now (ids ++ id ∷ []) (ledgers ++ ledger ∷ []) self.new) }
+            stop.now.answer.now (ids ++ id ∷ []) (ledgers ++ parts.items ∷ []) self.new) }
         ensures too_many { result ≡ Err TooMany
-            → (AreFew (holders (bookies_of stop.now.bookies.now)) (ledger ∷ []) → ⊥) ⊎ (self.old.added ≡ usize.MAX) }
+            → (AreFew (holders (bookies_of stop.now.bookies.now)) parts.items → ⊥) ⊎ (self.old.added ≡ usize.MAX) }
     {
-        let weight = weight_of(alloc, &ledger, stop)?;
+        let weight = weight_of(alloc, &parts, stop)?;
         let place = self.added;
         if place == usize::MAX {
             return Err(TallyFault::TooMany);
         }
         self.added = place + 1;
-        add_weighed(&mut self.kept, weight, id, place, ledger)?;
+        add_weighed(&mut self.kept, weight, id, place, parts)?;
         Ok(())
     }
 
-    /// Adds ledgers of this id, in their order.
-    pub fn add_all(
-        &mut self,
-        alloc: Global,
-        id: u64,
-        ledgers: Vec<Ledger>,
-        stop: &Stop<'_>,
-    ) -> Result<(), TallyFault>
-        ensures { OnOk result ((ids : List ℕ) (before : List LedgerValue)
-            → model.Weighs (bookies_of stop.now.bookies.now) stop.now.question.now (is_flagged stop.now.stopped.now)
-            stop.now.answer.now ids before self.old
-            → model.Weighs (bookies_of stop.now.bookies.now) stop.now.question.now (is_flagged stop.now.stopped.now)
-            stop.now.answer.now (ids ++ map (λ g. id) ledgers.items) (before ++ ledgers.items) self.new) }
-    {
-        for ledger in ledgers {
-            self.add(alloc, id, ledger, stop)?;
-        }
-        Ok(())
-    }
-
-    /// The worst of these ledgers, which have these ids.
+    /// The worst of these ledgers, which have these ids, and each of which a census counts as one.
     pub fn of(
         alloc: Global,
         ids: &[u64],
@@ -120,12 +109,12 @@ impl Worst {
     ) -> Result<Worst, TallyFault>
         requires { length ids.now ≡ length ledgers.items }
         ensures { IfOk result (model.Weighs (bookies_of stop.now.bookies.now) stop.now.question.now
-            (is_flagged stop.now.stopped.now) stop.now.answer.now ids.now ledgers.items) }
+            (is_flagged stop.now.stopped.now) stop.now.answer.now ids.now (map alone_of ledgers.items)) }
     {
         let mut worst = Worst::new(alloc);
         for ledger in ledgers {
             let place = worst.added;
-            worst.add(alloc, ids[place], ledger, stop)?;
+            worst.add(alloc, ids[place], alone(alloc, ledger)?, stop)?;
         }
         Ok(worst)
     }
@@ -133,7 +122,7 @@ impl Worst {
     /// What is said of the worst, the worst first: of each the number of its entries that speak against the stop, if it is
     /// entries, and why.
     pub fn say(&self, alloc: Global, stop: &Stop<'_>) -> Result<Vec<Against>, AllocError>
-        ensures { IfOk result (λ against. (ids : List ℕ) (ledgers : List LedgerValue)
+        ensures { IfOk result (λ against. (ids : List ℕ) (ledgers : List (List LedgerValue))
             → model.Weighs (bookies_of stop.now.bookies.now) stop.now.question.now (is_flagged stop.now.stopped.now)
             stop.now.answer.now ids ledgers self.now
             → SaysAgainst (map string_bytes stop.now.names.now) ids ledgers (bookies_of stop.now.bookies.now)
@@ -146,14 +135,14 @@ impl Worst {
 
 /// What is said of each that is kept.
 fn say_kept(alloc: Global, kept: &[Kept], stop: &Stop<'_>) -> Result<Vec<Against>, AllocError>
-    ensures { IfOk result (λ against. (ledgers : List LedgerValue) → All (model.IsAmong ledgers) kept.now
+    ensures { IfOk result (λ against. (ledgers : List (List LedgerValue)) → All (model.IsAmong ledgers) kept.now
         → Each (IsAgainst (map string_bytes stop.now.names.now) ledgers (bookies_of stop.now.bookies.now)
         stop.now.question.now.keep (is_flagged stop.now.stopped.now) stop.now.answer.now)
         (map model.found_of kept.now) against.items) }
 {
     let mut against = Vec::new(alloc);
     for one in kept {
-        let said = say_of(alloc, &one.ledger, stop, &one.found)?;
+        let said = say_of(alloc, &one.parts, stop, &one.found)?;
         against.push(said)?;
     }
     Ok(against)

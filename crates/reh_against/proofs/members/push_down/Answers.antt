@@ -11,7 +11,7 @@ loop-bookie-preserved c =
     let first : List ℕ = string_bytes c.args.text.now in
     let n : ℕ = c.loop-bookie.bookie in
     let one : ℕ → List ℕ = λ b.
-    down_if (map string_bytes c.args.names.now) b (is_down_member (bookies_of c.args.bookies.now) c.args.ledger.now b) in
+    down_if (map string_bytes c.args.names.now) b (is_down_member (bookies_of c.args.bookies.now) c.args.parts.now b) in
     c.in_ok-push_if_down.ensures
     ∙ ap (λ (t : List ℕ). t ++ one n) c.loop-bookie.invariant
     ∙ append_assoc first (flat_map one (range 0 n)) (one n)

@@ -10,4 +10,4 @@ abbrev pub invariant-loop-bookie : goal.invariant-loop-bookie
 invariant-loop-bookie l =
     string_bytes l.text
     ≡ string_bytes l.fn.text
-    ++ flat_map (λ b. down_if (map string_bytes l.names) b (is_down_member (bookies_of l.bookies) l.ledger b)) (range 0 l.bookie)
+    ++ flat_map (λ b. down_if (map string_bytes l.names) b (is_down_member (bookies_of l.bookies) l.parts b)) (range 0 l.bookie)

@@ -5,7 +5,7 @@ use Rattle.std.proofs.lemmas.List.Elements.{All-append}
 use Rattle.reh_census.specs.Bookies.{bookies_of, is_flagged}
 use Rattle.reh_census.specs.Ledgers.{Ledger}
 use Rattle.reh_against.specs.declared.found.Found.{Found}
-use Rattle.reh_against.specs.Weights.{weight}
+use Rattle.reh_against.specs.Weights.{weight, weight_of}
 use Rattle.reh_against.specs.Worst as model
 use Rattle.reh_against.proofs.FoundLaws.{All-found_if, found-more}
 use Rattle.reh_against.proofs.picks.found_in.Goals as goal
@@ -21,7 +21,10 @@ loop-place-preserved c =
     let rest : List Found = model.found_from w (n + 1) (drop (n + 1) ids) (drop (n + 1) ledgers) in
     let added : c.add.new.found.items ≡ found ++ model.found_if (w c.index-ledgers-place.result) (get_or ids n 0) n =
     c.in_ok-add.ensures
-    ∙ ap (λ (x : ℕ). found ++ model.found_if x (get_or ids n 0) n) c.in_ok-weight.ensures.weight in
+    ∙ ap (λ (x : ℕ). found ++ model.found_if x (get_or ids n 0) n)
+    (c.in_ok-weight.ensures.weight
+    ∙ ap (weight_of (bookies_of c.args.stop.now.bookies.now) c.args.stop.now.question.now (is_flagged c.args.stop.now.stopped.now)
+    c.args.stop.now.answer.now) c.from_ref.ensures.value) in
     record {
       found =
           ap (λ (fs : List Found). fs ++ rest) added

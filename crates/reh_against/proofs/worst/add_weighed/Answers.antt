@@ -5,4 +5,4 @@ use Rattle.reh_against.proofs.worst.add_weighed.Goals as goal
 
 pub returns-then-weight-eq0-clause-among : goal.returns-then-weight-eq0-clause-among
 returns-then-weight-eq0-clause-among c =
-    among-kept c.args.kept.now.items (kept_by c.args.weight c.args.id c.args.place c.args.ledger)
+    among-kept c.args.kept.now.items (kept_by c.args.weight c.args.id c.args.place c.args.parts)

@@ -15,7 +15,7 @@ use Rattle.reh_against.proofs.worst.say_kept.Goals as goal
 pub loop-one-preserved : goal.loop-one-preserved
 loop-one-preserved c =
     let is : Kept → Against → Type 0 = λ kept against.
-    (ledgers : List Ledger) → IsAmong ledgers kept
+    (ledgers : List (List Ledger)) → IsAmong ledgers kept
     → IsAgainst (map string_bytes c.args.stop.now.names.now) ledgers (bookies_of c.args.stop.now.bookies.now) c.args.stop.now.question.now.keep
     (is_flagged c.args.stop.now.stopped.now) c.args.stop.now.answer.now (found_of kept) against in
     let kept : List Kept = c.args.kept.now in
@@ -30,10 +30,10 @@ loop-one-preserved c =
 
 pub returns : goal.returns
 returns c = λ ledgers among.
-    let is : List Ledger → Found → Against → Type 0 = λ gs found against.
+    let is : List (List Ledger) → Found → Against → Type 0 = λ gs found against.
     IsAgainst (map string_bytes c.args.stop.now.names.now) gs (bookies_of c.args.stop.now.bookies.now) c.args.stop.now.question.now.keep
     (is_flagged c.args.stop.now.stopped.now) c.args.stop.now.answer.now found against in
-    let said : Kept → Against → Type 0 = λ kept against. (gs : List Ledger) → IsAmong gs kept → is gs (found_of kept) against in
+    let said : Kept → Against → Type 0 = λ kept against. (gs : List (List Ledger)) → IsAmong gs kept → is gs (found_of kept) against in
     let kept : List Kept = c.args.kept.now in
     let all : Each said kept c.loop-one.against.items =
     subst (λ (ks : List Kept). Each said ks c.loop-one.against.items)

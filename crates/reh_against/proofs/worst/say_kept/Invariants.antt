@@ -10,6 +10,6 @@ abbrev pub invariant-loop-one : goal.invariant-loop-one
 invariant-loop-one l =
     Each
     (λ kept against.
-    (ledgers : List Ledger) → IsAmong ledgers kept
+    (ledgers : List (List Ledger)) → IsAmong ledgers kept
     → IsAgainst (map string_bytes l.stop.names.now) ledgers (bookies_of l.stop.bookies.now) l.stop.question.now.keep (is_flagged l.stop.stopped.now) l.stop.answer.now (found_of kept) against)
     (take l.one-index l.kept) l.against.items
