@@ -16,7 +16,7 @@ use Rattle.reh_stop.specs.declared.verdicts.Verdict.{Verdict}
 use Rattle.reh_stop.specs.Stops.{IsAnsweredBy, IsJudged, facts_of, stopped_by, text_by}
 
 -- the same is said of the same
-pub says-same : (names names' : List (List ℕ)) (ids ids' : List ℕ) (ledgers ledgers' : List Ledger) (bookies bookies' : Bookies)
+pub says-same : (names names' : List (List ℕ)) (ids ids' : List ℕ) (ledgers ledgers' : List (List Ledger)) (bookies bookies' : Bookies)
     (question question' : Question) (stopped stopped' : List Bool) (answer answer' : Answer) (against : List Against)
     → names ≡ names' → ids ≡ ids' → ledgers ≡ ledgers' → bookies ≡ bookies' → question ≡ question' → stopped ≡ stopped'
     → answer ≡ answer'
@@ -25,21 +25,21 @@ pub says-same : (names names' : List (List ℕ)) (ids ids' : List ℕ) (ledgers 
 says-same names names' ids ids' ledgers ledgers' bookies bookies' question question' stopped stopped' answer answer' against n i l b q s a says =
     subst (λ (x : List (List ℕ)). SaysAgainst x ids' ledgers' bookies' question' (is_flagged stopped') answer' against) n
     (subst (λ (x : List ℕ). SaysAgainst names x ledgers' bookies' question' (is_flagged stopped') answer' against) i
-    (subst (λ (x : List Ledger). SaysAgainst names ids x bookies' question' (is_flagged stopped') answer' against) l
+    (subst (λ (x : List (List Ledger)). SaysAgainst names ids x bookies' question' (is_flagged stopped') answer' against) l
     (subst (λ (x : Bookies). SaysAgainst names ids ledgers x question' (is_flagged stopped') answer' against) b
     (subst (λ (x : Question). SaysAgainst names ids ledgers bookies x (is_flagged stopped') answer' against) q
     (subst (λ (x : List Bool). SaysAgainst names ids ledgers bookies question (is_flagged x) answer' against) s
     (subst (λ (x : Answer). SaysAgainst names ids ledgers bookies question (is_flagged stopped) x against) a says))))))
 
 -- a text by a verdict
-pub said-by : (g : Gathered) (asked : Asked) (verdict : Verdict) (against : List Against) (said : Said) (ids : List ℕ)
-    (ledgers : List Ledger) → IsJudged g asked verdict
+pub said-by : (g : Gathered) (asked : Asked) (verdict : Verdict) (against : List Against) (further : List (List ℕ)) (said : Said)
+    (ids : List ℕ) (ledgers : List (List Ledger)) → IsJudged g asked verdict
     → SaysAgainst g.cluster.names ids ledgers (bookies_of g.bookies) asked.question (is_flagged verdict.stopped)
     verdict.facts.answer against
-    → string_bytes said.text ≡ text_by asked verdict.facts g.cluster.names against
+    → string_bytes said.text ≡ text_by asked verdict.facts g.cluster.names against further
     → said.status ≡ status_number verdict.facts.answer
-    → IsAnsweredBy ids ledgers g asked said
-said-by g asked verdict against said ids ledgers judged says text status =
+    → IsAnsweredBy ids ledgers further g asked said
+said-by g asked verdict against further said ids ledgers judged says text status =
     let named : Asked = judged.named in
     let flags : List Bool = stopped_by g.cluster named in
     let question : asked.question ≡ named.question = sym judged.by_names.question in
@@ -58,8 +58,8 @@ said-by g asked verdict against said ids ledgers judged says text status =
             refl refl refl refl question judged.stopped (ap (λ (f : Facts). f.answer) facts) says;
         text = text
             ∙ (λ i.
-            if as_json i then json_of (facts i) g.cluster.names against []
-            else text_of (facts i) (question i) g.cluster.names against []);
+            if as_json i then json_of (facts i) g.cluster.names against further
+            else text_of (facts i) (question i) g.cluster.names against further);
         status = status ∙ ap (λ (f : Facts). status_number f.answer) facts;
       };
       ledgers = λ all are. status ∙ ap status_number (judged.ledgers all are);

@@ -7,7 +7,7 @@ use Rattle.reh_census.specs.Striping.{range}
 use Rattle.reh_census.specs.Answers.{answer_on}
 use Rattle.reh_census.specs.Counting.{counting_in, counting_of, not_judged}
 use Rattle.reh_census.specs.Ledgers.{Ledger}
-use Rattle.reh_against.specs.Worst.{SaysAgainst}
+use Rattle.reh_against.specs.Worst.{SaysAgainst, alone}
 use Rattle.reh_answer.specs.declared.against.Against.{Against}
 use Rattle.reh_answer.specs.declared.facts.Facts.{Facts}
 use Rattle.reh_answer.specs.Facts.{facts_on, most_copies}
@@ -39,16 +39,17 @@ facts_of g asked flags =
     facts_on (counting_in g.census) (most_copies g.census.entries) (bookies_of g.bookies) asked.question g.census.judged
     (is_flagged flags)
 
-abbrev pub text_by : Asked → Facts → List (List ℕ) → List Against → List ℕ
-text_by asked facts names against =
-    if asked.as_json then json_of facts names against [] else text_of facts asked.question names against []
+abbrev pub text_by : Asked → Facts → List (List ℕ) → List Against → List (List ℕ) → List ℕ
+text_by asked facts names against further =
+    if asked.as_json then json_of facts names against further else text_of facts asked.question names against further
 
--- the text and the status say the facts, and which of these ledgers speak against the stop
-pub record IsSaid (ids : List ℕ) (ledgers : List Ledger) (g : Gathered) (asked : Asked) (flags : List Bool) (said : Said) : Type 0 where
+-- the text and the status say the facts, which of these ledgers speak against the stop, and these further notes
+pub record IsSaid (ids : List ℕ) (ledgers : List (List Ledger)) (further : List (List ℕ)) (g : Gathered) (asked : Asked)
+    (flags : List Bool) (said : Said) : Type 0 where
   pub against : List Against
   pub says : SaysAgainst g.cluster.names ids ledgers (bookies_of g.bookies) asked.question
       (is_flagged flags) (facts_of g asked flags).answer against
-  pub text : string_bytes said.text ≡ text_by asked (facts_of g asked flags) g.cluster.names against
+  pub text : string_bytes said.text ≡ text_by asked (facts_of g asked flags) g.cluster.names against further
   pub status : said.status ≡ status_number (facts_of g asked flags).answer
 
 -- the bookies that are asked of, as flags
@@ -129,19 +130,21 @@ pub record IsByNames (cluster : Cluster) (asked named : Asked) : Type 0 where
 abbrev pub has_words : Asked → Bool
 has_words asked = nat_lt 0 (length asked.bookies.now) || nat_lt 0 (length asked.racks.now)
 
--- what is said of the bookies that the words name, of which each is clear and known; these ledgers may speak against the stop
-pub record IsAnsweredBy (ids : List ℕ) (among : List Ledger) (g : Gathered) (asked : Asked) (said : Said) : Type 0 where
+-- what is said of the bookies that the words name, of which each is clear and known, with these further notes; these ledgers,
+-- each in its parts, may speak against the stop
+pub record IsAnsweredBy (ids : List ℕ) (among : List (List Ledger)) (further : List (List ℕ)) (g : Gathered) (asked : Asked)
+    (said : Said) : Type 0 where
   pub some : has_words asked ≡ true
   pub clear : AreClear g.cluster.names asked.bookies.now
   pub named : Asked
   pub by_names : IsByNames g.cluster asked named
   pub are_named : AreNamed g.cluster named
-  pub says : IsSaid ids among g named (stopped_by g.cluster named) said
+  pub says : IsSaid ids among further g named (stopped_by g.cluster named) said
   pub ledgers : IsOfLedgers g named said
 
--- where those of pictures may
+-- where those of pictures may, and nothing more is noted
 abbrev pub IsAnswered : Gathered → Asked → Said → Type 0
-IsAnswered g asked said = IsAnsweredBy g.ids.items g.ledgers.items g asked said
+IsAnswered g asked said = IsAnsweredBy g.ids.items (map alone g.ledgers.items) [] g asked said
 
 -- the facts of a stop of the bookies that the words name, of which each is clear and known
 pub record IsJudged (g : Gathered) (asked : Asked) (verdict : Verdict) : Type 0 where

@@ -2,7 +2,7 @@
 ghost use Rattle.std.specs.Prelude.{◌≡◌, ℕ, Err, List, map, string_bytes, IfErr, IfOk, OnOk};
 ghost use Rattle.reh_census.specs.Bookies.{bookies_of as census_bookies, is_flagged};
 ghost use Rattle.reh_census.specs.Ledgers.{Ledger as LedgerValue};
-ghost use Rattle.reh_against.specs.Worst.{SaysAgainst};
+ghost use Rattle.reh_against.specs.Worst.{SaysAgainst, alone};
 ghost use Rattle.reh_inputs.specs.declared.together.Gathered.{Gathered as GatheredValue};
 ghost use Rattle.reh_stop.specs.Stops as model;
 ghost use Rattle.reh_tally.specs.Few.{AreFewCounts};
@@ -97,22 +97,23 @@ fn check_names<'a>(cluster: &Cluster, asked: &Asked<'_, 'a>) -> Result<(), StopF
     Ok(())
 }
 
-/// The facts as text, or as JSON.
+/// The facts as text, or as JSON, with further notes.
 fn text_by(
     alloc: Global,
     asked: &Asked<'_, '_>,
     facts: &Facts,
     names: &[String],
     against: &[Against],
+    further: &[String],
 ) -> Result<String, AllocError>
-    ensures { IfOk result (λ text. string_bytes text
-        ≡ model.text_by asked.now facts.now (map string_bytes names.now) against.now) }
+    ensures { IfOk result (λ text. string_bytes text ≡ model.text_by asked.now facts.now (map string_bytes names.now)
+        against.now (map string_bytes further.now)) }
 {
     if asked.as_json {
-        let text = json_of(alloc, facts, names, against, &[])?;
+        let text = json_of(alloc, facts, names, against, further)?;
         return Ok(text);
     }
-    let text = text_of(alloc, facts, &asked.question, names, against, &[])?;
+    let text = text_of(alloc, facts, &asked.question, names, against, further)?;
     Ok(text)
 }
 
@@ -188,7 +189,7 @@ fn against_in(
     verdict: &Verdict,
 ) -> Result<Vec<Against>, TallyFault>
     ensures says { IfOk result (λ against. SaysAgainst gathered.now.cluster.names gathered.now.ids.items
-        gathered.now.ledgers.items (census_bookies gathered.now.bookies) asked.now.question
+        (map alone gathered.now.ledgers.items) (census_bookies gathered.now.bookies) asked.now.question
         (is_flagged verdict.now.stopped) verdict.now.facts.answer against.items) }
     ensures too_many { result ≡ Err TooMany → model.HasTooLarge gathered.now }
 {
@@ -226,22 +227,30 @@ pub fn stop_of<'v>(
     }
 }
 
-/// What is said of a stop, against which these ledgers speak.
+/// What is said of a stop, against which these ledgers speak, with further notes.
 pub fn say_stop(
     alloc: Global,
     cluster: &Cluster,
     asked: &Asked<'_, '_>,
     verdict: &Verdict,
     against: &[Against],
+    further: &[String],
 ) -> Result<Said, AllocError>
-    ensures { IfOk result (λ said. (g : GatheredValue) (ids : List ℕ) (ledgers : List LedgerValue) → g.cluster ≡ cluster.now
+    ensures { IfOk result (λ said. (g : GatheredValue) (ids : List ℕ) (ledgers : List (List LedgerValue)) → g.cluster ≡ cluster.now
         → model.IsJudged g asked.now verdict.now
         → SaysAgainst g.cluster.names ids ledgers (census_bookies g.bookies) asked.now.question
         (is_flagged verdict.now.stopped) verdict.now.facts.answer against.now
-        → model.IsAnsweredBy ids ledgers g asked.now said) }
+        → model.IsAnsweredBy ids ledgers (map string_bytes further.now) g asked.now said) }
 {
     let Verdict { facts, .. } = verdict;
-    let text = text_by(alloc, asked, facts, cluster.names().as_slice(), against)?;
+    let text = text_by(
+        alloc,
+        asked,
+        facts,
+        cluster.names().as_slice(),
+        against,
+        further,
+    )?;
     Ok(Said {
         text,
         status: status_of(&facts.answer),
@@ -261,6 +270,6 @@ pub fn answer_stop<'a>(
     let verdict = judge_stop(alloc, gathered, asked)?;
     check_counts(&gathered.census);
     let against = against_in(alloc, gathered, asked, &verdict)?;
-    let said = say_stop(alloc, &gathered.cluster, asked, &verdict, &against)?;
+    let said = say_stop(alloc, &gathered.cluster, asked, &verdict, &against, &[])?;
     Ok(said)
 }
