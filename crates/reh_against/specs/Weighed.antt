@@ -3,10 +3,11 @@ use Rattle.std.specs.Prelude.{◌≡◌, ℕ, Bool, List, All, Vec, length, map,
 use Rattle.std.specs.declared.alloc.Global.{Global}
 use Rattle.reh_census.specs.declared.answers.Answer.{Answer}
 use Rattle.reh_census.specs.declared.questions.Question.{Question}
-use Rattle.reh_census.specs.Bookies.{Bookies}
+use Rattle.reh_census.specs.Bookies.{Bookies, bookies_of, is_flagged}
 use Rattle.reh_census.specs.Ledgers.{Ledger}
 use Rattle.reh_against.specs.declared.found.Found.{Found}
 use Rattle.reh_against.specs.declared.kept.Kept.{Kept}
+use Rattle.reh_against.specs.declared.stops.Stop.{Stop}
 use Rattle.reh_against.specs.declared.worst.Worst.{Worst}
 use Rattle.reh_against.specs.Weights.{weight_of}
 use Rattle.reh_against.specs.Worst.{AreWorst, comes_before, found_by, found_from}
@@ -31,3 +32,8 @@ pub record Weighs (bookies : Bookies) (question : Question) (stopped : ℕ → B
   pub added : worst.added ≡ length ledgers
   pub chosen : AreWorst (found_from (weight_of bookies question stopped answer) 0 ids ledgers) (map found_of worst.kept.items)
   pub among : All (IsAmong ledgers) worst.kept.items
+
+-- by what is asked and was answered
+abbrev pub WeighsBy : Stop → List ℕ → List (List Ledger) → Worst → Type 0
+WeighsBy stop ids ledgers worst =
+    Weighs (bookies_of stop.bookies.now) stop.question.now (is_flagged stop.stopped.now) stop.answer.now ids ledgers worst

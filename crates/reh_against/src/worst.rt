@@ -83,10 +83,8 @@ impl Worst {
         stop: &Stop<'_>,
     ) -> Result<(), TallyFault>
         ensures added { OnOk result ((ids : List ℕ) (ledgers : List (List LedgerValue))
-            → model.Weighs (bookies_of stop.now.bookies.now) stop.now.question.now (is_flagged stop.now.stopped.now)
-            stop.now.answer.now ids ledgers self.old
-            → model.Weighs (bookies_of stop.now.bookies.now) stop.now.question.now (is_flagged stop.now.stopped.now)
-            stop.now.answer.now (ids ++ id ∷ []) (ledgers ++ parts.items ∷ []) self.new) }
+            → model.WeighsBy stop.now ids ledgers self.old
+            → model.WeighsBy stop.now (ids ++ id ∷ []) (ledgers ++ parts.items ∷ []) self.new) }
         ensures too_many { result ≡ Err TooMany
             → (AreFew (holders (bookies_of stop.now.bookies.now)) parts.items → ⊥) ⊎ (self.old.added ≡ usize.MAX) }
     {
@@ -108,8 +106,7 @@ impl Worst {
         stop: &Stop<'_>,
     ) -> Result<Worst, TallyFault>
         requires { length ids.now ≡ length ledgers.items }
-        ensures { IfOk result (model.Weighs (bookies_of stop.now.bookies.now) stop.now.question.now
-            (is_flagged stop.now.stopped.now) stop.now.answer.now ids.now (map alone_of ledgers.items)) }
+        ensures { IfOk result (model.WeighsBy stop.now ids.now (map alone_of ledgers.items)) }
     {
         let mut worst = Worst::new(alloc);
         for ledger in ledgers {
@@ -123,8 +120,7 @@ impl Worst {
     /// entries, and why.
     pub fn say(&self, alloc: Global, stop: &Stop<'_>) -> Result<Vec<Against>, AllocError>
         ensures { IfOk result (λ against. (ids : List ℕ) (ledgers : List (List LedgerValue))
-            → model.Weighs (bookies_of stop.now.bookies.now) stop.now.question.now (is_flagged stop.now.stopped.now)
-            stop.now.answer.now ids ledgers self.now
+            → model.WeighsBy stop.now ids ledgers self.now
             → SaysAgainst (map string_bytes stop.now.names.now) ids ledgers (bookies_of stop.now.bookies.now)
             stop.now.question.now (is_flagged stop.now.stopped.now) stop.now.answer.now against.items) }
     {

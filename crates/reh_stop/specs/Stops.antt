@@ -7,6 +7,7 @@ use Rattle.reh_census.specs.Striping.{range}
 use Rattle.reh_census.specs.Answers.{answer_on}
 use Rattle.reh_census.specs.Counting.{counting_in, counting_of, not_judged}
 use Rattle.reh_census.specs.Ledgers.{Ledger}
+use Rattle.reh_against.specs.declared.stops.Stop.{Stop}
 use Rattle.reh_against.specs.Worst.{SaysAgainst, alone}
 use Rattle.reh_answer.specs.declared.against.Against.{Against}
 use Rattle.reh_answer.specs.declared.facts.Facts.{Facts}
@@ -156,6 +157,14 @@ pub record IsJudged (g : Gathered) (asked : Asked) (verdict : Verdict) : Type 0 
   pub stopped : verdict.stopped ≡ stopped_by g.cluster named
   pub facts : verdict.facts ≡ facts_of g named verdict.stopped
   pub ledgers : AnswersLedgers g named verdict.facts.answer
+
+-- the stop that this verdict is about, of what inputs show together
+pub record IsAbout (g : Gathered) (asked : Asked) (verdict : Verdict) (stop : Stop) : Type 0 where
+  pub names : map string_bytes stop.names.now ≡ g.cluster.names
+  pub bookies : stop.bookies.now ≡ g.bookies
+  pub stopped : stop.stopped.now ≡ verdict.stopped
+  pub question : stop.question.now ≡ asked.question
+  pub answer : stop.answer.now ≡ verdict.facts.answer
 
 -- why nothing is said: there is no word; or a word can be read in two ways, the first of these; or, where none can, what
 -- is wrong with the names that the words give, or that a ledger is too large

@@ -2,6 +2,7 @@
 ghost use Rattle.std.specs.Prelude.{◌≡◌, ℕ, Err, List, map, string_bytes, IfErr, IfOk, OnOk};
 ghost use Rattle.reh_census.specs.Bookies.{bookies_of as census_bookies, is_flagged};
 ghost use Rattle.reh_census.specs.Ledgers.{Ledger as LedgerValue};
+ghost use Rattle.reh_against.specs.Weighed.{WeighsBy};
 ghost use Rattle.reh_against.specs.Worst.{SaysAgainst, alone};
 ghost use Rattle.reh_inputs.specs.declared.together.Gathered.{Gathered as GatheredValue};
 ghost use Rattle.reh_stop.specs.Stops as model;
@@ -12,7 +13,7 @@ use crate::named::{
     first_ambiguous, first_twice, first_unknown, first_unknown_rack, names_in, stopped_of,
 };
 use crate::verdicts::Verdict;
-use reh_against::{Stop, against_of};
+use reh_against::{Stop, Worst, against_of};
 use reh_answer::{Against, Facts, facts_of, json_of, status_of, text_of};
 use reh_census::{Bookies, Census, Question};
 use reh_inputs::{Cluster, Gathered};
@@ -227,34 +228,46 @@ pub fn stop_of<'v>(
     }
 }
 
-/// What is said of a stop, against which these ledgers speak, with further notes.
-pub fn say_stop(
+/// What is said of a stop, against which these ledgers speak, with further notes. The bookies have these names.
+fn say_stop(
     alloc: Global,
-    cluster: &Cluster,
     asked: &Asked<'_, '_>,
     verdict: &Verdict,
+    names: &[String],
     against: &[Against],
     further: &[String],
 ) -> Result<Said, AllocError>
-    ensures { IfOk result (λ said. (g : GatheredValue) (ids : List ℕ) (ledgers : List (List LedgerValue)) → g.cluster ≡ cluster.now
-        → model.IsJudged g asked.now verdict.now
+    ensures { IfOk result (λ said. (g : GatheredValue) (ids : List ℕ) (ledgers : List (List LedgerValue))
+        → map string_bytes names.now ≡ g.cluster.names → model.IsJudged g asked.now verdict.now
         → SaysAgainst g.cluster.names ids ledgers (census_bookies g.bookies) asked.now.question
         (is_flagged verdict.now.stopped) verdict.now.facts.answer against.now
         → model.IsAnsweredBy ids ledgers (map string_bytes further.now) g asked.now said) }
 {
     let Verdict { facts, .. } = verdict;
-    let text = text_by(
-        alloc,
-        asked,
-        facts,
-        cluster.names().as_slice(),
-        against,
-        further,
-    )?;
+    let text = text_by(alloc, asked, facts, names, against, further)?;
     Ok(Said {
         text,
         status: status_of(&facts.answer),
     })
+}
+
+/// What is said of a stop, against which the worst of the ledgers that were weighed speak, with further notes.
+pub fn say_weighed(
+    alloc: Global,
+    asked: &Asked<'_, '_>,
+    verdict: &Verdict,
+    stop: &Stop<'_>,
+    worst: &Worst,
+    further: &[String],
+) -> Result<Said, AllocError>
+    ensures { IfOk result (λ said. (g : GatheredValue) (ids : List ℕ) (ledgers : List (List LedgerValue))
+        → model.IsJudged g asked.now verdict.now → model.IsAbout g asked.now verdict.now stop.now
+        → WeighsBy stop.now ids ledgers worst.now
+        → model.IsAnsweredBy ids ledgers (map string_bytes further.now) g asked.now said) }
+{
+    let against = worst.say(alloc, stop)?;
+    let said = say_stop(alloc, asked, verdict, stop.names, &against, further)?;
+    Ok(said)
 }
 
 /// Whether the bookies that the words name may be stopped, by what inputs show together: the text that says so, and the
@@ -270,6 +283,7 @@ pub fn answer_stop<'a>(
     let verdict = judge_stop(alloc, gathered, asked)?;
     check_counts(&gathered.census);
     let against = against_in(alloc, gathered, asked, &verdict)?;
-    let said = say_stop(alloc, &gathered.cluster, asked, &verdict, &against, &[])?;
+    let names = gathered.cluster.names().as_slice();
+    let said = say_stop(alloc, asked, &verdict, names, &against, &[])?;
     Ok(said)
 }

@@ -1,5 +1,5 @@
 -- It is said by the verdict, against which the ledgers of pictures speak.
-use Rattle.std.proofs.Common.{map, refl, sym, subst, List}
+use Rattle.std.proofs.Common.{◌∙◌, map, sym, subst, List}
 use Rattle.reh_answer.specs.declared.against.Against.{Against}
 use Rattle.reh_against.specs.Worst.{SaysAgainst, alone}
 use Rattle.reh_census.specs.Bookies.{bookies_of, is_flagged}
@@ -25,7 +25,8 @@ pub returns-clause-answered : goal.returns-clause-answered
 returns-clause-answered c =
     let g = c.args.gathered.now in
     let verdict = c.in_ok-verdict.verdict in
-    c.in_ok-said.ensures g g.ids.items (map alone g.ledgers.items) refl c.in_ok-verdict.ensures.judged
+    c.in_ok-said.ensures g g.ids.items (map alone g.ledgers.items) (c.as_slice.ensures ∙ c.names.ensures)
+    c.in_ok-verdict.ensures.judged
     (subst (λ (against : List Against).
     SaysAgainst g.cluster.names g.ids.items (map alone g.ledgers.items) (bookies_of g.bookies) c.args.asked.now.question
     (is_flagged verdict.stopped) verdict.facts.answer against)

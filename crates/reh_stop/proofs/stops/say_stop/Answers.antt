@@ -1,6 +1,5 @@
 -- It is said by the verdict.
-use Rattle.std.proofs.Common.{◌∙◌, ap, map, string_bytes, sym, List, ℕ}
-use Rattle.reh_inputs.specs.Cluster.{Cluster}
+use Rattle.std.proofs.Common.{◌∙◌, ap, map, string_bytes, List, ℕ}
 use Rattle.reh_stop.specs.Stops.{text_by}
 use Rattle.reh_stop.proofs.VerdictLaws.{said-by}
 use Rattle.reh_stop.proofs.stops.say_stop.Goals as goal
@@ -9,8 +8,8 @@ pub returns : goal.returns
 returns c = λ g ids ledgers same judged says.
     let asked = c.args.asked.now in
     let verdict = c.args.verdict.now in
-    said-by g asked verdict c.args.against.now (map string_bytes c.args.further.now) _ ids ledgers judged says
+    let further = map string_bytes c.args.further.now in
+    said-by g asked verdict c.args.against.now further _ ids ledgers judged says
     (c.in_ok-text.ensures
-    ∙ ap (λ (names : List (List ℕ)). text_by asked verdict.facts names c.args.against.now (map string_bytes c.args.further.now))
-    (c.as_slice.ensures ∙ c.names.ensures ∙ sym (ap (λ (cluster : Cluster). cluster.names) same)))
+    ∙ ap (λ (names : List (List ℕ)). text_by asked verdict.facts names c.args.against.now further) same)
     c.status_of.ensures
