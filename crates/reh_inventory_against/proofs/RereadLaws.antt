@@ -101,3 +101,15 @@ weighed-all stop names strict kept ids ledgers first lines again worst same was 
         ≡ map (parts_by (counts_by names head.assumes_striped strict)) (ledger_lines lines))
     on (Some head) is = ap (λ (of : InventoryLedgers). map (parts_by of) (ledger_lines lines)) is
     on None never = never
+
+-- no line came but the first
+pub weighs-first : (stop : Stop) (names : List (List ℕ)) (strict : Bool) (ids : List ℕ) (ledgers : List (List Ledger))
+    (first : List ℕ) (again : Rereading) (worst : Worst) → IsRereading names strict first [] again
+    → WeighsBy stop ids ledgers worst
+    → IsWeighing stop names strict ids ledgers first [] again worst
+weighs-first stop names strict ids ledgers first again worst is was = record {
+  reread = is;
+  weighed =
+      subst (λ (xs : List ℕ). WeighsBy stop xs (ledgers ++ []) worst) (sym (append-nil ids))
+      (subst (λ (gs : List (List Ledger)). WeighsBy stop ids gs worst) (sym (append-nil ledgers)) was);
+}
