@@ -1,63 +1,72 @@
--- The ledgers of inventories that are weighed after those of pictures.
-use Rattle.std.specs.Prelude.{◌≡◌, ℕ, Bool, List, ◌++◌, All, Ok, map}
-use Rattle.std.specs.List.{flat_map}
-use Rattle.std.specs.Option.{IsSomeAnd}
-use Rattle.reh_census.specs.declared.answers.Answer.{Answer}
-use Rattle.reh_census.specs.declared.questions.Question.{Question}
-use Rattle.reh_census.specs.Bookies.{Bookies}
-use Rattle.reh_census.specs.Ledgers.{Ledger}
+-- The ledgers that speak against a stop, of pictures and of inventories that are read once more.
+use Rattle.std.specs.Prelude.{◌≡◌, ℕ, Bool, true, false, ◌&&◌, List, [], ◌∷◌, ◌++◌, codes, map, if◌then◌else◌}
+use Rattle.std.specs.List.{flat_map, list_any}
+use Rattle.reh_against.specs.declared.stops.Stop.{Stop}
 use Rattle.reh_against.specs.declared.worst.Worst.{Worst}
-use Rattle.reh_against.specs.Weighed.{Weighs}
-use Rattle.reh_inventory.specs.declared.ledgers.LedgerLine.{LedgerLine}
-use Rattle.reh_inventory.specs.declared.lines.Line.TheVariants as line
-use Rattle.reh_inventory.specs.Lines.{located_line_of}
-use Rattle.reh_inventory_census.specs.declared.ledgers.InventoryLedgers.{InventoryLedgers}
-use Rattle.reh_inventory_census.specs.Census.{head_in}
-use Rattle.reh_inventory_census.specs.Counted.{counted}
-use Rattle.reh_inventory_census.specs.Parts.{parts_of}
+use Rattle.reh_against.specs.Weighed.{WeighsBy}
+use Rattle.reh_against.specs.Worst.{alone}
+use Rattle.reh_census.specs.declared.answers.Answer.{Answer}
+use Rattle.reh_census.specs.declared.answers.Answer.TheVariants.{Yes, No, Unknown, UnknownDisks, NotJudged}
+use Rattle.reh_census.specs.Ledgers.{Ledger}
+use Rattle.reh_inventory_against.specs.declared.rereading.Rereading.{Rereading}
+use Rattle.reh_inventory_against.specs.Files.{AreWeighed, Weighed, ids_in, ledgers_in}
+use Rattle.reh_inventory_against.specs.Reread.{HasWeighed, IsWeighing}
+use Rattle.reh_stop.specs.Stops.{IsAnsweredBy, IsJudged}
+use Rattle.reh_stop.specs.declared.stops.Asked.{Asked}
+use Rattle.reh_stop.specs.declared.stops.Said.{Said}
+use Rattle.reh_stop.specs.declared.verdicts.Verdict.{Verdict}
+use Rattle.rehearse.specs.declared.against.WeighedBy.{WeighedBy}
+use Rattle.rehearse.specs.declared.inputs.FileKind.{FileKind}
+use Rattle.rehearse.specs.declared.inputs.FileKind.TheVariants as kind
+use Rattle.rehearse.specs.declared.inputs.GatheredFiles.{GatheredFiles}
 
--- a ledger's line, and whether its inventory assumes that members without a content hold what is striped onto them
-pub record ShownLedger : Type 0 where
-  pub assumes : Bool
-  pub line : LedgerLine
+-- whether a ledger may speak against a stop with this answer
+abbrev pub has_against : Answer → Bool
+has_against Yes = false
+has_against (No rule count) = true
+has_against (Unknown rule count) = true
+has_against (UnknownDisks count) = true
+has_against (NotJudged count) = false
 
--- some first line says so, and some line has this ledger
-pub record IsOfInventory (shown : ShownLedger) : Type 0 where
+-- whether a file is read once more, if any is: an inventory, if it can be
+abbrev pub is_read_again : Bool → FileKind → Bool
+is_read_again is_any kind.Other = false
+is_read_again is_any kind.Inventory = is_any
+is_read_again is_any kind.Stream = false
+
+abbrev pub is_stream : FileKind → Bool
+is_stream kind.Other = false
+is_stream kind.Inventory = false
+is_stream kind.Stream = true
+
+-- a note where some inventory would be, and can't
+abbrev pub notes_of : Bool → List FileKind → List (List ℕ)
+notes_of is_any kinds =
+    if is_any && list_any is_stream kinds
+    then codes "no ledger is named of an inventory that can be read only once, as from a pipe" ∷ [] else []
+
+-- the ledgers of an inventory were weighed after others, or none was
+abbrev pub WeighsIf : WeighedBy → Bool → List ℕ → Worst → Worst → Type 0
+WeighsIf by true ids old new =
+    (before : List ℕ) (ledgers : List (List Ledger)) → WeighsBy by.stop before ledgers old
+    → HasWeighed by.stop by.names.now by.is_strict ids before ledgers new
+WeighsIf by false ids old new = new ≡ old
+
+-- some lines of an inventory were read once more, and their ledgers weighed
+pub record IsUnderWay (stop : Stop) (names : List (List ℕ)) (strict : Bool) (ids : List ℕ) (ledgers : List (List Ledger))
+    (again : Rereading) (worst : Worst) : Type 0 where
   pub first : List ℕ
-  pub begins : IsSomeAnd (head_in first) (λ head. head.assumes_striped ≡ shown.assumes)
-  pub bytes : List ℕ
-  pub is_line : located_line_of bytes ≡ Ok (line.Ledger shown.line)
+  pub lines : List (List ℕ)
+  pub weighing : IsWeighing stop names strict ids ledgers first lines again worst
 
--- the ledgers of its parts, and their ids
-abbrev pub ledgers_of : List (List ℕ) → Bool → ShownLedger → List Ledger
-ledgers_of names strict shown = map (counted names shown.assumes strict) (parts_of shown.line)
-
-abbrev pub ids_of : ShownLedger → List ℕ
-ids_of shown = map (λ part. shown.line.id) (parts_of shown.line)
-
--- these are the ledgers of lines of inventories, part by part, and their ids
-pub record AreOfInventories (names : List (List ℕ)) (strict : Bool) (ids : List ℕ) (ledgers : List Ledger) : Type 0 where
-  pub shown : List ShownLedger
-  pub are_lines : All IsOfInventory shown
-  pub ids_are : ids ≡ flat_map ids_of shown
-  pub ledgers_are : ledgers ≡ flat_map (ledgers_of names strict) shown
-
--- an inventory's first line was read, by whose word the ledgers of its lines are counted
-pub record IsBegun (names : List (List ℕ)) (strict : Bool) (of : InventoryLedgers) : Type 0 where
-  pub first : List ℕ
-  pub begun : IsSomeAnd (head_in first)
-      (λ head. of ≡ record { names = names; assumes_striped = head.assumes_striped; is_strict = strict })
-
--- these ledgers were weighed, and after them some of inventories
-pub record HasWeighed (names : List (List ℕ)) (strict : Bool) (bookies : Bookies) (question : Question) (stopped : ℕ → Bool)
-    (answer : Answer) (ids : List ℕ) (ledgers : List Ledger) (worst : Worst) : Type 0 where
-  pub more_ids : List ℕ
-  pub more : List Ledger
-  pub of_inventories : AreOfInventories names strict more_ids more
-  pub weighed : Weighs bookies question stopped answer (ids ++ more_ids) (ledgers ++ more) worst
-
--- what is weighed more is of inventories
-abbrev pub WeighsOn : List (List ℕ) → Bool → Bookies → Question → (ℕ → Bool) → Answer → Worst → Worst → Type 0
-WeighsOn names strict bookies question stopped answer old new =
-    (ids : List ℕ) (ledgers : List Ledger) → HasWeighed names strict bookies question stopped answer ids ledgers old
-    → HasWeighed names strict bookies question stopped answer ids ledgers new
+-- What is said of a stop by these files: where a ledger may speak against it, each inventory that can be was read once
+-- more, and had the same ledgers. Of these and of those of pictures the worst are named.
+pub record SaysOf (files : GatheredFiles) (strict : Bool) (asked : Asked) (said : Said) : Type 0 where
+  pub verdict : Verdict
+  pub judged : IsJudged files.gathered asked verdict
+  pub weighed : List Weighed
+  pub are : AreWeighed files.gathered.cluster.names strict
+      (map (is_read_again (has_against verdict.facts.answer)) files.kinds.items) files.ids.items weighed
+  pub answered : IsAnsweredBy (files.gathered.ids.items ++ flat_map ids_in weighed)
+      (map alone files.gathered.ledgers.items ++ flat_map ledgers_in weighed)
+      (notes_of (has_against verdict.facts.answer) files.kinds.items) files.gathered asked said

@@ -5,7 +5,6 @@ use Rattle.std.specs.Fmt.{decimal}
 use Rattle.std.specs.List.{flat_map, IsDistinct}
 use Rattle.std.specs.Option.{IsSomeAnd, option_and_then, option_map_or}
 use Rattle.std.specs.declared.alloc.Global.{Global}
-use Rattle.reh_census.specs.Ledgers.{Ledger}
 use Rattle.reh_census_file.specs.Texts.{text_of}
 use Rattle.reh_census_file.specs.Values.{NamedCensus}
 use Rattle.reh_census_json.specs.Objects.{json_of}
@@ -18,7 +17,6 @@ use Rattle.reh_inputs.specs.declared.gathered.GatherFault.{GatherFault}
 use Rattle.reh_inputs.specs.declared.gathered.GatherFault.TheVariants as gather
 use Rattle.reh_inputs.specs.declared.together.Gathered.{Gathered}
 use Rattle.reh_stop.specs.Rounds.{SaysCost, SaysRounds}
-use Rattle.reh_stop.specs.Stops.{IsAnsweredBy}
 use Rattle.reh_stop.specs.declared.rounds.AskedRisk.{AskedRisk}
 use Rattle.reh_stop.specs.declared.rounds.AskedWaves.{AskedWaves}
 use Rattle.reh_stop.specs.declared.stops.Asked.{Asked}
@@ -28,19 +26,29 @@ use Rattle.reh_words.specs.declared.tasks.Inputs.{Inputs}
 use Rattle.reh_words.specs.declared.tasks.RiskWords.{RiskWords}
 use Rattle.reh_words.specs.declared.tasks.StopWords.{StopWords}
 use Rattle.reh_words.specs.declared.tasks.WaveWords.{WaveWords}
-use Rattle.rehearse.specs.Against.{AreOfInventories}
+use Rattle.rehearse.specs.Against.{SaysOf}
 use Rattle.rehearse.specs.Inventories.{IsOfLines}
 use Rattle.rehearse.specs.declared.faults.RunFault.{RunFault}
 use Rattle.rehearse.specs.declared.inputs.FileInput.{FileInput}
+use Rattle.rehearse.specs.declared.inputs.FileKind.{FileKind}
+use Rattle.rehearse.specs.declared.inputs.FileKind.TheVariants as kind
+use Rattle.rehearse.specs.declared.inputs.GatheredFiles.{GatheredFiles}
 use Rattle.rehearse.specs.declared.inputs.Parted.{Parted}
 use Rattle.rehearse.specs.declared.inventories.CountedInventory.{CountedInventory}
 use Rattle.rehearse.specs.declared.faults.RunFault.TheVariants.{NoMemory, Unfit}
+
+-- whether a file is an inventory
+abbrev pub is_inventory : FileKind → Bool
+is_inventory kind.Other = false
+is_inventory kind.Inventory = true
+is_inventory kind.Stream = true
 
 -- it is what some bytes show, with the ids of its ledgers
 pub record IsOfBytes (file : FileInput) : Type 0 where
   pub bytes : List ℕ
   pub is_read : IsRead bytes file.input
   pub ids : file.ids.items ≡ of_picture ids_in file.input
+  pub kind_is : is_inventory file.kind ≡ false
 
 -- it is the census of some lines of an inventory, with the ids of their ledgers
 pub record IsOfInventory (file : FileInput) : Type 0 where
@@ -48,14 +56,16 @@ pub record IsOfInventory (file : FileInput) : Type 0 where
   pub of_lines : IsOfLines counted
   pub input : file.input ≡ Census counted.census
   pub ids : file.ids ≡ counted.ids
+  pub kind_is : is_inventory file.kind ≡ true
 
 abbrev pub IsOfFile : FileInput → Type 0
 IsOfFile file = IsOfBytes file ⊎ IsOfInventory file
 
--- what files show, and the ids of each one's ledgers
+-- what files show, the ids of each one's ledgers, and what each is
 pub record IsParted (files : List FileInput) (parted : Parted) : Type 0 where
   pub inputs : parted.inputs.items ≡ map (λ file. file.input) files
   pub ids : parted.ids.items ≡ map (λ file. file.ids) files
+  pub kinds : parted.kinds.items ≡ map (λ file. file.kind) files
 
 -- no ledger stands twice in them: the ids of all their ledgers are each there once
 abbrev pub AreApart : List FileInput → Type 0
@@ -73,23 +83,22 @@ pub record IsOfFiles (words : Inputs) (gathered : Gathered) : Type 0 where
   pub apart : AreApart files
   pub gathers : Gathers (map (λ file. file.input) files) words.strict gathered
 
--- what is said of a stop, by what files show together, and by ledgers of inventories, which are read once more
-pub record SaysOf (gathered : Gathered) (strict : Bool) (asked : Asked) (said : Said) : Type 0 where
-  pub more_ids : List ℕ
-  pub more : List Ledger
-  pub of_inventories : AreOfInventories gathered.cluster.names strict more_ids more
-  pub answered : IsAnsweredBy (gathered.ids.items ++ more_ids) (gathered.ledgers.items ++ more) gathered asked said
+-- and what each of these files is, with the ids of its ledgers
+pub record AreGathered (words : Inputs) (files : GatheredFiles) : Type 0 where
+  pub of_files : IsOfFiles words files.gathered
+  pub ids : files.ids.items ≡ map (λ file. file.ids) of_files.files
+  pub kinds : files.kinds.items ≡ map (λ file. file.kind) of_files.files
 
 -- what is said of a stop, by all files
 pub record SaysStop (words : StopWords) (said : Said) : Type 0 where
-  pub gathered : Gathered
-  pub of_files : IsOfFiles words.inputs gathered
+  pub files : GatheredFiles
+  pub are_gathered : AreGathered words.inputs files
   pub asked : Asked
   pub same_bookies : asked.bookies.now ≡ words.bookies.items
   pub same_racks : asked.racks.now ≡ words.racks.items
   pub same_question : asked.question ≡ words.question
   pub same_form : asked.as_json ≡ words.as_json
-  pub says : SaysOf gathered words.inputs.strict asked said
+  pub says : SaysOf files words.inputs.strict asked said
 
 -- what is said of rounds
 abbrev pub waves_asked : WaveWords → AskedWaves

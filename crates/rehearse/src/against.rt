@@ -1,101 +1,167 @@
-// The ledgers of inventories that speak against a stop: the files are read once more.
-ghost use Rattle.std.specs.Prelude.{◌≡◌, ◌++◌, ℕ, Bool, List, Ok, IfOk, OnOk, length, map};
-ghost use Rattle.reh_against.specs.Weighed.{Weighs};
-ghost use Rattle.reh_census.specs.Bookies.{bookies_of, is_flagged};
+// The ledgers of inventories that speak against a stop: their files are read once more.
+ghost use Rattle.std.specs.Prelude.{◌≡◌, ℕ, Bool, [], IfOk, List, OnOk, length, map, string_bytes};
+ghost use Rattle.reh_against.specs.Weighed.{WeighsBy};
+ghost use Rattle.reh_against.specs.Worst.{alone};
 ghost use Rattle.reh_census.specs.Ledgers.{Ledger as LedgerValue};
-ghost use Rattle.reh_inventory.specs.Lines.{located_line_of};
+ghost use Rattle.reh_inventory_against.specs.Files.{HaveWeighed};
+ghost use Rattle.reh_inventory_against.specs.Reread.{HasWeighed, IsRereading};
 ghost use Rattle.rehearse.specs.Against as model;
 
 use crate::faults::RunFault;
-use crate::files::{open_file, read_on};
-use crate::inputs::too_many;
-use crate::inventories::{INVENTORY_BEGINS, read_line, reader_of, refused, uncounted};
+use crate::files::open_file;
+use crate::inputs::{FileKind, too_many, unfit};
+use crate::inventories::{read_line, reader_of, uncounted};
 use reh_against::{Stop, Worst};
-use reh_census::Ledger;
+use reh_census::{Answer, Ledger};
 use reh_inputs::{ClusterNames, names_of};
-use reh_inventory::{InventoryFault, LedgerLine, Line};
-use reh_inventory_census::InventoryLedgers;
+use reh_inventory_against::Rereading;
 use reh_tally::TallyFault;
-use reh_words::Inputs;
-use std::alloc::Global;
-use std::fs;
+use std::alloc::{AllocError, Global};
 use std::fs::File;
 use std::io::BufReader;
 
-/// Weighs the ledgers of inventories, file by file. Of one that can't be read again none is weighed.
-pub(crate) fn weigh_inventories(
+/// What is noted where an inventory can't be read once more.
+const UNNAMED: &str = "no ledger is named of an inventory that can be read only once, as from a pipe";
+
+/// What ledgers are weighed by: the numbers of these names, with what is assumed or without it, and the stop.
+#[derive(Clone, Copy)]
+pub(crate) struct WeighedBy<'a> {
+    pub(crate) names: &'a ClusterNames,
+    pub(crate) is_strict: bool,
+    pub(crate) stop: Stop<'a>,
+}
+
+/// Whether a ledger may speak against a stop with this answer.
+pub(crate) fn has_against(answer: &Answer) -> bool
+    ensures { result ≡ model.has_against answer.now }
+{
+    match answer {
+        Answer::Yes | Answer::NotJudged(_) => false,
+        Answer::No(..) | Answer::Unknown(..) | Answer::UnknownDisks(_) => true,
+    }
+}
+
+/// Whether a file is read once more, if any is.
+fn is_read_again(is_any: bool, kind: FileKind) -> bool
+    ensures { result ≡ model.is_read_again is_any kind }
+{
+    match kind {
+        FileKind::Inventory => is_any,
+        FileKind::Other | FileKind::Stream => false,
+    }
+}
+
+/// Whether a file is an inventory that can be read only once.
+fn is_stream(kind: FileKind) -> bool
+    ensures { result ≡ model.is_stream kind }
+{
+    match kind {
+        FileKind::Stream => true,
+        FileKind::Other | FileKind::Inventory => false,
+    }
+}
+
+/// What else is to be noted of files of which some are read once more, if any is.
+pub(crate) fn notes_of(
+    alloc: Global,
+    is_any: bool,
+    kinds: &[FileKind],
+) -> Result<Vec<String>, AllocError>
+    ensures { IfOk result (λ notes. map string_bytes notes.items ≡ model.notes_of is_any kinds.now) }
+{
+    let mut notes = Vec::new(alloc);
+    if is_any && kinds.iter().any(|kind| is_stream(*kind)) {
+        notes.push(String::from_str(alloc, UNNAMED)?)?;
+    }
+    Ok(notes)
+}
+
+/// Weighs the ledgers of the inventories among these files that can be read once more, if any is to be.
+pub(crate) fn weigh_files(
     rt: &HostRuntime,
-    inputs: &Inputs<'_>,
-    names: &ClusterNames,
-    stop: &Stop<'_>,
+    files: &[&str],
+    is_any: bool,
+    kinds: &[FileKind],
+    ids: &[Vec<u64>],
+    by: &WeighedBy<'_>,
     worst: &mut Worst,
 ) -> Result<(), RunFault>
-    ensures { OnOk result (model.WeighsOn names.now inputs.now.strict (bookies_of stop.now.bookies.now)
-        stop.now.question.now (is_flagged stop.now.stopped.now) stop.now.answer.now worst.old worst.new) }
+    requires { length files.now ≡ length ids.now }
+    requires { length kinds.now ≡ length ids.now }
+    ensures { OnOk result ((before : List ℕ) (ledgers : List (List LedgerValue))
+        → WeighsBy by.now.stop before ledgers worst.old
+        → HaveWeighed by.now.stop by.now.names.now by.now.is_strict
+        (map (model.is_read_again is_any) kinds.now) ids.now before ledgers worst.new) }
 {
-    for path in &inputs.files {
-        if can_be_read_again(rt, path) {
-            weigh_file(rt, path, inputs.strict, names, stop, worst)?;
-        }
+    for number in 0..ids.len() {
+        let is_read = is_read_again(is_any, kinds[number]);
+        weigh_if(
+            rt,
+            files[number],
+            is_read,
+            ids[number].as_slice(),
+            by,
+            worst,
+        )?;
     }
     Ok(())
 }
 
-/// Whether the file can be read again: it isn't standard input, a pipe or a device.
-fn can_be_read_again(rt: &HostRuntime, path: &str) -> bool {
-    if path == "-" {
-        return false;
-    }
-    match fs::metadata(rt, path) {
-        Ok(found) => found.is_file(),
-        Err(_) => false,
+/// Weighs the ledgers of an inventory, if it is to be read, which had these ids when it was counted.
+fn weigh_if(
+    rt: &HostRuntime,
+    path: &str,
+    is_read: bool,
+    ids: &[u64],
+    by: &WeighedBy<'_>,
+    worst: &mut Worst,
+) -> Result<(), RunFault>
+    ensures { OnOk result (model.WeighsIf by.now is_read ids.now worst.old worst.new) }
+{
+    if is_read {
+        weigh_file(rt, path, ids, by, worst)
+    } else {
+        Ok(())
     }
 }
 
-/// Weighs the ledgers of a file, if it is an inventory.
+/// Weighs the ledgers of an inventory, which had these ids when it was counted.
 fn weigh_file(
     rt: &HostRuntime,
     path: &str,
-    is_strict: bool,
-    names: &ClusterNames,
-    stop: &Stop<'_>,
+    ids: &[u64],
+    by: &WeighedBy<'_>,
     worst: &mut Worst,
 ) -> Result<(), RunFault>
-    ensures { OnOk result (model.WeighsOn names.now is_strict (bookies_of stop.now.bookies.now)
-        stop.now.question.now (is_flagged stop.now.stopped.now) stop.now.answer.now worst.old worst.new) }
+    ensures { OnOk result ((before : List ℕ) (ledgers : List (List LedgerValue))
+        → WeighsBy by.now.stop before ledgers worst.old
+        → HasWeighed by.now.stop by.now.names.now by.now.is_strict ids.now before ledgers worst.new) }
 {
     let alloc = rt.alloc();
-    let begins = INVENTORY_BEGINS.as_bytes();
+    let mut reader = reader_of(alloc, path, open_file(rt, path)?)?;
     let mut line = Vec::new(alloc);
-    let file = read_on(
-        rt,
-        path,
-        open_file(rt, path)?,
-        begins.len() as u64,
-        &mut line,
-    )?;
-    if line.as_slice() != begins {
-        return Ok(());
-    }
-    let mut reader = reader_of(alloc, path, file)?;
     read_line(alloc, path, &mut reader, &mut line)?;
-    let of = begin(alloc, path, is_strict, names, &line)?;
-    weigh_lines(alloc, path, &mut reader, &of, stop, worst)
+    let mut again = begin(alloc, path, by, &line)?;
+    weigh_lines(alloc, path, &mut reader, &mut again, by, worst)?;
+    if again.is_of(ids) {
+        Ok(())
+    } else {
+        Err(changed(alloc, path))
+    }
 }
 
-/// How the ledgers of an inventory's lines are counted, by its first line.
+/// Begins to read an inventory once more, with its first line.
 fn begin(
     alloc: Global,
     path: &str,
-    is_strict: bool,
-    names: &ClusterNames,
+    by: &WeighedBy<'_>,
     line: &[u8],
-) -> Result<InventoryLedgers, RunFault>
-    ensures { IfOk result (model.IsBegun names.now is_strict) }
+) -> Result<Rereading, RunFault>
+    ensures { IfOk result (IsRereading by.now.names.now by.now.is_strict line.now []) }
 {
-    let names = names_of(alloc, names)?;
-    match InventoryLedgers::begin(alloc, names, is_strict, line) {
-        Ok(of) => Ok(of),
+    let names = names_of(alloc, by.names)?;
+    match Rereading::begin(alloc, names, by.is_strict, line) {
+        Ok(again) => Ok(again),
         Err(fault) => Err(uncounted(alloc, path, 1, &fault)),
     }
 }
@@ -105,13 +171,13 @@ fn weigh_lines(
     alloc: Global,
     path: &str,
     reader: &mut BufReader<File>,
-    of: &InventoryLedgers,
-    stop: &Stop<'_>,
+    again: &mut Rereading,
+    by: &WeighedBy<'_>,
     worst: &mut Worst,
 ) -> Result<(), RunFault>
-    ensures { OnOk result ((names : List (List ℕ)) (strict : Bool) → model.IsBegun names strict of.now
-        → model.WeighsOn names strict (bookies_of stop.now.bookies.now) stop.now.question.now
-        (is_flagged stop.now.stopped.now) stop.now.answer.now worst.old worst.new) }
+    ensures { OnOk result ((names : List (List ℕ)) (strict : Bool) (ids : List ℕ) (ledgers : List (List LedgerValue))
+        → model.IsUnderWay by.now.stop names strict ids ledgers again.old worst.old
+        → model.IsUnderWay by.now.stop names strict ids ledgers again.new worst.new) }
 {
     let mut line = Vec::new(alloc);
     for number in 2..u64::MAX {
@@ -120,7 +186,7 @@ fn weigh_lines(
         if line.is_empty() {
             break;
         }
-        weigh_line(alloc, path, number, of, &line, stop, worst)?;
+        weigh_line(alloc, path, number, again, &line, by, worst)?;
     }
     Ok(())
 }
@@ -130,62 +196,26 @@ fn weigh_line(
     alloc: Global,
     path: &str,
     number: u64,
-    of: &InventoryLedgers,
+    again: &mut Rereading,
     line: &[u8],
-    stop: &Stop<'_>,
+    by: &WeighedBy<'_>,
     worst: &mut Worst,
 ) -> Result<(), RunFault>
-    ensures { OnOk result ((names : List (List ℕ)) (strict : Bool) → model.IsBegun names strict of.now
-        → model.WeighsOn names strict (bookies_of stop.now.bookies.now) stop.now.question.now
-        (is_flagged stop.now.stopped.now) stop.now.answer.now worst.old worst.new) }
+    ensures { OnOk result ((names : List (List ℕ)) (strict : Bool) (ids : List ℕ) (ledgers : List (List LedgerValue))
+        → model.IsUnderWay by.now.stop names strict ids ledgers again.old worst.old
+        → model.IsUnderWay by.now.stop names strict ids ledgers again.new worst.new) }
 {
-    match reh_inventory::read_line(alloc, line) {
-        Ok(Line::Ledger(ledger)) => weigh_parts(alloc, path, number, of, ledger, stop, worst),
-        Ok(_) => Ok(()),
-        Err(fault) => Err(refused(alloc, path, number, InventoryFault::Line(fault))),
-    }
-}
-
-/// Weighs the parts of a ledger.
-fn weigh_parts(
-    alloc: Global,
-    path: &str,
-    number: u64,
-    of: &InventoryLedgers,
-    ledger: LedgerLine,
-    stop: &Stop<'_>,
-    worst: &mut Worst,
-) -> Result<(), RunFault>
-    ensures { OnOk result ((names : List (List ℕ)) (strict : Bool) (bytes : List ℕ) → model.IsBegun names strict of.now
-        → located_line_of bytes ≡ Ok (Line.Ledger ledger)
-        → model.WeighsOn names strict (bookies_of stop.now.bookies.now) stop.now.question.now
-        (is_flagged stop.now.stopped.now) stop.now.answer.now worst.old worst.new) }
-{
-    let id = ledger.id;
-    match of.of_line(alloc, ledger) {
-        Ok(ledgers) => add_parts(alloc, id, ledgers, stop, worst),
+    match again.add(alloc, line, &by.stop, worst) {
+        Ok(()) => Ok(()),
         Err(fault) => Err(uncounted(alloc, path, number, &fault)),
     }
 }
 
-/// Weighs these ledgers of one id.
-fn add_parts(
-    alloc: Global,
-    id: u64,
-    ledgers: Vec<Ledger>,
-    stop: &Stop<'_>,
-    worst: &mut Worst,
-) -> Result<(), RunFault>
-    ensures { OnOk result ((ids : List ℕ) (before : List LedgerValue)
-        → Weighs (bookies_of stop.now.bookies.now) stop.now.question.now (is_flagged stop.now.stopped.now)
-        stop.now.answer.now ids before worst.old
-        → Weighs (bookies_of stop.now.bookies.now) stop.now.question.now (is_flagged stop.now.stopped.now)
-        stop.now.answer.now (ids ++ map (λ g. id) ledgers.items) (before ++ ledgers.items) worst.new) }
-{
-    match worst.add_all(alloc, id, ledgers, stop) {
-        Ok(()) => Ok(()),
-        Err(fault) => Err(unweighed(alloc, fault)),
-    }
+/// That an inventory has other ledgers than when it was counted.
+fn changed(alloc: Global, path: &str) -> RunFault {
+    unfit(format!(in alloc;
+        "inventory {path}: it has other ledgers than when they were counted: the file has changed"
+    ))
 }
 
 /// The worst of pictures' ledgers.
@@ -196,19 +226,11 @@ pub(crate) fn weigh(
     stop: &Stop<'_>,
 ) -> Result<Worst, RunFault>
     requires { length ids.now ≡ length ledgers.items }
-    ensures { IfOk result (Weighs (bookies_of stop.now.bookies.now) stop.now.question.now
-        (is_flagged stop.now.stopped.now) stop.now.answer.now ids.now ledgers.items) }
+    ensures { IfOk result (WeighsBy stop.now ids.now (map alone ledgers.items)) }
 {
     match Worst::of(alloc, ids, ledgers, stop) {
         Ok(worst) => Ok(worst),
-        Err(fault) => Err(unweighed(alloc, fault)),
-    }
-}
-
-/// The fault of a run whose ledgers can't be weighed.
-fn unweighed(alloc: Global, fault: TallyFault) -> RunFault {
-    match fault {
-        TallyFault::TooMany => too_many(alloc),
-        TallyFault::NoMemory => RunFault::NoMemory,
+        Err(TallyFault::TooMany) => Err(too_many(alloc)),
+        Err(TallyFault::NoMemory) => Err(RunFault::NoMemory),
     }
 }

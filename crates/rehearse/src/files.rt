@@ -9,7 +9,7 @@ use reh_script::{FromRead, StreamFault, TextIn};
 use reh_types::{MAX_PICTURE_BYTES, MAX_SCRIPT_BYTES};
 use std::alloc::{AllocError, Global};
 use std::fs::File;
-use std::io::{Read, Write};
+use std::io::{Read, Seek, Write};
 use std::{fs, io};
 
 /// A file that is opened at its first read, so that what is read before it is judged before it.
@@ -127,11 +127,14 @@ pub(crate) fn read_picture(rt: &HostRuntime, path: &str) -> Result<Vec<u8>, RunF
 pub(crate) enum InputBytes {
     /// The bytes of a picture or of a census.
     Whole(Vec<u8>),
-    /// The file of an inventory, with the bytes that were read of it.
-    Inventory(File, Vec<u8>),
+    /// The file of an inventory, at its beginning.
+    Inventory(File),
+    /// All bytes of an inventory that can be read only once, as from a pipe.
+    Stream(Vec<u8>),
 }
 
-/// The bytes of an input's file: all of a census, of a picture as many as are read of one, and of an inventory its beginning.
+/// The bytes of an input's file: all of a census, and of a picture as many as are read of one; or the file of an inventory, or
+/// all its bytes, where it can be read only once.
 pub(crate) fn read_input_file(rt: &HostRuntime, path: &str) -> Result<InputBytes, RunFault> {
     let begins = INVENTORY_BEGINS.as_bytes();
     let mut bytes = Vec::new(rt.alloc());
@@ -143,13 +146,29 @@ pub(crate) fn read_input_file(rt: &HostRuntime, path: &str) -> Result<InputBytes
         &mut bytes,
     )?;
     if bytes.as_slice() == begins {
-        return Ok(InputBytes::Inventory(file, bytes));
+        return rewound(rt, path, file, bytes);
     }
     let file = read_on(rt, path, file, PICTURE_BYTES, &mut bytes)?;
     if is_census(&bytes) {
         read_on(rt, path, file, MORE_CENSUS_BYTES, &mut bytes)?;
     }
     Ok(InputBytes::Whole(bytes))
+}
+
+/// An inventory of whose file this was read: the file at its beginning, or all bytes of one that can't be set back to it.
+fn rewound(
+    rt: &HostRuntime,
+    path: &str,
+    file: File,
+    start: Vec<u8>,
+) -> Result<InputBytes, RunFault> {
+    let (mut file, mut bytes) = (file, start);
+    if file.rewind().is_ok() {
+        return Ok(InputBytes::Inventory(file));
+    }
+    file.read_to_end(&mut bytes)
+        .map_err(|error| unread(rt.alloc(), "read", path, error))?;
+    Ok(InputBytes::Stream(bytes))
 }
 
 /// The bytes of a script's file, and of a longer one a byte more than a script may have.

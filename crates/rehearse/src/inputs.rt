@@ -1,5 +1,5 @@
 // The files of a cluster, read by several workers, what they show together, and their census.
-ghost use Rattle.std.specs.Prelude.{◌≡◌, ◌<◌, ◌++◌, ◌∷◌, [], All, List, vec_len, length, nat_eq, ℕ, IfOk, OnOk, string_bytes};
+ghost use Rattle.std.specs.Prelude.{◌≡◌, ◌<◌, ◌++◌, ◌∷◌, [], true, All, List, vec_len, length, nat_eq, ℕ, IfOk, OnOk, string_bytes};
 ghost use Rattle.std.specs.List.{flat_map, IsDistinct};
 ghost use Rattle.std.specs.Option.{option_map};
 ghost use Rattle.reh_inputs.specs.Gathered.{Gathers};
@@ -10,7 +10,7 @@ ghost use Rattle.rehearse.specs.Inventories.{IsOfLines};
 
 use crate::faults::RunFault;
 use crate::files::{InputBytes, read_input_file, write_out};
-use crate::inventories::{CountedInventory, count_inventory};
+use crate::inventories::{CountedInventory, count_bytes, count_inventory};
 use crate::looks::Looks;
 use crate::progress::{Progress, Teller};
 use reh_census_file::{CensusFault, NamedCensus, census_text};
@@ -26,20 +26,37 @@ use std::alloc::{AllocError, Global};
 use std::sync::Wait;
 use std::thread;
 
-/// What the inputs show together.
+/// What files show together, what each of them is, and the ids of its ledgers.
+#[derive(Drop)]
+pub(crate) struct GatheredFiles {
+    pub(crate) gathered: Gathered,
+    pub(crate) ids: Vec<Vec<u64>>,
+    pub(crate) kinds: Vec<FileKind>,
+}
+
+/// What the files show together.
 pub(crate) fn gather_files<R: thread::Threads + Wait + Sync>(
     rt: &HostRuntime,
     threads: &R,
     inputs: &Inputs<'_>,
     progress: &Progress,
-) -> Result<Gathered, RunFault>
-    ensures { IfOk result (λ gathered. model.IsOfFiles inputs.now gathered) }
+) -> Result<GatheredFiles, RunFault>
+    ensures { IfOk result (model.AreGathered inputs.now) }
 {
     let read = read_files(rt, threads, inputs, progress)?;
     let read = in_parts(rt.alloc(), read)?;
     let gathered = gather_read(threads, rt.alloc(), inputs, &read)?;
-    let_go(threads, read.inputs, inputs.crew.workers);
-    Ok(gathered)
+    let Parted {
+        inputs: shown,
+        ids,
+        kinds,
+    } = read;
+    let_go(threads, shown, inputs.crew.workers);
+    Ok(GatheredFiles {
+        gathered,
+        ids,
+        kinds,
+    })
 }
 
 /// What these inputs show together, once they are read, where no ledger stands in two of them.
@@ -132,31 +149,46 @@ fn copy_taken(alloc: Global, read: &[Input]) -> Result<Option<String>, AllocErro
     }
 }
 
-/// What a file shows, and the ids of its ledgers: a census file tells none.
+/// What a file is.
+#[derive(Clone, Copy, PartialEq, Eq)]
+pub(crate) enum FileKind {
+    /// A picture or a census.
+    Other,
+    /// An inventory that can be read again.
+    Inventory,
+    /// An inventory that can be read only once, as from a pipe.
+    Stream,
+}
+
+/// What a file shows, the ids of its ledgers, of which a census file tells none, and what it is.
 #[derive(Drop)]
 pub(crate) struct FileInput {
     input: Input,
     ids: Vec<u64>,
+    kind: FileKind,
 }
 
-/// What files show, and the ids of each one's ledgers.
+/// What files show, the ids of each one's ledgers, and what each is.
 #[derive(Drop)]
 pub(crate) struct Parted {
     inputs: Vec<Input>,
     ids: Vec<Vec<u64>>,
+    kinds: Vec<FileKind>,
 }
 
-/// What these files show, and the ids, each in a list of its own.
+/// What these files show, the ids, and what they are, each in a list of its own.
 fn in_parts(alloc: Global, read: Vec<FileInput>) -> Result<Parted, AllocError>
     ensures { IfOk result (model.IsParted read.items) }
 {
     let mut inputs = Vec::new(alloc);
     let mut ids = Vec::new(alloc);
+    let mut kinds = Vec::new(alloc);
     for file in read {
         inputs.push(file.input)?;
         ids.push(file.ids)?;
+        kinds.push(file.kind)?;
     }
-    Ok(Parted { inputs, ids })
+    Ok(Parted { inputs, ids, kinds })
 }
 
 /// What a file shows, once it is read.
@@ -235,36 +267,53 @@ fn push_read(read: &mut Vec<FileInput>, one: FileInput) -> Result<(), AllocError
 fn read_one(rt: &HostRuntime, path: &str, strict: bool) -> Result<FileInput, RunFault>
     ensures { IfOk result model.IsOfFile }
 {
-    let bytes = match read_input_file(rt, path)? {
-        InputBytes::Whole(bytes) => bytes,
-        InputBytes::Inventory(file, start) => {
-            let counted = count_inventory(rt.alloc(), path, file, start, strict)?;
-            return Ok(of_inventory(counted));
+    let alloc = rt.alloc();
+    match read_input_file(rt, path)? {
+        InputBytes::Whole(bytes) => read_whole(alloc, path, &bytes),
+        InputBytes::Inventory(file) => {
+            let counted = count_inventory(alloc, path, file, strict)?;
+            Ok(of_inventory(counted, FileKind::Inventory))
         }
-    };
-    match read_input(rt.alloc(), &bytes) {
-        Ok(input) => Ok(of_bytes(rt.alloc(), input)?),
-        Err(fault) => Err(unreadable(rt.alloc(), path, fault)),
+        InputBytes::Stream(bytes) => {
+            let counted = count_bytes(alloc, path, &bytes, strict)?;
+            Ok(of_inventory(counted, FileKind::Stream))
+        }
+    }
+}
+
+/// What the bytes of a picture or of a census show.
+fn read_whole(alloc: Global, path: &str, bytes: &[u8]) -> Result<FileInput, RunFault>
+    ensures { IfOk result model.IsOfFile }
+{
+    match read_input(alloc, bytes) {
+        Ok(input) => Ok(of_bytes(alloc, input)?),
+        Err(fault) => Err(unreadable(alloc, path, fault)),
     }
 }
 
 /// What an inventory shows.
-fn of_inventory(counted: CountedInventory) -> FileInput
+fn of_inventory(counted: CountedInventory, kind: FileKind) -> FileInput
     requires { IsOfLines counted }
+    requires { model.is_inventory kind ≡ true }
     ensures { model.IsOfFile result }
 {
     FileInput {
         input: Input::Census(counted.census),
         ids: counted.ids,
+        kind,
     }
 }
 
-/// What the bytes of a file show.
+/// What the bytes of a picture or of a census show.
 fn of_bytes(alloc: Global, input: Input) -> Result<FileInput, AllocError>
     ensures { IfOk result (λ file. (bytes : List ℕ) → IsRead bytes input → model.IsOfFile file) }
 {
     let ids = ids_of(alloc, &input)?;
-    Ok(FileInput { input, ids })
+    Ok(FileInput {
+        input,
+        ids,
+        kind: FileKind::Other,
+    })
 }
 
 /// The fault of a run whose file is no input.

@@ -118,25 +118,16 @@ pub(crate) struct CountedInventory {
     pub(crate) ids: Vec<u64>,
 }
 
-/// The census of the inventory in a file of which this was read. Its lines are read twice: first the names of all bookies,
-/// so that each has its number, in their order, before any ledger is counted. Where a file can't be read twice, as a pipe, all
-/// of it is kept in memory.
+/// The census of the inventory in a file that is at its beginning. Its lines are read twice: first the names of all bookies,
+/// so that each has its number, in their order, before any ledger is counted.
 pub(crate) fn count_inventory(
     alloc: Global,
     path: &str,
     file: File,
-    start: Vec<u8>,
     is_strict: bool,
 ) -> Result<CountedInventory, RunFault>
     ensures { IfOk result model.IsOfLines }
 {
-    let mut file = file;
-    if file.rewind().is_err() {
-        let mut bytes = start;
-        file.read_to_end(&mut bytes)
-            .map_err(|error| unread(alloc, "read", path, error))?;
-        return count_bytes(alloc, path, &bytes, is_strict);
-    }
     let mut reader = reader_of(alloc, path, file)?;
     let names = names_in(alloc, path, &mut reader)?;
     let mut file = reader.into_inner();
@@ -147,7 +138,7 @@ pub(crate) fn count_inventory(
 }
 
 /// The census of the inventory of these bytes.
-fn count_bytes(
+pub(crate) fn count_bytes(
     alloc: Global,
     path: &str,
     bytes: &[u8],

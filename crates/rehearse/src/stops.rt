@@ -1,17 +1,18 @@
 // Whether bookies may be stopped, judged from files.
 ghost use Rattle.std.specs.Prelude.{IfOk};
-ghost use Rattle.rehearse.specs.Inputs.{SaysOf, SaysStop};
+ghost use Rattle.reh_stop.specs.Stops.{IsJudged};
+ghost use Rattle.rehearse.specs.Against.{SaysOf};
+ghost use Rattle.rehearse.specs.Inputs.{AreGathered, SaysStop};
 
-use crate::against::{weigh, weigh_inventories};
+use crate::against::{WeighedBy, has_against, notes_of, weigh, weigh_files};
 use crate::faults::RunFault;
-use crate::inputs::{gather_files, too_many};
+use crate::inputs::{GatheredFiles, gather_files, too_many};
 use crate::looks::{Looks, show_answer};
 use crate::names::{ambiguous, named_again, nobody, unknown_rack, unknown_to_all};
 use crate::progress::{Progress, Teller};
-use reh_census::Answer;
 use reh_inputs::{Cluster, Gathered};
-use reh_stop::{Asked, Said, StopFault, judge_stop, say_stop, stop_of};
-use reh_words::StopWords;
+use reh_stop::{Asked, Said, StopFault, Verdict, judge_stop, say_weighed, stop_of};
+use reh_words::{Inputs, StopWords};
 use std::alloc::Global;
 use std::sync::Wait;
 use std::thread;
@@ -40,30 +41,47 @@ fn said_of<R: thread::Threads + Wait + Sync>(
 ) -> Result<Said, RunFault>
     ensures { IfOk result (λ said. SaysStop stop.now said) }
 {
-    let gathered = gather_files(rt, threads, &stop.inputs, progress)?;
+    let files = gather_files(rt, threads, &stop.inputs, progress)?;
     let asked = Asked {
         bookies: &stop.bookies,
         racks: &stop.racks,
         question: stop.question,
         as_json: stop.as_json,
     };
-    say(rt, stop, gathered, &asked)
+    say(rt, &stop.inputs, files, &asked)
+}
+
+/// Whether the bookies may be stopped, by what the files show together.
+fn judged(
+    alloc: Global,
+    gathered: &Gathered,
+    asked: &Asked<'_, '_>,
+) -> Result<Verdict, RunFault>
+    ensures { IfOk result (IsJudged gathered.now asked.now) }
+{
+    match judge_stop(alloc, gathered, asked) {
+        Ok(verdict) => Ok(verdict),
+        Err(fault) => Err(fault_of(alloc, &gathered.cluster, fault)),
+    }
 }
 
 /// What is said of the stop, by what the files show together.
 fn say(
     rt: &HostRuntime,
-    stop: &StopWords<'_>,
-    gathered: Gathered,
+    inputs: &Inputs<'_>,
+    files: GatheredFiles,
     asked: &Asked<'_, '_>,
 ) -> Result<Said, RunFault>
-    ensures { IfOk result (SaysOf gathered stop.now.inputs.strict asked.now) }
+    requires { AreGathered inputs.now files }
+    ensures { IfOk result (SaysOf files inputs.now.strict asked.now) }
 {
     let alloc = rt.alloc();
-    let verdict = match judge_stop(alloc, &gathered, asked) {
-        Ok(verdict) => verdict,
-        Err(fault) => return Err(fault_of(alloc, &gathered.cluster, fault)),
-    };
+    let GatheredFiles {
+        gathered,
+        ids: kept,
+        kinds,
+    } = files;
+    let verdict = judged(alloc, &gathered, asked)?;
     let Gathered {
         cluster,
         bookies,
@@ -73,20 +91,24 @@ fn say(
     } = gathered;
     let about = stop_of(&cluster, &bookies, asked, &verdict);
     let mut worst = weigh(alloc, &ids, ledgers, &about)?;
-    if has_against(verdict.answer()) {
-        weigh_inventories(rt, &stop.inputs, cluster.names(), &about, &mut worst)?;
-    }
-    let against = worst.say(alloc, &about)?;
-    let said = say_stop(alloc, &cluster, asked, &verdict, &against)?;
+    let by = WeighedBy {
+        names: cluster.names(),
+        is_strict: inputs.strict,
+        stop: about,
+    };
+    let is_any = has_against(verdict.answer());
+    weigh_files(
+        rt,
+        &inputs.files,
+        is_any,
+        &kinds,
+        &kept,
+        &by,
+        &mut worst,
+    )?;
+    let notes = notes_of(alloc, is_any, &kinds)?;
+    let said = say_weighed(alloc, asked, &verdict, &about, &worst, &notes)?;
     Ok(said)
-}
-
-/// Whether some ledger may speak against the stop.
-fn has_against(answer: &Answer) -> bool {
-    match answer {
-        Answer::Yes | Answer::NotJudged(_) => false,
-        Answer::No(..) | Answer::Unknown(..) | Answer::UnknownDisks(_) => true,
-    }
 }
 
 /// The fault of a run that answers nothing.

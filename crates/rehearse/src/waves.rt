@@ -35,13 +35,13 @@ fn waves_of<R: thread::Threads + Wait + Sync>(
 ) -> Result<String, RunFault>
     ensures { IfOk result (λ text. SaysWaves words.now text) }
 {
-    let gathered = gather_files(rt, threads, &words.inputs, progress)?;
+    let files = gather_files(rt, threads, &words.inputs, progress)?;
     let asked = AskedWaves {
         question: words.question,
         by_rack: words.by_rack,
         as_json: words.as_json,
     };
-    match answer_waves(rt.alloc(), &gathered, &asked) {
+    match answer_waves(rt.alloc(), &files.gathered, &asked) {
         Ok(text) => Ok(text),
         Err(fault) => Err(fault_of(rt.alloc(), fault)),
     }
@@ -69,13 +69,13 @@ fn risk_of<R: thread::Threads + Wait + Sync>(
 ) -> Result<String, RunFault>
     ensures { IfOk result (λ text. SaysRisk words.now text) }
 {
-    let gathered = gather_files(rt, threads, &words.inputs, progress)?;
+    let files = gather_files(rt, threads, &words.inputs, progress)?;
     let asked = AskedRisk {
         question: words.question,
         with_pairs: words.with_pairs,
         as_json: words.as_json,
     };
-    match answer_risk(rt.alloc(), &gathered, &asked) {
+    match answer_risk(rt.alloc(), &files.gathered, &asked) {
         Ok(text) => Ok(text),
         Err(fault) => Err(fault_of(rt.alloc(), fault)),
     }

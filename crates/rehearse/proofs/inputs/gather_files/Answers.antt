@@ -8,13 +8,17 @@ use Rattle.rehearse.proofs.inputs.gather_files.Goals as goal
 
 pub returns : goal.returns
 returns g c = record {
-  files = c.in_ok-read.read.items;
-  each_file = c.in_ok-read.ensures.each;
-  are_read = c.in_ok-read.ensures.read;
-  apart =
-      subst (λ (ids : List (Vec ℕ Global)). IsDistinct nat_eq (flat_map (λ list. list.items) ids)) c.in_ok-read-2.ensures.ids
-      c.in_ok-gathered.ensures.apart;
-  gathers =
-      subst (λ (inputs : List Input). Gathers inputs c.args.inputs.now.strict c.in_ok-gathered.gathered)
-      c.in_ok-read-2.ensures.inputs c.in_ok-gathered.ensures.gathers;
+  of_files = record {
+    files = c.in_ok-read.read.items;
+    each_file = c.in_ok-read.ensures.each;
+    are_read = c.in_ok-read.ensures.read;
+    apart =
+        subst (λ (ids : List (Vec ℕ Global)). IsDistinct nat_eq (flat_map (λ list. list.items) ids)) c.in_ok-read-2.ensures.ids
+        c.in_ok-gathered.ensures.apart;
+    gathers =
+        subst (λ (inputs : List Input). Gathers inputs c.args.inputs.now.strict c.in_ok-gathered.gathered)
+        c.in_ok-read-2.ensures.inputs c.in_ok-gathered.ensures.gathers;
+  };
+  ids = c.in_ok-read-2.ensures.ids;
+  kinds = c.in_ok-read-2.ensures.kinds;
 }

@@ -3,4 +3,11 @@ use Rattle.std.proofs.Common.{inr, refl}
 use Rattle.rehearse.proofs.inputs.of_inventory.Goals as goal
 
 pub returns : goal.returns
-returns g = inr (record { counted = g.args.counted; of_lines = g.requires; input = refl; ids = refl })
+returns g =
+    inr (record {
+      counted = g.args.counted;
+      of_lines = g.requires.lines;
+      input = refl;
+      ids = refl;
+      kind_is = g.requires.kind;
+    })

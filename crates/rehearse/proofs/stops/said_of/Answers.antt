@@ -2,10 +2,10 @@
 use Rattle.std.proofs.Common.{refl}
 use Rattle.rehearse.proofs.stops.said_of.Goals as goal
 
-pub returns-in-Ok : goal.returns-in-Ok
-returns-in-Ok g c = record {
-  gathered = c.in_ok-gathered.gathered;
-  of_files = c.in_ok-gathered.ensures;
+pub returns : goal.returns
+returns g c = record {
+  files = c.in_ok-files.files;
+  are_gathered = c.in_ok-files.ensures;
   asked = record {
     bookies = c.deref.result;
     racks = c.deref-2.result;
@@ -16,5 +16,5 @@ returns-in-Ok g c = record {
   same_racks = c.deref-2.ensures.value;
   same_question = refl;
   same_form = refl;
-  answered = c.in-Ok.ensures.answered;
+  says = _;
 }

@@ -1,0 +1,16 @@
+-- All lines were read once more.
+use Rattle.std.proofs.Common.{[], sym, rules}
+use Rattle.reh_inventory_against.proofs.RereadLaws.{weighs-first}
+use Rattle.rehearse.proofs.against.weigh_file.Goals as goal
+
+pub returns-then-is_of : goal.returns-then-is_of
+returns-then-is_of c = λ before ledgers was.
+    let by = c.args.by.now in
+    let all = c.in_ok-weigh_lines.ensures by.names.now by.is_strict before ledgers
+    (record {
+      first = c.deref.result.now;
+      lines = [];
+      weighing = weighs-first by.stop by.names.now by.is_strict before ledgers c.deref.result.now c.in_ok-again.again
+          c.args.worst.now c.in_ok-again.ensures was;
+    }) in
+    c.is_of.ensures c.if-is_of.true by.stop by.names.now by.is_strict before ledgers all.first all.lines _ all.weighing
