@@ -86,8 +86,8 @@ pub(crate) fn weigh_files(
     by: &WeighedBy<'_>,
     worst: &mut Worst,
 ) -> Result<(), RunFault>
-    requires { length files.now ≡ length ids.now }
-    requires { length kinds.now ≡ length ids.now }
+    requires files { length files.now ≡ length ids.now }
+    requires kinds { length kinds.now ≡ length ids.now }
     ensures { OnOk result ((before : List ℕ) (ledgers : List (List LedgerValue))
         → WeighsBy by.now.stop before ledgers worst.old
         → HaveWeighed by.now.stop by.now.names.now by.now.is_strict

@@ -293,8 +293,8 @@ fn read_whole(alloc: Global, path: &str, bytes: &[u8]) -> Result<FileInput, RunF
 
 /// What an inventory shows.
 fn of_inventory(counted: CountedInventory, kind: FileKind) -> FileInput
-    requires { IsOfLines counted }
-    requires { model.is_inventory kind ≡ true }
+    requires lines { IsOfLines counted }
+    requires kind { model.is_inventory kind ≡ true }
     ensures { model.IsOfFile result }
 {
     FileInput {

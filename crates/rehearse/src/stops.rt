@@ -48,7 +48,8 @@ fn said_of<R: thread::Threads + Wait + Sync>(
         question: stop.question,
         as_json: stop.as_json,
     };
-    say(rt, &stop.inputs, files, &asked)
+    let said = say(rt, &stop.inputs, files, &asked)?;
+    Ok(said)
 }
 
 /// Whether the bookies may be stopped, by what the files show together.

@@ -16,5 +16,5 @@ returns g c = record {
   same_racks = c.deref-2.ensures.value;
   same_question = refl;
   same_form = refl;
-  says = _;
+  says = c.in_ok-said.ensures;
 }
