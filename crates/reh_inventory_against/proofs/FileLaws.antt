@@ -11,7 +11,7 @@ use Rattle.reh_against.specs.Worst.{Each}
 use Rattle.reh_against.proofs.FoundLaws.{Each-push}
 use Rattle.reh_census.specs.Ledgers.{Ledger}
 use Rattle.reh_inventory_against.specs.Files.{AreWeighed, HaveWeighed, IsWeighedOf, Weighed, ids_in, ledgers_in, was_read}
-use Rattle.reh_inventory_against.specs.Reread.{HasWeighed}
+use Rattle.reh_inventory_against.specs.Reread.{HasWeighed, WeighsIf}
 
 module _ (stop : Stop) (names : List (List ℕ)) (strict : Bool) where
   -- no file was weighed
@@ -53,26 +53,20 @@ module _ (stop : Stop) (names : List (List ℕ)) (strict : Bool) where
             (subst (λ (gs : List (List Ledger)). WeighsBy stop ((ids ++ flat_map ids_in was.files) ++ file.ids) gs new) more weighed);
       }
 
-  -- that was read once more
-  pub weighed-one : (flags : List Bool) (kept : List (Vec ℕ Global)) (ids : List ℕ) (ledgers : List (List Ledger)) (old new : Worst)
-      (k : Vec ℕ Global)
-      → ((some : List ℕ) (others : List (List Ledger)) → WeighsBy stop some others old
-      → HasWeighed stop names strict k.items some others new)
+  -- that was read once more, or wasn't
+  pub weighed-next : (flag : Bool) (flags : List Bool) (kept : List (Vec ℕ Global)) (ids : List ℕ) (ledgers : List (List Ledger))
+      (old new : Worst) (k : Vec ℕ Global) → WeighsIf stop names strict flag k.items old new
       → HaveWeighed stop names strict flags kept ids ledgers old
-      → HaveWeighed stop names strict (flags ++ true ∷ []) (kept ++ k ∷ []) ids ledgers new
-  weighed-one flags kept ids ledgers old new k all was =
+      → HaveWeighed stop names strict (flags ++ flag ∷ []) (kept ++ k ∷ []) ids ledgers new
+  weighed-next true flags kept ids ledgers old new k all was =
       let now : HasWeighed stop names strict k.items (ids ++ flat_map ids_in was.files) (ledgers ++ flat_map ledgers_in was.files) new =
       all (ids ++ flat_map ids_in was.files) (ledgers ++ flat_map ledgers_in was.files) was.weighed in
       weighed-more flags kept ids ledgers old new k
       (record { is_read = true; ids = now.more_ids; ledgers = now.more }) now.reread was now.weighed
-
-  -- that wasn't
-  pub weighed-without : (flags : List Bool) (kept : List (Vec ℕ Global)) (ids : List ℕ) (ledgers : List (List Ledger)) (worst : Worst)
-      (k : Vec ℕ Global) → HaveWeighed stop names strict flags kept ids ledgers worst
-      → HaveWeighed stop names strict (flags ++ false ∷ []) (kept ++ k ∷ []) ids ledgers worst
-  weighed-without flags kept ids ledgers worst k was =
-      weighed-more flags kept ids ledgers worst worst k (record { is_read = false; ids = []; ledgers = [] }) (refl, refl) was
-      (subst (λ (xs : List ℕ). WeighsBy stop xs ((ledgers ++ flat_map ledgers_in was.files) ++ []) worst)
+  weighed-next false flags kept ids ledgers old new k same was =
+      subst (λ (worst : Worst). HaveWeighed stop names strict (flags ++ false ∷ []) (kept ++ k ∷ []) ids ledgers worst) (sym same)
+      (weighed-more flags kept ids ledgers old old k (record { is_read = false; ids = []; ledgers = [] }) (refl, refl) was
+      (subst (λ (xs : List ℕ). WeighsBy stop xs ((ledgers ++ flat_map ledgers_in was.files) ++ []) old)
       (sym (append-nil (ids ++ flat_map ids_in was.files)))
-      (subst (λ (gs : List (List Ledger)). WeighsBy stop (ids ++ flat_map ids_in was.files) gs worst)
-      (sym (append-nil (ledgers ++ flat_map ledgers_in was.files))) was.weighed))
+      (subst (λ (gs : List (List Ledger)). WeighsBy stop (ids ++ flat_map ids_in was.files) gs old)
+      (sym (append-nil (ledgers ++ flat_map ledgers_in was.files))) was.weighed)))

@@ -1,5 +1,5 @@
 -- An inventory that is read once more, whose ledgers are weighed after others.
-use Rattle.std.specs.Prelude.{◌≡◌, ℕ, Bool, List, ◌∷◌, ◌++◌, Ok, map}
+use Rattle.std.specs.Prelude.{◌≡◌, ℕ, Bool, true, false, List, ◌∷◌, ◌++◌, Ok, map}
 use Rattle.std.specs.Option.{IsSomeAnd}
 use Rattle.reh_against.specs.declared.stops.Stop.{Stop}
 use Rattle.reh_against.specs.declared.worst.Worst.{Worst}
@@ -55,3 +55,10 @@ pub record HasWeighed (stop : Stop) (names : List (List ℕ)) (strict : Bool) (k
   pub more : List (List Ledger)
   pub reread : IsReread names strict kept more_ids more
   pub weighed : WeighsBy stop (ids ++ more_ids) (ledgers ++ more) worst
+
+-- those of one that is to be read were weighed, or nothing was
+abbrev pub WeighsIf : Stop → List (List ℕ) → Bool → Bool → List ℕ → Worst → Worst → Type 0
+WeighsIf stop names strict true kept old new =
+    (ids : List ℕ) (ledgers : List (List Ledger)) → WeighsBy stop ids ledgers old
+    → HasWeighed stop names strict kept ids ledgers new
+WeighsIf stop names strict false kept old new = new ≡ old

@@ -1,21 +1,19 @@
 -- The ledgers that speak against a stop, of pictures and of inventories that are read once more.
-use Rattle.std.specs.Prelude.{◌≡◌, ℕ, Bool, true, false, ◌&&◌, List, [], ◌∷◌, ◌++◌, codes, map, if◌then◌else◌}
+use Rattle.std.specs.Prelude.{ℕ, Bool, true, false, ◌&&◌, List, [], ◌∷◌, ◌++◌, codes, map, if◌then◌else◌}
 use Rattle.std.specs.List.{flat_map, list_any}
 use Rattle.reh_against.specs.declared.stops.Stop.{Stop}
 use Rattle.reh_against.specs.declared.worst.Worst.{Worst}
-use Rattle.reh_against.specs.Weighed.{WeighsBy}
 use Rattle.reh_against.specs.Worst.{alone}
 use Rattle.reh_census.specs.declared.answers.Answer.{Answer}
 use Rattle.reh_census.specs.declared.answers.Answer.TheVariants.{Yes, No, Unknown, UnknownDisks, NotJudged}
 use Rattle.reh_census.specs.Ledgers.{Ledger}
 use Rattle.reh_inventory_against.specs.declared.rereading.Rereading.{Rereading}
 use Rattle.reh_inventory_against.specs.Files.{AreWeighed, Weighed, ids_in, ledgers_in}
-use Rattle.reh_inventory_against.specs.Reread.{HasWeighed, IsWeighing}
+use Rattle.reh_inventory_against.specs.Reread.{IsWeighing}
 use Rattle.reh_stop.specs.Stops.{IsAnsweredBy, IsJudged}
 use Rattle.reh_stop.specs.declared.stops.Asked.{Asked}
 use Rattle.reh_stop.specs.declared.stops.Said.{Said}
 use Rattle.reh_stop.specs.declared.verdicts.Verdict.{Verdict}
-use Rattle.rehearse.specs.declared.against.WeighedBy.{WeighedBy}
 use Rattle.rehearse.specs.declared.inputs.FileKind.{FileKind}
 use Rattle.rehearse.specs.declared.inputs.FileKind.TheVariants as kind
 use Rattle.rehearse.specs.declared.inputs.GatheredFiles.{GatheredFiles}
@@ -44,13 +42,6 @@ abbrev pub notes_of : Bool → List FileKind → List (List ℕ)
 notes_of is_any kinds =
     if is_any && list_any is_stream kinds
     then codes "no ledger is named of an inventory that can be read only once, as from a pipe" ∷ [] else []
-
--- the ledgers of an inventory were weighed after others, or none was
-abbrev pub WeighsIf : WeighedBy → Bool → List ℕ → Worst → Worst → Type 0
-WeighsIf by true ids old new =
-    (before : List ℕ) (ledgers : List (List Ledger)) → WeighsBy by.stop before ledgers old
-    → HasWeighed by.stop by.names.now by.is_strict ids before ledgers new
-WeighsIf by false ids old new = new ≡ old
 
 -- some lines of an inventory were read once more, and their ledgers weighed
 pub record IsUnderWay (stop : Stop) (names : List (List ℕ)) (strict : Bool) (ids : List ℕ) (ledgers : List (List Ledger))

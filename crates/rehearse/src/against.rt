@@ -4,7 +4,7 @@ ghost use Rattle.reh_against.specs.Weighed.{WeighsBy};
 ghost use Rattle.reh_against.specs.Worst.{alone};
 ghost use Rattle.reh_census.specs.Ledgers.{Ledger as LedgerValue};
 ghost use Rattle.reh_inventory_against.specs.Files.{HaveWeighed};
-ghost use Rattle.reh_inventory_against.specs.Reread.{HasWeighed, IsRereading};
+ghost use Rattle.reh_inventory_against.specs.Reread.{HasWeighed, IsRereading, WeighsIf};
 ghost use Rattle.rehearse.specs.Against as model;
 
 use crate::faults::RunFault;
@@ -116,7 +116,8 @@ fn weigh_if(
     by: &WeighedBy<'_>,
     worst: &mut Worst,
 ) -> Result<(), RunFault>
-    ensures { OnOk result (model.WeighsIf by.now is_read ids.now worst.old worst.new) }
+    ensures { OnOk result
+        (WeighsIf by.now.stop by.now.names.now by.now.is_strict is_read ids.now worst.old worst.new) }
 {
     if is_read {
         weigh_file(rt, path, ids, by, worst)
