@@ -7,7 +7,7 @@ use Rattle.rehearse.specs.Against.{is_read_again}
 use Rattle.rehearse.proofs.against.weigh_files.Given as goal
 
 abbrev pub invariant-loop-number : goal.invariant-loop-number
-invariant-loop-number g l =
+invariant-loop-number l =
     (before : List ℕ) (ledgers : List (List Ledger)) → WeighsBy l.by.stop before ledgers l.fn.worst
     → HaveWeighed l.by.stop l.by.names.now l.by.is_strict (map (is_read_again l.is_any) (take l.number l.kinds))
     (take l.number l.ids) before ledgers l.worst

@@ -5,7 +5,7 @@ use Rattle.rehearse.specs.Against.{IsUnderWay}
 use Rattle.rehearse.proofs.against.weigh_lines.Given as goal
 
 abbrev pub invariant-loop-number : goal.invariant-loop-number
-invariant-loop-number g l =
+invariant-loop-number l =
     (names : List (List ℕ)) (strict : Bool) (ids : List ℕ) (ledgers : List (List Ledger))
     → IsUnderWay l.by.stop names strict ids ledgers l.fn.again l.fn.worst
     → IsUnderWay l.by.stop names strict ids ledgers l.again l.worst
