@@ -65,7 +65,7 @@ fn counted_weight(alloc: Global, parts: &[Ledger], stop: &Stop<'_>) -> Result<u6
     ensures too_many { result ≡ Err TooMany → AreFew (holders (bookies_of stop.now.bookies.now)) parts.now → ⊥ }
 {
     let judged = Judged {
-        ledgers: 1,
+        ledgers: parts.len() as u64,
         assumed: 0,
         unread: 0,
         missing: 0,

@@ -111,7 +111,8 @@ impl Worst {
         let mut worst = Worst::new(alloc);
         for ledger in ledgers {
             let place = worst.added;
-            worst.add(alloc, ids[place], alone(alloc, ledger)?, stop)?;
+            let parts = alone(alloc, ledger)?;
+            worst.add(alloc, ids[place], parts, stop)?;
         }
         Ok(worst)
     }

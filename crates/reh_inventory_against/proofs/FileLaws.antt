@@ -1,5 +1,5 @@
 -- One file more.
-use Rattle.std.proofs.Common.{◌≡◌, ◌∙◌, ◌++◌, ◌∷◌, [], ℕ, Bool, true, false, List, Vec, ap, refl, sym, subst, map, append-nil, append_assoc}
+use Rattle.std.proofs.Common.{◌≡◌, ◌∙◌, ◌++◌, ◌∷◌, [], ℕ, Bool, true, false, List, Vec, ap, refl, sym, subst, append-nil, append_assoc}
 use Rattle.std.specs.List.{flat_map}
 use Rattle.std.specs.declared.alloc.Global.{Global}
 use Rattle.std.proofs.lemmas.Grind.{flat_map-append}
@@ -7,10 +7,9 @@ use Rattle.std.proofs.lemmas.List.{map-append}
 use Rattle.reh_against.specs.declared.stops.Stop.{Stop}
 use Rattle.reh_against.specs.declared.worst.Worst.{Worst}
 use Rattle.reh_against.specs.Weighed.{WeighsBy}
-use Rattle.reh_against.specs.Worst.{Each}
 use Rattle.reh_against.proofs.FoundLaws.{Each-push}
 use Rattle.reh_census.specs.Ledgers.{Ledger}
-use Rattle.reh_inventory_against.specs.Files.{AreWeighed, HaveWeighed, IsWeighedOf, Weighed, ids_in, ledgers_in, was_read}
+use Rattle.reh_inventory_against.specs.Files.{HaveWeighed, IsWeighedOf, Weighed, ids_in, ledgers_in, was_read}
 use Rattle.reh_inventory_against.specs.Reread.{HasWeighed, WeighsIf}
 
 module _ (stop : Stop) (names : List (List ℕ)) (strict : Bool) where

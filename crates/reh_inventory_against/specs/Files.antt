@@ -1,5 +1,5 @@
 -- Files whose ledgers are weighed one after the other: of some every ledger, of the others none.
-use Rattle.std.specs.Prelude.{◌≡◌, ℕ, Bool, true, false, List, [], ◌∷◌, ◌++◌, Vec, map}
+use Rattle.std.specs.Prelude.{◌≡◌, ℕ, Bool, true, false, List, [], ◌++◌, Vec, map}
 use Rattle.std.specs.List.{flat_map}
 use Rattle.std.specs.declared.alloc.Global.{Global}
 use Rattle.reh_against.specs.declared.stops.Stop.{Stop}

@@ -50,7 +50,10 @@ impl Rereading {
             → model.IsWeighing stop.now names strict ids ledgers first (lines ++ line.now ∷ []) self.new worst.new) }
     {
         match self.inventory.add(alloc, line)? {
-            Some(ledger) => self.weigh(alloc, ledger, stop, worst),
+            Some(ledger) => {
+                self.weigh(alloc, ledger, stop, worst)?;
+                Ok(())
+            }
             None => Ok(()),
         }
     }

@@ -1,5 +1,5 @@
 -- Of ledgers that are each counted as one.
-use Rattle.std.proofs.Common.{List, map, subst, sym, string_bytes}
+use Rattle.std.proofs.Common.{List, map, subst, string_bytes}
 use Rattle.reh_census.specs.Bookies.{bookies_of, is_flagged}
 use Rattle.reh_against.specs.declared.found.Found.{Found}
 use Rattle.reh_against.specs.Weights.{weight_of}

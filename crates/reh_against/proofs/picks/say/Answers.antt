@@ -7,6 +7,6 @@ use Rattle.reh_against.proofs.picks.say.Goals as goal
 pub returns : goal.returns
 returns c =
     c.in_ok-against.ensures (map alone c.args.ledgers.now)
-    (at-map alone c.args.ledgers.now c.args.found.now.place c.index-ledgers-found-place.result c.requires
-    c.index-ledgers-found-place.is
+    (at-map alone c.args.ledgers.now c.args.found.now.place c.index-ledgers-found.result c.requires
+    c.index-ledgers-found.is
     ∙ ap Some (sym c.from_ref.ensures.value))

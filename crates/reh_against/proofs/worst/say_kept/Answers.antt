@@ -1,5 +1,5 @@
 -- One more is said; and it is said of the ledgers of which they are.
-use Rattle.std.proofs.Common.{◌≡◌, ◌∙◌, ◌+◌, ◌++◌, ◌∷◌, [], ℕ, List, map, sym, subst, take, take_all, string_bytes, arith}
+use Rattle.std.proofs.Common.{◌≡◌, ◌∙◌, ◌+◌, ◌++◌, ◌∷◌, [], ℕ, List, Some, ap, map, sym, subst, take, take_all, string_bytes, arith}
 use Rattle.std.proofs.lemmas.List.{take_more}
 use Rattle.reh_census.specs.Bookies.{bookies_of, is_flagged}
 use Rattle.reh_census.specs.Ledgers.{Ledger}
@@ -26,7 +26,8 @@ loop-one-preserved c =
     take_more kept n one (omega arith) ∙ (λ i. take n kept ++ sym c.one-item.is i ∷ []) in
     subst (λ (ks : List Kept). Each is ks c.push.new.self.items) (sym more)
     (subst (λ (ys : List Against). Each is (take n kept ++ one ∷ []) ys) (sym c.in_ok-push.ensures.items)
-    (Each-push is (take n kept) said one c.in_ok-said.said c.loop-one.invariant c.in_ok-said.ensures))
+    (Each-push is (take n kept) said one c.in_ok-said.said c.loop-one.invariant
+    (λ ledgers among. c.in_ok-said.ensures ledgers (among ∙ ap Some (sym c.deref.ensures.value)))))
 
 pub returns : goal.returns
 returns c = λ ledgers among.

@@ -32,4 +32,4 @@ returns-in_err-against-clause-too_many c = λ same.
     All (λ ledger. AreFew (holders (bookies_of c.stop_of-stop.result.bookies.now)) (ledger ∷ [])) ledgers → ⊥)
     c.deref-2.ensures.value
     (c.in_err-against.ensures.too_many
-    (failed c.from_residual-in_err-against.result c.in_err-against.field-0.0 TooMany c.from_residual-in_err-against.ensures.1 same)))
+    (failed c.from_residual.result c.in_err-against.field-0.0 TooMany c.from_residual.ensures.1 same)))

@@ -9,7 +9,7 @@ use Rattle.reh_stop.proofs.stops.answer_stop.Goals as goal
 
 pub returns-in_err-verdict-clause-fault : goal.returns-in_err-verdict-clause-fault
 returns-in_err-verdict-clause-fault c =
-    if_err (IsRefused c.args.gathered.now c.args.asked.now) _ c.in_err-verdict.field-0.0 c.from_residual-in_err-verdict.ensures.1
+    if_err (IsRefused c.args.gathered.now c.args.asked.now) _ c.in_err-verdict.field-0.0 c.from_residual.ensures.1
     c.in_err-verdict.ensures.fault
 
 pub returns-in_err-against-clause-fault : goal.returns-in_err-against-clause-fault
@@ -25,7 +25,7 @@ pub returns-clause-answered : goal.returns-clause-answered
 returns-clause-answered c =
     let g = c.args.gathered.now in
     let verdict = c.in_ok-verdict.verdict in
-    c.in_ok-said.ensures g g.ids.items (map alone g.ledgers.items) (c.as_slice.ensures ∙ c.names.ensures)
+    c.in_ok-said.ensures g g.ids.items (map alone g.ledgers.items) (c.as_slice-names.ensures ∙ c.names.ensures)
     c.in_ok-verdict.ensures.judged
     (subst (λ (against : List Against).
     SaysAgainst g.cluster.names g.ids.items (map alone g.ledgers.items) (bookies_of g.bookies) c.args.asked.now.question

@@ -37,8 +37,8 @@ loop-ledger-preserved c =
     c.in-Some.is c.next.ensures.steps in
     weighs-each (bookies_of c.args.stop.now.bookies.now) c.args.stop.now.question.now (is_flagged c.args.stop.now.stopped.now)
     c.args.stop.now.answer.now c.args.ids.now c.loop-ledger.yielded c.loop-ledger.worst.added c.in-Some.ledger
-    c.in_ok-alone.value.items c.add.new.self (omega (arith, turn.0, c.requires))
-    (c.loop-ledger.invariant.added ∙ length-map c.loop-ledger.yielded alone) c.in_ok-alone.ensures
+    c.in_ok-parts.parts.items c.add.new.self (omega (arith, turn.0, c.requires))
+    (c.loop-ledger.invariant.added ∙ length-map c.loop-ledger.yielded alone) c.in_ok-parts.ensures
     (c.in_ok-add.ensures.added (take (length c.loop-ledger.yielded) c.args.ids.now) (map alone c.loop-ledger.yielded)
     c.loop-ledger.invariant)
 
