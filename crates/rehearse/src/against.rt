@@ -21,7 +21,8 @@ use std::fs::File;
 use std::io::BufReader;
 
 /// What is noted where an inventory can't be read once more.
-const UNNAMED: &str = "no ledger is named of an inventory that can be read only once, as from a pipe";
+const UNNAMED: &str =
+    "no ledger is named of an inventory that can be read only once, as from a pipe";
 
 /// What ledgers are weighed by: the numbers of these names, with what is assumed or without it, and the stop.
 #[derive(Clone, Copy)]
@@ -152,12 +153,7 @@ fn weigh_file(
 }
 
 /// Begins to read an inventory once more, with its first line.
-fn begin(
-    alloc: Global,
-    path: &str,
-    by: &WeighedBy<'_>,
-    line: &[u8],
-) -> Result<Rereading, RunFault>
+fn begin(alloc: Global, path: &str, by: &WeighedBy<'_>, line: &[u8]) -> Result<Rereading, RunFault>
     ensures { IfOk result (IsRereading by.now.names.now by.now.is_strict line.now []) }
 {
     let names = names_of(alloc, by.names)?;

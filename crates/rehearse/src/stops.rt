@@ -53,11 +53,7 @@ fn said_of<R: thread::Threads + Wait + Sync>(
 }
 
 /// Whether the bookies may be stopped, by what the files show together.
-fn judged(
-    alloc: Global,
-    gathered: &Gathered,
-    asked: &Asked<'_, '_>,
-) -> Result<Verdict, RunFault>
+fn judged(alloc: Global, gathered: &Gathered, asked: &Asked<'_, '_>) -> Result<Verdict, RunFault>
     ensures { IfOk result (IsJudged gathered.now asked.now) }
 {
     match judge_stop(alloc, gathered, asked) {
@@ -98,15 +94,7 @@ fn say(
         stop: about,
     };
     let is_any = has_against(verdict.answer());
-    weigh_files(
-        rt,
-        &inputs.files,
-        is_any,
-        &kinds,
-        &kept,
-        &by,
-        &mut worst,
-    )?;
+    weigh_files(rt, &inputs.files, is_any, &kinds, &kept, &by, &mut worst)?;
     let notes = notes_of(alloc, is_any, &kinds)?;
     let said = say_weighed(alloc, asked, &verdict, &about, &worst, &notes)?;
     Ok(said)
