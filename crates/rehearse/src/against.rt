@@ -1,5 +1,6 @@
 // The ledgers of inventories that speak against a stop: their files are read once more.
 ghost use Rattle.std.specs.Prelude.{◌≡◌, ℕ, Bool, [], IfOk, List, OnOk, length, map, string_bytes};
+ghost use Rattle.std.specs.List.{list_any};
 ghost use Rattle.reh_against.specs.Weighed.{WeighsBy};
 ghost use Rattle.reh_against.specs.Worst.{alone};
 ghost use Rattle.reh_census.specs.Ledgers.{Ledger as LedgerValue};
@@ -19,10 +20,6 @@ use reh_tally::TallyFault;
 use std::alloc::{AllocError, Global};
 use std::fs::File;
 use std::io::BufReader;
-
-/// What is noted where an inventory can't be read once more.
-const UNNAMED: &str =
-    "no ledger is named of an inventory that can be read only once, as from a pipe";
 
 /// What ledgers are weighed by: the numbers of these names, with what is assumed or without it, and the stop.
 #[derive(Clone, Copy)]
@@ -62,6 +59,13 @@ fn is_stream(kind: FileKind) -> bool
     }
 }
 
+/// Whether one of these files is.
+fn has_stream(kinds: &[FileKind]) -> bool
+    ensures { result ≡ list_any model.is_stream kinds.now }
+{
+    kinds.iter().any(|kind| is_stream(*kind))
+}
+
 /// What else is to be noted of files of which some are read once more, if any is.
 pub(crate) fn notes_of(
     alloc: Global,
@@ -71,9 +75,11 @@ pub(crate) fn notes_of(
     ensures { IfOk result (λ notes. map string_bytes notes.items ≡ model.notes_of is_any kinds.now) }
 {
     let mut notes = Vec::new(alloc);
-    if is_any && kinds.iter().any(|kind| is_stream(*kind)) {
-        notes.push(String::from_str(alloc, UNNAMED)?)?;
+    if !is_any || !has_stream(kinds) {
+        return Ok(notes);
     }
+    let note = "no ledger is named of an inventory that can be read only once, as from a pipe";
+    notes.push(String::from_str(alloc, note)?)?;
     Ok(notes)
 }
 
