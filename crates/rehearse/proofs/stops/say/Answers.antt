@@ -1,18 +1,51 @@
 -- The worst of the pictures' ledgers and of those of inventories speak against it.
-use Rattle.std.proofs.Common.{◌∙◌, ◌++◌, ap, map, refl, string_bytes, subst, sym, List, ℕ}
+use Rattle.std.proofs.Common.{◌≡◌, ◌∙◌, ◌++◌, Bool, ap, map, string_bytes, List, String, ℕ}
 use Rattle.std.specs.List.{flat_map}
+use Rattle.std.specs.declared.alloc.Global.{Global}
 use Rattle.reh_against.specs.Worst.{alone}
+use Rattle.reh_census.specs.Ledgers.{Ledger}
 use Rattle.reh_inventory_against.specs.Files.{ids_in, ledgers_in}
-use Rattle.rehearse.specs.Against.{has_against, notes_of}
+use Rattle.rehearse.specs.Against.{has_against, is_read_again, notes_of}
+use Rattle.rehearse.specs.declared.inputs.FileKind.{FileKind}
+use Rattle.rehearse.proofs.AgainstLaws.{answered-same, weighed-same}
 use Rattle.rehearse.proofs.stops.say.Goals as goal
 
 pub returns : goal.returns
 returns c =
-    let all = c.in_ok-weigh_files.ensures _ _ c.in_ok-worst.ensures in
+    let g = c.args.files.gathered in
+    let kinds : List FileKind = c.args.files.kinds.items in
+    let about = c.stop_of-about.ensures in
+    let ledgers : List (List Ledger) = map alone g.ledgers.items in
+    let all = c.in_ok-weigh_files.ensures c.deref.result.now ledgers c.in_ok-worst.ensures in
+    let is_any : Bool = c.has_against-is_any.result in
+    let reads : is_any ≡ has_against c.in_ok-verdict.verdict.facts.answer =
+    c.has_against-is_any.ensures ∙ ap has_against c.answer.ensures in
     record {
       verdict = c.in_ok-verdict.verdict;
       judged = c.in_ok-verdict.ensures;
       weighed = all.files;
-      are = _;
-      answered = _;
+      are =
+          weighed-same c.names.result.now g.cluster.names c.args.inputs.now.strict
+          (map (is_read_again is_any) c.deref-3.result.now)
+          (map (is_read_again (has_against c.in_ok-verdict.verdict.facts.answer)) kinds)
+          c.deref-4.result.now c.args.files.ids.items all.files c.names.ensures
+          (λ i. map (is_read_again (reads i)) (c.deref-3.ensures.value i)) c.deref-4.ensures.value all.are;
+      answered =
+          answered-same (c.deref.result.now ++ flat_map ids_in all.files) (g.ids.items ++ flat_map ids_in all.files)
+          (ledgers ++ flat_map ledgers_in all.files) (map string_bytes c.deref-6.result.now)
+          (notes_of (has_against c.in_ok-verdict.verdict.facts.answer) kinds) g c.args.asked.now c.in_ok-said.said
+          (ap (λ (ids : List ℕ). ids ++ flat_map ids_in all.files) c.deref.ensures.value)
+          (ap (λ (notes : List (String Global)). map string_bytes notes) c.deref-6.ensures.value
+          ∙ c.in_ok-notes.ensures
+          ∙ (λ i. notes_of (reads i) (c.deref-5.ensures.value i)))
+          (c.in_ok-said.ensures g (c.deref.result.now ++ flat_map ids_in all.files) (ledgers ++ flat_map ledgers_in all.files)
+          c.in_ok-verdict.ensures
+          (record {
+            names = about.names;
+            bookies = about.bookies;
+            stopped = about.stopped;
+            question = about.question;
+            answer = about.answer;
+          })
+          all.weighed);
     }
