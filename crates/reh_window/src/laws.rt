@@ -38,11 +38,11 @@ pub fn a_window_says_the_same()
         ≡ list_any (is_within entry) ranges }
 {}
 
-/// The fragment of an entry has the same members in a window, where fragments rise, the first of them from the window's start
-/// or an earlier entry on.
+/// The fragment of an entry has the same members in a window, where fragments rise, the first of them from the entry or an
+/// earlier one on.
 pub fn a_window_has_the_same_members()
     ensures { (span : Span) (fragments : List Fragment) (entry : ℕ)
-        → are_rising fragments ≡ true → begin_after span.start fragments ≡ false
+        → are_rising fragments ≡ true → begin_after entry fragments ≡ false
         → span.start ≤ entry → entry < span.stop
         → ensemble_at (entry - span.start) (model.fragments_in span fragments)
         ≡ ensemble_at entry fragments }

@@ -1,0 +1,3 @@
+pub mod WidthLaws
+pub mod ClipLaws
+pub mod MemberLaws
