@@ -2,7 +2,8 @@
 use Rattle.std.specs.Prelude.{ℕ, List, ◌++◌, codes}
 use Rattle.std.specs.Fmt.{decimal}
 use Rattle.reh_cut.specs.declared.faults.CutFault.{CutFault}
-use Rattle.reh_cut.specs.declared.faults.CutFault.TheVariants.{Differs, HoldsThoughEmpty, NoLedger, NoMemory, NoPicture, NotWhole, TooManyBookies, TooManyEntries, Untold}
+use Rattle.reh_cut.specs.declared.faults.CutFault.TheVariants.{Differs, HoldsThoughEmpty, NoLedger, NoMemory, NoPicture, NotWhole}
+use Rattle.reh_cut.specs.declared.faults.CutFault.TheVariants.{NoWindow, OpenWindow, TooManyBookies, TooManyEntries, Untold}
 use Rattle.reh_picture.specs.Expected.{located_text}
 use Rattle.reh_types.specs.declared.limits.TheConstants.{MAX_BOOKIES, MAX_ENTRY_ID}
 
@@ -13,10 +14,22 @@ fault_text (TooManyBookies bookies) =
     codes "these ledgers name "
     ++ (decimal bookies
     ++ (codes " bookies, and a picture has at most " ++ (decimal MAX_BOOKIES ++ codes ": cut fewer ledgers")))
-fault_text (TooManyEntries id last) =
+fault_text (TooManyEntries id last width) =
     codes "ledger "
     ++ (decimal id
-    ++ (codes " has entries up to " ++ (decimal last ++ (codes ", and a picture up to " ++ decimal MAX_ENTRY_ID))))
+    ++ (codes " has entries up to "
+    ++ (decimal last
+    ++ (codes ", and a picture up to "
+    ++ (decimal MAX_ENTRY_ID
+    ++ (codes ": --window K cuts "
+    ++ (decimal width ++ (codes " of them, from entry K times " ++ (decimal width ++ codes " on")))))))))
+fault_text (NoWindow id last) = codes "the last window of ledger " ++ (decimal id ++ (codes " is " ++ decimal last))
+fault_text (OpenWindow id first last) =
+    codes "ledger "
+    ++ (decimal id
+    ++ (codes " isn't closed, and nobody knows how many entries its last fragment has, from entry "
+    ++ (decimal first
+    ++ (codes " on: of the windows with such entries only the last one has a picture, " ++ decimal last))))
 fault_text (HoldsThoughEmpty id) =
     codes "a bookie that is shown as empty holds entries of ledger " ++ (decimal id ++ codes ": leave out one of the two")
 fault_text (Untold id bookie) =

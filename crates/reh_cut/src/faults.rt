@@ -2,6 +2,7 @@
 use reh_inventory::Name;
 use reh_picture::{LocatedFault, PictureFault};
 use reh_types::{MAX_BOOKIES, MAX_ENTRY_ID};
+use reh_window::WindowFault;
 use std::alloc::{AllocError, AllocFailed};
 use std::fmt;
 
@@ -14,8 +15,13 @@ pub enum CutFault {
     NoLedger(u64),
     /// They name more bookies than a picture may have: so many.
     TooManyBookies(usize),
-    /// The ledger of this id has entries up to this one, past those that a picture may have.
-    TooManyEntries(u64, u64),
+    /// The ledger of this id has entries up to this one, past those that a picture may have, and a window of it so many.
+    TooManyEntries(u64, u64, u64),
+    /// The last window of the ledger of this id has this number, which is below the one that is asked for.
+    NoWindow(u64, u64),
+    /// The ledger of this id isn't closed, and the window has entries of its last fragment, but it isn't the last window:
+    /// the first entry of that fragment, and the number of the last window.
+    OpenWindow(u64, u64, u64),
     /// A bookie that came back without its disk holds entries of the ledger of this id.
     HoldsThoughEmpty(u64),
     /// Nobody says what this bookie holds of the ledger of this id.
@@ -44,9 +50,14 @@ impl fmt::Display for CutFault {
                 f,
                 "these ledgers name {bookies} bookies, and a picture has at most {MAX_BOOKIES}: cut fewer ledgers"
             ),
-            CutFault::TooManyEntries(id, last) => write!(
+            CutFault::TooManyEntries(id, last, width) => write!(
                 f,
-                "ledger {id} has entries up to {last}, and a picture up to {MAX_ENTRY_ID}"
+                "ledger {id} has entries up to {last}, and a picture up to {MAX_ENTRY_ID}: --window K cuts {width} of them, from entry K times {width} on"
+            ),
+            CutFault::NoWindow(id, last) => write!(f, "the last window of ledger {id} is {last}"),
+            CutFault::OpenWindow(id, first, last) => write!(
+                f,
+                "ledger {id} isn't closed, and nobody knows how many entries its last fragment has, from entry {first} on: of the windows with such entries only the last one has a picture, {last}"
             ),
             CutFault::HoldsThoughEmpty(id) => write!(
                 f,
@@ -95,5 +106,15 @@ pub(crate) fn no_picture(fault: LocatedFault) -> CutFault {
     match fault.fault {
         PictureFault::NoMemory => CutFault::NoMemory,
         _ => CutFault::NoPicture(fault),
+    }
+}
+
+/// That the ledger of this id has no such window. No line of an inventory is unfit.
+pub(crate) fn no_window(id: u64, fault: WindowFault) -> CutFault {
+    match fault {
+        WindowFault::PastLast(last) => CutFault::NoWindow(id, last),
+        WindowFault::Unsettled(first, last) => CutFault::OpenWindow(id, first, last),
+        WindowFault::Unfit => CutFault::Differs,
+        WindowFault::NoMemory => CutFault::NoMemory,
     }
 }

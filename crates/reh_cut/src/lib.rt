@@ -8,6 +8,7 @@ mod faults;
 mod names;
 mod said;
 mod texts;
+mod windows;
 
 pub use chosen::ChosenLedgers;
 pub use cuts::cut;
