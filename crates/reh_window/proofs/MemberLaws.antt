@@ -95,6 +95,31 @@ kept-from span fragments i fragment inside is =
     ∙ ap (λ next. if has_some span fragment next then fragment_in span fragment ∷ fragments_in span rest
     else fragments_in span rest) (slice_get-drop fragments (i + 1))
 
+-- one fragment more that is kept, and one that isn't
+pub kept-more : (span : Span) (fragments : List Fragment) (i : ℕ) (fragment : Fragment) (parts all : List Fragment)
+    → i < length fragments → fragment ≡ get_or fragments i fragment
+    → has_some span fragment (slice_get fragments (i + 1)) ≡ true
+    → parts ++ fragments_in span (drop i fragments) ≡ all
+    → (parts ++ fragment_in span fragment ∷ []) ++ fragments_in span (drop (i + 1) fragments) ≡ all
+kept-more span fragments i fragment parts all inside is kept so_far =
+    let rest = fragments_in span (drop (i + 1) fragments) in
+    let from : fragments_in span (drop i fragments) ≡ fragment_in span fragment ∷ rest =
+    kept-from span fragments i fragment inside is
+    ∙ ap (λ b. if b then fragment_in span fragment ∷ rest else rest) kept in
+    append_assoc parts (fragment_in span fragment ∷ []) rest ∙ ap (λ fs. parts ++ fs) (sym from) ∙ so_far
+
+pub left-more : (span : Span) (fragments : List Fragment) (i : ℕ) (fragment : Fragment) (parts all : List Fragment)
+    → i < length fragments → fragment ≡ get_or fragments i fragment
+    → has_some span fragment (slice_get fragments (i + 1)) ≡ false
+    → parts ++ fragments_in span (drop i fragments) ≡ all
+    → parts ++ fragments_in span (drop (i + 1) fragments) ≡ all
+left-more span fragments i fragment parts all inside is left so_far =
+    let rest = fragments_in span (drop (i + 1) fragments) in
+    let from : fragments_in span (drop i fragments) ≡ rest =
+    kept-from span fragments i fragment inside is
+    ∙ ap (λ b. if b then fragment_in span fragment ∷ rest else rest) left in
+    ap (λ fs. parts ++ fs) (sym from) ∙ so_far
+
 -- The fragment of an entry
 
 -- those that are kept of fragments that begin after the entry begin after it, too
