@@ -1,12 +1,13 @@
 -- Widths and starts of windows, and how entries are striped from a start on.
-use Rattle.std.proofs.Common.{◌≡◌, ℕ, ◌+◌, ◌-◌, ◌*◌, ◌/◌, ◌%◌, ◌<◌, ◌≤◌, map, sym, ap, ◌∙◌, arith}
+use Rattle.std.proofs.Common.{◌≡◌, ℕ, ◌+◌, ◌-◌, ◌*◌, ◌/◌, ◌%◌, ◌<◌, ◌≤◌, true, ◌&&◌, nat_le, map, sym, ap, ◌∙◌, arith}
 use Rattle.std.specs.Prelude.{◌==◌}
 use Rattle.std.specs.List.{list_any}
 use Rattle.std.proofs.Math.Nat.{add-mul-mod_self_right, mod-add-mod, mul_assoc}
+use Rattle.std.proofs.lemmas.Bool.Decides.{nat_tests}
 use Rattle.std.proofs.lemmas.Nat.{div-add-mod', mod_below, mul-le}
 use Rattle.reh_inventory.specs.declared.ledgers.LedgerLine.{LedgerLine}
 use Rattle.reh_model.specs.Striping.{index_at, is_striped, range}
-use Rattle.reh_window.specs.Windows.{span_of, width_of}
+use Rattle.reh_window.specs.Windows.{is_fit, last_entry, last_window, span_of, width_of}
 
 -- a window has more entries than an ensemble has members, and at most 65,536
 pub width-least : (size : ℕ) → 1 ≤ size → size ≤ 64 → 65472 < (65536 / size) * size
@@ -50,3 +51,28 @@ pub same-carriers : (line : LedgerLine) (window entry index quorum : ℕ) → (s
 same-carriers line window entry index quorum from =
     striped-alike (entry - (span_of window line).start) entry line.sizes.ensemble index quorum
     (same-rest line window entry from)
+
+-- Lines that an inventory may have
+
+fit-inner : (size last : ℕ) → (nat_le 1 size && nat_le size 64 && nat_le last 9223372036854775807) ≡ true
+    → (1 ≤ size) × (size ≤ 64) × (last ≤ 9223372036854775807)
+fit-inner size last fit = (grind (arith, nat_tests), grind (arith, nat_tests), grind (arith, nat_tests))
+
+pub fit-is : (line : LedgerLine) → is_fit line ≡ true
+    → (1 ≤ line.sizes.ensemble) × (line.sizes.ensemble ≤ 64) × (last_entry line ≤ 9223372036854775807)
+fit-is line fit = fit-inner line.sizes.ensemble (last_entry line) fit
+
+pub width-some : (line : LedgerLine) → is_fit line ≡ true → 0 < width_of line
+width-some line fit =
+    let is = fit-is line fit in omega (arith, width-least line.sizes.ensemble is.0 is.1)
+
+pub start-fits : (line : LedgerLine) (window : ℕ) → is_fit line ≡ true → window ≤ last_window line
+    → window * width_of line ≤ 9223372036854775807
+start-fits line window fit there =
+    let is = fit-is line fit in
+    omega (arith, start-within (last_entry line) (width_of line) window there, is.2)
+
+pub stop-fits : (line : LedgerLine) (window : ℕ) → is_fit line ≡ true → window ≤ last_window line
+    → window * width_of line + width_of line ≤ 9223372036854841343
+stop-fits line window fit there =
+    omega (arith, start-fits line window fit there, width-most line.sizes.ensemble)
