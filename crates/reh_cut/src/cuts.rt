@@ -104,11 +104,7 @@ fn check_line(
 ) -> Result<(), CutFault> {
     let bound = bound_of(line);
     if bound > ENTRY_END {
-        return Err(CutFault::TooManyEntries(
-            line.id,
-            bound - 1,
-            width_of(line),
-        ));
+        return Err(CutFault::TooManyEntries(line.id, bound - 1, width_of(line)));
     }
     if refills(head, line) {
         return Err(CutFault::HoldsThoughEmpty(line.id));

@@ -24,11 +24,7 @@ fn window_in(alloc: Global, line: &LedgerLine, window: u64) -> Result<LedgerLine
 }
 
 /// The windows of this number of these ledgers.
-fn windows_in(
-    alloc: Global,
-    lines: &[LedgerLine],
-    window: u64,
-) -> Result<Vec<LedgerLine>, CutFault>
+fn windows_in(alloc: Global, lines: &[LedgerLine], window: u64) -> Result<Vec<LedgerLine>, CutFault>
     ensures there { OnOk result (list_all (ledger.has_window window) lines.now ≡ true) }
     ensures cut { IfOk result (λ made. made.items ≡ map (ledger.window_of window) lines.now) }
 {

@@ -34,9 +34,7 @@ fn last_entry(line: &LedgerLine) -> u64
 {
     match end_of(line.state) {
         Some(end) => end.saturating_sub(1),
-        None => {
-            last_first(line).max(end_told(line.contents.as_slice()).saturating_sub(1))
-        }
+        None => { last_first(line).max(end_told(line.contents.as_slice()).saturating_sub(1)) }
     }
 }
 

@@ -12,11 +12,7 @@ use std::alloc::Global;
 /// The window of this number of a ledger, in place of its line: the entries from that many times its width on, counted from
 /// 0 on. A window of a ledger that isn't closed is either the last one, in the ledger's own state, or has entries of
 /// fragments alone that stop, and then it is closed.
-pub fn window_of(
-    alloc: Global,
-    line: &LedgerLine,
-    window: u64,
-) -> Result<LedgerLine, WindowFault>
+pub fn window_of(alloc: Global, line: &LedgerLine, window: u64) -> Result<LedgerLine, WindowFault>
     ensures fault { model.FailsWith result (model.window_fault window line.now) }
     ensures cut { IfOk result (λ made. made ≡ model.window_of window line.now) }
 {
