@@ -40,20 +40,24 @@ within-outside : (span : Span) (range : Range) (entry : ℕ) → span.start ≤ 
     → meets span range ≡ false → is_within entry range ≡ false
 within-outside span range entry from below met = grind (arith, nat_tests)
 
+-- one range more
+clip-one : (span : Span) (range : Range) (ranges : List Range) (entry : ℕ) → span.start ≤ entry → entry < span.stop
+    → list_any (is_within (entry - span.start)) (ranges_in span ranges) ≡ list_any (is_within entry) ranges
+    → (b : Bool) → meets span range ≡ b
+    → list_any (is_within (entry - span.start))
+    (cons_option (if b then Some (clipped span range) else None) (ranges_in span ranges))
+    ≡ (is_within entry range || list_any (is_within entry) ranges)
+clip-one span range ranges entry from below rest true met =
+    λ i. within-clipped span range entry from below met i || rest i
+clip-one span range ranges entry from below rest false met =
+    rest
+    ∙ ap (λ b. b || list_any (is_within entry) ranges) (sym (within-outside span range entry from below met))
+
 pub any-clipped : (span : Span) (ranges : List Range) (entry : ℕ) → span.start ≤ entry → entry < span.stop
     → list_any (is_within (entry - span.start)) (ranges_in span ranges) ≡ list_any (is_within entry) ranges
 any-clipped span [] entry from below = refl
-any-clipped span (range ∷ ranges) entry from below = on (meets span range) refl
-  where
-    on : (b : Bool) → meets span range ≡ b
-        → list_any (is_within (entry - span.start))
-        (cons_option (if b then Some (clipped span range) else None) (ranges_in span ranges))
-        ≡ (is_within entry range || list_any (is_within entry) ranges)
-    on true met =
-        λ i. within-clipped span range entry from below met i || any-clipped span ranges entry from below i
-    on false met =
-        any-clipped span ranges entry from below
-        ∙ ap (λ b. b || list_any (is_within entry) ranges) (sym (within-outside span range entry from below met))
+any-clipped span (range ∷ ranges) entry from below =
+    clip-one span range ranges entry from below (any-clipped span ranges entry from below) (meets span range) refl
 
 -- Contents
 

@@ -1,6 +1,6 @@
 -- The members of the fragment of an entry, in a window.
 use Rattle.std.proofs.Common.{◌≡◌, ℕ, suc, zero, ◌+◌, ◌-◌, ◌<◌, ◌≤◌, Bool, true, false, ◌&&◌, nat_lt, List, [], ◌∷◌, ◌++◌, length, drop, get_or}
-use Rattle.std.proofs.Common.{if◌then◌else◌, refl, sym, ap, ◌∙◌, arith, inl, inr, true≢false}
+use Rattle.std.proofs.Common.{if◌then◌else◌, Option, refl, sym, ap, ◌∙◌, arith, inl, inr, true≢false}
 use Rattle.std.specs.Prelude.{slice_get}
 use Rattle.std.proofs.lemmas.Bool.{cases_lt}
 use Rattle.std.proofs.lemmas.Bool.Decides.{nat_tests}
@@ -92,7 +92,7 @@ kept-from span fragments i fragment inside is =
     let rest = drop (i + 1) fragments in
     at_drop_more (fragments_in span) fragments i fragment inside
     ∙ ap (λ (one : Fragment). fragments_in span (one ∷ rest)) (sym is)
-    ∙ ap (λ next. if has_some span fragment next then fragment_in span fragment ∷ fragments_in span rest
+    ∙ ap (λ (next : Option Fragment). if has_some span fragment next then fragment_in span fragment ∷ fragments_in span rest
     else fragments_in span rest) (slice_get-drop fragments (i + 1))
 
 -- one fragment more that is kept, and one that isn't
@@ -143,16 +143,14 @@ begins-earlier span entry next rest rising after by below =
     (kept-first span next rest (omega arith) (rises span.start next rest rising (omega arith)))
     ∙ is_not_below (entry - span.start) (next.first - span.start) (omega arith)
 
-pub same-ensemble : (span : Span) (fragments : List Fragment) (entry : ℕ) → are_rising fragments ≡ true
-    → begin_after entry fragments ≡ false → span.start ≤ entry → entry < span.stop
-    → ensemble_at (entry - span.start) (fragments_in span fragments) ≡ ensemble_at entry fragments
-same-ensemble span [] entry rising begins from below = absurd (true≢false begins)
-same-ensemble span (fragment ∷ []) entry rising begins from below =
-    let by : fragment.first ≤ entry = not_below_is entry fragment.first begins in
+-- the fragment of the entry is the first of these or a later one
+same-from : (span : Span) (fragment : Fragment) (rest : List Fragment) (entry : ℕ) → are_rising (fragment ∷ rest) ≡ true
+    → fragment.first ≤ entry → span.start ≤ entry → entry < span.stop
+    → ensemble_at (entry - span.start) (fragments_in span (fragment ∷ rest)) ≡ ensemble_at entry (fragment ∷ rest)
+same-from span fragment [] entry rising by from below =
     ap (ensemble_at (entry - span.start)) (kept-first span fragment [] (omega arith) refl)
-same-ensemble span (fragment ∷ next ∷ rest) entry rising begins from below =
+same-from span fragment (next ∷ rest) entry rising by from below =
     let at = entry - span.start in
-    let by : fragment.first ≤ entry = not_below_is entry fragment.first begins in
     let inner : are_rising (next ∷ rest) ≡ true = and_second _ _ rising in
     let kept = fragments_in span (next ∷ rest) in
     elim (cases_lt span.start next.first) [
@@ -170,13 +168,20 @@ same-ensemble span (fragment ∷ next ∷ rest) entry rising begins from below =
                 first
                 ∙ ap (λ b. if b then fragment.ensemble else ensemble_at at kept)
                 (begins-earlier span entry next rest inner after earlier below)
-                ∙ same-ensemble span (next ∷ rest) entry inner (is_not_below entry next.first earlier) from below
+                ∙ same-from span next rest entry inner earlier from below
                 ∙ sym (ap (λ b. if b then fragment.ensemble else ensemble_at entry (next ∷ rest))
                 (is_not_below entry next.first earlier))
           ]
       | inr before ↦
           ap (ensemble_at at) (left-first span fragment next rest before)
-          ∙ same-ensemble span (next ∷ rest) entry inner (is_not_below entry next.first (omega arith)) from below
+          ∙ same-from span next rest entry inner (omega arith) from below
           ∙ sym (ap (λ b. if b then fragment.ensemble else ensemble_at entry (next ∷ rest))
           (is_not_below entry next.first (omega arith)))
     ]
+
+pub same-ensemble : (span : Span) (fragments : List Fragment) (entry : ℕ) → are_rising fragments ≡ true
+    → begin_after entry fragments ≡ false → span.start ≤ entry → entry < span.stop
+    → ensemble_at (entry - span.start) (fragments_in span fragments) ≡ ensemble_at entry fragments
+same-ensemble span [] entry rising begins from below = absurd (true≢false begins)
+same-ensemble span (fragment ∷ rest) entry rising begins from below =
+    same-from span fragment rest entry rising (not_below_is entry fragment.first begins) from below
