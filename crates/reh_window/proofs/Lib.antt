@@ -1,3 +1,3 @@
-pub mod WidthLaws
+pub mod StripingLaws
 pub mod ClipLaws
 pub mod MemberLaws

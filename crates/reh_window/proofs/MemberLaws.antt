@@ -1,14 +1,12 @@
 -- The members of the fragment of an entry, in a window.
-use Rattle.std.proofs.Common.{◌≡◌, ℕ, suc, zero, ◌+◌, ◌-◌, ◌<◌, ◌≤◌, Bool, true, false, ◌&&◌, nat_lt, List, [], ◌∷◌, ◌++◌, length, drop, get_or}
-use Rattle.std.proofs.Common.{if◌then◌else◌, Option, refl, sym, ap, ◌∙◌, arith, inl, inr, true≢false}
-use Rattle.std.specs.Prelude.{slice_get}
+use Rattle.std.proofs.Common.{◌≡◌, ℕ, ◌-◌, ◌<◌, ◌≤◌, Bool, true, false, ◌&&◌, nat_lt, List, [], ◌∷◌}
+use Rattle.std.proofs.Common.{if◌then◌else◌, refl, sym, ap, ◌∙◌, arith, inl, inr, true≢false}
 use Rattle.std.proofs.lemmas.Bool.{cases_lt}
 use Rattle.std.proofs.lemmas.Bool.Decides.{nat_tests}
-use Rattle.std.proofs.lemmas.List.{append_assoc, at_drop_more}
 use Rattle.reh_inventory.specs.declared.ledgers.Fragment.{Fragment}
 use Rattle.reh_window.specs.declared.spans.Span.{Span}
 use Rattle.reh_window.specs.Members.{are_rising, begin_after, ensemble_at}
-use Rattle.reh_window.specs.Windows.{fragment_in, fragments_in, has_some}
+use Rattle.reh_window.specs.Windows.{fragment_in, fragments_in}
 
 and_second : (a b : Bool) → (a && b) ≡ true → b ≡ true
 and_second true b e = e
@@ -73,52 +71,6 @@ none-past span fragment (next ∷ rest) past rising =
     ap (λ b. if b && nat_lt span.start next.first then fragment_in span fragment ∷ fragments_in span (next ∷ rest)
     else fragments_in span (next ∷ rest)) (is_not_below fragment.first span.stop past)
     ∙ none-past span next rest (omega arith) (and_second _ _ rising)
-
--- One fragment after the other
-
-slice_get-drop : (fragments : List Fragment) (n : ℕ) → slice_get (drop n fragments) 0 ≡ slice_get fragments n
-slice_get-drop fragments zero = refl
-slice_get-drop [] (suc n) = refl
-slice_get-drop (fragment ∷ fragments) (suc n) = slice_get-drop fragments n
-
--- what is kept from the fragment of this number on
-pub kept-from : (span : Span) (fragments : List Fragment) (i : ℕ) (fragment : Fragment) → i < length fragments
-    → fragment ≡ get_or fragments i fragment
-    → fragments_in span (drop i fragments)
-    ≡ (if has_some span fragment (slice_get fragments (i + 1)) then
-    fragment_in span fragment ∷ fragments_in span (drop (i + 1) fragments)
-    else fragments_in span (drop (i + 1) fragments))
-kept-from span fragments i fragment inside is =
-    let rest = drop (i + 1) fragments in
-    at_drop_more (fragments_in span) fragments i fragment inside
-    ∙ ap (λ (one : Fragment). fragments_in span (one ∷ rest)) (sym is)
-    ∙ ap (λ (next : Option Fragment). if has_some span fragment next then fragment_in span fragment ∷ fragments_in span rest
-    else fragments_in span rest) (slice_get-drop fragments (i + 1))
-
--- one fragment more that is kept, and one that isn't
-pub kept-more : (span : Span) (fragments : List Fragment) (i : ℕ) (fragment : Fragment) (parts all : List Fragment)
-    → i < length fragments → fragment ≡ get_or fragments i fragment
-    → has_some span fragment (slice_get fragments (i + 1)) ≡ true
-    → parts ++ fragments_in span (drop i fragments) ≡ all
-    → (parts ++ fragment_in span fragment ∷ []) ++ fragments_in span (drop (i + 1) fragments) ≡ all
-kept-more span fragments i fragment parts all inside is kept so_far =
-    let rest = fragments_in span (drop (i + 1) fragments) in
-    let from : fragments_in span (drop i fragments) ≡ fragment_in span fragment ∷ rest =
-    kept-from span fragments i fragment inside is
-    ∙ ap (λ b. if b then fragment_in span fragment ∷ rest else rest) kept in
-    append_assoc parts (fragment_in span fragment ∷ []) rest ∙ ap (λ fs. parts ++ fs) (sym from) ∙ so_far
-
-pub left-more : (span : Span) (fragments : List Fragment) (i : ℕ) (fragment : Fragment) (parts all : List Fragment)
-    → i < length fragments → fragment ≡ get_or fragments i fragment
-    → has_some span fragment (slice_get fragments (i + 1)) ≡ false
-    → parts ++ fragments_in span (drop i fragments) ≡ all
-    → parts ++ fragments_in span (drop (i + 1) fragments) ≡ all
-left-more span fragments i fragment parts all inside is left so_far =
-    let rest = fragments_in span (drop (i + 1) fragments) in
-    let from : fragments_in span (drop i fragments) ≡ rest =
-    kept-from span fragments i fragment inside is
-    ∙ ap (λ b. if b then fragment_in span fragment ∷ rest else rest) left in
-    ap (λ fs. parts ++ fs) (sym from) ∙ so_far
 
 -- The fragment of an entry
 
