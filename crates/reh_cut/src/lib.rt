@@ -12,5 +12,5 @@ mod windows;
 
 pub use chosen::ChosenLedgers;
 pub use cuts::cut;
-pub use faults::CutFault;
+pub use faults::{CutFault, WayOut};
 pub use said::Assume;
