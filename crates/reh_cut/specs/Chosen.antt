@@ -1,5 +1,5 @@
--- The ledgers of an inventory that are asked for, and their picture.
-use Rattle.std.specs.Prelude.{◌≡◌, ℕ, Bool, true, ◌==◌, List, Ok}
+-- The ledgers of an inventory that are asked for, and their picture, or that of a window of each.
+use Rattle.std.specs.Prelude.{◌≡◌, ℕ, Bool, true, ◌==◌, List, map, Option, None, Some, Ok}
 use Rattle.std.specs.List.{filter, list_all, list_any}
 use Rattle.std.specs.Option.{IsSomeAnd}
 use Rattle.reh_cut.specs.Cuts.{IsCut}
@@ -8,6 +8,7 @@ use Rattle.reh_cut.specs.declared.said.Assume.{Assume}
 use Rattle.reh_inventory.specs.declared.ledgers.LedgerLine.{LedgerLine}
 use Rattle.reh_inventory.specs.Inventories.{Inventory, inventory_of}
 use Rattle.reh_inventory_census.specs.Census.{ledger_lines}
+use Rattle.reh_window.specs.Windows.{has_window, window_of}
 
 abbrev pub has_id : ℕ → LedgerLine → Bool
 has_id id line = line.id == id
@@ -29,10 +30,23 @@ pub record IsChosen (ids : List ℕ) (lines : List (List ℕ)) (c : ChosenLedger
   pub ids_are : c.ids.items ≡ ids
   pub ledgers_are : c.ledgers.items ≡ chosen_of ids lines
 
--- The lines are a whole inventory, which has a ledger of each id, and the text is the picture of these ledgers.
-pub record IsCutOf (ids : List ℕ) (lines : List (List ℕ)) (assume : Assume) (text : List ℕ) : Type 0 where
+-- whether each ledger has a window of this number, if a window is asked for
+abbrev pub have_window : Option ℕ → List LedgerLine → Bool
+have_window None ledgers = true
+have_window (Some window) ledgers = list_all (has_window window) ledgers
+
+-- what is cut: the ledgers, or the window of this number of each
+abbrev pub cut_lines : Option ℕ → List LedgerLine → List LedgerLine
+cut_lines None ledgers = ledgers
+cut_lines (Some window) ledgers = map (window_of window) ledgers
+
+-- The lines are a whole inventory, which has a ledger of each id, and each ledger has such a window, if one is asked for. The
+-- text is the picture of these ledgers, or of their windows.
+pub record IsCutOf (ids : List ℕ) (lines : List (List ℕ)) (assume : Assume) (window : Option ℕ) (text : List ℕ)
+    : Type 0 where
   pub inventory : Inventory
   pub is_read : inventory_of lines ≡ Ok inventory
   pub is_whole : inventory.is_whole ≡ true
   pub has_ledgers : has_all ids (chosen_of ids lines) ≡ true
-  pub cut : IsSomeAnd inventory.head (λ head. IsCut head (chosen_of ids lines) assume text)
+  pub has_windows : have_window window (chosen_of ids lines) ≡ true
+  pub cut : IsSomeAnd inventory.head (λ head. IsCut head (cut_lines window (chosen_of ids lines)) assume text)

@@ -9,6 +9,7 @@ use Rattle.reh_cut.specs.declared.said.Assume.{Assume}
 use Rattle.reh_cut.specs.declared.said.Assume.TheVariants as kind
 use Rattle.reh_cut.specs.declared.said.Rules.{Rules}
 use Rattle.reh_cut.specs.declared.said.Striping.{Striping}
+use Rattle.reh_cut.specs.Ranges.{is_within}
 use Rattle.reh_cut.specs.Said.{is_sure, shown}
 use Rattle.reh_inventory.specs.declared.contents.Content.{Content}
 use Rattle.reh_inventory.specs.declared.heads.Bookie.{Bookie}
@@ -148,8 +149,8 @@ striping_of line f name = record {
 abbrev pub holding_of : List Holding → ℕ → ℕ → Option Holding
 holding_of holdings bookie ledger = find (λ h. (h.bookie == bookie) && (h.ledger == ledger)) holdings
 
-abbrev pub is_within : ℕ → ℕ × ℕ → Bool
-is_within entry range = nat_le range.0 entry && nat_le entry range.1
+abbrev pub ranges_in : Option Holding → List (ℕ × ℕ)
+ranges_in holding = option_map_or (λ h. h.ranges) holding []
 
 abbrev pub is_below : ℕ → ℕ × ℕ → Bool
 is_below bound range = nat_lt range.1 bound

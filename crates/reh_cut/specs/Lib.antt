@@ -1,4 +1,5 @@
 pub mod Said
+pub mod Ranges
 pub mod Cuts
 pub mod Chosen
 pub mod Faults

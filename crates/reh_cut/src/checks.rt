@@ -1,8 +1,10 @@
 // Whether a picture shows ledgers of an inventory as their lines do.
-ghost use Rattle.std.specs.Prelude.{◌≡◌, ◌-◌, ◌<◌, length, option_copied, slice_get, unwrap_or};
+ghost use Rattle.std.specs.Prelude.{◌≡◌, ◌-◌, ◌<◌, true, length, option_copied, slice_get, unwrap_or};
 ghost use Rattle.std.specs.List.{list_all, list_any, range_with_len};
 ghost use Rattle.reh_cut.specs.Cuts as model;
+ghost use Rattle.reh_cut.specs.Ranges.{AreInOrder};
 
+use crate::ranges::{are_around, are_in_order};
 use crate::said::{Assume, Rules, Striping, is_sure, shown};
 use reh_cluster::{Ledger, Names};
 use reh_inventory::{Bookie, Content, Entries, Fragment, Head, LedgerLine, LedgerState, Name};
@@ -271,15 +273,6 @@ fn holding_of(holdings: &[Holding], bookie: BookieIx, ledger: u64) -> Option<&Ho
         && holding.ledger() == LedgerId(ledger))
 }
 
-/// Whether one of the ranges has the entry.
-fn are_around(ranges: &[(u32, u32)], entry: u64) -> bool
-    ensures { result ≡ list_any (model.is_within entry) ranges.now }
-{
-    ranges
-        .iter()
-        .any(|range| range.0 as u64 <= entry && entry <= range.1 as u64)
-}
-
 /// Whether each of the ranges ends below the bound.
 fn are_below(ranges: &[(u32, u32)], bound: u64) -> bool
     ensures { result ≡ list_all (model.is_below bound) ranges.now }
@@ -287,12 +280,23 @@ fn are_below(ranges: &[(u32, u32)], bound: u64) -> bool
     ranges.iter().all(|range| (range.1 as u64) < bound)
 }
 
+/// Whether the ranges that are listed are in order.
+fn is_in_order(holding: Option<&Holding>) -> bool
+    ensures { result ≡ true → AreInOrder (model.ranges_in (option_copied holding.entry)) }
+{
+    match holding {
+        Some(holding) => are_in_order(holding.ranges()),
+        None => false,
+    }
+}
+
 /// Whether the entry is listed.
-fn is_held(holding: Option<&Holding>, entry: u64) -> bool
+fn is_held(holding: Option<&Holding>, in_order: bool, entry: u64) -> bool
+    requires { in_order ≡ true → AreInOrder (model.ranges_in (option_copied holding.entry)) }
     ensures { result ≡ model.is_held (option_copied holding.entry) entry }
 {
     match holding {
-        Some(holding) => are_around(holding.ranges(), entry),
+        Some(holding) => are_around(holding.ranges(), in_order, entry),
         None => false,
     }
 }
@@ -313,13 +317,15 @@ fn shows_entry(
     striping: &Striping,
     content: Option<&Content>,
     holding: Option<&Holding>,
+    in_order: bool,
     entry: u64,
 ) -> bool
+    requires { in_order ≡ true → AreInOrder (model.ranges_in (option_copied holding.entry)) }
     ensures { result
         ≡ model.shows_entry rules striping.now (option_copied content.entry) (option_copied holding.entry) entry }
 {
     let is_shown = match shown(rules, striping, content, entry) {
-        Some(holds) => is_held(holding, entry) == holds,
+        Some(holds) => is_held(holding, in_order, entry) == holds,
         None => false,
     };
     is_shown && (is_marked(holding) || is_sure(striping, content, entry))
@@ -338,7 +344,8 @@ fn show_entries(
         (model.shows_entry rules striping.now (option_copied content.entry) (option_copied holding.entry))
         (range_with_len first (end - first)) }
 {
-    (first..end).all(|entry| shows_entry(rules, striping, content, holding, entry))
+    let in_order = is_in_order(holding);
+    (first..end).all(|entry| shows_entry(rules, striping, content, holding, in_order, entry))
 }
 
 /// Whether it does so of the entries of the fragment of this number.

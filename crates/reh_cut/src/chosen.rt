@@ -3,9 +3,9 @@ ghost use Rattle.std.specs.Prelude.{◌≡◌, ◌++◌, ◌∷◌, [], ℕ, Lis
 ghost use Rattle.std.specs.List.{list_any};
 ghost use Rattle.reh_cut.specs.Chosen as model;
 
-use crate::cuts::cut;
 use crate::faults::CutFault;
 use crate::said::Assume;
+use crate::windows::cut_lines;
 use reh_inventory::{Inventory, InventoryFault, LedgerLine};
 use std::alloc::Global;
 
@@ -76,10 +76,15 @@ impl ChosenLedgers {
         missing.copied().unwrap_or(0)
     }
 
-    /// The picture of these ledgers, once all lines came; `cut` says which that is.
-    pub fn cut(&self, alloc: Global, assume: Assume) -> Result<String, CutFault>
+    /// The picture of these ledgers, or of the window of this number of each, once all lines came; `cut` says which that is.
+    pub fn cut(
+        &self,
+        alloc: Global,
+        assume: Assume,
+        window: Option<u64>,
+    ) -> Result<String, CutFault>
         ensures { IfOk result (λ text. (ids : List ℕ) (lines : List (List ℕ)) → model.IsChosen ids lines self.now
-            → model.IsCutOf ids lines assume (string_bytes text)) }
+            → model.IsCutOf ids lines assume window (string_bytes text)) }
     {
         let Some(head) = self.inventory.head() else {
             return Err(CutFault::NotWhole);
@@ -90,6 +95,6 @@ impl ChosenLedgers {
         if !self.has_all() {
             return Err(CutFault::NoLedger(self.first_missing()));
         }
-        cut(alloc, head, &self.ledgers, assume)
+        cut_lines(alloc, head, &self.ledgers, assume, window)
     }
 }

@@ -5,7 +5,7 @@ ghost use Rattle.reh_picture.specs.Listings.{Lists};
 ghost use Rattle.reh_picture.specs.Pictures.{picture_of};
 
 use crate::checks::{bound_of, first_unknown, refills, shows_bookies, shows_ledgers};
-use crate::faults::{CutFault, no_picture};
+use crate::faults::{CutFault, WayOut, no_picture};
 use crate::names::names_of;
 use crate::said::Assume;
 use crate::texts::picture_text;
@@ -13,6 +13,7 @@ use reh_cluster::State;
 use reh_inventory::{Head, LedgerLine, Name};
 use reh_picture::{Listed, PictureFault, list_picture, read_picture};
 use reh_types::ENTRY_END;
+use reh_window::width_of;
 use std::alloc::Global;
 
 /// The picture of these ledgers: their bookies, and then others of the first line, up to as many as a picture may have, those
@@ -103,7 +104,7 @@ fn check_line(
 ) -> Result<(), CutFault> {
     let bound = bound_of(line);
     if bound > ENTRY_END {
-        return Err(CutFault::TooManyEntries(line.id, bound - 1));
+        return Err(CutFault::TooManyEntries(line.id, bound - 1, WayOut(width_of(line))));
     }
     if refills(head, line) {
         return Err(CutFault::HoldsThoughEmpty(line.id));

@@ -2,8 +2,28 @@
 use reh_inventory::Name;
 use reh_picture::{LocatedFault, PictureFault};
 use reh_types::{MAX_BOOKIES, MAX_ENTRY_ID};
+use reh_window::WindowFault;
 use std::alloc::{AllocError, AllocFailed};
 use std::fmt;
+
+/// How ledgers of more entries are cut: so many entries at a time.
+#[derive(Clone, Copy, Debug)]
+pub struct WayOut(pub u64);
+
+impl fmt::Display for WayOut {
+    ghost use Rattle.std.specs.Prelude.{Some};
+    ghost use Rattle.reh_cut.specs.Faults.{way_text};
+
+    ghost output = { λ way. Some (way_text way) };
+
+    fn fmt<W: fmt::Write>(&self, f: &mut fmt::Formatter<W>) -> fmt::Result {
+        let width = self.0;
+        write!(
+            f,
+            ", and a picture up to {MAX_ENTRY_ID}: --window K cuts {width} of them"
+        )
+    }
+}
 
 /// Why there is no picture of these ledgers.
 #[derive(Debug, Drop)]
@@ -15,7 +35,12 @@ pub enum CutFault {
     /// They name more bookies than a picture may have: so many.
     TooManyBookies(usize),
     /// The ledger of this id has entries up to this one, past those that a picture may have.
-    TooManyEntries(u64, u64),
+    TooManyEntries(u64, u64, WayOut),
+    /// The last window of the ledger of this id has this number, which is below the one that is asked for.
+    NoWindow(u64, u64),
+    /// The ledger of this id isn't closed, and the window has entries of its last fragment, but it isn't the last window,
+    /// which has this number.
+    OpenWindow(u64, u64),
     /// A bookie that came back without its disk holds entries of the ledger of this id.
     HoldsThoughEmpty(u64),
     /// Nobody says what this bookie holds of the ledger of this id.
@@ -44,9 +69,13 @@ impl fmt::Display for CutFault {
                 f,
                 "these ledgers name {bookies} bookies, and a picture has at most {MAX_BOOKIES}: cut fewer ledgers"
             ),
-            CutFault::TooManyEntries(id, last) => write!(
+            CutFault::TooManyEntries(id, last, way) => {
+                write!(f, "ledger {id} has entries up to {last}{way}")
+            }
+            CutFault::NoWindow(id, last) => write!(f, "the last window of ledger {id} is {last}"),
+            CutFault::OpenWindow(id, last) => write!(
                 f,
-                "ledger {id} has entries up to {last}, and a picture up to {MAX_ENTRY_ID}"
+                "ledger {id} isn't closed: of its windows with entries of the last fragment only {last} has a picture"
             ),
             CutFault::HoldsThoughEmpty(id) => write!(
                 f,
@@ -95,5 +124,15 @@ pub(crate) fn no_picture(fault: LocatedFault) -> CutFault {
     match fault.fault {
         PictureFault::NoMemory => CutFault::NoMemory,
         _ => CutFault::NoPicture(fault),
+    }
+}
+
+/// That the ledger of this id has no such window. No line of an inventory is unfit.
+pub(crate) fn no_window(id: u64, fault: WindowFault) -> CutFault {
+    match fault {
+        WindowFault::PastLast(last) => CutFault::NoWindow(id, last),
+        WindowFault::Unsettled(_, last) => CutFault::OpenWindow(id, last),
+        WindowFault::Unfit => CutFault::Differs,
+        WindowFault::NoMemory => CutFault::NoMemory,
     }
 }

@@ -142,7 +142,7 @@ impl Model for ContentList {
 
 impl ContentList {
     /// These contents.
-    pub(crate) fn of(items: Vec<Content>) -> ContentList
+    pub fn of(items: Vec<Content>) -> ContentList
         ensures { result ≡ items.items }
     {
         ContentList { items }

@@ -105,6 +105,7 @@ pub record IsCut (given : ArgMatches) (words : CutWords) : Type 0 where
   pub ledgers : words.ledgers.items ≡ map id_of (words_of given (codes "ledgers"))
   pub held : IsFlag given (codes "assume-held") words.assume_held
   pub empty : IsFlag given (codes "assume-empty") words.assume_empty
+  pub has_window : IsNumber given (codes "window") words.window
 
 -- what one of these commands asks
 abbrev pub IsAsked : List ℕ → ArgMatches → Task → Type 0

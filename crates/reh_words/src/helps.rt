@@ -174,6 +174,7 @@ pub(crate) const CENSUS: &str = after!(
 /// Of `cut`.
 pub(crate) const CUT: &str = after!(
     "A picture has at most 64 bookies and 512 ledgers, and entries up to 65535.
+Of a larger ledger --window cuts a part.
 
 ",
     uses: [

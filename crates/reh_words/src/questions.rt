@@ -90,6 +90,7 @@ fn asked_cut<'a>(alloc: Global, given: &ArgMatches<'a>) -> Result<Option<CutWord
             ledgers,
             assume_held: is_given(given, "assume-held"),
             assume_empty: is_given(given, "assume-empty"),
+            window: number_of(given, "window"),
         })),
         _ => Ok(None),
     }

@@ -156,14 +156,16 @@ pub struct CensusWords<'a> {
     pub as_json: bool,
 }
 
-/// What is asked: the picture of the ledgers of these ids, of the inventory in a file. What nobody tells of a bookie's entries
-/// is assumed to be held, or not to be held, or, where neither is given, refused.
+/// What is asked: the picture of the ledgers of these ids, of the inventory in a file, or of one window of each. What nobody
+/// tells of a bookie's entries is assumed to be held, or not to be held, or, where neither is given, refused.
 #[derive(Drop)]
 pub struct CutWords<'a> {
     pub inventory: &'a str,
     pub ledgers: Vec<u64>,
     pub assume_held: bool,
     pub assume_empty: bool,
+    /// The number of the windows, if not all entries are asked for.
+    pub window: Option<u64>,
 }
 
 /// What is asked: a plan for a picture without these bookies, of which the allowed ones take the places, or any; or only
@@ -326,7 +328,8 @@ fn all_ways(alloc: Global) -> Result<String, AllocError> {
 
 /// The command line: no word, `run PICTURE SCRIPT --workers N --picture-out FILE`, `talk PICTURE`, `check PICTURE SCRIPT`,
 /// `drill PICTURE SCRIPT..`, `ok-to-stop --lose BOOKIE,.. FILE..`, `waves FILE..`, `risk FILE..`, `census FILE..`,
-/// `cut --ledgers ID,.. INVENTORY`, `plan --lose BOOKIE,.. --to BOOKIE,.. --expect --summary PICTURE`, or `help TOPIC`.
+/// `cut --ledgers ID,.. --window K INVENTORY`, `plan --lose BOOKIE,.. --to BOOKIE,.. --expect --summary PICTURE`, or
+/// `help TOPIC`.
 fn command<'a>(alloc: Global, ways: &'a str) -> Result<Command<'a>, Error> {
     let command = Command::new(alloc, "rehearse")
         .version(VERSION)
@@ -500,6 +503,11 @@ fn cut_command<'a>(alloc: Global) -> Result<Command<'a>, Error> {
     let empty = flag_arg(alloc, "assume-empty")
         .help("What nobody tells of a member's entries is assumed not to be held")
         .conflicts_with("assume-held")?;
+    let window = Arg::new(alloc, "window")
+        .long("window")
+        .value_name("K")
+        .value_parser(value_parser!(u64))
+        .help("Of each ledger only window K, from 0 on, of at most 65536 entries");
     let inventory = Arg::new(alloc, "INVENTORY")
         .required(true)
         .help("A file with the inventory");
@@ -509,6 +517,7 @@ fn cut_command<'a>(alloc: Global) -> Result<Command<'a>, Error> {
         .arg(ledgers)?
         .arg(held)?
         .arg(empty)?
+        .arg(window)?
         .arg(inventory)?;
     Ok(command)
 }

@@ -16,7 +16,7 @@ pub record IsChoosing (ids : List ℕ) (chosen : ChosenLedgers) : Type 0 where
 abbrev pub assume_of : CutWords → Assume
 assume_of words = if words.assume_held then Held else (if words.assume_empty then Empty else Nothing)
 
--- the text is the picture of the ledgers that are asked for, of some lines
+-- the text is the picture of the ledgers that are asked for, or of the windows of them, of some lines
 pub record IsCutFor (words : CutWords) (text : String Global) : Type 0 where
   pub lines : List (List ℕ)
-  pub cut : IsCutOf words.ledgers.items lines (assume_of words) (string_bytes text)
+  pub cut : IsCutOf words.ledgers.items lines (assume_of words) words.window (string_bytes text)

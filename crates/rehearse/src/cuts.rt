@@ -27,7 +27,7 @@ fn cut_of(rt: &HostRuntime, words: &CutWords<'_>) -> Result<String, RunFault>
     let path = words.inventory;
     let mut reader = reader_of(alloc, path, open_file(rt, path)?)?;
     let chosen = choose_lines(alloc, path, &mut reader, &words.ledgers)?;
-    match chosen.cut(alloc, assumed(words)) {
+    match chosen.cut(alloc, assumed(words), words.window) {
         Ok(text) => Ok(text),
         Err(fault) => Err(uncut(alloc, path, chosen.inventory().ids(), &fault)),
     }

@@ -15,4 +15,5 @@ returns-in-Some-Some c =
           ∙ ap (map id_of) c.in_ok-words.ensures;
       held = c.is_given.ensures;
       empty = c.is_given-in-Some-Some.ensures;
+      has_window = c.number_of.ensures;
     }

@@ -1,0 +1,10 @@
+-- The windows of the lines that are passed.
+use Rattle.std.proofs.Common.{◌≡◌, true, map, take}
+use Rattle.std.specs.List.{list_all}
+use Rattle.reh_window.specs.Windows.{has_window, window_of}
+use Rattle.reh_cut.proofs.windows.windows_in.Given as goal
+
+abbrev pub invariant-loop-line : goal.invariant-loop-line
+invariant-loop-line l =
+    (list_all (has_window l.window) (take l.line-index l.lines) ≡ true)
+    × (l.made.items ≡ map (window_of l.window) (take l.line-index l.lines))

@@ -1,0 +1,3 @@
+pub mod StripingLaws
+pub mod ClipLaws
+pub mod MemberLaws
