@@ -292,7 +292,7 @@ fn is_in_order(holding: Option<&Holding>) -> bool
 
 /// Whether the entry is listed.
 fn is_held(holding: Option<&Holding>, in_order: bool, entry: u64) -> bool
-    requires { in_order ≡ true → AreInOrder (model.ranges_in (option_copied holding.entry)) }
+    requires { in_order ≡ true → AreInOrder (model.ranges_in (option_copied holding)) }
     ensures { result ≡ model.is_held (option_copied holding.entry) entry }
 {
     match holding {
@@ -320,7 +320,7 @@ fn shows_entry(
     in_order: bool,
     entry: u64,
 ) -> bool
-    requires { in_order ≡ true → AreInOrder (model.ranges_in (option_copied holding.entry)) }
+    requires { in_order ≡ true → AreInOrder (model.ranges_in (option_copied holding)) }
     ensures { result
         ≡ model.shows_entry rules striping.now (option_copied content.entry) (option_copied holding.entry) entry }
 {

@@ -1,6 +1,6 @@
 -- The census of an inventory's lines.
-use Rattle.std.proofs.Common.{◌≡◌, ℕ, Bool, true, false, List, [], ◌∷◌, map, refl, sym, ap, ◌∙◌, subst, if◌then◌else◌}
-use Rattle.std.specs.Prelude.{Option, None, Some, Ok, Result, option_map, string_bytes}
+use Rattle.std.proofs.Common.{◌≡◌, ℕ, Bool, true, false, List, [], map, refl, sym, ap, ◌∙◌, subst, if◌then◌else◌}
+use Rattle.std.specs.Prelude.{Option, None, Some, Ok, option_map, string_bytes}
 use Rattle.std.specs.List.{list_all}
 use Rattle.std.specs.Option.{IsSomeAnd}
 use Rattle.reh_census.specs.Counting.{Census}
@@ -9,7 +9,6 @@ use Rattle.reh_census.specs.Order.{IsInOrder}
 use Rattle.reh_census_file.specs.Values.{named_by}
 use Rattle.reh_inventory.specs.declared.heads.Head.{Head}
 use Rattle.reh_inventory.specs.declared.ledgers.LedgerLine.{LedgerLine}
-use Rattle.reh_inventory.specs.declared.lines.Line.{Line}
 use Rattle.reh_inventory.specs.declared.lines.Line.TheVariants as line
 use Rattle.reh_inventory.specs.Inventories.{added, added_said, no_lines}
 use Rattle.reh_inventory.specs.Lines.{located_line_of}
@@ -21,8 +20,6 @@ use Rattle.reh_inventory_census.specs.Counters.{CountsLines, holders_of}
 use Rattle.reh_inventory_census.specs.Counting.{CountsLedgers, counts_in}
 use Rattle.reh_inventory_census.specs.Numbers.{members_named}
 use Rattle.reh_inventory_census.specs.Parts.{parts_in}
-use Rattle.reh_inventory_fields.specs.declared.faults.Fault.{Fault}
-use Rattle.reh_inventory_fields.specs.declared.places.Place.{Place}
 
 no-ledger : (strict : Bool) → ◌≡◌ {A = ℕ} 0 (if strict then 0 else 0)
 no-ledger true = refl

@@ -1,8 +1,8 @@
 -- The parts of a ledger that isn't closed.
 use Rattle.std.proofs.Common.{◌≡◌, ◌<◌, ◌≤◌, ◌+◌, ◌-◌, ◌∙◌, ℕ, suc, Bool, true, false, ◌&&◌, nat_lt, List, [], ◌∷◌, length, take, drop, get_or}
-use Rattle.std.proofs.Common.{Option, None, Some, unwrap_or, refl, sym, ap, arith, true≢false, if◌then◌else◌}
+use Rattle.std.proofs.Common.{Option, None, Some, unwrap_or, sym, ap, arith, true≢false, if◌then◌else◌}
 use Rattle.std.specs.Prelude.{slice_get}
-use Rattle.std.specs.Option.{is_none, is_some, option_map_or}
+use Rattle.std.specs.Option.{is_some, option_map_or}
 use Rattle.std.proofs.Math.ListN.{drop_of_length-le}
 use Rattle.std.proofs.Math.Seq.{drop-cons}
 use Rattle.std.proofs.lemmas.Bool.Decides.{nat_tests}
@@ -10,7 +10,6 @@ use Rattle.std.proofs.lemmas.Option.{slice_get-get_or}
 use Rattle.reh_inventory.specs.declared.ledgers.Fragment.{Fragment}
 use Rattle.reh_inventory.specs.declared.ledgers.LedgerLine.{LedgerLine}
 use Rattle.reh_inventory.specs.declared.ledgers.LedgerState.TheVariants.{Closed}
-use Rattle.reh_inventory_census.specs.Counted.{end_of}
 use Rattle.reh_inventory_census.specs.Parts.{has_parts, last_part, parts_of, stopped_part}
 
 and_second : (a b : Bool) → (a && b) ≡ true → b ≡ true

@@ -1,5 +1,5 @@
 -- The bookies of an inventory's first line, as a census has them.
-use Rattle.std.specs.Prelude.{ℕ, Bool, false, List, [], ◌∷◌, Option, None, Some, fold, map, position, slice_get}
+use Rattle.std.specs.Prelude.{ℕ, false, List, [], Option, None, fold, position, slice_get}
 use Rattle.std.specs.Option.{option_and_then, option_map_or}
 use Rattle.std.specs.Str.{bytes_eq}
 use Rattle.reh_census.specs.declared.bookies.Bookie.{Bookie as CountedBookie}

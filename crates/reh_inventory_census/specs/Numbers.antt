@@ -1,5 +1,5 @@
 -- The numbers of bookies, and of the members of ensembles: their places among the names.
-use Rattle.std.specs.Prelude.{ℕ, Bool, List, fold, position, Result, Ok, Err}
+use Rattle.std.specs.Prelude.{ℕ, Bool, List, fold, position}
 use Rattle.std.specs.List.{list_all}
 use Rattle.std.specs.Option.{is_some}
 use Rattle.std.specs.Str.{bytes_eq}
@@ -10,8 +10,6 @@ use Rattle.reh_inventory.specs.declared.ledgers.Fragment.{Fragment}
 use Rattle.reh_inventory.specs.declared.ledgers.LedgerLine.{LedgerLine}
 use Rattle.reh_inventory.specs.declared.lines.Line.{Line}
 use Rattle.reh_inventory.specs.declared.lines.Line.TheVariants as line
-use Rattle.reh_inventory_fields.specs.declared.faults.Fault.{Fault}
-use Rattle.reh_inventory_fields.specs.declared.places.Place.{Place}
 
 abbrev pub with_bookie : List (List ℕ) → Bookie → List (List ℕ)
 with_bookie names bookie = with_name names bookie.name
@@ -33,10 +31,6 @@ with_line names (line.Head head) = with_bookies names head
 with_line names (line.Ledger ledger) = with_members names ledger
 with_line names (line.Unread id) = names
 with_line names (line.End ledgers) = names
-
-abbrev pub with_said : List (List ℕ) → Result Line (Fault × Place) → List (List ℕ)
-with_said names (Ok said) = with_line names said
-with_said names (Err found) = names
 
 -- Bookies that have numbers
 

@@ -1,7 +1,7 @@
 // The census of an inventory, line after line.
 ghost use Rattle.std.specs.Prelude.{◌≡◌, ◌++◌, ◌∷◌, [], ℕ, Bool, List, Ok, false, IfOk, IfSome, OnOk, option_map, string_bytes};
 ghost use Rattle.std.specs.List.{list_any};
-ghost use Rattle.reh_inventory.specs.Inventories.{ledger_in};
+ghost use Rattle.reh_inventory.specs.Inventories.{ledger_of};
 ghost use Rattle.reh_inventory.specs.Lines.{located_line_of};
 ghost use Rattle.reh_inventory_census.specs.Empties.{holds_though_empty};
 ghost use Rattle.reh_inventory_census.specs.Census as model;
@@ -95,16 +95,17 @@ impl InventoryCount {
         })
     }
 
-    /// Adds the next line. After an `Err` a part of it may be counted.
-    pub fn add(&mut self, alloc: Global, line: &[u8]) -> Result<(), CountFault>
-        ensures empties { OnOk result (IfSome (ledger_in line.now) (λ ledger.
+    /// Adds the next line, which was parsed. After an `Err` a part of it may be counted.
+    pub fn add_line(&mut self, alloc: Global, line: Line) -> Result<(), CountFault>
+        ensures empties { OnOk result (IfSome (ledger_of line) (λ ledger.
             list_any (holds_though_empty self.old.counter.names self.old.counter.bookies) ledger.contents
             ≡ false)) }
         ensures counted { OnOk result ((names : List (List ℕ)) (strict : Bool) (first : List ℕ) (lines : List (List ℕ))
             → model.IsCount names strict first lines self.old
-            → model.IsCount names strict first (lines ++ line.now ∷ []) self.new) }
+            → (bytes : List ℕ) → located_line_of bytes ≡ Ok line
+            → model.IsCount names strict first (lines ++ bytes ∷ []) self.new) }
     {
-        match self.inventory.add(alloc, line)? {
+        match self.inventory.add_line(line)? {
             Some(ledger) => {
                 self.counter.add(alloc, ledger)?;
                 Ok(())

@@ -16,4 +16,4 @@ pub use census::InventoryCount;
 pub use counted::{end_of, end_told, last_first, stop_of};
 pub use faults::CountFault;
 pub use ledgers::InventoryLedgers;
-pub use numbers::{in_order, number_line};
+pub use numbers::{in_order, line_fault, number_line};

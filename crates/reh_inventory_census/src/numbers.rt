@@ -2,14 +2,11 @@
 ghost use Rattle.std.specs.Prelude.{◌≡◌, IfErr, OnOk, fold, length};
 ghost use Rattle.reh_census_file.specs.Names.{with_name};
 ghost use Rattle.reh_census_file.specs.declared.lists.TheConstants.{MAX_NAMES};
-ghost use Rattle.reh_inventory.specs.Lines.{located_line_of};
 ghost use Rattle.reh_inventory_census.specs.Numbers as model;
 
 use crate::faults::CountFault;
 use reh_census_file::{MAX_NAMES, NameList};
-use reh_inventory::{
-    Bookie, Fault, Fragment, Head, InventoryFault, LedgerLine, Line, LineFault, read_line,
-};
+use reh_inventory::{Bookie, Fault, Fragment, Head, InventoryFault, LedgerLine, Line, LineFault};
 use reh_inventory_fields::Name;
 use std::alloc::{AllocError, Global};
 
@@ -125,11 +122,10 @@ fn number_members(names: &mut NameList, line: &LedgerLine) -> Result<(), NumberF
 
 /// Gives each bookie that a line names, as a bookie or as a member of an ensemble, the next number, if it has none. After an
 /// `Err` some may have theirs.
-pub fn number_line(alloc: Global, names: &mut NameList, bytes: &[u8]) -> Result<(), CountFault>
-    ensures { OnOk result (names.new ≡ model.with_said names.old (located_line_of bytes.now)) }
+pub fn number_line(names: &mut NameList, line: &Line) -> Result<(), CountFault>
+    ensures { OnOk result (names.new ≡ model.with_line names.old line.now) }
 {
-    let line = read_line(alloc, bytes).map_err(line_fault)?;
-    match &line {
+    match line {
         Line::Head(head) => number_bookies(names, head)?,
         Line::Ledger(ledger) => number_members(names, ledger)?,
         Line::Unread(_) | Line::End(_) => {}
@@ -138,7 +134,7 @@ pub fn number_line(alloc: Global, names: &mut NameList, bytes: &[u8]) -> Result<
 }
 
 /// A fault of a line by itself, or that there is no memory to read it.
-pub(crate) fn line_fault(located: LineFault) -> CountFault {
+pub fn line_fault(located: LineFault) -> CountFault {
     match located.fault {
         Fault::NoMemory => CountFault::NoMemory,
         _ => CountFault::Line(InventoryFault::Line(located)),

@@ -1,9 +1,22 @@
 -- What was counted of the lines of an inventory.
-use Rattle.std.specs.Prelude.{◌≡◌, ℕ, Bool, List, ◌∷◌, Ok}
+use Rattle.std.specs.Prelude.{◌≡◌, ℕ, Bool, List, ◌∷◌, Ok, IfOk}
+use Rattle.std.specs.Option.{IsSomeAnd}
+use Rattle.reh_inventory.specs.declared.lines.Line.{Line}
 use Rattle.reh_inventory.specs.Inventories.{Inventory, inventory_of}
+use Rattle.reh_inventory.specs.Lines.{located_line_of}
 use Rattle.reh_inventory_census.specs.Census.{IsCensusOf, IsCount}
 use Rattle.reh_inventory_census.specs.declared.census.InventoryCount.{InventoryCount}
+use Rattle.rehearse.specs.declared.batches.ParsedLine.{ParsedLine}
 use Rattle.rehearse.specs.declared.inventories.CountedInventory.{CountedInventory}
+
+-- the line was parsed: what it says is there, or that it has a fault
+abbrev pub IsParsed : ParsedLine → Type 0
+IsParsed p = IsSomeAnd p.line (λ parsed. IfOk parsed (λ line. located_line_of p.bytes.items ≡ Ok line))
+
+-- some bytes say this
+pub record IsLine (line : Line) : Type 0 where
+  pub bytes : List ℕ
+  pub says : located_line_of bytes ≡ Ok line
 
 -- some first line was counted, and some lines after it
 pub record IsCounting (strict : Bool) (count : InventoryCount) : Type 0 where

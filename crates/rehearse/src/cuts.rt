@@ -6,17 +6,28 @@ use crate::faults::RunFault;
 use crate::files::{open_file, write_out};
 use crate::inputs::unfit;
 use crate::inventories::{read_line, reader_of, refused};
+use crate::looks::Looks;
 use reh_cut::{Assume, ChosenLedgers, CutFault};
 use reh_near::{Near, near_to};
 use reh_words::CutWords;
 use std::alloc::{AllocError, Global};
 use std::io::{BufReader, Read};
 
-/// Says to standard output what the picture is.
-pub(crate) fn cut_over(rt: &HostRuntime, words: &CutWords<'_>) -> Result<(), RunFault> {
+/// Says to standard output what the picture is, and to standard error if it shows only a part of each ledger.
+pub(crate) fn cut_over(
+    rt: &HostRuntime,
+    looks: Looks,
+    words: &CutWords<'_>,
+) -> Result<(), RunFault> {
     let mut text = cut_of(rt, words)?;
     text.push('\n')?;
-    write_out(rt, text.as_bytes())
+    write_out(rt, text.as_bytes())?;
+    if words.window.is_some() && !looks.is_quiet {
+        let _ = eprintln!(rt;
+            "note: this is a part of each ledger: ask of the inventory whether bookies may be stopped"
+        );
+    }
+    Ok(())
 }
 
 /// The picture, as text.

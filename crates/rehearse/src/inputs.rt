@@ -10,7 +10,7 @@ ghost use Rattle.rehearse.specs.Inventories.{IsOfLines};
 
 use crate::faults::RunFault;
 use crate::files::{InputBytes, read_input_file, write_out};
-use crate::inventories::{CountedInventory, count_bytes, count_inventory};
+use crate::inventories::{CountedInventory, Source, count_bytes, count_inventory};
 use crate::looks::Looks;
 use crate::progress::{Progress, Teller};
 use reh_census_file::{CensusFault, NamedCensus, census_text};
@@ -206,19 +206,29 @@ fn read_files<R: thread::Threads + Wait + Sync>(
 {
     let files = inputs.files.as_slice();
     let mut slots = slots_of(rt.alloc(), files)?;
+    let workers = inputs.crew.workers;
+    let each = workers_for_each(workers, files.len());
     thread::for_each_mut(
         threads,
         &mut slots,
-        inputs.crew.workers,
+        workers,
         &|number, slot: &mut Slot|
             requires { number < length files.now }
             ensures { model.IsInSlot slot.exit.now }
         {
-            *slot = Some(read_one(rt, files[number], inputs.strict));
+            *slot = Some(read_one(rt, threads, each, files[number], inputs.strict));
             progress.count();
         },
     );
     read_of(rt.alloc(), slots)
+}
+
+/// How many workers parse the lines of each file, where so many of them read files.
+fn workers_for_each(workers: usize, files: usize) -> usize {
+    if files == 0 || workers <= files {
+        return 1;
+    }
+    workers / files
 }
 
 /// A slot for each file.
@@ -263,19 +273,30 @@ fn push_read(read: &mut Vec<FileInput>, one: FileInput) -> Result<(), AllocError
     Ok(())
 }
 
-/// What a file shows.
-fn read_one(rt: &HostRuntime, path: &str, strict: bool) -> Result<FileInput, RunFault>
+/// What a file shows. The lines of an inventory are parsed by so many workers.
+fn read_one<R: thread::Threads + Sync>(
+    rt: &HostRuntime,
+    threads: &R,
+    workers: usize,
+    path: &str,
+    strict: bool,
+) -> Result<FileInput, RunFault>
     ensures { IfOk result model.IsOfFile }
 {
     let alloc = rt.alloc();
+    let source = Source {
+        alloc,
+        path,
+        workers,
+    };
     match read_input_file(rt, path)? {
         InputBytes::Whole(bytes) => read_whole(alloc, path, &bytes),
         InputBytes::Inventory(file) => {
-            let counted = count_inventory(alloc, path, file, strict)?;
+            let counted = count_inventory(threads, source, file, strict)?;
             Ok(of_inventory(counted, FileKind::Inventory))
         }
         InputBytes::Stream(bytes) => {
-            let counted = count_bytes(alloc, path, &bytes, strict)?;
+            let counted = count_bytes(threads, source, &bytes, strict)?;
             Ok(of_inventory(counted, FileKind::Stream))
         }
     }

@@ -1,7 +1,8 @@
 // Inventories, read line by line: one that is checked, and one whose ledgers are counted.
-ghost use Rattle.std.specs.Prelude.{Bool, IfOk, OnOk};
+ghost use Rattle.std.specs.Prelude.{All, Bool, IfOk, OnOk};
 ghost use Rattle.rehearse.specs.Inventories as model;
 
+use crate::batches::{Batch, ParsedLine, next_lines, parse_lines, parsed};
 use crate::faults::RunFault;
 use crate::files::unread;
 use reh_census_file::{NameList, NamedCensus};
@@ -10,6 +11,7 @@ use reh_inventory_census::{CountFault, InventoryCount, in_order, number_line};
 use std::alloc::{AllocError, Global};
 use std::fs::File;
 use std::io::{BufRead, BufReader, Read, Seek};
+use std::thread;
 
 /// How an inventory begins.
 pub(crate) const INVENTORY_BEGINS: &str = "{\"inventory\"";
@@ -118,42 +120,47 @@ pub(crate) struct CountedInventory {
     pub(crate) ids: Vec<u64>,
 }
 
+/// Which inventory is counted, and by how many workers its lines are parsed.
+#[derive(Clone, Copy)]
+pub(crate) struct Source<'a> {
+    pub(crate) alloc: Global,
+    pub(crate) path: &'a str,
+    pub(crate) workers: usize,
+}
+
 /// The census of the inventory in a file that is at its beginning. Its lines are read twice: first the names of all bookies,
 /// so that each has its number, in their order, before any ledger is counted.
-pub(crate) fn count_inventory(
-    alloc: Global,
-    path: &str,
+pub(crate) fn count_inventory<T: thread::Threads + Sync>(
+    threads: &T,
+    source: Source<'_>,
     file: File,
     is_strict: bool,
 ) -> Result<CountedInventory, RunFault>
     ensures { IfOk result model.IsOfLines }
 {
+    let Source { alloc, path, .. } = source;
     let mut reader = reader_of(alloc, path, file)?;
-    let names = names_in(alloc, path, &mut reader)?;
+    let names = names_in(threads, source, &mut reader)?;
     let mut file = reader.into_inner();
     file.rewind()
         .map_err(|error| unread(alloc, "read", path, error))?;
     let mut reader = reader_of(alloc, path, file)?;
-    count_lines(alloc, path, &mut reader, names, is_strict)
+    count_lines(threads, source, &mut reader, names, is_strict)
 }
 
 /// The census of the inventory of these bytes.
-pub(crate) fn count_bytes(
-    alloc: Global,
-    path: &str,
+pub(crate) fn count_bytes<T: thread::Threads + Sync>(
+    threads: &T,
+    source: Source<'_>,
     bytes: &[u8],
     is_strict: bool,
 ) -> Result<CountedInventory, RunFault>
     ensures { IfOk result model.IsOfLines }
 {
-    let names = names_in(alloc, path, &mut reader_of(alloc, path, bytes)?)?;
-    count_lines(
-        alloc,
-        path,
-        &mut reader_of(alloc, path, bytes)?,
-        names,
-        is_strict,
-    )
+    let Source { alloc, path, .. } = source;
+    let names = names_in(threads, source, &mut reader_of(alloc, path, bytes)?)?;
+    let mut reader = reader_of(alloc, path, bytes)?;
+    count_lines(threads, source, &mut reader, names, is_strict)
 }
 
 /// A reader that reads ahead.
@@ -165,26 +172,66 @@ pub(crate) fn reader_of<R: Read + Drop>(
     BufReader::new(alloc, inner).map_err(|error| unread(alloc, "read", path, error))
 }
 
+/// The fault, if there is one.
+fn unless(fault: Option<RunFault>) -> Result<(), RunFault> {
+    match fault {
+        Some(fault) => Err(fault),
+        None => Ok(()),
+    }
+}
+
 /// The names of the bookies that an inventory has, in their order.
-fn names_in<R: Read + Drop>(
-    alloc: Global,
-    path: &str,
+fn names_in<R: Read + Drop, T: thread::Threads + Sync>(
+    threads: &T,
+    source: Source<'_>,
     reader: &mut BufReader<R>,
 ) -> Result<NameList, RunFault> {
+    let Source {
+        alloc,
+        path,
+        workers,
+    } = source;
     let mut names = NameList::new(alloc);
-    let mut line = Vec::new(alloc);
-    for number in 1..u64::MAX {
-        read_line(alloc, path, reader, &mut line)?;
-        if line.is_empty() {
+    let mut number = 1_u64;
+    for _batch in 0..u64::MAX {
+        let Batch { lines, fault } = next_lines(alloc, path, reader)?;
+        if lines.is_empty() && fault.is_none() {
             break;
         }
-        match number_line(alloc, &mut names, &line) {
-            Ok(()) => line.clear(),
-            Err(fault) => return Err(uncounted(alloc, path, number, &fault)),
-        }
+        let next = number.saturating_add(lines.len() as u64);
+        let lines = parse_lines(threads, alloc, workers, lines);
+        number_lines(alloc, path, number, &mut names, lines)?;
+        unless(fault)?;
+        number = next;
     }
     let ordered = in_order(alloc, &names)?;
     Ok(ordered)
+}
+
+/// Gives each bookie that these lines name a number, if it has none. The first line has this number.
+fn number_lines(
+    alloc: Global,
+    path: &str,
+    first: u64,
+    names: &mut NameList,
+    lines: Vec<ParsedLine>,
+) -> Result<(), RunFault>
+    requires { All model.IsParsed lines.items }
+{
+    let mut number = first;
+    for line in lines {
+        number_one(names, line).map_err(|fault| uncounted(alloc, path, number, &fault))?;
+        number = number.saturating_add(1);
+    }
+    Ok(())
+}
+
+/// The same of one line.
+fn number_one(names: &mut NameList, line: ParsedLine) -> Result<(), CountFault>
+    requires { model.IsParsed line }
+{
+    let line = parsed(line)?;
+    number_line(names, &line)
 }
 
 /// Begins to count, with an inventory's first line.
@@ -203,20 +250,50 @@ fn begin(
     }
 }
 
+/// Counts a line.
+fn count_line(alloc: Global, count: &mut InventoryCount, line: ParsedLine) -> Result<(), CountFault>
+    requires { model.IsParsed line }
+    ensures { OnOk result ((strict : Bool) → model.IsCounting strict count.old → model.IsCounting strict count.new) }
+{
+    let line = parsed(line)?;
+    count.add_line(alloc, line)?;
+    Ok(())
+}
+
 /// Counts the line of this number.
 fn add(
     alloc: Global,
     path: &str,
     number: u64,
     count: &mut InventoryCount,
-    line: &[u8],
+    line: ParsedLine,
 ) -> Result<(), RunFault>
+    requires { model.IsParsed line }
     ensures { OnOk result ((strict : Bool) → model.IsCounting strict count.old → model.IsCounting strict count.new) }
 {
-    match count.add(alloc, line) {
+    match count_line(alloc, count, line) {
         Ok(()) => Ok(()),
         Err(fault) => Err(uncounted(alloc, path, number, &fault)),
     }
+}
+
+/// Counts these lines, the first of which has this number.
+fn add_lines(
+    alloc: Global,
+    path: &str,
+    first: u64,
+    count: &mut InventoryCount,
+    lines: Vec<ParsedLine>,
+) -> Result<(), RunFault>
+    requires { All model.IsParsed lines.items }
+    ensures { OnOk result ((strict : Bool) → model.IsCounting strict count.old → model.IsCounting strict count.new) }
+{
+    let mut number = first;
+    for line in lines {
+        add(alloc, path, number, count, line)?;
+        number = number.saturating_add(1);
+    }
+    Ok(())
 }
 
 /// The census of what was counted, and the ids of its ledgers.
@@ -231,25 +308,34 @@ fn finish(alloc: Global, path: &str, count: InventoryCount) -> Result<CountedInv
 }
 
 /// The census of an inventory's lines, where bookies have the numbers of these names.
-fn count_lines<R: Read + Drop>(
-    alloc: Global,
-    path: &str,
+fn count_lines<R: Read + Drop, T: thread::Threads + Sync>(
+    threads: &T,
+    source: Source<'_>,
     reader: &mut BufReader<R>,
     names: NameList,
     is_strict: bool,
 ) -> Result<CountedInventory, RunFault>
     ensures { IfOk result model.IsOfLines }
 {
+    let Source {
+        alloc,
+        path,
+        workers,
+    } = source;
     let mut line = Vec::new(alloc);
     read_line(alloc, path, reader, &mut line)?;
     let mut count = begin(alloc, path, names, is_strict, &line)?;
-    for number in 2..u64::MAX {
-        line.clear();
-        read_line(alloc, path, reader, &mut line)?;
-        if line.is_empty() {
+    let mut number = 2_u64;
+    for _batch in 0..u64::MAX {
+        let Batch { lines, fault } = next_lines(alloc, path, reader)?;
+        if lines.is_empty() && fault.is_none() {
             break;
         }
-        add(alloc, path, number, &mut count, &line)?;
+        let next = number.saturating_add(lines.len() as u64);
+        let lines = parse_lines(threads, alloc, workers, lines);
+        add_lines(alloc, path, number, &mut count, lines)?;
+        unless(fault)?;
+        number = next;
     }
     let counted = finish(alloc, path, count)?;
     Ok(counted)

@@ -6,6 +6,7 @@
 ghost use Rattle.std.specs.Prelude.{◌≡◌, false};
 
 mod against;
+mod batches;
 mod checks;
 mod colors;
 mod cuts;
@@ -92,7 +93,7 @@ fn perform<R: Threads + Wait + Sync + Copy + Send + 'static>(
         Task::Waves(words) => waves_over(rt, threads, looks, &words),
         Task::Risk(words) => risk_over(rt, threads, looks, &words),
         Task::Census(words) => census_over(rt, threads, looks, &words),
-        Task::Cut(words) => cut_over(rt, &words),
+        Task::Cut(words) => cut_over(rt, looks, &words),
         Task::Plan(words) => match plan_file(rt, &words) {
             Ok(status) => return ExitCode::from(status),
             Err(fault) => Err(fault),

@@ -1,7 +1,5 @@
 -- The fragments that stop, and the last one.
-use Rattle.std.proofs.Common.{◌≡◌, ◌∙◌, ◌∷◌, [], List, ap, sym, refl, if◌then◌else◌}
-use Rattle.reh_inventory.specs.declared.ledgers.LedgerLine.{LedgerLine}
-use Rattle.reh_inventory_census.specs.Parts.{last_part, stopped_part}
+use Rattle.std.proofs.Common.{◌∙◌, ◌∷◌, [], sym, refl}
 use Rattle.reh_inventory_census.proofs.PartsLaws.{has-last, parts-are}
 use Rattle.reh_inventory_census.proofs.parts.split.Goals as goal
 

@@ -2,4 +2,4 @@
 use Rattle.rehearse.proofs.inventories.count_lines.Goals as goal
 
 pub returns : goal.returns
-returns g c = c.in_ok-counted.ensures c.args.is_strict c.loop-number.invariant
+returns g c = c.in_ok-counted.ensures c.args.is_strict c.loop-batch.invariant

@@ -2,5 +2,5 @@
 use Rattle.rehearse.specs.Inventories.{IsCounting}
 use Rattle.rehearse.proofs.inventories.count_lines.Given as goal
 
-abbrev pub invariant-loop-number : goal.invariant-loop-number
-invariant-loop-number g l = IsCounting l.is_strict l.count
+abbrev pub invariant-loop-batch : goal.invariant-loop-batch
+invariant-loop-batch g l = IsCounting l.is_strict l.count

@@ -1,7 +1,7 @@
 -- The census of what was counted.
-use Rattle.std.proofs.Common.{◌≡◌, ◌∙◌, ap, sym, subst}
+use Rattle.std.proofs.Common.{◌∙◌, sym, subst}
 use Rattle.reh_census_file.specs.Values.{NamedCensus}
-use Rattle.reh_inventory_census.specs.Census.{IsCensusOf, IsCount}
+use Rattle.reh_inventory_census.specs.Census.{IsCensusOf}
 use Rattle.reh_inventory_census.proofs.CensusLaws.{finished}
 use Rattle.reh_inventory_census.proofs.census.InventoryCount.finish.Goals as goal
 

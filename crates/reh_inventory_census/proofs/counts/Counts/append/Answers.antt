@@ -1,5 +1,5 @@
 -- The lines of one ledger more are the last ones.
-use Rattle.std.proofs.Common.{◌≡◌, List, ℕ, ◌∷◌, ◌++◌, [], sym, subst}
+use Rattle.std.proofs.Common.{List, ℕ, ◌∷◌, ◌++◌, [], sym, subst}
 use Rattle.reh_census.specs.Bookies.{bookies_of, holders}
 use Rattle.reh_census.specs.Ledgers.{Ledger}
 use Rattle.reh_inventory_census.specs.Counting.{Counts, CountsLedgers, counts_by}
