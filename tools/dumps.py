@@ -25,9 +25,10 @@ LOGGED = re.compile(
     r"(?:[0-9]{4}-[0-9]{2}-[0-9]{2}[T ])?[0-9]{2}:[0-9]{2}:[0-9]{2}[.,][0-9]{3}(?:Z|[+-][0-9]{4})? "
     rf"(?:\[[^\]]*\] )?(?:- )?{LEVEL} +(?:(?:- )?\[[^\]]*\] - |[\w.$]+ - )?"
 )
-# What is printed without a logger, and has no data: by Java, by ZooKeeper's shell, and of an exception.
+# What is printed without a logger, and has no data: by Java, by kubectl, by ZooKeeper's shell, and of an exception.
 CHATTER = re.compile(
-    r"(?:ZooKeeper )?JMX enabled|SLF4J: |log4j:|WARNING: |Picked up \w+: |\S+ .*VM warning: "
+    r"(?:ZooKeeper )?JMX enabled|SLF4J: |log4j:|WARNING: |Picked up \w+: |\S+ .*VM warning: |\[[0-9]+\.[0-9]+s\]\["
+    r"|Defaulted container "
     r"|Connecting to \S+$|WATCHER::$|WatchedEvent "
 )
 STACK = re.compile(r"(?:(?:Caused by|Suppressed): )?[\w.$]+(?:Exception|Error)\b|\s+at [\w.$]+|\s+\.\.\. [0-9]+ ")
