@@ -69,6 +69,12 @@ unless_fault (Some found) inventory = Err found
 abbrev pub added : Inventory → Line → Result Inventory InventoryFault
 added inventory said = unless_fault (order_fault inventory said) (with_line inventory said)
 
+-- the same of a line with the ledger of this id
+abbrev pub added_ledger : Inventory → ℕ → Result Inventory InventoryFault
+added_ledger inventory id =
+    unless_fault (first_reason (reason_if inventory.is_whole fault.AfterEnd ∷ ledger_fault inventory id ∷ []))
+    (record inventory { ids = inventory.ids ++ id ∷ [] })
+
 -- the ledger of a line, if it has one that was read
 abbrev pub ledger_of : Line → Option LedgerLine
 ledger_of (line.Head head) = None

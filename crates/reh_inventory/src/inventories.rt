@@ -247,6 +247,22 @@ impl Inventory {
         }
     }
 
+    /// Adds a line with the ledger of this id: what an inventory says of a ledger is its id alone. After an `Err` nothing has
+    /// changed.
+    pub fn add_ledger(&mut self, id: u64) -> Result<(), InventoryFault>
+        ensures added { OnOk result (model.added_ledger self.old id ≡ Ok self.new) }
+        ensures fault { IfErr result (λ fault. fault ≢ InventoryFault.NoMemory
+            → model.added_ledger self.old id ≡ Err fault) }
+        ensures err { OnErr result (self.new ≡ self.old) }
+    {
+        if self.is_whole {
+            return Err(InventoryFault::AfterEnd);
+        }
+        self.check_ledger(id)?;
+        self.ids.insert(id)?;
+        Ok(())
+    }
+
     /// Adds the next line, and hands a ledger back that it has. After an `Err` nothing has changed.
     ///
     /// `NoMemory` comes only where a growth was refused, and may then stand in place of any other answer.

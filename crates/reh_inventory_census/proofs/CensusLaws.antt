@@ -16,7 +16,7 @@ use Rattle.reh_inventory_census.specs.declared.census.InventoryCount.{InventoryC
 use Rattle.reh_inventory_census.specs.declared.counter.Counter.{Counter}
 use Rattle.reh_inventory_census.specs.Census.{IsCensusBy, IsCensusOf, IsCluster, IsCount, assumed_in, head_in, head_said, judged_by, ledger_lines}
 use Rattle.reh_inventory_census.specs.Counted.{counted}
-use Rattle.reh_inventory_census.specs.Counters.{CountsLines, holders_of}
+use Rattle.reh_inventory_census.specs.Counters.{CountsLines, IsOfSame, holders_of}
 use Rattle.reh_inventory_census.specs.Counting.{CountsLedgers, counts_in}
 use Rattle.reh_inventory_census.specs.Numbers.{members_named}
 use Rattle.reh_inventory_census.specs.Parts.{parts_in}
@@ -47,6 +47,20 @@ begun names strict first head count said is cluster same none =
       strict_is = same;
       ledgers = none;
     }
+
+-- in the same cluster others were counted
+pub same-cluster : (names : List (List ℕ)) (o : Option Head) (one other : InventoryCount) → IsOfSame one.counter other.counter
+    → one.racks ≡ other.racks → one.taken ≡ other.taken
+    → IsSomeAnd o (λ head. IsCluster names head one) → IsSomeAnd o (λ head. IsCluster names head other)
+same-cluster names (Some head) one other same racks taken was = record {
+  names_are = sym same.names ∙ was.names_are;
+  named = was.named;
+  racks = sym racks ∙ was.racks;
+  bookies = sym same.bookies ∙ was.bookies;
+  assumes = sym same.assumes ∙ was.assumes;
+  taken = sym (ap (λ taken. option_map (λ s. string_bytes s) taken) taken) ∙ was.taken;
+}
+same-cluster names None one other same racks taken was = was
 
 -- the census of what was counted
 pub finished : (names : List (List ℕ)) (strict : Bool) (first : List ℕ) (lines : List (List ℕ)) (count : InventoryCount)

@@ -1,6 +1,7 @@
--- What was counted of ledgers, and of one more.
-use Rattle.std.proofs.Common.{◌≡◌, ℕ, ◌+◌, Bool, true, false, List, [], ◌∷◌, ◌++◌, cond, map, refl, sym, ap, ◌∙◌, subst, if◌then◌else◌}
+-- What was counted of ledgers, and of further ones.
+use Rattle.std.proofs.Common.{◌≡◌, ℕ, ◌+◌, Bool, true, false, List, ◌++◌, cond, map, refl, sym, ap, ◌∙◌, subst, if◌then◌else◌}
 use Rattle.std.specs.Prelude.{count_by}
+use Rattle.std.specs.List.{list_any}
 use Rattle.std.proofs.lemmas.List.{map-append}
 use Rattle.std.proofs.lemmas.List.Sums.{sum_by-append}
 use Rattle.reh_census.specs.declared.censuses.CountedEnsemble.{CountedEnsemble}
@@ -10,29 +11,34 @@ use Rattle.reh_census.specs.Copies.{in_order}
 use Rattle.reh_census.specs.Counting.{count_entries, count_ledger, tail_of}
 use Rattle.reh_census.specs.Ledgers.{Ledger}
 use Rattle.reh_inventory.specs.declared.ledgers.LedgerLine.{LedgerLine}
+use Rattle.reh_census.specs.Bookies.{bookies_of, holders}
 use Rattle.reh_inventory_census.specs.declared.counter.Counter.{Counter}
+use Rattle.reh_inventory_census.specs.declared.counter.LedgerCount.{LedgerCount}
 use Rattle.reh_inventory_census.specs.Counted.{assumed, counted}
-use Rattle.reh_inventory_census.specs.Counters.{CountsParts, assumed_more, holders_of}
+use Rattle.reh_inventory_census.specs.Counters.{CountsParts, IsLedgerCount, IsOfSame, holders_of, with_count}
+use Rattle.reh_inventory_census.specs.Empties.{holds_though_empty}
+use Rattle.reh_inventory_census.specs.Numbers.{members_named}
+use Rattle.reh_inventory_census.specs.Parts.{parts_of}
 use Rattle.reh_inventory_census.specs.Counting.{Counts, CountsLedgers, counts_by, is_held}
 
-pub counts-more : (holders : List ℕ) (ledgers : List Ledger) (g : Ledger) (one other : Counts)
-    → CountsLedgers holders ledgers one → CountsLedgers holders (g ∷ []) other
-    → CountsLedgers holders (ledgers ++ g ∷ [])
+pub counts-more : (holders : List ℕ) (ledgers further : List Ledger) (one other : Counts)
+    → CountsLedgers holders ledgers one → CountsLedgers holders further other
+    → CountsLedgers holders (ledgers ++ further)
     (counts_by (one.entries ++ other.entries) (one.tails ++ other.tails) (one.ensembles ++ other.ensembles))
-counts-more holders ledgers g one other own more = record {
+counts-more holders ledgers further one other own more = record {
   entries = λ test.
       sum_by-append (λ (c : Counted). cond (test c.class) c.count 0) one.entries other.entries
       ∙ (λ i. own.entries test i + more.entries test i)
-      ∙ sym (sum_by-append (count_ledger holders test) ledgers (g ∷ []));
+      ∙ sym (sum_by-append (count_ledger holders test) ledgers further);
   tails = λ test.
       sum_by-append (λ (t : CountedTail). cond (test t.tail) t.count 0) one.tails other.tails
       ∙ (λ i. own.tails test i + more.tails test i)
-      ∙ sym (sum_by-append (λ (g : Ledger). count_by test (tail_of g)) ledgers (g ∷ []));
+      ∙ sym (sum_by-append (λ (g : Ledger). count_by test (tail_of g)) ledgers further);
   ensembles = λ test.
       sum_by-append (λ (e : CountedEnsemble). cond (test e.members) e.count 0) one.ensembles other.ensembles
       ∙ (λ i. own.ensembles test i + more.ensembles test i)
       ∙ sym
-      (sum_by-append (λ (g : Ledger). count_by (λ fragment. test (in_order fragment.ensemble)) g.fragments) ledgers (g ∷ []));
+      (sum_by-append (λ (g : Ledger). count_by (λ fragment. test (in_order fragment.ensemble)) g.fragments) ledgers further);
 }
 
 sum-if : (strict : Bool) (a b both : ℕ) → both ≡ a + b
@@ -40,22 +46,45 @@ sum-if : (strict : Bool) (a b both : ℕ) → both ≡ a + b
 sum-if true a b both e = refl
 sum-if false a b both e = sym e
 
--- a counter with one part more
-pub parts-more : (parts : List LedgerLine) (part : LedgerLine) (one : Counter) (counts : Counts) (total : ℕ)
-    → ((ledgers : List Ledger) → CountsLedgers (holders_of one) ledgers one.counts
-    → CountsLedgers (holders_of one) (ledgers ++ counted one.names one.assumes_striped one.is_strict part ∷ []) counts)
-    → total ≡ one.assumed + assumed_more one part
-    → CountsParts parts one
-    → CountsParts (parts ++ part ∷ []) (record one { counts = counts; assumed = total })
-parts-more parts part one counts total more is old =
+-- a counter with further parts
+pub parts-more : (parts further : List LedgerLine) (one : Counter) (more : LedgerCount) (counts : Counts) (total : ℕ)
+    → ((holders : List ℕ) (ledgers others : List Ledger) → CountsLedgers holders ledgers one.counts
+    → CountsLedgers holders others more.counts → CountsLedgers holders (ledgers ++ others) counts)
+    → total ≡ one.assumed + more.assumed
+    → CountsParts parts one → CountsParts further (with_count one more)
+    → CountsParts (parts ++ further) (record one { counts = counts; assumed = total })
+parts-more parts further one more counts total joined is old new =
     let make = counted one.names one.assumes_striped one.is_strict in
     let assume = assumed one.names one.assumes_striped in
     let who = holders_of one in
     let P : List Ledger → Type 0 = λ gs. CountsLedgers who gs counts in
     record {
-      counts = subst P (sym (map-append make parts (part ∷ []))) (more (map make parts) old.counts);
-      assumed_by = is ∙ (λ i. old.assumed_by i + assumed_more one part)
+      counts = subst P (sym (map-append make parts further))
+          (joined who (map make parts) (map make further) old.counts new.counts);
+      assumed_by = is ∙ (λ i. old.assumed_by i + new.assumed_by i)
           ∙ sum-if one.is_strict _ _ _
-          (ap (λ (gs : List Ledger). count_entries who gs is_held) (map-append assume parts (part ∷ []))
-          ∙ sum_by-append (count_ledger who is_held) (map assume parts) (assume part ∷ []));
+          (ap (λ (gs : List Ledger). count_entries who gs is_held) (map-append assume parts further)
+          ∙ sum_by-append (count_ledger who is_held) (map assume parts) (map assume further));
+    }
+
+-- what one counter counted of a ledger, another one counts alike in the same cluster
+pub same-count : (c d : Counter) (line : LedgerLine) (count : LedgerCount) → IsOfSame c d → IsLedgerCount c line count
+    → IsLedgerCount d line count
+same-count c d line count same was =
+    let P : List ℕ × List Ledger → Type 0 = λ x. CountsLedgers x.0 x.1 count.counts in
+    record {
+      parts = record {
+        counts = subst P
+            (λ i. (
+              holders (bookies_of (same.bookies i)),
+              map (counted (same.names i) (same.assumes i) (same.strict i)) (parts_of line),
+            ))
+            was.parts.counts;
+        assumed_by = was.parts.assumed_by
+            ∙ (λ i. if same.strict i then 0
+            else count_entries (holders (bookies_of (same.bookies i)))
+            (map (assumed (same.names i) (same.assumes i)) (parts_of line)) is_held);
+      };
+      named = sym (λ i. members_named (same.names i) line) ∙ was.named;
+      empties = sym (λ i. list_any (holds_though_empty (same.names i) (same.bookies i)) line.contents) ∙ was.empties;
     }

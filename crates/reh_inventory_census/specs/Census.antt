@@ -1,5 +1,5 @@
 -- The census of an inventory: that of the ledgers which its lines have.
-use Rattle.std.specs.Prelude.{◌≡◌, ℕ, Bool, true, List, [], ◌∷◌, Option, None, Some, Result, Ok, Err, length, map, option_map, string_bytes, if◌then◌else◌}
+use Rattle.std.specs.Prelude.{◌≡◌, ℕ, Bool, true, List, [], ◌∷◌, Option, None, Some, Result, Ok, Err, IfOk, length, map, option_map, string_bytes, if◌then◌else◌}
 use Rattle.std.specs.List.{flat_map, list_all}
 use Rattle.std.specs.Option.{IsSomeAnd, option_map_or}
 use Rattle.reh_census.specs.declared.censuses.Judged.{Judged}
@@ -11,12 +11,17 @@ use Rattle.reh_inventory.specs.declared.heads.Head.{Head}
 use Rattle.reh_inventory.specs.declared.ledgers.LedgerLine.{LedgerLine}
 use Rattle.reh_inventory.specs.declared.lines.Line.{Line}
 use Rattle.reh_inventory.specs.declared.lines.Line.TheVariants as line
-use Rattle.reh_inventory.specs.Inventories.{Inventory, inventory_of, ledger_in}
+use Rattle.reh_inventory.specs.Inventories.{Inventory, inventory_of, ledger_in, ledger_of}
 use Rattle.reh_inventory.specs.Lines.{located_line_of}
+use Rattle.reh_inventory_census.specs.declared.census.CountedLine.{CountedLine}
+use Rattle.reh_inventory_census.specs.declared.census.CountedLine.TheVariants as counted_line
 use Rattle.reh_inventory_census.specs.declared.census.InventoryCount.{InventoryCount}
+use Rattle.reh_inventory_census.specs.declared.counter.Counter.{Counter}
+use Rattle.reh_inventory_census.specs.declared.counter.LedgerCount.{LedgerCount}
+use Rattle.reh_inventory_census.specs.declared.faults.CountFault.{CountFault}
 use Rattle.reh_inventory_census.specs.Bookies.{bookie_of, racks_of}
 use Rattle.reh_inventory_census.specs.Counted.{assumed, counted}
-use Rattle.reh_inventory_census.specs.Counters.{CountsLines}
+use Rattle.reh_inventory_census.specs.Counters.{CountsLines, IsLedgerCount}
 use Rattle.reh_inventory_census.specs.Counting.{CountsLedgers, counts_in, is_held}
 use Rattle.reh_inventory_census.specs.Numbers.{bookies_named, members_named}
 use Rattle.reh_inventory_census.specs.Parts.{parts_in}
@@ -60,6 +65,23 @@ pub record IsCount (names : List (List ℕ)) (strict : Bool) (first : List ℕ) 
   pub cluster : IsSomeAnd (head_in first) (λ head. IsCluster names head count)
   pub strict_is : count.counter.is_strict ≡ strict
   pub ledgers : CountsLines (ledger_lines lines) count.counter
+
+-- these bytes say this, and have no ledger that was read
+pub record IsOtherLine (bytes : List ℕ) (said : Line) : Type 0 where
+  pub says : located_line_of bytes ≡ Ok said
+  pub no_ledger : ledger_of said ≡ None
+
+-- these bytes say a ledger of this id, of which this was counted, by the counter
+pub record IsLedgerLine (c : Counter) (bytes : List ℕ) (id : ℕ) (count : Result LedgerCount CountFault) : Type 0 where
+  pub ledger : LedgerLine
+  pub says : located_line_of bytes ≡ Ok (line.Ledger ledger)
+  pub has_id : ledger.id ≡ id
+  pub counted : IfOk count (IsLedgerCount c ledger)
+
+-- a line of these bytes, as it was counted beside what was counted before it
+abbrev pub IsCountedLine : InventoryCount → List ℕ → CountedLine → Type 0
+IsCountedLine counted bytes (counted_line.Other said) = IsOtherLine bytes said
+IsCountedLine counted bytes (counted_line.Ledger id count) = IsLedgerLine counted.counter bytes id count
 
 -- how an inventory was judged: where no last line came, a ledger may be missing
 abbrev pub judged_by : Inventory → ℕ → ℕ → Judged

@@ -1,13 +1,11 @@
 // The census of an inventory, line after line.
-ghost use Rattle.std.specs.Prelude.{◌≡◌, ◌++◌, ◌∷◌, [], ℕ, Bool, List, Ok, false, IfOk, IfSome, OnOk, option_map, string_bytes};
-ghost use Rattle.std.specs.List.{list_any};
-ghost use Rattle.reh_inventory.specs.Inventories.{ledger_of};
+ghost use Rattle.std.specs.Prelude.{◌≡◌, ◌++◌, ◌∷◌, [], ℕ, Bool, List, Ok, IfOk, OnOk, option_map, string_bytes};
 ghost use Rattle.reh_inventory.specs.Lines.{located_line_of};
-ghost use Rattle.reh_inventory_census.specs.Empties.{holds_though_empty};
+ghost use Rattle.reh_inventory_census.specs.declared.census.CountedLine.{CountedLine as CountedValue};
 ghost use Rattle.reh_inventory_census.specs.Census as model;
 
 use crate::bookies::{bookies_of, racks_of};
-use crate::counter::Counter;
+use crate::counter::{Counter, LedgerCount};
 use crate::counts::{Counts, MOST};
 use crate::faults::CountFault;
 use crate::numbers::{are_named, line_fault};
@@ -23,6 +21,18 @@ pub struct InventoryCount {
     counter: Counter,
     racks: NameList,
     taken: Option<String>,
+}
+
+/// A line of an inventory, as it was counted by itself.
+#[derive(Drop)]
+pub enum CountedLine {
+    /// One without a ledger that was read.
+    Other(Line),
+    /// One with the ledger of this id, and what was counted of it, or why it can't be counted.
+    Ledger {
+        id: u64,
+        count: Result<LedgerCount, CountFault>,
+    },
 }
 
 /// When an inventory was taken, if that is told.
@@ -95,22 +105,42 @@ impl InventoryCount {
         })
     }
 
-    /// Adds the next line, which was parsed. After an `Err` a part of it may be counted.
-    pub fn add_line(&mut self, alloc: Global, line: Line) -> Result<(), CountFault>
-        ensures empties { OnOk result (IfSome (ledger_of line) (λ ledger.
-            list_any (holds_though_empty self.old.counter.names self.old.counter.bookies) ledger.contents
-            ≡ false)) }
+    /// Reads a line, and counts its ledger, if it has one, so that `add` can add it. Several lines can be counted at the same
+    /// time.
+    pub fn count_line(&self, alloc: Global, bytes: &[u8]) -> Result<CountedLine, CountFault>
+        ensures { IfOk result (model.IsCountedLine self.now bytes.now) }
+    {
+        match read_line(alloc, bytes) {
+            Ok(Line::Ledger(ledger)) => {
+                let id = ledger.id;
+                let count = self.counter.count(alloc, ledger);
+                Ok(CountedLine::Ledger { id, count })
+            }
+            Ok(line) => Ok(CountedLine::Other(line)),
+            Err(fault) => Err(line_fault(fault)),
+        }
+    }
+
+    /// Adds the next line, as it was counted. After an `Err` a part of it may be there. What was counted of other lines before
+    /// can be added after it.
+    pub fn add(&mut self, alloc: Global, line: CountedLine) -> Result<(), CountFault>
         ensures counted { OnOk result ((names : List (List ℕ)) (strict : Bool) (first : List ℕ) (lines : List (List ℕ))
             → model.IsCount names strict first lines self.old
-            → (bytes : List ℕ) → located_line_of bytes ≡ Ok line
+            → (bytes : List ℕ) → model.IsCountedLine self.old bytes line
             → model.IsCount names strict first (lines ++ bytes ∷ []) self.new) }
+        ensures others { (bytes : List ℕ) (other : CountedValue) → model.IsCountedLine self.old bytes other
+            → model.IsCountedLine self.new bytes other }
     {
-        match self.inventory.add_line(line)? {
-            Some(ledger) => {
-                self.counter.add(alloc, ledger)?;
+        match line {
+            CountedLine::Other(line) => {
+                self.inventory.add_line(line)?;
                 Ok(())
             }
-            None => Ok(()),
+            CountedLine::Ledger { id, count } => {
+                self.inventory.add_ledger(id)?;
+                self.counter.add(alloc, count?)?;
+                Ok(())
+            }
         }
     }
 

@@ -3,6 +3,7 @@ ghost use Rattle.std.specs.Prelude.{◌≡◌, ◌+◌, ◌++◌, ◌∷◌, [],
 ghost use Rattle.reh_census.specs.Bookies.{bookies_of, holders};
 ghost use Rattle.reh_census.specs.Counting.{count_entries};
 ghost use Rattle.reh_inventory.specs.declared.ledgers.LedgerLine.{LedgerLine as LineValue};
+ghost use Rattle.reh_inventory_census.specs.declared.counter.Counter.{Counter as CounterValue};
 ghost use Rattle.reh_inventory_census.specs.Counters as model;
 ghost use Rattle.reh_inventory_census.specs.Counted.{assumed as assumed_of};
 ghost use Rattle.std.specs.List.{list_any};
@@ -34,6 +35,21 @@ pub(crate) struct Counter {
     pub(crate) assumed: u64,
 }
 
+/// What was counted of a ledger.
+#[derive(Drop)]
+pub struct LedgerCount {
+    counts: Counts,
+    /// How many entries have a known copy by an assumption.
+    assumed: u64,
+}
+
+/// So many and so many more, if that can be counted.
+fn sum(one: u64, other: u64) -> Result<u64, CountFault>
+    ensures { IfOk result (λ sum. sum ≡ one + other) }
+{
+    one.checked_add(other).ok_or(CountFault::TooMany)
+}
+
 /// How many entries of a part of a ledger have a known copy by an assumption.
 fn count_assumed(
     alloc: Global,
@@ -52,32 +68,48 @@ fn count_assumed(
     held_among(&entries).ok_or(CountFault::TooMany)
 }
 
+impl LedgerCount {
+    /// What was counted of these parts, and then of others.
+    fn with(self, other: LedgerCount) -> Result<LedgerCount, CountFault>
+        ensures { IfOk result (λ both. (c : CounterValue) (parts more : List LineValue)
+            → model.CountsParts parts (model.with_count c self) → model.CountsParts more (model.with_count c other)
+            → model.CountsParts (parts ++ more) (model.with_count c both)) }
+    {
+        let LedgerCount { counts, assumed } = self;
+        let mut counts = counts;
+        let LedgerCount {
+            counts: more,
+            assumed: further,
+        } = other;
+        let assumed = sum(assumed, further)?;
+        counts.append(more)?;
+        Ok(LedgerCount { counts, assumed })
+    }
+}
+
 impl Counter {
-    /// How many entries have a known copy by an assumption, with those of one part more.
-    fn assumed_with(&self, alloc: Global, line: &LedgerLine) -> Result<u64, CountFault>
-        ensures { IfOk result (λ assumed. assumed ≡ self.now.assumed + model.assumed_more self.now line.now) }
+    /// How many entries of a part of a ledger have a known copy by an assumption; with `is_strict` none.
+    fn assumed_of(&self, alloc: Global, line: &LedgerLine) -> Result<u64, CountFault>
+        ensures { IfOk result (λ assumed. assumed ≡ model.assumed_more self.now line.now) }
     {
         if self.is_strict {
-            return Ok(self.assumed);
+            return Ok(0);
         }
-        let more = count_assumed(
+        let assumed = count_assumed(
             alloc,
             &self.names,
             &self.bookies,
             self.assumes_striped,
             line,
         )?;
-        self.assumed.checked_add(more).ok_or(CountFault::TooMany)
+        Ok(assumed)
     }
 
-    /// Adds a part of a ledger.
-    fn add_part(&mut self, alloc: Global, line: &LedgerLine) -> Result<(), CountFault>
-        ensures fixed { model.IsOfSame self.old self.new }
-        ensures ledgers { self.new.ledgers ≡ self.old.ledgers }
-        ensures added { OnOk result ((parts : List LineValue) → model.CountsParts parts self.old
-            → model.CountsParts (parts ++ line.now ∷ []) self.new) }
+    /// What is counted of a part of a ledger.
+    fn count_part(&self, alloc: Global, line: &LedgerLine) -> Result<LedgerCount, CountFault>
+        ensures { IfOk result (λ count. model.CountsParts (line.now ∷ []) (model.with_count self.now count)) }
     {
-        let assumed = self.assumed_with(alloc, line)?;
+        let assumed = self.assumed_of(alloc, line)?;
         let ledger = part_of(
             alloc,
             &self.names,
@@ -85,33 +117,26 @@ impl Counter {
             self.is_strict,
             line,
         )?;
-        self.counts.add(alloc, &self.bookies, ledger)?;
-        self.assumed = assumed;
-        Ok(())
+        let counts = Counts::of(alloc, &self.bookies, ledger)?;
+        Ok(LedgerCount { counts, assumed })
     }
 
-    /// Adds the parts of a ledger.
-    fn add_parts(&mut self, alloc: Global, line: LedgerLine) -> Result<(), CountFault>
-        ensures fixed { model.IsOfSame self.old self.new }
-        ensures ledgers { self.new.ledgers ≡ self.old.ledgers }
-        ensures added { OnOk result ((parts : List LineValue) → model.CountsParts parts self.old
-            → model.CountsParts (parts ++ parts_of line) self.new) }
+    /// What is counted of the parts of a ledger.
+    fn count_parts(&self, alloc: Global, line: LedgerLine) -> Result<LedgerCount, CountFault>
+        ensures { IfOk result (λ count. model.CountsParts (parts_of line) (model.with_count self.now count)) }
     {
         let Parts { first, other } = split(line);
-        self.add_part(alloc, &first)?;
-        let Some(other) = other else { return Ok(()) };
+        let count = self.count_part(alloc, &first)?;
+        let Some(other) = other else { return Ok(count) };
         let second = second(alloc, first, other)?;
-        self.add_part(alloc, &second)?;
-        Ok(())
+        let more = self.count_part(alloc, &second)?;
+        let both = count.with(more)?;
+        Ok(both)
     }
 
-    /// Adds a ledger. After an `Err` a part of it may be counted.
-    pub(crate) fn add(&mut self, alloc: Global, line: LedgerLine) -> Result<(), CountFault>
-        ensures fixed { model.IsOfSame self.old self.new }
-        ensures added { OnOk result ((lines : List LineValue) → model.CountsLines lines self.old
-            → model.CountsLines (lines ++ line ∷ []) self.new) }
-        ensures empties { OnOk result
-            (list_any (holds_though_empty self.old.names self.old.bookies) line.contents ≡ false) }
+    /// What is counted of a ledger.
+    pub(crate) fn count(&self, alloc: Global, line: LedgerLine) -> Result<LedgerCount, CountFault>
+        ensures { IfOk result (model.IsLedgerCount self.now line) }
     {
         if !has_named_members(&self.names, &line) {
             return Err(CountFault::Unnamed);
@@ -119,7 +144,32 @@ impl Counter {
         if are_refilled(&self.names, &self.bookies, line.contents.as_slice()) {
             return Err(CountFault::HoldsThoughEmpty(line.id));
         }
-        self.add_parts(alloc, line)?;
+        let count = self.count_parts(alloc, line)?;
+        Ok(count)
+    }
+
+    /// Adds what was counted of parts. After an `Err` some of it may be there.
+    fn add_parts(&mut self, alloc: Global, count: LedgerCount) -> Result<(), CountFault>
+        ensures fixed { model.IsOfSame self.old self.new }
+        ensures ledgers { self.new.ledgers ≡ self.old.ledgers }
+        ensures added { OnOk result ((parts more : List LineValue) → model.CountsParts parts self.old
+            → model.CountsParts more (model.with_count self.old count)
+            → model.CountsParts (parts ++ more) self.new) }
+    {
+        let LedgerCount { counts, assumed } = count;
+        let total = sum(self.assumed, assumed)?;
+        self.counts.add(alloc, counts)?;
+        self.assumed = total;
+        Ok(())
+    }
+
+    /// Adds what was counted of a ledger. After an `Err` some of it may be there.
+    pub(crate) fn add(&mut self, alloc: Global, count: LedgerCount) -> Result<(), CountFault>
+        ensures fixed { model.IsOfSame self.old self.new }
+        ensures added { OnOk result ((lines : List LineValue) (line : LineValue) → model.CountsLines lines self.old
+            → model.IsLedgerCount self.old line count → model.CountsLines (lines ++ line ∷ []) self.new) }
+    {
+        self.add_parts(alloc, count)?;
         self.ledgers = self.ledgers.checked_add(1).ok_or(CountFault::TooMany)?;
         Ok(())
     }

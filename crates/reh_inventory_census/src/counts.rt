@@ -129,35 +129,45 @@ impl Counts {
         self.entries.len().saturating_add(others)
     }
 
-    /// Adds what is counted of a ledger. After an `Err` a part of it may be there.
-    pub(crate) fn add(
-        &mut self,
-        alloc: Global,
-        bookies: &Bookies,
-        ledger: Ledger,
-    ) -> Result<(), CountsFault>
-        ensures { OnOk result ((ledgers : List LedgerValue)
-            → model.CountsLedgers (holders (bookies_of bookies.now)) ledgers self.old
-            → model.CountsLedgers (holders (bookies_of bookies.now)) (ledgers ++ ledger ∷ []) self.new) }
+    /// What is counted of one ledger.
+    pub(crate) fn of(alloc: Global, bookies: &Bookies, ledger: Ledger) -> Result<Counts, AllocError>
+        ensures { IfOk result (λ counts.
+            model.CountsLedgers (holders (bookies_of bookies.now)) (ledger ∷ []) counts) }
     {
-        self.append(alloc, bookies, ledger)?;
+        let ledgers = [ledger];
+        let entries = entries_of(alloc, bookies, &ledgers)?;
+        let tails = tails_of(alloc, &ledgers)?;
+        let ensembles = ensembles_of(alloc, &ledgers)?;
+        Ok(Counts {
+            entries,
+            tails,
+            ensembles,
+            to_join: LEAST_TO_JOIN,
+        })
+    }
+
+    /// Adds what is counted of further ledgers, and joins equal lines, if there are many. After an `Err` a part of it may be
+    /// there.
+    pub(crate) fn add(&mut self, alloc: Global, other: Counts) -> Result<(), CountsFault>
+        ensures { OnOk result ((holders : List ℕ) (ledgers more : List LedgerValue)
+            → model.CountsLedgers holders ledgers self.old → model.CountsLedgers holders more other
+            → model.CountsLedgers holders (ledgers ++ more) self.new) }
+    {
+        self.append(other)?;
         self.join_if_long(alloc)?;
         Ok(())
     }
 
-    /// Adds the lines of a ledger as the last ones. After an `Err` a part of them may be there.
-    fn append(&mut self, alloc: Global, bookies: &Bookies, ledger: Ledger) -> Result<(), AllocError>
-        ensures { OnOk result ((ledgers : List LedgerValue)
-            → model.CountsLedgers (holders (bookies_of bookies.now)) ledgers self.old
-            → model.CountsLedgers (holders (bookies_of bookies.now)) (ledgers ++ ledger ∷ []) self.new) }
+    /// Adds what is counted of further ledgers, as the last lines. After an `Err` a part of it may be there.
+    pub(crate) fn append(&mut self, other: Counts) -> Result<(), AllocError>
+        ensures { OnOk result ((holders : List ℕ) (ledgers more : List LedgerValue)
+            → model.CountsLedgers holders ledgers self.old → model.CountsLedgers holders more other
+            → model.CountsLedgers holders (ledgers ++ more) self.new) }
     {
-        let ledgers = [ledger];
-        let mut entries = entries_of(alloc, bookies, &ledgers)?;
-        let mut tails = tails_of(alloc, &ledgers)?;
-        let mut ensembles = ensembles_of(alloc, &ledgers)?;
-        self.entries.append(&mut entries)?;
-        self.tails.append(&mut tails)?;
-        self.ensembles.append(&mut ensembles)?;
+        let mut other = other;
+        self.entries.append(&mut other.entries)?;
+        self.tails.append(&mut other.tails)?;
+        self.ensembles.append(&mut other.ensembles)?;
         Ok(())
     }
 

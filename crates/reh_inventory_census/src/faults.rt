@@ -1,4 +1,7 @@
 // Why an inventory can't be counted.
+ghost use Rattle.std.specs.Prelude.{◌≡◌};
+ghost use Rattle.reh_inventory_census.specs.Faults as model;
+
 use crate::counted::UnfitFault;
 use crate::counts::CountsFault;
 use crate::numbers::NumberFault;
@@ -93,7 +96,9 @@ impl From<TallyFault> for CountFault {
 }
 
 /// The fault of a line with the ledger of this id.
-pub(crate) fn unfit(id: u64, fault: UnfitFault) -> CountFault {
+pub(crate) fn unfit(id: u64, fault: UnfitFault) -> CountFault
+    ensures { result ≡ model.of_unfit id fault }
+{
     match fault {
         UnfitFault::Unfit => CountFault::Unfit(id),
         UnfitFault::NoMemory => CountFault::NoMemory,

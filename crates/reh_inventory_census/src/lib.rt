@@ -12,8 +12,9 @@ mod ledgers;
 mod numbers;
 mod parts;
 
-pub use census::InventoryCount;
+pub use census::{CountedLine, InventoryCount};
 pub use counted::{end_of, end_told, last_first, stop_of};
+pub use counter::LedgerCount;
 pub use faults::CountFault;
 pub use ledgers::InventoryLedgers;
 pub use numbers::{in_order, line_fault, number_line};

@@ -2,6 +2,7 @@
 ghost use Rattle.std.specs.Prelude.{◌≡◌, IfErr, OnOk, fold, length};
 ghost use Rattle.reh_census_file.specs.Names.{with_name};
 ghost use Rattle.reh_census_file.specs.declared.lists.TheConstants.{MAX_NAMES};
+ghost use Rattle.reh_inventory_census.specs.Faults.{of_own};
 ghost use Rattle.reh_inventory_census.specs.Numbers as model;
 
 use crate::faults::CountFault;
@@ -134,7 +135,9 @@ pub fn number_line(names: &mut NameList, line: &Line) -> Result<(), CountFault>
 }
 
 /// A fault of a line by itself, or that there is no memory to read it.
-pub fn line_fault(located: LineFault) -> CountFault {
+pub fn line_fault(located: LineFault) -> CountFault
+    ensures { result ≡ of_own located.fault located }
+{
     match located.fault {
         Fault::NoMemory => CountFault::NoMemory,
         _ => CountFault::Line(InventoryFault::Line(located)),

@@ -1,1 +1,2 @@
 pub mod AgainstLaws
+pub mod InventoryLaws

@@ -4,14 +4,19 @@ use Rattle.std.specs.Option.{IsSomeAnd}
 use Rattle.reh_inventory.specs.declared.lines.Line.{Line}
 use Rattle.reh_inventory.specs.Inventories.{Inventory, inventory_of}
 use Rattle.reh_inventory.specs.Lines.{located_line_of}
-use Rattle.reh_inventory_census.specs.Census.{IsCensusOf, IsCount}
+use Rattle.reh_inventory_census.specs.Census.{IsCensusOf, IsCount, IsCountedLine}
 use Rattle.reh_inventory_census.specs.declared.census.InventoryCount.{InventoryCount}
+use Rattle.rehearse.specs.declared.batches.LineCount.{LineCount}
 use Rattle.rehearse.specs.declared.batches.ParsedLine.{ParsedLine}
 use Rattle.rehearse.specs.declared.inventories.CountedInventory.{CountedInventory}
 
 -- the line was parsed: what it says is there, or that it has a fault
 abbrev pub IsParsed : ParsedLine → Type 0
 IsParsed p = IsSomeAnd p.line (λ parsed. IfOk parsed (λ line. located_line_of p.bytes.items ≡ Ok line))
+
+-- the line was counted, or it is there why it can't be, by itself
+abbrev pub IsLineCount : InventoryCount → LineCount → Type 0
+IsLineCount count l = IsSomeAnd l.line (λ line. IfOk line (IsCountedLine count l.bytes.items))
 
 -- some bytes say this
 pub record IsLine (line : Line) : Type 0 where
@@ -24,6 +29,11 @@ pub record IsCounting (strict : Bool) (count : InventoryCount) : Type 0 where
   pub first : List ℕ
   pub lines : List (List ℕ)
   pub counted : IsCount names strict first lines count
+
+-- further lines were counted, and what was counted of others by themselves can still be added
+pub record GoesOn (one other : InventoryCount) : Type 0 where
+  pub counting : (strict : Bool) → IsCounting strict one → IsCounting strict other
+  pub others : (line : LineCount) → IsLineCount one line → IsLineCount other line
 
 -- it is the census of some lines, and these are the ids of their ledgers
 pub record IsOfLines (inventory : CountedInventory) : Type 0 where

@@ -1,11 +1,11 @@
-// Lines of an inventory, many at a time, so that several workers can parse them.
-ghost use Rattle.std.specs.Prelude.{All, IfOk};
+// Lines of an inventory, many at a time, so that several workers can read and count them.
+ghost use Rattle.std.specs.Prelude.{All, IfOk, OnOk};
 ghost use Rattle.rehearse.specs.Inventories as model;
 
 use crate::faults::RunFault;
 use crate::inventories::read_line;
 use reh_inventory::{Line, LineFault, read_line as parse_line};
-use reh_inventory_census::{CountFault, line_fault};
+use reh_inventory_census::{CountFault, CountedLine, InventoryCount, line_fault};
 use std::alloc::{AllocError, Global};
 use std::io::{BufReader, Read};
 use std::thread;
@@ -16,6 +16,13 @@ const MAX_LINES: usize = 4096;
 /// After how many bytes no further line is read at that time.
 const MAX_BYTES: usize = 1 << 20;
 
+/// The bytes of some lines of an inventory, and why the line after them can't be read, if it can't.
+#[derive(Drop)]
+pub(crate) struct Batch {
+    pub(crate) lines: Vec<Vec<u8>>,
+    pub(crate) fault: Option<RunFault>,
+}
+
 /// A line, and what it says, once it was parsed.
 #[derive(Drop)]
 pub(crate) struct ParsedLine {
@@ -23,14 +30,14 @@ pub(crate) struct ParsedLine {
     line: Option<Result<Line, LineFault>>,
 }
 
-/// Some lines of an inventory, and why the one after them can't be read, if it can't.
+/// A line, and what was counted of it, once that was done.
 #[derive(Drop)]
-pub(crate) struct Batch {
-    pub(crate) lines: Vec<ParsedLine>,
-    pub(crate) fault: Option<RunFault>,
+pub(crate) struct LineCount {
+    bytes: Vec<u8>,
+    line: Option<Result<CountedLine, CountFault>>,
 }
 
-/// The next lines of an inventory, not parsed yet; none at its end.
+/// The next lines of an inventory; none at its end.
 pub(crate) fn next_lines<R: Read + Drop>(
     alloc: Global,
     path: &str,
@@ -59,9 +66,27 @@ pub(crate) fn next_lines<R: Read + Drop>(
 }
 
 /// Adds a line of these bytes.
-fn push_line(lines: &mut Vec<ParsedLine>, bytes: Vec<u8>) -> Result<(), AllocError> {
-    lines.push(ParsedLine { bytes, line: None })?;
+fn push_line(lines: &mut Vec<Vec<u8>>, bytes: Vec<u8>) -> Result<(), AllocError> {
+    lines.push(bytes)?;
     Ok(())
+}
+
+/// These lines, none of which is parsed yet.
+fn to_parse(alloc: Global, lines: Vec<Vec<u8>>) -> Result<Vec<ParsedLine>, AllocError> {
+    let mut waiting = Vec::new(alloc);
+    for bytes in lines {
+        waiting.push(ParsedLine { bytes, line: None })?;
+    }
+    Ok(waiting)
+}
+
+/// These lines, none of which is counted yet.
+fn to_count(alloc: Global, lines: Vec<Vec<u8>>) -> Result<Vec<LineCount>, AllocError> {
+    let mut waiting = Vec::new(alloc);
+    for bytes in lines {
+        waiting.push(LineCount { bytes, line: None })?;
+    }
+    Ok(waiting)
 }
 
 /// Parses these lines by so many workers, at least one.
@@ -69,11 +94,11 @@ pub(crate) fn parse_lines<T: thread::Threads + Sync>(
     threads: &T,
     alloc: Global,
     workers: usize,
-    lines: Vec<ParsedLine>,
-) -> Vec<ParsedLine>
-    ensures { All model.IsParsed result.items }
+    lines: Vec<Vec<u8>>,
+) -> Result<Vec<ParsedLine>, AllocError>
+    ensures { IfOk result (λ parsed. All model.IsParsed parsed.items) }
 {
-    let mut lines = lines;
+    let mut lines = to_parse(alloc, lines)?;
     thread::for_each_mut(
         threads,
         &mut lines,
@@ -84,7 +109,46 @@ pub(crate) fn parse_lines<T: thread::Threads + Sync>(
             line.line = Some(parse_line(alloc, &line.bytes));
         },
     );
-    lines
+    Ok(lines)
+}
+
+/// Counts each of these lines by itself, by so many workers, at least one, beside what was counted before.
+pub(crate) fn count_each<T: thread::Threads + Sync>(
+    threads: &T,
+    alloc: Global,
+    workers: usize,
+    count: &InventoryCount,
+    lines: Vec<Vec<u8>>,
+) -> Result<Vec<LineCount>, AllocError>
+    ensures { IfOk result (λ counted. All (model.IsLineCount count.now) counted.items) }
+{
+    let mut lines = to_count(alloc, lines)?;
+    thread::for_each_mut(
+        threads,
+        &mut lines,
+        workers.max(1),
+        &|_number, line: &mut LineCount|
+            ensures { model.IsLineCount count.entry.now line.exit.now }
+        {
+            line.line = Some(count.count_line(alloc, &line.bytes));
+        },
+    );
+    Ok(lines)
+}
+
+/// Adds a line that was counted by itself. What was counted of other lines before can be added after it.
+pub(crate) fn add_line(
+    alloc: Global,
+    count: &mut InventoryCount,
+    line: LineCount,
+) -> Result<(), CountFault>
+    requires { model.IsLineCount count.old line }
+    ensures { OnOk result (model.GoesOn count.old count.new) }
+{
+    let LineCount { line, bytes: _ } = line;
+    let Some(line) = line else { unreachable!() };
+    count.add(alloc, line?)?;
+    Ok(())
 }
 
 /// What a line says that was parsed, or its fault.

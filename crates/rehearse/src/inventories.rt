@@ -2,7 +2,9 @@
 ghost use Rattle.std.specs.Prelude.{All, Bool, IfOk, OnOk};
 ghost use Rattle.rehearse.specs.Inventories as model;
 
-use crate::batches::{Batch, ParsedLine, next_lines, parse_lines, parsed};
+use crate::batches::{
+    Batch, LineCount, ParsedLine, add_line, count_each, next_lines, parse_lines, parsed,
+};
 use crate::faults::RunFault;
 use crate::files::unread;
 use reh_census_file::{NameList, NamedCensus};
@@ -120,7 +122,7 @@ pub(crate) struct CountedInventory {
     pub(crate) ids: Vec<u64>,
 }
 
-/// Which inventory is counted, and by how many workers its lines are parsed.
+/// Which inventory is counted, and by how many workers its lines are read and counted.
 #[derive(Clone, Copy)]
 pub(crate) struct Source<'a> {
     pub(crate) alloc: Global,
@@ -199,7 +201,7 @@ fn names_in<R: Read + Drop, T: thread::Threads + Sync>(
             break;
         }
         let next = number.saturating_add(lines.len() as u64);
-        let lines = parse_lines(threads, alloc, workers, lines);
+        let lines = parse_lines(threads, alloc, workers, lines)?;
         number_lines(alloc, path, number, &mut names, lines)?;
         unless(fault)?;
         number = next;
@@ -250,43 +252,33 @@ fn begin(
     }
 }
 
-/// Counts a line.
-fn count_line(alloc: Global, count: &mut InventoryCount, line: ParsedLine) -> Result<(), CountFault>
-    requires { model.IsParsed line }
-    ensures { OnOk result ((strict : Bool) → model.IsCounting strict count.old → model.IsCounting strict count.new) }
-{
-    let line = parsed(line)?;
-    count.add_line(alloc, line)?;
-    Ok(())
-}
-
-/// Counts the line of this number.
+/// Adds the line of this number, which was counted by itself.
 fn add(
     alloc: Global,
     path: &str,
     number: u64,
     count: &mut InventoryCount,
-    line: ParsedLine,
+    line: LineCount,
 ) -> Result<(), RunFault>
-    requires { model.IsParsed line }
-    ensures { OnOk result ((strict : Bool) → model.IsCounting strict count.old → model.IsCounting strict count.new) }
+    requires { model.IsLineCount count.old line }
+    ensures { OnOk result (model.GoesOn count.old count.new) }
 {
-    match count_line(alloc, count, line) {
+    match add_line(alloc, count, line) {
         Ok(()) => Ok(()),
         Err(fault) => Err(uncounted(alloc, path, number, &fault)),
     }
 }
 
-/// Counts these lines, the first of which has this number.
+/// Adds these lines, the first of which has this number.
 fn add_lines(
     alloc: Global,
     path: &str,
     first: u64,
     count: &mut InventoryCount,
-    lines: Vec<ParsedLine>,
+    lines: Vec<LineCount>,
 ) -> Result<(), RunFault>
-    requires { All model.IsParsed lines.items }
-    ensures { OnOk result ((strict : Bool) → model.IsCounting strict count.old → model.IsCounting strict count.new) }
+    requires { All (model.IsLineCount count.old) lines.items }
+    ensures { OnOk result (model.GoesOn count.old count.new) }
 {
     let mut number = first;
     for line in lines {
@@ -332,7 +324,7 @@ fn count_lines<R: Read + Drop, T: thread::Threads + Sync>(
             break;
         }
         let next = number.saturating_add(lines.len() as u64);
-        let lines = parse_lines(threads, alloc, workers, lines);
+        let lines = count_each(threads, alloc, workers, &count, lines)?;
         add_lines(alloc, path, number, &mut count, lines)?;
         unless(fault)?;
         number = next;

@@ -1,7 +1,6 @@
--- The lines that are passed were counted.
-use Rattle.std.proofs.Common.{Bool}
-use Rattle.rehearse.specs.Inventories.{IsCounting}
+-- The lines that are passed were added.
+use Rattle.rehearse.specs.Inventories.{GoesOn}
 use Rattle.rehearse.proofs.inventories.add_lines.Given as goal
 
 abbrev pub invariant-loop-line : goal.invariant-loop-line
-invariant-loop-line l = (strict : Bool) → IsCounting strict l.fn.count → IsCounting strict l.count
+invariant-loop-line l = GoesOn l.fn.count l.count
