@@ -255,14 +255,18 @@ shows_ledgers head assume names holdings lines ledgers =
     (length ledgers == length lines)
     && list_all (shows_ledger_at head assume names holdings lines ledgers) (range_with_len 0 (length lines))
 
--- The text is a picture, with the first line's grace, delay and bookies, and with these ledgers.
-pub record IsCut (head : Head) (lines : List LedgerLine) (assume : Assume) (text : List ℕ) : Type 0 where
-  pub listed : Listed
-  pub cluster : Cluster
-  pub lists : Lists text listed
-  pub is_picture : picture_of text ≡ Ok cluster
+-- A picture that lists this, and shows that cluster, has the first line's grace, delay and bookies, and these ledgers.
+pub record IsShown (head : Head) (lines : List LedgerLine) (assume : Assume) (listed : Listed) (cluster : Cluster) : Type 0 where
   pub grace : cluster.grace ≡ head.grace
   pub delay : cluster.delay ≡ head.delay
   pub bookies : shows_bookies head listed.listing.names listed.listing.lost_at.items listed.marks.items ≡ true
   pub ledgers : shows_ledgers head assume listed.listing.names listed.listing.holdings.items lines
       listed.listing.ledgers.items ≡ true
+
+-- The text is such a picture.
+pub record IsCut (head : Head) (lines : List LedgerLine) (assume : Assume) (text : List ℕ) : Type 0 where
+  pub listed : Listed
+  pub cluster : Cluster
+  pub lists : Lists text listed
+  pub is_picture : picture_of text ≡ Ok cluster
+  pub shown : IsShown head lines assume listed cluster

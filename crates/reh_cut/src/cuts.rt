@@ -1,5 +1,5 @@
 // The picture of some ledgers of an inventory.
-ghost use Rattle.std.specs.Prelude.{◌≡◌, IfOk, OnOk, Ok, string_bytes};
+ghost use Rattle.std.specs.Prelude.{◌≡◌, IfOk, IsTrue, OnOk, Ok, string_bytes};
 ghost use Rattle.reh_cut.specs.Cuts as model;
 ghost use Rattle.reh_picture.specs.Listings.{Lists};
 ghost use Rattle.reh_picture.specs.Pictures.{picture_of};
@@ -70,16 +70,27 @@ fn check_cut(
 {
     let listed = listed_in(alloc, text)?;
     let state = state_in(alloc, text)?;
-    if state.grace() != head.grace || state.delay() != head.delay {
-        return Err(CutFault::Differs);
+    if is_shown(head, assume, lines, &listed, &state) {
+        Ok(())
+    } else {
+        Err(CutFault::Differs)
     }
-    if !shows_bookies(head, &listed.listing, &listed.marks) {
-        return Err(CutFault::Differs);
-    }
-    if !shows_ledgers(head, assume, &listed.listing, lines) {
-        return Err(CutFault::Differs);
-    }
-    Ok(())
+}
+
+/// Whether a picture that lists this, with that state, shows these ledgers as their lines do.
+fn is_shown(
+    head: &Head,
+    assume: Assume,
+    lines: &[LedgerLine],
+    listed: &Listed,
+    state: &State,
+) -> bool
+    ensures { IsTrue result → model.IsShown head.now lines.now assume listed.now state.now }
+{
+    state.grace() == head.grace
+        && state.delay() == head.delay
+        && shows_bookies(head, &listed.listing, &listed.marks)
+        && shows_ledgers(head, assume, &listed.listing, lines)
 }
 
 /// The first fault of lines that is found without a picture.

@@ -7,7 +7,7 @@ use Rattle.reh_types.specs.Sets as set
 use Rattle.reh_types.specs.Sets.{Set, numbers}
 use Rattle.reh_model.specs.Cluster.{Cluster}
 use Rattle.reh_commands.specs.Answers.{asked}
-use Rattle.reh_plan.specs.Plans.{Draft, GoesOnBy, IsWithout, IsLeftLine, IsNaming, Loses, OnlyLeft, Works, is_all_asked, losses_of}
+use Rattle.reh_plan.specs.Plans.{Draft, GoesOnBy, IsWithout, IsLeftLine, IsNaming, IsPlayed, Loses, OnlyLeft, Works, is_all_asked, losses_of}
 use Rattle.reh_plan.proofs.PlanLaws.{IsWithout-works}
 
 abbrev pub empty_draft : Cluster → Draft
@@ -28,7 +28,7 @@ only_commands d all =
     d.lines (AllPass-from_list_all (λ line. is_some (asked d.opening.names line)) d.lines all)
 
 -- bookies are lost, work is done, and what is left is named
-pub planned : (s : Cluster) (lost : Set numbers) (may : ℕ → Bool) (l w n : Draft) → Loses (empty_draft s) (set.contains lost) (losses_of s (set.contains lost) (length s.names)) l
+planned : (s : Cluster) (lost : Set numbers) (may : ℕ → Bool) (l w n : Draft) → Loses (empty_draft s) (set.contains lost) (losses_of s (set.contains lost) (length s.names)) l
     → Works may l w → IsNaming w n → IsPlanned s lost may n
 planned s lost may l w n first then last =
     let opening : w.opening ≡ s = then.opening ∙ first.opening in
@@ -47,3 +47,12 @@ planned s lost may l w n first then last =
           subst (λ (o : Cluster). OnlyLeft o.names n.state n.lines) (last.opening ∙ opening)
           (last.only (only_commands w all));
     }
+
+-- so a plan that begins without a line
+pub planned-alone : (s : Cluster) (lost : Set numbers) (may : ℕ → Bool) (d n : Draft) → d ≡ empty_draft s
+    → IsPlayed d (set.contains lost) may n → IsPlanned s lost may n
+planned-alone s lost may d n begun played =
+    planned s lost may played.lost played.worked n
+    (subst (λ (b : Draft). Loses b (set.contains lost) (losses_of b.state (set.contains lost) (length b.state.names)) played.lost)
+    begun played.loses)
+    played.works played.naming

@@ -182,3 +182,11 @@ pub record IsNaming (d n : Draft) : Type 0 where
   pub events : n.events ≡ d.events
   pub named : AllNamed n.state n.lines n.state.parts.ledgers
   pub only : OnlyLeft d.opening.names d.state d.lines → OnlyLeft n.opening.names n.state n.lines
+
+-- the plan goes on from d to n by the losses of these bookies, by AutoRecovery's work, and by comments on what is left
+pub record IsPlayed (d : Draft) (is_lost : ℕ → Bool) (may : ℕ → Bool) (n : Draft) : Type 0 where
+  pub lost : Draft
+  pub worked : Draft
+  pub loses : Loses d is_lost (losses_of d.state is_lost (length d.state.names)) lost
+  pub works : Works may lost worked
+  pub naming : IsNaming worked n

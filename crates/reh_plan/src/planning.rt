@@ -7,7 +7,7 @@ ghost use Rattle.reh_model.specs.Session.{replay, opened_session};
 ghost use Rattle.reh_transcript.specs.Transcript.{starting, transcript};
 ghost use Rattle.reh_plan.specs.Replies.{ok_answers};
 ghost use Rattle.reh_types.specs.Sets as set;
-ghost use Rattle.reh_plan.specs.Plans.{Asks, Works, Loses, GoesOnBy, IsWithout, AllNamed, OnlyLeft, IsNaming, losses_of};
+ghost use Rattle.reh_plan.specs.Plans.{Asks, Works, Loses, GoesOnBy, IsWithout, AllNamed, OnlyLeft, IsNaming, IsPlayed, losses_of};
 ghost use Rattle.reh_plan.specs.Plans.{is_filled_by};
 ghost use Rattle.reh_plan.specs.Summaries.{IsSum};
 ghost use Rattle.reh_plan.specs.Workers.{can_work, may_work};
@@ -69,15 +69,30 @@ pub fn plan(
 {
     let held = holdings_of(alloc, &state)?;
     let mut plan = Plan::begin(alloc, state)?;
-    lose_all(&mut plan, lost)?;
-    publish(&mut plan)?;
-    let mut workers = Workers::of(alloc, plan.state(), allowed, read_only)?;
-    grant_all(&mut plan, &workers)?;
-    let reasons = work_all(alloc, &mut plan, &mut workers)?;
-    leave_all(&mut plan, &reasons)?;
+    play(alloc, &mut plan, lost, allowed, read_only)?;
     let _checked = plan.text();
     let summary = summary_of(alloc, &held, &plan)?;
     Ok(Planned { plan, summary })
+}
+
+/// Loses these bookies, plays AutoRecovery to its end, and names what is left.
+fn play(
+    alloc: Global,
+    plan: &mut Plan,
+    lost: &BookieSet,
+    allowed: &BookieSet,
+    read_only: &BookieSet,
+) -> Result<(), PlanFault>
+    ensures { OnOk result
+        (IsPlayed plan.old (set.contains lost.now) (may_work (allowed.now, read_only.now)) plan.new) }
+{
+    lose_all(plan, lost)?;
+    publish(plan)?;
+    let mut workers = Workers::of(alloc, plan.state(), allowed, read_only)?;
+    grant_all(plan, &workers)?;
+    let reasons = work_all(alloc, plan, &mut workers)?;
+    leave_all(plan, &reasons)?;
+    Ok(())
 }
 
 /// Loses these bookies, those that are registered.

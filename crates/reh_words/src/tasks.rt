@@ -336,146 +336,155 @@ fn command<'a>(alloc: Global, ways: &'a str) -> Result<Command<'a>, Error> {
         .about(ABOUT)
         .after_help(ways)
         .disable_help_subcommand(true);
-    let command = with_style(alloc, command)?
-        .subcommand(run_command(alloc)?)?
-        .subcommand(talk_command(alloc)?)?
-        .subcommand(check_command(alloc)?)?
-        .subcommand(drill_command(alloc)?)?
-        .subcommand(stop_command(alloc)?)?
-        .subcommand(waves_command(alloc)?)?
-        .subcommand(risk_command(alloc)?)?
-        .subcommand(census_command(alloc)?)?
+    let command = with_plays(alloc, with_style(alloc, command)?)?;
+    let command = with_questions(alloc, command)?
         .subcommand(cut_command(alloc)?)?
         .subcommand(plan_command(alloc)?)?
         .subcommand(help_command(alloc)?)?;
     Ok(command)
 }
 
+/// The command with its subcommands for scripts.
+fn with_plays<'a>(alloc: Global, command: Command<'a>) -> Result<Command<'a>, Error> {
+    let command = command
+        .subcommand(run_command(alloc)?)?
+        .subcommand(talk_command(alloc)?)?
+        .subcommand(check_command(alloc)?)?
+        .subcommand(drill_command(alloc)?)?;
+    Ok(command)
+}
+
+/// The command with its subcommands for what may be stopped.
+fn with_questions<'a>(alloc: Global, command: Command<'a>) -> Result<Command<'a>, Error> {
+    let command = command
+        .subcommand(stop_command(alloc)?)?
+        .subcommand(waves_command(alloc)?)?
+        .subcommand(risk_command(alloc)?)?
+        .subcommand(census_command(alloc)?)?;
+    Ok(command)
+}
+
 /// The command `run`.
 fn run_command<'a>(alloc: Global) -> Result<Command<'a>, Error> {
-    let script = Arg::new(alloc, "SCRIPT")
-        .required(true)
-        .help("A file with the script");
-    let workers = workers_arg(alloc)?.help(
-        "How many workers make each survey, 1 to 8; by default 1",
-    );
-    let picture_out = Arg::new(alloc, "picture-out")
-        .long("picture-out")
-        .value_name("FILE")
-        .help("A file for the picture of the state at the end");
     let command = Command::new(alloc, "run")
         .about("Plays a script on a picture, each in a file")
-        .after_help(helps::RUN)
-        .arg(picture_arg(alloc))?
-        .arg(script)?
-        .arg(workers)?
-        .arg(picture_out)?;
-    Ok(command)
+        .after_help(helps::RUN);
+    let command = with_arg(Ok(command), picture_arg(alloc));
+    let command = with_arg(
+        command,
+        file_arg(alloc, "SCRIPT").help("A file with the script"),
+    );
+    let command = with_arg(
+        command,
+        workers_arg(alloc).help("How many workers make each survey, 1 to 8; by default 1"),
+    );
+    with_arg(
+        command,
+        value_arg(alloc, "picture-out", "FILE").help(
+            "A file for the picture of the state at the end",
+        ),
+    )
 }
 
 /// The command `talk`.
 fn talk_command<'a>(alloc: Global) -> Result<Command<'a>, Error> {
     let command = Command::new(alloc, "talk")
         .about("Plays what is typed on a picture: each line is answered before more is read")
-        .after_help(helps::TALK)
-        .arg(picture_arg(alloc))?;
-    Ok(command)
+        .after_help(helps::TALK);
+    with_arg(Ok(command), picture_arg(alloc))
 }
 
 /// The command `check`.
 fn check_command<'a>(alloc: Global) -> Result<Command<'a>, Error> {
-    let script = Arg::new(alloc, "SCRIPT").help(
-        "A file with a script: which of its lines are faulty, and what is near; nothing is played",
-    );
     let command = Command::new(alloc, "check")
         .about("Says how much a picture or an inventory shows, or where it is wrong")
-        .after_help(helps::CHECK)
-        .arg(picture_arg(alloc))?
-        .arg(script)?;
-    Ok(command)
+        .after_help(helps::CHECK);
+    let command = with_arg(Ok(command), picture_arg(alloc));
+    with_arg(
+        command,
+        Arg::new(alloc, "SCRIPT").help(
+            "A file with a script: which of its lines are faulty, and what is near; nothing is played",
+        ),
+    )
 }
 
 /// The command `drill`.
 fn drill_command<'a>(alloc: Global) -> Result<Command<'a>, Error> {
-    let scripts = Arg::new(alloc, "SCRIPT")
-        .required(true)
-        .num_args(1..=MAX_OPERATORS)
-        .help("Files with the scripts of the operators, 1 to 8");
     let command = Command::new(alloc, "drill")
         .about("Plays scripts on a picture, each by an operator with a thread of its own")
-        .after_help(helps::DRILL)
-        .arg(picture_arg(alloc))?
-        .arg(scripts)?;
-    Ok(command)
+        .after_help(helps::DRILL);
+    let command = with_arg(Ok(command), picture_arg(alloc));
+    with_arg(
+        command,
+        file_arg(alloc, "SCRIPT")
+            .num_args(1..=MAX_OPERATORS)
+            .help("Files with the scripts of the operators, 1 to 8"),
+    )
 }
 
 /// The command `plan`.
 fn plan_command<'a>(alloc: Global) -> Result<Command<'a>, Error> {
-    let lost = Arg::new(alloc, "lose")
-        .long("lose")
-        .value_name("BOOKIE")
-        .value_delimiter(',')
-        .help("The bookies to lose, with commas between them");
-    let allowed = Arg::new(alloc, "to")
-        .long("to")
-        .value_name("BOOKIE")
-        .value_delimiter(',')
-        .help("The bookies that may take their places; by default all");
-    let expects = flag_arg(alloc, "expect").help("As a runbook, with the expected answers");
     let sums = flag_arg(alloc, "summary")
         .help("Only what the plan comes to")
         .conflicts_with("expect")?;
     let command = Command::new(alloc, "plan")
         .about("Plays AutoRecovery without some bookies, and prints the script")
-        .after_help(helps::PLAN)
-        .arg(lost)?
-        .arg(allowed)?
-        .arg(expects)?
-        .arg(sums)?
-        .arg(picture_arg(alloc))?;
-    Ok(command)
+        .after_help(helps::PLAN);
+    let command = with_arg(
+        Ok(command),
+        list_arg(alloc, "lose", "BOOKIE").help("The bookies to lose, with commas between them"),
+    );
+    let command = with_arg(
+        command,
+        list_arg(alloc, "to", "BOOKIE").help(
+            "The bookies that may take their places; by default all",
+        ),
+    );
+    let command = with_arg(
+        command,
+        flag_arg(alloc, "expect").help("As a runbook, with the expected answers"),
+    );
+    let command = with_arg(command, sums);
+    with_arg(command, picture_arg(alloc))
 }
 
 /// The command `ok-to-stop`.
 fn stop_command<'a>(alloc: Global) -> Result<Command<'a>, Error> {
-    let bookies = Arg::new(alloc, "lose")
-        .long("lose")
-        .value_name("BOOKIE")
-        .action(ArgAction::Append)
-        .allow_hyphen_values(true)
-        .help("The bookies to stop, with commas between them");
-    let racks = Arg::new(alloc, "lose-rack")
-        .long("lose-rack")
-        .value_name("RACK")
-        .value_delimiter(',')
-        .action(ArgAction::Append)
-        .allow_hyphen_values(true)
-        .help("The racks whose bookies are to stop, with commas between them");
     let command = Command::new(alloc, "ok-to-stop")
         .about("Says whether bookies may be stopped, and what that leaves with too few copies")
-        .after_help(helps::STOP)
-        .arg(bookies)?
-        .arg(racks)?;
+        .after_help(helps::STOP);
+    let command = with_arg(
+        Ok(command),
+        value_arg(alloc, "lose", "BOOKIE")
+            .action(ArgAction::Append)
+            .allow_hyphen_values(true)
+            .help("The bookies to stop, with commas between them"),
+    );
+    let command = with_arg(
+        command,
+        list_arg(alloc, "lose-rack", "RACK")
+            .action(ArgAction::Append)
+            .allow_hyphen_values(true)
+            .help("The racks whose bookies are to stop, with commas between them"),
+    )?;
     with_inputs(alloc, with_question(alloc, command)?)
 }
 
 /// The command `waves`.
 fn waves_command<'a>(alloc: Global) -> Result<Command<'a>, Error> {
-    let racks = flag_arg(alloc, "racks").help("Each round is of one rack");
     let command = Command::new(alloc, "waves")
         .about("Parts the bookies into rounds, each of which may be stopped together")
         .after_help(helps::WAVES)
-        .arg(racks)?;
+        .arg(flag_arg(alloc, "racks").help("Each round is of one rack"))?;
     with_inputs(alloc, with_question(alloc, command)?)
 }
 
 /// The command `risk`.
 fn risk_command<'a>(alloc: Global) -> Result<Command<'a>, Error> {
-    let pairs = flag_arg(alloc, "pairs").help("Each two bookies, too");
     let command = Command::new(alloc, "risk")
         .about("Says what the loss of each bookie and each rack would cost, the worst first")
         .after_help(helps::RISK)
-        .arg(pairs)?;
+        .arg(flag_arg(alloc, "pairs").help("Each two bookies, too"))?;
     with_inputs(alloc, with_question(alloc, command)?)
 }
 
@@ -489,37 +498,37 @@ fn census_command<'a>(alloc: Global) -> Result<Command<'a>, Error> {
 
 /// The command `cut`.
 fn cut_command<'a>(alloc: Global) -> Result<Command<'a>, Error> {
-    let ledgers = Arg::new(alloc, "ledgers")
-        .long("ledgers")
-        .value_name("ID")
-        .value_delimiter(',')
-        .value_parser(value_parser!(u64))
-        .action(ArgAction::Append)
-        .required(true)
-        .help("The ids of the ledgers, with commas between them");
-    let held = flag_arg(alloc, "assume-held").help(
-        "What nobody tells of a member's entries is assumed to be held",
-    );
     let empty = flag_arg(alloc, "assume-empty")
         .help("What nobody tells of a member's entries is assumed not to be held")
         .conflicts_with("assume-held")?;
-    let window = Arg::new(alloc, "window")
-        .long("window")
-        .value_name("K")
-        .value_parser(value_parser!(u64))
-        .help("Of each ledger only window K, from 0 on, of at most 65536 entries");
-    let inventory = Arg::new(alloc, "INVENTORY")
-        .required(true)
-        .help("A file with the inventory");
     let command = Command::new(alloc, "cut")
         .about("Prints the picture of some ledgers of an inventory, for a rehearsal")
-        .after_help(helps::CUT)
-        .arg(ledgers)?
-        .arg(held)?
-        .arg(empty)?
-        .arg(window)?
-        .arg(inventory)?;
-    Ok(command)
+        .after_help(helps::CUT);
+    let command = with_arg(
+        Ok(command),
+        list_arg(alloc, "ledgers", "ID")
+            .value_parser(value_parser!(u64))
+            .action(ArgAction::Append)
+            .required(true)
+            .help("The ids of the ledgers, with commas between them"),
+    );
+    let command = with_arg(
+        command,
+        flag_arg(alloc, "assume-held").help(
+            "What nobody tells of a member's entries is assumed to be held",
+        ),
+    );
+    let command = with_arg(command, empty);
+    let command = with_arg(
+        command,
+        value_arg(alloc, "window", "K")
+            .value_parser(value_parser!(u64))
+            .help("Of each ledger only window K, from 0 on, of at most 65536 entries"),
+    );
+    with_arg(
+        command,
+        file_arg(alloc, "INVENTORY").help("A file with the inventory"),
+    )
 }
 
 /// The command `help`.
@@ -544,55 +553,65 @@ const KEEPS: &[&str] = &[
 
 /// The command with the arguments for what a stop may break.
 fn with_question<'a>(alloc: Global, command: Command<'a>) -> Result<Command<'a>, Error> {
-    let keep = Arg::new(alloc, "keep")
-        .long("keep")
-        .value_name("COPIES")
+    let keep = value_arg(alloc, "keep", "COPIES")
         .value_parser(KEEPS)
         .help("How many copies each entry is to keep, or ack-1; by default its ledger's ack quorum")
         .conflicts_with("allow-under-ack")?;
-    let ensemble = Arg::new(alloc, "ensemble")
-        .long("ensemble")
-        .value_name("SIZE")
-        .value_parser(value_parser!(u64).range(1..=64))
-        .help("New ledgers of this ensemble size are to find bookies, too");
-    let racks = Arg::new(alloc, "min-racks")
-        .long("min-racks")
-        .value_name("RACKS")
-        .value_parser(value_parser!(u64).range(1..=4096))
-        .help("The bookies that can be written to are to stand in so many racks");
-    let command = command
-        .arg(keep)?
-        .arg(flag_arg(alloc, "allow-under-ack").help("The same as --keep 1"))?
-        .arg(flag_arg(alloc, "allow-blocked-recovery").help(
+    let command = with_arg(Ok(command), keep);
+    let command = with_arg(
+        command,
+        flag_arg(alloc, "allow-under-ack").help("The same as --keep 1"),
+    );
+    let command = with_arg(
+        command,
+        flag_arg(alloc, "allow-blocked-recovery").help(
             "Ledgers that aren't closed need only keep as many members as copies",
-        ))?
-        .arg(flag_arg(alloc, "allow-blocked-writers").help("Writers may find no ensemble"))?
-        .arg(ensemble)?
-        .arg(racks)?
-        .arg(flag_arg(alloc, "for-good").help("The bookies don't come back"))?;
-    Ok(command)
+        ),
+    );
+    let command = with_arg(
+        command,
+        flag_arg(alloc, "allow-blocked-writers").help("Writers may find no ensemble"),
+    );
+    let command = with_arg(
+        command,
+        number_arg(alloc, "ensemble", "SIZE", 64).help(
+            "New ledgers of this ensemble size are to find bookies, too",
+        ),
+    );
+    let command = with_arg(
+        command,
+        number_arg(alloc, "min-racks", "RACKS", 4096).help(
+            "The bookies that can be written to are to stand in so many racks",
+        ),
+    );
+    with_arg(
+        command,
+        flag_arg(alloc, "for-good").help("The bookies don't come back"),
+    )
 }
 
 /// The command with the arguments for the files of a cluster, and for the form of the answer.
 fn with_inputs<'a>(alloc: Global, command: Command<'a>) -> Result<Command<'a>, Error> {
-    let format = Arg::new(alloc, "format")
-        .long("format")
-        .value_name("FORMAT")
-        .value_parser(FORMATS)
-        .help("How the answer is printed; by default text");
-    let workers = workers_arg(alloc)?.help("How many workers read files, 1 to 8; by default 1");
-    let files = Arg::new(alloc, "FILE")
-        .required(true)
-        .num_args(1..=MAX_FILES)
-        .help(
+    let command = with_arg(
+        Ok(command),
+        value_arg(alloc, "format", "FORMAT")
+            .value_parser(FORMATS)
+            .help("How the answer is printed; by default text"),
+    );
+    let command = with_arg(
+        command,
+        flag_arg(alloc, "strict").help("What the files assume of bookies counts as untold"),
+    );
+    let command = with_arg(
+        command,
+        workers_arg(alloc).help("How many workers read files, 1 to 8; by default 1"),
+    );
+    with_arg(
+        command,
+        file_arg(alloc, "FILE").num_args(1..=MAX_FILES).help(
             "Files with pictures or inventories of one cluster, or with censuses of them, judged as one",
-        );
-    let command = command
-        .arg(format)?
-        .arg(flag_arg(alloc, "strict").help("What the files assume of bookies counts as untold"))?
-        .arg(workers)?
-        .arg(files)?;
-    Ok(command)
+        ),
+    )
 }
 
 /// How an answer is printed.
@@ -603,18 +622,38 @@ fn flag_arg<'a>(alloc: Global, name: &'a str) -> Arg<'a> {
     Arg::new(alloc, name).long(name).action(ArgAction::SetTrue)
 }
 
+/// The command, if there is one, with this argument too.
+fn with_arg<'a>(command: Result<Command<'a>, Error>, arg: Arg<'a>) -> Result<Command<'a>, Error> {
+    let command = command?.arg(arg)?;
+    Ok(command)
+}
+
+/// An argument with a value of that name.
+fn value_arg<'a>(alloc: Global, name: &'a str, value: &'a str) -> Arg<'a> {
+    Arg::new(alloc, name).long(name).value_name(value)
+}
+
+/// An argument with values of that name, with commas between them.
+fn list_arg<'a>(alloc: Global, name: &'a str, value: &'a str) -> Arg<'a> {
+    value_arg(alloc, name, value).value_delimiter(',')
+}
+
+/// An argument for a number from 1 to the greatest.
+fn number_arg<'a>(alloc: Global, name: &'a str, value: &'a str, greatest: i64) -> Arg<'a> {
+    value_arg(alloc, name, value).value_parser(value_parser!(u64).range(1..=greatest))
+}
+
 /// The argument for a number of workers, 1 to 8.
-fn workers_arg<'a>(alloc: Global) -> Result<Arg<'a>, Error> {
-    let workers = Arg::new(alloc, "workers")
-        .long("workers")
-        .value_name("N")
-        .value_parser(value_parser!(u64).range(1..=MAX_WORKERS as i64));
-    Ok(workers)
+fn workers_arg<'a>(alloc: Global) -> Arg<'a> {
+    number_arg(alloc, "workers", "N", MAX_WORKERS as i64)
+}
+
+/// An argument that has to be given, and names a file.
+fn file_arg<'a>(alloc: Global, name: &'a str) -> Arg<'a> {
+    Arg::new(alloc, name).required(true)
 }
 
 /// The argument that names a picture's file.
 fn picture_arg<'a>(alloc: Global) -> Arg<'a> {
-    Arg::new(alloc, "PICTURE")
-        .required(true)
-        .help("A file with the picture, as rehearse cut prints it")
+    file_arg(alloc, "PICTURE").help("A file with the picture, as rehearse cut prints it")
 }

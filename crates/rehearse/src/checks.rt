@@ -2,10 +2,11 @@
 use crate::faults::RunFault;
 use crate::files::{PICTURE_BYTES, open_file, read_on, read_picture, read_script, write_out};
 use crate::inventories::{INVENTORY_BEGINS, check_inventory};
-use reh_lint::lint;
+use reh_cluster::Names;
+use reh_lint::{Linted, lint};
 use reh_picture::{Counts, check_picture};
 use reh_types::MAX_SCRIPT_BYTES;
-use std::alloc::Global;
+use std::alloc::{AllocError, Global};
 
 /// The status where lines of a script are faulty, as where a picture is refused.
 const FAULTY: u8 = 3;
@@ -15,15 +16,25 @@ const FAULTY: u8 = 3;
 pub(crate) fn check_script(rt: &HostRuntime, picture: &str, path: &str) -> Result<u8, RunFault> {
     let bytes = read_picture(rt, picture)?;
     let state = check_picture(rt.alloc(), &bytes)?;
+    check_lines(rt, state.names(), path)
+}
+
+/// The same, where the picture's bookies have these names.
+fn check_lines(rt: &HostRuntime, names: &Names, path: &str) -> Result<u8, RunFault> {
     let script = read_script(rt, path)?;
-    let mut lint = lint(rt.alloc(), state.names(), path, &script)?;
-    let (commands, faulty) = (lint.commands, lint.faulty);
-    write!(lint.text, "commands {commands} faulty {faulty}\n")?;
+    let lint = summed(lint(rt.alloc(), names, path, &script)?)?;
     write_out(rt, lint.text.as_bytes())?;
     if script.len() > MAX_SCRIPT_BYTES {
         return Err(RunFault::TooLong);
     }
-    Ok(if faulty > 0 { FAULTY } else { 0 })
+    Ok(if lint.faulty > 0 { FAULTY } else { 0 })
+}
+
+/// What was found, with a last line that says how many commands there are, and how many lines are faulty.
+fn summed(mut lint: Linted) -> Result<Linted, AllocError> {
+    let (commands, faulty) = (lint.commands, lint.faulty);
+    write!(lint.text, "commands {commands} faulty {faulty}\n")?;
+    Ok(lint)
 }
 
 /// Checks the picture or the inventory in a file, and says to standard output how much there is in it. It is an inventory

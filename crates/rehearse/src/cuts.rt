@@ -114,15 +114,21 @@ fn no_ledger_text(alloc: Global, path: &str, ids: &[u64], id: u64) -> Result<Str
 /// Which of these ids are near one that isn't among them.
 fn near_text(alloc: Global, ids: &[u64], id: u64) -> Result<String, AllocError> {
     let texts = texts_of(alloc, ids)?;
-    let mut names = Vec::new(alloc);
-    for text in &texts {
-        names.push(text.as_str())?;
-    }
+    let names = words_of(alloc, &texts)?;
     let word = format!(in alloc; "{id}")?;
     match near_to(alloc, &names, word.as_bytes())? {
         Near::Longer(one) => format!(in alloc; ": near it is '{one}'"),
         near => format!(in alloc; "{near}"),
     }
+}
+
+/// The same texts, borrowed.
+fn words_of<'a>(alloc: Global, texts: &'a [String]) -> Result<Vec<&'a str>, AllocError> {
+    let mut words = Vec::new(alloc);
+    for text in texts {
+        words.push(text.as_str())?;
+    }
+    Ok(words)
 }
 
 /// The ids in digits.

@@ -143,11 +143,20 @@ pub(crate) fn count_inventory<T: thread::Threads + Sync>(
     let Source { alloc, path, .. } = source;
     let mut reader = reader_of(alloc, path, file)?;
     let names = names_in(threads, source, &mut reader)?;
+    let mut reader = from_start(alloc, path, reader)?;
+    count_lines(threads, source, &mut reader, names, is_strict)
+}
+
+/// A reader of the same file, from its beginning.
+fn from_start(
+    alloc: Global,
+    path: &str,
+    reader: BufReader<File>,
+) -> Result<BufReader<File>, RunFault> {
     let mut file = reader.into_inner();
     file.rewind()
         .map_err(|error| unread(alloc, "read", path, error))?;
-    let mut reader = reader_of(alloc, path, file)?;
-    count_lines(threads, source, &mut reader, names, is_strict)
+    reader_of(alloc, path, file)
 }
 
 /// The census of the inventory of these bytes.
@@ -188,26 +197,39 @@ fn names_in<R: Read + Drop, T: thread::Threads + Sync>(
     source: Source<'_>,
     reader: &mut BufReader<R>,
 ) -> Result<NameList, RunFault> {
+    let mut names = NameList::new(source.alloc);
+    let (mut number, mut lines) = (1_u64, 1_u64);
+    for _batch in 0..u64::MAX {
+        if lines == 0 {
+            break;
+        }
+        lines = number_batch(threads, source, reader, number, &mut names)?;
+        number = number.saturating_add(lines);
+    }
+    let ordered = in_order(source.alloc, &names)?;
+    Ok(ordered)
+}
+
+/// Gives each bookie that the next lines name a number, if it has none, and says how many lines there were: none at the end.
+/// The first of them has this number.
+fn number_batch<R: Read + Drop, T: thread::Threads + Sync>(
+    threads: &T,
+    source: Source<'_>,
+    reader: &mut BufReader<R>,
+    first: u64,
+    names: &mut NameList,
+) -> Result<u64, RunFault> {
     let Source {
         alloc,
         path,
         workers,
     } = source;
-    let mut names = NameList::new(alloc);
-    let mut number = 1_u64;
-    for _batch in 0..u64::MAX {
-        let Batch { lines, fault } = next_lines(alloc, path, reader)?;
-        if lines.is_empty() && fault.is_none() {
-            break;
-        }
-        let next = number.saturating_add(lines.len() as u64);
-        let lines = parse_lines(threads, alloc, workers, lines)?;
-        number_lines(alloc, path, number, &mut names, lines)?;
-        unless(fault)?;
-        number = next;
-    }
-    let ordered = in_order(alloc, &names)?;
-    Ok(ordered)
+    let Batch { lines, fault } = next_lines(alloc, path, reader)?;
+    let count = lines.len() as u64;
+    let lines = parse_lines(threads, alloc, workers, lines)?;
+    number_lines(alloc, path, first, names, lines)?;
+    unless(fault)?;
+    Ok(count)
 }
 
 /// Gives each bookie that these lines name a number, if it has none. The first line has this number.
@@ -309,28 +331,70 @@ fn count_lines<R: Read + Drop, T: thread::Threads + Sync>(
 ) -> Result<CountedInventory, RunFault>
     ensures { IfOk result model.IsOfLines }
 {
+    let Source { alloc, path, .. } = source;
+    let mut count = count_first(alloc, path, reader, names, is_strict)?;
+    count_others(threads, source, reader, &mut count)?;
+    let counted = finish(alloc, path, count)?;
+    Ok(counted)
+}
+
+/// Begins to count, with the first line that is read.
+fn count_first<R: Read + Drop>(
+    alloc: Global,
+    path: &str,
+    reader: &mut BufReader<R>,
+    names: NameList,
+    is_strict: bool,
+) -> Result<InventoryCount, RunFault>
+    ensures { IfOk result (model.IsCounting is_strict) }
+{
+    let mut line = Vec::new(alloc);
+    read_line(alloc, path, reader, &mut line)?;
+    let count = begin(alloc, path, names, is_strict, &line)?;
+    Ok(count)
+}
+
+/// Counts the lines after the first.
+fn count_others<R: Read + Drop, T: thread::Threads + Sync>(
+    threads: &T,
+    source: Source<'_>,
+    reader: &mut BufReader<R>,
+    count: &mut InventoryCount,
+) -> Result<(), RunFault>
+    ensures { OnOk result (model.GoesOn count.old count.new) }
+{
+    let (mut number, mut lines) = (2_u64, 1_u64);
+    for _batch in 0..u64::MAX {
+        if lines == 0 {
+            break;
+        }
+        lines = count_batch(threads, source, reader, number, count)?;
+        number = number.saturating_add(lines);
+    }
+    Ok(())
+}
+
+/// Counts the next lines, and says how many there were: none at the end. The first of them has this number.
+fn count_batch<R: Read + Drop, T: thread::Threads + Sync>(
+    threads: &T,
+    source: Source<'_>,
+    reader: &mut BufReader<R>,
+    first: u64,
+    count: &mut InventoryCount,
+) -> Result<u64, RunFault>
+    ensures { OnOk result (model.GoesOn count.old count.new) }
+{
     let Source {
         alloc,
         path,
         workers,
     } = source;
-    let mut line = Vec::new(alloc);
-    read_line(alloc, path, reader, &mut line)?;
-    let mut count = begin(alloc, path, names, is_strict, &line)?;
-    let mut number = 2_u64;
-    for _batch in 0..u64::MAX {
-        let Batch { lines, fault } = next_lines(alloc, path, reader)?;
-        if lines.is_empty() && fault.is_none() {
-            break;
-        }
-        let next = number.saturating_add(lines.len() as u64);
-        let lines = count_each(threads, alloc, workers, &count, lines)?;
-        add_lines(alloc, path, number, &mut count, lines)?;
-        unless(fault)?;
-        number = next;
-    }
-    let counted = finish(alloc, path, count)?;
-    Ok(counted)
+    let Batch { lines, fault } = next_lines(alloc, path, reader)?;
+    let number = lines.len() as u64;
+    let lines = count_each(threads, alloc, workers, count, lines)?;
+    add_lines(alloc, path, first, count, lines)?;
+    unless(fault)?;
+    Ok(number)
 }
 
 /// The fault of a line that can't be counted.
