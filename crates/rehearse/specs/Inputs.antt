@@ -3,7 +3,7 @@ use Rattle.std.specs.Prelude.{◌≡◌, ◌⊎◌, ℕ, ◌%◌, Bool, true, fa
 use Rattle.std.specs.Borrow.{Bor}
 use Rattle.std.specs.Fmt.{decimal}
 use Rattle.std.specs.List.{flat_map, IsDistinct}
-use Rattle.std.specs.Option.{IsSomeAnd, option_and_then, option_map_or}
+use Rattle.std.specs.Option.{IsSomeAnd, option_and_then, option_map, option_map_or}
 use Rattle.std.specs.declared.alloc.Global.{Global}
 use Rattle.reh_census_file.specs.Texts.{text_of}
 use Rattle.reh_census_file.specs.Values.{NamedCensus}
@@ -83,11 +83,12 @@ pub record IsOfFiles (words : Inputs) (gathered : Gathered) : Type 0 where
   pub apart : AreApart files
   pub gathers : Gathers (map (λ file. file.input) files) words.strict gathered
 
--- and what each of these files is, with the ids of its ledgers
+-- what each of these files is, with the ids of its ledgers, and when the oldest was taken
 pub record AreGathered (words : Inputs) (files : GatheredFiles) : Type 0 where
   pub of_files : IsOfFiles words files.gathered
   pub ids : files.ids.items ≡ map (λ file. file.ids) of_files.files
   pub kinds : files.kinds.items ≡ map (λ file. file.kind) of_files.files
+  pub taken : option_map string_bytes files.taken ≡ taken_of (map (λ file. file.input) of_files.files)
 
 -- what is said of a stop, by all files
 pub record SaysStop (words : StopWords) (said : Said) : Type 0 where
@@ -123,15 +124,10 @@ abbrev pub census_by : Bool → NamedCensus → List ℕ
 census_by as_json census = if as_json then json_of census else text_of census
 
 pub record SaysCensus (words : CensusWords) (text : String Global) : Type 0 where
-  pub files : List FileInput
-  pub each_file : length files ≡ vec_len words.inputs.files
-  pub are_read : All IsOfFile files
-  pub apart : AreApart files
-  pub gathered : Gathered
-  pub gathers : Gathers (map (λ file. file.input) files) words.inputs.strict gathered
+  pub files : GatheredFiles
+  pub are_gathered : AreGathered words.inputs files
   pub says : string_bytes text
-      ≡ census_by words.as_json
-      (named_of gathered words.inputs.strict (taken_of (map (λ file. file.input) files)))
+      ≡ census_by words.as_json (named_of files.gathered words.inputs.strict (option_map string_bytes files.taken))
 
 -- Inputs that can't be judged together
 

@@ -147,15 +147,29 @@ fn weigh_file(
 {
     let alloc = rt.alloc();
     let mut reader = reader_of(alloc, path, open_file(rt, path)?)?;
-    let mut line = Vec::new(alloc);
-    read_line(alloc, path, &mut reader, &mut line)?;
-    let mut again = begin(alloc, path, by, &line)?;
+    let mut again = read_first(alloc, path, by, &mut reader)?;
     weigh_lines(alloc, path, &mut reader, &mut again, by, worst)?;
     if again.is_of(ids) {
         Ok(())
     } else {
         Err(changed(alloc, path))
     }
+}
+
+/// Begins to read an inventory once more, with the first line that is read.
+fn read_first(
+    alloc: Global,
+    path: &str,
+    by: &WeighedBy<'_>,
+    reader: &mut BufReader<File>,
+) -> Result<Rereading, RunFault>
+    ensures { IfOk result (λ again. (first : List ℕ)
+        × IsRereading by.now.names.now by.now.is_strict first [] again) }
+{
+    let mut line = Vec::new(alloc);
+    read_line(alloc, path, reader, &mut line)?;
+    let again = begin(alloc, path, by, &line)?;
+    Ok(again)
 }
 
 /// Begins to read an inventory once more, with its first line.

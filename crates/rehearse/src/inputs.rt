@@ -23,15 +23,18 @@ use reh_picture::{LocatedFault, PictureFault};
 use reh_types::BookieIx;
 use reh_words::{CensusWords, Inputs};
 use std::alloc::{AllocError, Global};
+use std::fs::File;
 use std::sync::Wait;
 use std::thread;
 
-/// What files show together, what each of them is, and the ids of its ledgers.
+/// What files show together, what each of them is, the ids of its ledgers, and when the oldest was taken, if each tells its
+/// time.
 #[derive(Drop)]
 pub(crate) struct GatheredFiles {
     pub(crate) gathered: Gathered,
     pub(crate) ids: Vec<Vec<u64>>,
     pub(crate) kinds: Vec<FileKind>,
+    pub(crate) taken: Option<String>,
 }
 
 /// What the files show together.
@@ -46,6 +49,7 @@ pub(crate) fn gather_files<R: thread::Threads + Wait + Sync>(
     let read = read_files(rt, threads, inputs, progress)?;
     let read = in_parts(rt.alloc(), read)?;
     let gathered = gather_read(threads, rt.alloc(), inputs, &read)?;
+    let taken = copy_taken(rt.alloc(), &read.inputs)?;
     let Parted {
         inputs: shown,
         ids,
@@ -56,6 +60,7 @@ pub(crate) fn gather_files<R: thread::Threads + Wait + Sync>(
         gathered,
         ids,
         kinds,
+        taken,
     })
 }
 
@@ -116,13 +121,14 @@ fn census_of<R: thread::Threads + Wait + Sync>(
 ) -> Result<String, RunFault>
     ensures { IfOk result (λ text. model.SaysCensus words.now text) }
 {
-    let inputs = &words.inputs;
-    let read = read_files(rt, threads, inputs, progress)?;
-    let read = in_parts(rt.alloc(), read)?;
-    let gathered = gather_read(threads, rt.alloc(), inputs, &read)?;
-    let taken = copy_taken(rt.alloc(), &read.inputs)?;
-    let_go(threads, read.inputs, inputs.crew.workers);
-    let census = named_of(rt.alloc(), gathered, inputs.strict, taken)?;
+    let files = gather_files(rt, threads, &words.inputs, progress)?;
+    let GatheredFiles {
+        gathered,
+        taken,
+        ids: _,
+        kinds: _,
+    } = files;
+    let census = named_of(rt.alloc(), gathered, words.inputs.strict, taken)?;
     let text = say_census(rt.alloc(), &census, words.as_json)?;
     Ok(text)
 }
@@ -291,15 +297,35 @@ fn read_one<R: thread::Threads + Sync>(
     };
     match read_input_file(rt, path)? {
         InputBytes::Whole(bytes) => read_whole(alloc, path, &bytes),
-        InputBytes::Inventory(file) => {
-            let counted = count_inventory(threads, source, file, strict)?;
-            Ok(of_inventory(counted, FileKind::Inventory))
-        }
-        InputBytes::Stream(bytes) => {
-            let counted = count_bytes(threads, source, &bytes, strict)?;
-            Ok(of_inventory(counted, FileKind::Stream))
-        }
+        InputBytes::Inventory(file) => read_inventory(threads, source, file, strict),
+        InputBytes::Stream(bytes) => read_stream(threads, source, &bytes, strict),
     }
+}
+
+/// What the file of an inventory shows.
+fn read_inventory<R: thread::Threads + Sync>(
+    threads: &R,
+    source: Source<'_>,
+    file: File,
+    strict: bool,
+) -> Result<FileInput, RunFault>
+    ensures { IfOk result model.IsOfFile }
+{
+    let counted = count_inventory(threads, source, file, strict)?;
+    Ok(of_inventory(counted, FileKind::Inventory))
+}
+
+/// What the bytes of an inventory show.
+fn read_stream<R: thread::Threads + Sync>(
+    threads: &R,
+    source: Source<'_>,
+    bytes: &[u8],
+    strict: bool,
+) -> Result<FileInput, RunFault>
+    ensures { IfOk result model.IsOfFile }
+{
+    let counted = count_bytes(threads, source, bytes, strict)?;
+    Ok(of_inventory(counted, FileKind::Stream))
 }
 
 /// What the bytes of a picture or of a census show.

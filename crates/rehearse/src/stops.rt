@@ -77,6 +77,7 @@ fn say(
         gathered,
         ids: kept,
         kinds,
+        taken: _,
     } = files;
     let verdict = judged(alloc, &gathered, asked)?;
     let Gathered {

@@ -8,9 +8,9 @@ returns-then-is_of c = λ before ledgers was.
     let by = c.args.by.now in
     let all = c.in_ok-weigh_lines.ensures by.names.now by.is_strict before ledgers
     (record {
-      first = c.deref.result.now;
+      first = c.in_ok-again.ensures.0;
       lines = [];
-      weighing = weighs-first by.stop by.names.now by.is_strict before ledgers c.deref.result.now c.in_ok-again.again
-          c.args.worst.now c.in_ok-again.ensures was;
+      weighing = weighs-first by.stop by.names.now by.is_strict before ledgers c.in_ok-again.ensures.0
+          c.in_ok-again.again c.args.worst.now c.in_ok-again.ensures.1 was;
     }) in
     c.is_of.ensures c.if-is_of.true by.stop by.names.now by.is_strict before ledgers all.first all.lines _ all.weighing

@@ -1,8 +1,9 @@
 -- What the files show is gathered, where no ledger stands in two of them.
-use Rattle.std.proofs.Common.{subst, List, ℕ, nat_eq, Vec}
+use Rattle.std.proofs.Common.{◌∙◌, ap, subst, List, ℕ, nat_eq, Vec}
 use Rattle.std.specs.List.{flat_map, IsDistinct}
 use Rattle.std.specs.declared.alloc.Global.{Global}
 use Rattle.reh_inputs.specs.Gathered.{Gathers}
+use Rattle.reh_inputs.specs.Named.{taken_of}
 use Rattle.reh_inputs.specs.declared.inputs.Input.{Input}
 use Rattle.rehearse.proofs.inputs.gather_files.Goals as goal
 
@@ -21,4 +22,5 @@ returns g c = record {
   };
   ids = c.in_ok-read-2.ensures.ids;
   kinds = c.in_ok-read-2.ensures.kinds;
+  taken = c.in_ok-taken.ensures ∙ ap taken_of (c.deref.ensures.value ∙ c.in_ok-read-2.ensures.inputs);
 }
