@@ -1,10 +1,11 @@
 -- What is read of the files of a cluster, and what is said of it.
-use Rattle.std.specs.Prelude.{◌≡◌, ◌⊎◌, ℕ, ◌%◌, Bool, true, false, if◌then◌else◌, List, [], ◌++◌, All, Option, Result, Ok, Err, String, codes, length, map, nat_eq, slice_get, string_bytes, vec_len, IfOk}
+use Rattle.std.specs.Prelude.{◌≡◌, ◌⊎◌, ℕ, ◌%◌, Bool, true, false, if◌then◌else◌, List, [], ◌++◌, All, Option, Result, Ok, Err, String, codes, length, map, nat_eq, slice_get, string_bytes, vec_len, IfOk, IfSome}
 use Rattle.std.specs.Borrow.{Bor}
 use Rattle.std.specs.Fmt.{decimal}
 use Rattle.std.specs.List.{flat_map, IsDistinct}
 use Rattle.std.specs.Option.{IsSomeAnd, option_and_then, option_map, option_map_or}
 use Rattle.std.specs.declared.alloc.Global.{Global}
+use Rattle.reh_after.specs.After.{IsAfter}
 use Rattle.reh_census_file.specs.Texts.{text_of}
 use Rattle.reh_census_file.specs.Values.{NamedCensus}
 use Rattle.reh_census_json.specs.Objects.{json_of}
@@ -61,6 +62,17 @@ pub record IsOfInventory (file : FileInput) : Type 0 where
 abbrev pub IsOfFile : FileInput → Type 0
 IsOfFile file = IsOfBytes file ⊎ IsOfInventory file
 
+-- from some picture some script leads to a state of which the text is the picture
+pub record IsAfterSome (text : List ℕ) : Type 0 where
+  pub picture : List ℕ
+  pub script : List ℕ
+  pub is_after : IsAfter picture script text
+
+-- it is what the picture of such a state shows, with the ids of its ledgers
+pub record IsOfEnd (file : FileInput) : Type 0 where
+  pub of_bytes : IsOfBytes file
+  pub after : IsAfterSome of_bytes.bytes
+
 -- what files show, the ids of each one's ledgers, and what each is
 pub record IsParted (files : List FileInput) (parted : Parted) : Type 0 where
   pub inputs : parted.inputs.items ≡ map (λ file. file.input) files
@@ -83,12 +95,14 @@ pub record IsOfFiles (words : Inputs) (gathered : Gathered) : Type 0 where
   pub apart : AreApart files
   pub gathers : Gathers (map (λ file. file.input) files) words.strict gathered
 
--- what each of these files is, with the ids of its ledgers, and when the oldest was taken
+-- what each of these files is, with the ids of its ledgers, and when the oldest was taken; where a script is played first,
+-- what is shown is the state to which it leads
 pub record AreGathered (words : Inputs) (files : GatheredFiles) : Type 0 where
   pub of_files : IsOfFiles words files.gathered
   pub ids : files.ids.items ≡ map (λ file. file.ids) of_files.files
   pub kinds : files.kinds.items ≡ map (λ file. file.kind) of_files.files
   pub taken : option_map string_bytes files.taken ≡ taken_of (map (λ file. file.input) of_files.files)
+  pub after : IfSome words.after (λ script. All IsOfEnd of_files.files)
 
 -- what is said of a stop, by all files
 pub record SaysStop (words : StopWords) (said : Said) : Type 0 where

@@ -1,5 +1,5 @@
 // The files of a cluster, read by several workers, what they show together, and their census.
-ghost use Rattle.std.specs.Prelude.{◌≡◌, ◌<◌, ◌++◌, ◌∷◌, [], true, All, List, vec_len, length, nat_eq, ℕ, IfOk, OnOk, string_bytes};
+ghost use Rattle.std.specs.Prelude.{◌≡◌, ◌<◌, ◌++◌, ◌∷◌, [], true, All, List, vec_len, length, nat_eq, ℕ, IfOk, IfSome, OnOk, string_bytes};
 ghost use Rattle.std.specs.List.{flat_map, IsDistinct};
 ghost use Rattle.std.specs.Option.{option_map};
 ghost use Rattle.reh_inputs.specs.Gathered.{Gathers};
@@ -8,10 +8,12 @@ ghost use Rattle.reh_inputs.specs.Named.{taken_of as model_taken};
 ghost use Rattle.rehearse.specs.Inputs as model;
 ghost use Rattle.rehearse.specs.Inventories.{IsOfLines};
 
+use crate::afters::text_after;
 use crate::faults::RunFault;
 use crate::files::{InputBytes, read_input_file, write_out};
 use crate::inventories::{CountedInventory, Source, count_bytes, count_inventory};
 use crate::looks::Looks;
+use crate::names::misnamed;
 use crate::progress::{Progress, Teller};
 use reh_census_file::{CensusFault, NamedCensus, census_text};
 use reh_census_json::census_json;
@@ -46,7 +48,7 @@ pub(crate) fn gather_files<R: thread::Threads + Wait + Sync>(
 ) -> Result<GatheredFiles, RunFault>
     ensures { IfOk result (model.AreGathered inputs.now) }
 {
-    let read = read_files(rt, threads, inputs, progress)?;
+    let read = read_inputs(rt, threads, inputs, progress)?;
     let read = in_parts(rt.alloc(), read)?;
     let gathered = gather_read(threads, rt.alloc(), inputs, &read)?;
     let taken = copy_taken(rt.alloc(), &read.inputs)?;
@@ -199,6 +201,54 @@ fn in_parts(alloc: Global, read: Vec<FileInput>) -> Result<Parted, AllocError>
 
 /// What a file shows, once it is read.
 type Slot = Option<Result<FileInput, RunFault>>;
+
+/// What each file shows, in order; or of one picture, what the state shows to which a script leads from it.
+fn read_inputs<R: thread::Threads + Wait + Sync>(
+    rt: &HostRuntime,
+    threads: &R,
+    inputs: &Inputs<'_>,
+    progress: &Progress,
+) -> Result<Vec<FileInput>, RunFault>
+    ensures each { IfOk result (λ read. length read.items ≡ vec_len inputs.now.files) }
+    ensures read { IfOk result (λ read. All model.IsOfFile read.items) }
+    ensures after { IfOk result (λ read. IfSome inputs.now.after (λ _. All model.IsOfEnd read.items)) }
+{
+    match inputs.after {
+        None => read_files(rt, threads, inputs, progress),
+        Some(script) => read_end(rt, &inputs.files, script),
+    }
+}
+
+/// What the state shows to which a script leads from the one picture among these files.
+fn read_end(rt: &HostRuntime, files: &[&str], script: &str) -> Result<Vec<FileInput>, RunFault>
+    ensures each { IfOk result (λ read. length read.items ≡ length files.now) }
+    ensures read { IfOk result (λ read. All model.IsOfFile read.items) }
+    ensures after { IfOk result (λ read. All model.IsOfEnd read.items) }
+{
+    let [picture] = files else {
+        return Err(several_files(rt.alloc()));
+    };
+    let file = end_of(rt, picture, script)?;
+    let mut read = Vec::new(rt.alloc());
+    read.push(file)?;
+    Ok(read)
+}
+
+/// That a script can be played first on one picture alone, or out of memory.
+fn several_files(alloc: Global) -> RunFault {
+    misnamed(format!(in alloc; "--after plays a script on one picture: name one file"))
+}
+
+/// What the state shows to which a script leads from a picture.
+fn end_of(rt: &HostRuntime, picture: &str, script: &str) -> Result<FileInput, RunFault>
+    ensures { IfOk result model.IsOfEnd }
+{
+    let text = text_after(rt, picture, script)?;
+    match read_input(rt.alloc(), text.as_bytes()) {
+        Ok(input) => Ok(of_bytes(rt.alloc(), input)?),
+        Err(fault) => Err(unreadable(rt.alloc(), picture, fault)),
+    }
+}
 
 /// What each file shows, in order, read by the workers; or the first fault, also in that order.
 fn read_files<R: thread::Threads + Wait + Sync>(
@@ -376,7 +426,11 @@ fn unreadable(alloc: Global, path: &str, fault: InputFault) -> RunFault {
 }
 
 /// The fault of a run that can't read this picture.
-fn refused(alloc: Global, path: &str, located: LocatedFault) -> Result<RunFault, AllocError> {
+pub(crate) fn refused(
+    alloc: Global,
+    path: &str,
+    located: LocatedFault,
+) -> Result<RunFault, AllocError> {
     match &located.fault {
         PictureFault::NoMemory => Ok(RunFault::NoMemory),
         _ => Ok(RunFault::Refused(Some(format!(in alloc; "{path}")?), located)),

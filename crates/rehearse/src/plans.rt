@@ -4,6 +4,7 @@ ghost use Rattle.std.specs.Option.{option_map_or};
 ghost use Rattle.reh_types.specs.declared.limits.TheConstants.{MAX_BOOKIES};
 ghost use Rattle.reh_types.specs.Sets as set;
 
+use crate::afters::text_after;
 use crate::faults::RunFault;
 use crate::files::{read_picture, write_out};
 use crate::names::{named_twice, unknown};
@@ -16,7 +17,7 @@ use std::alloc::Global;
 
 /// Writes the plan to standard output, as a script or a runbook, or what it comes to, and gives the status.
 pub(crate) fn plan_file(rt: &HostRuntime, words: &PlanWords<'_>) -> Result<u8, RunFault> {
-    let bytes = read_picture(rt, words.picture)?;
+    let bytes = picture_bytes(rt, words)?;
     let planned = plan_of(rt.alloc(), &bytes, words)?;
     if words.only_sums {
         let names = planned.plan.state().names();
@@ -29,6 +30,17 @@ pub(crate) fn plan_file(rt: &HostRuntime, words: &PlanWords<'_>) -> Result<u8, R
         write_out(rt, planned.plan.text())?;
     }
     Ok(planned.summary.status())
+}
+
+/// The bytes of the picture; or of the picture of the state to which a script leads from it.
+fn picture_bytes(rt: &HostRuntime, words: &PlanWords<'_>) -> Result<Vec<u8>, RunFault> {
+    match words.after {
+        None => read_picture(rt, words.picture),
+        Some(script) => {
+            let text = text_after(rt, words.picture, script)?;
+            Ok(text.into_bytes())
+        }
+    }
 }
 
 /// The plan for the picture of these bytes.

@@ -22,5 +22,6 @@ returns g c = record {
   };
   ids = c.in_ok-read-2.ensures.ids;
   kinds = c.in_ok-read-2.ensures.kinds;
+  after = c.in_ok-read.ensures.after;
   taken = c.in_ok-taken.ensures ∙ ap taken_of (c.deref.ensures.value ∙ c.in_ok-read-2.ensures.inputs);
 }
