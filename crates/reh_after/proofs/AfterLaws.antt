@@ -11,11 +11,11 @@ use Rattle.reh_after.specs.After.{after_asked, after_lines, after_move, after_re
 
 pub accepted : (m : Session) (move : Move) (reply : Reply) (n : Session) → Performs m move reply n
     → is_accepted reply ≡ true → after_move m move ≡ Some n
-accepted m move reply n (inl answers) yes =
+accepted m move reply n (inl answers) passes =
     ap (λ (r : Reply). after_reply m move r) (sym answers.0)
-    ∙ ap (λ (b : Bool). cond b (Some (session_after m move reply)) None) yes
+    ∙ ap (λ (b : Bool). cond b (Some (session_after m move reply)) None) passes
     ∙ ap Some (sym answers.1)
-accepted m move reply n (inr wants) yes = absurd (true≢false (sym yes ∙ ap is_accepted wants.1.0))
+accepted m move reply n (inr wants) passes = absurd (true≢false (sym passes ∙ ap is_accepted wants.1))
 
 pub one-more : (names : List (List ℕ)) (line : List ℕ) (more lines : List (List ℕ)) (m n : Session) → lines ≡ line ∷ more
     → after_asked m (asked names line) ≡ Some n → after_lines names m lines ≡ after_lines names n more

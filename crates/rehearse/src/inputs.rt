@@ -245,7 +245,10 @@ fn end_of(rt: &HostRuntime, picture: &str, script: &str) -> Result<FileInput, Ru
 {
     let text = text_after(rt, picture, script)?;
     match read_input(rt.alloc(), text.as_bytes()) {
-        Ok(input) => Ok(of_bytes(rt.alloc(), input)?),
+        Ok(input) => {
+            let file = of_bytes(rt.alloc(), input)?;
+            Ok(file)
+        }
         Err(fault) => Err(unreadable(rt.alloc(), picture, fault)),
     }
 }
@@ -383,7 +386,10 @@ fn read_whole(alloc: Global, path: &str, bytes: &[u8]) -> Result<FileInput, RunF
     ensures { IfOk result model.IsOfFile }
 {
     match read_input(alloc, bytes) {
-        Ok(input) => Ok(of_bytes(alloc, input)?),
+        Ok(input) => {
+            let file = of_bytes(alloc, input)?;
+            Ok(file)
+        }
         Err(fault) => Err(unreadable(alloc, path, fault)),
     }
 }
@@ -403,7 +409,7 @@ fn of_inventory(counted: CountedInventory, kind: FileKind) -> FileInput
 
 /// What the bytes of a picture or of a census show.
 fn of_bytes(alloc: Global, input: Input) -> Result<FileInput, AllocError>
-    ensures { IfOk result (λ file. (bytes : List ℕ) → IsRead bytes input → model.IsOfFile file) }
+    ensures { IfOk result (λ file. (bytes : List ℕ) → IsRead bytes input → model.IsOfBytes file) }
 {
     let ids = ids_of(alloc, &input)?;
     Ok(FileInput {
