@@ -340,6 +340,10 @@ def against(cluster: Cluster, question: Question, verdict: str, rule: Optional[s
 def notes_of(cluster: Cluster, question: Question) -> List[str]:
     up = {name for name in question.stopped if cluster.bookies[name].is_up}
     notes = [f"{name} is not registered" for name in sorted(question.stopped - up)]
+    entries = [entry for ledger in cluster.ledgers for entry in entries_of(cluster, ledger, question)]
+    nowhere = sum(not entry.known and not entry.untold for entry in entries)
+    if nowhere:
+        notes.append(f"{nowhere} {'entry' if nowhere == 1 else 'entries'} can't be read already, with or without this stop")
     if any(ledger.state == "OPEN" and up & set(ledger.fragments[-1][1]) for ledger in cluster.ledgers):
         notes.append("writers pause until they have changed their ensembles")
     counted = [ledger for ledger in cluster.ledgers if ledger.state != "CLOSED" or ledger.last >= 0]

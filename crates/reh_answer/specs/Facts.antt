@@ -5,6 +5,7 @@ use Rattle.std.specs.List.{filter, list_any}
 use Rattle.std.specs.Option.{is_some, option_map_or}
 use Rattle.reh_census.specs.declared.censuses.Judged.{Judged}
 use Rattle.reh_census.specs.declared.censuses.Tail.{Tail}
+use Rattle.reh_census.specs.declared.classes.Class.{Class}
 use Rattle.reh_census.specs.declared.classes.Counted.{Counted}
 use Rattle.reh_census.specs.declared.questions.Keep.TheVariants.{Copies}
 use Rattle.reh_census.specs.declared.questions.Question.{Question}
@@ -24,6 +25,10 @@ copies_in counted = if nat_lt 0 counted.count then length counted.class.known el
 -- the most known copies that an entry has
 abbrev pub most_copies : List Counted → ℕ
 most_copies census = fold (λ most counted. max most (copies_in counted)) 0 census
+
+-- no registered bookie has the entry, or may have it by what nobody told
+abbrev pub is_nowhere : Class → Bool
+is_nowhere class = (length class.known == 0) && (length class.untold == 0)
 
 -- how many entries have 0, 1, .. up to so many known copies without the stopped bookies
 abbrev pub table : Counting → (ℕ → Bool) → ℕ → List ℕ
@@ -90,6 +95,7 @@ facts_on counting most bookies question judged stopped = record {
   judged = judged;
   entries = counting.entries (λ class. true);
   unknown = counting.entries (λ class. nat_lt 0 (length class.untold));
+  unreadable = counting.entries is_nowhere;
   numbers = numbers_on counting bookies question (not_judged judged) stopped;
   answer = answer_on counting bookies question (not_judged judged) stopped;
   breaks_new_ledgers = breaks_new_ledgers bookies question stopped;

@@ -1,5 +1,5 @@
 -- What is printed of a stop. Each line ends with its LF.
-use Rattle.std.specs.Prelude.{ℕ, ◌+◌, ◌-◌, Bool, ◌&&◌, ◌==◌, if◌then◌else◌, List, [], ◌∷◌, ◌++◌, map}
+use Rattle.std.specs.Prelude.{ℕ, ◌+◌, ◌-◌, Bool, ◌&&◌, ◌==◌, nat_lt, if◌then◌else◌, List, [], ◌∷◌, ◌++◌, map}
 use Rattle.std.specs.Prelude.{flat_map, length, replicate, slice_get, unwrap_or, string_bytes, codes}
 use Rattle.std.specs.Fmt.{decimal}
 use Rattle.reh_census.specs.declared.answers.Answer.{Answer}
@@ -121,6 +121,9 @@ name_of names bookie = unwrap_or (slice_get names bookie) (codes "bookie " ++ de
 abbrev pub note_if : Bool → List ℕ → List (List ℕ)
 note_if applies note = if applies then note ∷ [] else []
 
+abbrev pub unreadable_note : ℕ → List ℕ
+unreadable_note number = amount number Entry ++ codes " can't be read already, with or without this stop"
+
 abbrev pub pause_note : List ℕ
 pause_note = codes "writers pause until they have changed their ensembles"
 
@@ -152,8 +155,9 @@ unasked_notes unasked =
 abbrev pub notes_of : Facts → List (List ℕ) → List (List ℕ)
 notes_of facts names =
     map (λ b. name_of names b ++ codes " is not registered") facts.unregistered
+    ++ (note_if (nat_lt 0 facts.unreadable) (unreadable_note facts.unreadable)
     ++ (note_if facts.writers_pause pause_note
-    ++ (note_if facts.may_hold_a_new_ledger new_ledger_note ++ unasked_notes facts.unasked))
+    ++ (note_if facts.may_hold_a_new_ledger new_ledger_note ++ unasked_notes facts.unasked)))
 
 abbrev pub note_line : List ℕ → List ℕ
 note_line note = codes "note: " ++ (note ++ codes "\n")

@@ -5,7 +5,7 @@ ghost use Rattle.reh_census.specs.Bookies.{bookies_of, is_flagged};
 ghost use Rattle.reh_census.specs.Counting.{count_in, count_tails_in, entries_in, tails_in};
 ghost use Rattle.reh_answer.specs.Facts as model;
 
-use reh_census::{BookieSet, Bookies, Counted, CountedTail, Tail};
+use reh_census::{BookieSet, Bookies, Class, Counted, CountedTail, Tail};
 
 /// The count, or none.
 pub(crate) fn count_if(is: bool, count: u64) -> u64
@@ -35,6 +35,25 @@ pub fn count_unknown(census: &[Counted]) -> u64
     for counted in census {
         let is_unknown = counted.class.untold.as_slice().len() > 0;
         entries += count_if(is_unknown, counted.count);
+    }
+    entries
+}
+
+/// Whether no registered bookie has such an entry, or may have it.
+fn is_nowhere(class: &Class) -> bool
+    ensures { result ≡ model.is_nowhere class.now }
+{
+    class.known.as_slice().len() == 0 && class.untold.as_slice().len() == 0
+}
+
+/// How many entries can't be read already.
+pub(crate) fn count_unreadable(census: &[Counted]) -> u64
+    requires { entries_in census.now ≤ 2 ^ 63 }
+    ensures { result ≡ count_in census.now model.is_nowhere }
+{
+    let mut entries = 0;
+    for counted in census {
+        entries += count_if(is_nowhere(&counted.class), counted.count);
     }
     entries
 }

@@ -5,7 +5,7 @@ ghost use Rattle.reh_census.specs.Counting.{IsCensus, counting_in, counting_of};
 ghost use Rattle.reh_census.specs.Ledgers.{Ledger as LedgerValue};
 ghost use Rattle.reh_answer.specs.Facts as model;
 
-use crate::counts::{count_entries, count_unknown};
+use crate::counts::{count_entries, count_unknown, count_unreadable};
 use crate::keeps::keep_1_allows;
 use crate::tables::{Counts, most_copies, table_of};
 use crate::unasked::{Unasked, unasked_of};
@@ -22,6 +22,8 @@ pub struct Facts {
     pub entries: u64,
     /// Of how many of them nobody told whether some bookie holds them.
     pub unknown: u64,
+    /// How many can't be read already: no registered bookie has them, or may have them.
+    pub unreadable: u64,
     pub numbers: Numbers,
     pub answer: Answer,
     /// Whether one of those that find no ensemble stands for new ledgers.
@@ -70,6 +72,7 @@ pub fn facts_of(
         judged: census.judged(),
         entries: count_entries(census.entries()),
         unknown: count_unknown(census.entries()),
+        unreadable: count_unreadable(census.entries()),
         numbers,
         answer: answer_by(&numbers),
         breaks_new_ledgers: breaks_new_ledgers(alloc, bookies, question, stopped),

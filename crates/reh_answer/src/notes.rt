@@ -1,8 +1,9 @@
 // Notes.
-ghost use Rattle.std.specs.Prelude.{◌≡◌, ◌++◌, IfOk, OnOk, codes, flat_map, map, string_bytes};
+ghost use Rattle.std.specs.Prelude.{◌≡◌, ◌++◌, IfOk, OnOk, codes, flat_map, map, nat_lt, string_bytes};
 ghost use Rattle.reh_answer.specs.Texts as texts;
 
 use crate::facts::Facts;
+use crate::nouns::{Amount, Noun};
 use crate::unasked::Unasked;
 use std::alloc::{AllocError, Global};
 
@@ -15,6 +16,29 @@ fn unregistered_note(alloc: Global, names: &[String], bookie: u16) -> Result<Str
         Some(name) => format!(in alloc; "{name} is not registered"),
         None => format!(in alloc; "bookie {bookie} is not registered"),
     }
+}
+
+/// The note that so many entries can't be read already.
+fn unreadable_note(alloc: Global, number: u64) -> Result<String, AllocError>
+    ensures { IfOk result (λ note. string_bytes note ≡ texts.unreadable_note number) }
+{
+    let amount = Amount {
+        number,
+        noun: Noun::Entry,
+    };
+    format!(in alloc; "{amount} can't be read already, with or without this stop")
+}
+
+/// Adds the note on entries that can't be read already, if there are any.
+fn push_unreadable(alloc: Global, notes: &mut Vec<String>, number: u64) -> Result<(), AllocError>
+    ensures { OnOk result (map string_bytes notes.new.items
+        ≡ map string_bytes notes.old.items ++ texts.note_if (nat_lt 0 number) (texts.unreadable_note number)) }
+{
+    if number == 0 {
+        return Ok(());
+    }
+    notes.push(unreadable_note(alloc, number)?)?;
+    Ok(())
 }
 
 /// Adds a note, if it applies.
@@ -74,6 +98,7 @@ pub fn notes_of(alloc: Global, facts: &Facts, names: &[String]) -> Result<Vec<St
     for bookie in facts.unregistered.as_slice() {
         notes.push(unregistered_note(alloc, names, *bookie)?)?;
     }
+    push_unreadable(alloc, &mut notes, facts.unreadable)?;
     note_if(
         alloc,
         &mut notes,

@@ -6,3 +6,4 @@ pub mod PlannedLaws
 pub mod NamesLaws
 pub mod FilledLaws
 pub mod SummaryLaws
+pub mod EndLaws

@@ -52,7 +52,7 @@ planned s lost may l w n first then last =
 pub planned-alone : (s : Cluster) (lost : Set numbers) (may : ℕ → Bool) (d n : Draft) → d ≡ empty_draft s
     → IsPlayed d (set.contains lost) may n → IsPlanned s lost may n
 planned-alone s lost may d n begun played =
-    planned s lost may played.lost played.worked n
+    planned s lost may played.lost played.repaired.works.worked n
     (subst (λ (b : Draft). Loses b (set.contains lost) (losses_of b.state (set.contains lost) (length b.state.names)) played.lost)
     begun played.loses)
-    played.works played.naming
+    played.repaired.works.works played.repaired.works.naming

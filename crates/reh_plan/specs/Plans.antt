@@ -19,6 +19,7 @@ use Rattle.reh_lines.specs.Lines.{lines_of, ended}
 use Rattle.reh_commands.specs.declared.commands.Command.{Command}
 use Rattle.reh_commands.specs.declared.commands.Command.TheVariants.{Make}
 use Rattle.reh_commands.specs.declared.commands.LineFault.{LineFault}
+use Rattle.reh_plan.specs.Ends.{Ends, IsHarmless}
 use Rattle.reh_plan.specs.declared.plans.Attempt.{Attempt}
 use Rattle.reh_plan.specs.declared.plans.Attempt.TheVariants.{Made, Refused, Unwritten}
 
@@ -183,10 +184,21 @@ pub record IsNaming (d n : Draft) : Type 0 where
   pub named : AllNamed n.state n.lines n.state.parts.ledgers
   pub only : OnlyLeft d.opening.names d.state d.lines → OnlyLeft n.opening.names n.state n.lines
 
--- the plan goes on from d to n by the losses of these bookies, by AutoRecovery's work, and by comments on what is left
+-- the plan goes on from d to n by such work, and then by comments on what is left
+pub record WorksAndNames (may : ℕ → Bool) (d n : Draft) : Type 0 where
+  pub worked : Draft
+  pub works : Works may d worked
+  pub naming : IsNaming worked n
+
+-- and no place is left that could be filled, and no lock
+pub record IsRepaired (may : ℕ → Bool) (d n : Draft) : Type 0 where
+  pub works : WorksAndNames may d n
+  pub ends : Ends may n.state n.lines
+
+-- the plan goes on from d to n by the losses of these bookies, by AutoRecovery's work, and by comments on what is left; and no
+-- ledger was fenced and not recovered
 pub record IsPlayed (d : Draft) (is_lost : ℕ → Bool) (may : ℕ → Bool) (n : Draft) : Type 0 where
   pub lost : Draft
-  pub worked : Draft
   pub loses : Loses d is_lost (losses_of d.state is_lost (length d.state.names)) lost
-  pub works : Works may lost worked
-  pub naming : IsNaming worked n
+  pub repaired : IsRepaired may lost n
+  pub harmless : IsHarmless d.state n.state

@@ -12,6 +12,9 @@ pub enum PlanFault {
     NoMemory,
     /// What it has to say at least, the bookies that are lost and the ledgers that are left, finds no room in a script.
     NoRoom,
+    /// It would leave a place that could be filled, a lock, or a ledger that it fenced and didn't recover. No picture is known
+    /// for which that is so.
+    Unfinished,
 }
 
 impl fmt::Display for PlanFault {
@@ -19,6 +22,7 @@ impl fmt::Display for PlanFault {
         match self {
             PlanFault::NoMemory => write!(f, "no memory"),
             PlanFault::NoRoom => write!(f, "the plan is too long for a script"),
+            PlanFault::Unfinished => write!(f, "the plan would leave something undone"),
         }
     }
 }

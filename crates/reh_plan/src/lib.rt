@@ -1,6 +1,7 @@
 // Plans: which commands bring the ledgers of lost bookies back to full strength, as a script that is accepted.
 #![tactic(auto, using(crate::proofs::PlanLaws::works_on, crate::proofs::PlanLaws::works_none, crate::proofs::PlanLaws::works_same, crate::proofs::PlanLaws::works_made, crate::proofs::PlanLaws::works_alone))]
 
+mod ends;
 mod faults;
 mod named;
 mod planning;

@@ -7,11 +7,13 @@ ghost use Rattle.reh_model.specs.Session.{replay, opened_session};
 ghost use Rattle.reh_transcript.specs.Transcript.{starting, transcript};
 ghost use Rattle.reh_plan.specs.Replies.{ok_answers};
 ghost use Rattle.reh_types.specs.Sets as set;
-ghost use Rattle.reh_plan.specs.Plans.{Asks, Works, Loses, GoesOnBy, IsWithout, AllNamed, OnlyLeft, IsNaming, IsPlayed, losses_of};
+ghost use Rattle.reh_plan.specs.Plans.{Asks, Works, Loses, GoesOnBy, IsWithout, AllNamed, OnlyLeft, IsNaming, IsPlayed, IsRepaired, WorksAndNames, losses_of};
+ghost use Rattle.reh_plan.specs.Ends.{Ends, IsHarmless};
 ghost use Rattle.reh_plan.specs.Plans.{is_filled_by};
 ghost use Rattle.reh_plan.specs.Summaries.{IsSum};
 ghost use Rattle.reh_plan.specs.Workers.{can_work, may_work};
 
+use crate::ends::{check_end, check_harmless, recovering_in};
 use crate::faults::{PlanFault, Reason, first_reason};
 use crate::plans::Plan;
 use crate::repairs::Repair;
@@ -65,6 +67,8 @@ pub fn plan(
         (is_filled_by (can_work (may_work (allowed.now, read_only.now)) p.plan.state)) p.plan.events ≡ true) }
     ensures named { IfOk result (λ p. AllNamed p.plan.state p.plan.lines p.plan.state.parts.ledgers) }
     ensures only { IfOk result (λ p. OnlyLeft state.names p.plan.state p.plan.lines) }
+    ensures ends { IfOk result (λ p. Ends (may_work (allowed.now, read_only.now)) p.plan.state p.plan.lines) }
+    ensures harmless { IfOk result (λ p. IsHarmless state p.plan.state) }
     ensures sum { IfOk result (λ p. IsSum p.plan p.summary) }
 {
     let held = holdings_of(alloc, &state)?;
@@ -86,11 +90,36 @@ fn play(
     ensures { OnOk result
         (IsPlayed plan.old (set.contains lost.now) (may_work (allowed.now, read_only.now)) plan.new) }
 {
+    let recovering = recovering_in(alloc, plan.state())?;
     lose_all(plan, lost)?;
+    repair_all(alloc, plan, allowed, read_only)?;
+    check_harmless(plan.state(), &recovering)?;
+    Ok(())
+}
+
+/// Plays AutoRecovery to its end by the bookies that may work, and names what is left.
+fn repair_all(
+    alloc: Global,
+    plan: &mut Plan,
+    allowed: &BookieSet,
+    read_only: &BookieSet,
+) -> Result<(), PlanFault>
+    ensures { OnOk result (IsRepaired (may_work (allowed.now, read_only.now)) plan.old plan.new) }
+{
     publish(plan)?;
     let mut workers = Workers::of(alloc, plan.state(), allowed, read_only)?;
     grant_all(plan, &workers)?;
-    let reasons = work_all(alloc, plan, &mut workers)?;
+    work_and_name(alloc, plan, &mut workers)?;
+    check_end(plan, &workers)?;
+    Ok(())
+}
+
+/// Does what can be done for each ledger with a task, and names what is left.
+fn work_and_name(alloc: Global, plan: &mut Plan, workers: &mut Workers) -> Result<(), PlanFault>
+    ensures names { OnOk result (WorksAndNames (may_work workers.old) plan.old plan.new) }
+    ensures workers { workers.new ≡ workers.old }
+{
+    let reasons = work_all(alloc, plan, workers)?;
     leave_all(plan, &reasons)?;
     Ok(())
 }
@@ -169,7 +198,8 @@ fn work_all(
     plan: &mut Plan,
     workers: &mut Workers,
 ) -> Result<Vec<Option<Reason>>, PlanFault>
-    ensures { Works (may_work workers.old) plan.old plan.new }
+    ensures works { Works (may_work workers.old) plan.old plan.new }
+    ensures workers { workers.new ≡ workers.old }
 {
     // The check of this loop has to meet the types of what stops a step by their names.
     let _stop: Option<(Reason, Refusal, Event)> = None;

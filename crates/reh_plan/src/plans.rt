@@ -10,6 +10,7 @@ ghost use Rattle.reh_commands.specs.Answers.{asked};
 ghost use Rattle.reh_lines.specs.Lines.{lines_of};
 ghost use Rattle.reh_transcript.specs.Transcript.{starting, transcript};
 ghost use Rattle.reh_plan.specs.Replies.{ok_answers};
+ghost use Rattle.reh_plan.specs.Ends.{IsFull};
 ghost use Rattle.reh_plan.specs.Plans.{Asks, IsMade, Makes, Works, Loses, is_nobodys, has_lf, loss_of, IsLeaving};
 
 use crate::faults::{PlanFault, Reason, StepFault};
@@ -31,8 +32,29 @@ pub(crate) enum Attempt {
     Unwritten,
 }
 
+/// An event that is refused, and why.
+#[derive(Clone, Copy)]
+struct Refused {
+    event: Event,
+    refusal: Refusal,
+}
+
+impl From<Refused> for StepFault {
+    fn from(refused: Refused) -> StepFault {
+        let event = refused.event;
+        match refused.refusal {
+            Refusal::NoMemory => StepFault::Fault(PlanFault::NoMemory),
+            refusal => StepFault::Left(Reason::Refused { event, refusal }),
+        }
+    }
+}
+
 /// How many bytes of a script are kept free for the comments on the ledgers that are left.
 const COMMENT_BYTES: usize = 128 * MAX_LEDGERS;
+
+/// How many bytes a script has to have left, so that each further command has room: those for the comments, and 1,024 for the
+/// command, whose name has at most 300.
+pub const COMMAND_ROOM: usize = COMMENT_BYTES + 1024;
 
 /// A script whose commands are accepted one after another, and where they lead.
 ///
@@ -175,6 +197,60 @@ impl Plan {
                 }
             }
         }
+    }
+
+    /// Whether the recovery of an open ledger would be accepted after a fence by the same worker, and both have room. It is
+    /// tried and taken back, so nothing changes.
+    pub(crate) fn check_recovery(
+        &mut self,
+        worker: BookieIx,
+        ledger: LedgerId,
+    ) -> Result<(), StepFault>
+        ensures { self.new ≡ self.old }
+    {
+        if self.is_nearly_full() {
+            return Err(StepFault::Left(Reason::NoRoom));
+        }
+        let fence = Event::Fence { worker, ledger };
+        let seal = Event::Seal { worker, ledger };
+        self.try_both(&fence, &seal)?;
+        Ok(())
+    }
+
+    /// Makes two events and undoes them, or says which one is refused.
+    fn try_both(&mut self, first: &Event, second: &Event) -> Result<(), Refused>
+        ensures { self.new ≡ self.old }
+    {
+        if let Err(refusal) = self.session.act(first) {
+            return Err(Refused {
+                event: *first,
+                refusal,
+            });
+        }
+        let done = self.session.act(second);
+        if done.is_ok() {
+            let _undone = self.session.undo();
+        }
+        let _undone = self.session.undo();
+        match done {
+            Ok(()) => Ok(()),
+            Err(refusal) => Err(Refused {
+                event: *second,
+                refusal,
+            }),
+        }
+    }
+
+    /// Whether there is no room for a further command, beside the comments on the ledgers that are left.
+    pub(crate) fn is_full(&self) -> bool
+        ensures { IsTrue result → IsFull self.now.lines }
+    {
+        self.text.len() >= MAX_SCRIPT_BYTES - COMMAND_ROOM
+    }
+
+    /// Whether there may be none for two.
+    fn is_nearly_full(&self) -> bool {
+        self.text.len() >= MAX_SCRIPT_BYTES - 2 * COMMAND_ROOM
     }
 
     /// Writes the comment that a ledger is left, and why.

@@ -136,7 +136,8 @@ impl Repair {
         plan.work(&Event::Grace { worker, ledger })
     }
 
-    /// Recovers a ledger that isn't closed, if some member of its last ensemble isn't registered.
+    /// Recovers a ledger that isn't closed, if some member of its last ensemble isn't registered. An open one is fenced only
+    /// where its recovery is accepted then.
     fn close(&self, plan: &mut Plan, workers: &Workers) -> Result<(), StepFault>
         ensures { Works (may_work workers.now) plan.old plan.new }
     {
@@ -148,6 +149,7 @@ impl Repair {
         let worker = self.lock(plan, workers, last)?;
         let ledger = self.ledger;
         if state == LedgerState::Open {
+            plan.check_recovery(worker, ledger)?;
             plan.work(&Event::Fence { worker, ledger })?;
         }
         plan.work(&Event::Seal { worker, ledger })

@@ -102,7 +102,7 @@ impl Workers {
     }
 
     /// Whether the bookie may take places.
-    fn is_able(&self, worker: BookieIx) -> bool
+    pub(crate) fn is_able(&self, worker: BookieIx) -> bool
         ensures { result ≡ may_work self.now worker }
     {
         self.allowed.contains(worker) && !self.read_only.contains(worker)

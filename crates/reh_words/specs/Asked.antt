@@ -1,6 +1,6 @@
 -- What is asked, by the arguments that are given.
 use Rattle.std.specs.Prelude.{◌≡◌, ℕ, Bool, true, false, List, [], map, take, Option, None, Some, codes}
-use Rattle.std.specs.Option.{option_map_or}
+use Rattle.std.specs.Option.{option_map, option_map_or}
 use Rattle.std.specs.Str.{bytes_eq}
 use Rattle.std.specs.Str.Parse.{digits_value, without_leading_plus, ParsesUnsigned, ExplainsUnsignedError, HasUnsignedDigitsIfOk}
 use Rattle.clap.specs.Words.{ReadsOne, first_value, found_of, matched_of, one_text, raw_values}
@@ -63,9 +63,10 @@ pub record IsQuestion (given : ArgMatches) (question : Question) : Type 0 where
 abbrev pub is_json : ArgMatches → Bool
 is_json given = option_map_or (bytes_eq (codes "json")) (word_of given (codes "format")) false
 
--- the files, of which the parser lets no more through, and whether they are read strictly
+-- the files, of which the parser lets no more through, the script that is played first, and whether files are read strictly
 pub record IsInputs (given : ArgMatches) (inputs : Inputs) : Type 0 where
   pub files_are : map (λ file. file.now) inputs.files.items ≡ take MAX_FILES (words_of given (codes "FILE"))
+  pub after_is : option_map (λ script. script.now) inputs.after ≡ word_of given (codes "after")
   pub is_strict : IsFlag given (codes "strict") inputs.strict
 
 -- what `ok-to-stop` is asked

@@ -169,6 +169,7 @@ fn asked_inputs<'a>(alloc: Global, given: &ArgMatches<'a>) -> Result<Inputs<'a>,
     let workers = workers.max(1).min(MAX_WORKERS as u64) as usize;
     Ok(Inputs {
         files,
+        after: given.get_str("after"),
         strict: is_given(given, "strict"),
         crew: Crew { workers },
     })

@@ -111,10 +111,12 @@ pub struct Crew {
 /// How many files of one cluster are read at most.
 pub const MAX_FILES: usize = 4096;
 
-/// The files of a cluster, who reads them, and how: with `strict`, what is assumed counts as untold.
+/// The files of a cluster, who reads them, and how: with `strict`, what is assumed counts as untold. `after` is the file of a
+/// script that is played first, on the one picture.
 #[derive(Drop)]
 pub struct Inputs<'a> {
     pub files: Vec<&'a str>,
+    pub after: Option<&'a str>,
     pub strict: bool,
     pub crew: Crew,
     ghost few: { vec_len files ≤ MAX_FILES },
@@ -173,6 +175,8 @@ pub struct CutWords<'a> {
 #[derive(Drop)]
 pub struct PlanWords<'a> {
     pub picture: &'a str,
+    /// The file of a script that is played first.
+    pub after: Option<&'a str>,
     pub lost: Vec<&'a str>,
     pub allowed: Vec<&'a str>,
     pub only_sums: bool,
@@ -273,6 +277,7 @@ fn asked_plan<'a>(
     let allowed = given.get_strs("to").unwrap_or(&[]);
     Ok(PlanWords {
         picture,
+        after: given.get_str("after"),
         lost: lost.to_vec(alloc)?,
         allowed: allowed.to_vec(alloc)?,
         only_sums: given.get_flag("summary"),
@@ -440,6 +445,7 @@ fn plan_command<'a>(alloc: Global) -> Result<Command<'a>, Error> {
             "The bookies that may take their places; by default all",
         ),
     );
+    let command = with_arg(command, after_arg(alloc));
     let command = with_arg(
         command,
         flag_arg(alloc, "expect").help("As a runbook, with the expected answers"),
@@ -598,6 +604,7 @@ fn with_inputs<'a>(alloc: Global, command: Command<'a>) -> Result<Command<'a>, E
             .value_parser(FORMATS)
             .help("How the answer is printed; by default text"),
     );
+    let command = with_arg(command, after_arg(alloc));
     let command = with_arg(
         command,
         flag_arg(alloc, "strict").help("What the files assume of bookies counts as untold"),
@@ -646,6 +653,13 @@ fn number_arg<'a>(alloc: Global, name: &'a str, value: &'a str, greatest: i64) -
 /// The argument for a number of workers, 1 to 8.
 fn workers_arg<'a>(alloc: Global) -> Arg<'a> {
     number_arg(alloc, "workers", "N", MAX_WORKERS as i64)
+}
+
+/// The argument for a script that is played first.
+fn after_arg<'a>(alloc: Global) -> Arg<'a> {
+    value_arg(alloc, "after", "SCRIPT").help(
+        "A script that is played first, on the one picture; each command has to be accepted",
+    )
 }
 
 /// An argument that has to be given, and names a file.

@@ -1,11 +1,12 @@
--- Lines of an inventory that were counted by themselves.
-use Rattle.std.proofs.Common.{ℕ, List, Option, None, Some}
+-- Lines of an inventory that were counted by themselves, and added one after another.
+use Rattle.std.proofs.Common.{◌≡◌, ℕ, ◌<◌, ◌++◌, ◌∷◌, [], List, Option, None, Some, append-nil, append_assoc, length, map, subst, sym}
 use Rattle.std.specs.Prelude.{Result, Ok, Err, IfOk}
 use Rattle.std.specs.Option.{IsSomeAnd}
 use Rattle.reh_inventory_census.specs.declared.census.CountedLine.{CountedLine}
 use Rattle.reh_inventory_census.specs.declared.census.InventoryCount.{InventoryCount}
 use Rattle.reh_inventory_census.specs.declared.faults.CountFault.{CountFault}
-use Rattle.reh_inventory_census.specs.Census.{IsCountedLine}
+use Rattle.reh_inventory_census.specs.Census.{IsCount, IsCountedLine}
+use Rattle.rehearse.specs.Inventories.{GoesOn}
 
 -- a line that can be added to one count can be added to another, if each counted line can
 pub still-counted : (one other : InventoryCount) (bytes : List ℕ) (line : Option (Result CountedLine CountFault))
@@ -14,3 +15,21 @@ pub still-counted : (one other : InventoryCount) (bytes : List ℕ) (line : Opti
 still-counted one other bytes (Some (Ok line)) others was = others bytes line was
 still-counted one other bytes (Some (Err fault)) others was = was
 still-counted one other bytes None others was = was
+
+-- no line was added
+pub goes-nowhere : (count : InventoryCount) → GoesOn [] count count
+goes-nowhere count = record {
+  counting = λ names strict first before was.
+      subst (λ (lines : List (List ℕ)). IsCount names strict first lines count) (sym (append-nil before)) was;
+  others = λ line is. is;
+}
+
+-- lines were added, and then others
+pub goes-further : (lines others : List (List ℕ)) (one mid other : InventoryCount) → GoesOn lines one mid
+    → GoesOn others mid other → GoesOn (lines ++ others) one other
+goes-further lines others one mid other first second = record {
+  counting = λ names strict head before was.
+      subst (λ (all : List (List ℕ)). IsCount names strict head all other) (append_assoc before lines others)
+      (second.counting names strict head (before ++ lines) (first.counting names strict head before was));
+  others = λ line is. second.others line (first.others line is);
+}

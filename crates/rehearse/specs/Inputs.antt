@@ -5,6 +5,7 @@ use Rattle.std.specs.Fmt.{decimal}
 use Rattle.std.specs.List.{flat_map, IsDistinct}
 use Rattle.std.specs.Option.{IsSomeAnd, option_and_then, option_map, option_map_or}
 use Rattle.std.specs.declared.alloc.Global.{Global}
+use Rattle.reh_after.specs.After.{IsAfter}
 use Rattle.reh_census_file.specs.Texts.{text_of}
 use Rattle.reh_census_file.specs.Values.{NamedCensus}
 use Rattle.reh_census_json.specs.Objects.{json_of}
@@ -60,6 +61,12 @@ pub record IsOfInventory (file : FileInput) : Type 0 where
 
 abbrev pub IsOfFile : FileInput → Type 0
 IsOfFile file = IsOfBytes file ⊎ IsOfInventory file
+
+-- from some picture some script leads to a state of which the text is the picture
+pub record IsAfterSome (text : List ℕ) : Type 0 where
+  pub picture : List ℕ
+  pub script : List ℕ
+  pub is_after : IsAfter picture script text
 
 -- what files show, the ids of each one's ledgers, and what each is
 pub record IsParted (files : List FileInput) (parted : Parted) : Type 0 where

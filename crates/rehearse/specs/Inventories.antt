@@ -1,5 +1,5 @@
 -- What was counted of the lines of an inventory.
-use Rattle.std.specs.Prelude.{◌≡◌, ℕ, Bool, List, ◌∷◌, Ok, IfOk}
+use Rattle.std.specs.Prelude.{◌≡◌, ℕ, Bool, List, ◌∷◌, ◌++◌, Ok, IfOk, map}
 use Rattle.std.specs.Option.{IsSomeAnd}
 use Rattle.reh_inventory.specs.declared.lines.Line.{Line}
 use Rattle.reh_inventory.specs.Inventories.{Inventory, inventory_of}
@@ -30,10 +30,20 @@ pub record IsCounting (strict : Bool) (count : InventoryCount) : Type 0 where
   pub lines : List (List ℕ)
   pub counted : IsCount names strict first lines count
 
--- further lines were counted, and what was counted of others by themselves can still be added
-pub record GoesOn (one other : InventoryCount) : Type 0 where
-  pub counting : (strict : Bool) → IsCounting strict one → IsCounting strict other
+-- the bytes of lines
+abbrev pub bytes_of : List LineCount → List (List ℕ)
+bytes_of lines = map (λ l. l.bytes.items) lines
+
+-- these lines were counted after those before them, and what was counted of others by themselves can still be added
+pub record GoesOn (added : List (List ℕ)) (one other : InventoryCount) : Type 0 where
+  pub counting : (names : List (List ℕ)) (strict : Bool) (first : List ℕ) (before : List (List ℕ))
+      → IsCount names strict first before one → IsCount names strict first (before ++ added) other
   pub others : (line : LineCount) → IsLineCount one line → IsLineCount other line
+
+-- some lines were counted after those before them
+pub record CountsMore (one other : InventoryCount) : Type 0 where
+  pub added : List (List ℕ)
+  pub goes_on : GoesOn added one other
 
 -- it is the census of some lines, and these are the ids of their ledgers
 pub record IsOfLines (inventory : CountedInventory) : Type 0 where

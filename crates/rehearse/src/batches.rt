@@ -1,5 +1,5 @@
 // Lines of an inventory, many at a time, so that several workers can read and count them.
-ghost use Rattle.std.specs.Prelude.{All, IfOk, OnOk};
+ghost use Rattle.std.specs.Prelude.{◌∷◌, [], All, IfOk, OnOk};
 ghost use Rattle.rehearse.specs.Inventories as model;
 
 use crate::faults::RunFault;
@@ -143,7 +143,7 @@ pub(crate) fn add_line(
     line: LineCount,
 ) -> Result<(), CountFault>
     requires { model.IsLineCount count.old line }
-    ensures { OnOk result (model.GoesOn count.old count.new) }
+    ensures { OnOk result (model.GoesOn (line.bytes.items ∷ []) count.old count.new) }
 {
     let LineCount { line, bytes: _ } = line;
     let Some(line) = line else { unreachable!() };

@@ -13,7 +13,7 @@ use reh_words::CutWords;
 use std::alloc::{AllocError, Global};
 use std::io::{BufReader, Read};
 
-/// Says to standard output what the picture is, and to standard error if it shows only a part of each ledger.
+/// Says to standard output what the picture is, and to standard error if it may show only a part of a ledger.
 pub(crate) fn cut_over(
     rt: &HostRuntime,
     looks: Looks,
@@ -24,7 +24,7 @@ pub(crate) fn cut_over(
     write_out(rt, text.as_bytes())?;
     if words.window.is_some() && !looks.is_quiet {
         let _ = eprintln!(rt;
-            "note: this is a part of each ledger: ask of the inventory whether bookies may be stopped"
+            "note: of a ledger with more entries this is a part: ask of the inventory whether bookies may be stopped"
         );
     }
     Ok(())

@@ -8,10 +8,12 @@ ghost use Rattle.reh_inputs.specs.Named.{taken_of as model_taken};
 ghost use Rattle.rehearse.specs.Inputs as model;
 ghost use Rattle.rehearse.specs.Inventories.{IsOfLines};
 
+use crate::afters::text_after;
 use crate::faults::RunFault;
 use crate::files::{InputBytes, read_input_file, write_out};
 use crate::inventories::{CountedInventory, Source, count_bytes, count_inventory};
 use crate::looks::Looks;
+use crate::names::misnamed;
 use crate::progress::{Progress, Teller};
 use reh_census_file::{CensusFault, NamedCensus, census_text};
 use reh_census_json::census_json;
@@ -46,7 +48,7 @@ pub(crate) fn gather_files<R: thread::Threads + Wait + Sync>(
 ) -> Result<GatheredFiles, RunFault>
     ensures { IfOk result (model.AreGathered inputs.now) }
 {
-    let read = read_files(rt, threads, inputs, progress)?;
+    let read = read_inputs(rt, threads, inputs, progress)?;
     let read = in_parts(rt.alloc(), read)?;
     let gathered = gather_read(threads, rt.alloc(), inputs, &read)?;
     let taken = copy_taken(rt.alloc(), &read.inputs)?;
@@ -200,6 +202,63 @@ fn in_parts(alloc: Global, read: Vec<FileInput>) -> Result<Parted, AllocError>
 /// What a file shows, once it is read.
 type Slot = Option<Result<FileInput, RunFault>>;
 
+/// What each file shows, in order; or of one picture, what the state shows to which a script leads from it.
+fn read_inputs<R: thread::Threads + Wait + Sync>(
+    rt: &HostRuntime,
+    threads: &R,
+    inputs: &Inputs<'_>,
+    progress: &Progress,
+) -> Result<Vec<FileInput>, RunFault>
+    ensures each { IfOk result (λ read. length read.items ≡ vec_len inputs.now.files) }
+    ensures read { IfOk result (λ read. All model.IsOfFile read.items) }
+{
+    match inputs.after {
+        None => read_files(rt, threads, inputs, progress),
+        Some(script) => read_end(rt, &inputs.files, script),
+    }
+}
+
+/// What the state shows to which a script leads from the one picture among these files.
+fn read_end(rt: &HostRuntime, files: &[&str], script: &str) -> Result<Vec<FileInput>, RunFault>
+    ensures each { IfOk result (λ read. length read.items ≡ length files.now) }
+    ensures read { IfOk result (λ read. All model.IsOfFile read.items) }
+{
+    let [picture] = files else {
+        return Err(several_files(rt.alloc()));
+    };
+    let file = end_of(rt, picture, script)?;
+    let read = only(rt.alloc(), file)?;
+    Ok(read)
+}
+
+/// What one file shows, by itself.
+fn only(alloc: Global, file: FileInput) -> Result<Vec<FileInput>, AllocError>
+    ensures { IfOk result (λ read. read.items ≡ file ∷ []) }
+{
+    let mut read = Vec::new(alloc);
+    read.push(file)?;
+    Ok(read)
+}
+
+/// That a script can be played first on one picture alone, or out of memory.
+fn several_files(alloc: Global) -> RunFault {
+    misnamed(format!(in alloc; "--after plays a script on one picture: name one file"))
+}
+
+/// What the state shows to which a script leads from a picture.
+fn end_of(rt: &HostRuntime, picture: &str, script: &str) -> Result<FileInput, RunFault>
+    ensures { IfOk result model.IsOfFile }
+{
+    let text = text_after(rt, picture, script)?;
+    match read_input(rt.alloc(), text.as_bytes()) {
+        Ok(input) => {
+            let file = of_bytes(rt.alloc(), input)?;
+            Ok(file)
+        }
+        Err(fault) => Err(unreadable(rt.alloc(), picture, fault)),
+    }
+}
+
 /// What each file shows, in order, read by the workers; or the first fault, also in that order.
 fn read_files<R: thread::Threads + Wait + Sync>(
     rt: &HostRuntime,
@@ -333,7 +392,10 @@ fn read_whole(alloc: Global, path: &str, bytes: &[u8]) -> Result<FileInput, RunF
     ensures { IfOk result model.IsOfFile }
 {
     match read_input(alloc, bytes) {
-        Ok(input) => Ok(of_bytes(alloc, input)?),
+        Ok(input) => {
+            let file = of_bytes(alloc, input)?;
+            Ok(file)
+        }
         Err(fault) => Err(unreadable(alloc, path, fault)),
     }
 }
@@ -353,7 +415,7 @@ fn of_inventory(counted: CountedInventory, kind: FileKind) -> FileInput
 
 /// What the bytes of a picture or of a census show.
 fn of_bytes(alloc: Global, input: Input) -> Result<FileInput, AllocError>
-    ensures { IfOk result (λ file. (bytes : List ℕ) → IsRead bytes input → model.IsOfFile file) }
+    ensures { IfOk result (λ file. (bytes : List ℕ) → IsRead bytes input → model.IsOfBytes file) }
 {
     let ids = ids_of(alloc, &input)?;
     Ok(FileInput {
@@ -376,7 +438,11 @@ fn unreadable(alloc: Global, path: &str, fault: InputFault) -> RunFault {
 }
 
 /// The fault of a run that can't read this picture.
-fn refused(alloc: Global, path: &str, located: LocatedFault) -> Result<RunFault, AllocError> {
+pub(crate) fn refused(
+    alloc: Global,
+    path: &str,
+    located: LocatedFault,
+) -> Result<RunFault, AllocError> {
     match &located.fault {
         PictureFault::NoMemory => Ok(RunFault::NoMemory),
         _ => Ok(RunFault::Refused(Some(format!(in alloc; "{path}")?), located)),

@@ -1,5 +1,5 @@
 // Inventories, read line by line: one that is checked, and one whose ledgers are counted.
-ghost use Rattle.std.specs.Prelude.{All, Bool, IfOk, OnOk};
+ghost use Rattle.std.specs.Prelude.{◌∷◌, [], All, Bool, IfOk, OnOk};
 ghost use Rattle.rehearse.specs.Inventories as model;
 
 use crate::batches::{
@@ -7,6 +7,7 @@ use crate::batches::{
 };
 use crate::faults::RunFault;
 use crate::files::unread;
+use crate::inputs::unfit;
 use reh_census_file::{NameList, NamedCensus};
 use reh_inventory::{Inventory, InventoryFault};
 use reh_inventory_census::{CountFault, InventoryCount, in_order, number_line};
@@ -18,7 +19,7 @@ use std::thread;
 /// How an inventory begins.
 pub(crate) const INVENTORY_BEGINS: &str = "{\"inventory\"";
 
-/// How many bytes of a line are read: a longer one is cut.
+/// How many bytes a line has at most, with its LF.
 const MAX_LINE_BYTES: u64 = 1 << 28;
 
 /// Checks an inventory of whose first line this was read, and says how much there is in it. One line is read after the
@@ -62,18 +63,26 @@ fn read_inventory(
     Ok(inventory)
 }
 
-/// Reads the rest of a line of which some bytes may be there.
+/// Reads the rest of a line of which some bytes may be there. A line that is too long is a fault.
 pub(crate) fn read_line<R: Read + Drop>(
     alloc: Global,
     path: &str,
     reader: &mut BufReader<R>,
     line: &mut Vec<u8>,
 ) -> Result<(), RunFault> {
-    let mut part = reader.by_ref().take(MAX_LINE_BYTES);
-    match part.read_until(b'\n', line) {
-        Ok(_) => Ok(()),
-        Err(error) => Err(unread(alloc, "read", path, error)),
+    let mut part = reader.by_ref().take(MAX_LINE_BYTES + 1);
+    if let Err(error) = part.read_until(b'\n', line) {
+        return Err(unread(alloc, "read", path, error));
     }
+    if line.len() as u64 > MAX_LINE_BYTES {
+        return Err(too_long(alloc, path));
+    }
+    Ok(())
+}
+
+/// That a line is too long.
+fn too_long(alloc: Global, path: &str) -> RunFault {
+    unfit(format!(in alloc; "inventory {path}: a line has more than {MAX_LINE_BYTES} bytes"))
 }
 
 /// The fault of an inventory's line.
@@ -283,7 +292,7 @@ fn add(
     line: LineCount,
 ) -> Result<(), RunFault>
     requires { model.IsLineCount count.old line }
-    ensures { OnOk result (model.GoesOn count.old count.new) }
+    ensures { OnOk result (model.GoesOn (line.bytes.items ∷ []) count.old count.new) }
 {
     match add_line(alloc, count, line) {
         Ok(()) => Ok(()),
@@ -300,7 +309,7 @@ fn add_lines(
     lines: Vec<LineCount>,
 ) -> Result<(), RunFault>
     requires { All (model.IsLineCount count.old) lines.items }
-    ensures { OnOk result (model.GoesOn count.old count.new) }
+    ensures { OnOk result (model.GoesOn (model.bytes_of lines.items) count.old count.new) }
 {
     let mut number = first;
     for line in lines {
@@ -361,7 +370,7 @@ fn count_others<R: Read + Drop, T: thread::Threads + Sync>(
     reader: &mut BufReader<R>,
     count: &mut InventoryCount,
 ) -> Result<(), RunFault>
-    ensures { OnOk result (model.GoesOn count.old count.new) }
+    ensures { OnOk result (model.CountsMore count.old count.new) }
 {
     let (mut number, mut lines) = (2_u64, 1_u64);
     for _batch in 0..u64::MAX {
@@ -382,7 +391,7 @@ fn count_batch<R: Read + Drop, T: thread::Threads + Sync>(
     first: u64,
     count: &mut InventoryCount,
 ) -> Result<u64, RunFault>
-    ensures { OnOk result (model.GoesOn count.old count.new) }
+    ensures { OnOk result (model.CountsMore count.old count.new) }
 {
     let Source {
         alloc,

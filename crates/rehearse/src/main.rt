@@ -5,6 +5,7 @@
 
 ghost use Rattle.std.specs.Prelude.{◌≡◌, false};
 
+mod afters;
 mod against;
 mod batches;
 mod checks;

@@ -104,7 +104,7 @@ pub(crate) fn ambiguous(alloc: Global, word: &str) -> RunFault {
 }
 
 /// The fault with this text.
-fn misnamed(text: Result<String, AllocError>) -> RunFault {
+pub(crate) fn misnamed(text: Result<String, AllocError>) -> RunFault {
     match text {
         Ok(text) => RunFault::Misnamed(text),
         Err(want) => RunFault::from(want),

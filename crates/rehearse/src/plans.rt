@@ -4,8 +4,10 @@ ghost use Rattle.std.specs.Option.{option_map_or};
 ghost use Rattle.reh_types.specs.declared.limits.TheConstants.{MAX_BOOKIES};
 ghost use Rattle.reh_types.specs.Sets as set;
 
+use crate::afters::text_after;
 use crate::faults::RunFault;
 use crate::files::{read_picture, write_out};
+use crate::inputs::unfit;
 use crate::names::{named_twice, unknown};
 use reh_cluster::Names;
 use reh_picture::{BookieMarks, check_picture, list_picture};
@@ -16,19 +18,30 @@ use std::alloc::Global;
 
 /// Writes the plan to standard output, as a script or a runbook, or what it comes to, and gives the status.
 pub(crate) fn plan_file(rt: &HostRuntime, words: &PlanWords<'_>) -> Result<u8, RunFault> {
-    let bytes = read_picture(rt, words.picture)?;
+    let bytes = picture_bytes(rt, words)?;
     let planned = plan_of(rt.alloc(), &bytes, words)?;
     if words.only_sums {
         let names = planned.plan.state().names();
         let text = planned.summary.text(rt.alloc(), names)?;
         write_out(rt, text.as_bytes())?;
     } else if words.expects {
-        let text = runbook(rt.alloc(), &planned).map_err(unplanned)?;
+        let text = runbook(rt.alloc(), &planned).map_err(|fault| unplanned(rt.alloc(), fault))?;
         write_out(rt, &text)?;
     } else {
         write_out(rt, planned.plan.text())?;
     }
     Ok(planned.summary.status())
+}
+
+/// The bytes of the picture; or of the picture of the state to which a script leads from it.
+fn picture_bytes(rt: &HostRuntime, words: &PlanWords<'_>) -> Result<Vec<u8>, RunFault> {
+    match words.after {
+        None => read_picture(rt, words.picture),
+        Some(script) => {
+            let text = text_after(rt, words.picture, script)?;
+            Ok(text.into_bytes())
+        }
+    }
 }
 
 /// The plan for the picture of these bytes.
@@ -41,14 +54,15 @@ fn plan_of(alloc: Global, bytes: &[u8], words: &PlanWords<'_>) -> Result<Planned
     } else {
         bookies_of(alloc, words.picture, state.names(), &words.allowed)?
     };
-    plan(alloc, state, &lost, &allowed, &read_only).map_err(unplanned)
+    plan(alloc, state, &lost, &allowed, &read_only).map_err(|fault| unplanned(alloc, fault))
 }
 
 /// The fault of a run that has no plan.
-fn unplanned(fault: PlanFault) -> RunFault {
+fn unplanned(alloc: Global, fault: PlanFault) -> RunFault {
     match fault {
         PlanFault::NoMemory => RunFault::NoMemory,
         PlanFault::NoRoom => RunFault::TooLong,
+        PlanFault::Unfinished => unfit(format!(in alloc; "{fault}")),
     }
 }
 

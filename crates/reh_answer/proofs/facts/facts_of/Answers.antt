@@ -23,6 +23,8 @@ returns-clause-census c =
       unknown =
           (c.count_unknown.ensures
           ∙ ap (λ (es : List Counted). count_in es (λ class. nat_lt 0 (length class.untold))) c.entries-3.ensures.entries) i;
+      unreadable =
+          (c.count_unreadable.ensures ∙ ap (λ (es : List Counted). count_in es model.is_nowhere) c.entries-4.ensures.entries) i;
       numbers = c.numbers_of-numbers.ensures.census i;
       answer = (c.answer_by.ensures ∙ ap (λ (n : Numbers). answer_by n) c.numbers_of-numbers.ensures.census) i;
       breaks_new_ledgers = c.breaks_new_ledgers.ensures i;

@@ -6,7 +6,8 @@ use Rattle.reh_model.specs.Book.{new_book}
 use Rattle.reh_model.specs.Cluster.{Cluster}
 use Rattle.reh_model.specs.Session.{replay, opened_session}
 use Rattle.reh_transcript.specs.Transcript.{starting, transcript}
-use Rattle.reh_plan.specs.Plans.{Asks}
+use Rattle.reh_plan.specs.Ends.{IsHarmless}
+use Rattle.reh_plan.specs.Plans.{Asks, Draft}
 use Rattle.reh_plan.specs.Replies.{ok_answers}
 use Rattle.reh_plan.specs.Summaries.{holdings_of}
 use Rattle.reh_plan.specs.Workers.{may_work}
@@ -63,8 +64,15 @@ returns-clause-filled c =
     c.text-checked.ensures.accepted)
 
 pub returns-clause-named : goal.returns-clause-named
-returns-clause-named c = c.in_ok-play.ensures.naming.named
+returns-clause-named c = c.in_ok-play.ensures.repaired.works.naming.named
 
 pub returns-clause-only : goal.returns-clause-only
 returns-clause-only c = (planned-alone c.args.state c.args.lost.now (may_work (c.args.allowed.now, c.args.read_only.now)) c.in_ok-plan.plan
     c.play.new.plan c.in_ok-plan.ensures c.in_ok-play.ensures).only
+
+pub returns-clause-ends : goal.returns-clause-ends
+returns-clause-ends c = c.in_ok-play.ensures.repaired.ends
+
+pub returns-clause-harmless : goal.returns-clause-harmless
+returns-clause-harmless c =
+    subst (λ (d : Draft). IsHarmless d.state c.play.new.plan.state) c.in_ok-plan.ensures c.in_ok-play.ensures.harmless

@@ -12,5 +12,6 @@ returns c =
       files_are =
           ap (map text) c.truncate.ensures.items ∙ sym (take-map text MAX_FILES c.in_ok-files.files.items)
           ∙ ap (take MAX_FILES) c.in_ok-files.ensures;
+      after_is = c.get_str.ensures;
       is_strict = c.is_given.ensures;
     }

@@ -1,5 +1,5 @@
 -- One line more was counted.
-use Rattle.std.proofs.Common.{◌++◌, ◌∷◌, [], Option, subst}
+use Rattle.std.proofs.Common.{Option, subst}
 use Rattle.std.specs.Prelude.{Result, IfOk}
 use Rattle.std.specs.Option.{IsSomeAnd}
 use Rattle.reh_inventory_census.specs.declared.census.CountedLine.{CountedLine}
@@ -18,12 +18,8 @@ returns c =
     let counted : IsCountedLine count bytes c.in_ok-line.field-0 =
     subst (λ (line : Result CountedLine CountFault). IfOk line (IsCountedLine count bytes)) c.in_ok-line.was there in
     record {
-      counting = λ strict was. record {
-        names = was.names;
-        first = was.first;
-        lines = was.lines ++ bytes ∷ [];
-        counted = c.in_ok-add.ensures.counted was.names strict was.first was.lines was.counted bytes counted;
-      };
+      counting = λ names strict first before was.
+          c.in_ok-add.ensures.counted names strict first before was bytes counted;
       others = λ line is.
           still-counted count c.add.new.self line.bytes.items line.line c.in_ok-add.ensures.others is;
     }

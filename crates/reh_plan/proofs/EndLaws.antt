@@ -1,0 +1,31 @@
+-- Flags of ledgers, one after another.
+use Rattle.std.proofs.Common.{◌≡◌, ◌∙◌, ℕ, zero, suc, ◌+◌, ◌<◌, Bool, true, false, List, [], ◌∷◌, ◌++◌, ap, arith, length, map, refl, subst, sym, take}
+use Rattle.std.specs.Prelude.{IsTrue, get_or}
+use Rattle.std.proofs.lemmas.List.{length-map, length-take-le, map_more}
+use Rattle.reh_model.specs.Cluster.{Ledger}
+use Rattle.reh_model.specs.Metadata.{is_in_recovery}
+use Rattle.reh_plan.specs.Ends.{AreAmong, flag_at}
+
+-- a flag more, that is set only where a test says so
+more : (flags : List Bool) (flag : Bool) (test : ℕ → Bool) → ((k : ℕ) → IsTrue (flag_at flags k) → IsTrue (test k))
+    → (IsTrue flag → IsTrue (test (length flags))) → (k : ℕ) → IsTrue (flag_at (flags ++ flag ∷ []) k) → IsTrue (test k)
+more [] flag test among last zero is = last is
+more [] flag test among last (suc k) is = among (suc k) is
+more (x ∷ flags) flag test among last zero is = among zero is
+more (x ∷ flags) flag test among last (suc k) is =
+    more flags flag (λ n. test (suc n)) (λ n. among (suc n)) last k is
+
+-- one ledger more, which is in recovery only where the flag at its place is set
+pub among-more : (ledgers : List Ledger) (others : List Bool) (place : ℕ) (g : Ledger) → place < length ledgers
+    → g ≡ get_or ledgers place g → AreAmong (map (λ g. is_in_recovery g.metadata.state) (take place ledgers)) others
+    → (IsTrue (is_in_recovery g.metadata.state) → IsTrue (flag_at others place))
+    → AreAmong (map (λ g. is_in_recovery g.metadata.state) (take (place + 1) ledgers)) others
+among-more ledgers others place g within is among last =
+    let flag_of : Ledger → Bool = λ g. is_in_recovery g.metadata.state in
+    let flags : List Bool = map flag_of (take place ledgers) in
+    let grown : map flag_of (take (place + 1) ledgers) ≡ flags ++ flag_of g ∷ [] =
+    map_more flag_of ledgers place g within ∙ ap (λ (x : Ledger). flags ++ flag_of x ∷ []) (sym is) in
+    let long : length flags ≡ place =
+    length-map (take place ledgers) flag_of ∙ length-take-le place ledgers (omega (arith, within)) in
+    subst (λ (fs : List Bool). AreAmong fs others) (sym grown)
+    (more flags (flag_of g) (flag_at others) among (λ set. subst (λ n. IsTrue (flag_at others n)) (sym long) (last set)))

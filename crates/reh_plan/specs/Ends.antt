@@ -1,0 +1,60 @@
+-- What a plan must not leave, where its script has room.
+use Rattle.std.specs.Prelude.{◌≡◌, ◌≢◌, ◌⊎◌, ℕ, ◌+◌, ◌≤◌, Bool, false, IsTrue, All, List, [], ◌∷◌, length, map, is_some, slice_get}
+use Rattle.std.specs.Prelude.{Option, None}
+use Rattle.std.specs.List.{list_any}
+use Rattle.std.specs.Option.{option_map_or}
+use Rattle.reh_types.specs.declared.limits.TheConstants.{MAX_SCRIPT_BYTES}
+use Rattle.reh_types.specs.declared.refusals.Refusal.{Refusal}
+use Rattle.reh_model.specs.Checks.{first_reason}
+use Rattle.reh_model.specs.Cluster.{Cluster, Ledger}
+use Rattle.reh_model.specs.Metadata.{is_in_recovery}
+use Rattle.reh_model.specs.Refusals.{no_place, no_source, version_end}
+use Rattle.reh_lines.specs.Lines.{lines_of}
+use Rattle.reh_plan.specs.declared.plans.TheConstants.{COMMAND_ROOM}
+
+-- why the bookie can't take a place of the ledger, if it had the ledger's lock: it can't take that place, some entry can't be
+-- copied, or there is no next version
+abbrev pub fill_refusal : Cluster → ℕ → Ledger → ℕ → ℕ → Option Refusal
+fill_refusal s b g f i = first_reason (no_place s b g f i ∷ no_source s g f i ∷ version_end g ∷ [])
+
+-- no bookie that may work can take the place at that index of the fragment
+abbrev pub IsFilled : (ℕ → Bool) → Cluster → Ledger → ℕ → ℕ → Type 0
+IsFilled may s g f i = (b : ℕ) → IsTrue (may b) → fill_refusal s b g f i ≢ None
+
+-- nor any place of the ledger
+abbrev pub AllFilled : (ℕ → Bool) → Cluster → Ledger → Type 0
+AllFilled may s g = (f i : ℕ) → IsFilled may s g f i
+
+-- nor any place of any ledger
+abbrev pub IsComplete : (ℕ → Bool) → Cluster → Type 0
+IsComplete may s = All (AllFilled may s) s.parts.ledgers
+
+-- no task is locked
+abbrev pub IsUnlocked : Cluster → Type 0
+IsUnlocked s = list_any (λ g. is_some g.lock) s.parts.ledgers ≡ false
+
+-- whether each ledger is in recovery, in picture order
+abbrev pub recovering : Cluster → List Bool
+recovering s = map (λ g. is_in_recovery g.metadata.state) s.parts.ledgers
+
+-- the flag at that place, if it is there and set
+abbrev pub flag_at : List Bool → ℕ → Bool
+flag_at flags k = option_map_or (λ flag. flag) (slice_get flags k) false
+
+-- each flag that is set is set in the others
+abbrev pub AreAmong : List Bool → List Bool → Type 0
+AreAmong flags others = (k : ℕ) → IsTrue (flag_at flags k) → IsTrue (flag_at others k)
+
+-- no ledger is in recovery in t that isn't in s, at the same place of the picture
+abbrev pub IsHarmless : Cluster → Cluster → Type 0
+IsHarmless s t = AreAmong (recovering t) (recovering s)
+
+-- a script of these lines has no room for a further command, beside the comments
+pub record IsFull (lines : List (List ℕ)) : Type 0 where
+  pub text : List ℕ
+  pub says : lines_of text ≡ lines
+  pub many : MAX_SCRIPT_BYTES ≤ length text + COMMAND_ROOM
+
+-- in t, the last state, no place is left that could be filled, and no task locked, unless the script is full
+abbrev pub Ends : (ℕ → Bool) → Cluster → List (List ℕ) → Type 0
+Ends may t lines = IsFull lines ⊎ (IsComplete may t × IsUnlocked t)

@@ -1,0 +1,46 @@
+// The picture of the state to which a script leads, for a question that is asked of that state.
+ghost use Rattle.std.specs.Prelude.{IfOk, string_bytes};
+ghost use Rattle.rehearse.specs.Inputs as model;
+
+use crate::faults::RunFault;
+use crate::files::{read_picture, read_script};
+use crate::inputs::{refused, unfit};
+use reh_after::{AfterFault, Unaccepted, picture_after};
+use std::alloc::{AllocError, Global};
+
+/// The text of the picture of the state to which the script in a file leads from the picture in another.
+pub(crate) fn text_after(rt: &HostRuntime, picture: &str, script: &str) -> Result<String, RunFault>
+    ensures { IfOk result (λ text. model.IsAfterSome (string_bytes text)) }
+{
+    let alloc = rt.alloc();
+    let bytes = read_picture(rt, picture)?;
+    let commands = read_script(rt, script)?;
+    match picture_after(alloc, &bytes, &commands) {
+        Ok(text) => Ok(text),
+        Err(fault) => Err(unplayed(alloc, picture, script, fault)),
+    }
+}
+
+/// Why there is no state that can be asked of.
+fn unplayed(alloc: Global, picture: &str, script: &str, fault: AfterFault) -> RunFault {
+    match fault {
+        AfterFault::Picture(located) => match refused(alloc, picture, located) {
+            Ok(fault) => fault,
+            Err(want) => RunFault::from(want),
+        },
+        AfterFault::TooLong => RunFault::TooLong,
+        AfterFault::Unaccepted(first) => unfit(unaccepted_text(alloc, script, &first)),
+        AfterFault::Unheld(fault) => unfit(format!(in alloc;
+            "{script}: no picture holds the state at the end: {fault}"
+        )),
+        AfterFault::NoMemory => RunFault::NoMemory,
+    }
+}
+
+/// That a command of a script isn't accepted.
+fn unaccepted_text(alloc: Global, script: &str, first: &Unaccepted) -> Result<String, AllocError> {
+    let Unaccepted { line, answer } = first;
+    format!(in alloc;
+        "{script}:{line}: {answer}: nothing is asked, as each command has to be accepted first"
+    )
+}
