@@ -11,9 +11,9 @@ mod verbs;
 mod words;
 
 pub use commands::{Command, LineFault};
-pub use reports::{push_report, report_text};
+pub use reports::{push_last, push_members, push_names, push_report, report_text, state_word};
 pub use scripts::{command_text, parse_line};
 pub use surveys::push_survey;
-pub use texts::{Named, reply_text};
+pub use texts::{Named, push_name, reply_text};
 pub use verbs::Verb;
 pub use words::Role;

@@ -154,7 +154,7 @@ fn push_metadata(text: &mut String, id: LedgerId, metadata: &LedgerMeta) -> Resu
 }
 
 /// The state of a ledger.
-fn state_word(state: LedgerState) -> &'static str
+pub fn state_word(state: LedgerState) -> &'static str
     ensures { result.now ≡ texts.state_word state }
 {
     match state {
@@ -165,7 +165,7 @@ fn state_word(state: LedgerState) -> &'static str
 }
 
 /// Adds a ledger's last entry id, or `-` where it isn't closed.
-fn push_last(text: &mut String, state: LedgerState) -> Result<(), AllocError>
+pub fn push_last(text: &mut String, state: LedgerState) -> Result<(), AllocError>
     ensures { OnOk result (string_bytes text.new ≡ string_bytes text.old ++ texts.last_word state) }
 {
     match state {
@@ -214,7 +214,7 @@ fn push_stop(text: &mut String, stop: Option<u32>) -> Result<(), AllocError>
 }
 
 /// Adds the names of bookies, each after a space.
-fn push_names(text: &mut String, names: &Names, bookies: &[BookieIx]) -> Result<(), AllocError>
+pub fn push_names(text: &mut String, names: &Names, bookies: &[BookieIx]) -> Result<(), AllocError>
     ensures { OnOk result (string_bytes text.new ≡ string_bytes text.old
         ++ texts.behind_spaces (map (texts.name_of names.now) bookies.now)) }
 {
@@ -238,7 +238,7 @@ fn push_task(text: &mut String, names: &Names, task: Option<&BookieSet>) -> Resu
 }
 
 /// Adds the names of a set's bookies in picture order, each after a space.
-fn push_members(text: &mut String, names: &Names, bookies: &BookieSet) -> Result<(), AllocError>
+pub fn push_members(text: &mut String, names: &Names, bookies: &BookieSet) -> Result<(), AllocError>
     ensures { OnOk result (string_bytes text.new ≡ string_bytes text.old
         ++ texts.behind_spaces (texts.names_in names.now bookies.now)) }
 {

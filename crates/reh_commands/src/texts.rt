@@ -40,11 +40,7 @@ impl fmt::Display for Named<'_> {
 }
 
 /// Adds a space and the bookie's name, or its number where the names have none for it.
-pub(crate) fn push_name(
-    text: &mut String,
-    names: &Names,
-    bookie: BookieIx,
-) -> Result<(), AllocError>
+pub fn push_name(text: &mut String, names: &Names, bookie: BookieIx) -> Result<(), AllocError>
     ensures { OnOk result (string_bytes text.new ≡ string_bytes text.old
         ++ (codes " " ++ texts.name_of names.now bookie)) }
 {

@@ -157,6 +157,13 @@ impl Book {
         self.out.len() as u32
     }
 
+    /// The session now.
+    pub fn session(&self) -> &Session
+        ensures { result.now ≡ self.now.book.session }
+    {
+        &self.session
+    }
+
     /// The session that the book opened on.
     pub fn opening(&self) -> &Session
         ensures { result.now ≡ self.now.opening }

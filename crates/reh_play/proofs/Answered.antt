@@ -1,5 +1,5 @@
 -- How a play of the lines ends that are answered.
-use Rattle.std.proofs.Common.{◌≡◌, ℕ, ◌-◌, ◌≤◌, Bool, true, false, cond, List, length, sym, ap, ◌∙◌}
+use Rattle.std.proofs.Common.{◌≡◌, ℕ, ◌≤◌, Bool, true, false, cond, List, length, sym, ap, ◌∙◌}
 use Rattle.std.proofs.Common.{Option, None, Some, subst, inl, inr}
 use Rattle.std.specs.Prelude.{Ok, Err, ◌⊎◌}
 use Rattle.reh_types.specs.declared.limits.TheConstants.{MAX_SCRIPT_BYTES}

@@ -6,55 +6,69 @@ use Rattle.std.proofs.KnownBytes.{Keeps-refl}
 use Rattle.reh_types.specs.declared.calls.Call.{Call}
 use Rattle.reh_types.specs.declared.moves.Reply.{Reply}
 use Rattle.reh_model.specs.Book.{is_written}
+use Rattle.reh_model.specs.Cluster.{Cluster}
 use Rattle.reh_desk.specs.Numbered.{Numbered}
 use Rattle.reh_desk.specs.Seats.{SeatView, gained}
 use Rattle.reh_commands.specs.declared.commands.Command.{Command}
 use Rattle.reh_commands.specs.declared.commands.LineFault.{LineFault}
 use Rattle.reh_play.specs.declared.faults.PlayFault.{PlayFault}
 use Rattle.reh_play.specs.declared.faults.PlayFault.TheVariants as fault
-use Rattle.reh_commands.specs.Answers.{asked, own_answer}
-use Rattle.reh_play.specs.DeskPlays.{anyhow, at_desk, sitting, PlaysAtDesk}
+use Rattle.reh_commands.specs.Answers.{asked, numbered}
+use Rattle.reh_play.specs.declared.answers.LineAnswer.{LineAnswer}
+use Rattle.reh_play.specs.DeskPlays.{anyhow, unseen, at_desk, sitting, PlaysAtDesk}
 use Rattle.reh_transcript.specs.Hand.{call_of, discard_of, HandAfter}
 use Rattle.reh_lines.specs.Lines.{answered_lines}
-use Rattle.reh_play.specs.Players.{Going, Player, Setting, seated, Calls, Commands, Takes, TakesAll, Wants, Begins}
-use Rattle.reh_play.specs.Players.{GivesBack}
+use Rattle.reh_play.specs.Players.{Going, Player, Setting, seated, answer_text, answers_alone, IsOwn, Calls, Commands}
+use Rattle.reh_play.specs.Players.{IsAnswered, Takes, TakesAll, Wants, Begins, GivesBack}
 use Rattle.reh_play.specs.Plays.{stop_of, AnswersAll, StopsWriting, StopsWanting, IsPlayed}
 
 -- a player without its counter
 abbrev pub apart : {S : Type 0} → Player S → Player (Unit {0})
 apart {S} x = record { counter = tt; seat = x.seat; hand = x.hand }
 
--- The counter shows no state.
-abbrev pub ShowsNone : {S : Type 0} → Setting S → Type 0
-ShowsNone {S} place = (counter : S) → place.scene counter ≡ None
+-- The counter shows no state, and answers alone are printed.
+pub record ShowsNone {S : Type 0} (place : Setting S) : Type 0 where
+  pub none : (counter : S) → place.scene counter ≡ None
+  pub alone : (names : List (List ℕ)) (before : S) (n : ℕ) (q : Result Command LineFault) (answer : LineAnswer)
+      (after : S) (text : List ℕ)
+      → place.prints names before n q answer after text → answers_alone place.scene names before n q answer after text
 
 -- Without the counter
 
 calls_apart : {S : Type 0} (place : Setting S) → ShowsNone place → (x : Player S) (c : Command) (k : Call)
-    (reply : Reply) (y : Player S) → Calls place x c k reply y
-    → Calls (at_desk place.names) (apart x) c k reply (apart y)
-calls_apart place none x c k reply y calls = record {
+    (reply : Reply) (y : Player S) → Calls place.go place.scene x c k reply y
+    → Calls anyhow unseen (apart x) c k reply (apart y)
+calls_apart place shows x c k reply y calls = record {
   goes = tt;
   seat = calls.seat;
-  hand = subst (λ scene. HandAfter scene c reply x.hand y.hand) (none x.counter) calls.hand;
+  hand = subst (λ scene. HandAfter scene c reply x.hand y.hand) (shows.none x.counter) calls.hand;
   answered = calls.answered;
 }
 
 commands_apart : {S : Type 0} (place : Setting S) → ShowsNone place → (x : Player S) (c : Command)
-    (made : Option Call) (answer : List ℕ) (y : Player S) → Commands place x c made answer y
-    → Commands (at_desk place.names) (apart x) c made answer (apart y)
-commands_apart place none x c None answer y (own, stays) =
-    (own ∙ ap (λ scene. own_answer place.names scene c) (none x.counter), ap apart stays)
-commands_apart place none x c (Some k) answer y (reply, said, calls) =
-    (reply, said, calls_apart place none x c k reply y calls)
+    (made : Option Call) (answer : LineAnswer) (y : Player S) → Commands place.go place.scene x c made answer y
+    → Commands anyhow unseen (apart x) c made answer (apart y)
+commands_apart place shows x c None answer y (own, stays) =
+    (subst (λ scene. IsOwn scene c answer) (shows.none x.counter) own, ap apart stays)
+commands_apart place shows x c (Some k) answer y (reply, said, calls) =
+    (reply, said, calls_apart place shows x c k reply y calls)
+
+answered_apart : {S : Type 0} (place : Setting S) → ShowsNone place → (x : Player S) (q : Result Command LineFault)
+    (answer : LineAnswer) (y : Player S) → IsAnswered place.go place.scene x q answer y
+    → IsAnswered anyhow unseen (apart x) q answer (apart y)
+answered_apart place shows x (Err reason) answer y (is, stays) = (is, ap apart stays)
+answered_apart place shows x (Ok c) answer y made = commands_apart place shows x c (call_of c x.hand) answer y made
 
 takes_apart : {S : Type 0} (place : Setting S) → ShowsNone place → (x : Player S) (n : ℕ)
     (q : Option (Result Command LineFault)) (text : List ℕ) (y : Player S) → Takes place x n q text y
     → Takes (at_desk place.names) (apart x) n q text (apart y)
-takes_apart place none x n None text y (is, stays) = (is, ap apart stays)
-takes_apart place none x n (Some (Err reason)) text y (is, stays) = (is, ap apart stays)
-takes_apart place none x n (Some (Ok c)) text y (answer, is, made) =
-    (answer, is, commands_apart place none x c (call_of c x.hand) answer y made)
+takes_apart place shows x n None text y (is, stays) = (is, ap apart stays)
+takes_apart place shows x n (Some q) text y (answer, made, printed) = (
+  answer,
+  answered_apart place shows x q answer y made,
+  shows.alone place.names x.counter n q answer y.counter text printed
+      ∙ ap (λ scene. numbered n (answer_text place.names scene answer)) (shows.none y.counter),
+)
 
 lines_apart : {S : Type 0} (place : Setting S) → ShowsNone place → (x : Player S) (n : ℕ)
     (lines : List (List ℕ)) (text : List ℕ) (y : Player S) → TakesAll place x n lines text y
@@ -69,18 +83,18 @@ lines_apart place none x n (line ∷ lines) text y (first, later, mid, is, takes
   lines_apart place none mid (n + 1) lines later y rest,
 )
 
-wants_apart : {S : Type 0} (place : Setting S) (x : Player S) (q : Option (Result Command LineFault)) (y : Player S)
-    → Wants place x q y → Wants (at_desk place.names) (apart x) q (apart y)
-wants_apart place x None y wants = absurd wants
-wants_apart place x (Some (Err reason)) y wants = absurd wants
-wants_apart place x (Some (Ok c)) y (k, is, goes, seat, hand) = (k, is, tt, seat, hand)
+wants_apart : {S : Type 0} (go : Going S) (x : Player S) (q : Result Command LineFault) (y : Player S)
+    → Wants go x q y → Wants anyhow (apart x) q (apart y)
+wants_apart go x (Err reason) y wants = absurd wants
+wants_apart go x (Ok c) y (k, is, goes, seat, hand) = (k, is, tt, seat, hand)
 
-begins_apart : {S : Type 0} (place : Setting S) → ShowsNone place → (x : Player S) (n : ℕ)
-    (q : Option (Result Command LineFault)) (y : Player S) → Begins place x n q y
-    → Begins (at_desk place.names) (apart x) n q (apart y)
-begins_apart place none x n q y (some, inl (text, takes)) =
-    (some, inl (text, takes_apart place none x n q text y takes))
-begins_apart place none x n q y (some, inr wants) = (some, inr (wants_apart place x q y wants))
+begins_apart : {S : Type 0} (place : Setting S) → ShowsNone place → (x : Player S)
+    (q : Option (Result Command LineFault)) (y : Player S) → Begins place.go place.scene x q y
+    → Begins anyhow unseen (apart x) q (apart y)
+begins_apart place shows x None y begun = absurd begun
+begins_apart place shows x (Some q) y (inl (answer, made)) = inl (answer, answered_apart place shows x q answer y made)
+begins_apart place shows x (Some q) y (inr (inl wants)) = inr (inl (wants_apart place.go x q y wants))
+begins_apart place shows x (Some q) y (inr (inr (is, stays))) = inr (inr (is, ap apart stays))
 
 gives_apart : {S : Type 0} (go : Going S) (counter : S) (seat : SeatView) (hand : List Numbered) (last : S)
     (end : SeatView) → GivesBack go counter seat hand last end → GivesBack anyhow tt seat hand tt end
@@ -132,8 +146,7 @@ wanting_apart place none lines x z old new stops = record {
   y = apart stops.y;
   split = stops.split;
   before = lines_apart place none x 1 stops.done stops.text stops.mid stops.before;
-  begun = begins_apart place none stops.mid (length stops.done + 1) (asked place.names stops.line) stops.y
-      stops.begun;
+  begun = begins_apart place none stops.mid (asked place.names stops.line) stops.y stops.begun;
   ends = gives_apart place.go stops.y.counter stops.y.seat stops.y.hand z.counter z.seat stops.ends;
   written = stops.written;
 }
@@ -186,18 +199,24 @@ either_number false s t same = refl
 pub gained_number : (s : SeatView) (c : Call) (reply : Reply) → (gained s c reply).number ≡ s.number
 gained_number s c reply = either_number (is_written reply) s _ refl
 
-number_by_command : {S : Type 0} (place : Setting S) (x : Player S) (c : Command) (made : Option Call)
-    (answer : List ℕ) (y : Player S) → Commands place x c made answer y → y.seat.number ≡ x.seat.number
-number_by_command {S} place x c None answer y (own, stays) = ap (λ (v : Player S). v.seat.number) stays
-number_by_command {S} place x c (Some k) answer y (reply, said, calls) =
+number_by_command : {S : Type 0} (go : Going S) (scene : S → Option Cluster) (x : Player S) (c : Command)
+    (made : Option Call) (answer : LineAnswer) (y : Player S) → Commands go scene x c made answer y
+    → y.seat.number ≡ x.seat.number
+number_by_command {S} go scene x c None answer y (own, stays) = ap (λ (v : Player S). v.seat.number) stays
+number_by_command {S} go scene x c (Some k) answer y (reply, said, calls) =
     ap (λ (v : SeatView). v.number) calls.seat ∙ gained_number x.seat k reply
+
+number_by_answer : {S : Type 0} (go : Going S) (scene : S → Option Cluster) (x : Player S) (q : Result Command LineFault)
+    (answer : LineAnswer) (y : Player S) → IsAnswered go scene x q answer y → y.seat.number ≡ x.seat.number
+number_by_answer {S} go scene x (Err reason) answer y (is, stays) = ap (λ (v : Player S). v.seat.number) stays
+number_by_answer {S} go scene x (Ok c) answer y made =
+    number_by_command go scene x c (call_of c x.hand) answer y made
 
 number_by_line : {S : Type 0} (place : Setting S) (x : Player S) (n : ℕ) (q : Option (Result Command LineFault))
     (text : List ℕ) (y : Player S) → Takes place x n q text y → y.seat.number ≡ x.seat.number
 number_by_line {S} place x n None text y (is, stays) = ap (λ (v : Player S). v.seat.number) stays
-number_by_line {S} place x n (Some (Err reason)) text y (is, stays) = ap (λ (v : Player S). v.seat.number) stays
-number_by_line {S} place x n (Some (Ok c)) text y (answer, is, made) =
-    number_by_command place x c (call_of c x.hand) answer y made
+number_by_line {S} place x n (Some q) text y (answer, made, printed) =
+    number_by_answer place.go place.scene x q answer y made
 
 number_by_lines : {S : Type 0} (place : Setting S) (x : Player S) (n : ℕ) (lines : List (List ℕ)) (text : List ℕ)
     (y : Player S) → TakesAll place x n lines text y → y.seat.number ≡ x.seat.number
@@ -206,12 +225,13 @@ number_by_lines {S} place x n (line ∷ lines) text y (first, later, mid, is, ta
     number_by_lines place mid (n + 1) lines later y rest
     ∙ number_by_line place x n (asked place.names line) first mid takes
 
-number_begun : {S : Type 0} (place : Setting S) (x : Player S) (n : ℕ) (q : Option (Result Command LineFault))
-    (y : Player S) → Begins place x n q y → y.seat.number ≡ x.seat.number
-number_begun place x n q y (some, inl (text, takes)) = number_by_line place x n q text y takes
-number_begun place x n None y (some, inr wants) = absurd wants
-number_begun place x n (Some (Err reason)) y (some, inr wants) = absurd wants
-number_begun place x n (Some (Ok c)) y (some, inr (k, is, goes, seat, hand)) = ap (λ (v : SeatView). v.number) seat
+number_begun : {S : Type 0} (go : Going S) (scene : S → Option Cluster) (x : Player S)
+    (q : Option (Result Command LineFault)) (y : Player S) → Begins go scene x q y → y.seat.number ≡ x.seat.number
+number_begun {S} go scene x None y begun = absurd begun
+number_begun {S} go scene x (Some q) y (inl (answer, made)) = number_by_answer go scene x q answer y made
+number_begun {S} go scene x (Some (Err reason)) y (inr (inl wants)) = absurd wants
+number_begun {S} go scene x (Some (Ok c)) y (inr (inl (k, is, goes, seat, hand))) = ap (λ (v : SeatView). v.number) seat
+number_begun {S} go scene x (Some q) y (inr (inr (is, stays))) = ap (λ (v : Player S). v.seat.number) stays
 
 number_given_back : {S : Type 0} (go : Going S) (counter : S) (seat : SeatView) (hand : List Numbered) (last : S)
     (end : SeatView) → GivesBack go counter seat hand last end → end.number ≡ seat.number
@@ -238,7 +258,7 @@ number_wanting : {S : Type 0} (place : Setting S) (lines : List (List ℕ)) (x z
     (old new : Option (List ℕ)) → StopsWanting place lines x z old new → z.seat.number ≡ x.seat.number
 number_wanting place lines x z old new stops =
     number_given_back place.go stops.y.counter stops.y.seat stops.y.hand z.counter z.seat stops.ends
-    ∙ number_begun place stops.mid (length stops.done + 1) (asked place.names stops.line) stops.y stops.begun
+    ∙ number_begun place.go place.scene stops.mid (asked place.names stops.line) stops.y stops.begun
     ∙ number_by_lines place x 1 stops.done stops.text stops.mid stops.before
 
 pub number_played : {S : Type 0} (place : Setting S) (lines : List (List ℕ)) (stop : Option PlayFault)

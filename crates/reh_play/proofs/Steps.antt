@@ -1,5 +1,5 @@
 -- A play after its first lines, one line at a time.
-use Rattle.std.proofs.Common.{◌≡◌, ℕ, suc, ◌+◌, ◌-◌, ◌<◌, List, [], ◌∷◌, ◌++◌, length, Option, None, Ok}
+use Rattle.std.proofs.Common.{◌≡◌, ℕ, suc, ◌+◌, ◌<◌, List, [], ◌∷◌, ◌++◌, length, Option, None, Ok}
 use Rattle.std.proofs.Common.{Err, true, refl, sym, ap, ◌∙◌, subst, arith, append-nil, length-append}
 use mathlib.Core.List.{append_assoc}
 use Rattle.std.proofs.KnownBytes.{Appends-trans, Appends-nil, Appends-kept}
@@ -174,7 +174,7 @@ wants place all survey_fault.NoThread x z old mid stops wanted = (stops, wanted)
 -- where there is no memory, or no thread for a survey
 pub stops_wanting : {S : Type 0} (place : Setting S) (all lines rest : List (List ℕ)) (line : List ℕ) (k : ℕ)
     (fault : SurveyFault) (x y z : Player S) (old mid : Option (List ℕ)) → IsAt place all lines k x y old mid
-    → lines ≡ line ∷ rest → Begins place y (k + 1) (asked place.names line) z
+    → lines ≡ line ∷ rest → Begins place.go place.scene y (asked place.names line) z
     → IsWanted fault (asked place.names line) → LeadsTo place all (Err (play_fault_of fault)) x z old mid
 stops_wanting place all lines rest line k fault x y z old mid at first begun wanted = λ end ends.
     let stops : StopsWanting place all x end old mid = record {
@@ -186,7 +186,7 @@ stops_wanting place all lines rest line k fault x y z old mid at first begun wan
       y = z;
       split = at.split ∙ ap (λ (ls : List (List ℕ)). at.done ++ ls) first;
       before = at.taken;
-      begun = subst (λ i. Begins place y i (asked place.names line) z) (number_is k at.done at.count) begun;
+      begun = begun;
       ends = ends;
       written = at.written;
     } in

@@ -21,12 +21,12 @@ use Rattle.reh_desk.specs.Seats.{SeatView, gained}
 use Rattle.reh_play.specs.declared.answers.LineAnswer.{LineAnswer}
 use Rattle.reh_play.specs.declared.answers.LineAnswer.TheVariants.{Said}
 use Rattle.reh_commands.specs.declared.commands.Command.{Command}
-use Rattle.reh_commands.specs.declared.commands.Command.TheVariants.{Checkout, Spend, Discard}
+use Rattle.reh_commands.specs.declared.commands.Command.TheVariants.{Checkout, Spend, Discard, Survey}
 use Rattle.reh_commands.specs.declared.commands.LineFault.{LineFault}
-use Rattle.reh_commands.specs.Answers.{asked, numbered, reply_answer, own_answer}
+use Rattle.reh_commands.specs.Answers.{asked, numbered}
 use Rattle.reh_transcript.specs.Hand.{call_of, spend_of, discard_of, HandAfter}
-use Rattle.reh_play.specs.Players.{Going, Player, setting, Commands, Takes, Begins, IsGivenBack, GivesBack}
-use Rattle.reh_play.specs.Turns.{player, held, answer_text, IsAnswered, IsBegun}
+use Rattle.reh_play.specs.Players.{Going, Player, Printing, setting_by, answer_text, answers_alone, IsOwn, Commands, IsAnswered, Takes, Begins, IsGivenBack, GivesBack}
+use Rattle.reh_play.specs.Turns.{player, held, IsBegun, PrintsLine}
 
 -- a reply that adds a line is not out of memory
 pub real_if_written : (reply : Reply) → IsTrue (is_written reply) → reply ≢ Refused NoMemory
@@ -45,58 +45,34 @@ pub answers_call : {S : Type 0} (go : Going S) (scene : S → Option Cluster) (x
     → go x.counter x.seat.number k reply y.counter → y.seat ≡ gained x.seat k reply
     → HandAfter (scene x.counter) command reply x.hand y.hand → reply ≢ Refused NoMemory
     → IsAnswered go scene x (Ok command) (Said reply) y
-answers_call go scene x command k reply y is goes seat hand real = λ names n. (
-  reply_answer names reply,
-  refl,
-  subst
-      (λ q. Commands (setting go scene names) x command q (reply_answer names reply) y) (sym is)
-      (reply, refl, record { goes = goes; seat = seat; hand = hand; answered = real }),
-)
+answers_call go scene x command k reply y is goes seat hand real =
+    subst (λ q. Commands go scene x command q (Said reply) y) (sym is)
+    (reply, refl, record { goes = goes; seat = seat; hand = hand; answered = real })
 
 -- a command that makes no call
 pub answers_itself : {S : Type 0} (go : Going S) (scene : S → Option Cluster) (x : Player S) (command : Command)
-    (answer : LineAnswer) → call_of command x.hand ≡ None
-    → ((names : List (List ℕ))
-    → answer_text names (scene x.counter) answer ≡ own_answer names (scene x.counter) command)
+    (answer : LineAnswer) → call_of command x.hand ≡ None → IsOwn (scene x.counter) command answer
     → IsAnswered go scene x (Ok command) answer x
-answers_itself go scene x command answer none is = λ names n. (
-  answer_text names (scene x.counter) answer,
-  refl,
-  subst
-      (λ q. Commands (setting go scene names) x command q (answer_text names (scene x.counter) answer) x) (sym none)
-      (is names, refl),
-)
+answers_itself go scene x command answer none own =
+    subst (λ q. Commands go scene x command q answer x) (sym none) (own, refl)
 
 -- a command whose call found no memory
 pub begins_call : {S : Type 0} (go : Going S) (scene : S → Option Cluster) (x : Player S) (command : Command)
     (k : Call) (y : Player S) → call_of command x.hand ≡ Some k
     → go x.counter x.seat.number k (Refused NoMemory) y.counter → y.seat ≡ gained x.seat k (Refused NoMemory)
     → y.hand ≡ x.hand → IsBegun go scene x (Ok command) y
-begins_call go scene x command k y is goes seat hand = λ names n. (refl, inr (k, is, goes, seat, hand))
+begins_call go scene x command k y is goes seat hand = inr (inl (k, is, goes, seat, hand))
 
 -- a line that was answered was begun
 pub begins_answered : {S : Type 0} (go : Going S) (scene : S → Option Cluster) (x : Player S)
     (asked : Result Command LineFault) (answer : LineAnswer) (y : Player S) → IsAnswered go scene x asked answer y
     → IsBegun go scene x asked y
-begins_answered go scene x asked answer y is =
-    λ names n. (refl, inl (numbered n (answer_text names (scene y.counter) answer), is names n))
+begins_answered go scene x asked answer y is = inl (answer, is)
 
--- so was one that makes no call
-pub begins_itself : {S : Type 0} (go : Going S) (scene : S → Option Cluster) (x : Player S) (command : Command)
-    → call_of command x.hand ≡ None → IsBegun go scene x (Ok command) x
-begins_itself go scene x command none = λ names n. (
-  refl,
-  inl (
-    numbered n (own_answer names (scene x.counter) command),
-    (
-      own_answer names (scene x.counter) command,
-      refl,
-      subst
-          (λ q. Commands (setting go scene names) x command q (own_answer names (scene x.counter) command) x) (sym none)
-          (refl, refl),
-    ),
-  ),
-)
+-- so was a survey that wasn't made
+pub begins_survey : {S : Type 0} (go : Going S) (scene : S → Option Cluster) (x : Player S)
+    → IsBegun go scene x (Ok Survey) x
+begins_survey go scene x = inr (inr (refl, refl))
 
 -- a hand with no ticket that could not be scanned
 pub without_ticket : {S : Type 0} (go : Going S) (scene : S → Option Cluster) (x : Player S)
@@ -152,13 +128,12 @@ begins_issued go scene s old hand u new aim ticket room goes seat is found =
 
 pub answers_empty : {S : Type 0} (go : Going S) (scene : S → Option Cluster) (s : S) (seat : SeatView)
     (hand next : List Numbered) (command : Command) (answer : LineAnswer) → hand ≡ [] → next ≡ []
-    → call_of command [] ≡ None
-    → ((names : List (List ℕ)) → answer_text names (scene s) answer ≡ own_answer names (scene s) command)
+    → call_of command [] ≡ None → IsOwn (scene s) command answer
     → IsAnswered go scene (player s seat hand) (Ok command) answer (player s seat next)
-answers_empty go scene s seat hand next command answer was after none is =
+answers_empty go scene s seat hand next command answer was after none own =
     subst (λ h. IsAnswered go scene (player s seat h) (Ok command) answer (player s seat next)) (sym was)
     (subst (λ h. IsAnswered go scene (player s seat []) (Ok command) answer (player s seat h)) (sym after)
-    (answers_itself go scene (player s seat []) command answer none is))
+    (answers_itself go scene (player s seat []) command answer none own))
 
 pub answers_spent : {S : Type 0} (go : Going S) (scene : S → Option Cluster) (s : S) (old : SeatView)
     (hand : List Numbered) (u : S) (new : SeatView) (finding : Numbered) (next : List Numbered) (reply : Reply)
@@ -234,23 +209,30 @@ gives_none go s old hand u new given = subst (λ h. GivesBack go s old h u new) 
 
 -- Lines
 
-pub takes_line : {S : Type 0} (go : Going S) (scene : S → Option Cluster) (names : List (List ℕ)) (n : ℕ)
-    (line text before : List ℕ) (x : Player S) (command : Result Command LineFault) (answer : LineAnswer) (y : Player S)
-    → Some command ≡ asked names line
-    → before ≡ [] → text ≡ before ++ numbered n (answer_text names (scene y.counter) answer)
-    → IsAnswered go scene x command answer y → Takes (setting go scene names) x n (asked names line) text y
-takes_line go scene names n line text before x command answer y is none whole answered =
-    let same : text ≡ numbered n (answer_text names (scene y.counter) answer) =
-    whole ∙ ap (λ t. t ++ numbered n (answer_text names (scene y.counter) answer)) none in
-    subst (λ a. Takes (setting go scene names) x n a text y) is
-    (subst (λ t. Takes (setting go scene names) x n (Some command) t y) (sym same) (answered names n))
+pub takes_line : {S : Type 0} (go : Going S) (scene : S → Option Cluster) (prints : Printing S) (names : List (List ℕ))
+    (n : ℕ) (line text before : List ℕ) (x : Player S) (command : Result Command LineFault) (answer : LineAnswer)
+    (y : Player S) → Some command ≡ asked names line → before ≡ []
+    → PrintsLine go scene prints names y.counter n line answer before text
+    → IsAnswered go scene x command answer y → Takes (setting_by go scene prints names) x n (asked names line) text y
+takes_line go scene prints names n line text before x command answer y is none printed answered =
+    let (more, whole, may) = printed x y command (sym is) refl answered in
+    let same : text ≡ more = whole ∙ ap (λ t. t ++ more) none in
+    subst (λ a. Takes (setting_by go scene prints names) x n a text y) is
+    (answer, answered, subst (λ t. prints names x.counter n command answer y.counter t) (sym same) may)
 
-pub begins_line : {S : Type 0} (go : Going S) (scene : S → Option Cluster) (names : List (List ℕ)) (n : ℕ)
-    (line : List ℕ) (x : Player S) (command : Result Command LineFault) (y : Player S)
-    → Some command ≡ asked names line
-    → IsBegun go scene x command y → Begins (setting go scene names) x n (asked names line) y
-begins_line go scene names n line x command y is begun =
-    subst (λ a. Begins (setting go scene names) x n a y) is (begun names n)
+pub begins_line : {S : Type 0} (go : Going S) (scene : S → Option Cluster) (names : List (List ℕ)) (line : List ℕ)
+    (x : Player S) (command : Result Command LineFault) (y : Player S) → Some command ≡ asked names line
+    → IsBegun go scene x command y → Begins go scene x (asked names line) y
+begins_line go scene names line x command y is begun = subst (λ a. Begins go scene x a y) is begun
+
+-- an answer alone is what may be printed
+pub prints_alone : {S : Type 0} {T E : Type 0} (go : Going S) (scene : S → Option Cluster) (names : List (List ℕ))
+    (after : S) (n : ℕ) (line : List ℕ) (answer : LineAnswer) (old new : List ℕ) (result : Result T E)
+    → OnOk result (new ≡ old ++ numbered n (answer_text names (scene after) answer))
+    → OnOk result (PrintsLine go scene (answers_alone scene) names after n line answer old new)
+prints_alone go scene names after n line answer old new (Ok done) is =
+    λ x y q asks there answered. (numbered n (answer_text names (scene after) answer), is, refl)
+prints_alone go scene names after n line answer old new (Err want) is = is
 
 -- a fault that is handed on
 pub if_err : {T E : Type 0} (P : E → Type 0) (result : Result T E) (e : E) → IsErrAnd result (λ x. x ≡ e) → P e

@@ -55,7 +55,7 @@ pub record StopsWanting {S : Type 0} (place : Setting S) (lines : List (List ℕ
   pub y : Player S
   pub split : lines ≡ done ++ line ∷ rest
   pub before : TakesAll place x 1 done text mid
-  pub begun : Begins place mid (length done + 1) (asked place.names line) y
+  pub begun : Begins place.go place.scene mid (asked place.names line) y
   pub ends : Ends place y z
   pub written : Appends old new text
 

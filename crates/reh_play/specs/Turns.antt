@@ -1,5 +1,5 @@
 -- How a player answers a line, and what it leaves where a line is not answered.
-use Rattle.std.specs.Prelude.{◌≡◌, ⊤, ℕ, Bool, List, [], ◌∷◌, ◌++◌, length, map, Option, None, Some, Result, Err, codes}
+use Rattle.std.specs.Prelude.{◌≡◌, ⊤, ℕ, Bool, List, [], ◌∷◌, ◌++◌, length, Option, None, Some, Result, Err}
 use Rattle.std.specs.Io.KnownBytes.{Appends}
 use Rattle.reh_model.specs.Cluster.{Cluster}
 use Rattle.reh_desk.specs.Numbered.{Numbered}
@@ -7,14 +7,12 @@ use Rattle.reh_desk.specs.Seats.{SeatView}
 use Rattle.reh_crew.specs.declared.surveyors.SurveyFault.{SurveyFault}
 use Rattle.reh_crew.specs.declared.surveyors.SurveyFault.TheVariants as survey_fault
 use Rattle.reh_play.specs.declared.answers.LineAnswer.{LineAnswer}
-use Rattle.reh_play.specs.declared.answers.LineAnswer.TheVariants.{Said, Faulty, Report, Survey, Hidden}
 use Rattle.reh_commands.specs.declared.commands.Command.{Command}
 use Rattle.reh_commands.specs.declared.commands.LineFault.{LineFault}
 use Rattle.reh_play.specs.declared.faults.PlayFault.{PlayFault}
-use Rattle.reh_commands.specs.Answers.{numbered, reply_answer, fault_answer, shown, report_answer}
-use Rattle.reh_play.specs.Players.{Going, Player, Setting, setting, Takes, TakesAll, Begins, Ends, AsksForSurvey}
+use Rattle.reh_commands.specs.Answers.{asked}
+use Rattle.reh_play.specs.Players.{Going, Player, Printing, Setting, IsAnswered, TakesAll, Begins, Ends, AsksForSurvey}
 use Rattle.reh_play.specs.Plays.{IsPlayed, Plays}
-use Rattle.reh_commands.specs.Texts.{survey_line_text, text_of}
 
 abbrev pub player : {S : Type 0} → S → SeatView → List Numbered → Player S
 player {S} counter seat hand = record { counter = counter; seat = seat; hand = hand }
@@ -28,26 +26,21 @@ held (Some ticket) = ticket ∷ []
 abbrev pub with_ticket : {S : Type 0} → S → SeatView → List Numbered → Option Numbered → Player S
 with_ticket {S} counter seat hand ticket = player counter seat (hand ++ held ticket)
 
--- what is printed as an answer, where this state is shown, or none
-abbrev pub answer_text : List (List ℕ) → Option Cluster → LineAnswer → List ℕ
-answer_text names scene (Said reply) = reply_answer names reply
-answer_text names scene (Faulty fault) = fault_answer fault
-answer_text names scene Report = shown scene report_answer
-answer_text names scene (Survey lines) = codes "survey\n" ++ text_of (map survey_line_text lines.items)
-answer_text names scene Hidden = codes "not in a drill\n"
-
--- A line that asks for this was taken, and has this answer, whatever its number and the names.
-abbrev pub IsAnswered : {S : Type 0} → Going S → (S → Option Cluster) → Player S → Result Command LineFault → LineAnswer
-    → Player S → Type 0
-IsAnswered {S} go scene x asked answer y =
-    (names : List (List ℕ)) (n : ℕ)
-    → Takes (setting go scene names) x n (Some asked) (numbered n (answer_text names (scene y.counter) answer)) y
-
--- It was begun, and has no answer.
+-- A line that asks for this was begun, and has no answer.
 abbrev pub IsBegun : {S : Type 0} → Going S → (S → Option Cluster) → Player S → Result Command LineFault → Player S
     → Type 0
-IsBegun {S} go scene x asked y =
-    (names : List (List ℕ)) (n : ℕ) → Begins (setting go scene names) x n (Some asked) y
+IsBegun {S} go scene x asked y = Begins go scene x (Some asked) y
+
+-- What was added to a text is what may be printed of the line.
+abbrev pub IsPrinted : (List ℕ → Type 0) → List ℕ → List ℕ → Type 0
+IsPrinted prints old new = (text : List ℕ) × (new ≡ old ++ text) × prints text
+
+-- Of the n-th line with this answer, which left the counter after, what is added may be printed, wherever it came from.
+abbrev pub PrintsLine : {S : Type 0} → Going S → (S → Option Cluster) → Printing S → List (List ℕ) → S → ℕ → List ℕ
+    → LineAnswer → List ℕ → List ℕ → Type 0
+PrintsLine {S} go scene prints names after n line answer old new =
+    (x y : Player S) (q : Result Command LineFault) → asked names line ≡ Some q → y.counter ≡ after
+    → IsAnswered go scene x q answer y → IsPrinted (prints names x.counter n q answer after) old new
 
 -- Only a survey wants a thread.
 abbrev pub IsWanted : SurveyFault → Option (Result Command LineFault) → Type 0

@@ -1,7 +1,7 @@
 // The answers to the lines of a script.
 ghost use Rattle.std.specs.Prelude.{◌≡◌, ◌++◌, OnOk, codes, decimal, string_bytes};
 ghost use Rattle.reh_commands.specs.Answers.{numbered, reply_answer, shown, report_answer};
-ghost use Rattle.reh_play.specs.Turns.{answer_text};
+ghost use Rattle.reh_play.specs.Players.{answer_text};
 
 use itoa::Buffer;
 use reh_cluster::Names;
@@ -12,7 +12,7 @@ use std::alloc::AllocError;
 
 /// The answer to a line.
 #[derive(Drop)]
-pub(crate) enum LineAnswer {
+pub enum LineAnswer {
     /// The reply to a call, or the player's own where its hand is full or empty.
     Said(Reply),
     /// The line asks for nothing.
@@ -26,24 +26,24 @@ pub(crate) enum LineAnswer {
 }
 
 /// Adds an answer after its line's number. What a report shows is the state that the counter shows, if it shows one.
-pub(crate) fn push_answer<C: Counter>(
+pub fn push_answer<C: Counter>(
     text: &mut String,
     names: &Names,
     counter: &C,
     number: usize,
-    answer: LineAnswer,
+    answer: &LineAnswer,
 ) -> Result<(), AllocError>
     ensures { OnOk result (string_bytes text.new
-        ≡ string_bytes text.old ++ numbered number (answer_text names.now (C.scene counter.now) answer)) }
+        ≡ string_bytes text.old ++ numbered number (answer_text names.now (C.scene counter.now) answer.now)) }
 {
     push_number(text, number)?;
     match answer {
-        LineAnswer::Said(reply) => push_reply(text, names, &reply),
+        LineAnswer::Said(reply) => push_reply(text, names, reply),
         LineAnswer::Faulty(fault) => write!(text, "{fault}\n"),
         LineAnswer::Report => push_state(text, counter),
         LineAnswer::Survey(lines) => {
             text.push_str("survey\n")?;
-            push_survey(text, &lines)
+            push_survey(text, lines)
         }
         LineAnswer::Hidden => write!(text, "not in a drill\n"),
     }

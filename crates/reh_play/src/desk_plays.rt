@@ -7,6 +7,7 @@ use crate::faults::PlayFault;
 use crate::hand::Hand;
 use crate::players::Tools;
 use crate::plays::answer_script;
+use crate::printers::AnswersAlone;
 use reh_cluster::Names;
 use reh_crew::Plain;
 use reh_desk::{AtDesk, Desk, Seat};
@@ -34,10 +35,12 @@ pub fn play_at_desk<R: Wait, W: TextOut>(
 {
     let hand = Hand::new(alloc)?;
     // A desk shows no state, so no survey is made.
+    let printer = AnswersAlone;
     let tools = Tools {
         alloc,
         names,
         surveyor: &Plain,
+        printer: &printer,
     };
     let mut counter = AtDesk { desk, rt };
     answer_script(&tools, &mut counter, seat, hand, script, writer)

@@ -7,7 +7,10 @@ mod faults;
 mod hand;
 mod players;
 mod plays;
+mod printers;
 
+pub use answers::{LineAnswer, push_answer};
 pub use desk_plays::play_at_desk;
 pub use faults::PlayFault;
-pub use plays::{play, play_on};
+pub use plays::{play, play_by, play_on};
+pub use printers::{AnswersAlone, Printer};

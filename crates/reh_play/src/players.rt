@@ -1,8 +1,8 @@
 // A player: it makes the calls of a script at a counter, with a hand of findings.
 ghost use Rattle.std.specs.Prelude.{◌≡◌, ◌++◌, ◌<◌, length, Some, IfOk, IfErr, Ok};
-ghost use Rattle.reh_play.specs.Players.{GivesBack};
+ghost use Rattle.reh_play.specs.Players.{GivesBack, IsAnswered};
 ghost use Rattle.reh_crew.specs.declared.surveyors.SurveyFault.TheVariants.{NoMemory};
-ghost use Rattle.reh_play.specs.Turns.{player, held, with_ticket, IsAnswered, IsBegun, IsWanted};
+ghost use Rattle.reh_play.specs.Turns.{player, held, with_ticket, IsBegun, IsWanted};
 ghost use Rattle.reh_commands.specs.declared.commands.Command.TheVariants as command;
 
 use crate::answers::LineAnswer;
@@ -14,12 +14,14 @@ use reh_desk::{Counter, Seat, SpendCause, SpendFault, Ticket, Unspent, scan};
 use reh_types::{Aim, MAX_HAND, Move, Refusal, Reply};
 use std::alloc::{AllocError, Global};
 
-/// What a player has besides its seat and its hand: memory, the names of bookies, and who makes its surveys.
+/// What a player has besides its seat and its hand: memory, the names of bookies, who makes its surveys, and who prints
+/// what it answers.
 #[derive(Drop)]
-pub(crate) struct Tools<'a, V: Surveyor> {
+pub(crate) struct Tools<'a, V: Surveyor, P> {
     pub alloc: Global,
     pub names: &'a Names,
     pub surveyor: &'a V,
+    pub printer: &'a P,
 }
 
 /// Why a line is not answered, and the ticket that could not be scanned, if there is one.
@@ -44,8 +46,8 @@ impl From<AllocError> for Unanswered {
 }
 
 /// Answers what a line asks for.
-pub(crate) fn answer<C: Counter, V: Surveyor>(
-    tools: &Tools<V>,
+pub(crate) fn answer<C: Counter, V: Surveyor, P>(
+    tools: &Tools<V, P>,
     counter: &mut C,
     seat: &mut Seat,
     hand: &mut Hand,
@@ -189,8 +191,8 @@ fn discard<C: Counter>(counter: &mut C, seat: &mut Seat, hand: &mut Hand) -> Lin
 }
 
 /// Surveys the state that the counter shows.
-fn survey<C: Counter, V: Surveyor>(
-    tools: &Tools<V>,
+fn survey<C: Counter, V: Surveyor, P>(
+    tools: &Tools<V, P>,
     counter: &C,
     seat: &Seat,
     hand: &Hand,

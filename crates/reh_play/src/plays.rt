@@ -4,15 +4,15 @@ ghost use Rattle.std.specs.Prelude.{string_bytes, IfOk, IfErr, OnOk, OnErr, Matc
 ghost use Rattle.std.specs.Io.KnownBytes.{Appends, prepend_known};
 ghost use Rattle.reh_commands.specs.Answers.{asked};
 ghost use Rattle.reh_lines.specs.Lines.{lines_of, answered_lines};
-ghost use Rattle.reh_play.specs.Players.{setting, seated, Takes, Begins};
+ghost use Rattle.reh_play.specs.Players.{setting, setting_by, seated, Takes, Begins};
 ghost use Rattle.reh_play.specs.Plays.{stop_of, IsPlayed, Plays, GoesOut, is_write_fault};
 ghost use Rattle.reh_lines.specs.Streams.{Grows};
 ghost use Rattle.reh_play.specs.Turns.{player, with_ticket, IsWanted, GoesOn, Halts, PlaysTo};
 
-use crate::answers::push_answer;
 use crate::faults::PlayFault;
 use crate::hand::Hand;
 use crate::players::{Tools, Unanswered, answer, give_back};
+use crate::printers::{AnswersAlone, Printer};
 use reh_cluster::Names;
 use reh_commands::parse_line;
 use reh_crew::Surveyor;
@@ -95,9 +95,15 @@ pub fn play<C: Counter, V: Surveyor, R: TextIn, W: TextOut>(
     ensures write { W.has_failed writer.new ≡ is_write_fault result }
     ensures calls { R.calls reader.new ≤ R.calls reader.old + (MAX_SCRIPT_BYTES + 1) }
 {
-    let script = Vec::new(alloc);
-    play_on(
-        alloc, counter, seat, names, surveyor, script, reader, writer,
+    play_by(
+        alloc,
+        counter,
+        seat,
+        names,
+        surveyor,
+        &AnswersAlone,
+        reader,
+        writer,
     )
 }
 
@@ -129,11 +135,87 @@ pub fn play_on<C: Counter, V: Surveyor, R: TextIn, W: TextOut>(
     ensures write { W.has_failed writer.new ≡ is_write_fault result }
     ensures calls { R.calls reader.new ≤ R.calls reader.old + (MAX_SCRIPT_BYTES + 1) }
 {
+    play_on_by(
+        alloc,
+        counter,
+        seat,
+        names,
+        surveyor,
+        &AnswersAlone,
+        script,
+        reader,
+        writer,
+    )
+}
+
+/// A `play` of which a printer says what is printed of each line.
+pub fn play_by<C: Counter, V: Surveyor, P: Printer<C>, R: TextIn, W: TextOut>(
+    alloc: Global,
+    counter: &mut C,
+    seat: &mut Seat,
+    names: &Names,
+    surveyor: &V,
+    printer: &P,
+    reader: &mut R,
+    writer: &mut W,
+) -> Result<(), PlayFault>
+    requires may { C.may counter.old seat.old }
+    requires surveys { V.surveys surveyor.now }
+    requires reads { R.has_failed reader.old ≡ false }
+    requires writes { W.has_failed writer.old ≡ false }
+    ensures may { C.may counter.new seat.new }
+    ensures plays { Plays (setting_by C.goes C.scene P.prints names.now) result
+        (R.has_failed reader.new) (R.remaining reader.old) (R.remaining reader.new)
+        (seated counter.old seat.old) (seated counter.new seat.new)
+        (W.contents writer.old) (W.contents writer.new) }
+    ensures prompt { (reader.new ≡ reader.old) ⊎ GoesOut (setting_by C.goes C.scene P.prints names.now)
+        (R.remaining reader.old) (R.before reader.new) (seated counter.old seat.old)
+        (W.contents writer.old) (W.seen writer.new) }
+    ensures seen { OnOk result (W.seen writer.new ≡ W.contents writer.new) }
+    ensures write { W.has_failed writer.new ≡ is_write_fault result }
+    ensures calls { R.calls reader.new ≤ R.calls reader.old + (MAX_SCRIPT_BYTES + 1) }
+{
+    let script = Vec::new(alloc);
+    play_on_by(
+        alloc, counter, seat, names, surveyor, printer, script, reader, writer,
+    )
+}
+
+/// A `play_by` of a script whose first bytes are at hand.
+fn play_on_by<C: Counter, V: Surveyor, P: Printer<C>, R: TextIn, W: TextOut>(
+    alloc: Global,
+    counter: &mut C,
+    seat: &mut Seat,
+    names: &Names,
+    surveyor: &V,
+    printer: &P,
+    script: Vec<u8>,
+    reader: &mut R,
+    writer: &mut W,
+) -> Result<(), PlayFault>
+    requires may { C.may counter.old seat.old }
+    requires surveys { V.surveys surveyor.now }
+    requires few { length script.items ≤ MAX_SCRIPT_BYTES }
+    requires reads { R.has_failed reader.old ≡ false }
+    requires writes { W.has_failed writer.old ≡ false }
+    ensures may { C.may counter.new seat.new }
+    ensures plays { Plays (setting_by C.goes C.scene P.prints names.now) result (R.has_failed reader.new)
+        (prepend_known script.items (R.remaining reader.old)) (R.remaining reader.new)
+        (seated counter.old seat.old) (seated counter.new seat.new)
+        (W.contents writer.old) (W.contents writer.new) }
+    ensures prompt { (reader.new ≡ reader.old) ⊎ GoesOut (setting_by C.goes C.scene P.prints names.now)
+        (prepend_known script.items (R.remaining reader.old)) (R.before reader.new)
+        (seated counter.old seat.old) (W.contents writer.old) (W.seen writer.new) }
+    ensures seen { OnOk result (W.seen writer.new ≡ W.contents writer.new) }
+    ensures write { W.has_failed writer.new ≡ is_write_fault result }
+    ensures calls { R.calls reader.new ≤ R.calls reader.old + (MAX_SCRIPT_BYTES + 1) }
+{
     let mut hand = Hand::new(alloc)?;
     let tools = Tools {
         alloc,
         names,
         surveyor,
+        printer,
     };
     match answer_reads(&tools, counter, seat, &mut hand, script, reader, writer) {
         Ok(()) => {
@@ -149,8 +231,8 @@ pub fn play_on<C: Counter, V: Surveyor, R: TextIn, W: TextOut>(
 }
 
 /// Reads on in a script whose first bytes are at hand, and answers its lines, those that are complete before it reads on.
-fn answer_reads<C: Counter, V: Surveyor, R: TextIn, W: TextOut>(
-    tools: &Tools<V>,
+fn answer_reads<C: Counter, V: Surveyor, P: Printer<C>, R: TextIn, W: TextOut>(
+    tools: &Tools<V, P>,
     counter: &mut C,
     seat: &mut Seat,
     hand: &mut Hand,
@@ -164,15 +246,15 @@ fn answer_reads<C: Counter, V: Surveyor, R: TextIn, W: TextOut>(
     requires reads { R.has_failed reader.old ≡ false }
     requires writes { W.has_failed writer.old ≡ false }
     ensures may { C.may counter.new seat.new }
-    ensures ok { OnOk result (PlaysTo (setting C.goes C.scene tools.now.names.now) (Ok tt)
+    ensures ok { OnOk result (PlaysTo (setting_by C.goes C.scene P.prints tools.now.names.now) (Ok tt)
         (R.has_failed reader.new) (prepend_known script.items (R.remaining reader.old)) (R.remaining reader.new)
         (player counter.old seat.old hand.old) (player counter.new seat.new hand.new)
         (W.contents writer.old) (W.contents writer.new)) }
-    ensures err { IfErr result (λ s. PlaysTo (setting C.goes C.scene tools.now.names.now) (Err s.fault)
+    ensures err { IfErr result (λ s. PlaysTo (setting_by C.goes C.scene P.prints tools.now.names.now) (Err s.fault)
         (R.has_failed reader.new) (prepend_known script.items (R.remaining reader.old)) (R.remaining reader.new)
         (player counter.old seat.old hand.old) (with_ticket counter.new seat.new hand.new s.ticket)
         (W.contents writer.old) (W.contents writer.new)) }
-    ensures prompt { (reader.new ≡ reader.old) ⊎ GoesOut (setting C.goes C.scene tools.now.names.now)
+    ensures prompt { (reader.new ≡ reader.old) ⊎ GoesOut (setting_by C.goes C.scene P.prints tools.now.names.now)
         (prepend_known script.items (R.remaining reader.old)) (R.before reader.new)
         (player counter.old seat.old hand.old)
         (W.contents writer.old) (W.seen writer.new) }
@@ -204,8 +286,8 @@ fn answer_reads<C: Counter, V: Surveyor, R: TextIn, W: TextOut>(
 }
 
 /// Answers the lines of a script, and gives the hand back.
-pub(crate) fn answer_script<C: Counter, V: Surveyor, W: TextOut>(
-    tools: &Tools<V>,
+pub(crate) fn answer_script<C: Counter, V: Surveyor, P: Printer<C>, W: TextOut>(
+    tools: &Tools<V, P>,
     counter: &mut C,
     seat: &mut Seat,
     hand: Hand,
@@ -216,7 +298,7 @@ pub(crate) fn answer_script<C: Counter, V: Surveyor, W: TextOut>(
     requires surveys { V.surveys tools.now.surveyor.now }
     requires writes { W.has_failed writer.old ≡ false }
     ensures may { C.may counter.new seat.new }
-    ensures played { IsPlayed (setting C.goes C.scene tools.now.names.now)
+    ensures played { IsPlayed (setting_by C.goes C.scene P.prints tools.now.names.now)
         (answered_lines false script.now) (stop_of false script.now) result
         (player counter.old seat.old hand) (seated counter.new seat.new)
         (W.contents writer.old) (W.contents writer.new) }
@@ -253,8 +335,8 @@ fn answered(script: &[u8]) -> (&[u8], Option<PlayFault>)
 }
 
 /// Answers the lines of a text in order, which come after so many others, and says after how many the next stands.
-fn answer_lines<C: Counter, V: Surveyor, W: TextOut>(
-    tools: &Tools<V>,
+fn answer_lines<C: Counter, V: Surveyor, P: Printer<C>, W: TextOut>(
+    tools: &Tools<V, P>,
     counter: &mut C,
     seat: &mut Seat,
     hand: &mut Hand,
@@ -267,12 +349,12 @@ fn answer_lines<C: Counter, V: Surveyor, W: TextOut>(
     requires writes { W.has_failed writer.old ≡ false }
     requires few { before + length text.now < 2 ^ 64 }
     ensures may { C.may counter.new seat.new }
-    ensures ok { IfOk result (λ number. GoesOn (setting C.goes C.scene tools.now.names.now)
+    ensures ok { IfOk result (λ number. GoesOn (setting_by C.goes C.scene P.prints tools.now.names.now)
         before (lines_of text.now) number []
         (player counter.old seat.old hand.old) (player counter.new seat.new hand.new)
         (W.contents writer.old) (W.contents writer.new)) }
     ensures few { IfOk result (λ number. number ≤ before + length text.now) }
-    ensures err { IfErr result (λ s. Halts (setting C.goes C.scene tools.now.names.now)
+    ensures err { IfErr result (λ s. Halts (setting_by C.goes C.scene P.prints tools.now.names.now)
         before (lines_of text.now) s.fault
         (player counter.old seat.old hand.old) (with_ticket counter.new seat.new hand.new s.ticket)
         (W.contents writer.old) (W.contents writer.new)) }
@@ -308,8 +390,8 @@ fn answer_lines<C: Counter, V: Surveyor, W: TextOut>(
 }
 
 /// Makes the text the answer to one line: nothing, where the line has none.
-fn answer_line<C: Counter, V: Surveyor>(
-    tools: &Tools<V>,
+fn answer_line<C: Counter, V: Surveyor, P: Printer<C>>(
+    tools: &Tools<V, P>,
     counter: &mut C,
     seat: &mut Seat,
     hand: &mut Hand,
@@ -320,11 +402,11 @@ fn answer_line<C: Counter, V: Surveyor>(
     requires may { C.may counter.old seat.old }
     requires surveys { V.surveys tools.now.surveyor.now }
     ensures may { C.may counter.new seat.new }
-    ensures ok { OnOk result (Takes (setting C.goes C.scene tools.now.names.now)
+    ensures ok { OnOk result (Takes (setting_by C.goes C.scene P.prints tools.now.names.now)
         (player counter.old seat.old hand.old) number (asked tools.now.names.now line.now)
         (string_bytes text.new) (player counter.new seat.new hand.new)) }
-    ensures err { IfErr result (λ u. Begins (setting C.goes C.scene tools.now.names.now)
-        (player counter.old seat.old hand.old) number (asked tools.now.names.now line.now)
+    ensures err { IfErr result (λ u. Begins C.goes C.scene
+        (player counter.old seat.old hand.old) (asked tools.now.names.now line.now)
         (with_ticket counter.new seat.new hand.new u.ticket)) }
     ensures wanted { IfErr result (λ u. IsWanted u.fault (asked tools.now.names.now line.now)) }
 {
@@ -333,6 +415,7 @@ fn answer_line<C: Counter, V: Surveyor>(
         return Ok(());
     };
     let answer = answer(tools, counter, seat, hand, asked)?;
-    push_answer(text, tools.names, counter, number, answer)?;
+    let printer = tools.printer;
+    printer.print(text, tools.names, counter, number, line, &answer)?;
     Ok(())
 }

@@ -3,3 +3,5 @@ pub mod Ends
 pub mod Piped
 pub mod OpeningLaws
 pub mod RunLaws
+pub mod ChangeLaws
+pub mod ChangeRuns

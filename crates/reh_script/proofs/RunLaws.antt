@@ -15,7 +15,7 @@ use Rattle.reh_script.specs.declared.faults.PipeFault.{PipeFault}
 use Rattle.reh_script.specs.declared.openings.Opened.{Opened}
 use Rattle.reh_script.proofs.Ends.{unopened_writes, out_of_opened}
 
-handed : (result : Result (Unit {0}) PipeFault) (fault : PipeFault) → IsErrAnd result (λ e. e ≡ fault)
+pub handed : (result : Result (Unit {0}) PipeFault) (fault : PipeFault) → IsErrAnd result (λ e. e ≡ fault)
     → result ≡ Err fault
 handed (Ok x) fault is = absurd is
 handed (Err e) fault is = ap (λ (f : PipeFault). Err f) is

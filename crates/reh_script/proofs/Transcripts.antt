@@ -1,7 +1,7 @@
 -- A play by one seat of a book is the transcript, and leaves the book where the transcript does.
 use Rattle.std.proofs.Common.{◌≡◌, ℕ, ◌+◌, ◌⊎◌, Bool, true, false, List, [], ◌∷◌, ◌++◌, length, Option, None}
 use Rattle.std.proofs.Common.{Some, Result, Ok, Err, inl, inr, refl, sym, ap, ◌∙◌, subst, is_none}
-use Rattle.std.specs.Prelude.{◌≢◌, IsSome}
+use Rattle.std.specs.Prelude.{◌≢◌, IsSome, map, codes}
 use Rattle.std.specs.Io.KnownBytes.{Appends}
 use Rattle.std.proofs.lemmas.Bool.{false≢true}
 use Rattle.reh_types.specs.declared.calls.Call.{Call}
@@ -22,17 +22,24 @@ use Rattle.reh_commands.specs.declared.commands.Command.TheVariants as command
 use Rattle.reh_commands.specs.declared.commands.LineFault.{LineFault}
 use Rattle.reh_play.specs.declared.faults.PlayFault.{PlayFault}
 use Rattle.reh_play.specs.declared.faults.PlayFault.TheVariants as fault
-use Rattle.reh_commands.specs.Answers.{asked, reply_answer, numbered}
+use Rattle.reh_commands.specs.Answers.{asked, reply_answer, own_answer, numbered}
+use Rattle.reh_commands.specs.Texts.{survey_line_text, text_of}
+use Rattle.reh_play.specs.declared.answers.LineAnswer.{LineAnswer}
+use Rattle.reh_play.specs.declared.answers.LineAnswer.TheVariants as line_answer
 use Rattle.reh_script.specs.BookPlays.{TranscribesAll, TranscribesPart, TranscribesUntil, TranscribesBetween}
 use Rattle.reh_script.specs.BookPlays.{CallMayWant, MayWantMemory}
 use Rattle.reh_script.specs.BookPlays.{LacksAnswer, IsTranscribed, Transcribes, at_book}
 use Rattle.reh_transcript.specs.Hand.{call_of, discard_of, found, hand_after, hand_issued, HandAfter, HandIssued}
 use Rattle.reh_lines.specs.Lines.{answered_lines}
 use Rattle.reh_play.proofs.Sitting.{gained_number}
-use Rattle.reh_play.specs.Players.{Player, seated, Calls, Commands, Takes, TakesAll, Begins, GivesBack}
+use Rattle.reh_play.specs.Players.{Player, seated, answer_text, IsOwn, Calls, Commands, Takes, TakesAll, Begins, GivesBack}
 use Rattle.reh_play.specs.Plays.{stop_of, AnswersAll, StopsWriting, StopsWanting, StopsBetween, IsPlayed, Plays}
 use Rattle.reh_transcript.specs.Transcript.{BookPlayer, answer_by, after_by, answer_of, after_command, transcript}
 use Rattle.reh_transcript.specs.Transcript.{after_lines, given_back, end_of}
+
+-- the state that a book shows
+abbrev shown : Kept → Option Cluster
+shown k = Some (state_of k.book.session)
 
 -- a book's player, without its seat
 abbrev pub player : Player Kept → BookPlayer
@@ -83,7 +90,7 @@ hand_is s command.Survey reply hand next is = is
 
 -- a command's call
 pub call_follows : (names : List (List ℕ)) (x : Player Kept) (c : Command) (k : Call) (reply : Reply)
-    (y : Player Kept) → Calls (at_book names) x c k reply y
+    (y : Player Kept) → Calls Called shown x c k reply y
     → Follows x (reply_answer names reply) y (answer_by names x.seat.number (player x) c (Some k))
     (after_by x.seat.number (player x) c (Some k))
 call_follows names x c k reply y calls =
@@ -101,15 +108,39 @@ call_follows names x c k reply y calls =
       seat_is = ap (λ (v : SeatView). v.number) calls.seat ∙ gained_number x.seat k reply;
     }
 
+-- the player's own answer
+own_text : (names : List (List ℕ)) (s : Cluster) (c : Command) (answer : LineAnswer) → IsOwn (Some s) c answer
+    → answer_text names (Some s) answer ≡ own_answer names (Some s) c
+own_text names s (command.Make move) answer own = absurd own
+own_text names s (command.Checkout aim) answer own = ap (answer_text names (Some s)) own
+own_text names s command.Spend answer own = ap (answer_text names (Some s)) own
+own_text names s command.Discard answer own = ap (answer_text names (Some s)) own
+own_text names s command.Report answer own = ap (answer_text names (Some s)) own
+own_text names s command.Survey (line_answer.Survey lines) own =
+    ap (λ found. codes "survey\n" ++ text_of (map survey_line_text found)) own
+own_text names s command.Survey (line_answer.Said reply) own = absurd own
+own_text names s command.Survey (line_answer.Faulty fault) own = absurd own
+own_text names s command.Survey line_answer.Report own = absurd own
+own_text names s command.Survey line_answer.Hidden own = absurd own
+
 -- a command
-pub command_follows : (names : List (List ℕ)) (x : Player Kept) (c : Command) (made : Option Call) (answer : List ℕ)
-    (y : Player Kept) → Commands (at_book names) x c made answer y
-    → Follows x answer y (answer_by names x.seat.number (player x) c made) (after_by x.seat.number (player x) c made)
-command_follows names x c None answer y (own, stays) =
-    record { text_is = own; player_is = ap player stays; seat_is = ap (λ (v : Player Kept). v.seat.number) stays }
+pub command_follows : (names : List (List ℕ)) (x : Player Kept) (c : Command) (made : Option Call) (answer : LineAnswer)
+    (y : Player Kept) → Commands Called shown x c made answer y
+    → Follows x (answer_text names (shown y.counter) answer) y (answer_by names x.seat.number (player x) c made)
+    (after_by x.seat.number (player x) c made)
+command_follows names x c None answer y (own, stays) = record {
+  text_is = ap (λ (v : Player Kept). answer_text names (shown v.counter) answer) stays
+      ∙ own_text names (state_of x.counter.book.session) c answer own;
+  player_is = ap player stays;
+  seat_is = ap (λ (v : Player Kept). v.seat.number) stays;
+}
 command_follows names x c (Some k) answer y (reply, said, calls) =
     let one = call_follows names x c k reply y calls in
-    record { text_is = said ∙ one.text_is; player_is = one.player_is; seat_is = one.seat_is }
+    record {
+      text_is = ap (answer_text names (shown y.counter)) said ∙ one.text_is;
+      player_is = one.player_is;
+      seat_is = one.seat_is;
+    }
 
 -- what a line asks for
 pub line_follows : (names : List (List ℕ)) (x : Player Kept) (n : ℕ) (q : Option (Result Command LineFault))
@@ -117,11 +148,14 @@ pub line_follows : (names : List (List ℕ)) (x : Player Kept) (n : ℕ) (q : Op
     → Follows x text y (answer_of names x.seat.number (player x) n q) (after_command x.seat.number (player x) q)
 line_follows names x n None text y (is, stays) =
     record { text_is = is; player_is = ap player stays; seat_is = ap (λ (v : Player Kept). v.seat.number) stays }
-line_follows names x n (Some (Err reason)) text y (is, stays) =
-    record { text_is = is; player_is = ap player stays; seat_is = ap (λ (v : Player Kept). v.seat.number) stays }
-line_follows names x n (Some (Ok c)) text y (answer, is, made) =
+line_follows names x n (Some (Err reason)) text y (answer, (is, stays), printed) = record {
+  text_is = printed ∙ ap (λ a. numbered n (answer_text names (shown y.counter) a)) is;
+  player_is = ap player stays;
+  seat_is = ap (λ (v : Player Kept). v.seat.number) stays;
+}
+line_follows names x n (Some (Ok c)) text y (answer, made, printed) =
     let one = command_follows names x c (call_of c x.hand) answer y made in
-    record { text_is = is ∙ ap (numbered n) one.text_is; player_is = one.player_is; seat_is = one.seat_is }
+    record { text_is = printed ∙ ap (numbered n) one.text_is; player_is = one.player_is; seat_is = one.seat_is }
 
 -- all lines
 pub lines_follow : (names : List (List ℕ)) (x : Player Kept) (n : ℕ) (lines : List (List ℕ)) (text : List ℕ)
@@ -239,24 +273,33 @@ wants_or p seat c made k after is same (inl own, then) =
 wants_or p seat c made k after is same (inr want, then) = inr (subst (λ q. CallMayWant seat p q) (sym same) want.1)
 
 -- a line that was begun
-lacks : (names : List (List ℕ)) (x : Player Kept) (n : ℕ) (q : Option (Result Command LineFault)) (y z : Player Kept)
-    → Begins (at_book names) x n q y → GivesBack Called y.counter y.seat y.hand z.counter z.seat
+lacks : (names : List (List ℕ)) (x : Player Kept) (q : Option (Result Command LineFault)) (y z : Player Kept)
+    → Begins Called shown x q y → GivesBack Called y.counter y.seat y.hand z.counter z.seat
     → IsSome q
     × ((z.counter.book ≡ end_of x.seat.number (after_command x.seat.number (player x) q))
     ⊎ ((z.counter.book ≡ end_of x.seat.number (player x)) × MayWantMemory x.seat.number (player x) q))
-lacks names x n q y z (some, inl (text, takes)) back =
-    (some, inl (ends_at x text y _ _ z (line_follows names x n q text y takes) back))
-lacks names x n None y z (some, inr wants) back = absurd wants
-lacks names x n (Some (Err reason)) y z (some, inr wants) back = absurd wants
-lacks names x n (Some (Ok c)) y z (some, inr (k, is, called, seat, hand)) back =
+lacks names x None y z begun back = absurd begun
+lacks names x (Some q) y z (inl (answer, made)) back =
+    let text : List ℕ = numbered 1 (answer_text names (shown y.counter) answer) in
+    (refl, inl (ends_at x text y _ _ z (line_follows names x 1 (Some q) text y (answer, made, refl)) back))
+lacks names x (Some (Err reason)) y z (inr (inl wants)) back = absurd wants
+lacks names x (Some (Ok c)) y z (inr (inl (k, is, called, seat, hand))) back =
     let left : y.counter.book ≡ x.counter.book = called.answers.1 in
     let there : z.counter.book ≡ end_of x.seat.number (player x) =
     gives_back y.counter y.seat y.hand z.counter z.seat back
     ∙ (λ i. given_back ((seat i).number) (left i) (hand i)) in
     elim (wants_or (player x) x.seat.number c (call_of c x.hand) k y.counter.book is is called.answers) [
-      | inl own ↦ (some, inl (there ∙ ap (end_of x.seat.number) own))
-      | inr want ↦ (some, inr (there, want))
+      | inl own ↦ (refl, inl (there ∙ ap (end_of x.seat.number) own))
+      | inr want ↦ (refl, inr (there, want))
     ]
+lacks names x (Some q) y z (inr (inr (is, stays))) back =
+    let there : z.counter.book ≡ end_of x.seat.number (player x) =
+    gives_back y.counter y.seat y.hand z.counter z.seat back
+    ∙ (λ i. given_back ((stays i).seat.number) ((stays i).counter.book) ((stays i).hand)) in (
+      refl,
+      inl (there ∙ ap (λ (r : Result Command LineFault).
+          end_of x.seat.number (after_command x.seat.number (player x) (Some r))) (sym is)),
+    )
 
 pub transcribes_until : (names : List (List ℕ)) (lines : List (List ℕ)) (x z : Player Kept)
     (old new : Option (List ℕ)) → StopsWanting (at_book names) lines x z old new
@@ -264,7 +307,7 @@ pub transcribes_until : (names : List (List ℕ)) (lines : List (List ℕ)) (x z
 transcribes_until names lines x z old new stops =
     let before = lines_follow names x 1 stops.done stops.text stops.mid stops.before in
     let here : LacksAnswer names stops.mid.seat.number (player stops.mid) stops.line z.counter.book =
-    lacks names stops.mid (length stops.done + 1) (asked names stops.line) stops.y z stops.begun stops.ends in
+    lacks names stops.mid (asked names stops.line) stops.y z stops.begun stops.ends in
     record {
       done = stops.done;
       line = stops.line;

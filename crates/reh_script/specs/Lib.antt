@@ -3,3 +3,4 @@ pub mod BookPlays
 pub mod Openings
 pub mod Pipes
 pub mod Runs
+pub mod Changes

@@ -2,12 +2,14 @@
 #![tactic(auto)]
 
 mod book_plays;
+mod changes;
 mod faults;
 mod openings;
 mod pipes;
 mod runs;
 
 pub use book_plays::play_book;
+pub use changes::{WithChanges, play_with_changes, run_with_changes};
 pub use faults::PipeFault;
 pub use openings::{Opened, open_picture, open_text};
 pub use pipes::pipe;

@@ -79,24 +79,28 @@ pub struct DrillFiles<'a> {
 pub enum PlayWords<'a> {
     /// On standard input: a picture, a line `%` and a script.
     Pipe,
-    /// The picture in a file, and the script on standard input.
+    /// The picture in a file, and the script on standard input; and whether what a line changed is printed, too.
     Talk {
         picture: &'a str,
+        with_changes: bool,
     },
-    /// Each in a file; and who makes the surveys.
+    /// Each in a file; who makes the surveys; and whether what a line changed is printed, too.
     Files {
         picture: &'a str,
         script: &'a str,
         crew: Crew,
+        with_changes: bool,
     },
 }
 
-/// Where a picture and a script are, each in a file; who makes the surveys; and the file for the picture of the end.
+/// Where a picture and a script are, each in a file; who makes the surveys; whether what a line changed is printed, too;
+/// and the file for the picture of the end.
 #[derive(Clone, Copy)]
 pub struct PlayOut<'a> {
     pub picture: &'a str,
     pub script: &'a str,
     pub crew: Crew,
+    pub with_changes: bool,
     pub out: &'a str,
 }
 
@@ -239,7 +243,10 @@ fn asked_of_picture<'a>(
             picture,
             script: script.copied(),
         },
-        ("talk", _) => Task::Play(PlayWords::Talk { picture }),
+        ("talk", _) => Task::Play(PlayWords::Talk {
+            picture,
+            with_changes: given.get_flag("changes"),
+        }),
         ("plan", _) => Task::Plan(asked_plan(alloc, given, picture)?),
         ("drill", Some(_)) if scripts.len() <= MAX_OPERATORS => {
             let scripts = scripts.to_vec(alloc)?;
@@ -247,17 +254,20 @@ fn asked_of_picture<'a>(
         }
         ("run", Some(script)) if 0 < workers && workers <= MAX_WORKERS => {
             let crew = Crew { workers };
+            let with_changes = given.get_flag("changes");
             match given.get_str("picture-out") {
                 Some(out) => Task::PlayOut(PlayOut {
                     picture,
                     script,
                     crew,
+                    with_changes,
                     out,
                 }),
                 None => Task::Play(PlayWords::Files {
                     picture,
                     script,
                     crew,
+                    with_changes,
                 }),
             }
         }
@@ -331,7 +341,8 @@ fn all_ways(alloc: Global) -> Result<String, AllocError> {
     Ok(ways)
 }
 
-/// The command line: no word, `run PICTURE SCRIPT --workers N --picture-out FILE`, `talk PICTURE`, `check PICTURE SCRIPT`,
+/// The command line: no word, `run PICTURE SCRIPT --changes --workers N --picture-out FILE`, `talk PICTURE --changes`,
+/// `check PICTURE SCRIPT`,
 /// `drill PICTURE SCRIPT..`, `ok-to-stop --lose BOOKIE,.. FILE..`, `waves FILE..`, `risk FILE..`, `census FILE..`,
 /// `cut --ledgers ID,.. --window K INVENTORY`, `plan --lose BOOKIE,.. --to BOOKIE,.. --expect --summary PICTURE`, or
 /// `help TOPIC`.
@@ -383,6 +394,7 @@ fn run_command<'a>(alloc: Global) -> Result<Command<'a>, Error> {
         command,
         workers_arg(alloc).help("How many workers make each survey, 1 to 8; by default 1"),
     );
+    let command = with_arg(command, changes_arg(alloc));
     with_arg(
         command,
         value_arg(alloc, "picture-out", "FILE").help(
@@ -396,7 +408,15 @@ fn talk_command<'a>(alloc: Global) -> Result<Command<'a>, Error> {
     let command = Command::new(alloc, "talk")
         .about("Plays what is typed on a picture: each line is answered before more is read")
         .after_help(helps::TALK);
-    with_arg(Ok(command), picture_arg(alloc))
+    let command = with_arg(Ok(command), picture_arg(alloc));
+    with_arg(command, changes_arg(alloc))
+}
+
+/// Whether what a line changed is printed, too.
+fn changes_arg<'a>(alloc: Global) -> Arg<'a> {
+    flag_arg(alloc, "changes").help(
+        "After each answer what it changed: what was there -> what is there",
+    )
 }
 
 /// The command `check`.

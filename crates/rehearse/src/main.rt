@@ -40,7 +40,7 @@ use plans::plan_file;
 use prompts::{Typed, tell_input};
 use reh_crew::{OpenGate, Plain};
 use reh_drill::drill_over;
-use reh_script::{FromRead, Gathered, TextOut, ToWrite, pipe, run};
+use reh_script::{FromRead, Gathered, TextOut, ToWrite, pipe};
 use reh_words::{Crew, DrillFiles, PlayWords, Request, Task, request_of};
 use runs::run_by;
 use std::process::ExitCode;
@@ -151,29 +151,52 @@ fn play<R: Threads + Wait + Sync>(
             let mut reader = FromRead::new(rt.reader());
             pipe(rt.alloc(), &Plain, &mut reader, &mut writer).map_err(RunFault::from)
         }
-        PlayWords::Talk { picture } => talk(rt, looks, picture, &mut writer),
+        PlayWords::Talk {
+            picture,
+            with_changes,
+        } => talk(rt, threads, looks, picture, with_changes, &mut writer),
         PlayWords::Files {
             picture,
             script,
             crew,
-        } => run_files(rt, threads, picture, script, crew, &mut writer),
+            with_changes,
+        } => run_files(
+            rt,
+            threads,
+            picture,
+            script,
+            crew,
+            with_changes,
+            &mut writer,
+        ),
     };
     let flushed = writer.flush();
     after_flush(played, flushed)
 }
 
 /// Plays standard input on a picture file: what a read brings is answered before the next. Whoever types sees a prompt.
-fn talk<W: TextOut>(
+fn talk<R: Threads + Wait + Sync, W: TextOut>(
     rt: &HostRuntime,
+    threads: &R,
     looks: Looks,
     picture: &str,
+    with_changes: bool,
     writer: &mut W,
 ) -> Result<(), RunFault>
     requires { W.has_failed writer.old ≡ false }
 {
     let mut picture = FromRead::new(open_file(rt, picture).map_err(RunFault::without_reason)?);
     let mut script = Typed::new(rt, looks, FromRead::new(rt.reader()));
-    run(rt.alloc(), &Plain, &mut picture, &mut script, writer)?;
+    let crew = Crew { workers: 1 };
+    run_by(
+        threads,
+        rt.alloc(),
+        crew,
+        with_changes,
+        &mut picture,
+        &mut script,
+        writer,
+    )?;
     Ok(())
 }
 
@@ -184,13 +207,22 @@ fn run_files<R: Threads + Wait + Sync, W: TextOut>(
     picture: &str,
     script: &str,
     crew: Crew,
+    with_changes: bool,
     writer: &mut W,
 ) -> Result<(), RunFault>
     requires { W.has_failed writer.old ≡ false }
 {
     let mut picture = FromRead::new(open_file(rt, picture).map_err(RunFault::without_reason)?);
     let mut script = LateFile::new(rt, script);
-    let played = run_by(threads, rt.alloc(), crew, &mut picture, &mut script, writer);
+    let played = run_by(
+        threads,
+        rt.alloc(),
+        crew,
+        with_changes,
+        &mut picture,
+        &mut script,
+        writer,
+    );
     match script.into_unopened() {
         Some(fault) => Err(fault.without_reason()),
         None => played.map_err(RunFault::from),

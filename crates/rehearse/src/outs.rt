@@ -97,6 +97,7 @@ fn play_file<R: Threads + Wait + Sync, W: TextOut>(
         threads,
         rt.alloc(),
         words.crew,
+        words.with_changes,
         rehearsal,
         &mut script,
         writer,

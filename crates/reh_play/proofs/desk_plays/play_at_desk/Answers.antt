@@ -8,5 +8,5 @@ returns-in_err-hand-clause-played g c = sits_without _ _ _ _ _ c.from_residual.e
 
 pub returns-clause-played : goal.returns-clause-played
 returns-clause-played g c =
-    sits_at_desk (setting (λ _ _ _ _ _. Unit {0}) (λ _. None) c.args.names.now) (λ _. refl) _ _ _ _ _ _ _ _
+    sits_at_desk (setting (λ _ _ _ _ _. Unit {0}) (λ _. None) c.args.names.now) (record { none = λ _. refl; alone = λ _ _ _ _ _ _ _ is. is }) _ _ _ _ _ _ _ _
     (rw c.in_ok-hand.ensures at c.answer_script.ensures.played)

@@ -1,6 +1,6 @@
 use Rattle.std.proofs.Common.{[], arith, rules, ap, subst, refl, inl, inr, None}
 use Rattle.std.specs.Io.KnownBytes.{prepend_known}
-use Rattle.reh_play.specs.Players.{setting}
+use Rattle.reh_play.specs.Players.{setting_by}
 use Rattle.reh_play.specs.declared.faults.PlayFault.TheVariants.{WriteFault, NoMemory}
 use Rattle.reh_play.proofs.ReadLaws.{answered_to, stops_among, keeps_back, lacks_memory, holds_none}
 use Rattle.reh_play.proofs.ReadLaws.{goes_out, out_grown, still_at}
@@ -16,7 +16,7 @@ use Rattle.reh_play.proofs.plays.answer_reads.Goals as goal
 pub loop-read-init : goal.loop-read-init
 loop-read-init g c = record {
   may = c.requires.may;
-  at = is_at_start (setting g.C.Counter.goes g.C.Counter.scene c.args.tools.now.names.now) [] _ _;
+  at = is_at_start (setting_by g.C.Counter.goes g.C.Counter.scene g.P.Printer.prints c.args.tools.now.names.now) [] _ _;
   whole = refl;
   stands = stands_first c.args.script.items c.whole_lines.result.now _ _
       (rw c.deref.ensures.value at c.whole_lines.ensures) c.requires.reads;
@@ -30,7 +30,7 @@ loop-read-init g c = record {
 
 pub returns-in_err-number-clause-err : goal.returns-in_err-number-clause-err
 returns-in_err-number-clause-err g c =
-    let place = setting g.C.Counter.goes g.C.Counter.scene c.args.tools.now.names.now in
+    let place = setting_by g.C.Counter.goes g.C.Counter.scene g.P.Printer.prints c.args.tools.now.names.now in
     if_err _ _ c.in_err-number.field-0.0 c.from_residual.ensures.1
     (stops_among place c.loop-read.read _ c.in-Lines.end c.loop-read.done c.loop-read.number c.loop-read.script.items
     _ _ _ _ _ _ _ _ _ c.in-Lines.is c.loop-read.invariant.stands c.loop-read.invariant.whole
@@ -47,7 +47,7 @@ returns-in_err-flush-clause-prompt g c =
 
 pub returns-in_err-flush-clause-err : goal.returns-in_err-flush-clause-err
 returns-in_err-flush-clause-err g c =
-    let place = setting g.C.Counter.goes g.C.Counter.scene c.args.tools.now.names.now in
+    let place = setting_by g.C.Counter.goes g.C.Counter.scene g.P.Printer.prints c.args.tools.now.names.now in
     let lines = lines_stand c.loop-read.read c.in-Lines.end c.loop-read.done c.loop-read.script.items _ _ _
     c.in-Lines.is c.loop-read.invariant.stands in
     let at = answered_to place c.loop-read.read c.in-Lines.end c.loop-read.done c.loop-read.number _
@@ -59,7 +59,7 @@ returns-in_err-flush-clause-err g c =
 
 pub returns-in_err-read-clause-err : goal.returns-in_err-read-clause-err
 returns-in_err-read-clause-err g c =
-    let place = setting g.C.Counter.goes g.C.Counter.scene c.args.tools.now.names.now in
+    let place = setting_by g.C.Counter.goes g.C.Counter.scene g.P.Printer.prints c.args.tools.now.names.now in
     let lines = lines_stand c.loop-read.read c.in-Lines.end c.loop-read.done c.loop-read.script.items _ _ _
     c.in-Lines.is c.loop-read.invariant.stands in
     let at = answered_to place c.loop-read.read c.in-Lines.end c.loop-read.done c.loop-read.number _
@@ -72,7 +72,7 @@ returns-in_err-read-clause-err g c =
 
 pub returns-in_err-read-clause-prompt : goal.returns-in_err-read-clause-prompt
 returns-in_err-read-clause-prompt g c =
-    let place = setting g.C.Counter.goes g.C.Counter.scene c.args.tools.now.names.now in
+    let place = setting_by g.C.Counter.goes g.C.Counter.scene g.P.Printer.prints c.args.tools.now.names.now in
     let lines = lines_stand c.loop-read.read c.in-Lines.end c.loop-read.done c.loop-read.script.items _ _ _
     c.in-Lines.is c.loop-read.invariant.stands in
     let at = answered_to place c.loop-read.read c.in-Lines.end c.loop-read.done c.loop-read.number _
@@ -84,7 +84,7 @@ returns-in_err-read-clause-prompt g c =
 
 pub loop-read-preserved : goal.loop-read-preserved
 loop-read-preserved g c =
-    let place = setting g.C.Counter.goes g.C.Counter.scene c.args.tools.now.names.now in
+    let place = setting_by g.C.Counter.goes g.C.Counter.scene g.P.Printer.prints c.args.tools.now.names.now in
     let lines = lines_stand c.loop-read.read c.in-Lines.end c.loop-read.done c.loop-read.script.items _ _ _
     c.in-Lines.is c.loop-read.invariant.stands in
     let at = answered_to place c.loop-read.read c.in-Lines.end c.loop-read.done c.loop-read.number _
@@ -112,7 +112,7 @@ loop-read-preserved g c =
 
 pub returns-in-Failed-clause-err : goal.returns-in-Failed-clause-err
 returns-in-Failed-clause-err g c =
-    let place = setting g.C.Counter.goes g.C.Counter.scene c.args.tools.now.names.now in
+    let place = setting_by g.C.Counter.goes g.C.Counter.scene g.P.Printer.prints c.args.tools.now.names.now in
     let ends = subst (λ (p : Progress). Stands p c.loop-read.done c.loop-read.script.items
     (prepend_known c.args.script.items (g.R.TextIn.remaining c.args.reader.now)) (g.R.TextIn.remaining c.loop-read.reader)
     (g.R.TextIn.has_failed c.loop-read.reader)) c.in-Failed.is c.loop-read.invariant.stands in
@@ -122,7 +122,7 @@ returns-in-Failed-clause-err g c =
 
 pub returns-in-TooLong-clause-err : goal.returns-in-TooLong-clause-err
 returns-in-TooLong-clause-err g c =
-    let place = setting g.C.Counter.goes g.C.Counter.scene c.args.tools.now.names.now in
+    let place = setting_by g.C.Counter.goes g.C.Counter.scene g.P.Printer.prints c.args.tools.now.names.now in
     let ends = subst (λ (p : Progress). Stands p c.loop-read.done c.loop-read.script.items
     (prepend_known c.args.script.items (g.R.TextIn.remaining c.args.reader.now)) (g.R.TextIn.remaining c.loop-read.reader)
     (g.R.TextIn.has_failed c.loop-read.reader)) c.in-TooLong.is c.loop-read.invariant.stands in
@@ -132,7 +132,7 @@ returns-in-TooLong-clause-err g c =
 
 pub returns-in_err-answer_lines-clause-err : goal.returns-in_err-answer_lines-clause-err
 returns-in_err-answer_lines-clause-err g c =
-    let place = setting g.C.Counter.goes g.C.Counter.scene c.args.tools.now.names.now in
+    let place = setting_by g.C.Counter.goes g.C.Counter.scene g.P.Printer.prints c.args.tools.now.names.now in
     let ends = end_stands c.loop-read.read c.loop-read.done c.loop-read.script.items _ _ _ c.in_default.not-Lines
     c.in-Lines-read.is c.loop-read.invariant.stands in
     if_err _ _ c.in_err-answer_lines.field-0.0 c.from_residual-in_err-answer_lines.ensures.1
@@ -155,7 +155,7 @@ returns-in_err-answer_lines-clause-calls g c =
 
 pub returns-in_err-flush-2-clause-err : goal.returns-in_err-flush-2-clause-err
 returns-in_err-flush-2-clause-err g c =
-    let place = setting g.C.Counter.goes g.C.Counter.scene c.args.tools.now.names.now in
+    let place = setting_by g.C.Counter.goes g.C.Counter.scene g.P.Printer.prints c.args.tools.now.names.now in
     let ends = end_stands c.loop-read.read c.loop-read.done c.loop-read.script.items _ _ _ c.in_default.not-Lines
     c.in-Lines-read.is c.loop-read.invariant.stands in
     let at = answered_last place c.loop-read.done c.loop-read.number _ c.loop-read.script.items _ _ _ _ _ _
@@ -180,7 +180,7 @@ returns-in_err-flush-2-clause-calls g c =
 
 pub returns-clause-ok : goal.returns-clause-ok
 returns-clause-ok g c =
-    let place = setting g.C.Counter.goes g.C.Counter.scene c.args.tools.now.names.now in
+    let place = setting_by g.C.Counter.goes g.C.Counter.scene g.P.Printer.prints c.args.tools.now.names.now in
     let ends = end_stands c.loop-read.read c.loop-read.done c.loop-read.script.items _ _ _ c.in_default.not-Lines
     c.in-Lines-read.is c.loop-read.invariant.stands in
     let at = answered_last place c.loop-read.done c.loop-read.number _ c.loop-read.script.items _ _ _ _ _ _

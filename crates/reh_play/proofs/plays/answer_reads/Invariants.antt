@@ -2,7 +2,7 @@ use Rattle.std.proofs.Common.{◌≡◌, ℕ, ◌+◌, ◌-◌, ◌≤◌, ◌�
 use Rattle.std.specs.Io.KnownBytes.{prepend_known}
 use Rattle.reh_types.specs.declared.limits.TheConstants.{MAX_SCRIPT_BYTES}
 use Rattle.reh_lines.specs.Lines.{lines_of, ended}
-use Rattle.reh_play.specs.Players.{setting}
+use Rattle.reh_play.specs.Players.{setting_by}
 use Rattle.reh_play.specs.Plays.{GoesOut}
 use Rattle.reh_lines.specs.Readings.{reads_past}
 use Rattle.reh_play.specs.Turns.{player, IsAt}
@@ -15,14 +15,14 @@ use Rattle.reh_play.proofs.plays.answer_reads.Given as goal
 abbrev pub invariant-loop-read : goal.invariant-loop-read
 invariant-loop-read g l = record {
   may : g.C.Counter.may l.counter l.seat;
-  at : IsAt (setting g.C.Counter.goes g.C.Counter.scene l.fn.tools.names.now)
+  at : IsAt (setting_by g.C.Counter.goes g.C.Counter.scene g.P.Printer.prints l.fn.tools.names.now)
       (lines_of (take l.done l.script.items)) [] l.number
       (player l.fn.counter l.fn.seat l.fn.hand) (player l.counter l.seat l.hand)
       (g.W.TextOut.contents l.fn.writer) (g.W.TextOut.contents l.writer);
   whole : ended (take l.done l.script.items) ≡ take l.done l.script.items;
   stands : Stands l.read l.done l.script.items (prepend_known l.fn.script.items (g.R.TextIn.remaining l.fn.reader))
       (g.R.TextIn.remaining l.reader) (g.R.TextIn.has_failed l.reader);
-  out : (l.reader ≡ l.fn.reader) ⊎ GoesOut (setting g.C.Counter.goes g.C.Counter.scene l.fn.tools.names.now)
+  out : (l.reader ≡ l.fn.reader) ⊎ GoesOut (setting_by g.C.Counter.goes g.C.Counter.scene g.P.Printer.prints l.fn.tools.names.now)
       (prepend_known l.fn.script.items (g.R.TextIn.remaining l.fn.reader)) (g.R.TextIn.before l.reader)
       (player l.fn.counter l.fn.seat l.fn.hand) (g.W.TextOut.contents l.fn.writer) (g.W.TextOut.seen l.writer);
   few : length l.script.items ≤ MAX_SCRIPT_BYTES;

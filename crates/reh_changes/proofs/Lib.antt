@@ -1,0 +1,4 @@
+mod Examples
+pub mod RangeLaws
+pub mod FragmentLaws
+pub mod WordLaws

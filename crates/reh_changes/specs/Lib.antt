@@ -1,0 +1,4 @@
+pub mod Ranges
+pub mod Passing
+pub mod Changes
+pub mod Fragments

@@ -1,0 +1,27 @@
+-- The ranges of the entries of a word that pass a test, rising, each as long as it can be: the first and the last entry
+-- of each.
+use Rattle.std.specs.Prelude.{ℕ, zero, suc, ◌+◌, ◌*◌, ◌-◌, ◌==◌, Bool, if◌then◌else◌, List, [], ◌∷◌, ◌++◌, map, Option}
+use Rattle.std.specs.Prelude.{None, Some, codes}
+use Rattle.std.specs.Fmt.{decimal}
+
+-- those of so many entries from e on, where a range is open since its first entry, if one is
+unfoldable pub ranges_on : (ℕ → Bool) → Option ℕ → ℕ → ℕ → List (ℕ × ℕ)
+ranges_on test None e zero = []
+ranges_on test (Some first) e zero = (first, e - 1) ∷ []
+ranges_on test None e (suc n) =
+    if test e then ranges_on test (Some e) (e + 1) n else ranges_on test None (e + 1) n
+ranges_on test (Some first) e (suc n) =
+    if test e then ranges_on test (Some first) (e + 1) n else (first, e - 1) ∷ ranges_on test None (e + 1) n
+
+-- those of the 64 entries of the word of that number
+abbrev pub ranges_in : ℕ → (ℕ → Bool) → List (ℕ × ℕ)
+ranges_in number test = ranges_on test None (64 * number) 64
+
+-- a range after a sign: `+3`, or `+0-2`
+abbrev pub range_word : List ℕ → ℕ × ℕ → List ℕ
+range_word sign range =
+    if range.0 == range.1 then sign ++ decimal range.0
+    else sign ++ (decimal range.0 ++ (codes "-" ++ decimal range.1))
+
+abbrev pub range_words : List ℕ → List (ℕ × ℕ) → List (List ℕ)
+range_words sign ranges = map (range_word sign) ranges

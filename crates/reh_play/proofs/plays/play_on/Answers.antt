@@ -1,9 +1,0 @@
-use Rattle.reh_play.specs.Players.{setting}
-use Rattle.reh_play.proofs.Enough.{plays_nothing}
-use Rattle.reh_play.proofs.plays.play_on.Goals as goal
-
-pub returns-in_err-hand-clause-plays : goal.returns-in_err-hand-clause-plays
-returns-in_err-hand-clause-plays g c =
-    plays_nothing
-    (setting g.C.Counter.goes g.C.Counter.scene c.args.names.now) _ _ _ _ _ _ _ c.from_residual.ensures.1
-    c.requires.reads
