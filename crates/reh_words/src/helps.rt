@@ -49,7 +49,6 @@ pub(crate) const RUN: &str = after!(
 
 ",
     uses: [
-        "run examples/cluster.json examples/maintenance.script",
         "run --changes examples/cluster.json examples/maintenance.script",
         "run --workers 2 examples/cluster.json examples/outage.script"
     ],
