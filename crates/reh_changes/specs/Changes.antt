@@ -13,12 +13,16 @@ use Rattle.reh_types.specs.declared.scalars.Scalars.{Scalars}
 use Rattle.reh_types.specs.Sets.{Set, numbers}
 use Rattle.reh_model.specs.Contents.{has, is_in_word}
 use Rattle.reh_model.specs.Metadata.{Metadata, Fragment}
-use Rattle.reh_model.specs.Cluster.{Cluster, Ledger, is_up}
+use Rattle.reh_model.specs.Cluster.{Cluster, Ledger, is_up, lost_tick}
 use Rattle.reh_model.specs.Places.{Change}
-use Rattle.reh_commands.specs.Texts.{spaced, name_of, names_in, registration, state_word, last_word, due_words}
+use Rattle.reh_commands.specs.Texts.{spaced, name_of, names_in, registration, since_words, state_word, last_word, due_words}
 use Rattle.reh_changes.specs.Ranges.{ranges_in, range_words}
 
 -- Values, in a report's words; `-` stands for none
+
+-- whether a bookie is registered, and since when it isn't, where there is a delay for lost bookies
+abbrev pub registration_words : ℕ → Bool → Option ℕ → List (List ℕ)
+registration_words delay up lost = registration up ∷ since_words delay lost
 
 abbrev pub state_words : LedgerState → List (List ℕ)
 state_words Open = state_word Open ∷ []
@@ -52,8 +56,8 @@ change_line what was now = line (what ++ (was ++ codes "->" ∷ now))
 -- a bookie's registration
 abbrev pub registration_line : Cluster → ℕ → Option ℕ → List ℕ
 registration_line s bookie lost =
-    change_line (codes "bookie" ∷ name_of s.names bookie ∷ []) (registration (is_none lost) ∷ [])
-    (registration (is_up s bookie) ∷ [])
+    change_line (codes "bookie" ∷ name_of s.names bookie ∷ []) (registration_words s.delay (is_none lost) lost)
+    (registration_words s.delay (is_up s bookie) (lost_tick s bookie))
 
 -- a ledger's version, and its state
 abbrev pub version_line : ℕ → ℕ → ℕ → List ℕ

@@ -70,11 +70,34 @@ fn push_registration(
     ensures { OnOk result (string_bytes text.new ≡ string_bytes text.old
         ++ changes.registration_line state.now bookie lost_at) }
 {
+    let delay = state.delay();
     text.push_str("  bookie")?;
     push_name(text, state.names(), bookie)?;
-    let was = registration(lost_at.is_none());
-    let now = registration(state.is_up(bookie));
-    write!(text, " {was} -> {now}\n")
+    push_registration_words(text, delay, lost_at.is_none(), lost_at)?;
+    text.push_str(" ->")?;
+    push_registration_words(text, delay, state.is_up(bookie), state.lost_tick(bookie))?;
+    text.push('\n')
+}
+
+/// Adds whether a bookie is registered, and the tick at which it was lost, if it was, where there is a delay, each word
+/// after a space.
+fn push_registration_words(
+    text: &mut String,
+    delay: u64,
+    is_up: bool,
+    lost: Option<u64>,
+) -> Result<(), AllocError>
+    ensures { OnOk result (string_bytes text.new ≡ string_bytes text.old
+        ++ texts.behind_spaces (changes.registration_words delay is_up lost)) }
+{
+    write!(text, " {}", registration(is_up))?;
+    if delay == 0 {
+        return Ok(());
+    }
+    match lost {
+        Some(tick) => write!(text, " since {tick}"),
+        None => Ok(()),
+    }
 }
 
 /// A registration, in a report's words.
