@@ -1,0 +1,5 @@
+pub mod TokenLaws
+pub mod RangeLaws
+pub mod FragmentLaws
+pub mod WordLaws
+pub mod ReportLaws

@@ -1,0 +1,13 @@
+-- A list between its brackets.
+use Rattle.reh_run_json.specs.Reports.{ledger_json}
+use Rattle.reh_answer.proofs.ObjectLaws.{last, one, then}
+use Rattle.reh_run_json.proofs.TokenLaws.{mapped-added}
+use Rattle.reh_run_json.proofs.reports.add_ledgers.Goals as goal
+
+pub returns : goal.returns
+returns c =
+    then c.end_array.result c.args.json.now c.key.new.self c.end_array.new.self _ _ (one c.args.json.now c.key.new.self _ c.in_ok-key.ensures.ok c.in_ok-key.ensures.room.0)
+    (mapped-added (ledger_json c.args.state.now.names) c.args.state.now.parts.ledgers c.end_array.result c.key.new.self c.begin_array.new.self c.add_all_ledgers.new.json c.end_array.new.self
+    (one c.key.new.self c.begin_array.new.self _ c.in_ok-begin_array.ensures.ok c.in_ok-begin_array.ensures.room.0)
+    c.in_ok-add_all_ledgers.ensures
+    (last c.end_array.result c.add_all_ledgers.new.json c.end_array.new.self _ c.end_array.ensures))

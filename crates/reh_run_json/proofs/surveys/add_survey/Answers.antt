@@ -1,0 +1,12 @@
+-- A list between its brackets.
+use Rattle.reh_run_json.specs.Reports.{survey_line_json}
+use Rattle.reh_answer.proofs.ObjectLaws.{last, one}
+use Rattle.reh_run_json.proofs.TokenLaws.{mapped-added}
+use Rattle.reh_run_json.proofs.surveys.add_survey.Goals as goal
+
+pub returns : goal.returns
+returns c =
+    mapped-added survey_line_json c.args.lines.now c.end_array.result c.args.json.now c.begin_array.new.self c.add_each_line.new.json c.end_array.new.self
+    (one c.args.json.now c.begin_array.new.self _ c.in_ok-begin_array.ensures.ok c.in_ok-begin_array.ensures.room.0)
+    c.in_ok-add_each_line.ensures
+    (last c.end_array.result c.add_each_line.new.json c.end_array.new.self _ c.end_array.ensures)

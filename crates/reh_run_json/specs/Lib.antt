@@ -1,0 +1,5 @@
+pub mod Values
+pub mod Changes
+pub mod Fragments
+pub mod Reports
+pub mod Lines

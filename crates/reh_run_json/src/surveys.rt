@@ -1,0 +1,48 @@
+// A survey as JSON.
+ghost use Rattle.std.specs.Prelude.{◌≡◌, OnOk, codes, flat_map};
+ghost use Rattle.json.specs.Tree.{json_tokens};
+ghost use Rattle.reh_answer.specs.Objects.{Adds};
+ghost use Rattle.reh_run_json.specs.Reports as reports;
+
+use crate::metadata::add_ledger;
+use crate::values::add_entry;
+use json::Writer;
+use reh_answer::add_number;
+use reh_types::SurveyLine;
+use std::alloc::{AllocError, Global};
+
+/// Adds the list of a survey's lines.
+pub(crate) fn add_survey(
+    json: &mut Writer<Global>,
+    lines: &[SurveyLine],
+) -> Result<(), AllocError>
+    ensures { OnOk result (Adds (json_tokens (reports.survey_json lines.now)) json.old json.new) }
+{
+    json.begin_array()?;
+    add_each_line(json, lines)?;
+    json.end_array()
+}
+
+/// Adds the lines of a survey.
+fn add_each_line(json: &mut Writer<Global>, lines: &[SurveyLine]) -> Result<(), AllocError>
+    ensures { OnOk result (Adds (flat_map (λ l. json_tokens (reports.survey_line_json l)) lines.now)
+        json.old json.new) }
+{
+    for line in lines {
+        add_line(json, line)?;
+    }
+    Ok(())
+}
+
+/// Adds one line.
+fn add_line(json: &mut Writer<Global>, line: &SurveyLine) -> Result<(), AllocError>
+    ensures { OnOk result (Adds (json_tokens (reports.survey_line_json line.now)) json.old json.new) }
+{
+    json.begin_object()?;
+    add_ledger(json, line.ledger)?;
+    add_number(json, "fragment", line.fragment)?;
+    add_number(json, "down", line.down as u64)?;
+    json.key("lost")?;
+    add_entry(json, line.lost)?;
+    json.end_object()
+}
