@@ -3,3 +3,4 @@ pub mod RangeLaws
 pub mod FragmentLaws
 pub mod WordLaws
 pub mod ReportLaws
+pub mod LineLaws

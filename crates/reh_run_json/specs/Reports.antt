@@ -77,14 +77,16 @@ report_json s =
     )
 
 -- how many members of a fragment are not registered, and how many of its entries can't be read, if that is known
-abbrev pub survey_line_json : SurveyLine → Json
-survey_line_json line =
+abbrev pub lost_json : ℕ → ℕ → ℕ → Option ℕ → Json
+lost_json ledger fragment down lost =
     object (
-    member (codes "ledger") (number_json line.ledger)
-    (member (codes "fragment") (number_json line.fragment)
-    (member (codes "down") (number_json line.down)
-    (member (codes "lost") (or_null number_json line.lost) no_members)))
+    member (codes "ledger") (number_json ledger)
+    (member (codes "fragment") (number_json fragment)
+    (member (codes "down") (number_json down) (member (codes "lost") (or_null number_json lost) no_members)))
     )
+
+abbrev pub survey_line_json : SurveyLine → Json
+survey_line_json line = lost_json line.ledger line.fragment line.down line.lost
 
 abbrev pub survey_json : List SurveyLine → Json
 survey_json lines = list_json (map survey_line_json lines)

@@ -34,7 +34,7 @@ pub(crate) fn add_fragments(
 }
 
 /// The fragment of that number, if there is one.
-fn fragment_at(fragments: &[Fragment], number: usize) -> Option<&Fragment>
+pub(crate) fn fragment_at(fragments: &[Fragment], number: usize) -> Option<&Fragment>
     ensures { option_copied result ≡ slice_get fragments.now number }
 {
     fragments.get(number)

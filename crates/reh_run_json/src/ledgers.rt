@@ -6,6 +6,7 @@ ghost use Rattle.json.specs.Tree.{json_tokens};
 ghost use Rattle.reh_answer.specs.Objects.{Adds, member_tokens};
 ghost use Rattle.reh_run_json.specs.Reports as reports;
 
+use crate::fragments::fragment_at;
 use crate::values::{add_ensemble, add_entry, add_id, add_last, add_lock, add_state, add_task};
 use json::Writer;
 use reh_answer::add_number;
@@ -140,7 +141,22 @@ fn add_fragment_at(
     ensures { OnOk result (Adds (reports.fragment_at names.now metadata.now number
         (slice_get metadata.now.fragments number)) json.old json.new) }
 {
-    match metadata.fragments().get(number) {
+    let fragment = fragment_at(metadata.fragments(), number);
+    add_found(json, names, metadata, number, fragment)
+}
+
+/// Adds the fragment of that number, if this is one.
+fn add_found(
+    json: &mut Writer<Global>,
+    names: &Names,
+    metadata: &LedgerMeta,
+    number: usize,
+    fragment: Option<&Fragment>,
+) -> Result<(), AllocError>
+    ensures { OnOk result (Adds (reports.fragment_at names.now metadata.now number (option_copied fragment.entry))
+        json.old json.new) }
+{
+    match fragment {
         Some(fragment) => add_fragment(json, names, fragment, metadata.end_of(number)),
         None => Ok(()),
     }

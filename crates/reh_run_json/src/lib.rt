@@ -1,8 +1,10 @@
 // The lines that are answered in a run, as JSON.
 #![tactic(auto)]
 
+mod answers;
 mod fragments;
 mod ledgers;
+mod lines;
 mod metadata;
 mod places;
 mod ranges;
@@ -11,4 +13,5 @@ mod surveys;
 mod values;
 mod words;
 
+pub use lines::push_line;
 pub use places::add_changes;

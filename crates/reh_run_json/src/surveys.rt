@@ -8,7 +8,7 @@ use crate::metadata::add_ledger;
 use crate::values::add_entry;
 use json::Writer;
 use reh_answer::add_number;
-use reh_types::SurveyLine;
+use reh_types::{LedgerId, SurveyLine};
 use std::alloc::{AllocError, Global};
 
 /// Adds the list of a survey's lines.
@@ -38,11 +38,25 @@ fn add_each_line(json: &mut Writer<Global>, lines: &[SurveyLine]) -> Result<(), 
 fn add_line(json: &mut Writer<Global>, line: &SurveyLine) -> Result<(), AllocError>
     ensures { OnOk result (Adds (json_tokens (reports.survey_line_json line.now)) json.old json.new) }
 {
+    add_counts(json, line.ledger, line.fragment, line.down, line.lost)
+}
+
+/// Adds a fragment by its ledger and number, how many of its members aren't registered, and how many of its entries can't
+/// be read, if that is known.
+fn add_counts(
+    json: &mut Writer<Global>,
+    ledger: LedgerId,
+    fragment: u64,
+    down: u32,
+    lost: Option<u32>,
+) -> Result<(), AllocError>
+    ensures { OnOk result (Adds (json_tokens (reports.lost_json ledger fragment down lost)) json.old json.new) }
+{
     json.begin_object()?;
-    add_ledger(json, line.ledger)?;
-    add_number(json, "fragment", line.fragment)?;
-    add_number(json, "down", line.down as u64)?;
+    add_ledger(json, ledger)?;
+    add_number(json, "fragment", fragment)?;
+    add_number(json, "down", down as u64)?;
     json.key("lost")?;
-    add_entry(json, line.lost)?;
+    add_entry(json, lost)?;
     json.end_object()
 }
