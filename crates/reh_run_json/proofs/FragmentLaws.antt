@@ -1,14 +1,13 @@
 -- Lists of fragments, and ensembles, compared place by place.
-use Rattle.std.proofs.Common.{◌≡◌, ℕ, zero, suc, ◌+◌, ◌≤◌, ◌<◌, min, max, inl, inr, List, [], ◌∷◌, ◌++◌, length, drop, refl, ap, ◌∙◌, arith}
+use Rattle.std.proofs.Common.{◌≡◌, ℕ, zero, suc, ◌+◌, ◌≤◌, min, max, inl, inr, List, [], ◌∷◌, ◌++◌, length, drop, refl, ap, ◌∙◌, arith}
 use Rattle.std.specs.Prelude.{slice_get}
 use Rattle.std.proofs.lemmas.Grind.{flat_map-append}
 use Rattle.std.proofs.lemmas.List.{drop-drop, drop_all}
 use Rattle.std.proofs.lemmas.Bool.{cases_lt}
-use Rattle.json.specs.Json.{Json}
 use Rattle.json.specs.Tree.{json_tokens}
 use Rattle.reh_model.specs.Metadata.{Fragment}
 use Rattle.reh_run_json.specs.Changes.{fragment_changes, member_changes}
-use Rattle.reh_run_json.specs.Fragments.{changes_at, member_change_at}
+use Rattle.reh_run_json.specs.Fragments.{changes_at}
 use Rattle.reh_run_json.specs.Values.{tokens_of}
 
 -- the first of what is left from a place on

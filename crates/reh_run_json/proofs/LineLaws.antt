@@ -2,7 +2,7 @@
 use Rattle.std.proofs.Common.{◌≡◌, ℕ, List, [], ◌∷◌, ◌++◌, ap, refl, Option, Some}
 use Rattle.std.specs.Prelude.{codes}
 use Rattle.json.specs.Json.{Members, member, no_members, string}
-use Rattle.json.specs.Token.{Token, begin_object, end_object}
+use Rattle.json.specs.Token.{begin_object, end_object}
 use Rattle.json.specs.Tree.{json_tokens, members_tokens}
 use Rattle.reh_types.specs.declared.moves.Reply.{Reply}
 use Rattle.reh_types.specs.declared.moves.Reply.TheVariants.{Done, Clock, Issued, Discarded, Refused}

@@ -1,5 +1,5 @@
 -- Tokens of lists, and tokens that a loop has added, with those that are left.
-use Rattle.std.proofs.Common.{◌≡◌, ◌∙◌, ℕ, ◌+◌, ◌<◌, List, [], ◌∷◌, ◌++◌, refl, ap, sym, map, append_assoc, append-nil, subst, Ok, Err, OnOk, true, false, cond, length, drop, unwrap_or, slice_get, slice_index_or}
+use Rattle.std.proofs.Common.{◌≡◌, ◌∙◌, ℕ, ◌+◌, ◌<◌, List, [], ◌∷◌, ◌++◌, refl, ap, sym, map, append_assoc, append-nil, subst, Ok, Err, OnOk, true, false, cond, length, drop, unwrap_or, slice_index_or}
 use Rattle.std.specs.Prelude.{flat_map, filter}
 use Rattle.std.specs.List.{enumerate_from}
 use Rattle.std.specs.Fmt.{decimal}

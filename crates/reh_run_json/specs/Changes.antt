@@ -1,5 +1,5 @@
 -- What a step changed, as JSON: an object for each line that `--changes` prints, in its order.
-use Rattle.std.specs.Prelude.{ℕ, ◌+◌, ◌==◌, Bool, if◌then◌else◌, List, [], ◌∷◌, ◌++◌, map, Option, None, Some, is_none, slice_get, flat_map, codes}
+use Rattle.std.specs.Prelude.{ℕ, ◌+◌, ◌==◌, Bool, if◌then◌else◌, List, [], ◌∷◌, ◌++◌, map, Option, is_none, slice_get, flat_map, codes}
 use Rattle.std.specs.Option.{option_map_or}
 use Rattle.json.specs.Json.{Json, null, boolean, string, object, Members, no_members, member}
 use Rattle.json.specs.Token.{Token, begin_object}

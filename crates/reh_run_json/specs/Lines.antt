@@ -1,6 +1,6 @@
 -- What `run --json` prints of a line that is answered: one object, and an LF.
-use Rattle.std.specs.Prelude.{ℕ, List, [], ◌∷◌, ◌++◌, Option, None, Some, codes}
-use Rattle.json.specs.Json.{Json, null, string, object, Members, no_members, member}
+use Rattle.std.specs.Prelude.{ℕ, List, ◌++◌, Option, Some, codes}
+use Rattle.json.specs.Json.{Json, string, object, Members, no_members, member}
 use Rattle.json.specs.Print.{print}
 use Rattle.json.specs.Token.{Token}
 use Rattle.json.specs.Tree.{json_tokens}

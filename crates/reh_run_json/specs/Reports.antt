@@ -1,5 +1,5 @@
 -- A report and a survey as JSON.
-use Rattle.std.specs.Prelude.{ℕ, List, [], ◌∷◌, ◌++◌, map, Bool, Option, None, Some, codes}
+use Rattle.std.specs.Prelude.{ℕ, List, [], ◌++◌, map, Bool, Option, None, Some, codes}
 use Rattle.std.specs.List.{enumerate_from}
 use Rattle.json.specs.Json.{Json, boolean, string, object, no_members, member}
 use Rattle.json.specs.Token.{Token}

@@ -101,11 +101,7 @@ fn add_reason(
 }
 
 /// Adds a refusal's value, or null where it has none: a lock's owner by name, other values as numbers.
-fn add_value(
-    json: &mut Writer<Global>,
-    names: &Names,
-    refusal: &Refusal,
-) -> Result<(), AllocError>
+fn add_value(json: &mut Writer<Global>, names: &Names, refusal: &Refusal) -> Result<(), AllocError>
     ensures { OnOk result (Adds (json_tokens (model.value_json names.now refusal.now)) json.old json.new) }
 {
     match refusal {

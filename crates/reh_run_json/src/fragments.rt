@@ -62,11 +62,7 @@ fn add_fragment(
 }
 
 /// Adds the ledger and the number of a fragment.
-fn add_place(
-    json: &mut Writer<Global>,
-    id: LedgerId,
-    number: usize,
-) -> Result<(), AllocError>
+fn add_place(json: &mut Writer<Global>, id: LedgerId, number: usize) -> Result<(), AllocError>
     ensures { OnOk result (Adds (member_tokens (codes "ledger") (number_json id)
         ++ member_tokens (codes "fragment") (number_json number)) json.old json.new) }
 {

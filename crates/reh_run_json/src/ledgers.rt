@@ -24,7 +24,14 @@ pub(crate) fn add_ledger_object(
     ensures { OnOk result (Adds (json_tokens (reports.ledger_json names.now ledger.now)) json.old json.new) }
 {
     let metadata = ledger.metadata();
-    add_parts(json, names, ledger.id(), metadata, ledger.task(), ledger.lock())
+    add_parts(
+        json,
+        names,
+        ledger.id(),
+        metadata,
+        ledger.task(),
+        ledger.lock(),
+    )
 }
 
 /// Adds a ledger of this id, with its metadata, its task and the task's lock.
@@ -83,7 +90,12 @@ fn add_state_of(
 fn add_sizes(json: &mut Writer<Global>, metadata: &LedgerMeta) -> Result<(), AllocError>
     ensures { OnOk result (Adds (reports.sizes_of metadata.now) json.old json.new) }
 {
-    add_three_sizes(json, metadata.size(), metadata.write_quorum(), metadata.ack_quorum())
+    add_three_sizes(
+        json,
+        metadata.size(),
+        metadata.write_quorum(),
+        metadata.ack_quorum(),
+    )
 }
 
 /// Adds these sizes.

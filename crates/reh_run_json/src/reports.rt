@@ -28,7 +28,13 @@ pub(crate) fn add_report(json: &mut Writer<Global>, state: &State) -> Result<(),
 fn add_settings(json: &mut Writer<Global>, state: &State) -> Result<(), AllocError>
     ensures { OnOk result (Adds (reports.settings_of state.now) json.old json.new) }
 {
-    add_ticks(json, state.clock(), state.grace(), state.delay(), state.is_enabled())
+    add_ticks(
+        json,
+        state.clock(),
+        state.grace(),
+        state.delay(),
+        state.is_enabled(),
+    )
 }
 
 /// Adds these settings.
@@ -91,7 +97,13 @@ fn add_bookie(
     ensures { OnOk result (Adds (json_tokens (reports.bookie_json state.now bookie name.now)) json.old json.new) }
 {
     let held = state.count(bookie) as u64;
-    add_standing(json, name, state.is_up(bookie), state.lost_tick(bookie), held)
+    add_standing(
+        json,
+        name,
+        state.is_up(bookie),
+        state.lost_tick(bookie),
+        held,
+    )
 }
 
 /// Adds a bookie's name, whether it is registered, the tick at which it was lost, and how many entries it holds.

@@ -12,10 +12,7 @@ use reh_types::{LedgerId, SurveyLine};
 use std::alloc::{AllocError, Global};
 
 /// Adds the list of a survey's lines.
-pub(crate) fn add_survey(
-    json: &mut Writer<Global>,
-    lines: &[SurveyLine],
-) -> Result<(), AllocError>
+pub(crate) fn add_survey(json: &mut Writer<Global>, lines: &[SurveyLine]) -> Result<(), AllocError>
     ensures { OnOk result (Adds (json_tokens (reports.survey_json lines.now)) json.old json.new) }
 {
     json.begin_array()?;

@@ -1,7 +1,5 @@
 -- One place more of the lists, and none that is left.
-use Rattle.std.proofs.Common.{◌∙◌, ap, sym, arith}
-use Rattle.reh_run_json.specs.Fragments.{changes_at}
-use Rattle.reh_run_json.specs.Values.{tokens_of}
+use Rattle.std.proofs.Common.{arith}
 use Rattle.reh_run_json.proofs.TokenLaws.{leaves-more, leaves-none}
 use Rattle.reh_run_json.proofs.FragmentLaws.{fragment-more, fragments-end}
 use Rattle.reh_run_json.proofs.fragments.add_fragments.Goals as goal

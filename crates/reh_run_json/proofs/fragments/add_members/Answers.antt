@@ -1,6 +1,6 @@
 -- One member more, and none that is left.
 use Rattle.std.proofs.Common.{arith}
-use Rattle.reh_run_json.proofs.TokenLaws.{leaves-more, leaves-none}
+use Rattle.reh_run_json.proofs.TokenLaws.{leaves-none}
 use Rattle.reh_run_json.proofs.FragmentLaws.{members-end}
 use Rattle.reh_run_json.proofs.fragments.add_members.Goals as goal
 

@@ -1,5 +1,5 @@
 -- The ranges that have ended so far are there, and the open one begins before the next entry.
-use Rattle.std.proofs.Common.{◌+◌, ◌*◌, ◌-◌, ◌<◌, map}
+use Rattle.std.proofs.Common.{◌+◌, ◌*◌, ◌-◌, ◌<◌}
 use Rattle.std.specs.Prelude.{None}
 use Rattle.std.specs.Option.{ForSome}
 use Rattle.reh_model.specs.Contents.{is_in_word}

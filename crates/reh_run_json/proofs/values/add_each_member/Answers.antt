@@ -1,5 +1,5 @@
 -- One bookie more, and none that is left.
-use Rattle.std.proofs.Common.{arith, ap, drop}
+use Rattle.std.proofs.Common.{arith, ap}
 use Rattle.std.proofs.lemmas.List.{drop_all}
 use Rattle.reh_run_json.proofs.TokenLaws.{leaves-more, leaves-none, member-more, members_from}
 use Rattle.reh_run_json.proofs.values.add_each_member.Goals as goal
