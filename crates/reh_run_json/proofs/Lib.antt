@@ -4,3 +4,4 @@ pub mod FragmentLaws
 pub mod WordLaws
 pub mod ReportLaws
 pub mod LineLaws
+pub mod DepthLaws

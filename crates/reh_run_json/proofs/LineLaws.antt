@@ -1,14 +1,15 @@
 -- The members of an answer's object, before the others.
-use Rattle.std.proofs.Common.{◌≡◌, ℕ, List, [], ◌∷◌, ◌++◌, ap, refl, Option, Some}
+use Rattle.std.proofs.Common.{◌≡◌, ◌∙◌, ℕ, List, [], ◌∷◌, ◌++◌, ap, refl, Option, Some}
 use Rattle.std.specs.Prelude.{codes}
 use Rattle.json.specs.Json.{Members, member, no_members, string}
-use Rattle.json.specs.Token.{begin_object, end_object}
+use Rattle.json.specs.Token.{Token, begin_object, end_object}
 use Rattle.json.specs.Tree.{json_tokens, members_tokens}
+use Rattle.json.specs.Written.{Written}
 use Rattle.reh_types.specs.declared.moves.Reply.{Reply}
 use Rattle.reh_types.specs.declared.moves.Reply.TheVariants.{Done, Clock, Issued, Discarded, Refused}
 use Rattle.reh_model.specs.Cluster.{Cluster}
 use Rattle.reh_model.specs.Places.{Change}
-use Rattle.reh_answer.specs.Objects.{member_tokens, number_json}
+use Rattle.reh_answer.specs.Objects.{Adds, member_tokens, number_json}
 use Rattle.reh_play.specs.declared.answers.LineAnswer.{LineAnswer}
 use Rattle.reh_play.specs.declared.answers.LineAnswer.TheVariants as answer
 use Rattle.reh_run_json.specs.Changes.{changes_json}
@@ -40,3 +41,7 @@ pub line-tokens : (s : Cluster) (n : ℕ) (command : Option (List ℕ)) (a : Lin
 line-tokens s n command a changes =
     ap (λ ts. begin_object ∷ (member_tokens (codes "line") (number_json n) ++ (member_tokens (codes "command") (or_null string command) ++ ts)))
     (answer-first s a (member (codes "changes") (changes_json s changes) no_members))
+
+-- what is added to a writer that has written nothing
+pub from-empty : (first end : Written) (added : List Token) → first.tokens ≡ [] → Adds added first end → end.tokens ≡ added
+from-empty first end added none adds = adds.tokens ∙ ap (λ ts. ts ++ added) none

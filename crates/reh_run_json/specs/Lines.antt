@@ -1,6 +1,6 @@
 -- What `run --json` prints of a line that is answered: one object, and an LF.
-use Rattle.std.specs.Prelude.{ℕ, List, ◌++◌, Option, Some, codes}
-use Rattle.json.specs.Json.{Json, string, object, Members, no_members, member}
+use Rattle.std.specs.Prelude.{◌≡◌, ℕ, List, ◌++◌, Option, Some, codes}
+use Rattle.json.specs.Json.{Json, document, string, object, Members, no_members, member}
 use Rattle.json.specs.Print.{print}
 use Rattle.json.specs.Token.{Token}
 use Rattle.json.specs.Tree.{json_tokens}
@@ -67,6 +67,12 @@ line_json names n command s answer changes =
 
 abbrev pub line_text : List (List ℕ) → ℕ → Option (List ℕ) → Cluster → LineAnswer → List Change → List ℕ
 line_text names n command s answer changes = print (json_tokens (line_json names n command s answer changes)) ++ codes "\n"
+
+-- a line is added that a reader of JSON reads as this value
+pub record IsLineAdded (value : Json) (old new : List ℕ) : Type 0 where
+  pub line : List ℕ
+  pub ends : new ≡ old ++ (line ++ codes "\n")
+  pub reads : document line ≡ Some value
 
 -- What calls add
 

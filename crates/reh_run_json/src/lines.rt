@@ -5,7 +5,7 @@ ghost use Rattle.json.specs.Json.{string};
 ghost use Rattle.json.specs.Tree.{json_tokens};
 ghost use Rattle.reh_model.specs.Places.{IsThere};
 ghost use Rattle.reh_answer.specs.Objects.{Adds};
-ghost use Rattle.reh_run_json.specs.Lines.{line_json, line_text};
+ghost use Rattle.reh_run_json.specs.Lines.{IsLineAdded, line_json, line_text};
 ghost use Rattle.reh_run_json.specs.Values.{or_null};
 
 use crate::answers::add_answer;
@@ -62,12 +62,15 @@ pub fn push_line(
     changes: &[Change<LedgerMeta>],
 ) -> Result<(), AllocError>
     requires { All (IsThere state.now) changes.now }
-    ensures { OnOk result (string_bytes text.new ≡ string_bytes text.old
+    ensures text { OnOk result (string_bytes text.new ≡ string_bytes text.old
         ++ line_text state.now.names number (option_copied command.entry) state.now answer.now changes.now) }
+    ensures reads_back { OnOk result (IsLineAdded (line_json state.now.names number (option_copied command.entry)
+        state.now answer.now changes.now) (string_bytes text.old) (string_bytes text.new)) }
 {
     let mut json = Writer::new(Vec::new(alloc));
     add_line(&mut json, state, number, command, answer, changes)?;
     let object = text_in(json)?;
     text.push_str(object.as_str())?;
-    text.push('\n')
+    text.push_str("\n")?;
+    Ok(())
 }
