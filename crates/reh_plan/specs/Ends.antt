@@ -1,14 +1,20 @@
 -- What a plan must not leave, where its script has room.
-use Rattle.std.specs.Prelude.{◌≡◌, ◌≢◌, ◌⊎◌, ℕ, ◌+◌, ◌≤◌, Bool, false, IsTrue, All, List, [], ◌∷◌, length, map, is_some, slice_get}
-use Rattle.std.specs.Prelude.{Option, None}
+use Rattle.std.specs.Prelude.{◌≡◌, ◌≢◌, ◌⊎◌, ℕ, ◌+◌, ◌≤◌, Bool, false, ◌&&◌, IsTrue, All, List, [], ◌∷◌, length, map, is_none, is_some, slice_get}
+use Rattle.std.specs.Prelude.{Option, None, Some}
 use Rattle.std.specs.List.{list_any}
 use Rattle.std.specs.Option.{option_map_or}
 use Rattle.reh_types.specs.declared.limits.TheConstants.{MAX_SCRIPT_BYTES}
+use Rattle.reh_types.specs.declared.names.LedgerState.{LedgerState}
+use Rattle.reh_types.specs.declared.names.LedgerState.TheVariants.{Open, InRecovery, Closed}
 use Rattle.reh_types.specs.declared.refusals.Refusal.{Refusal}
+use Rattle.reh_types.specs.declared.refusals.Refusal.TheVariants.{NotRecovering}
+use Rattle.reh_model.specs.Audit.{first_under}
 use Rattle.reh_model.specs.Checks.{first_reason}
 use Rattle.reh_model.specs.Cluster.{Cluster, Ledger}
-use Rattle.reh_model.specs.Metadata.{is_in_recovery}
-use Rattle.reh_model.specs.Refusals.{no_place, no_source, version_end}
+use Rattle.reh_model.specs.Metadata.{is_in_recovery, last_fragment}
+use Rattle.reh_model.specs.Refusals.{no_place, no_source, not_needed, target_down, target_is_member}
+use Rattle.reh_model.specs.Refusals.{too_few, undecided, version_end}
+use Rattle.reh_model.specs.Step.{fenced_ledger}
 use Rattle.reh_lines.specs.Lines.{lines_of}
 use Rattle.reh_plan.specs.declared.plans.TheConstants.{COMMAND_ROOM}
 
@@ -29,9 +35,39 @@ AllFilled may s g = (f i : ℕ) → IsFilled may s g f i
 abbrev pub IsComplete : (ℕ → Bool) → Cluster → Type 0
 IsComplete may s = All (AllFilled may s) s.parts.ledgers
 
+-- why a ledger of that state can't be fenced, if it is open, and then closed: it has no next version for both, or it is
+-- closed already
+abbrev pub not_closable : LedgerState → Ledger → Option Refusal
+not_closable Open g = first_reason (version_end g ∷ version_end (fenced_ledger g) ∷ [])
+not_closable InRecovery g = version_end g
+not_closable (Closed end) g = Some NotRecovering
+
+-- why the bookie can't recover the ledger, if it had the ledger's lock and the grace were over: it can't take a place of the
+-- last ensemble, or that misses no member, or the fence of an open ledger would be refused, or the seal
+abbrev pub recovery_refusal : Cluster → ℕ → Ledger → Option Refusal
+recovery_refusal s b g =
+    first_reason (target_down s b ∷ target_is_member (last_fragment g.metadata) b ∷ not_needed s g
+    ∷ not_closable g.metadata.state g ∷ too_few s g ∷ undecided s g ∷ [])
+
+-- no bookie that may work can recover the ledger
+abbrev pub IsUnrecoverable : (ℕ → Bool) → Cluster → Ledger → Type 0
+IsUnrecoverable may s g = (b : ℕ) → IsTrue (may b) → recovery_refusal s b g ≢ None
+
+-- nor any ledger
+abbrev pub IsRecovered : (ℕ → Bool) → Cluster → Type 0
+IsRecovered may s = All (IsUnrecoverable may s) s.parts.ledgers
+
 -- no task is locked
 abbrev pub IsUnlocked : Cluster → Type 0
 IsUnlocked s = list_any (λ g. is_some g.lock) s.parts.ledgers ≡ false
+
+-- whether the ledger has a task, though each member of its ensembles is registered
+abbrev pub is_needless : Cluster → Ledger → Bool
+is_needless s g = is_some g.task && is_none (first_under s g)
+
+-- no task is needless
+abbrev pub IsNeeded : Cluster → Type 0
+IsNeeded s = list_any (is_needless s) s.parts.ledgers ≡ false
 
 -- whether each ledger is in recovery, in picture order
 abbrev pub recovering : Cluster → List Bool
@@ -55,6 +91,13 @@ pub record IsFull (lines : List (List ℕ)) : Type 0 where
   pub says : lines_of text ≡ lines
   pub many : MAX_SCRIPT_BYTES ≤ length text + COMMAND_ROOM
 
--- in t, the last state, no place is left that could be filled, and no task locked, unless the script is full
+-- nothing is left that the bookies that may work could do
+pub record IsDone (may : ℕ → Bool) (s : Cluster) : Type 0 where
+  pub complete : IsComplete may s
+  pub recovered : IsRecovered may s
+  pub unlocked : IsUnlocked s
+  pub needed : IsNeeded s
+
+-- in t, the last state, nothing of that is left, unless the script is full
 abbrev pub Ends : (ℕ → Bool) → Cluster → List (List ℕ) → Type 0
-Ends may t lines = IsFull lines ⊎ (IsComplete may t × IsUnlocked t)
+Ends may t lines = IsFull lines ⊎ IsDone may t

@@ -190,7 +190,7 @@ pub record WorksAndNames (may : ℕ → Bool) (d n : Draft) : Type 0 where
   pub works : Works may d worked
   pub naming : IsNaming worked n
 
--- and no place is left that could be filled, and no lock
+-- and in the end nothing is left that could be done, where the script has room
 pub record IsRepaired (may : ℕ → Bool) (d n : Draft) : Type 0 where
   pub works : WorksAndNames may d n
   pub ends : Ends may n.state n.lines

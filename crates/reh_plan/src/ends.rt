@@ -8,7 +8,9 @@ ghost use Rattle.reh_plan.specs.Workers.{may_work};
 
 use crate::faults::PlanFault;
 use crate::plans::Plan;
+use crate::recoveries::can_recover;
 use crate::workers::Workers;
+use reh_audit::under_of;
 use reh_cluster::{Ledger, State};
 use reh_scan::{check_place, first_unreadable};
 use reh_types::{Aim, BookieIx, LedgerState, MAX_VERSION};
@@ -130,11 +132,40 @@ fn can_fill_some(state: &State, workers: &Workers) -> bool
     false
 }
 
+/// Whether some bookie that may work could recover some ledger.
+fn can_recover_some(state: &State, workers: &Workers) -> bool
+    ensures { IsFalse result → model.IsRecovered (may_work workers.now) state.now }
+{
+    for ledger in state.ledgers() {
+        if can_recover(state, workers, ledger) {
+            return true;
+        }
+    }
+    false
+}
+
 /// Whether some task is locked.
 fn has_locks(state: &State) -> bool
     ensures { result ≡ list_any (λ g. is_some g.lock) state.now.parts.ledgers }
 {
     state.ledgers().iter().any(|ledger| ledger.lock().is_some())
+}
+
+/// Whether some ledger has a task, though each member of its ensembles is registered.
+fn has_needless_tasks(state: &State) -> bool
+    ensures { result ≡ list_any (model.is_needless state.now) state.now.parts.ledgers }
+{
+    state
+        .ledgers()
+        .iter()
+        .any(|ledger| is_needless(state, ledger))
+}
+
+/// Whether the ledger has one so.
+fn is_needless(state: &State, ledger: &Ledger) -> bool
+    ensures { result ≡ model.is_needless state.now ledger.now }
+{
+    ledger.task().is_some() && under_of(state, ledger).is_none()
 }
 
 /// Whether each ledger is in recovery, in picture order.
@@ -192,14 +223,20 @@ pub(crate) fn check_harmless(state: &State, recovering: &[bool]) -> Result<(), P
     }
 }
 
-/// Checks that a plan leaves no place that could be filled, and no lock, where its script has room.
+/// Checks that a plan leaves no place that could be filled, no ledger that could be recovered, no lock and no needless task,
+/// where its script has room.
 pub(crate) fn check_end(plan: &Plan, workers: &Workers) -> Result<(), PlanFault>
     ensures { OnOk result (model.Ends (may_work workers.now) plan.now.state plan.now.lines) }
 {
     if plan.is_full() {
         return Ok(());
     }
-    if can_fill_some(plan.state(), workers) || has_locks(plan.state()) {
+    let state = plan.state();
+    if can_fill_some(state, workers)
+        || can_recover_some(state, workers)
+        || has_locks(state)
+        || has_needless_tasks(state)
+    {
         return Err(PlanFault::Unfinished);
     }
     Ok(())

@@ -6,6 +6,7 @@ mod faults;
 mod named;
 mod planning;
 mod plans;
+mod recoveries;
 mod repairs;
 mod runbooks;
 mod summaries;

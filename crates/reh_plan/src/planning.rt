@@ -45,7 +45,9 @@ pub struct Planned {
 /// (`order`). Each bookie that copies entries or takes a place is registered, too (`filled`). In the end the lost bookies
 /// aren't registered, and all others are as they were (`lost`). Each ledger that has a task then, or a member that isn't
 /// registered, is named in a comment (`named`), and no other is (`only`). The comment's reason is the first that was met
-/// for that ledger, which no clause says. The summary tells for each bookie how many places it takes and how many
+/// for that ledger, which no clause says. Where the script has room, no place is left in the end that could be filled, no
+/// ledger that could be recovered, no lock, and no task where nothing is missing (`ends`); and no ledger was fenced and
+/// left (`harmless`). The summary tells for each bookie how many places it takes and how many
 /// entries it holds more in the end, how many ledgers are left, and how many entries can't be read (`sum`).
 pub fn plan(
     alloc: Global,

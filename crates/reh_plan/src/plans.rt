@@ -199,8 +199,8 @@ impl Plan {
         }
     }
 
-    /// Whether the recovery of an open ledger would be accepted after a fence by the same worker, and both have room. It is
-    /// tried and taken back, so nothing changes.
+    /// Whether the recovery of an open ledger would be accepted after a fence by the same worker, and both have room: what a
+    /// further command has holds both, since names have at most 300 bytes. It is tried and taken back, so nothing changes.
     pub(crate) fn check_recovery(
         &mut self,
         worker: BookieIx,
@@ -208,7 +208,7 @@ impl Plan {
     ) -> Result<(), StepFault>
         ensures { self.new ≡ self.old }
     {
-        if self.is_nearly_full() {
+        if self.is_full() {
             return Err(StepFault::Left(Reason::NoRoom));
         }
         let fence = Event::Fence { worker, ledger };
@@ -246,11 +246,6 @@ impl Plan {
         ensures { IsTrue result → IsFull self.now.lines }
     {
         self.text.len() >= MAX_SCRIPT_BYTES - COMMAND_ROOM
-    }
-
-    /// Whether there may be none for two.
-    fn is_nearly_full(&self) -> bool {
-        self.text.len() >= MAX_SCRIPT_BYTES - 2 * COMMAND_ROOM
     }
 
     /// Writes the comment that a ledger is left, and why.

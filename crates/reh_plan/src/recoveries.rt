@@ -1,0 +1,117 @@
+// Whether a ledger that isn't closed could be recovered: what a fence and a seal ask, but for the lock and the grace. Where a
+// recovery ends, and whether it is answered, is decided here as a seal decides it, whose own function isn't public.
+ghost use Rattle.std.specs.Prelude.{◌≡◌, ◌≢◌, ◌&&◌, [], ◌∷◌, ℕ, None, length, is_none, IsFalse, IsTrue};
+ghost use Rattle.reh_model.specs.Checks.{first_reason};
+ghost use Rattle.reh_model.specs.Metadata as meta;
+ghost use Rattle.reh_model.specs.Recovery as recovery;
+ghost use Rattle.reh_model.specs.Refusals.{not_needed, target_down, target_is_member, too_few, undecided};
+ghost use Rattle.reh_plan.specs.Ends as model;
+ghost use Rattle.reh_plan.specs.Workers.{may_work};
+
+use crate::workers::Workers;
+use reh_audit::is_under;
+use reh_cluster::{Ledger, State};
+use reh_meta::Fragment;
+use reh_scan::{first_unreadable, last_fragment};
+use reh_stripe::{Striped, write_set};
+use reh_types::{BookieIx, ENTRY_END, LedgerState, MAX_VERSION};
+
+/// Whether some bookie that may work could recover the ledger, if it had the ledger's lock and the grace were over.
+pub(crate) fn can_recover(state: &State, workers: &Workers, ledger: &Ledger) -> bool
+    ensures { IsFalse result → model.IsUnrecoverable (may_work workers.now) state.now ledger.now }
+{
+    is_recoverable(state, ledger) && has_substitute(state, workers, last_fragment(ledger))
+}
+
+/// Whether some bookie that may work could take the place of a member of the fragment.
+fn has_substitute(state: &State, workers: &Workers, fragment: &Fragment) -> bool
+    ensures { IsFalse result → (b : ℕ) → IsTrue (may_work workers.now b)
+        → first_reason (target_down state.now b ∷ target_is_member fragment.now b ∷ []) ≢ None }
+{
+    for number in 0..state.names().len() as u8 {
+        let bookie = BookieIx(number);
+        if workers.is_able(bookie) && is_substitute(state, fragment, bookie) {
+            return true;
+        }
+    }
+    false
+}
+
+/// Whether the bookie could.
+fn is_substitute(state: &State, fragment: &Fragment, bookie: BookieIx) -> bool
+    ensures { result
+        ≡ is_none (first_reason (target_down state.now bookie ∷ target_is_member fragment.now bookie ∷ [])) }
+{
+    state.is_up(bookie) && !fragment.ensemble.contains(&bookie)
+}
+
+/// Whether the last ensemble misses a member, and the ledger could be fenced, if it is open, and then closed.
+fn is_recoverable(state: &State, ledger: &Ledger) -> bool
+    ensures { result ≡ is_none (first_reason (not_needed state.now ledger.now
+        ∷ model.not_closable ledger.now.metadata.state ledger.now ∷ too_few state.now ledger.now ∷ undecided state.now ledger.now ∷ [])) }
+{
+    is_under(state, last_fragment(ledger)) && is_closable(ledger) && is_answered(state, ledger)
+}
+
+/// Whether the ledger isn't closed, and has a next version for a fence, if it is open, and for a seal.
+fn is_closable(ledger: &Ledger) -> bool
+    ensures { result ≡ is_none (model.not_closable ledger.now.metadata.state ledger.now) }
+{
+    let _well_formed_metadata = ledger.metadata().size();
+    let version = ledger.metadata().version();
+    match ledger.metadata().state() {
+        LedgerState::Open => version != MAX_VERSION && version + 1 != MAX_VERSION,
+        LedgerState::InRecovery => version != MAX_VERSION,
+        LedgerState::Closed { end: _ } => false,
+    }
+}
+
+/// Whether enough registered members answer a recovery: an ack quorum of each entry that it passes, and of the one where it
+/// ends so many that the others are no ack quorum.
+fn is_answered(state: &State, ledger: &Ledger) -> bool
+    ensures { result ≡ is_none (first_reason (too_few state.now ledger.now ∷ undecided state.now ledger.now ∷ [])) }
+{
+    let metadata = ledger.metadata();
+    let last = last_fragment(ledger);
+    let end = recovered_end(state, ledger, last);
+    // as many entries as the ensemble has members: from there on write sets repeat
+    for entry in last.first..end.min(last.first + metadata.size()) {
+        if count_up(state, ledger, last, entry) < metadata.ack_quorum() {
+            return false;
+        }
+    }
+    let decisive = metadata.write_quorum() - metadata.ack_quorum() + 1;
+    if count_up(state, ledger, last, end) < decisive {
+        return false;
+    }
+    true
+}
+
+/// The first entry of the ledger's last fragment that can't be read.
+fn recovered_end(state: &State, ledger: &Ledger, last: &Fragment) -> u32
+    requires last { last.now ≡ meta.last_fragment ledger.now.metadata }
+    requires whole { length last.now.ensemble ≡ ledger.now.metadata.size }
+    ensures { result ≡ recovery.recovered_end state.now ledger.now }
+{
+    state.assert_well_formed();
+    let _well_formed_metadata = ledger.metadata().size();
+    // of an ensemble of one member, that member carries each entry
+    let entries = Striped::new(last.first, ENTRY_END as u32, 0, 1, 1);
+    first_unreadable(state, ledger, last, entries).unwrap_or(ENTRY_END as u32)
+}
+
+/// How many members of the entry's write set in the last fragment are registered.
+fn count_up(state: &State, ledger: &Ledger, last: &Fragment, entry: u32) -> u32
+    requires last { last.now ≡ meta.last_fragment ledger.now.metadata }
+    requires whole { length last.now.ensemble ≡ ledger.now.metadata.size }
+    ensures { result ≡ length (recovery.up_writes state.now ledger.now entry) }
+{
+    let metadata = ledger.metadata();
+    let mut count = 0;
+    for index in write_set(entry, metadata.size(), metadata.write_quorum()) {
+        if state.is_up(last.ensemble[index as usize]) {
+            count += 1;
+        }
+    }
+    count
+}
