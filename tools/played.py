@@ -1,55 +1,42 @@
 """What tools/page reads of a script and of its play: the commands, what was answered, and what each step changed.
 
-The script that is played has a `report` and a `survey` after the user's commands, so that the state after each of them is
-told. All texts are kept as the program printed them.
+`run --json` says what each line changed. Only the members down and the entries lost in each fragment are in no change, so
+the script that is played has a `survey` after the user's commands. It begins with a `report`, and from there the state is
+kept. It is told as the lines of a report and a survey.
 """
 
+import json
 import re
-from typing import IO, Callable, Dict, Iterable, Iterator, List, NamedTuple, Optional, Set, Tuple
+from itertools import zip_longest
+from typing import IO, Any, Dict, FrozenSet, Iterable, Iterator, List, NamedTuple, Optional, Set, Tuple
 
 MAX_LINE_BYTES = 1024
 MAX_SCRIPT_BYTES = 1_048_576
-# How many states are told at most: a report of each is read.
+# How many states are told at most: a survey of each is read.
 MOST_TOLD = 5000
-TELLING = b"report\nsurvey\n"
-# How a reply begins, which no line of a report or survey does.
-MARK = b"\nline "
-REPLY = re.compile(rb"line ([0-9]{1,13}): (.+)\n")
-BLOCK = 1 << 20
-# The commands whose events change what a picture shows, and those whose events don't.
-SHOWN_EVENTS = {"lose", "join", "roll", "fence", "seal", "copy", "swap", "spend"}
-OTHER_EVENTS = {"audit", "acquire", "release", "finish", "expire", "grace", "tick", "disable", "enable"}
-# The events that change which bookies are registered.
-REGISTRATIONS = {"lose", "join"}
+REPORT, SURVEY = b"report\n", b"survey\n"
+# The kinds of changes that no picture shows.
+IN_NO_PICTURE = {"task", "lock", "clock", "autorecovery"}
 
-
-# Tells the slots of lines, by the line before them and its slot.
-Slots = Callable[[List[bytes], bytes, str], List[str]]
+Json = Dict[str, Any]
+# Lines by their slots. An empty text is no line.
+Lines = Iterator[Tuple[str, str]]
 
 
 class Line(NamedTuple):
-    """A line of a script: its number, its bytes without the LF, its words, and whether it is answered."""
+    """A line of a script: its number, its bytes without the LF, and whether it is answered."""
 
     number: int
     text: bytes
-    words: List[str]
     is_answered: bool
 
 
-class Reply(NamedTuple):
-    """A reply: the line that it names, its text, and the lines after it."""
-
-    number: int
-    text: str
-    after: bytes
-
-
 class Step(NamedTuple):
-    """A command with its reply, and what it changed: slots and texts by turns, or None where no state was told."""
+    """A command, as a plan would write it, with its reply and the kinds of what it changed."""
 
-    line: Line
+    command: Optional[str]
     text: str
-    changes: Optional[List[int]]
+    kinds: FrozenSet[str]
 
 
 def shown(text: bytes) -> str:
@@ -84,10 +71,8 @@ def read_script(text: bytes) -> List[Line]:
     lines = []
     for number, raw in enumerate(lines_of(text), 1):
         line = without_cr(raw)
-        words = [shown(word) for word in re.split(rb"[ \t]+", line.strip(b" \t")) if word]
-        is_comment = bool(words) and words[0].startswith("#")
-        is_answered = len(line) > MAX_LINE_BYTES or bool(words) and not is_comment
-        lines.append(Line(number, raw, words, is_answered))
+        is_command = line.strip(b" \t")[:1] not in (b"", b"#")
+        lines.append(Line(number, raw, is_command or len(line) > MAX_LINE_BYTES))
     return lines
 
 
@@ -97,7 +82,7 @@ def told_after(commands: List[Line]) -> Set[int]:
     That is after each, where it fits into a script; else after as many as fit, at like distances.
     """
     length = sum(len(it.text) + 1 for it in commands)
-    room = min((MAX_SCRIPT_BYTES - length) // len(TELLING), MOST_TOLD)
+    room = min((MAX_SCRIPT_BYTES - length - len(REPORT)) // len(SURVEY), MOST_TOLD)
     count = len(commands) + 1
     if room >= count:
         return set(range(count))
@@ -105,43 +90,67 @@ def told_after(commands: List[Line]) -> Set[int]:
 
 
 def told_script(commands: List[Line], told: Set[int]) -> bytes:
-    """Returns the script that is played: the commands, with a report and a survey where the state is told."""
-    parts = [TELLING if 0 in told else b""]
+    """Returns the script that is played: a report, and the commands, with a survey where the state is told."""
+    parts = [REPORT + SURVEY if told else b""]
     for place, command in enumerate(commands, 1):
-        parts += [command.text, b"\n", TELLING if place in told else b""]
+        parts += [command.text, b"\n", SURVEY if place in told else b""]
     return b"".join(parts)
 
 
-def replies_of(stream: IO[bytes]) -> Iterator[Reply]:
-    """Yields the replies that the program prints. One whose line was cut is left out."""
-    text = b"\n"
-    while True:
-        block = stream.read(BLOCK)
-        text += block
-        begin = text.find(MARK)
-        while begin >= 0:
-            end = text.find(MARK, begin + 1)
-            if end < 0 and block:
-                break
-            found = REPLY.match(text, begin + 1)
-            if found:
-                yield Reply(int(found[1]), shown(found[2]), text[found.end() : end + 1 if end >= 0 else len(text)])
-            begin = end
-        text = text[max(begin, 0) :]
-        if not block:
-            return
+def or_dash(value: Optional[int]) -> str:
+    """Returns a number as a report has it."""
+    return "-" if value is None else str(value)
 
 
-class Told(NamedTuple):
-    """A report or a survey as it was told: its text, its lines, and the slot of each."""
+def top_lines(report: Json) -> Lines:
+    """Yields the first lines of a report."""
+    delay = f" delay {report['delay']}" if report["delay"] else ""
+    yield "c", f"clock {report['clock']} grace {report['grace']}{delay}"
+    yield "a", "" if report["autorecovery"] else "autorecovery disabled"
 
-    text: bytes
-    lines: List[bytes]
-    slots: List[str]
+
+def bookie_line(bookie: Json, delay: int) -> str:
+    """Returns the line of a bookie."""
+    since = f" since {bookie['lostAt']}" if delay and not bookie["up"] else ""
+    return f"bookie {bookie['name']} {'up' if bookie['up'] else 'down'} {bookie['held']}{since}"
+
+
+def ledger_lines(slot: str, ledger: Json, pieces: Iterable[int]) -> Lines:
+    """Yields the lines of a ledger and of some fragments. A fragment stops at the next one, or after the last entry."""
+    last, fragments, task, lock = (ledger[it] for it in ("lastEntryId", "fragments", "task", "lock"))
+    sizes = f"{ledger['ensembleSize']} {ledger['writeQuorumSize']} {ledger['ackQuorumSize']}"
+    yield slot, f"ledger {ledger['id']} {ledger['state']} version {ledger['version']} last {or_dash(last)} quorum {sizes}"
+    stops = [it["firstEntry"] for it in fragments[1:]] + [None if last is None else last + 1]
+    for piece in pieces:
+        first, members = fragments[piece]["firstEntry"], " ".join(fragments[piece]["ensemble"])
+        yield f"{slot}f{piece}", f"fragment {piece} first {first} stop {or_dash(stops[piece])} {members}"
+    yield f"{slot}t", f"task {' '.join(task)}" if task else ""
+    due = f" due {lock['due']}" if lock and lock["due"] is not None else ""
+    yield f"{slot}k", f"lock {lock['owner']}{due}" if lock else ""
+
+
+def changed_lines(slot: str, ledger: Json, change: Json) -> Lines:
+    """Makes a change of a ledger, and yields the lines that can show it."""
+    what, now, fragments = change["what"], change["now"], ledger["fragments"]
+    piece = change.get("fragment", len(fragments) - 1)
+    if what == "member":
+        fragments[piece]["ensemble"][change["index"]] = now
+    elif what == "fragment":
+        fragments[piece:] = [now] if now else []
+        yield from ((f"{slot}{part}{piece}", "") for part in "fs")
+    else:
+        ledger[what] = now
+    # The fragment before may stop elsewhere now.
+    yield from ledger_lines(slot, ledger, range(max(piece - 1, 0), min(piece + 1, len(fragments))))
+
+
+def count_of(ranges: List[List[int]]) -> int:
+    """Returns how many entries are in ranges."""
+    return sum(last - first + 1 for first, last in ranges)
 
 
 class Telling:
-    """The state as it was told last, by slots: a slot for each line that a report and a survey can have.
+    """The state, as the first report with all changes made, and as lines by slots, as it was told last.
 
     A slot is `c` for the clock, `a` for AutoRecovery, `bN` for a bookie and `lN` for a ledger by its place. Of a ledger
     `lNfK` is a fragment, `lNsK` its line of the survey, `lNt` the task and `lNk` the lock.
@@ -150,115 +159,100 @@ class Telling:
     def __init__(self) -> None:
         self.slots: Dict[str, int] = {}
         self.texts: Dict[str, int] = {}
-        self.lines: Dict[str, str] = {}
-        self.report = self.survey = Told(b"", [], [])
+        self.report: Json = {"bookies": [], "ledgers": []}
+        self.survey: List[Json] = []
+        # By names and ids.
+        self.places: Dict[Any, int] = {}
+        # The texts that were told, and those that are not yet.
+        self.told: Dict[str, int] = {}
+        self.left: Dict[str, str] = {}
 
-    def change_to(self, report: bytes, survey: bytes) -> List[int]:
-        """Takes in the next report and survey, and returns what differs: slots and texts by turns, -1 for no text."""
-        changed: Dict[str, str] = {}
-        self.report = self.taken(self.report, report, report_slots, changed)
-        self.survey = self.taken(self.survey, survey, survey_slots, changed)
-        numbers: List[int] = []
-        for slot in sorted(changed, key=lambda it: self.slots.setdefault(it, len(self.slots))):
-            text = changed[slot]
-            if self.lines.get(slot, "") != text:
-                numbers += [self.slots[slot], self.texts.setdefault(text, len(self.texts)) if text else -1]
-            self.lines[slot] = text
-        return numbers
+    def begin(self, report: Json) -> None:
+        """Takes in the first report."""
+        self.report = report
+        self.left.update(top_lines(report))
+        for place, it in enumerate(report["bookies"]):
+            self.places[it["name"]] = place
+            self.left[f"b{place}"] = bookie_line(it, report["delay"])
+        for place, it in enumerate(report["ledgers"]):
+            self.places[it["id"]] = place
+            self.left.update(ledger_lines(f"l{place}", it, range(len(it["fragments"]))))
 
-    def taken(self, told: Told, text: bytes, slots_of: Slots, changed: Dict[str, str]) -> Told:
-        """Takes in a text. Only the lines between the first and the last that differ are gone through."""
-        if text == told.text:
-            return told
-        lines = text.split(b"\n")[:-1]
-        begin = common(told.lines, lines)
-        left = min(len(told.lines), len(lines)) - begin
-        end = min(common(reversed(told.lines), reversed(lines)), left)
-        between = lines[begin : len(lines) - end]
-        slots = slots_of(between, lines[begin - 1] if begin else b"", told.slots[begin - 1] if begin else "")
-        changed.update((slot, "") for slot in told.slots[begin : len(told.lines) - end])
-        changed.update((slot, kept_of(slot, line)) for slot, line in zip(slots, between))
-        return Told(text, lines, told.slots[:begin] + slots + told.slots[len(told.slots) - end :])
-
-
-def common(one: Iterable[bytes], two: Iterable[bytes]) -> int:
-    """Returns how many lines are the same at the beginning."""
-    count = 0
-    for count, (a, b) in enumerate(zip(one, two), 1):
-        if a != b:
-            return count - 1
-    return count
-
-
-def kept_of(slot: str, line: bytes) -> str:
-    """Returns what is kept of a line: of a survey without the ledger and the fragment, which the slot says."""
-    text = line.decode("ascii", "backslashreplace")
-    return text.split(" ", 4)[4] if "s" in slot else text
-
-
-def place_in(slot: str) -> int:
-    """Returns the place that a slot names, or -1."""
-    found = re.match(r"[bl]([0-9]+)", slot)
-    return int(found[1]) if found else -1
-
-
-def report_slots(lines: List[bytes], _: bytes, before: str) -> List[str]:
-    """Returns the slots of lines of a report, which follow a line with the slot `before`."""
-    bookie, ledger = (place_in(before), -1) if not before.startswith("l") else (-1, place_in(before))
-    slots = []
-    for line in lines:
-        kind, _, rest = line.partition(b" ")
-        if kind == b"bookie":
-            bookie += 1
-            slots.append(f"b{bookie}")
-        elif kind == b"ledger":
-            ledger += 1
-            slots.append(f"l{ledger}")
-        elif kind == b"fragment":
-            slots.append(f"l{ledger}f{rest.partition(b' ')[0].decode()}")
+    def make(self, change: Json) -> None:
+        """Makes a change."""
+        what, report = change["what"], self.report
+        if "bookie" in change:
+            place = self.places[change["bookie"]]
+            it = report["bookies"][place]
+            if what == "entries":
+                it["held"] += count_of(change["gained"]) - count_of(change["gone"])
+            else:
+                it.update(change["now"])
+            self.left[f"b{place}"] = bookie_line(it, report["delay"])
+        elif "ledger" in change:
+            place = self.places[change["ledger"]]
+            self.left.update(changed_lines(f"l{place}", report["ledgers"][place], change))
+            # Where a fragment comes or goes, the next survey is taken in from its first line on.
+            self.survey = [] if what == "fragment" else self.survey
         else:
-            slots.append({b"task": f"l{ledger}t", b"lock": f"l{ledger}k", b"clock": "c"}.get(kind, "a"))
-    return slots
+            report[what] = change["now"]
+            self.left.update(top_lines(report))
 
-
-def survey_slots(lines: List[bytes], last: bytes, before: str) -> List[str]:
-    """Returns the slots of lines of a survey, which follow the line `last` with the slot `before`."""
-    ledger, number = place_in(before), last.split(b" ")[1] if last else b""
-    slots = []
-    for line in lines:
-        words = line.split(b" ", 4)
-        if words[1] != number:
-            ledger, number = ledger + 1, words[1]
-        slots.append(f"l{ledger}s{words[3].decode()}")
-    return slots
+    def tell(self, survey: List[Json]) -> List[int]:
+        """Takes in a survey, and returns what differs since the last one: slots and texts by turns, -1 for no text."""
+        for it, before in zip_longest(survey, self.survey):
+            if it != before:
+                slot = f"l{self.places[it['ledger']]}s{it['fragment']}"
+                self.left[slot] = f"down {it['down']} lost {or_dash(it['lost'])}"
+        numbers: List[int] = []
+        for slot, text in self.left.items():
+            number = self.texts.setdefault(text, len(self.texts)) if text else -1
+            if self.told.get(slot, -1) != number:
+                self.told[slot] = number
+                numbers += [self.slots.setdefault(slot, len(self.slots)), number]
+        self.survey, self.left = survey, {}
+        return numbers
 
 
 class Play(NamedTuple):
-    """A play: what was told at the start, and the steps that were answered."""
+    """A play: the steps that were answered, what each changed, by places that begin at 0 with the start, and its end."""
 
-    start: Optional[List[int]]
+    telling: Telling
     steps: List[Step]
+    changes: Dict[int, List[int]]
+    # None where the output was cut.
+    end: Optional[str]
 
 
-def read_play(commands: List[Line], told: Set[int], replies: Iterator[Reply], telling: Telling) -> Play:
-    """Reads a play of the script that `told_script` made. It may end early."""
+def reply_in(told: Json) -> str:
+    """Returns the reply of a line as `run` prints it without `--json`."""
+    reply = told["reply"]
+    if reply == "refused":
+        it = told["refusal"]
+        return f"refused {it['number']} {it['name']}" + ("" if it["value"] is None else f" {it['value']}")
+    return told["fault"] if reply == "fault" else f"{reply} {told[reply]}" if reply in ("clock", "ticket") else reply
 
-    def state(place: int) -> Optional[List[int]]:
-        report, survey = (next(replies, None), next(replies, None)) if place in told else (None, None)
-        if not report or not survey:
-            return None
-        # A survey has a line for each fragment, unless it was cut.
-        is_whole = survey.after.count(b"\n") == report.after.count(b"\nfragment ")
-        return telling.change_to(report.after, survey.after) if is_whole else None
 
-    start = state(0)
-    steps = []
-    for place, line in enumerate(commands, 1):
-        reply = next(replies, None)
-        if not reply:
-            break
-        steps.append(Step(line, reply.text, state(place)))
-    return Play(start, steps)
+def read_play(told: Set[int], stream: IO[bytes]) -> Play:
+    """Reads what `run --json` prints of the script that `told_script` made. It may end early, or be cut."""
+    telling, end = Telling(), None
+    steps: List[Step] = []
+    changes: Dict[int, List[int]] = {}
+    own = [REPORT, SURVEY] if told else []
+    for line in stream:
+        it = json.loads(line) if line.endswith(b"\n") else {}
+        if "line" not in it:
+            end = it.get("end")
+        elif not own:
+            steps.append(Step(it["command"], reply_in(it), frozenset(change["what"] for change in it["changes"])))
+            for change in it["changes"] if told else []:
+                telling.make(change)
+            own = [SURVEY] if len(steps) in told else []
+        elif own.pop(0) == REPORT:
+            telling.begin(it["report"])
+        else:
+            changes[len(steps)] = telling.tell(it["survey"])
+    return Play(telling, steps, changes, end)
 
 
 class Pictures(NamedTuple):
@@ -273,8 +267,8 @@ class Pictures(NamedTuple):
 def pictures_of(steps: List[Step]) -> Pictures:
     """Tells which states show the same picture.
 
-    An undo or a redo leads back to a state that was there before; an event that no picture shows, a refusal and a line
-    that is no event leave the picture as it is.
+    An undo or a redo leads back to a state that was there before; a line that changes nothing, or only what no picture
+    shows, leaves the picture as it is.
     """
     first, registrations = [0], set()
     past: List[int] = []
@@ -282,22 +276,21 @@ def pictures_of(steps: List[Step]) -> Pictures:
     now = 0
     of_steps = [0]
     for place, step in enumerate(steps, 1):
-        word = step.line.words[0] if step.line.words else ""
         if step.text != "ok":
             pass
-        elif word == "undo" and past:
+        elif step.command == "undo":
             undone.append(now)
             now = past.pop()
-        elif word == "redo" and undone:
+        elif step.command == "redo":
             past.append(now)
             now = undone.pop()
-        elif word in SHOWN_EVENTS | OTHER_EVENTS:
+        else:
             past.append(now)
             undone = []
-            if word in SHOWN_EVENTS:
+            if step.kinds - IN_NO_PICTURE:
                 now = len(first)
                 first.append(place)
-                registrations |= {now} if word in REGISTRATIONS else set()
+                registrations |= {now} if "registration" in step.kinds else set()
         of_steps.append(now)
     return Pictures(of_steps, first, registrations)
 
