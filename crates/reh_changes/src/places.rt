@@ -8,18 +8,22 @@ ghost use Rattle.reh_changes.specs.Changes.{all_lines, lines_of};
 
 use crate::metadata::push_metadata;
 use crate::words::push_word;
-use reh_cluster::{Changes, Ledger, Names, State};
+use reh_cluster::{Ledger, Names, State};
 use reh_commands::{push_members, push_name};
 use reh_meta::LedgerMeta;
 use reh_types::{BookieIx, BookieSet, Change, Lock, Scalar};
 use std::alloc::AllocError;
 
 /// Adds the lines of a record that leads back from this state: of each place what was there, and what is there now.
-pub fn push_changes(text: &mut String, state: &State, changes: &Changes) -> Result<(), AllocError>
+pub fn push_changes(
+    text: &mut String,
+    state: &State,
+    changes: &[Change<LedgerMeta>],
+) -> Result<(), AllocError>
     requires { All (IsThere state.now) changes.now }
     ensures { OnOk result (string_bytes text.new ≡ string_bytes text.old ++ all_lines state.now changes.now) }
 {
-    for change in changes.as_slice() {
+    for change in changes {
         push_change(text, state, change)?;
     }
     Ok(())

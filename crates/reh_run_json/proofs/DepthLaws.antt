@@ -1,14 +1,12 @@
 -- How deep the object of a line is.
-use Rattle.std.proofs.Common.{◌≡◌, ◌+◌, ◌-◌, ◌≤◌, ℕ, List, [], ◌∷◌, ◌++◌, true, false, cond, map, arith, Option, Some, None}
-use Rattle.std.specs.Prelude.{◌==◌, flat_map, codes, slice_get}
+use Rattle.std.proofs.Common.{◌+◌, ◌-◌, ◌≤◌, ℕ, List, [], ◌∷◌, ◌++◌, true, false, cond, map, arith, Option, Some, None}
+use Rattle.std.specs.Prelude.{◌==◌, ◌||◌, flat_map, codes, slice_get}
 use Rattle.std.specs.Option.{option_map_or}
 use Rattle.std.specs.List.{enumerate_from}
-use Rattle.std.specs.Fmt.{decimal}
 use Rattle.json.specs.Json.{Json, Members, member, no_members, number, string}
 use Rattle.json.specs.Tree.{depth, items_depth, members_depth}
 use Rattle.reh_types.specs.declared.changes.Change.TheVariants as change
 use Rattle.reh_types.specs.declared.locks.Lock.{Lock}
-use Rattle.reh_types.specs.declared.moves.Reply.{Reply}
 use Rattle.reh_types.specs.declared.moves.Reply.TheVariants.{Done, Clock, Issued, Discarded, Refused}
 use Rattle.reh_types.specs.declared.names.LedgerState.{LedgerState}
 use Rattle.reh_types.specs.declared.names.LedgerState.TheVariants.{Open, InRecovery, Closed}
@@ -30,7 +28,7 @@ use Rattle.reh_play.specs.declared.answers.LineAnswer.TheVariants as answer
 use Rattle.reh_run_json.specs.Changes as changes
 use Rattle.reh_run_json.specs.Lines.{answer_members, line_json, value_json}
 use Rattle.reh_run_json.specs.Reports as reports
-use Rattle.reh_run_json.specs.Values.{ensemble_json, last_json, lock_json, name_json, or_null, range_json, task_json}
+use Rattle.reh_run_json.specs.Values.{ensemble_json, is_closed, last_json, lock_json, name_json, or_null, range_json, task_json}
 
 -- Lists
 
@@ -99,13 +97,21 @@ version-depth : (id was now : ℕ) → items_depth (items_of (changes.version_ch
 version-depth id was now =
     elim (was == now) as (λ t. items_depth (items_of (cond t [] (changes.version_change id was now ∷ []))) ≤ 3) [ true ↦ omega arith | false ↦ omega arith ]
 
-states-depth : (id : ℕ) (was now : LedgerState) → items_depth (items_of (changes.state_changes id was now)) ≤ 3
-states-depth id was now =
+ends-depth : (id : ℕ) (was now : LedgerState) → items_depth (items_of (changes.last_changes id was now)) ≤ 3
+ends-depth id was now =
     let first = last-depth was in
     let second = last-depth now in
-    elim (is_same_state was now) as (λ t. items_depth (items_of (cond t [] (changes.state_change id was now ∷ changes.last_change id was now ∷ []))) ≤ 3) [
+    elim (is_closed was || is_closed now) as (λ t. items_depth (items_of (cond t (changes.last_change id was now ∷ []) [])) ≤ 3) [
+      | true ↦ omega (arith, first, second)
+      | false ↦ omega arith
+    ]
+
+states-depth : (id : ℕ) (was now : LedgerState) → items_depth (items_of (changes.state_changes id was now)) ≤ 3
+states-depth id was now =
+    let ends = ends-depth id was now in
+    elim (is_same_state was now) as (λ t. items_depth (items_of (cond t [] (changes.state_change id was now ∷ changes.last_changes id was now))) ≤ 3) [
       | true ↦ omega arith
-      | false ↦ omega (arith, first, second)
+      | false ↦ omega (arith, ends)
     ]
 
 metadata-depth : (names : List (List ℕ)) (id : ℕ) (was now : Metadata)
@@ -124,7 +130,7 @@ ranges-depth : (ranges : List (ℕ × ℕ)) → items_depth (items_of (map range
 ranges-depth ranges = items-depth range_json 1 (λ range. omega arith) ranges
 
 change-depth : (s : Cluster) (c : Change) → items_depth (items_of (changes.change_objects s c)) ≤ 3
-change-depth s (change.Registration bookie lost) = omega arith
+change-depth s (change.Registration bookie lost) = omega (arith, number-depth lost, number-depth (lost_tick s bookie))
 change-depth s (change.Metadata place metadata) =
     place-depth (slice_get s.parts.ledgers place) _ (λ g. metadata-depth s.names g.id metadata g.metadata)
 change-depth s (change.Task place task) =

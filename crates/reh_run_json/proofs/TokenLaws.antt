@@ -1,20 +1,20 @@
 -- Tokens of lists, and tokens that a loop has added, with those that are left.
-use Rattle.std.proofs.Common.{◌≡◌, ◌∙◌, ℕ, ◌+◌, ◌<◌, List, [], ◌∷◌, ◌++◌, refl, ap, sym, map, append_assoc, append-nil, subst, Ok, Err, OnOk, true, false, cond, length, drop, unwrap_or, slice_index_or}
+use Rattle.std.proofs.Common.{◌≡◌, ◌∙◌, ℕ, ◌+◌, ◌<◌, List, [], ◌∷◌, ◌++◌, refl, ap, sym, map, append_assoc, append-nil, subst, OnOk, true, false, cond, length, drop, unwrap_or, slice_index_or}
 use Rattle.std.specs.Prelude.{flat_map, filter}
 use Rattle.std.specs.List.{enumerate_from}
 use Rattle.std.specs.Fmt.{decimal}
 use Rattle.std.proofs.lemmas.Grind.{flat_map-append}
-use Rattle.std.proofs.lemmas.List.{drop_more}
+use Rattle.std.proofs.lemmas.List.{drop_more, map-id}
 use Rattle.std.proofs.lemmas.Option.{slice_get-get_or}
 use Rattle.json.specs.Json.{Json, string}
 use Rattle.json.specs.Token as token
 use Rattle.json.specs.Token.{Token}
-use Rattle.json.specs.Tree.{items_tokens, json_tokens}
+use Rattle.json.specs.Tree.{json_tokens}
 use Rattle.json.specs.Written.{Written}
 use Rattle.reh_types.specs.Sets as set
 use Rattle.reh_types.specs.Sets.{Set, numbers}
-use Rattle.reh_answer.specs.Objects.{Adds, items_of, list_json}
-use Rattle.reh_answer.proofs.ObjectLaws.{in_place, then}
+use Rattle.reh_answer.specs.Objects.{Adds, list_json}
+use Rattle.reh_answer.proofs.ObjectLaws.{in_place, list-tokens, then}
 use Rattle.reh_answer.proofs.TextLaws.{Done}
 use Rattle.reh_commands.specs.Texts.{name_of}
 use Rattle.reh_run_json.specs.Values.{tokens_of}
@@ -50,33 +50,8 @@ leaves-all left all first mid end leaves adds = record {
   tokens = adds.tokens ∙ leaves.tokens;
 }
 
--- two parts that one call adds, before the rest
-pub then-two : (r : Done) (first next end : Written) (part other rest : List Token) → Adds (part ++ other) first next
-    → OnOk r (Adds rest next end) → OnOk r (Adds (part ++ (other ++ rest)) first end)
-then-two (Ok u) first next end part other rest adds more = record {
-  before = more.before ∙ adds.before;
-  tokens =
-      more.tokens
-      ∙ ap (λ ts. ts ++ rest) adds.tokens
-      ∙ append_assoc first.tokens (part ++ other) rest
-      ∙ ap (λ ts. first.tokens ++ ts) (append_assoc part other rest);
-}
-then-two (Err e) first next end part other rest adds more = more
-
--- the tokens of a list's elements, and its closing bracket
-pub items-tokens : (values : List Json) → tokens_of values ++ token.end_array ∷ [] ≡ items_tokens (items_of values)
-items-tokens [] = refl
-items-tokens (value ∷ values) =
-    append_assoc (json_tokens value) (tokens_of values) (token.end_array ∷ [])
-    ∙ ap (λ ts. json_tokens value ++ ts) (items-tokens values)
-
--- of elements that are made one by one
-pub mapped : {X : Type 0} (h : X → Json) (xs : List X) → flat_map (λ x. json_tokens (h x)) xs ≡ tokens_of (map h xs)
-mapped h [] = refl
-mapped h (x ∷ xs) = ap (λ ts. json_tokens (h x) ++ ts) (mapped h xs)
-
--- of elements that are made some at a time
-pub flattened : {X : Type 0} (h : X → List Json) (xs : List X) → flat_map (λ x. tokens_of (h x)) xs ≡ tokens_of (flat_map h xs)
+-- the tokens of elements that are made some at a time
+flattened : {X : Type 0} (h : X → List Json) (xs : List X) → flat_map (λ x. tokens_of (h x)) xs ≡ tokens_of (flat_map h xs)
 flattened h [] = refl
 flattened h (x ∷ xs) =
     ap (λ ts. tokens_of (h x) ++ ts) (flattened h xs) ∙ sym (flat_map-append json_tokens (h x) (flat_map h xs))
@@ -105,22 +80,23 @@ member-more bookies i names within =
     ∙ ap (λ o. cond (set.contains bookies i) (token.string (unwrap_or o (decimal i)) ∷ []) [] ++ members_from bookies (i + 1) (drop (i + 1) names))
     (sym (slice_get-get_or names i [] within))
 
--- a list between its brackets
-pub array-added : (values : List Json) (r : Done) (first begun listed end : Written)
-    → Adds (token.begin_array ∷ []) first begun → Adds (tokens_of values) begun listed
-    → OnOk r (Adds (token.end_array ∷ []) listed end) → OnOk r (Adds (json_tokens (list_json values)) first end)
-array-added values r first begun listed end begins lists ends =
-    in_place r first end _ _ (ap (λ ts. token.begin_array ∷ ts) (items-tokens values))
-    (then r first begun end _ _ begins (then r begun listed end _ _ lists ends))
-
--- one of elements that are made one by one
+-- a list between its brackets, of elements that are made one by one
 pub mapped-added : {X : Type 0} (h : X → Json) (xs : List X) (r : Done) (first begun listed end : Written)
     → Adds (token.begin_array ∷ []) first begun → Adds (flat_map (λ x. json_tokens (h x)) xs) begun listed
     → OnOk r (Adds (token.end_array ∷ []) listed end) → OnOk r (Adds (json_tokens (list_json (map h xs))) first end)
 mapped-added h xs r first begun listed end begins lists ends =
-    array-added (map h xs) r first begun listed end begins (subst (λ ts. Adds ts begun listed) (mapped h xs) lists) ends
+    in_place r first end _ _ (ap (drop 1) (list-tokens [] h xs))
+    (then r first begun end _ _ begins (then r begun listed end _ _ lists ends))
 
--- one of elements that are made some at a time
+-- a list of these elements
+pub array-added : (values : List Json) (r : Done) (first begun listed end : Written)
+    → Adds (token.begin_array ∷ []) first begun → Adds (tokens_of values) begun listed
+    → OnOk r (Adds (token.end_array ∷ []) listed end) → OnOk r (Adds (json_tokens (list_json values)) first end)
+array-added values r first begun listed end begins lists ends =
+    in_place r first end _ _ (ap (λ vs. json_tokens (list_json vs)) (map-id values))
+    (mapped-added (λ value. value) values r first begun listed end begins lists ends)
+
+-- a list of elements that are made some at a time
 pub flattened-added : {X : Type 0} (h : X → List Json) (xs : List X) (r : Done) (first begun listed end : Written)
     → Adds (token.begin_array ∷ []) first begun → Adds (flat_map (λ x. tokens_of (h x)) xs) begun listed
     → OnOk r (Adds (token.end_array ∷ []) listed end) → OnOk r (Adds (json_tokens (list_json (flat_map h xs))) first end)

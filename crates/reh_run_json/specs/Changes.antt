@@ -1,5 +1,6 @@
--- What a step changed, as JSON: an object for each line that `--changes` prints, in its order.
-use Rattle.std.specs.Prelude.{ℕ, ◌+◌, ◌==◌, Bool, if◌then◌else◌, List, [], ◌∷◌, ◌++◌, map, Option, is_none, slice_get, flat_map, codes}
+-- What a step changed, as JSON: an object for each line that `--changes` prints, in the same order. There the line of a
+-- state also tells the last entry id; here the last entry id has an object of its own, after that of the state.
+use Rattle.std.specs.Prelude.{ℕ, ◌+◌, ◌==◌, ◌||◌, Bool, if◌then◌else◌, List, [], ◌∷◌, ◌++◌, map, Option, is_none, slice_get, flat_map, codes}
 use Rattle.std.specs.Option.{option_map_or}
 use Rattle.json.specs.Json.{Json, null, boolean, string, object, Members, no_members, member}
 use Rattle.json.specs.Token.{Token, begin_object}
@@ -11,13 +12,12 @@ use Rattle.reh_types.specs.declared.scalars.Scalar.TheVariants.{Clock, Enabled}
 use Rattle.reh_types.specs.declared.scalars.Scalars.{Scalars}
 use Rattle.reh_types.specs.Sets.{Set, numbers}
 use Rattle.reh_model.specs.Metadata.{Metadata, Fragment}
-use Rattle.reh_model.specs.Cluster.{Cluster, Ledger, is_up}
+use Rattle.reh_model.specs.Cluster.{Cluster, Ledger, is_up, lost_tick}
 use Rattle.reh_model.specs.Places.{Change}
-use Rattle.reh_commands.specs.Texts.{registration}
 use Rattle.reh_changes.specs.Changes.{is_same_state, is_gained, is_gone}
 use Rattle.reh_changes.specs.Ranges.{ranges_in}
 use Rattle.reh_answer.specs.Objects.{list_json, member_tokens, number_json}
-use Rattle.reh_run_json.specs.Values.{or_null, name_json, state_json, last_json, ensemble_json, task_json, lock_json, range_json}
+use Rattle.reh_run_json.specs.Values.{or_null, name_json, registration_json, state_json, is_closed, last_json, ensemble_json, task_json, lock_json, range_json}
 
 -- a change: what has changed, then what it is of, and what was there and is there now
 abbrev pub changed : List ℕ → (Members → Members) → Json → Json → Json
@@ -30,9 +30,11 @@ of_ledger id rest = member (codes "ledger") (number_json id) rest
 abbrev pub of_fragment : ℕ → ℕ → Members → Members
 of_fragment id f rest = of_ledger id (member (codes "fragment") (number_json f) rest)
 
-abbrev pub registration_change : List (List ℕ) → ℕ → List ℕ → List ℕ → Json
-registration_change names bookie was now =
-    changed (codes "registration") (member (codes "bookie") (name_json names bookie)) (string was) (string now)
+-- a bookie's registration, where it was lost at that tick or was registered
+abbrev pub registration_change : Cluster → ℕ → Option ℕ → Json
+registration_change s bookie lost =
+    changed (codes "registration") (member (codes "bookie") (name_json s.names bookie))
+    (registration_json (is_none lost) lost) (registration_json (is_up s bookie) (lost_tick s bookie))
 
 -- a ledger's version, its state, and the last entry id
 abbrev pub version_change : ℕ → ℕ → ℕ → Json
@@ -47,9 +49,13 @@ state_change id was now = changed (codes "state") (of_ledger id) (state_json was
 abbrev pub last_change : ℕ → LedgerState → LedgerState → Json
 last_change id was now = changed (codes "lastEntryId") (of_ledger id) (last_json was) (last_json now)
 
+-- the change of the last entry id, where the ledger was or is CLOSED
+abbrev pub last_changes : ℕ → LedgerState → LedgerState → List Json
+last_changes id was now = if is_closed was || is_closed now then last_change id was now ∷ [] else []
+
 abbrev pub state_changes : ℕ → LedgerState → LedgerState → List Json
 state_changes id was now =
-    if is_same_state was now then [] else state_change id was now ∷ last_change id was now ∷ []
+    if is_same_state was now then [] else state_change id was now ∷ last_changes id was now
 
 abbrev pub member_changes : List (List ℕ) → ℕ → ℕ → ℕ → List ℕ → List ℕ → List Json
 member_changes names id f i (was ∷ before) (now ∷ after) =
@@ -130,8 +136,7 @@ of_place s place json = option_map_or json (slice_get s.parts.ledgers place) []
 
 -- a change that holds what was at its place, where the cluster is s now
 abbrev pub change_objects : Cluster → Change → List Json
-change_objects s (change.Registration bookie lost) =
-    registration_change s.names bookie (registration (is_none lost)) (registration (is_up s bookie)) ∷ []
+change_objects s (change.Registration bookie lost) = registration_change s bookie lost ∷ []
 change_objects s (change.Metadata place metadata) =
     of_place s place (λ g. metadata_changes s.names g.id metadata g.metadata)
 change_objects s (change.Task place task) = of_place s place (λ g. task_change s.names g.id task g.task ∷ [])

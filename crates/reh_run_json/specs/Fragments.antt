@@ -15,7 +15,7 @@ member_change names id f i was now =
 abbrev pub member_change_at : List (List ℕ) → ℕ → ℕ → ℕ → ℕ → ℕ → List Json
 member_change_at names id f i was now = if was == now then [] else member_change names id f i was now ∷ []
 
--- a fragment came or went
+-- a fragment was added or removed
 abbrev pub whole_change : List (List ℕ) → ℕ → ℕ → Option Fragment → Option Fragment → Json
 whole_change names id f was now =
     changed (codes "fragment") (of_fragment id f) (or_null (fragment_json names) was) (or_null (fragment_json names) now)

@@ -12,15 +12,14 @@ use Rattle.reh_model.specs.Contents.{count_held}
 use Rattle.reh_model.specs.Metadata.{Metadata, Fragment, stop_of}
 use Rattle.reh_model.specs.Cluster.{Cluster, Ledger, is_up, lost_tick}
 use Rattle.reh_answer.specs.Objects.{list_json, member_tokens, number_json}
-use Rattle.reh_run_json.specs.Values.{or_null, state_json, last_json, ensemble_json, task_json, lock_json}
+use Rattle.reh_run_json.specs.Values.{or_null, registration_members, state_json, last_json, ensemble_json, task_json, lock_json}
 
--- a bookie, the tick at which it was lost, if it is not registered, and how many entries it holds
+-- a bookie: its registration, and how many entries it holds
 abbrev pub standing_json : List ℕ → Bool → Option ℕ → ℕ → Json
 standing_json name up lost held =
     object (
     member (codes "name") (string name)
-    (member (codes "up") (boolean up)
-    (member (codes "lostAt") (or_null number_json lost) (member (codes "held") (number_json held) no_members)))
+    (registration_members up lost (member (codes "held") (number_json held) no_members))
     )
 
 abbrev pub bookie_json : Cluster → ℕ → List ℕ → Json

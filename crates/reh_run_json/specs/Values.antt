@@ -1,13 +1,13 @@
 -- Values of a rehearsal as JSON.
-use Rattle.std.specs.Prelude.{ℕ, ◌-◌, ◌==◌, if◌then◌else◌, List, [], ◌∷◌, map, flat_map, Option, None, Some, codes}
+use Rattle.std.specs.Prelude.{ℕ, ◌-◌, ◌==◌, Bool, true, false, if◌then◌else◌, List, [], ◌∷◌, ◌++◌, map, flat_map, Option, None, Some, codes}
 use Rattle.json.specs.Token.{Token}
 use Rattle.json.specs.Tree.{json_tokens}
-use Rattle.json.specs.Json.{Json, null, number, string, object, no_members, member}
+use Rattle.json.specs.Json.{Json, null, boolean, number, string, object, Members, no_members, member}
 use Rattle.reh_types.specs.declared.locks.Lock.{Lock}
 use Rattle.reh_types.specs.declared.names.LedgerState.{LedgerState}
 use Rattle.reh_types.specs.declared.names.LedgerState.TheVariants.{Open, InRecovery, Closed}
 use Rattle.reh_types.specs.Sets.{Set, numbers}
-use Rattle.reh_answer.specs.Objects.{list_json, number_json}
+use Rattle.reh_answer.specs.Objects.{list_json, member_tokens, number_json}
 use Rattle.reh_commands.specs.Texts.{name_of, names_in, state_word}
 
 abbrev pub or_null : {X : Type 0} → (X → Json) → Option X → Json
@@ -18,8 +18,21 @@ or_null json (Some x) = json x
 abbrev pub name_json : List (List ℕ) → ℕ → Json
 name_json names bookie = string (name_of names bookie)
 
+-- whether a bookie is registered, and the tick at which it was lost, which is null while it is registered
+abbrev pub registration_members : Bool → Option ℕ → Members → Members
+registration_members up lost rest =
+    member (codes "up") (boolean up) (member (codes "lostAt") (or_null number_json lost) rest)
+
+abbrev pub registration_json : Bool → Option ℕ → Json
+registration_json up lost = object (registration_members up lost no_members)
+
 abbrev pub state_json : LedgerState → Json
 state_json state = string (state_word state)
+
+abbrev pub is_closed : LedgerState → Bool
+is_closed Open = false
+is_closed InRecovery = false
+is_closed (Closed end) = true
 
 -- the last entry id of a closed ledger, which is -1 for one without an entry; null while it is open or in recovery
 abbrev pub last_json : LedgerState → Json
@@ -44,6 +57,13 @@ lock_json names lock =
 -- the first and the last entry of a range
 abbrev pub range_json : ℕ × ℕ → Json
 range_json range = list_json (number_json range.0 ∷ number_json range.1 ∷ [])
+
+-- What calls add
+
+-- whether a bookie is registered, and the tick at which it was lost
+abbrev pub registration_tokens : Bool → Option ℕ → List Token
+registration_tokens up lost =
+    member_tokens (codes "up") (boolean up) ++ member_tokens (codes "lostAt") (or_null number_json lost)
 
 -- the tokens of values, one after the other
 abbrev pub tokens_of : List Json → List Token

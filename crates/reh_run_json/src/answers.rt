@@ -18,7 +18,7 @@ use reh_play::LineAnswer;
 use reh_types::{Refusal, Reply, SurveyLine};
 use std::alloc::{AllocError, Global};
 
-/// Adds the answer to a line, where the state is this one then.
+/// Adds the answer to a line. The state is the one after the line.
 pub(crate) fn add_answer(
     json: &mut Writer<Global>,
     state: &State,

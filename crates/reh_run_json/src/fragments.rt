@@ -16,7 +16,7 @@ use reh_meta::Fragment;
 use reh_types::{BookieIx, LedgerId};
 use std::alloc::{AllocError, Global};
 
-/// Adds the changes of a ledger's fragments that changed, came or went.
+/// Adds the changes of a ledger's fragments.
 pub(crate) fn add_fragments(
     json: &mut Writer<Global>,
     names: &Names,
@@ -70,7 +70,7 @@ fn add_place(json: &mut Writer<Global>, id: LedgerId, number: usize) -> Result<(
     add_number(json, "fragment", number as u64)
 }
 
-/// Adds the change of a fragment that came or went.
+/// Adds the change of a fragment that was added or removed.
 fn add_whole(
     json: &mut Writer<Global>,
     names: &Names,

@@ -57,7 +57,7 @@ fn add_parts(
     json.end_object()
 }
 
-/// Adds where a ledger stands: its id, its state, its version and its last entry id.
+/// Adds a ledger's id and, of its metadata, its state, its version and its last entry id.
 fn add_standing(
     json: &mut Writer<Global>,
     id: LedgerId,

@@ -50,8 +50,8 @@ fn add_line(
     json.end_object()
 }
 
-/// Adds the object of an answered line, and an LF: its number, its command, the answer, and what it changed, where the
-/// state is this one then. Where nothing changed the list of changes is empty.
+/// Adds the object of an answered line, and an LF: its number, its command, the answer, and what it changed. The state is
+/// the one after the line. Where nothing changed the list of changes is empty.
 pub fn push_line(
     alloc: Global,
     text: &mut String,

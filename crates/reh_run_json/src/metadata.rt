@@ -1,11 +1,12 @@
 // What changed in a ledger's metadata.
-ghost use Rattle.std.specs.Prelude.{◌≡◌, ◌∷◌, [], OnOk, codes};
+ghost use Rattle.std.specs.Prelude.{◌≡◌, ◌∷◌, OnOk, codes};
 ghost use Rattle.json.specs.Json.{string};
 ghost use Rattle.json.specs.Token as token;
 ghost use Rattle.json.specs.Tree.{json_tokens};
 ghost use Rattle.reh_answer.specs.Objects.{Adds, member_tokens, number_json};
 ghost use Rattle.reh_changes.specs.Changes as texts;
 ghost use Rattle.reh_run_json.specs.Changes as changes;
+ghost use Rattle.reh_run_json.specs.Values as values;
 ghost use Rattle.reh_run_json.specs.Values.{tokens_of};
 
 use crate::fragments::add_fragments;
@@ -76,7 +77,7 @@ fn add_raised(json: &mut Writer<Global>, id: LedgerId, was: u64, now: u64) -> Re
     json.end_object()
 }
 
-/// Adds the changes of a state and of the last entry id, if the state changed.
+/// Adds the changes of a state and, of a ledger that was or is CLOSED, of the last entry id, if the state changed.
 fn add_states(
     json: &mut Writer<Global>,
     id: LedgerId,
@@ -91,14 +92,14 @@ fn add_states(
     add_moved(json, id, was, now)
 }
 
-/// Adds the changes of a state and of the last entry id.
+/// Adds the changes of a state and, of a ledger that was or is CLOSED, of the last entry id.
 fn add_moved(
     json: &mut Writer<Global>,
     id: LedgerId,
     was: LedgerState,
     now: LedgerState,
 ) -> Result<(), AllocError>
-    ensures { OnOk result (Adds (tokens_of (changes.state_change id was now ∷ changes.last_change id was now ∷ []))
+    ensures { OnOk result (Adds (tokens_of (changes.state_change id was now ∷ changes.last_changes id was now))
         json.old json.new) }
 {
     add_words(json, id, was, now)?;
@@ -135,8 +136,30 @@ fn add_words(
     json.end_object()
 }
 
-/// Adds the change of a last entry id.
+/// Adds the change of the last entry id, if the ledger was or is CLOSED.
 fn add_ends(
+    json: &mut Writer<Global>,
+    id: LedgerId,
+    was: LedgerState,
+    now: LedgerState,
+) -> Result<(), AllocError>
+    ensures { OnOk result (Adds (tokens_of (changes.last_changes id was now)) json.old json.new) }
+{
+    if is_closed(was) || is_closed(now) {
+        return add_both_ends(json, id, was, now);
+    }
+    Ok(())
+}
+
+/// Whether a state is CLOSED.
+fn is_closed(state: LedgerState) -> bool
+    ensures { result ≡ values.is_closed state }
+{
+    matches!(state, LedgerState::Closed { .. })
+}
+
+/// Adds the change of a last entry id.
+fn add_both_ends(
     json: &mut Writer<Global>,
     id: LedgerId,
     was: LedgerState,

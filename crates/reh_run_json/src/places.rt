@@ -1,18 +1,19 @@
 // What a record of changes leads back to, and what is there now.
-ghost use Rattle.std.specs.Prelude.{◌≡◌, ◌∷◌, [], OnOk, All, codes, flat_map};
+ghost use Rattle.std.specs.Prelude.{◌≡◌, ◌∷◌, [], OnOk, All, codes, flat_map, is_none};
 ghost use Rattle.std.specs.Option.{option_copied};
 ghost use Rattle.json.specs.Tree.{json_tokens};
+ghost use Rattle.reh_model.specs.Cluster.{is_up, lost_tick};
 ghost use Rattle.reh_model.specs.Places.{IsThere};
 ghost use Rattle.reh_answer.specs.Objects.{Adds, member_tokens};
-ghost use Rattle.reh_commands.specs.Texts as texts;
 ghost use Rattle.reh_run_json.specs.Changes as objects;
+ghost use Rattle.reh_run_json.specs.Values as values;
 ghost use Rattle.reh_run_json.specs.Values.{tokens_of};
 
 use crate::metadata::{add_ledger, add_metadata, begin_change};
-use crate::values::{add_lock, add_name, add_task};
+use crate::values::{add_lock, add_name, add_registration, add_task};
 use crate::words::add_word;
 use json::Writer;
-use reh_answer::{add_number, add_text};
+use reh_answer::add_number;
 use reh_cluster::{Changes, Ledger, Names, State};
 use reh_meta::LedgerMeta;
 use reh_types::{BookieIx, BookieSet, Change, LedgerId, Lock, Scalar};
@@ -74,9 +75,7 @@ fn add_change(
 {
     match change {
         Change::Registration { bookie, lost_at } => {
-            let was = registration(lost_at.is_none());
-            let now = registration(state.is_up(*bookie));
-            add_registration(json, state.names(), *bookie, was, now)
+            add_registrations(json, state, *bookie, *lost_at)
         }
         Change::Metadata { place, metadata } => match state.ledgers().get(*place) {
             Some(ledger) => add_metadata(json, state.names(), ledger, metadata),
@@ -100,30 +99,47 @@ fn add_change(
     }
 }
 
-/// Adds the change of a bookie's registration.
-fn add_registration(
+/// Adds the change of a bookie's registration, where it was lost at that tick, or was registered.
+fn add_registrations(
     json: &mut Writer<Global>,
-    names: &Names,
+    state: &State,
     bookie: BookieIx,
-    was: &str,
-    now: &str,
+    lost_at: Option<u64>,
 ) -> Result<(), AllocError>
-    ensures { OnOk result (Adds (json_tokens (objects.registration_change names.now bookie was.now now.now))
+    ensures { OnOk result (Adds (json_tokens (objects.registration_change state.now bookie lost_at))
         json.old json.new) }
 {
     begin_change(json, "registration")?;
     json.key("bookie")?;
-    add_name(json, names, bookie)?;
-    add_text(json, "was", was)?;
-    add_text(json, "now", now)?;
+    add_name(json, state.names(), bookie)?;
+    json.key("was")?;
+    add_registration_before(json, lost_at)?;
+    json.key("now")?;
+    add_registration_now(json, state, bookie)?;
     json.end_object()
 }
 
-/// A registration, in a report's words.
-fn registration(is_up: bool) -> &'static str
-    ensures { result.now ≡ texts.registration is_up }
+/// Adds the registration of a bookie that was lost at that tick, or was registered.
+fn add_registration_before(
+    json: &mut Writer<Global>,
+    lost_at: Option<u64>,
+) -> Result<(), AllocError>
+    ensures { OnOk result (Adds (json_tokens (values.registration_json (is_none lost_at) lost_at))
+        json.old json.new) }
 {
-    if is_up { "up" } else { "down" }
+    add_registration(json, lost_at.is_none(), lost_at)
+}
+
+/// Adds a bookie's registration now.
+fn add_registration_now(
+    json: &mut Writer<Global>,
+    state: &State,
+    bookie: BookieIx,
+) -> Result<(), AllocError>
+    ensures { OnOk result (Adds (json_tokens (values.registration_json (is_up state.now bookie)
+        (lost_tick state.now bookie))) json.old json.new) }
+{
+    add_registration(json, state.is_up(bookie), state.lost_tick(bookie))
 }
 
 /// Adds the change of a ledger's task, where it was this one.

@@ -52,8 +52,8 @@ fn is_bit_set(bits: u64, i: u32) -> bool
     (bits >> i) & 1 == 1
 }
 
-/// Passes an entry, which is there or isn't, where a range is open since its first entry, if one is: adds the range, if
-/// it ends before the entry, and gives the first entry of the one that is open then.
+/// Passes an entry, which is there or isn't. Before it a range may be open, since its first entry; the range is added if
+/// it ends there. Gives the first entry of the range that is open after the entry, if one is.
 fn pass(
     json: &mut Writer<Global>,
     since: Option<u32>,

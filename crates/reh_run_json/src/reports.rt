@@ -6,7 +6,7 @@ ghost use Rattle.reh_answer.specs.Objects.{Adds, member_tokens};
 ghost use Rattle.reh_run_json.specs.Reports as reports;
 
 use crate::ledgers::add_ledger_object;
-use crate::values::add_count;
+use crate::values::add_registration_members;
 use json::Writer;
 use reh_answer::{add_number, add_text};
 use reh_cluster::{Ledger, Names, State};
@@ -118,10 +118,7 @@ fn add_standing(
 {
     json.begin_object()?;
     add_text(json, "name", name)?;
-    json.key("up")?;
-    json.boolean(up)?;
-    json.key("lostAt")?;
-    add_count(json, lost)?;
+    add_registration_members(json, up, lost)?;
     add_number(json, "held", held)?;
     json.end_object()
 }

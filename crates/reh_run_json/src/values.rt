@@ -57,6 +57,33 @@ pub(crate) fn add_name(
     }
 }
 
+/// Adds whether a bookie is registered, and the tick at which it was lost, or null while it is registered.
+pub(crate) fn add_registration_members(
+    json: &mut Writer<Global>,
+    up: bool,
+    lost: Option<u64>,
+) -> Result<(), AllocError>
+    ensures { OnOk result (Adds (values.registration_tokens up lost) json.old json.new) }
+{
+    json.key("up")?;
+    json.boolean(up)?;
+    json.key("lostAt")?;
+    add_count(json, lost)
+}
+
+/// Adds both as an object.
+pub(crate) fn add_registration(
+    json: &mut Writer<Global>,
+    up: bool,
+    lost: Option<u64>,
+) -> Result<(), AllocError>
+    ensures { OnOk result (Adds (json_tokens (values.registration_json up lost)) json.old json.new) }
+{
+    json.begin_object()?;
+    add_registration_members(json, up, lost)?;
+    json.end_object()
+}
+
 /// Adds the names of these bookies.
 fn add_each_name(
     json: &mut Writer<Global>,

@@ -13,7 +13,7 @@ use reh_cluster::{Names, State};
 use reh_types::{BookieIx, LedgerId};
 use std::alloc::{AllocError, Global};
 
-/// Adds the change of a word: which of the entries whose bits have turned the bookie holds now, and which it held.
+/// Adds the change of a word: the entries that the bookie holds now and did not, and those that it held and doesn't now.
 pub(crate) fn add_word(
     json: &mut Writer<Global>,
     state: &State,

@@ -43,7 +43,7 @@ use Rattle.reh_play.specs.Players.{Player, answer_text, IsAnswered, Commands}
 use Rattle.reh_changes.specs.Changes.{all_lines}
 use Rattle.reh_commands.specs.Answers.{asked, numbered}
 use Rattle.reh_play.specs.Turns.{IsPrinted, PrintsLine}
-use Rattle.reh_script.specs.Changes.{shown_at, is_done, is_undo, asks_undo, AreChanges, changes_alone, answers_and_changes}
+use Rattle.reh_script.specs.Changes.{shown_at, state_in, is_done, is_undo, asks_undo, IsMadeBy, answers_and_changes}
 
 -- Records
 
@@ -260,7 +260,7 @@ step_of x (Ok command.Survey) y (own, stays) = absurd own
 
 -- Steps
 
-state_is : (m : Session) (s : Cluster) → replay m.opening m.done ≡ Some s → state_of m ≡ s
+pub state_is : (m : Session) (s : Cluster) → replay m.opening m.done ≡ Some s → state_of m ≡ s
 state_is m s is = ap (λ (o : Option Cluster). unwrap_or o m.opening) is
 
 some_state : (o : Option Cluster) (d : Cluster) → IsSome o → o ≡ Some (unwrap_or o d)
@@ -365,33 +365,38 @@ undone_from m n step s leads accepted =
     ∙ replay-append n.opening s n.done (step.event ∷ []) leads ∙ replay_one s step.event accepted in
     ap (λ (o : Option Cluster). unwrap_or o m.opening) back
 
--- What is printed
+-- Records of lines
 
 -- the newest event's record
-pub done_printed : {T E : Type 0} (result : Result T E) (m : Session) (s : Cluster) (rs : List (List Change))
-    (r : List Change) (old new : List ℕ) → replay m.opening m.done ≡ Some s
-    → Trail m.opening m.done rs (state_of m) → Some r ≡ slice_get rs (length rs - 1)
-    → OnOk result (new ≡ old ++ all_lines s r)
-    → OnOk result ((before : Cluster) → 0 < length m.done
-    → replay m.opening (take (length m.done - 1) m.done) ≡ Some before
-    → IsPrinted (AreChanges before (state_of m)) old new)
-done_printed (Err want) m s rs r old new leads trail is more = more
-done_printed (Ok done) m s rs r old new leads trail is more = λ before many back.
-    let now : state_of m ≡ s = state_is m s leads in
+pub made_last : (m : Session) (rs : List (List Change)) (r : List Change) → Trail m.opening m.done rs (state_of m)
+    → Some r ≡ slice_get rs (length rs - 1) → (before : Cluster)
+    → replay m.opening (take (length m.done - 1) m.done) ≡ Some before → IsDelta (state_of m) before r
+made_last m rs r trail is before back =
     let last = last_delta m.opening m.done rs (state_of m) trail r is in
     let same : Some before ≡ Some (exchanged (state_of m) r) = sym back ∙ last.1 in
-    let was : exchanged (state_of m) r ≡ before = cc in (
-      all_lines s r,
-      more,
-      (r, subst (λ (b : Cluster). IsDelta (state_of m) b r) was last.0, ap (λ (t : Cluster). all_lines t r) (sym now)),
+    let was : exchanged (state_of m) r ≡ before = cc in
+    subst (λ (b : Cluster). IsDelta (state_of m) b r) was last.0
+
+pub there_last : (m : Session) (rs : List (List Change)) (r : List Change) → Trail m.opening m.done rs (state_of m)
+    → Some r ≡ slice_get rs (length rs - 1) → All (IsThere (state_of m)) r
+there_last m rs r trail is = (last_delta m.opening m.done rs (state_of m) trail r is).0.fits.there
+
+-- the record of the event that is next
+pub made_next : (s : Cluster) (es : List Event) (rs : List (List Change)) (r : List Change) → Ahead s es rs
+    → Some r ≡ slice_get rs 0 → (event : Event) (later : List Event) → es ≡ event ∷ later
+    → (refusal_of s event ≡ None) × IsDelta s (after s event) r
+made_next s es rs r ahead is event later undone =
+    let (e, others, first, accepted, delta) = first_delta s es rs ahead r is in
+    let same : e ≡ event = cc in (
+      subst (λ (x : Event). refusal_of s x ≡ None) same accepted,
+      subst (λ (x : Event). IsDelta s (after s x) r) same delta,
     )
 
-pub last_there : (m : Session) (s : Cluster) (rs : List (List Change)) (r : List Change)
-    → replay m.opening m.done ≡ Some s → Trail m.opening m.done rs (state_of m)
-    → Some r ≡ slice_get rs (length rs - 1) → All (IsThere s) r
-last_there m s rs r leads trail is =
-    subst (λ (t : Cluster). All (IsThere t) r) (state_is m s leads)
-    (last_delta m.opening m.done rs (state_of m) trail r is).0.fits.there
+pub there_next : (s : Cluster) (es : List Event) (rs : List (List Change)) (r : List Change) → Ahead s es rs
+    → Some r ≡ slice_get rs 0 → All (IsThere s) r
+there_next s es rs r ahead is =
+    let (e, others, first, accepted, delta) = first_delta s es rs ahead r is in
+    delta.fits.there
 
 done_is : (answer : LineAnswer) → is_done answer ≡ true → answer ≡ Said Done
 done_is (Said Done) is = refl
@@ -413,65 +418,67 @@ step_as x q answer y b names line undone done kind asks there answered =
     (subst (λ (k : Kept). IsStep x.counter.book.session (asks_undo (Some q)) k.book.session) there
     (step_of x q y (subst (λ a. IsAnswered Called shown_at x q a y) (done_is answer done) answered)))
 
-pub tells_done : {T E : Type 0} (result : Result T E) (b : Kept) (names : List (List ℕ)) (n : ℕ) (line : List ℕ)
-    (answer : LineAnswer) (s : Cluster) (old new : List ℕ)
-    → replay b.book.session.opening b.book.session.done ≡ Some s
+-- of a line that was done, and is no undo
+pub made_done : (b : Kept) (names : List (List ℕ)) (line : List ℕ) (answer : LineAnswer) (s : Cluster)
+    (r : List Change) → replay b.book.session.opening b.book.session.done ≡ Some s
     → is_done answer ≡ true → asks_undo (asked names line) ≡ false
-    → OnOk result ((before : Cluster) → 0 < length b.book.session.done
+    → ((before : Cluster) → 0 < length b.book.session.done
     → replay b.book.session.opening (take (length b.book.session.done - 1) b.book.session.done) ≡ Some before
-    → IsPrinted (AreChanges before (state_of b.book.session)) old new)
-    → OnOk result (PrintsLine Called shown_at changes_alone names b n line answer old new)
-tells_done (Err want) b names n line answer s old new leads done kind printed = printed
-tells_done (Ok ok) b names n line answer s old new leads done kind printed = λ x y q asks there answered.
+    → IsDelta (state_of b.book.session) before r)
+    → IsMadeBy names b line answer r
+made_done b names line answer s r leads done kind made = λ x y q asks there answered.
     let step = step_as x q answer y b names line false done kind asks there answered in
     let led = done_step x.counter.book.session b.book.session step s leads in
-    printed (state_of x.counter.book.session) led.0 led.1
+    made (state_of x.counter.book.session) led.0 led.1
 
-pub tells_undone : {T E : Type 0} (result : Result T E) (b : Kept) (names : List (List ℕ)) (n : ℕ) (line : List ℕ)
-    (answer : LineAnswer) (s : Cluster) (old new : List ℕ)
-    → replay b.book.session.opening b.book.session.done ≡ Some s
+-- of an undo
+pub made_undone : (b : Kept) (names : List (List ℕ)) (line : List ℕ) (answer : LineAnswer) (s : Cluster)
+    (r : List Change) → replay b.book.session.opening b.book.session.done ≡ Some s
     → is_done answer ≡ true → asks_undo (asked names line) ≡ true
-    → OnOk result ((event : Event) (later : List Event) → b.book.session.undone ≡ event ∷ later
+    → ((event : Event) (later : List Event) → b.book.session.undone ≡ event ∷ later
     → (refusal_of (state_of b.book.session) event ≡ None)
-    × IsPrinted (AreChanges (after (state_of b.book.session) event) (state_of b.book.session)) old new)
-    → OnOk result (PrintsLine Called shown_at changes_alone names b n line answer old new)
-tells_undone (Err want) b names n line answer s old new leads done kind printed = printed
-tells_undone (Ok ok) b names n line answer s old new leads done kind printed = λ x y q asks there answered.
+    × IsDelta (state_of b.book.session) (after (state_of b.book.session) event) r)
+    → IsMadeBy names b line answer r
+made_undone b names line answer s r leads done kind made = λ x y q asks there answered.
     let step = undone_step x.counter.book.session b.book.session
     (step_as x q answer y b names line true done kind asks there answered) in
     let now : state_of b.book.session ≡ s = state_is b.book.session s leads in
-    let told = printed step.event step.later step.undone in
+    let event = made step.event step.later step.undone in
     let was : state_of x.counter.book.session ≡ after (state_of b.book.session) step.event =
     undone_from x.counter.book.session b.book.session step (state_of b.book.session)
-    (leads ∙ ap (λ (t : Cluster). Some t) (sym now)) told.0 in
-    subst (λ (t : Cluster). IsPrinted (AreChanges t (state_of b.book.session)) old new) (sym was) told.1
+    (leads ∙ ap (λ (t : Cluster). Some t) (sym now)) event.0 in
+    subst (λ (t : Cluster). IsDelta (state_of b.book.session) t r) (sym was) event.1
 
-pub tells_nothing : (b : Kept) (names : List (List ℕ)) (n : ℕ) (line : List ℕ) (answer : LineAnswer) (s : Cluster)
-    (text : List ℕ) → replay b.book.session.opening b.book.session.done ≡ Some s → IsWellFormed s
-    → is_done answer ≡ false → PrintsLine Called shown_at changes_alone names b n line answer text text
-tells_nothing b names n line answer s text leads good not = λ x y q asks there answered.
+-- of any other line
+pub made_nothing : (b : Kept) (names : List (List ℕ)) (line : List ℕ) (answer : LineAnswer) (s : Cluster)
+    → replay b.book.session.opening b.book.session.done ≡ Some s → IsWellFormed s
+    → is_done answer ≡ false → IsMadeBy names b line answer []
+made_nothing b names line answer s leads good not = λ x y q asks there answered.
     let stays : b.book.session ≡ x.counter.book.session =
     ap (λ (k : Kept). k.book.session) (sym there)
     ∙ answered_kept x q answer y (λ is. false≢true (sym not ∙ ap is_done is)) answered in
     let now : IsWellFormed (state_of b.book.session) =
-    subst IsWellFormed (sym (state_is b.book.session s leads)) good in (
-      [],
-      sym (append-nil text),
-      (
-        [],
-        subst (λ (m : Session). IsDelta (state_of b.book.session) (state_of m) []) stays
-            (no_delta (state_of b.book.session) now),
-        refl,
-      ),
-    )
+    subst IsWellFormed (sym (state_is b.book.session s leads)) good in
+    subst (λ (m : Session). IsDelta (state_of b.book.session) (state_of m) []) stays
+    (no_delta (state_of b.book.session) now)
 
--- after the answer
+pub there_in : (b : Kept) (s : Cluster) (r : List Change) → replay b.book.session.opening b.book.session.done ≡ Some s
+    → All (IsThere (state_in b)) r → All (IsThere s) r
+there_in b s r leads there = subst (λ (t : Cluster). All (IsThere t) r) (state_is b.book.session s leads) there
+
+-- What is printed
+
+-- the changes after the answer
 pub tells_both : {T E : Type 0} (result : Result T E) (names : List (List ℕ)) (b : Kept) (n : ℕ) (line : List ℕ)
-    (answer : LineAnswer) (old mid new : List ℕ) → mid ≡ old ++ numbered n (answer_text names (shown_at b) answer)
-    → OnOk result (PrintsLine Called shown_at changes_alone names b n line answer mid new)
+    (answer : LineAnswer) (s : Cluster) (r : List Change) (old mid new : List ℕ)
+    → replay b.book.session.opening b.book.session.done ≡ Some s → IsMadeBy names b line answer r
+    → mid ≡ old ++ numbered n (answer_text names (shown_at b) answer) → OnOk result (new ≡ mid ++ all_lines s r)
     → OnOk result (PrintsLine Called shown_at answers_and_changes names b n line answer old new)
-tells_both (Err want) names b n line answer old mid new first more = more
-tells_both (Ok ok) names b n line answer old mid new first more = λ x y q asks there answered.
-    let (lines, whole, changes) = more x y q asks there answered in
+tells_both (Err want) names b n line answer s r old mid new leads made first more = more
+tells_both (Ok ok) names b n line answer s r old mid new leads made first more = λ x y q asks there answered.
     let text : List ℕ = numbered n (answer_text names (shown_at b) answer) in
-    (text ++ lines, whole ∙ ap (λ t. t ++ lines) first ∙ append_assoc old text lines, (lines, refl, changes))
+    let now : s ≡ state_in b = sym (state_is b.book.session s leads) in (
+      text ++ all_lines s r,
+      more ∙ ap (λ t. t ++ all_lines s r) first ∙ append_assoc old text (all_lines s r),
+      (all_lines s r, refl, (r, made x y q asks there answered, ap (λ (t : Cluster). all_lines t r) now)),
+    )

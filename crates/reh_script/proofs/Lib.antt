@@ -4,4 +4,5 @@ pub mod Piped
 pub mod OpeningLaws
 pub mod RunLaws
 pub mod ChangeLaws
-pub mod ChangeRuns
+pub mod PrintedRuns
+pub mod JsonRuns

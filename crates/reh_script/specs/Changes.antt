@@ -1,6 +1,5 @@
--- What a play at a book prints where it prints what each line changed.
+-- What a line that is answered at a book changed, and what a play prints of it as text.
 use Rattle.std.specs.Prelude.{◌≡◌, ℕ, Bool, true, false, List, ◌++◌, Option, Some, Result, Ok, Err}
-use Rattle.std.specs.Io.KnownBytes.{Keeps}
 use Rattle.reh_types.specs.declared.moves.Move.{Move}
 use Rattle.reh_types.specs.declared.moves.Move.TheVariants.{Do, Post, Undo, Redo, Look}
 use Rattle.reh_types.specs.declared.moves.Reply.TheVariants.{Done}
@@ -11,17 +10,11 @@ use Rattle.reh_desk.specs.Kept.{Kept, Called}
 use Rattle.reh_commands.specs.declared.commands.Command.{Command}
 use Rattle.reh_commands.specs.declared.commands.Command.TheVariants as command
 use Rattle.reh_commands.specs.declared.commands.LineFault.{LineFault}
-use Rattle.reh_commands.specs.Answers.{numbered}
+use Rattle.reh_commands.specs.Answers.{asked, numbered}
 use Rattle.reh_changes.specs.Changes.{all_lines}
 use Rattle.reh_play.specs.declared.answers.LineAnswer.{LineAnswer}
 use Rattle.reh_play.specs.declared.answers.LineAnswer.TheVariants as line_answer
-use Rattle.reh_play.specs.declared.faults.PlayFault.{PlayFault}
-use Rattle.reh_play.specs.Players.{Printing, Player, Setting, setting_by, seated, answer_text}
-use Rattle.reh_play.specs.Plays.{Plays, GoesOut}
-use Rattle.reh_script.specs.declared.faults.PipeFault.{PipeFault}
-use Rattle.reh_script.specs.declared.openings.Opened.{Opened}
-use Rattle.reh_script.specs.Openings.{OpensText}
-use Rattle.reh_script.specs.Pipes.{piped}
+use Rattle.reh_play.specs.Players.{Printing, Player, IsAnswered, answer_text}
 
 -- The lines are those of the record that leads back from the state now to the one before: it has one change for each
 -- place in which they differ, with what was there before. There is one such record.
@@ -35,19 +28,17 @@ state_in k = state_of k.book.session
 abbrev pub shown_at : Kept → Option Cluster
 shown_at k = Some (state_in k)
 
--- what a line changed
-abbrev pub changes_alone : Printing Kept
-changes_alone names before n asked answer after text = AreChanges (state_in before) (state_in after) text
+-- This is the record of what a line changed that has this answer and left this book, wherever it came from.
+abbrev pub IsMadeBy : List (List ℕ) → Kept → List ℕ → LineAnswer → List Change → Type 0
+IsMadeBy names after line answer changes =
+    (x y : Player Kept) (q : Result Command LineFault) → asked names line ≡ Some q → y.counter ≡ after
+    → IsAnswered Called shown_at x q answer y → IsDelta (state_in after) (state_in x.counter) changes
 
 -- its answer, and then what it changed
 abbrev pub answers_and_changes : Printing Kept
 answers_and_changes names before n asked answer after text =
     (lines : List ℕ) × (text ≡ numbered n (answer_text names (shown_at after) answer) ++ lines)
     × AreChanges (state_in before) (state_in after) lines
-
--- a book where both are printed
-abbrev pub with_changes : List (List ℕ) → Setting Kept
-with_changes names = setting_by Called shown_at answers_and_changes names
 
 -- whether a line's call was done, and nothing else changes a state
 abbrev pub is_done : LineAnswer → Bool
@@ -65,38 +56,3 @@ is_undo Look = false
 abbrev pub asks_undo : Option (Result Command LineFault) → Bool
 asks_undo (Some (Ok (command.Make move))) = is_undo move
 asks_undo asked = false
-
--- Runs of a picture and a script, each of its own reader
-
--- The run's end is that of a play, by the seat that was opened, of the script that a reader gives.
-pub record EndsWithChanges (rehearsal : Opened) (result : Result (Unit {0}) PipeFault) (failed : Bool)
-    (left_old left_new old new : Option (List ℕ)) : Type 0 where
-  pub end : Result (Unit {0}) PlayFault
-  pub last : Player Kept
-  pub same : result ≡ piped end
-  pub plays : Plays (with_changes rehearsal.names) end failed left_old left_new (seated rehearsal.book rehearsal.seat)
-      last old new
-
--- How it ends, given what was opened of its picture: where nothing was, it has that fault, the script's reader is
--- untouched, and nothing is written.
-abbrev pub IsRunWithChanges : Type 0 → Result Opened PipeFault → Result (Unit {0}) PipeFault → Bool → Option (List ℕ)
-    → Option (List ℕ) → Option (List ℕ) → Option (List ℕ) → Type 0
-IsRunWithChanges untouched (Err fault) result failed left_old left_new old new =
-    (result ≡ Err fault) × untouched × Keeps old new
-IsRunWithChanges untouched (Ok rehearsal) result failed left_old left_new old new =
-    EndsWithChanges rehearsal result failed left_old left_new old new
-
--- The bytes to come of the picture were first_old and are first_new, those of the script left_old and left_new.
-pub record RunsWithChanges (result : Result (Unit {0}) PipeFault) (untouched : Type 0) (unread : Bool)
-    (first_old first_new : Option (List ℕ)) (failed : Bool) (left_old left_new old new : Option (List ℕ)) : Type 0 where
-  pub opened : Result Opened PipeFault
-  pub opens : OpensText unread first_old first_new opened
-  pub ends : IsRunWithChanges untouched opened result failed left_old left_new old new
-
--- When the script's reader was last read, the picture had been given and accepted, and the other end could see the
--- answers to all lines of the script that were complete by then, and what they changed.
-pub record RunsOutWithChanges (unread : Bool) (first_old first_new left_old left_before old shown : Option (List ℕ))
-    : Type 0 where
-  pub rehearsal : Opened
-  pub opens : OpensText unread first_old first_new (Ok rehearsal)
-  pub out : GoesOut (with_changes rehearsal.names) left_old left_before (seated rehearsal.book rehearsal.seat) old shown

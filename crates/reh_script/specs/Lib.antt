@@ -4,3 +4,5 @@ pub mod Openings
 pub mod Pipes
 pub mod Runs
 pub mod Changes
+pub mod Printed
+pub mod AsJson

@@ -105,7 +105,7 @@ fn play_behind<V: Surveyor, R: TextIn, W: TextOut>(
 }
 
 /// A play's end as the pipe's.
-pub(crate) fn pipe_end(end: Result<(), PlayFault>) -> Result<(), PipeFault>
+pub fn pipe_end(end: Result<(), PlayFault>) -> Result<(), PipeFault>
     ensures end { result ≡ piped end }
     ensures write { loses_output result ≡ is_write_fault end }
 {

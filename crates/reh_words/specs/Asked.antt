@@ -12,6 +12,8 @@ use Rattle.reh_words.specs.declared.tasks.TheConstants.{MAX_FILES}
 use Rattle.reh_words.specs.declared.tasks.CensusWords.{CensusWords}
 use Rattle.reh_words.specs.declared.tasks.CutWords.{CutWords}
 use Rattle.reh_words.specs.declared.tasks.Inputs.{Inputs}
+use Rattle.reh_words.specs.declared.tasks.Prints.{Prints}
+use Rattle.reh_words.specs.declared.tasks.Prints.TheVariants.{Answers, Changes, Json}
 use Rattle.reh_words.specs.declared.tasks.RiskWords.{RiskWords}
 use Rattle.reh_words.specs.declared.tasks.StopWords.{StopWords}
 use Rattle.reh_words.specs.declared.tasks.Task.{Task}
@@ -36,6 +38,19 @@ pub record IsNumber (given : ArgMatches) (name : List ℕ) (number : Option ℕ)
   pub none : one_text (found_of given) name ≡ None → number ≡ None
   pub says : (word : List ℕ) → one_text (found_of given) name ≡ Some word
       → ReadsOne (λ bs r. ParsesUnsigned 64 10 bs r × ExplainsUnsignedError 10 bs r × HasUnsignedDigitsIfOk bs r) word number
+
+-- what is printed of each line: JSON where it is asked for, which has the changes in any case
+abbrev pub prints_of : Bool → Bool → Prints
+prints_of true changes = Json
+prints_of false true = Changes
+prints_of false false = Answers
+
+pub record IsPrints (given : ArgMatches) (prints : Prints) : Type 0 where
+  pub json : Bool
+  pub is_json : IsFlag given (codes "json") json
+  pub changes : Bool
+  pub is_changes : IsFlag given (codes "changes") changes
+  pub is_printed : prints ≡ prints_of json changes
 
 -- how many copies are to be kept: one, where less than the ack quorum is allowed; the ack quorum, where no word says it; the
 -- number that the word says, or where it says none, one less than the ack quorum

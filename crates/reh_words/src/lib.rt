@@ -9,5 +9,5 @@ mod tasks;
 pub use styles::Style;
 pub use tasks::{
     CensusWords, Crew, CutWords, DrillFiles, HelpTopic, Inputs, MAX_FILES, PlanWords, PlayOut,
-    PlayWords, Request, RiskWords, StopWords, Task, WaveWords, request_of,
+    PlayWords, Prints, Request, RiskWords, StopWords, Task, WaveWords, request_of,
 };

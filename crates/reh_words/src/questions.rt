@@ -3,7 +3,7 @@ ghost use Rattle.std.specs.Prelude.{◌≡◌, map, IfOk, IfSome};
 ghost use Rattle.reh_words.specs.Asked as model;
 
 use crate::tasks::{
-    CensusWords, Crew, CutWords, Inputs, MAX_FILES, RiskWords, StopWords, Task, WaveWords,
+    CensusWords, Crew, CutWords, Inputs, MAX_FILES, Prints, RiskWords, StopWords, Task, WaveWords,
 };
 use clap::ArgMatches;
 use reh_census::{Keep, Question};
@@ -131,6 +131,17 @@ fn words_of<'a>(
     match given.get_strs(argument) {
         Some(words) => words.to_vec(alloc),
         None => Ok(Vec::new(alloc)),
+    }
+}
+
+/// What these matches ask to be printed of each line.
+pub(crate) fn asked_prints(given: &ArgMatches<'_>) -> Prints
+    ensures { model.IsPrints given.now result }
+{
+    match (is_given(given, "json"), is_given(given, "changes")) {
+        (true, _) => Prints::Json,
+        (false, true) => Prints::Changes,
+        (false, false) => Prints::Answers,
     }
 }
 

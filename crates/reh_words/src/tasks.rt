@@ -4,7 +4,7 @@ ghost use Rattle.reh_crew.specs.declared.threads.TheConstants.{MAX_WORKERS};
 ghost use Rattle.reh_words.specs.declared.tasks.TheConstants.{MAX_FILES};
 
 use crate::helps;
-use crate::questions::asked_of_files;
+use crate::questions::{asked_of_files, asked_prints};
 use crate::styles::{Style, asked_style, with_style};
 use clap::error::ErrorKind;
 use clap::{Arg, ArgAction, ArgMatches, Command, Error, value_parser};
@@ -79,28 +79,39 @@ pub struct DrillFiles<'a> {
 pub enum PlayWords<'a> {
     /// On standard input: a picture, a line `%` and a script.
     Pipe,
-    /// The picture in a file, and the script on standard input; and whether what a line changed is printed, too.
+    /// The picture in a file, and the script on standard input; and what is printed of each line.
     Talk {
         picture: &'a str,
-        with_changes: bool,
+        prints: Prints,
     },
-    /// Each in a file; who makes the surveys; and whether what a line changed is printed, too.
+    /// Each in a file; who makes the surveys; and what is printed of each line.
     Files {
         picture: &'a str,
         script: &'a str,
         crew: Crew,
-        with_changes: bool,
+        prints: Prints,
     },
 }
 
-/// Where a picture and a script are, each in a file; who makes the surveys; whether what a line changed is printed, too;
-/// and the file for the picture of the end.
+/// What is printed of each line.
+#[derive(Clone, Copy, Debug, PartialEq, Eq)]
+pub enum Prints {
+    /// The answer.
+    Answers,
+    /// The answer, and what the line changed.
+    Changes,
+    /// An object of JSON with both; and a last one says how the run ended.
+    Json,
+}
+
+/// Where a picture and a script are, each in a file; who makes the surveys; what is printed of each line; and the file for
+/// the picture of the end.
 #[derive(Clone, Copy)]
 pub struct PlayOut<'a> {
     pub picture: &'a str,
     pub script: &'a str,
     pub crew: Crew,
-    pub with_changes: bool,
+    pub prints: Prints,
     pub out: &'a str,
 }
 
@@ -245,7 +256,7 @@ fn asked_of_picture<'a>(
         },
         ("talk", _) => Task::Play(PlayWords::Talk {
             picture,
-            with_changes: given.get_flag("changes"),
+            prints: asked_prints(given),
         }),
         ("plan", _) => Task::Plan(asked_plan(alloc, given, picture)?),
         ("drill", Some(_)) if scripts.len() <= MAX_OPERATORS => {
@@ -254,20 +265,20 @@ fn asked_of_picture<'a>(
         }
         ("run", Some(script)) if 0 < workers && workers <= MAX_WORKERS => {
             let crew = Crew { workers };
-            let with_changes = given.get_flag("changes");
+            let prints = asked_prints(given);
             match given.get_str("picture-out") {
                 Some(out) => Task::PlayOut(PlayOut {
                     picture,
                     script,
                     crew,
-                    with_changes,
+                    prints,
                     out,
                 }),
                 None => Task::Play(PlayWords::Files {
                     picture,
                     script,
                     crew,
-                    with_changes,
+                    prints,
                 }),
             }
         }
@@ -341,11 +352,10 @@ fn all_ways(alloc: Global) -> Result<String, AllocError> {
     Ok(ways)
 }
 
-/// The command line: no word, `run PICTURE SCRIPT --changes --workers N --picture-out FILE`, `talk PICTURE --changes`,
-/// `check PICTURE SCRIPT`,
-/// `drill PICTURE SCRIPT..`, `ok-to-stop --lose BOOKIE,.. FILE..`, `waves FILE..`, `risk FILE..`, `census FILE..`,
-/// `cut --ledgers ID,.. --window K INVENTORY`, `plan --lose BOOKIE,.. --to BOOKIE,.. --expect --summary PICTURE`, or
-/// `help TOPIC`.
+/// The command line: no word, `run PICTURE SCRIPT --changes --json --workers N --picture-out FILE`,
+/// `talk PICTURE --changes --json`, `check PICTURE SCRIPT`, `drill PICTURE SCRIPT..`, `ok-to-stop --lose BOOKIE,.. FILE..`,
+/// `waves FILE..`, `risk FILE..`, `census FILE..`, `cut --ledgers ID,.. --window K INVENTORY`,
+/// `plan --lose BOOKIE,.. --to BOOKIE,.. --expect --summary PICTURE`, or `help TOPIC`.
 fn command<'a>(alloc: Global, ways: &'a str) -> Result<Command<'a>, Error> {
     let command = Command::new(alloc, "rehearse")
         .version(VERSION)
@@ -394,7 +404,7 @@ fn run_command<'a>(alloc: Global) -> Result<Command<'a>, Error> {
         command,
         workers_arg(alloc).help("How many workers make each survey, 1 to 8; by default 1"),
     );
-    let command = with_arg(command, changes_arg(alloc));
+    let command = with_prints(alloc, command);
     with_arg(
         command,
         value_arg(alloc, "picture-out", "FILE").help(
@@ -409,13 +419,25 @@ fn talk_command<'a>(alloc: Global) -> Result<Command<'a>, Error> {
         .about("Plays what is typed on a picture: each line is answered before more is read")
         .after_help(helps::TALK);
     let command = with_arg(Ok(command), picture_arg(alloc));
-    with_arg(command, changes_arg(alloc))
+    with_prints(alloc, command)
 }
 
-/// Whether what a line changed is printed, too.
-fn changes_arg<'a>(alloc: Global) -> Arg<'a> {
-    flag_arg(alloc, "changes").help(
-        "After each answer what it changed: what was there -> what is there",
+/// A command with the flags for what is printed of each line.
+fn with_prints<'a>(
+    alloc: Global,
+    command: Result<Command<'a>, Error>,
+) -> Result<Command<'a>, Error> {
+    let command = with_arg(
+        command,
+        flag_arg(alloc, "changes").help(
+            "After each answer what it changed: what was there -> what is there",
+        ),
+    );
+    with_arg(
+        command,
+        flag_arg(alloc, "json").help(
+            "An object of JSON for each line with its answer and what it changed, and one for the end",
+        ),
     )
 }
 

@@ -4,3 +4,4 @@ pub mod Cuts
 pub mod Faults
 pub mod Inputs
 pub mod Inventories
+pub mod Runs

@@ -2,7 +2,7 @@
 use crate::faults::RunFault;
 use crate::files::write_out;
 use reh_colors::{Color, Shade, colored};
-use reh_words::Style;
+use reh_words::{Prints, Style};
 use std::env;
 use std::env::VarError;
 use std::io::IsTerminal;
@@ -35,6 +35,11 @@ impl Looks {
             colors_answers: is_colored(rt, style.color, rt.stdout().is_terminal()),
             colors_faults: is_colored(rt, style.color, rt.stderr().is_terminal()),
         }
+    }
+
+    /// Whether what is printed of each line has colours. JSON has none.
+    pub(crate) fn colors(self, prints: Prints) -> bool {
+        self.colors_answers && prints != Prints::Json
     }
 }
 

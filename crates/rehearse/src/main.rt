@@ -41,7 +41,7 @@ use prompts::{Typed, tell_input};
 use reh_crew::{OpenGate, Plain};
 use reh_drill::drill_over;
 use reh_script::{FromRead, Gathered, TextOut, ToWrite, pipe};
-use reh_words::{Crew, DrillFiles, PlayWords, Request, Task, request_of};
+use reh_words::{Crew, DrillFiles, PlayWords, Prints, Request, Task, request_of};
 use runs::run_by;
 use std::process::ExitCode;
 use std::sync::Wait;
@@ -144,31 +144,26 @@ fn play<R: Threads + Wait + Sync>(
     input: PlayWords<'_>,
 ) -> Result<(), RunFault> {
     let gathered = Gathered::new(rt.alloc(), ToWrite::new(io::writer(rt)))?;
-    let mut writer = Colored::new(rt.alloc(), gathered, looks.colors_answers);
+    let prints = match input {
+        PlayWords::Pipe => Prints::Answers,
+        PlayWords::Talk { prints, .. } | PlayWords::Files { prints, .. } => prints,
+    };
+    let mut writer = Colored::new(rt.alloc(), gathered, looks.colors(prints));
     let played = match input {
         PlayWords::Pipe => {
             tell_input(rt, looks);
             let mut reader = FromRead::new(rt.reader());
             pipe(rt.alloc(), &Plain, &mut reader, &mut writer).map_err(RunFault::from)
         }
-        PlayWords::Talk {
-            picture,
-            with_changes,
-        } => talk(rt, threads, looks, picture, with_changes, &mut writer),
+        PlayWords::Talk { picture, .. } => {
+            talk(rt, threads, looks, picture, prints, &mut writer)
+        }
         PlayWords::Files {
             picture,
             script,
             crew,
-            with_changes,
-        } => run_files(
-            rt,
-            threads,
-            picture,
-            script,
-            crew,
-            with_changes,
-            &mut writer,
-        ),
+            ..
+        } => run_files(rt, threads, picture, script, crew, prints, &mut writer),
     };
     let flushed = writer.flush();
     after_flush(played, flushed)
@@ -180,7 +175,7 @@ fn talk<R: Threads + Wait + Sync, W: TextOut>(
     threads: &R,
     looks: Looks,
     picture: &str,
-    with_changes: bool,
+    prints: Prints,
     writer: &mut W,
 ) -> Result<(), RunFault>
     requires { W.has_failed writer.old ≡ false }
@@ -192,7 +187,7 @@ fn talk<R: Threads + Wait + Sync, W: TextOut>(
         threads,
         rt.alloc(),
         crew,
-        with_changes,
+        prints,
         &mut picture,
         &mut script,
         writer,
@@ -207,7 +202,7 @@ fn run_files<R: Threads + Wait + Sync, W: TextOut>(
     picture: &str,
     script: &str,
     crew: Crew,
-    with_changes: bool,
+    prints: Prints,
     writer: &mut W,
 ) -> Result<(), RunFault>
     requires { W.has_failed writer.old ≡ false }
@@ -218,7 +213,7 @@ fn run_files<R: Threads + Wait + Sync, W: TextOut>(
         threads,
         rt.alloc(),
         crew,
-        with_changes,
+        prints,
         &mut picture,
         &mut script,
         writer,

@@ -9,11 +9,11 @@ use crate::colors::Colored;
 use crate::faults::{RunFault, after_flush};
 use crate::files::{LateFile, read_picture, unwritten};
 use crate::looks::Looks;
-use crate::runs::play_by;
+use crate::runs::play_opened;
 use reh_cluster::State;
 use reh_picture::{Holding, Listed, PictureFault, list_picture};
 use reh_picture_out::{Unshown, picture_text};
-use reh_script::{Gathered, Opened, PipeFault, TextOut, ToWrite, open_picture};
+use reh_script::{Gathered, Opened, TextOut, ToWrite, open_picture};
 use reh_types::BookieIx;
 use reh_words::PlayOut;
 use std::alloc::{AllocError, Global};
@@ -50,7 +50,7 @@ fn play_out<R: Threads + Wait + Sync>(
     requires { length rehearsal.old.book.book.out ≡ rehearsal.old.seat.out }
 {
     let gathered = Gathered::new(rt.alloc(), ToWrite::new(io::writer(rt)))?;
-    let mut writer = Colored::new(rt.alloc(), gathered, looks.colors_answers);
+    let mut writer = Colored::new(rt.alloc(), gathered, looks.colors(words.prints));
     let played = play_file(rt, threads, words, rehearsal, &mut writer);
     let flushed = writer.flush();
     after_flush(played, flushed)
@@ -93,18 +93,18 @@ fn play_file<R: Threads + Wait + Sync, W: TextOut>(
     requires writes { W.has_failed writer.old ≡ false }
 {
     let mut script = LateFile::new(rt, words.script);
-    let played = play_by(
+    let played = play_opened(
         threads,
         rt.alloc(),
         words.crew,
-        words.with_changes,
+        words.prints,
         rehearsal,
         &mut script,
         writer,
     );
     match script.into_unopened() {
         Some(fault) => Err(fault.without_reason()),
-        None => Ok(played.map_err(PipeFault::from)?),
+        None => played.map_err(RunFault::from),
     }
 }
 

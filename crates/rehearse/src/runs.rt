@@ -1,31 +1,27 @@
 // Runs whose surveys may be made by several workers.
-ghost use Rattle.std.specs.Prelude.{◌≡◌, ◌⊎◌, true, false, length, IfOk, OnOk};
+ghost use Rattle.std.specs.Prelude.{◌≡◌, ◌⊎◌, false, length, IfOk, OnOk};
 ghost use Rattle.reh_model.specs.Survey as model;
 ghost use Rattle.reh_crew.specs.Surveys.{FindsSurvey};
-ghost use Rattle.reh_play.specs.Players.{seated};
-ghost use Rattle.reh_play.specs.Plays.{Plays, is_write_fault};
-ghost use Rattle.reh_script.specs.BookPlays.{Transcribes};
-ghost use Rattle.reh_script.specs.Changes.{with_changes, RunsWithChanges, RunsOutWithChanges};
 ghost use Rattle.reh_script.specs.Pipes.{loses_output};
-ghost use Rattle.reh_script.specs.Runs.{Runs, RunsOut};
+ghost use Rattle.rehearse.specs.Runs.{RunsBy, IsInTime, PlaysBy};
 
 use reh_cluster::State;
-use reh_crew::{BySurvey, OpenGate, Plain, SurveyFault, SurveyLine, Threads};
+use reh_crew::{BySurvey, OpenGate, Plain, SurveyFault, SurveyLine, Surveyor, Threads};
 use reh_script::{
-    Opened, PipeFault, PlayFault, TextIn, TextOut, play_book, play_with_changes, run,
-    run_with_changes,
+    AsJson, Opened, PipeFault, TextIn, TextOut, WithChanges, pipe_end, play_book, play_by, run,
+    run_as_json, run_printing, tell_end,
 };
-use reh_words::Crew;
+use reh_words::{Crew, Prints};
 use std::alloc::Global;
 use std::sync::Wait;
 use std::thread;
 
-/// Reads a picture, and then a script, and writes the transcript, or that and what each line changed.
+/// Reads a picture, and then a script, and writes what is asked to be printed of each line. The surveys are made by a crew.
 pub(crate) fn run_by<T: thread::Threads + Wait + Sync, P: TextIn, R: TextIn, W: TextOut>(
     rt: &T,
     alloc: Global,
     crew: Crew,
-    tells_changes: bool,
+    prints: Prints,
     picture: &mut P,
     script: &mut R,
     writer: &mut W,
@@ -33,77 +29,119 @@ pub(crate) fn run_by<T: thread::Threads + Wait + Sync, P: TextIn, R: TextIn, W: 
     requires picture { P.has_failed picture.old ≡ false }
     requires script { R.has_failed script.old ≡ false }
     requires writes { W.has_failed writer.old ≡ false }
-    ensures runs { tells_changes ≡ false → Runs result (script.new ≡ script.old)
+    ensures runs { RunsBy prints result (script.new ≡ script.old)
         (P.has_failed picture.new) (P.remaining picture.old) (P.remaining picture.new)
         (R.has_failed script.new) (R.remaining script.old) (R.remaining script.new)
         (W.contents writer.old) (W.contents writer.new) }
-    ensures prompt { tells_changes ≡ false → (script.new ≡ script.old) ⊎ RunsOut
-        (P.has_failed picture.new) (P.remaining picture.old) (P.remaining picture.new)
-        (R.remaining script.old) (R.before script.new) (W.contents writer.old) (W.seen writer.new) }
-    ensures changes { tells_changes ≡ true → RunsWithChanges result (script.new ≡ script.old)
-        (P.has_failed picture.new) (P.remaining picture.old) (P.remaining picture.new)
-        (R.has_failed script.new) (R.remaining script.old) (R.remaining script.new)
-        (W.contents writer.old) (W.contents writer.new) }
-    ensures prompt_changes { tells_changes ≡ true → (script.new ≡ script.old) ⊎ RunsOutWithChanges
+    ensures prompt { (script.new ≡ script.old) ⊎ IsInTime prints
         (P.has_failed picture.new) (P.remaining picture.old) (P.remaining picture.new)
         (R.remaining script.old) (R.before script.new) (W.contents writer.old) (W.seen writer.new) }
     ensures seen { OnOk result (W.seen writer.new ≡ W.contents writer.new) }
     ensures write { W.has_failed writer.new ≡ loses_output result }
 {
     if crew.workers == 1 {
-        return match tells_changes {
-            true => run_with_changes(alloc, &Plain, picture, script, writer),
-            false => run(alloc, &Plain, picture, script, writer),
-        };
+        return run_as(alloc, &Plain, prints, picture, script, writer);
     }
     let call = |alloc: Global, state: &State| -> Result<Vec<SurveyLine>, SurveyFault>
         ensures { FindsSurvey state.now result }
     { survey_by(rt, alloc, crew, state) };
-    let surveyor = BySurvey { call };
-    match tells_changes {
-        true => run_with_changes(alloc, &surveyor, picture, script, writer),
-        false => run(alloc, &surveyor, picture, script, writer),
+    run_as(alloc, &BySurvey { call }, prints, picture, script, writer)
+}
+
+/// The same, by who makes the surveys.
+fn run_as<V: Surveyor, P: TextIn, R: TextIn, W: TextOut>(
+    alloc: Global,
+    surveyor: &V,
+    prints: Prints,
+    picture: &mut P,
+    script: &mut R,
+    writer: &mut W,
+) -> Result<(), PipeFault>
+    requires surveys { V.surveys surveyor.now }
+    requires picture { P.has_failed picture.old ≡ false }
+    requires script { R.has_failed script.old ≡ false }
+    requires writes { W.has_failed writer.old ≡ false }
+    ensures runs { RunsBy prints result (script.new ≡ script.old)
+        (P.has_failed picture.new) (P.remaining picture.old) (P.remaining picture.new)
+        (R.has_failed script.new) (R.remaining script.old) (R.remaining script.new)
+        (W.contents writer.old) (W.contents writer.new) }
+    ensures prompt { (script.new ≡ script.old) ⊎ IsInTime prints
+        (P.has_failed picture.new) (P.remaining picture.old) (P.remaining picture.new)
+        (R.remaining script.old) (R.before script.new) (W.contents writer.old) (W.seen writer.new) }
+    ensures seen { OnOk result (W.seen writer.new ≡ W.contents writer.new) }
+    ensures write { W.has_failed writer.new ≡ loses_output result }
+{
+    match prints {
+        Prints::Answers => run(alloc, surveyor, picture, script, writer),
+        Prints::Changes => run_printing(alloc, surveyor, &WithChanges, picture, script, writer),
+        Prints::Json => run_as_json(alloc, surveyor, picture, script, writer),
     }
 }
 
-/// Reads a script, and writes the transcript of it at the book of a picture, or that and what each line changed. It leaves
-/// the book where the script ends.
-pub(crate) fn play_by<T: thread::Threads + Wait + Sync, R: TextIn, W: TextOut>(
+/// Reads a script, and writes what is asked to be printed of each line that is played at the book of a picture. It leaves
+/// the book where the script ends. The surveys are made by a crew.
+pub(crate) fn play_opened<T: thread::Threads + Wait + Sync, R: TextIn, W: TextOut>(
     rt: &T,
     alloc: Global,
     crew: Crew,
-    tells_changes: bool,
+    prints: Prints,
     rehearsal: &mut Opened,
     script: &mut R,
     writer: &mut W,
-) -> Result<(), PlayFault>
+) -> Result<(), PipeFault>
     requires out { length rehearsal.old.book.book.out ≡ rehearsal.old.seat.out }
     requires script { R.has_failed script.old ≡ false }
     requires writes { W.has_failed writer.old ≡ false }
-    ensures transcribes { tells_changes ≡ false → Transcribes rehearsal.old.names rehearsal.old.seat.number result
+    ensures plays { PlaysBy prints rehearsal.old rehearsal.new result
         (R.has_failed script.new) (R.remaining script.old) (R.remaining script.new)
-        rehearsal.old.book.book rehearsal.new.book.book (W.contents writer.old) (W.contents writer.new) }
-    ensures changes { tells_changes ≡ true → Plays (with_changes rehearsal.old.names) result
-        (R.has_failed script.new) (R.remaining script.old) (R.remaining script.new)
-        (seated rehearsal.old.book rehearsal.old.seat) (seated rehearsal.new.book rehearsal.new.seat)
         (W.contents writer.old) (W.contents writer.new) }
     ensures seen { OnOk result (W.seen writer.new ≡ W.contents writer.new) }
-    ensures write { W.has_failed writer.new ≡ is_write_fault result }
+    ensures write { W.has_failed writer.new ≡ loses_output result }
 {
-    let Opened { book, seat, names } = rehearsal;
     if crew.workers == 1 {
-        return match tells_changes {
-            true => play_with_changes(alloc, book, seat, names, &Plain, script, writer),
-            false => play_book(alloc, book, seat, names, &Plain, script, writer),
-        };
+        return play_as(alloc, &Plain, prints, rehearsal, script, writer);
     }
     let call = |alloc: Global, state: &State| -> Result<Vec<SurveyLine>, SurveyFault>
         ensures { FindsSurvey state.now result }
     { survey_by(rt, alloc, crew, state) };
-    let surveyor = BySurvey { call };
-    match tells_changes {
-        true => play_with_changes(alloc, book, seat, names, &surveyor, script, writer),
-        false => play_book(alloc, book, seat, names, &surveyor, script, writer),
+    play_as(alloc, &BySurvey { call }, prints, rehearsal, script, writer)
+}
+
+/// The same, by who makes the surveys.
+fn play_as<V: Surveyor, R: TextIn, W: TextOut>(
+    alloc: Global,
+    surveyor: &V,
+    prints: Prints,
+    rehearsal: &mut Opened,
+    script: &mut R,
+    writer: &mut W,
+) -> Result<(), PipeFault>
+    requires surveys { V.surveys surveyor.now }
+    requires out { length rehearsal.old.book.book.out ≡ rehearsal.old.seat.out }
+    requires script { R.has_failed script.old ≡ false }
+    requires writes { W.has_failed writer.old ≡ false }
+    ensures plays { PlaysBy prints rehearsal.old rehearsal.new result
+        (R.has_failed script.new) (R.remaining script.old) (R.remaining script.new)
+        (W.contents writer.old) (W.contents writer.new) }
+    ensures seen { OnOk result (W.seen writer.new ≡ W.contents writer.new) }
+    ensures write { W.has_failed writer.new ≡ loses_output result }
+{
+    let Opened { book, seat, names } = rehearsal;
+    match prints {
+        Prints::Answers => {
+            let end = play_book(alloc, book, seat, names, surveyor, script, writer);
+            pipe_end(end)
+        }
+        Prints::Changes => {
+            let printer = WithChanges;
+            let end = play_by(alloc, book, seat, names, surveyor, &printer, script, writer);
+            pipe_end(end)
+        }
+        Prints::Json => {
+            let printer = AsJson { alloc };
+            let end = play_by(alloc, book, seat, names, surveyor, &printer, script, writer);
+            tell_end(pipe_end(end), writer)
+        }
     }
 }
 

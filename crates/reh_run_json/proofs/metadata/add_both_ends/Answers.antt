@@ -1,6 +1,6 @@
 -- The tokens, one part after another.
 use Rattle.reh_answer.proofs.ObjectLaws.{last, one, then}
-use Rattle.reh_run_json.proofs.metadata.add_ends.Goals as goal
+use Rattle.reh_run_json.proofs.metadata.add_both_ends.Goals as goal
 
 pub returns : goal.returns
 returns c =

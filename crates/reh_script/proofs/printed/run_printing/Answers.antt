@@ -1,13 +1,13 @@
 use Rattle.std.proofs.Common.{refl}
 use Rattle.reh_play.specs.Players.{seated}
-use Rattle.reh_script.proofs.ChangeRuns.{tells_unopened, tells_played, tells_out}
 use Rattle.reh_script.proofs.Ends.{keeps_writer, piped_well}
+use Rattle.reh_script.proofs.PrintedRuns.{prints_unopened, prints_played, prints_out}
 use Rattle.reh_script.proofs.RunLaws.{text_writes}
-use Rattle.reh_script.proofs.changes.run_with_changes.Goals as goal
+use Rattle.reh_script.proofs.printed.run_printing.Goals as goal
 
 pub returns-in_err-rehearsal-clause-runs : goal.returns-in_err-rehearsal-clause-runs
 returns-in_err-rehearsal-clause-runs g c =
-    tells_unopened _ _ _ _ _ _ _ _ _ c.in_err-rehearsal.field-0.0 c.in_err-rehearsal.ensures.opens
+    prints_unopened g.N.Printer.prints _ _ _ _ _ _ _ _ _ c.in_err-rehearsal.field-0.0 c.in_err-rehearsal.ensures.opens
     c.from_residual.ensures.1 refl
 
 pub returns-in_err-rehearsal-clause-write : goal.returns-in_err-rehearsal-clause-write
@@ -17,15 +17,14 @@ returns-in_err-rehearsal-clause-write g c =
 
 pub returns-clause-runs : goal.returns-clause-runs
 returns-clause-runs g c =
-    tells_played _ _ _ _ _ _ _ _ _ _ c.in_ok-rehearsal.rehearsal c.play_with_changes-end.result
-    (seated c.play_with_changes-end.new.book c.play_with_changes-end.new.seat)
-    c.in_ok-rehearsal.ensures.opens c.pipe_end.ensures.end c.play_with_changes-end.ensures.plays
+    prints_played g.N.Printer.prints _ _ _ _ _ _ _ _ _ _ c.in_ok-rehearsal.rehearsal c.play_by-end.result
+    (seated c.play_by-end.new.counter c.play_by-end.new.seat)
+    c.in_ok-rehearsal.ensures.opens c.pipe_end.ensures.end c.play_by-end.ensures.plays
 
 pub returns-clause-prompt : goal.returns-clause-prompt
 returns-clause-prompt g c =
-    tells_out _ _ _ _ _ _ _ _ c.in_ok-rehearsal.rehearsal c.in_ok-rehearsal.ensures.opens
-    c.play_with_changes-end.ensures.prompt
+    prints_out g.N.Printer.prints _ _ _ _ _ _ _ _ c.in_ok-rehearsal.rehearsal c.in_ok-rehearsal.ensures.opens
+    c.play_by-end.ensures.prompt
 
 pub returns-clause-seen : goal.returns-clause-seen
-returns-clause-seen g c =
-    piped_well _ c.play_with_changes-end.result _ c.pipe_end.ensures.end c.play_with_changes-end.ensures.seen
+returns-clause-seen g c = piped_well _ c.play_by-end.result _ c.pipe_end.ensures.end c.play_by-end.ensures.seen
