@@ -27,11 +27,11 @@ LOGGED = re.compile(
 )
 # What is printed without a logger, and has no data: by Java, by kubectl, by ZooKeeper's shell, and of an exception.
 CHATTER = re.compile(
-    r"(?:ZooKeeper )?JMX enabled|SLF4J: |log4j:|WARNING: |Picked up \w+: |\S+ .*VM warning: |\[[0-9]+\.[0-9]+s\]\["
-    r"|Defaulted container "
+    r"(?:ZooKeeper )?JMX enabled|SLF4J(?:\([A-Z]\))?: |log4j:|WARNING: |Picked up \w+: |\S+ .*VM warning: |\[[0-9]+\.[0-9]+s\]\["
+    r"|Defaulted container |Unable to use a TTY |(?:ERROR|WARN) StatusLogger "
     r"|Connecting to \S+$|WATCHER::$|WatchedEvent "
 )
-STACK = re.compile(r"(?:(?:Caused by|Suppressed): )?[\w.$]+(?:Exception|Error)\b|\s+at [\w.$]+|\s+\.\.\. [0-9]+ ")
+STACK = re.compile(r"(?:\s*(?:Caused by|Suppressed): )?[\w.$]+(?:Exception|Error)\b|\s+at [\w.$]+|\s+\.\.\. [0-9]+ ")
 NAME = re.compile(rf"[!-~]{{1,{MAX_NAME_BYTES}}}")
 # A number of a dump, of at most as many digits as BookKeeper's have.
 NUMBER = "[0-9]{1,19}"
