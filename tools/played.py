@@ -8,7 +8,7 @@ kept. It is told as the lines of a report and a survey.
 import json
 import re
 from itertools import zip_longest
-from typing import IO, Any, Dict, FrozenSet, Iterable, Iterator, List, NamedTuple, Optional, Set, Tuple
+from typing import IO, Any, Dict, Iterable, Iterator, List, NamedTuple, Optional, Set, Tuple
 
 MAX_LINE_BYTES = 1024
 MAX_SCRIPT_BYTES = 1_048_576
@@ -36,7 +36,7 @@ class Step(NamedTuple):
 
     command: Optional[str]
     text: str
-    kinds: FrozenSet[str]
+    kinds: Tuple[str, ...]
 
 
 def shown(text: bytes) -> str:
@@ -137,7 +137,8 @@ def changed_lines(slot: str, ledger: Json, change: Json) -> Lines:
         fragments[piece]["ensemble"][change["index"]] = now
     elif what == "fragment":
         fragments[piece:] = [now] if now else []
-        yield from ((f"{slot}{part}{piece}", "") for part in "fs")
+        yield f"{slot}f{piece}", ""
+        yield f"{slot}s{piece}", ""
     else:
         ledger[what] = now
     # The fragment before may stop elsewhere now.
@@ -207,6 +208,7 @@ class Telling:
         numbers: List[int] = []
         for slot, text in self.left.items():
             number = self.texts.setdefault(text, len(self.texts)) if text else -1
+            # Not each line that can show a change shows it, and several steps can lead back.
             if self.told.get(slot, -1) != number:
                 self.told[slot] = number
                 numbers += [self.slots.setdefault(slot, len(self.slots)), number]
@@ -244,7 +246,7 @@ def read_play(told: Set[int], stream: IO[bytes]) -> Play:
         if "line" not in it:
             end = it.get("end")
         elif not own:
-            steps.append(Step(it["command"], reply_in(it), frozenset(change["what"] for change in it["changes"])))
+            steps.append(Step(it["command"], reply_in(it), tuple({change["what"] for change in it["changes"]})))
             for change in it["changes"] if told else []:
                 telling.make(change)
             own = [SURVEY] if len(steps) in told else []
@@ -287,7 +289,7 @@ def pictures_of(steps: List[Step]) -> Pictures:
         else:
             past.append(now)
             undone = []
-            if step.kinds - IN_NO_PICTURE:
+            if set(step.kinds) - IN_NO_PICTURE:
                 now = len(first)
                 first.append(place)
                 registrations |= {now} if "registration" in step.kinds else set()
