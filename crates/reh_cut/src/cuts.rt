@@ -69,8 +69,23 @@ fn check_cut(
     ensures { OnOk result (model.IsCut head.now lines.now assume text.now) }
 {
     let listed = listed_in(alloc, text)?;
+    check_listed(alloc, head, assume, lines, text, &listed)
+}
+
+/// The same, of a text that lists this as a picture.
+fn check_listed(
+    alloc: Global,
+    head: &Head,
+    assume: Assume,
+    lines: &[LedgerLine],
+    text: &[u8],
+    listed: &Listed,
+) -> Result<(), CutFault>
+    requires { Lists text.now listed.now }
+    ensures { OnOk result (model.IsCut head.now lines.now assume text.now) }
+{
     let state = state_in(alloc, text)?;
-    if is_shown(head, assume, lines, &listed, &state) {
+    if is_shown(head, assume, lines, listed, &state) {
         Ok(())
     } else {
         Err(CutFault::Differs)

@@ -61,7 +61,7 @@ impl fmt::Display for CutFault {
 
     fn fmt<W: fmt::Write>(&self, f: &mut fmt::Formatter<W>) -> fmt::Result {
         match self {
-            CutFault::NotWhole => write!(f, "expected a last line: the file was cut"),
+            CutFault::NotWhole => f.write_str("expected a last line: the file was cut"),
             CutFault::NoLedger(id) => {
                 write!(f, "no line has ledger {id}, or it could not be read")
             }
@@ -88,11 +88,10 @@ impl fmt::Display for CutFault {
             CutFault::NoPicture(fault) => {
                 write!(f, "the picture of these ledgers is refused: {fault}")
             }
-            CutFault::Differs => write!(
-                f,
-                "the picture of these ledgers isn't what their lines say: a fault of this program"
+            CutFault::Differs => f.write_str(
+                "the picture of these ledgers isn't what their lines say: a fault of this program",
             ),
-            CutFault::NoMemory => write!(f, "expected more memory"),
+            CutFault::NoMemory => f.write_str("expected more memory"),
         }
     }
 }

@@ -2,9 +2,10 @@
 use crate::checks::{bookie_in, content_of, entries_of, names_bookie, rules_for, striping_of};
 use crate::faults::CutFault;
 use crate::said::{Assume, Rules, Striping, is_sure, shown};
+use json::Writer;
+use reh_answer::{add_number, add_text};
 use reh_census_file::NameList;
-use reh_inventory::{Bookie, Content, Fragment, Head, LedgerLine, LedgerState, Name};
-use serde_json::{Value, json};
+use reh_inventory::{Bookie, Content, Fragment, Head, LedgerLine, LedgerState, Name, Sizes};
 use std::alloc::{AllocError, Global};
 
 /// The number of the format without a delay for lost bookies, and of the one with it.
@@ -18,159 +19,210 @@ pub(crate) fn picture_text(
     names: &NameList,
     lines: &[LedgerLine],
 ) -> Result<String, CutFault> {
-    let bookies = bookie_values(alloc, head, names)?;
-    let ledgers = ledger_values(alloc, lines)?;
-    let contents = content_values(alloc, head, assume, names, lines)?;
-    let picture = if head.delay == 0 {
-        json!(in alloc; {
-            "format": FORMATS.0,
-            "grace": head.grace,
-            "bookies": bookies,
-            "ledgers": ledgers,
-            "contents": contents
-        })?
-    } else {
-        json!(in alloc; {
-            "format": FORMATS.1,
-            "grace": head.grace,
-            "lostDelayTicks": head.delay,
-            "bookies": bookies,
-            "ledgers": ledgers,
-            "contents": contents
-        })?
-    };
-    let text = picture.to_string(alloc)?;
-    Ok(text)
-}
-
-/// The bookies of these names.
-fn bookie_values(alloc: Global, head: &Head, names: &NameList) -> Result<Vec<Value>, AllocError> {
-    let mut values = Vec::new(alloc);
-    for number in 0..names.len() {
-        if let Some(name) = names.name(number as u16) {
-            values.push(bookie_value(alloc, name, bookie_in(head, name))?)?;
-        }
-    }
-    Ok(values)
-}
-
-/// A bookie, with its marks; one that the first line doesn't have isn't registered.
-fn bookie_value(alloc: Global, name: &str, bookie: Option<&Bookie>) -> Result<Value, AllocError> {
-    let Some(bookie) = bookie else {
-        return json!(in alloc; {"name": name, "up": false});
-    };
-    match &bookie.rack {
-        Some(rack) => json!(in alloc; {
-            "name": name,
-            "up": bookie.is_up,
-            "readOnly": bookie.is_read_only,
-            "empty": bookie.is_empty,
-            "rack": rack.as_str()
-        }),
-        None => json!(in alloc; {
-            "name": name,
-            "up": bookie.is_up,
-            "readOnly": bookie.is_read_only,
-            "empty": bookie.is_empty
-        }),
+    let mut json = Writer::new(Vec::new(alloc));
+    add_picture(&mut json, alloc, head, assume, names, lines)?;
+    match String::from_utf8(json.into_inner()) {
+        Ok(text) => Ok(text),
+        Err(_) => Err(CutFault::Differs),
     }
 }
 
-/// The ledgers of these lines.
-fn ledger_values(alloc: Global, lines: &[LedgerLine]) -> Result<Vec<Value>, AllocError> {
-    let mut values = Vec::new(alloc);
-    for line in lines {
-        values.push(ledger_value(alloc, line)?)?;
-    }
-    Ok(values)
-}
-
-/// A ledger. Where its version isn't told, it is 0.
-fn ledger_value(alloc: Global, line: &LedgerLine) -> Result<Value, AllocError> {
-    let (state, last) = match line.state {
-        LedgerState::Open => ("OPEN", -1),
-        LedgerState::InRecovery => ("IN_RECOVERY", -1),
-        LedgerState::Closed { end } => ("CLOSED", i64::try_from(end).map_or(-1, |end| end - 1)),
-    };
-    let fragments = fragment_values(alloc, line.fragments.as_slice())?;
-    json!(in alloc; {
-        "id": line.id,
-        "state": state,
-        "lastEntryId": last,
-        "ensembleSize": line.sizes.ensemble,
-        "writeQuorumSize": line.sizes.write_quorum,
-        "ackQuorumSize": line.sizes.ack_quorum,
-        "version": line.version.unwrap_or(0),
-        "fragments": fragments
-    })
-}
-
-/// Fragments.
-fn fragment_values(alloc: Global, fragments: &[Fragment]) -> Result<Vec<Value>, AllocError> {
-    let mut values = Vec::new(alloc);
-    for fragment in fragments {
-        values.push(fragment_value(alloc, fragment)?)?;
-    }
-    Ok(values)
-}
-
-/// A fragment.
-fn fragment_value(alloc: Global, fragment: &Fragment) -> Result<Value, AllocError> {
-    let members = member_values(alloc, fragment.ensemble.as_slice())?;
-    json!(in alloc; {"firstEntry": fragment.first, "ensemble": members})
-}
-
-/// The members of an ensemble.
-fn member_values(alloc: Global, members: &[Name]) -> Result<Vec<Value>, AllocError> {
-    let mut values = Vec::new(alloc);
-    for member in members {
-        values.push(json!(in alloc; member.as_str())?)?;
-    }
-    Ok(values)
-}
-
-/// What bookies of these names hold of these ledgers.
-fn content_values(
+/// Adds the picture. The members of this object, and of each below it, are in the order of their names.
+fn add_picture(
+    json: &mut Writer<Global>,
     alloc: Global,
     head: &Head,
     assume: Assume,
     names: &NameList,
     lines: &[LedgerLine],
-) -> Result<Vec<Value>, CutFault> {
-    let mut values = Vec::new(alloc);
-    for line in lines {
-        push_contents(alloc, head, assume, names, line, &mut values)?;
+) -> Result<(), CutFault> {
+    json.begin_object()?;
+    add_bookies(json, head, names)?;
+    add_contents(json, alloc, head, assume, names, lines)?;
+    add_times_and_ledgers(json, head, lines)?;
+    Ok(())
+}
+
+/// Adds the format, the times and the ledgers, and ends the picture.
+fn add_times_and_ledgers(
+    json: &mut Writer<Global>,
+    head: &Head,
+    lines: &[LedgerLine],
+) -> Result<(), AllocError> {
+    let format = if head.delay == 0 {
+        FORMATS.0
+    } else {
+        FORMATS.1
+    };
+    add_number(json, "format", format)?;
+    add_number(json, "grace", head.grace)?;
+    add_ledgers(json, lines)?;
+    if head.delay != 0 {
+        add_number(json, "lostDelayTicks", head.delay)?;
     }
-    Ok(values)
+    json.end_object()
+}
+
+/// Adds the bookies of these names.
+fn add_bookies(json: &mut Writer<Global>, head: &Head, names: &NameList) -> Result<(), AllocError> {
+    json.key("bookies")?;
+    json.begin_array()?;
+    for number in 0..names.len() {
+        if let Some(name) = names.name(number as u16) {
+            add_bookie(json, name, bookie_in(head, name))?;
+        }
+    }
+    json.end_array()
+}
+
+/// Adds a bookie, with its marks; one that the first line doesn't have isn't registered.
+fn add_bookie(
+    json: &mut Writer<Global>,
+    name: &str,
+    bookie: Option<&Bookie>,
+) -> Result<(), AllocError> {
+    json.begin_object()?;
+    match bookie {
+        Some(bookie) => add_marks(json, bookie)?,
+        None => {
+            add_text(json, "name", name)?;
+            add_flag(json, "up", false)?;
+        }
+    }
+    json.end_object()
+}
+
+/// Adds the name and the marks of a bookie.
+fn add_marks(json: &mut Writer<Global>, bookie: &Bookie) -> Result<(), AllocError> {
+    add_flag(json, "empty", bookie.is_empty)?;
+    add_text(json, "name", bookie.name.as_str())?;
+    if let Some(rack) = &bookie.rack {
+        add_text(json, "rack", rack.as_str())?;
+    }
+    add_flag(json, "readOnly", bookie.is_read_only)?;
+    add_flag(json, "up", bookie.is_up)
+}
+
+/// Adds under a name whether something is so.
+fn add_flag(json: &mut Writer<Global>, name: &str, is: bool) -> Result<(), AllocError> {
+    json.key(name)?;
+    json.boolean(is)
+}
+
+/// Adds the ledgers of these lines.
+fn add_ledgers(json: &mut Writer<Global>, lines: &[LedgerLine]) -> Result<(), AllocError> {
+    json.key("ledgers")?;
+    json.begin_array()?;
+    for line in lines {
+        add_ledger(json, line)?;
+    }
+    json.end_array()
+}
+
+/// Adds a ledger. Where its version isn't told, it is 0.
+fn add_ledger(json: &mut Writer<Global>, line: &LedgerLine) -> Result<(), AllocError> {
+    json.begin_object()?;
+    add_sizes(json, line.sizes)?;
+    add_fragments(json, line.fragments.as_slice())?;
+    add_number(json, "id", line.id)?;
+    add_state(json, line.state)?;
+    add_number(json, "version", line.version.unwrap_or(0))?;
+    add_number(json, "writeQuorumSize", line.sizes.write_quorum)?;
+    json.end_object()
+}
+
+/// Adds the size of the ack quorum and of the ensemble.
+fn add_sizes(json: &mut Writer<Global>, sizes: Sizes) -> Result<(), AllocError> {
+    add_number(json, "ackQuorumSize", sizes.ack_quorum)?;
+    add_number(json, "ensembleSize", sizes.ensemble)
+}
+
+/// Adds the last entry and the state.
+fn add_state(json: &mut Writer<Global>, state: LedgerState) -> Result<(), AllocError> {
+    let (word, last) = match state {
+        LedgerState::Open => ("OPEN", -1),
+        LedgerState::InRecovery => ("IN_RECOVERY", -1),
+        LedgerState::Closed { end } => ("CLOSED", i64::try_from(end).map_or(-1, |end| end - 1)),
+    };
+    json.key("lastEntryId")?;
+    json.i64(last)?;
+    add_text(json, "state", word)
+}
+
+/// Adds the fragments.
+fn add_fragments(json: &mut Writer<Global>, fragments: &[Fragment]) -> Result<(), AllocError> {
+    json.key("fragments")?;
+    json.begin_array()?;
+    for fragment in fragments {
+        add_fragment(json, fragment)?;
+    }
+    json.end_array()
+}
+
+/// Adds a fragment.
+fn add_fragment(json: &mut Writer<Global>, fragment: &Fragment) -> Result<(), AllocError> {
+    json.begin_object()?;
+    add_members(json, fragment.ensemble.as_slice())?;
+    add_number(json, "firstEntry", fragment.first)?;
+    json.end_object()
+}
+
+/// Adds the members of an ensemble.
+fn add_members(json: &mut Writer<Global>, members: &[Name]) -> Result<(), AllocError> {
+    json.key("ensemble")?;
+    json.begin_array()?;
+    for member in members {
+        json.string(member.as_str())?;
+    }
+    json.end_array()
+}
+
+/// Adds what bookies of these names hold of these ledgers.
+fn add_contents(
+    json: &mut Writer<Global>,
+    alloc: Global,
+    head: &Head,
+    assume: Assume,
+    names: &NameList,
+    lines: &[LedgerLine],
+) -> Result<(), CutFault> {
+    json.key("contents")?;
+    json.begin_array()?;
+    for line in lines {
+        add_contents_of(json, alloc, head, assume, names, line)?;
+    }
+    json.end_array()?;
+    Ok(())
 }
 
 /// Adds what they hold of a ledger: each member of an ensemble, and each bookie of which the line tells.
-fn push_contents(
+fn add_contents_of(
+    json: &mut Writer<Global>,
     alloc: Global,
     head: &Head,
     assume: Assume,
     names: &NameList,
     line: &LedgerLine,
-    values: &mut Vec<Value>,
 ) -> Result<(), CutFault> {
     for number in 0..names.len() {
         if let Some(name) = names.name(number as u16) {
             if names_bookie(line, name) {
                 let rules = rules_for(head, assume, name);
-                values.push(content_value(alloc, rules, line, name)?)?;
+                let holding = gather(alloc, rules, line, name)?;
+                add_content(json, line.id, name, &holding)?;
             }
         }
     }
     Ok(())
 }
 
-/// What a bookie holds of a ledger.
-fn content_value(
+/// Looks through what a bookie holds of a ledger.
+fn gather(
     alloc: Global,
     rules: Rules,
     line: &LedgerLine,
     name: &str,
-) -> Result<Value, CutFault> {
+) -> Result<Gathered, CutFault> {
     let mut holding = Gathered {
         ranges: Vec::new(alloc),
         is_assumed: false,
@@ -183,24 +235,25 @@ fn content_value(
             return Err(CutFault::Untold(line.id, Name::new(alloc, name)?));
         }
     }
-    let value = holding_value(alloc, line.id, name, &holding)?;
-    Ok(value)
+    Ok(holding)
 }
 
-/// What was gathered of a bookie and a ledger.
-fn holding_value(
-    alloc: Global,
+/// Adds what was gathered of a bookie and a ledger.
+fn add_content(
+    json: &mut Writer<Global>,
     ledger: u64,
     name: &str,
     holding: &Gathered,
-) -> Result<Value, AllocError> {
-    let ranges = range_values(alloc, &holding.ranges)?;
-    json!(in alloc; {
-        "bookie": name,
-        "ledger": ledger,
-        "assumed": holding.is_assumed,
-        "entries": ranges
-    })
+) -> Result<(), AllocError> {
+    json.begin_object()?;
+    add_flag(json, "assumed", holding.is_assumed)?;
+    add_text(json, "bookie", name)?;
+    json.key("entries")?;
+    json.begin_array()?;
+    add_ranges(json, &holding.ranges)?;
+    json.end_array()?;
+    add_number(json, "ledger", ledger)?;
+    json.end_object()
 }
 
 /// What a bookie holds of a ledger, as far as that was looked through.
@@ -241,11 +294,13 @@ impl Gathered {
     }
 }
 
-/// Ranges of entries.
-fn range_values(alloc: Global, ranges: &[(u64, u64)]) -> Result<Vec<Value>, AllocError> {
-    let mut values = Vec::new(alloc);
+/// Adds ranges of entries.
+fn add_ranges(json: &mut Writer<Global>, ranges: &[(u64, u64)]) -> Result<(), AllocError> {
     for range in ranges {
-        values.push(json!(in alloc; [range.0, range.1])?)?;
+        json.begin_array()?;
+        json.u64(range.0)?;
+        json.u64(range.1)?;
+        json.end_array()?;
     }
-    Ok(values)
+    Ok(())
 }

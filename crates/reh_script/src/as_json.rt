@@ -87,6 +87,7 @@ pub fn run_as_json<V: Surveyor, P: TextIn, R: TextIn, W: TextOut>(
         (P.has_failed picture.new) (P.remaining picture.old) (P.remaining picture.new)
         (R.remaining script.old) (R.before script.new) (W.contents writer.old) (W.seen writer.new) }
     ensures seen { OnOk result (W.seen writer.new ≡ W.contents writer.new) }
+    ensures whole { loses_output result ≡ false → W.seen writer.new ≡ W.contents writer.new }
     ensures write { W.has_failed writer.new ≡ loses_output result }
     ensures picture_calls { P.calls picture.new ≤ P.calls picture.old + (MAX_PICTURE_BYTES + 1) }
     ensures script_calls { R.calls script.new ≤ R.calls script.old + (MAX_SCRIPT_BYTES + 1) }
@@ -103,6 +104,7 @@ pub fn tell_end<W: TextOut>(end: Result<(), PipeFault>, writer: &mut W) -> Resul
     ensures told { IsTold (json.end_text end) end result (W.contents writer.old) (W.contents writer.new) }
     ensures grows { Grows (W.seen writer.old) (W.seen writer.new) }
     ensures seen { OnOk result (W.seen writer.new ≡ W.contents writer.new) }
+    ensures whole { loses_output result ≡ false → W.seen writer.new ≡ W.contents writer.new }
     ensures write { W.has_failed writer.new ≡ loses_output result }
 {
     let Some(text) = end_text(&end) else {

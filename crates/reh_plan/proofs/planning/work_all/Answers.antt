@@ -1,0 +1,28 @@
+-- The plan goes on at each ledger, and the workers stay.
+use Rattle.std.proofs.Common.{◌∙◌, refl, subst}
+use Rattle.reh_plan.specs.Plans.{Works}
+use Rattle.reh_plan.specs.Workers.{may_work}
+use Rattle.reh_plan.proofs.PlanLaws.{works_none, works_on}
+use Rattle.reh_plan.proofs.planning.work_all.Goals as goal
+
+pub loop-place-init : goal.loop-place-init
+loop-place-init c = record {
+  works = works_none (may_work c.args.workers.now) c.args.plan.now;
+  workers = refl;
+}
+
+pub loop-place-preserved : goal.loop-place-preserved
+loop-place-preserved c = record {
+  works =
+      works_on (may_work c.args.workers.now) c.args.plan.now c.loop-place.plan c.work_at.new.plan
+      (subst (λ workers. Works (may_work workers) c.loop-place.plan c.work_at.new.plan) c.loop-place.invariant.workers
+      c.work_at.ensures.works)
+      c.loop-place.invariant.works;
+  workers = c.work_at.ensures.workers ∙ c.loop-place.invariant.workers;
+}
+
+pub returns-clause-works : goal.returns-clause-works
+returns-clause-works c = c.loop-place.invariant.works
+
+pub returns-clause-workers : goal.returns-clause-workers
+returns-clause-workers c = c.loop-place.invariant.workers
