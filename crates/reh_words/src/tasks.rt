@@ -362,32 +362,42 @@ fn command<'a>(alloc: Global, ways: &'a str) -> Result<Command<'a>, Error> {
         .about(ABOUT)
         .after_help(ways)
         .disable_help_subcommand(true);
-    let command = with_plays(alloc, with_style(alloc, command)?)?;
-    let command = with_questions(alloc, command)?
-        .subcommand(cut_command(alloc)?)?
-        .subcommand(plan_command(alloc)?)?
-        .subcommand(help_command(alloc)?)?;
+    let command = with_plays(alloc, with_style(alloc, command));
+    let command = with_questions(alloc, command);
+    let command = with_command(command, cut_command(alloc));
+    let command = with_command(command, plan_command(alloc));
+    with_command(command, help_command(alloc))
+}
+
+/// The command, if there is one, with this subcommand too.
+fn with_command<'a>(
+    command: Result<Command<'a>, Error>,
+    subcommand: Result<Command<'a>, Error>,
+) -> Result<Command<'a>, Error> {
+    let command = command?.subcommand(subcommand?)?;
     Ok(command)
 }
 
 /// The command with its subcommands for scripts.
-fn with_plays<'a>(alloc: Global, command: Command<'a>) -> Result<Command<'a>, Error> {
-    let command = command
-        .subcommand(run_command(alloc)?)?
-        .subcommand(talk_command(alloc)?)?
-        .subcommand(check_command(alloc)?)?
-        .subcommand(drill_command(alloc)?)?;
-    Ok(command)
+fn with_plays<'a>(
+    alloc: Global,
+    command: Result<Command<'a>, Error>,
+) -> Result<Command<'a>, Error> {
+    let command = with_command(command, run_command(alloc));
+    let command = with_command(command, talk_command(alloc));
+    let command = with_command(command, check_command(alloc));
+    with_command(command, drill_command(alloc))
 }
 
 /// The command with its subcommands for what may be stopped.
-fn with_questions<'a>(alloc: Global, command: Command<'a>) -> Result<Command<'a>, Error> {
-    let command = command
-        .subcommand(stop_command(alloc)?)?
-        .subcommand(waves_command(alloc)?)?
-        .subcommand(risk_command(alloc)?)?
-        .subcommand(census_command(alloc)?)?;
-    Ok(command)
+fn with_questions<'a>(
+    alloc: Global,
+    command: Result<Command<'a>, Error>,
+) -> Result<Command<'a>, Error> {
+    let command = with_command(command, stop_command(alloc));
+    let command = with_command(command, waves_command(alloc));
+    let command = with_command(command, risk_command(alloc));
+    with_command(command, census_command(alloc))
 }
 
 /// The command `run`.
@@ -471,9 +481,6 @@ fn drill_command<'a>(alloc: Global) -> Result<Command<'a>, Error> {
 
 /// The command `plan`.
 fn plan_command<'a>(alloc: Global) -> Result<Command<'a>, Error> {
-    let sums = flag_arg(alloc, "summary")
-        .help("Only what the plan comes to")
-        .conflicts_with("expect")?;
     let command = Command::new(alloc, "plan")
         .about("Plays AutoRecovery without some bookies, and prints the script")
         .after_help(helps::PLAN);
@@ -492,8 +499,17 @@ fn plan_command<'a>(alloc: Global) -> Result<Command<'a>, Error> {
         command,
         flag_arg(alloc, "expect").help("As a runbook, with the expected answers"),
     );
-    let command = with_arg(command, sums);
+    let command = with_summary(alloc, command);
     with_arg(command, picture_arg(alloc))
+}
+
+/// The command with the flag for a plan's summary alone.
+fn with_summary<'a>(
+    alloc: Global,
+    command: Result<Command<'a>, Error>,
+) -> Result<Command<'a>, Error> {
+    let summary = flag_arg(alloc, "summary").help("Only what the plan comes to");
+    with_arg(command, summary.conflicts_with("expect")?)
 }
 
 /// The command `ok-to-stop`.
@@ -514,26 +530,26 @@ fn stop_command<'a>(alloc: Global) -> Result<Command<'a>, Error> {
             .action(ArgAction::Append)
             .allow_hyphen_values(true)
             .help("The racks whose bookies are to stop, with commas between them"),
-    )?;
-    with_inputs(alloc, with_question(alloc, command)?)
+    );
+    with_inputs(alloc, with_question(alloc, command))
 }
 
 /// The command `waves`.
 fn waves_command<'a>(alloc: Global) -> Result<Command<'a>, Error> {
     let command = Command::new(alloc, "waves")
         .about("Parts the bookies into rounds, each of which may be stopped together")
-        .after_help(helps::WAVES)
-        .arg(flag_arg(alloc, "racks").help("Each round is of one rack"))?;
-    with_inputs(alloc, with_question(alloc, command)?)
+        .after_help(helps::WAVES);
+    let racks = flag_arg(alloc, "racks").help("Each round is of one rack");
+    with_inputs(alloc, with_question(alloc, with_arg(Ok(command), racks)))
 }
 
 /// The command `risk`.
 fn risk_command<'a>(alloc: Global) -> Result<Command<'a>, Error> {
     let command = Command::new(alloc, "risk")
         .about("Says what the loss of each bookie and each rack would cost, the worst first")
-        .after_help(helps::RISK)
-        .arg(flag_arg(alloc, "pairs").help("Each two bookies, too"))?;
-    with_inputs(alloc, with_question(alloc, command)?)
+        .after_help(helps::RISK);
+    let pairs = flag_arg(alloc, "pairs").help("Each two bookies, too");
+    with_inputs(alloc, with_question(alloc, with_arg(Ok(command), pairs)))
 }
 
 /// The command `census`.
@@ -541,14 +557,11 @@ fn census_command<'a>(alloc: Global) -> Result<Command<'a>, Error> {
     let command = Command::new(alloc, "census")
         .about("Prints the census of files, which as text is read in their place")
         .after_help(helps::CENSUS);
-    with_inputs(alloc, command)
+    with_inputs(alloc, Ok(command))
 }
 
 /// The command `cut`.
 fn cut_command<'a>(alloc: Global) -> Result<Command<'a>, Error> {
-    let empty = flag_arg(alloc, "assume-empty")
-        .help("What nobody tells of a member's entries is assumed not to be held")
-        .conflicts_with("assume-held")?;
     let command = Command::new(alloc, "cut")
         .about("Prints the picture of some ledgers of an inventory, for a rehearsal")
         .after_help(helps::CUT);
@@ -566,7 +579,7 @@ fn cut_command<'a>(alloc: Global) -> Result<Command<'a>, Error> {
             "What nobody tells of a member's entries is assumed to be held",
         ),
     );
-    let command = with_arg(command, empty);
+    let command = with_empty(alloc, command);
     let command = with_arg(
         command,
         value_arg(alloc, "window", "K")
@@ -577,6 +590,17 @@ fn cut_command<'a>(alloc: Global) -> Result<Command<'a>, Error> {
         command,
         file_arg(alloc, "INVENTORY").help("A file with the inventory"),
     )
+}
+
+/// The command with the flag for members that hold nothing of which nobody tells.
+fn with_empty<'a>(
+    alloc: Global,
+    command: Result<Command<'a>, Error>,
+) -> Result<Command<'a>, Error> {
+    let empty = flag_arg(alloc, "assume-empty").help(
+        "What nobody tells of a member's entries is assumed not to be held",
+    );
+    with_arg(command, empty.conflicts_with("assume-held")?)
 }
 
 /// The command `help`.
@@ -600,12 +624,11 @@ const KEEPS: &[&str] = &[
 ];
 
 /// The command with the arguments for what a stop may break.
-fn with_question<'a>(alloc: Global, command: Command<'a>) -> Result<Command<'a>, Error> {
-    let keep = value_arg(alloc, "keep", "COPIES")
-        .value_parser(KEEPS)
-        .help("How many copies each entry is to keep, or ack-1; by default its ledger's ack quorum")
-        .conflicts_with("allow-under-ack")?;
-    let command = with_arg(Ok(command), keep);
+fn with_question<'a>(
+    alloc: Global,
+    command: Result<Command<'a>, Error>,
+) -> Result<Command<'a>, Error> {
+    let command = with_keep(alloc, command);
     let command = with_arg(
         command,
         flag_arg(alloc, "allow-under-ack").help("The same as --keep 1"),
@@ -638,10 +661,21 @@ fn with_question<'a>(alloc: Global, command: Command<'a>) -> Result<Command<'a>,
     )
 }
 
+/// The command with the argument for how many copies are to be kept.
+fn with_keep<'a>(alloc: Global, command: Result<Command<'a>, Error>) -> Result<Command<'a>, Error> {
+    let keep = value_arg(alloc, "keep", "COPIES").value_parser(KEEPS).help(
+        "How many copies each entry is to keep, or ack-1; by default its ledger's ack quorum",
+    );
+    with_arg(command, keep.conflicts_with("allow-under-ack")?)
+}
+
 /// The command with the arguments for the files of a cluster, and for the form of the answer.
-fn with_inputs<'a>(alloc: Global, command: Command<'a>) -> Result<Command<'a>, Error> {
+fn with_inputs<'a>(
+    alloc: Global,
+    command: Result<Command<'a>, Error>,
+) -> Result<Command<'a>, Error> {
     let command = with_arg(
-        Ok(command),
+        command,
         value_arg(alloc, "format", "FORMAT")
             .value_parser(FORMATS)
             .help("How the answer is printed; by default text"),
