@@ -1,7 +1,8 @@
 -- Words and lines written one after another.
-use Rattle.std.proofs.Common.{◌≡◌, ℕ, ◌+◌, ◌<◌, List, [], ◌∷◌, ◌++◌, length, map, drop, Option, Some, None, inl, inr, slice_get, slice_index_or, ◌≤◌, min, length-append, sym, ap, ◌∙◌, arith}
+use Rattle.std.proofs.Common.{◌≡◌, ℕ, ◌+◌, ◌<◌, List, [], ◌∷◌, ◌++◌, length, map, drop, cond, Option, Some, None, Result, Ok, Err, OnOk, inl, inr, slice_get, slice_index_or, ◌≤◌, min, length-append, sym, ap, ◌∙◌, arith}
 use Rattle.std.specs.List.{zip}
 use Rattle.std.specs.Prelude.{codes}
+use Rattle.std.specs.Result.{is_ok}
 use Rattle.std.proofs.Math.ListN.{drop_of_length-le}
 use Rattle.std.proofs.lemmas.List.{drop_more, append-nil, nil_from_length, length-map}
 use Rattle.std.proofs.lemmas.Slice.Zip.{length-zip}
@@ -9,7 +10,7 @@ use Rattle.std.proofs.lemmas.Grind.{flat_map-append}
 use Rattle.std.proofs.lemmas.Option.{get_or_from_slice_get, slice_get_within, slice_get_cases}
 use mathlib.Core.List.{append_assoc}
 use Rattle.reh_census.specs.declared.bookies.Bookie.{Bookie}
-use Rattle.reh_census_file.specs.Lines.{line_of, lines_of}
+use Rattle.reh_census_file.specs.Lines.{behind_spaces, line_of, lines_of}
 use Rattle.reh_census_file.specs.Texts.{bookie_words, head_words, bookie_lines, judged_words, entries_words, tail_words, ensemble_words, body_words}
 use Rattle.reh_census_file.specs.Values.{NamedCensus}
 
@@ -104,6 +105,31 @@ body_len_is c named is =
       length-append entries (tails ++ ensembles),
       length-append tails ensembles,
     )
+
+-- a text that a line feed ends, if there is memory
+pub ended : {A E : Type 0} (r : Result A E) (after before : List ℕ) → after ≡ cond (is_ok r) (before ++ codes "\n") before → OnOk r (after ≡ before ++ codes "\n")
+ended (Ok x) after before is = is
+ended (Err e) after before is = tt
+
+-- the line of a class of entries
+pub class_is : (t count write ack known untold : List ℕ) (holders others : List (List ℕ))
+    → ((((t ++ (codes "entries " ++ (count ++ (codes " write " ++ (write ++ (codes " ack " ++ (ack ++ (codes " known " ++ known)))))))) ++ behind_spaces holders) ++ (codes " untold " ++ untold)) ++ behind_spaces others) ++ codes "\n"
+    ≡ t ++ line_of (codes "entries" ∷ count ∷ codes "write" ∷ write ∷ codes "ack" ∷ ack ∷ codes "known" ∷ known ∷ (holders ++ (codes "untold" ∷ untold ∷ others)))
+class_is t count write ack known untold holders others =
+    grouped (behind_spaces holders) (behind_spaces others)
+    ∙ ap (λ r. t ++ (codes "entries " ++ ((count ++ (codes " write " ++ (write ++ (codes " ack " ++ (ack ++ (codes " known " ++ (known ++ r))))))) ++ codes "\n")))
+    (sym (flat_map-append (λ (word : List ℕ). 32 ∷ word) holders (codes "untold" ∷ untold ∷ others)))
+  where
+    grouped : (hs os : List ℕ)
+        → ((((t ++ (codes "entries " ++ (count ++ (codes " write " ++ (write ++ (codes " ack " ++ (ack ++ (codes " known " ++ known)))))))) ++ hs) ++ (codes " untold " ++ untold)) ++ os) ++ codes "\n"
+        ≡ t ++ (codes "entries " ++ ((count ++ (codes " write " ++ (write ++ (codes " ack " ++ (ack ++ (codes " known " ++ (known ++ (hs ++ (codes " untold " ++ (untold ++ os)))))))))) ++ codes "\n"))
+    grouped hs os = simp append_assoc
+
+-- the line of a tail
+pub tail_is : (t count state size write ack : List ℕ) (members : List (List ℕ))
+    → ((t ++ (codes "tail " ++ (count ++ (codes " " ++ (state ++ (codes " size " ++ (size ++ (codes " write " ++ (write ++ (codes " ack " ++ ack)))))))))) ++ behind_spaces members) ++ codes "\n"
+    ≡ t ++ line_of (codes "tail" ∷ count ∷ state ∷ codes "size" ∷ size ∷ codes "write" ∷ write ∷ codes "ack" ∷ ack ∷ members)
+tail_is t count state size write ack members = simp append_assoc
 
 -- the lines at the head
 pub head_is : (t strict taken : List ℕ) → (t ++ (codes "census 1\nstrict " ++ (strict ++ codes "\n"))) ++ (codes "taken " ++ (taken ++ codes "\n"))

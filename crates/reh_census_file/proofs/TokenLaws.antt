@@ -20,6 +20,11 @@ pub bind_ok : {A B E : Type 0} (r : Result A E) (f : A → Result B E) (y : B) �
 bind_ok (Ok x) f y e = (x, refl, e)
 bind_ok (Err d) f y e = absurd cc
 
+-- a step that did not fail has a value, and the next step goes on from it
+pub step_ok : {A B E : Type 0} {P : Type 0} (r : Result A E) (f : A → Result B E) (y : B) → (r >>= f) ≡ Ok y → ((x : A) → r ≡ Ok x → f x ≡ Ok y → P) → P
+step_ok (Ok x) f y e next = next x refl e
+step_ok (Err d) f y e next = absurd cc
+
 -- a test that did not fail
 pub passed : {A E : Type 0} (b : Bool) (d : E) (x : Result A E) (y : A) → cond b x (Err d) ≡ Ok y → (b ≡ true) × (x ≡ Ok y)
 passed true d x y e = (refl, e)

@@ -84,27 +84,36 @@ unfoldable pub add_judged : Draft → Judged → Result Draft Expected
 add_judged d judged =
     if nat_le (not_judged judged) (2 ^ 63) then Ok (record d { judged = Some judged }) else Err expected.FewNotJudged
 
+abbrev pub with_entries : Draft → Counted → Draft
+with_entries d counted = record d { entries = d.entries ++ counted ∷ [] }
+
 unfoldable pub add_entries : Draft → Counted → Result Draft Expected
 add_entries d counted =
     if not (are_quorums counted.class) then Err expected.Quorums
     else (if not (are_copies d.bookies counted.class) then Err expected.Copies
     else (if not (is_later (on (λ c. c.class) class_cmp) d.entries counted) then Err expected.LaterEntries
     else (if nat_lt (2 ^ 63) (entries_in d.entries + counted.count) then Err expected.SmallerCounts
-    else Ok (record d { entries = d.entries ++ counted ∷ [] }))))
+    else Ok (with_entries d counted))))
+
+abbrev pub with_tail : Draft → CountedTail → Draft
+with_tail d counted = record d { tails = d.tails ++ counted ∷ [] }
 
 unfoldable pub add_tail : Draft → CountedTail → Result Draft Expected
 add_tail d counted =
     if not (are_sizes counted.tail) then Err expected.Sizes
     else (if not (is_later (on (λ t. t.tail) tail_cmp) d.tails counted) then Err expected.LaterTail
     else (if nat_lt (2 ^ 63) (tails_in d.tails + counted.count) then Err expected.SmallerCounts
-    else Ok (record d { tails = d.tails ++ counted ∷ [] })))
+    else Ok (with_tail d counted)))
+
+abbrev pub with_ensemble : Draft → CountedEnsemble → Draft
+with_ensemble d counted = record d { ensembles = d.ensembles ++ counted ∷ [] }
 
 unfoldable pub add_ensemble : Draft → CountedEnsemble → Result Draft Expected
 add_ensemble d counted =
     if not (are_members counted.members) then Err expected.Members
     else (if not (is_later (on (λ e. e.members) names_cmp) d.ensembles counted) then Err expected.LaterEnsemble
     else (if nat_lt (2 ^ 63) (ensembles_in d.ensembles + counted.count) then Err expected.SmallerCounts
-    else Ok (record d { ensembles = d.ensembles ++ counted ∷ [] })))
+    else Ok (with_ensemble d counted)))
 
 -- The lines, by their first words
 

@@ -49,18 +49,11 @@ fn are_holders(bookies: &[Bookie], numbers: &[u16]) -> bool
     numbers.iter().all(|number| is_holder(bookies, *number))
 }
 
-/// Whether the number is one of these.
-fn contains(numbers: &[u16], number: u16) -> bool
-    ensures { result ≡ is_in numbers.now number }
-{
-    numbers.iter().any(|other| *other == number)
-}
-
 /// Whether some of the others is one of these.
 fn overlap(numbers: &[u16], others: &[u16]) -> bool
     ensures { result ≡ list_any (is_in numbers.now) others.now }
 {
-    others.iter().any(|other| contains(numbers, *other))
+    others.iter().any(|other| numbers.contains(other))
 }
 
 /// Whether these are quorums of a ledger.

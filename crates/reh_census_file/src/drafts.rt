@@ -1,6 +1,8 @@
 // What the lines of a census have told so far.
-ghost use Rattle.std.specs.Prelude.{◌≡◌, ◌<◌, length, Ok, IfOk};
+ghost use Rattle.std.specs.Prelude.{◌≡◌, ◌<◌, ◌≤◌, ◌+◌, ◌^◌, length, Ok, IfOk, OnErr, OnOk};
 ghost use Rattle.std.specs.Option.{option_map};
+ghost use Rattle.reh_census.specs.Counting.{ensembles_in, entries_in, tails_in};
+ghost use Rattle.reh_census.specs.Tails.{IsTail};
 ghost use Rattle.reh_census_file.specs.Drafts as spec;
 ghost use Rattle.reh_census_file.specs.LineReading.{seen};
 ghost use Rattle.reh_census_file.specs.Reading.{Gives, words_after};
@@ -11,7 +13,7 @@ use crate::lines::{self, BookieLine};
 use crate::lists::{MAX_NAMES, NameList};
 use crate::words::MAX_COUNT;
 use reh_census::{Bookie, Counted, CountedEnsemble, CountedTail, Judged};
-use std::alloc::Global;
+use std::alloc::{AllocError, Global};
 use std::marker::Model;
 
 /// What the lines so far have told. Contracts see it without the sums.
@@ -38,6 +40,24 @@ impl Model for Draft {
     ghost view = { draft_in };
 
     ghost invariant = { IsDraftIn };
+}
+
+/// The number of a rack, if there is one; its name is added as the last, if it isn't there.
+fn rack_for(racks: &mut NameList, rack: Option<&str>) -> Result<Option<u16>, AllocError>
+    requires { length racks.old < MAX_NAMES }
+    ensures number { IfOk result
+        (λ number. number ≡ option_map (spec.rack_number racks.old) (option_map (λ name. name.now) rack.entry)) }
+    ensures added { OnOk result (racks.new ≡ spec.racks_with racks.old (option_map (λ name. name.now) rack.entry)) }
+    ensures err { OnErr result (racks.new ≡ racks.old) }
+    ensures few { length racks.new ≤ length racks.old + 1 }
+{
+    match rack {
+        Some(name) => {
+            let number = racks.number_for(name)?;
+            Ok(Some(number))
+        }
+        None => Ok(None),
+    }
 }
 
 impl Draft {
@@ -89,10 +109,7 @@ impl Draft {
         if !self.names.add(line.name)? {
             return Err(LineFault::At(Expected::LaterBookie));
         }
-        let rack = match line.rack {
-            Some(name) => Some(self.racks.number_for(name)?),
-            None => None,
-        };
+        let rack = rack_for(&mut self.racks, line.rack)?;
         self.bookies.push(Bookie {
             is_registered: line.is_registered,
             is_read_only: line.is_read_only,
@@ -116,10 +133,11 @@ impl Draft {
         }
     }
 
-    /// Adds entries.
+    /// Whether entries of this class, and so many, may come next.
     #[tactic(auto, unfolding(crate::specs::Drafts::add_entries))]
-    fn add_entries(&mut self, counted: Counted) -> Result<(), LineFault>
-        ensures { Gives (λ _. self.new) result (spec.add_entries self.old counted) }
+    fn check_entries(&self, counted: &Counted) -> Result<(), LineFault>
+        ensures told { Gives (λ _. spec.with_entries self.now counted.now) result (spec.add_entries self.now counted.now) }
+        ensures few { OnOk result (entries_in self.now.entries + counted.now.count ≤ 2 ^ 63) }
     {
         if !checks::are_quorums(&counted.class) {
             return Err(LineFault::At(Expected::Quorums));
@@ -127,53 +145,81 @@ impl Draft {
         if !checks::are_copies(&self.bookies, &counted.class) {
             return Err(LineFault::At(Expected::Copies));
         }
-        if !checks::are_later_entries(&self.entries, &counted) {
+        if !checks::are_later_entries(&self.entries, counted) {
             return Err(LineFault::At(Expected::LaterEntries));
         }
         if counted.count > MAX_COUNT - self.entry_count {
             return Err(LineFault::At(Expected::SmallerCounts));
         }
+        Ok(())
+    }
+
+    /// Adds entries.
+    fn add_entries(&mut self, counted: Counted) -> Result<(), LineFault>
+        ensures { Gives (λ _. self.new) result (spec.add_entries self.old counted) }
+    {
+        self.check_entries(&counted)?;
         let count = counted.count;
         self.entries.push(counted)?;
         self.entry_count += count;
         Ok(())
     }
 
-    /// Adds ledgers of a tail.
+    /// Whether this tail, and so many ledgers, may come next.
     #[tactic(auto, unfolding(crate::specs::Drafts::add_tail))]
-    fn add_tail(&mut self, counted: CountedTail) -> Result<(), LineFault>
-        requires { length counted.tail.ensemble ≡ counted.tail.size }
-        ensures { Gives (λ _. self.new) result (spec.add_tail self.old counted) }
+    fn check_tail(&self, counted: &CountedTail) -> Result<(), LineFault>
+        requires { length counted.now.tail.ensemble ≡ counted.now.tail.size }
+        ensures told { Gives (λ _. spec.with_tail self.now counted.now) result (spec.add_tail self.now counted.now) }
+        ensures few { OnOk result (tails_in self.now.tails + counted.now.count ≤ 2 ^ 63) }
+        ensures well_formed { OnOk result (IsTail counted.now.tail) }
     {
         if !checks::are_sizes(&counted.tail) {
             return Err(LineFault::At(Expected::Sizes));
         }
-        if !checks::is_later_tail(&self.tails, &counted) {
+        if !checks::is_later_tail(&self.tails, counted) {
             return Err(LineFault::At(Expected::LaterTail));
         }
         if counted.count > MAX_COUNT - self.tail_count {
             return Err(LineFault::At(Expected::SmallerCounts));
         }
+        Ok(())
+    }
+
+    /// Adds ledgers of a tail.
+    fn add_tail(&mut self, counted: CountedTail) -> Result<(), LineFault>
+        requires { length counted.tail.ensemble ≡ counted.tail.size }
+        ensures { Gives (λ _. self.new) result (spec.add_tail self.old counted) }
+    {
+        self.check_tail(&counted)?;
         let count = counted.count;
         self.tails.push(counted)?;
         self.tail_count += count;
         Ok(())
     }
 
-    /// Adds fragments of an ensemble.
+    /// Whether this ensemble, and so many fragments, may come next.
     #[tactic(auto, unfolding(crate::specs::Drafts::add_ensemble))]
-    fn add_ensemble(&mut self, counted: CountedEnsemble) -> Result<(), LineFault>
-        ensures { Gives (λ _. self.new) result (spec.add_ensemble self.old counted) }
+    fn check_ensemble(&self, counted: &CountedEnsemble) -> Result<(), LineFault>
+        ensures told { Gives (λ _. spec.with_ensemble self.now counted.now) result (spec.add_ensemble self.now counted.now) }
+        ensures few { OnOk result (ensembles_in self.now.ensembles + counted.now.count ≤ 2 ^ 63) }
     {
         if !checks::are_members(counted.members.as_slice()) {
             return Err(LineFault::At(Expected::Members));
         }
-        if !checks::is_later_ensemble(&self.ensembles, &counted) {
+        if !checks::is_later_ensemble(&self.ensembles, counted) {
             return Err(LineFault::At(Expected::LaterEnsemble));
         }
         if counted.count > MAX_COUNT - self.ensemble_count {
             return Err(LineFault::At(Expected::SmallerCounts));
         }
+        Ok(())
+    }
+
+    /// Adds fragments of an ensemble.
+    fn add_ensemble(&mut self, counted: CountedEnsemble) -> Result<(), LineFault>
+        ensures { Gives (λ _. self.new) result (spec.add_ensemble self.old counted) }
+    {
+        self.check_ensemble(&counted)?;
         let count = counted.count;
         self.ensembles.push(counted)?;
         self.ensemble_count += count;

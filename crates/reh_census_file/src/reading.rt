@@ -156,32 +156,32 @@ fn end_line(lines: u64, draft: &Draft, words: &[u8]) -> Result<(), LineFault>
     lines_at(lines, words)
 }
 
-/// What was read, if these are the words after `end` on the line after so many, and nothing comes after that line.
-fn read_end(lines: u64, draft: Draft, words: &[u8], rest: &[u8]) -> Result<Draft, CensusFault>
+/// Whether these are the words after `end` on the line after so many, and nothing comes after that line.
+fn check_end(lines: u64, draft: &Draft, words: &[u8], rest: &[u8]) -> Result<(), CensusFault>
     requires { lines + 2 < 2 ^ 64 }
-    ensures { GivesAll (λ d. d) result (whole.last_at lines draft (words_after words.now) (parts_of rest.now)) }
+    ensures { GivesAll (λ _. draft.now) result
+        (whole.last_at lines draft.now (words_after words.now) (parts_of rest.now)) }
 {
-    if let Err(stop) = end_line(lines, &draft, words) {
+    if let Err(stop) = end_line(lines, draft, words) {
         return Err(fault_at(lines + 1, stop));
     }
     if rest.is_empty() {
-        Ok(draft)
+        Ok(())
     } else {
         Err(CensusFault::Line(lines + 2, Expected::NoMoreLines))
     }
 }
 
-/// What the lines after the head tell.
-fn read_body(alloc: Global, text: &[u8]) -> Result<Draft, CensusFault>
-    ensures { GivesAll (λ d. d) result (whole.body_at 3 drafts.no_lines (parts_of text.now)) }
+/// Takes the lines after the head. What an error leaves isn't told.
+fn read_lines(draft: &mut Draft, alloc: Global, text: &[u8]) -> Result<(), CensusFault>
+    ensures { GivesAll (λ _. draft.new) result (whole.body_at 3 draft.old (parts_of text.now)) }
 {
-    let mut draft = Draft::new(alloc);
     let mut lines = 3u64;
     let mut left = text;
     while let Some((line, rest)) = next_line(left) {
         let (first, words) = first_word(line);
         if first == b"end".as_slice() {
-            return read_end(lines, draft, words, rest);
+            return check_end(lines, draft, words, rest);
         }
         if let Err(stop) = draft.take(alloc, first, words) {
             return Err(fault_at(lines + 1, stop));
@@ -190,6 +190,15 @@ fn read_body(alloc: Global, text: &[u8]) -> Result<Draft, CensusFault>
         left = rest;
     }
     Err(CensusFault::Line(lines + 1, Expected::MoreLines))
+}
+
+/// What the lines after the head tell.
+fn read_body(alloc: Global, text: &[u8]) -> Result<Draft, CensusFault>
+    ensures { GivesAll (λ d. d) result (whole.body_at 3 drafts.no_lines (parts_of text.now)) }
+{
+    let mut draft = Draft::new(alloc);
+    read_lines(&mut draft, alloc, text)?;
+    Ok(draft)
 }
 
 /// The census that these parts of a text told.

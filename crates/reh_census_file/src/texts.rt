@@ -135,17 +135,27 @@ fn push_class(text: &mut String, names: &NameList, counted: &Counted) -> Result<
     text.push('\n')
 }
 
+/// The word for whether ledgers are open.
+fn state_word(is_open: bool) -> &'static str
+    ensures { result.now ≡ spec.state_word is_open }
+{
+    if is_open { "open" } else { "in-recovery" }
+}
+
 /// Adds the line of a tail.
 fn push_tail(text: &mut String, names: &NameList, counted: &CountedTail) -> Result<(), AllocError>
     ensures { OnOk result (string_bytes text.new ≡ string_bytes text.old
         ++ line_of (spec.tail_words names.now counted.now)) }
 {
     let tail = &counted.tail;
-    let state = if tail.is_open { "open" } else { "in-recovery" };
     write!(
         text,
-        "tail {} {state} size {} write {} ack {}",
-        counted.count, tail.size, tail.write_quorum, tail.ack_quorum
+        "tail {} {} size {} write {} ack {}",
+        counted.count,
+        state_word(tail.is_open),
+        tail.size,
+        tail.write_quorum,
+        tail.ack_quorum
     )?;
     push_names(text, names, tail.ensemble.as_slice())?;
     text.push('\n')

@@ -14,7 +14,7 @@ use reh_census::{BookieSet, Bookies, CountedEnsemble, Question};
 fn is_member(names: &[u16], bookie: u16) -> bool
     ensures { result ≡ is_in names.now bookie }
 {
-    names.iter().any(|member| *member == bookie)
+    names.contains(&bookie)
 }
 
 /// Whether the bookie is outside of the ensemble, and may be written to.
