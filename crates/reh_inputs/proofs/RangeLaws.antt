@@ -5,7 +5,7 @@ use Rattle.reh_census.specs.declared.classes.Counted.{Counted}
 use Rattle.reh_census.specs.Counting.{count_in, entries_in}
 use Rattle.std.proofs.lemmas.List.Sums.{sum_by_more_le_part}
 use Rattle.std.specs.List.{flat_map}
-use Rattle.std.proofs.lemmas.List.{length-append, map-append, take_more}
+use Rattle.std.proofs.lemmas.List.{append_assoc, length-append, map-append, take_more}
 use Rattle.std.proofs.lemmas.List.Concat.{flat_map-append}
 use Rattle.std.specs.Prelude.{slice_get}
 use Rattle.std.specs.Option.{option_map_or}
@@ -39,6 +39,29 @@ module _ {A B : Type 0} (xs : List A) (k : ℕ) (x : A) (within : k < length xs)
       ap (flat_map f) (take_more xs k x within) ∙ flat_map-append f (take k xs) (get_or xs k x ∷ [])
       ∙ ap (λ y. flat_map f (take k xs) ++ (f y ++ [])) (sym is)
       ∙ ap (λ ys. flat_map f (take k xs) ++ ys) (append-nil (f x))
+
+-- the same of lists that are made
+module _ {A B : Type 0} (f : A → B) (xs : List A) (k : ℕ) (d : A) (made more : List B) (y : B) (within : k < length xs)
+    (is : more ≡ made ++ y ∷ []) (at : y ≡ f (get_or xs k d)) where
+  pub pushed : made ≡ map f (take k xs) → more ≡ map f (take (k + 1) xs)
+  pushed was =
+      is ∙ (λ i. was i ++ at i ∷ []) ∙ sym (map-append f (take k xs) (get_or xs k d ∷ []))
+      ∙ ap (map f) (sym (take_more xs k d within))
+
+  pub pushed-after : (before : List B) → made ≡ before ++ map f (take k xs) → more ≡ before ++ map f (take (k + 1) xs)
+  pushed-after before was =
+      is ∙ (λ i. was i ++ at i ∷ []) ∙ append_assoc before (map f (take k xs)) (f (get_or xs k d) ∷ [])
+      ∙ ap (λ ys. before ++ ys) (sym (map-append f (take k xs) (get_or xs k d ∷ [])) ∙ ap (map f) (sym (take_more xs k d within)))
+
+module _ {A B : Type 0} (f : A → List B) (xs : List A) (k : ℕ) (x : A) (made more : List B) (within : k < length xs)
+    (at : x ≡ get_or xs k x) (is : more ≡ made ++ f x) where
+  pub joined : made ≡ flat_map f (take k xs) → more ≡ flat_map f (take (k + 1) xs)
+  joined was = is ∙ ap (λ ys. ys ++ f x) was ∙ sym (flat_map_more xs k x within at f)
+
+  pub joined-after : (before : List B) → made ≡ before ++ flat_map f (take k xs) → more ≡ before ++ flat_map f (take (k + 1) xs)
+  joined-after before was =
+      is ∙ ap (λ ys. ys ++ f x) was ∙ append_assoc before (flat_map f (take k xs)) (f x)
+      ∙ ap (λ ys. before ++ ys) (sym (flat_map_more xs k x within at f))
 
 -- what passes a test, of so many that are passed, and one more, are within all
 some_count : (b : Bool) (n : ℕ) → cond b n 0 ≤ n

@@ -1,5 +1,5 @@
 // What a picture's bookies hold, by ledger.
-ghost use Rattle.std.specs.Prelude.{◌≡◌, ◌<◌, ◌≤◌, ◌++◌, [], ◌==◌, ℕ, All, IfOk, OnOk, cond, length, map, slice_index_or};
+ghost use Rattle.std.specs.Prelude.{◌≡◌, ◌<◌, ◌≤◌, ◌++◌, [], ◌==◌, ℕ, All, IfOk, None, OnOk, cond, length, map, slice_index_or};
 ghost use Rattle.std.specs.BTreeMap.{get};
 ghost use Rattle.std.specs.Ordering.{nat_cmp};
 ghost use Rattle.reh_picture.specs.Contents.{Holding as HoldingValue};
@@ -40,6 +40,23 @@ fn extend<'a>(held: &mut Vec<&'a Holding>, holdings: &'a [Holding]) -> Result<()
     Ok(())
 }
 
+/// Adds holdings of a ledger that has none.
+fn add_first<'a>(
+    alloc: Global,
+    by_ledger: &mut ByLedger<'a>,
+    ledger: LedgerId,
+    holdings: &'a [Holding],
+) -> Result<(), AllocError>
+    requires { get nat_cmp by_ledger.old ledger ≡ None }
+    ensures { OnOk result ((own : ℕ) → model.held_in (get nat_cmp by_ledger.new own)
+        ≡ model.held_in (get nat_cmp by_ledger.old own) ++ cond (ledger == own) holdings.now []) }
+{
+    let mut held = Vec::new(alloc);
+    extend(&mut held, holdings)?;
+    by_ledger.insert(ledger, held)?;
+    Ok(())
+}
+
 /// Adds holdings of a ledger after those that it has. After an `Err` some of them may be there.
 fn add_run<'a>(
     alloc: Global,
@@ -51,14 +68,9 @@ fn add_run<'a>(
         ≡ model.held_in (get nat_cmp by_ledger.old own) ++ cond (ledger == own) holdings.now []) }
 {
     match by_ledger.get_mut(&ledger) {
-        Some(held) => extend(held, holdings)?,
-        None => {
-            let mut held = Vec::new(alloc);
-            extend(&mut held, holdings)?;
-            by_ledger.insert(ledger, held)?;
-        }
+        Some(held) => extend(held, holdings),
+        None => add_first(alloc, by_ledger, ledger, holdings),
     }
-    Ok(())
 }
 
 /// The holdings by ledger. They are looked through once, and the ledger of neighbours is looked up once.

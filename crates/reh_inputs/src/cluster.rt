@@ -98,7 +98,7 @@ impl Cluster {
     {
         let mut racks = Vec::new(alloc);
         for shown in &self.shown {
-            racks.push(String::from_str(alloc, shown.rack().unwrap_or(""))?)?;
+            racks.push(rack_name(alloc, shown)?)?;
         }
         Ok(racks)
     }
@@ -178,6 +178,13 @@ impl Cluster {
         self.shown.insert(place, shown)?;
         Ok(())
     }
+}
+
+/// The name of a bookie's rack, empty where it isn't known.
+fn rack_name(alloc: Global, shown: &Shown) -> Result<String, AllocError>
+    ensures { IfOk result (λ name. string_bytes name ≡ model.rack_name shown.now) }
+{
+    String::from_str(alloc, shown.rack().unwrap_or(""))
 }
 
 /// A bookie as a census sees it, among all.

@@ -13,7 +13,7 @@ ghost use Rattle.reh_inputs.specs.United.{number_of};
 
 use crate::inputs::Input;
 use crate::names::ClusterNames;
-use reh_census::{Class, Counted, CountedEnsemble, CountedTail, Judged, Names, Tail};
+use reh_census::{Census, Class, Counted, CountedEnsemble, CountedTail, Judged, Names, Tail};
 use reh_census_file::{MAX_COUNT, MAX_NAMES, NameList, NamedCensus};
 use std::alloc::{AllocError, Global};
 
@@ -172,6 +172,28 @@ fn numbers_in(alloc: Global, names: &ClusterNames, named: &NameList) -> Result<V
     Ok(numbers)
 }
 
+/// Adds what a census counts, whose bookies have these numbers in the cluster.
+fn add_counted(
+    alloc: Global,
+    numbers: &[u16],
+    counted: &Census,
+    counts: &mut Counts,
+) -> Result<(), AllocError>
+    ensures entries { OnOk result (counts.new.entries.items
+        ≡ counts.old.entries.items ++ map (model.counted_by numbers.now) counted.now.entries) }
+    ensures tails { OnOk result (counts.new.tails.items
+        ≡ counts.old.tails.items ++ map (model.counted_tail_by numbers.now) counted.now.tails) }
+    ensures ensembles { OnOk result (counts.new.ensembles.items
+        ≡ counts.old.ensembles.items ++ map (model.counted_ensemble_by numbers.now) counted.now.ensembles) }
+    ensures well_formed { OnOk result (All (λ t. IsTail t.tail) counts.old.tails.items
+        → All (λ t. IsTail t.tail) counts.new.tails.items) }
+{
+    add_entries(alloc, numbers, counted.entries(), &mut counts.entries)?;
+    add_tails(alloc, numbers, counted.tails(), &mut counts.tails)?;
+    add_ensembles(alloc, numbers, counted.ensembles(), &mut counts.ensembles)?;
+    Ok(())
+}
+
 /// Adds what a census counts.
 fn add_census(
     alloc: Global,
@@ -189,10 +211,7 @@ fn add_census(
         → All (λ t. IsTail t.tail) counts.new.tails.items) }
 {
     let numbers = numbers_in(alloc, names, census.names())?;
-    let counted = census.census();
-    add_entries(alloc, &numbers, counted.entries(), &mut counts.entries)?;
-    add_tails(alloc, &numbers, counted.tails(), &mut counts.tails)?;
-    add_ensembles(alloc, &numbers, counted.ensembles(), &mut counts.ensembles)?;
+    add_counted(alloc, &numbers, census.census(), counts)?;
     Ok(())
 }
 
@@ -246,14 +265,10 @@ pub(crate) fn append_counts(counts: &mut Counts, more: Counts) -> Result<(), All
     ensures tails { OnOk result (counts.new.tails.items ≡ counts.old.tails.items ++ more.tails.items) }
     ensures ensembles { OnOk result (counts.new.ensembles.items ≡ counts.old.ensembles.items ++ more.ensembles.items) }
 {
-    let Counts {
-        mut entries,
-        mut tails,
-        mut ensembles,
-    } = more;
-    counts.entries.append(&mut entries)?;
-    counts.tails.append(&mut tails)?;
-    counts.ensembles.append(&mut ensembles)?;
+    let mut more = more;
+    counts.entries.append(&mut more.entries)?;
+    counts.tails.append(&mut more.tails)?;
+    counts.ensembles.append(&mut more.ensembles)?;
     Ok(())
 }
 

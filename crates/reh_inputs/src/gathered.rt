@@ -7,6 +7,7 @@ ghost use Rattle.reh_census.specs.declared.classes.Class.{Class as ClassValue};
 ghost use Rattle.reh_census.specs.Counting.{count_ensembles_in, count_in, count_tails_in, judged_sum};
 ghost use Rattle.reh_census.specs.Order.{IsInOrder};
 ghost use Rattle.reh_census.specs.Tails.{IsTail};
+ghost use Rattle.reh_inputs.specs.Cluster.{bookies_of};
 ghost use Rattle.reh_inputs.specs.Empties.{EmptiesHoldNothing};
 ghost use Rattle.reh_inputs.specs.Faults.{IsGatherFault, IsUniteFault};
 ghost use Rattle.reh_inputs.specs.Gathered as model;
@@ -26,7 +27,7 @@ use crate::parts::{Part, parts_of};
 use crate::together::Gathered;
 use crate::united::{UniteFault, unite};
 use indexmap::IndexSet;
-use reh_census::{Census, Judged, Ledger};
+use reh_census::{Bookies, Census, Judged, Ledger};
 use reh_cluster::Ledger as PicturedLedger;
 use reh_tally::{TallyFault, census_of_counts};
 use std::alloc::{AllocError, AllocFailed, Global};
@@ -176,6 +177,20 @@ fn check_inputs(inputs: &[Input]) -> Result<(), GatherFault>
     Ok(())
 }
 
+/// Adds the ids of an input's ledgers. After an `Err` some of them may be there.
+fn add_ids_of(
+    alloc: Global,
+    ids: &mut IndexSet<u64>,
+    input: usize,
+    one: &Input,
+) -> Result<(), GatherFault>
+    ensures added { OnOk result (ids.new.keys ≡ ids.old.keys ++ of_picture model.ids_in one.now) }
+    ensures fault { IfErr result (IsIdFault input ids.old.keys (of_picture model.ids_in one.now)) }
+{
+    let more = ids_of(alloc, one)?;
+    add_ids(ids, input, &more)
+}
+
 /// The ids of the pictures' ledgers.
 fn all_ids(alloc: Global, inputs: &[Input]) -> Result<IndexSet<u64>, GatherFault>
     ensures ids { IfOk result (λ ids. ids.keys ≡ flat_map (of_picture model.ids_in) inputs.now) }
@@ -183,8 +198,7 @@ fn all_ids(alloc: Global, inputs: &[Input]) -> Result<IndexSet<u64>, GatherFault
 {
     let mut ids = IndexSet::new(alloc);
     for (input, one) in inputs.iter().enumerate() {
-        let more = ids_of(alloc, one)?;
-        add_ids(&mut ids, input, &more)?;
+        add_ids_of(alloc, &mut ids, input, one)?;
     }
     Ok(ids)
 }
@@ -262,6 +276,56 @@ fn census_with(
     Ok(census)
 }
 
+/// The cluster of the inputs, each census of which was made as is asked. No empty bookie is said to hold entries.
+fn checked_cluster(alloc: Global, inputs: &[Input], strict: bool) -> Result<Cluster, GatherFault>
+    ensures alike { OnOk result (model.first_other strict inputs.now ≡ None) }
+    ensures united { IfOk result (λ cluster. cluster ≡ united inputs.now) }
+    ensures agree { IfOk result (λ cluster. All (AreAlike cluster) inputs.now) }
+    ensures nothing { OnOk result (All EmptiesHoldNothing inputs.now) }
+    ensures fault { IfErr result (IsGatherFault inputs.now strict) }
+{
+    check_strict(inputs, strict)?;
+    let cluster = cluster_of(alloc, inputs)?;
+    check_inputs(inputs)?;
+    Ok(cluster)
+}
+
+/// The ledgers of the pictures, and the census of all inputs, by so many workers.
+fn census_in<R: Threads + Sync>(
+    rt: &R,
+    alloc: Global,
+    bookies: &Bookies,
+    names: &ClusterNames,
+    inputs: &[Input],
+    strict: bool,
+    workers: usize,
+) -> Result<(Vec<Ledger>, Census), GatherFault>
+    requires bookies { bookies.now ≡ bookies_of (united inputs.now) }
+    requires names { names.now ≡ (united inputs.now).names }
+    ensures ledgers { IfOk result (λ made. made.0.items ≡ model.ledgers_of (model.reading_of strict) inputs.now) }
+    ensures counts { IfOk result (λ made. model.AddsUp made.1 (model.holders_of inputs.now)
+        (model.ledgers_of (model.reading_of strict) inputs.now) (files_of (united inputs.now).names inputs.now)) }
+    ensures order { IfOk result (λ made. IsInOrder made.1) }
+    ensures judged { IfOk result (λ made. made.1.judged
+        ≡ judged_sum
+        (judged_by (length (model.ledgers_of (model.reading_of strict) inputs.now))
+        (model.assumed_of strict (model.holders_of inputs.now) (united inputs.now).names inputs.now))
+        (files_of (united inputs.now).names inputs.now).judged) }
+    ensures few { OnOk result (AreFewTogether inputs.now strict) }
+    ensures fault { IfErr result (IsGatherFault inputs.now strict) }
+{
+    let workers = workers.min(inputs.len());
+    let part = parts_of(rt, alloc, bookies, names, strict, 0, inputs, workers)?;
+    let Part {
+        ledgers,
+        counts,
+        assumed,
+    } = part;
+    let judged = judged_by(&ledgers, assumed);
+    let census = census_with(alloc, names, counts, judged, inputs)?;
+    Ok((ledgers, census))
+}
+
 /// What inputs show together, found out by so many workers: for each number of them it is the same. With `strict`, what is
 /// assumed counts as untold.
 pub fn gather<R: Threads + Sync>(
@@ -276,29 +340,18 @@ pub fn gather<R: Threads + Sync>(
     ensures few { OnOk result (AreFewTogether inputs.now strict) }
     ensures fault { IfErr result (IsGatherFault inputs.now strict) }
 {
-    check_strict(inputs, strict)?;
-    let cluster = cluster_of(alloc, inputs)?;
-    check_inputs(inputs)?;
+    let cluster = checked_cluster(alloc, inputs, strict)?;
     let bookies = cluster.bookies(alloc)?;
     let ids = each_id(alloc, inputs)?;
-    let workers = workers.min(inputs.len());
-    let part = parts_of(
+    let (ledgers, census) = census_in(
         rt,
         alloc,
         &bookies,
         cluster.names(),
-        strict,
-        0,
         inputs,
+        strict,
         workers,
     )?;
-    let Part {
-        ledgers,
-        counts,
-        assumed,
-    } = part;
-    let judged = judged_by(&ledgers, assumed);
-    let census = census_with(alloc, cluster.names(), counts, judged, inputs)?;
     Ok(Gathered {
         cluster,
         bookies,

@@ -6,6 +6,7 @@ ghost use Rattle.reh_census_file.specs.declared.lists.TheConstants.{MAX_NAMES};
 ghost use Rattle.reh_inputs.specs.Named as model;
 ghost use Rattle.reh_inputs.specs.declared.names.TheConstants.{MAX_CLUSTER_BOOKIES};
 
+use crate::cluster::Cluster;
 use crate::inputs::Input;
 use crate::names::{ClusterNames, MAX_CLUSTER_BOOKIES};
 use crate::shown::Shown;
@@ -97,6 +98,22 @@ fn bookies_of(alloc: Global, racks: &NameList, all: &[Shown]) -> Result<Bookies,
     Ok(Bookies::of(bookies))
 }
 
+/// The names of a cluster's bookies, those of their racks, and the bookies, as a census has them.
+fn named_bookies(
+    alloc: Global,
+    cluster: &Cluster,
+) -> Result<(NameList, NameList, Bookies), AllocError>
+    ensures names { IfOk result (λ made. made.0 ≡ cluster.now.names) }
+    ensures racks { IfOk result (λ made. made.1 ≡ model.racks_of cluster.now.shown) }
+    ensures bookies { IfOk result (λ made. made.2
+        ≡ map (model.bookie_in (model.racks_of cluster.now.shown)) cluster.now.shown) }
+{
+    let names = names_of(alloc, cluster.names())?;
+    let racks = racks_of(alloc, cluster.shown())?;
+    let bookies = bookies_of(alloc, &racks, cluster.shown())?;
+    Ok((names, racks, bookies))
+}
+
 /// The census of gathered inputs, whether what is assumed counts as untold there, and when the oldest input was taken.
 pub fn named_of(
     alloc: Global,
@@ -107,15 +124,8 @@ pub fn named_of(
     ensures { IfOk result (λ census. census
         ≡ model.named_of gathered is_strict (option_map (λ s. string_bytes s) taken)) }
 {
-    let Gathered {
-        cluster,
-        census,
-        ..
-    } = gathered;
-    let names = names_of(alloc, cluster.names())?;
-    let racks = racks_of(alloc, cluster.shown())?;
-    let bookies = bookies_of(alloc, &racks, cluster.shown())?;
-    Ok(NamedCensus::of(names, racks, bookies, census, is_strict, taken))
+    let (names, racks, bookies) = named_bookies(alloc, &gathered.cluster)?;
+    Ok(NamedCensus::of(names, racks, bookies, gathered.census, is_strict, taken))
 }
 
 /// When an input was taken, if it tells.

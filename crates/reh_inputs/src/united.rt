@@ -1,6 +1,6 @@
 // The cluster of several inputs.
-ghost use Rattle.std.specs.Prelude.{◌≡◌, ◌<◌, ℕ, true, fold, length, map, slice_get, IfErr, IfOk, OnOk, string_bytes};
-ghost use Rattle.std.specs.Option.{IsSomeAnd, option_and_then, option_map, option_map_or};
+ghost use Rattle.std.specs.Prelude.{◌≡◌, ◌<◌, ℕ, true, false, fold, length, map, slice_get, IfErr, IfOk, OnOk, string_bytes};
+ghost use Rattle.std.specs.Option.{IsSomeAnd, is_none, option_and_then, option_map, option_map_or};
 ghost use Rattle.reh_census.specs.Striping.{range};
 ghost use Rattle.reh_census_file.specs.declared.lists.TheConstants.{MAX_NAMES};
 ghost use Rattle.reh_types.specs.declared.limits.TheConstants.{MAX_BOOKIES};
@@ -36,14 +36,21 @@ fn rack_of(alloc: Global, rack: Option<&str>) -> Result<Option<String>, AllocErr
     }
 }
 
+/// Whether a picture shows the bookie of that number as registered.
+fn is_registered_in(listed: &Listed, number: usize) -> bool
+    ensures { result ≡ option_map_or is_none (slice_get listed.now.listing.lost_at.items number) false }
+{
+    match listed.listing.lost_at.get(number) {
+        Some(lost) => lost.is_none(),
+        None => false,
+    }
+}
+
 /// How a picture shows the bookie of that number.
 fn shown_at(alloc: Global, listed: &Listed, number: usize) -> Result<Shown, AllocError>
     ensures { IfOk result (λ shown. shown ≡ model.shown_at listed.now number) }
 {
-    let is_registered = match listed.listing.lost_at.get(number) {
-        Some(lost) => lost.is_none(),
-        None => false,
-    };
+    let is_registered = is_registered_in(listed, number);
     let Some(marks) = listed.marks.get(number) else {
         return Ok(Shown::new(is_registered, false, false, None));
     };

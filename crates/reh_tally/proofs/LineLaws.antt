@@ -1,13 +1,15 @@
 -- Lines that fall: the last one comes before the others.
-use Rattle.std.proofs.Common.{sum_by, ◌≡◌, ◌∙◌, ◌+◌, ◌<◌, ℕ, Bool, false, All, List, [], ◌∷◌, ◌++◌, length, get_or, refl, ap, sym, subst, arith}
+use Rattle.std.proofs.Common.{sum_by, ◌≡◌, ◌∙◌, ◌+◌, ◌<◌, ℕ, Bool, true, false, cond, All, List, [], ◌∷◌, ◌++◌, length, get_or, set, refl, ap, sym, subst, inl, inr, arith}
 use Rattle.std.specs.Cmp.{IsStrictWeakOrder, IsTotalOrder}
 use Rattle.std.specs.List.Sorted.{IsSortedBy}
-use Rattle.std.specs.Ordering.{is_gt, is_lt, ordering_reverse}
+use Rattle.std.specs.Ordering.{is_eq, is_gt, is_lt, ordering_reverse}
 use Rattle.std.specs.declared.cmp.Ordering.{Ordering}
 use Rattle.std.specs.declared.cmp.Ordering.TheVariants.{Less, Equal, Greater}
 use Rattle.reh_census.specs.Order.{InOrder}
-use Rattle.std.proofs.lemmas.List.{get_or_append_left, get_or_push, length_push}
-use Rattle.std.proofs.lemmas.List.Sums.{sum_by_push}
+use Rattle.std.proofs.lemmas.Bool.{cases_eq, cases_lt}
+use Rattle.std.proofs.lemmas.List.{get_or-set_other, get_or-set_same, get_or_append_left, get_or_push, get_or_read, length-set, length_push}
+use Rattle.std.proofs.lemmas.List.Elements.{All-push}
+use Rattle.std.proofs.lemmas.List.Sums.{sum_by-set, sum_by_push}
 use Rattle.std.proofs.lemmas.List.Sorted.{IsStrictWeakOrder-flip, ranks_by, sorted_far}
 
 abbrev pub falls : {X K : Type 0} → (X → K) → (K → K → Ordering) → X → X → Bool
@@ -71,3 +73,90 @@ All-none P xs none k d below = absurd (omega (arith, none, below))
 
 pub InOrder-none : {X : Type 0} (cmp : X → X → Ordering) (xs : List X) → length xs ≡ 0 → InOrder cmp xs
 InOrder-none cmp xs none k d below = absurd (omega (arith, none, below))
+
+equal : (o : Ordering) → is_eq o ≡ true → o ≡ Equal
+equal Less same = cc
+equal Equal same = refl
+equal Greater same = cc
+
+less : (o : Ordering) → is_gt o ≡ false → is_eq o ≡ false → o ≡ Less
+less Less behind apart = refl
+less Equal behind apart = cc
+less Greater behind apart = cc
+
+count_more : (b : Bool) (n more : ℕ) → cond b (n + more) 0 ≡ cond b n 0 + cond b more 0
+count_more true n more = refl
+count_more false n more = refl
+
+-- a line that is written where one of its kind was
+module _ {X K : Type 0} (kind : X → K) (xs : List X) (i : ℕ) (was now : X) (within : i < length xs) (at : was ≡ get_or xs i was)
+    (same : kind now ≡ kind was) where
+  here : (k : ℕ) (d : X) → k ≡ i → kind (get_or (set xs i now) k d) ≡ kind (get_or xs k d)
+  here k d is =
+      ap (λ n. kind (get_or (set xs i now) n d)) is ∙ ap kind (get_or-set_same xs i now d within) ∙ same
+      ∙ ap kind (get_or_read xs i was within at d) ∙ ap (λ n. kind (get_or xs n d)) (sym is)
+
+  kind-set : (k : ℕ) (d : X) → kind (get_or (set xs i now) k d) ≡ kind (get_or xs k d)
+  kind-set k d = elim (cases_eq k i) [
+    | inl is ↦ here k d is
+    | inr other ↦ ap kind (get_or-set_other xs i k now d other)
+  ]
+
+  pub All-set_kind : (P : K → Type 0) → All (λ one. P (kind one)) xs → All (λ one. P (kind one)) (set xs i now)
+  All-set_kind P all k d below = subst P (sym (kind-set k d)) (all k d (omega (arith, below, length-set xs i now)))
+
+  pub InOrder-set_kind : (cmp : K → K → Ordering) → InOrder (λ one next. cmp (kind one) (kind next)) xs
+      → InOrder (λ one next. cmp (kind one) (kind next)) (set xs i now)
+  InOrder-set_kind cmp order k d below =
+      (λ j. cmp (kind-set k d j) (kind-set (k + 1) d j)) ∙ order k d (omega (arith, below, length-set xs i now))
+
+  pub sum-set_kind : (count : X → ℕ) (test : K → Bool) (line : X) (n : ℕ) → kind was ≡ kind line → count now ≡ count was + n → n ≡ count line
+      → sum_by (λ one. cond (test (kind one)) (count one) 0) (set xs i now)
+      ≡ sum_by (λ one. cond (test (kind one)) (count one) 0) xs + cond (test (kind line)) (count line) 0
+  sum-set_kind count test line n alike more all =
+      let f : X → ℕ = λ one. cond (test (kind one)) (count one) 0 in
+      let counted : f now ≡ f was + f line =
+      (λ j. cond (test (same j)) ((more ∙ ap (λ m. count was + m) all) j) 0) ∙ count_more (test (kind was)) (count was) (count line)
+      ∙ ap (λ k. cond (test (kind was)) (count was) 0 + cond (test k) (count line) 0) alike in
+      omega (arith, counted, sum_by-set f xs i now was within, ap f at)
+
+-- the line that is compared with the last one is of its kind
+pub alike-last : {X K : Type 0} (kind : X → K) (cmp : K → K → Ordering) → ((one other : K) → cmp one other ≡ Equal → one ≡ other)
+    → (xs : List X) (n : ℕ) (found was line : X) (o : Ordering) → n < length xs → found ≡ get_or xs n found → was ≡ get_or xs n was
+    → o ≡ cmp (kind found) (kind line) → true ≡ is_eq o → kind was ≡ kind line
+alike-last kind cmp exact xs n found was line o within at at_was compared same =
+    ap kind (at_was ∙ sym (get_or_read xs n found within at was)) ∙ exact (kind found) (kind line) (sym compared ∙ equal o (sym same))
+
+-- or it comes after it
+pub less-last : {X K : Type 0} (kind : X → K) (cmp : K → K → Ordering) (xs : List X) (n : ℕ) (found line : X) (o : Ordering)
+    → n + 1 ≡ length xs → found ≡ get_or xs n found → o ≡ cmp (kind found) (kind line) → false ≡ is_eq o
+    → All (λ one. is_gt (cmp (kind one) (kind line)) ≡ false) xs
+    → (k : ℕ) (d : X) → k + 1 ≡ length xs → cmp (kind (get_or xs k d)) (kind line) ≡ Less
+less-last kind cmp xs n found line o long at compared apart behind k d last =
+    let here : k ≡ n = omega (arith, last, long) in
+    let is : get_or xs k d ≡ found = ap (λ m. get_or xs m d) here ∙ sym (get_or_read xs n found (omega (arith, long)) at d) in
+    less (cmp (kind (get_or xs k d)) (kind line)) (behind k d (omega (arith, last)))
+    (ap (λ one. is_eq (cmp (kind one) (kind line))) is ∙ ap is_eq (sym compared) ∙ sym apart)
+
+-- a line is added after all of them
+pub All-added : {X : Type 0} (P : X → Type 0) (xs ys : List X) (x : X) → ys ≡ xs ++ x ∷ [] → All P xs → P x → All P ys
+All-added P xs ys x is all holds = subst (λ zs. All P zs) (sym is) (All-push P xs x all holds)
+
+InOrder-push : {X : Type 0} (cmp : X → X → Ordering) (xs : List X) (x : X) → InOrder cmp xs
+    → ((k : ℕ) (d : X) → k + 1 ≡ length xs → cmp (get_or xs k d) x ≡ Less) → InOrder cmp (xs ++ x ∷ [])
+InOrder-push cmp xs x order last k d below = elim (cases_lt (k + 1) (length xs)) [
+  | inl within ↦ before within
+  | inr past ↦ at_end (omega (arith, below, past, length_push xs x))
+] where
+  left : (n : ℕ) → n < length xs → get_or (xs ++ x ∷ []) n d ≡ get_or xs n d
+  left n within = get_or_append_left xs (x ∷ []) d n within
+
+  before : k + 1 < length xs → cmp (get_or (xs ++ x ∷ []) k d) (get_or (xs ++ x ∷ []) (k + 1) d) ≡ Less
+  before within = (λ i. cmp (left k (omega (arith, within)) i) (left (k + 1) within i)) ∙ order k d within
+
+  at_end : length xs ≡ k + 1 → cmp (get_or (xs ++ x ∷ []) k d) (get_or (xs ++ x ∷ []) (k + 1) d) ≡ Less
+  at_end long = (λ i. cmp (left k (omega (arith, long)) i) (get_or_push xs x d (k + 1) long i)) ∙ last k d (sym long)
+
+pub InOrder-added : {X : Type 0} (cmp : X → X → Ordering) (xs ys : List X) (x : X) → ys ≡ xs ++ x ∷ [] → InOrder cmp xs
+    → ((k : ℕ) (d : X) → k + 1 ≡ length xs → cmp (get_or xs k d) x ≡ Less) → InOrder cmp ys
+InOrder-added cmp xs ys x is order last = subst (λ zs. InOrder cmp zs) (sym is) (InOrder-push cmp xs x order last)

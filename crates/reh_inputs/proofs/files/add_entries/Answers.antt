@@ -1,0 +1,12 @@
+-- One more.
+use Rattle.std.proofs.Common.{◌∙◌, ap}
+use Rattle.reh_inputs.specs.Renumbered.{counted_by}
+use Rattle.reh_inputs.proofs.RangeLaws.{pushed-after}
+use Rattle.reh_inputs.proofs.files.add_entries.Goals as goal
+
+pub loop-one-preserved : goal.loop-one-preserved
+loop-one-preserved c =
+    let make = counted_by c.args.numbers.now in
+    pushed-after make c.args.counted.now c.loop-one.one-index c.one-item.result c.loop-one.entries.items c.push.new.self.items
+    c.in_ok-counted_by.field-0 c.loop-one-test.true c.in_ok-push.ensures.items (c.in_ok-counted_by.ensures ∙ ap make c.one-item.is)
+    c.args.entries.now.items c.loop-one.invariant
