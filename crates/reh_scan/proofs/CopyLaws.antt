@@ -96,7 +96,7 @@ carried-all rows fragment size quorum number copies some was bookie i inside =
 
 -- Members
 
-all_there : (P : Fragment → Type 0) (fragments : List Fragment) (f : ℕ) (fragment : Fragment) → All P fragments
+pub all_there : (P : Fragment → Type 0) (fragments : List Fragment) (f : ℕ) (fragment : Fragment) → All P fragments
     → slice_get fragments f ≡ Some fragment → P fragment
 all_there P [] f fragment all is = cc
 all_there P (g ∷ fragments) zero fragment all is =

@@ -20,7 +20,7 @@ use Rattle.reh_model.specs.Cluster.{Cluster, Ledger, is_source, ledger_at}
 use Rattle.reh_model.specs.Refusals.{at_fragment, at_ledger, with_fragment, with_ledger, no_bookie, no_index, not_owner}
 use Rattle.reh_model.specs.Refusals.{member_up, target_down, target_is_member}
 use Rattle.reh_model.specs.Scan.{lost_source, lost_sources, not_as_seen, post_checks, post_refusal, source_checks}
-use Rattle.reh_model.proofs.CheckLaws.{first_reason-found, first_reason-only}
+use Rattle.reh_model.proofs.CheckLaws.{first_reason-found, first_reason-only, first_reason-passed}
 use Rattle.reh_scan.specs.Posts.{IsSeen, is_copy_at, lost_copy}
 use Rattle.reh_scan.specs.Sources.{is_set_at, is_source_at}
 use Rattle.reh_scan.proofs.ReadingLaws.{write_set_within}
@@ -152,6 +152,22 @@ source_checks-found s content g fragment reason inside is =
     ∷ target_is_member fragment content.aim.worker ∷ [])
     (lost_sources s content g fragment ∷ []) reason
     (sym (member_checks s content g fragment inside) ∙ is)
+
+-- and where they refuse nothing, the sources are left
+pub source_checks-passed : (s : Cluster) (content : Content) (g : Ledger) (fragment : Fragment)
+    → content.aim.index < g.metadata.size
+    → first_reason
+    (no_index g content.aim.index ∷ member_up s fragment content.aim.index ∷ target_down s content.aim.worker
+    ∷ target_is_member fragment content.aim.worker ∷ [])
+    ≡ None
+    → first_reason (source_checks s content g fragment) ≡ lost_sources s content g fragment
+source_checks-passed s content g fragment inside none =
+    first_reason-passed
+    (member_up s fragment content.aim.index ∷ target_down s content.aim.worker
+    ∷ target_is_member fragment content.aim.worker ∷ [])
+    (lost_sources s content g fragment ∷ [])
+    (sym (member_checks s content g fragment inside) ∙ none)
+    ∙ first_reason-only (lost_sources s content g fragment)
 
 -- the bits in which two numbers differ, and others: there is none where there is no other and the numbers are the same
 pub none_differing : (others a b : ℕ) → bit_or others (bit_xor a b) ≡ 0 → (others ≡ 0) × (a ≡ b)

@@ -75,13 +75,11 @@ impl Session {
     pub fn clone_in(&self) -> Result<Session, AllocError>
         ensures { IfOk result (λ copy. copy ≡ self.now) }
     {
-        let mut records = Vec::with_capacity(self.allocator(), self.records.len())?;
-        for changes in &self.records {
-            records.push(changes.clone_in()?)?;
-        }
+        let records = clone_records(self.allocator(), &self.records)?;
+        let events = self.events.clone()?;
         Ok(Session {
             state: self.state.clone_in()?,
-            events: self.events.clone()?,
+            events,
             records,
             cursor: self.cursor,
         })
@@ -265,6 +263,17 @@ impl Session {
         }
         Ok(replies)
     }
+}
+
+/// A copy of a list of records.
+fn clone_records(alloc: Global, records: &Vec<Changes>) -> Result<Vec<Changes>, AllocError>
+    ensures { IfOk result (λ copy. copy.items ≡ records.now.items) }
+{
+    let mut copy = Vec::with_capacity(alloc, records.len())?;
+    for changes in records {
+        copy.push(changes.clone_in()?)?;
+    }
+    Ok(copy)
 }
 
 /// Whether both are the same records, one by one.

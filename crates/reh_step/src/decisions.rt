@@ -36,19 +36,19 @@ pub fn check_event(state: &State, event: &Event) -> Result<(), Refusal>
         Event::Lose { bookie } => check_lose(state, *bookie),
         Event::Join { bookie } => check_join(state, *bookie),
         Event::Audit => check_audit(state),
-        Event::Acquire { worker, ledger } => check_acquire(state, *worker, *ledger).map(|_| ()),
-        Event::Release { worker, ledger } => check_release(state, *worker, *ledger).map(|_| ()),
-        Event::Finish { worker, ledger } => check_finish(state, *worker, *ledger).map(|_| ()),
+        Event::Acquire { worker, ledger } => check_acquire(state, *worker, *ledger).map(drop),
+        Event::Release { worker, ledger } => check_release(state, *worker, *ledger).map(drop),
+        Event::Finish { worker, ledger } => check_finish(state, *worker, *ledger).map(drop),
         Event::Expire { worker } => check_expire(state, *worker),
-        Event::Grace { worker, ledger } => check_grace(state, *worker, *ledger).map(|_| ()),
+        Event::Grace { worker, ledger } => check_grace(state, *worker, *ledger).map(drop),
         Event::Tick { ticks } => check_tick(state, *ticks),
         Event::Roll {
             ledger,
             index,
             bookie,
-        } => check_roll(state, *ledger, *index, *bookie).map(|_| ()),
-        Event::Fence { worker, ledger } => check_fence(state, *worker, *ledger).map(|_| ()),
-        Event::Seal { worker, ledger } => check_seal(state, *worker, *ledger).map(|_| ()),
+        } => check_roll(state, *ledger, *index, *bookie).map(drop),
+        Event::Fence { worker, ledger } => check_fence(state, *worker, *ledger).map(drop),
+        Event::Seal { worker, ledger } => check_seal(state, *worker, *ledger).map(drop),
         Event::Copy {
             worker,
             ledger,
@@ -60,7 +60,7 @@ pub fn check_event(state: &State, event: &Event) -> Result<(), Refusal>
             &aim_of(*worker, *ledger, *fragment, *index),
             *version,
         )
-        .map(|_| ()),
+        .map(drop),
         Event::Swap {
             worker,
             ledger,
@@ -72,7 +72,7 @@ pub fn check_event(state: &State, event: &Event) -> Result<(), Refusal>
             &aim_of(*worker, *ledger, *fragment, *index),
             *version,
         )
-        .map(|_| ()),
+        .map(drop),
         Event::Disable => check_disable(state),
         Event::Enable => check_enable(state),
     }
