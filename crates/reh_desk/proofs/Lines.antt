@@ -18,7 +18,8 @@ use Rattle.reh_types.specs.declared.refusals.Refusal.TheVariants.{TapeFull, NoMe
 use Rattle.reh_model.specs.Cluster.{Cluster}
 use Rattle.reh_model.specs.Scan.{aim_refusal}
 use Rattle.reh_model.specs.Session.{Session, replay, state_of, reply_unless, reply_to, session_after, Performs}
-use Rattle.reh_model.specs.Book.{Book, ticket, ticket_place, new_book, answer_to, is_written, book_after, Legal}
+use Rattle.reh_model.specs.Checks.{first_reason}
+use Rattle.reh_model.specs.Book.{Book, ticket, ticket_place, new_book, or_refused, answer_to, is_written, book_after, Legal}
 use Rattle.reh_model.proofs.BookLaws.{post_written, reply_written, aim_written, Legal-push}
 use Rattle.reh_desk.specs.Kept.{Kept, kept_of, line, Called, IsKept}
 
@@ -61,9 +62,20 @@ kept_line kept h more lines numbered few reserved = record {
 pub not_full : (reply : Reply) → IsTrue (is_written reply) → reply ≢ Refused TapeFull
 not_full reply written full = true≢false (sym written ∙ ap is_written full)
 
+-- nor is the answer to an aim that is asked
+not_full_for : (refusal : Option Refusal) (number : ℕ) → IsTrue (is_written (reply_unless refusal)) → or_refused (first_reason (refusal ∷ [])) (Issued number) ≢ Refused TapeFull
+not_full_for None number written = not_full (Issued number) refl
+not_full_for (Some refusal) number written = not_full (Refused refusal) written
+
 -- one line more
 length_push : (lines : List Line) (l : Line) → length (lines ++ l ∷ []) ≡ length lines + 1
 length_push lines l = length-append lines (l ∷ [])
+
+-- a checkout where as many tickets are out as a tape may have lines
+pub most_out : (k : Kept) (seat : ℕ) (aim : Aim) → MAX_LINES ≤ length k.book.out → Called k seat (Checkout aim) (Refused TapeFull) k
+most_out k seat aim most =
+    let full : nat_lt MAX_LINES (k.book.lines + length k.book.out + 2) ≡ true = grind (arith, nat_tests) in
+    record { answers = (inl (rw full refl), refl); tape = refl; opening = refl }
 
 -- Moves
 
@@ -97,6 +109,19 @@ module _ (o s : Session) (lines : List Line) (last : ℕ) (out : List TicketOut)
   pub not_copied : (move : Move) → length lines + length out + 1 ≤ MAX_LINES → Called before seat (Ask move) (Refused NoMemory) before
   not_copied move fits =
       let room : nat_lt MAX_LINES (length lines + length out + 1) ≡ false = grind (arith, nat_tests) in not_asked move NoMemory (rw room refl)
+
+  -- a checkout that is not made for lack of room, or of memory
+  pub not_issued : (aim : Aim) (refusal : Refusal) → refusal ≡ (if nat_lt MAX_LINES (length lines + length out + 2) then TapeFull else NoMemory) → Called before seat (Checkout aim) (Refused refusal) before
+  not_issued aim refusal is =
+      (elim (nat_lt MAX_LINES (length lines + length out + 2)) as (λ b. nat_lt MAX_LINES (length lines + length out + 2) ≡ b → refusal ≡ (if b then TapeFull else NoMemory) → Called before seat (Checkout aim) (Refused refusal) before) [
+        | true ↦ λ full is. rw is (record { answers = (inl (rw full refl), refl); tape = refl; opening = refl })
+        | false ↦ λ room is. rw is (record { answers = (inr (refl, rw room (not_full_for _ _ (aim_written (state_of s) aim))), refl); tape = refl; opening = refl })
+      ]) refl is
+
+  -- nor for lack of memory alone
+  pub not_stored : (aim : Aim) → length lines + length out + 2 ≤ MAX_LINES → Called before seat (Checkout aim) (Refused NoMemory) before
+  not_stored aim fits =
+      let room : nat_lt MAX_LINES (length lines + length out + 2) ≡ false = grind (arith, nat_tests) in not_issued aim NoMemory (rw room refl)
 
   -- of the book that contracts see, where the tape has the same lines
   pub unchanged : (k : Kept) (same : List Line) (call : Call) (reply : Reply) → before ≡ k → same ≡ lines → Called before seat call reply before

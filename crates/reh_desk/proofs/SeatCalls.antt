@@ -6,11 +6,12 @@ use Rattle.std.proofs.lemmas.List.Edits.{length-remove}
 use Rattle.std.proofs.lemmas.List.Quantifiers.{position-Some}
 use Rattle.reh_types.specs.declared.calls.Call.{Call}
 use Rattle.reh_types.specs.declared.calls.Call.TheVariants.{Checkout, Spend, Discard}
+use Rattle.reh_types.specs.declared.calls.OwnLine.{OwnLine}
 use Rattle.reh_types.specs.declared.calls.TicketOut.{TicketOut}
 use Rattle.reh_types.specs.declared.contents.Content.{Content}
 use Rattle.reh_types.specs.declared.moves.Move.TheVariants.{Post}
 use Rattle.reh_types.specs.declared.moves.Reply.{Reply}
-use Rattle.reh_types.specs.declared.moves.Reply.TheVariants.{Discarded, Refused}
+use Rattle.reh_types.specs.declared.moves.Reply.TheVariants.{Issued, Discarded, Refused}
 use Rattle.reh_types.specs.declared.names.Aim.{Aim}
 use Rattle.reh_types.specs.declared.refusals.Refusal.{Refusal}
 use Rattle.reh_types.specs.declared.refusals.Refusal.TheVariants.{NotOut, NoMemory}
@@ -30,6 +31,18 @@ pub ended : (keeps : Bool) (s t u : SeatView) (call : Call) (reply : Reply) → 
     → u ≡ with_line keeps t (own_line call reply) → u ≡ caller_after keeps s call reply
 ended true s t u call reply written fewer t_is u_is = rw (u_is, t_is, written, fewer) refl
 ended false s t u call reply written fewer t_is u_is = rw (u_is, t_is) refl
+
+-- a line more leaves the count of tickets
+pub with_line-out : (keeps : Bool) (s : SeatView) (line : OwnLine) → (with_line keeps s line).out ≡ s.out
+with_line-out true s line = refl
+with_line-out false s line = refl
+
+-- a caller with a ticket more, and the line of the checkout that issued it
+pub with_ticket : (keeps : Bool) (s t u v : SeatView) (aim : Aim) (number : ℕ) → t ≡ s
+    → u ≡ with_line keeps t (own_line (Checkout aim) (Issued number)) → v ≡ with_out keeps u (u.out + 1)
+    → v ≡ caller_after keeps s (Checkout aim) (Issued number)
+with_ticket true s t u v aim number t_is u_is v_is = rw (v_is, u_is, t_is) refl
+with_ticket false s t u v aim number t_is u_is v_is = rw (v_is, u_is, t_is) refl
 
 -- a caller with the line of a checkout that is refused for its aim
 pub aim_refused : (keeps : Bool) (s t u : SeatView) (state : Cluster) (aim : Aim) (refusal : Refusal)

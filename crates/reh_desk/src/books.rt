@@ -240,22 +240,20 @@ impl Book {
         let seat = caller.number();
         let reserved = self.out.len();
         make_room(&mut self.lines, reserved, caller, 2)?;
-        // The borrow checker wants a second name for what is used twice and may name a bookie.
-        let same = aim;
-        let (call, copy) = (Call::Checkout(aim), Call::Checkout(same));
         if let Err(refusal) = aimed(self.session.state(), &aim) {
+            // The borrow checker wants a second name for what is used twice and may name a bookie.
             let reason = refusal;
             let reply = Reply::Refused(reason);
-            write(&mut self.lines, caller, Line { seat, call, reply }, copy);
+            write_checkout(&mut self.lines, caller, seat, &aim, &reply);
             return Err(refusal);
         }
-        let job = Job::of(self.session.allocator(), self.session.state(), &aim)?;
         self.out.reserve(1)?;
+        let job = Job::of(self.session.allocator(), self.session.state(), &aim)?;
         let number = self.last_ticket + 1;
         let reply = Reply::Issued(number);
         self.last_ticket = number;
         self.out.push_reserved(TicketOut { seat, number, aim });
-        write(&mut self.lines, caller, Line { seat, call, reply }, copy);
+        write_checkout(&mut self.lines, caller, seat, &aim, &reply);
         caller.count_issue();
         Ok(Ticket::new(number, job))
     }
@@ -377,6 +375,26 @@ fn write<C: Caller>(lines: &mut Vec<Line>, caller: &mut C, line: Line, copy: Cal
     };
     lines.push_reserved(line);
     caller.add(own);
+}
+
+/// Writes the line of a checkout on the tape and in the caller's list.
+fn write_checkout<C: Caller>(
+    lines: &mut Vec<Line>,
+    caller: &mut C,
+    seat: u32,
+    aim: &Aim,
+    reply: &Reply,
+)
+    requires room { length lines.old.items < vec_capacity lines.old }
+    requires own_room { C.has_room caller.old 1 }
+    ensures lines { lines.new.items ≡ lines.old.items ++ line seat (call.Checkout aim.now) reply.now ∷ [] }
+    ensures capacity { vec_capacity lines.old ≤ vec_capacity lines.new }
+    ensures own_line { C.shown caller.new
+        ≡ with_line C.keeps (C.shown caller.old) (own_line (call.Checkout aim.now) reply.now) }
+    ensures left { (n : ℕ) → C.has_room caller.old (n + 1) → C.has_room caller.new n }
+{
+    let line = tape_line(seat, Call::Checkout(*aim), reply);
+    write(lines, caller, line, Call::Checkout(*aim));
 }
 
 /// A line of the tape.

@@ -86,17 +86,27 @@ impl Desk {
             Ok(seats) => seats,
             Err(want) => return Err((session, want)),
         };
+        match Desk::of(session, count) {
+            Ok(desk) => Ok((desk, seats)),
+            Err(back) => Err(back),
+        }
+    }
+
+    /// A desk of so many seats on a session, or the session, where there is no memory for the two copies of it.
+    fn of(session: Session, seats: u32) -> Result<Desk, (Session, AllocError)>
+        ensures ok { IfOk result (λ desk. desk ≡ record { opening = session; seats = seats }) }
+        ensures err { IfErr result (λ e. e.0 ≡ session) }
+    {
         let opening = match session.clone_in() {
             Ok(opening) => opening,
             Err(want) => return Err((session, want)),
         };
         let book = Book::of(session)?;
-        let desk = Desk {
+        Ok(Desk {
             book: Mutex::new(book),
             opening,
-            seats: count,
-        };
-        Ok((desk, seats))
+            seats,
+        })
     }
 
     /// Closes a desk, once all its seats are back. It takes no memory. Where it doesn't close, desk and seats are
