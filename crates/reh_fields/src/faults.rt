@@ -158,18 +158,18 @@ impl fmt::Display for PictureFault {
 
     fn fmt<W: fmt::Write>(&self, f: &mut fmt::Formatter<W>) -> fmt::Result {
         match self {
-            PictureFault::TooLong => write!(f, "1 TooLong"),
-            PictureFault::NotJson => write!(f, "2 NotJson"),
+            PictureFault::TooLong => f.write_str("1 TooLong"),
+            PictureFault::NotJson => f.write_str("2 NotJson"),
             PictureFault::Missing(field) => write!(f, "3 Missing {field}"),
             PictureFault::WrongKind(field) => write!(f, "4 WrongKind {field}"),
-            PictureFault::BadName => write!(f, "5 BadName"),
+            PictureFault::BadName => f.write_str("5 BadName"),
             PictureFault::Twice(repeated) => write!(f, "6 Twice {repeated}"),
             PictureFault::UnknownBookie(name) => write!(f, "7 UnknownBookie {name}"),
             PictureFault::Limit(field) => write!(f, "8 Limit {field}"),
             PictureFault::BadLedger(ledger, flaw) => {
                 write!(f, "9 BadLedger {} {}", ledger.0, flaw.name())
             }
-            PictureFault::NoMemory => write!(f, "10 NoMemory"),
+            PictureFault::NoMemory => f.write_str("10 NoMemory"),
         }
     }
 }

@@ -1,5 +1,6 @@
 pub mod Sound
 pub mod Lists
+pub mod Walks
 pub mod BookiesLemmas
 pub mod ContentsLemmas
 pub mod Greatest

@@ -3,9 +3,10 @@ ghost use Rattle.std.specs.Prelude.{◌≡◌, ◌<◌, ◌≤◌, [], ◌∷◌
 ghost use Rattle.serde_json.specs.View.{view};
 ghost use Rattle.reh_types.specs.declared.limits.TheConstants.{MAX_BOOKIES};
 ghost use Rattle.reh_fields.specs.Faults.{FailsWith};
-ghost use Rattle.reh_fields.specs.Members.{text_of, flag_of, list_of};
+ghost use Rattle.reh_fields.specs.Members.{text_of, list_of};
 ghost use Rattle.reh_picture.specs.Places.{FailsAt, fault_at};
-ghost use Rattle.reh_picture.specs.Bookies.{bookie_fault, each_bookie_fault, bookies_fault, names_in, registrations_in};
+ghost use Rattle.reh_picture.specs.Bookies.{bookie_fault, each_bookie_fault, bookies_fault, names_in, registration_in};
+ghost use Rattle.reh_picture.specs.Bookies.{registrations_in};
 
 use crate::places::{LocatedFault, Place};
 use reh_cluster::Names;
@@ -47,11 +48,10 @@ fn read_each_bookie(
         (λ r. r.1.items ≡ registrations_in (map view bookies.now)) }
     ensures fault { FailsAt result (each_bookie_fault (map view bookies.now)) }
 {
-    let mut names = Names::new(alloc);
     let mut lost_at = Vec::with_capacity(alloc, bookies.len())?;
+    let mut names = Names::new(alloc);
     for (i, bookie) in bookies.iter().enumerate() {
-        let lost = registration_of(read_bookie_at(alloc, &mut names, i, bookie)?);
-        lost_at.push(lost)?;
+        add_bookie_at(alloc, &mut names, &mut lost_at, i, bookie)?;
     }
     Ok((names, lost_at))
 }
@@ -63,35 +63,44 @@ fn registration_of(registered: bool) -> Option<u64>
     if registered { None } else { Some(0) }
 }
 
-/// Adds the name of the bookie of this number, and says whether the bookie is registered. After an `Err` the names may
-/// have its name.
-fn read_bookie_at(
+/// Adds the name and the registration of the bookie of this number. After an `Err` the names may have its name.
+fn add_bookie_at(
     alloc: Global,
     names: &mut Names,
+    lost_at: &mut Vec<Option<u64>>,
     number: usize,
     bookie: &Value,
-) -> Result<bool, LocatedFault>
+) -> Result<(), LocatedFault>
     requires { length names.old < MAX_BOOKIES }
     ensures fault { FailsAt result
         (fault_at (Place.Bookie number) (bookie_fault names.old (view bookie.now))) }
     ensures named { OnOk result
         (names.new ≡ names.old ++ text_of (view bookie.now) Field.Name ∷ []) }
-    ensures registered { IfOk result (λ up. flag_of (view bookie.now) Field.Up ≡ up) }
+    ensures registered { OnOk result
+        (lost_at.new.items ≡ lost_at.old.items ++ registration_in (view bookie.now) ∷ []) }
 {
-    match read_bookie(alloc, names, bookie) {
-        Ok(up) => Ok(up),
+    match add_bookie(alloc, names, lost_at, bookie) {
+        Ok(()) => Ok(()),
         Err(fault) => Err(LocatedFault::new(fault, Place::Bookie(number))),
     }
 }
 
 /// The same without a place.
-fn read_bookie(alloc: Global, names: &mut Names, bookie: &Value) -> Result<bool, PictureFault>
+fn add_bookie(
+    alloc: Global,
+    names: &mut Names,
+    lost_at: &mut Vec<Option<u64>>,
+    bookie: &Value,
+) -> Result<(), PictureFault>
     requires { length names.old < MAX_BOOKIES }
     ensures fault { FailsWith result (bookie_fault names.old (view bookie.now)) }
     ensures named { OnOk result
         (names.new ≡ names.old ++ text_of (view bookie.now) Field.Name ∷ []) }
-    ensures registered { IfOk result (λ up. flag_of (view bookie.now) Field.Up ≡ up) }
+    ensures registered { OnOk result
+        (lost_at.new.items ≡ lost_at.old.items ++ registration_in (view bookie.now) ∷ []) }
 {
     read_name(alloc, names, bookie)?;
-    flag(bookie, Field::Up)
+    let is_up = flag(bookie, Field::Up)?;
+    lost_at.push(registration_of(is_up))?;
+    Ok(())
 }

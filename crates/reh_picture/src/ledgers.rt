@@ -364,30 +364,39 @@ fn read_each_ledger(alloc: Global, names: &Names, values: &[Value]) -> Result<Le
     ensures listed { IfOk result
         (λ ledgers. ledgers.listed.items ≡ map (listed_in names.now) (map view values.now)) }
 {
-    let mut ids = IndexSet::new(alloc);
-    let mut listed = Vec::new(alloc);
+    let mut ledgers = Ledgers {
+        ids: IndexSet::new(alloc),
+        listed: Vec::new(alloc),
+    };
     for (i, value) in values.iter().enumerate() {
-        listed.push(read_ledger(alloc, names, &mut ids, i, value)?)?;
+        add_ledger(alloc, names, &mut ledgers, i, value)?;
     }
-    Ok(Ledgers { ids, listed })
+    Ok(ledgers)
 }
 
-/// The metadata of the ledger of this number; its id joins the ids. After an `Err` they may have it.
-fn read_ledger(
+/// Adds the ledger of this number. After an `Err` the ids may have its id.
+fn add_ledger(
     alloc: Global,
     names: &Names,
-    ids: &mut IndexSet<u64>,
+    ledgers: &mut Ledgers,
     number: usize,
     ledger: &Value,
-) -> Result<ListedLedger, LocatedFault>
-    ensures fault { FailsAt result (ledger_fault names.now number ids.old.keys (view ledger.now)) }
+) -> Result<(), LocatedFault>
+    ensures fault { FailsAt result
+        (ledger_fault names.now number ledgers.old.ids.keys (view ledger.now)) }
     ensures ids { OnOk result
-        (ids.new.keys ≡ ids.old.keys ++ number_of (view ledger.now) Field.Id ∷ []) }
-    ensures ledger { IfOk result (λ g. g ≡ listed_in names.now (view ledger.now)) }
+        (ledgers.new.ids.keys ≡ ledgers.old.ids.keys ++ number_of (view ledger.now) Field.Id ∷ []) }
+    ensures listed { OnOk result
+        (ledgers.new.listed.items
+        ≡ ledgers.old.listed.items ++ listed_in names.now (view ledger.now) ∷ []) }
 {
-    let id = read_id(ids, ledger).map_err(|fault| LocatedFault::new(fault, Place::Ledger(number)))?;
+    let id = read_id(&mut ledgers.ids, ledger).map_err(|fault| LocatedFault::new(
+        fault,
+        Place::Ledger(number),
+    ))?;
     let metadata = read_metadata(alloc, names, number, id, ledger)?;
-    Ok(ListedLedger { id, metadata })
+    ledgers.listed.push(ListedLedger { id, metadata })?;
+    Ok(())
 }
 
 /// A ledger's id, which joins the ids. After an `Err` they may have it.

@@ -40,20 +40,22 @@ fn marked_value(
             "empty": is_empty,
             "rack": rack
         }),
-        None => json!(in alloc; {
-            "name": name,
-            "up": up,
-            "readOnly": is_read_only,
-            "empty": is_empty
-        }),
+        None => unracked_value(alloc, name, up, is_read_only, is_empty),
     }
 }
 
-/// A bookie without a mark.
-fn plain_value(alloc: Global, name: &str, up: bool) -> Result<Value, AllocError>
-    ensures { IfOk result (λ v. view v ≡ bookie_data name.now up no_marks) }
+/// A bookie without a rack.
+fn unracked_value(
+    alloc: Global,
+    name: &str,
+    up: bool,
+    is_read_only: bool,
+    is_empty: bool,
+) -> Result<Value, AllocError>
+    ensures { IfOk result (λ v. view v
+        ≡ bookie_data name.now up (record no_marks { is_read_only = is_read_only; is_empty = is_empty })) }
 {
-    json!(in alloc; {"name": name, "up": up, "readOnly": false, "empty": false})
+    json!(in alloc; {"name": name, "up": up, "readOnly": is_read_only, "empty": is_empty})
 }
 
 /// Whether a bookie that came back without its disk, or not, is marked so once it holds so many entries.
@@ -83,7 +85,7 @@ fn bookie_value_at(
             Ok(value)
         }
         None => {
-            let value = plain_value(alloc, name, up)?;
+            let value = unracked_value(alloc, name, up, false, false)?;
             Ok(value)
         }
     }

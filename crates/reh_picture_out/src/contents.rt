@@ -49,7 +49,7 @@ fn content_value(
     ensures { IfOk result (λ v. view v ≡ content_data assumed name.now ledger ranges.now) }
 {
     let ranges = range_values(alloc, ranges)?;
-    json!(in alloc; {"bookie": name, "ledger": ledger.0, "assumed": assumed, "entries": ranges})
+    json!(in alloc; {"entries": ranges, "bookie": name, "ledger": ledger.0, "assumed": assumed})
 }
 
 /// The ranges of the entries of a ledger that a bookie holds.

@@ -32,7 +32,7 @@ fn fragment_value(alloc: Global, names: &Names, fragment: &Fragment) -> Result<V
     ensures { IfOk result (λ v. view v ≡ fragment_data names.now fragment.now) }
 {
     let members = member_values(alloc, names, &fragment.ensemble)?;
-    json!(in alloc; {"firstEntry": fragment.first, "ensemble": members})
+    json!(in alloc; {"ensemble": members, "firstEntry": fragment.first})
 }
 
 /// The fragments of a ledger.
@@ -102,14 +102,14 @@ fn metadata_value(
     ensures { IfOk result (λ v. view v ≡ metadata_data id metadata.now (items_view fragments.items)) }
 {
     json!(in alloc; {
+        "fragments": fragments,
         "id": id.0,
         "state": state_name(metadata.state()),
         "lastEntryId": last_value(metadata.state()),
         "ensembleSize": metadata.size(),
         "writeQuorumSize": metadata.write_quorum(),
         "ackQuorumSize": metadata.ack_quorum(),
-        "version": metadata.version(),
-        "fragments": fragments
+        "version": metadata.version()
     })
 }
 

@@ -1,11 +1,11 @@
 // The text of a picture.
-ghost use Rattle.std.specs.Prelude.{◌≡◌, None, Ok, map, string_bytes, IfOk};
+ghost use Rattle.std.specs.Prelude.{◌≡◌, None, Ok, map, string_bytes, IfOk, OnOk};
 ghost use Rattle.serde_json.specs.View.{view};
 ghost use Rattle.reh_picture.specs.Listings.{located_listing};
 ghost use Rattle.reh_picture.specs.Pictures.{picture_of};
 ghost use Rattle.reh_picture_out.specs.Kept.{kept_of};
 ghost use Rattle.reh_picture_out.specs.Marks.{KeepsMarksIn};
-ghost use Rattle.reh_picture_out.specs.Written.{written_data, IsPicture};
+ghost use Rattle.reh_picture_out.specs.Written.{first_data, delayed_data, written_data, IsPicture};
 
 use crate::bookies::bookie_values;
 use crate::contents::content_values;
@@ -31,8 +31,16 @@ pub fn picture_text(alloc: Global, state: &State, began: &Listed) -> Result<Stri
     let value = picture_value(alloc, state, began)?;
     let text = value.to_string(alloc)?;
     drop(value);
-    match list_picture(alloc, text.as_bytes()) {
-        Ok(_) => Ok(text),
+    check_listed(alloc, text.as_bytes())?;
+    Ok(text)
+}
+
+/// Reads bytes as a picture, and gives the fault that this finds.
+fn check_listed(alloc: Global, bytes: &[u8]) -> Result<(), PictureFault>
+    ensures { OnOk result (located_listing bytes.now ≡ None) }
+{
+    match list_picture(alloc, bytes) {
+        Ok(_) => Ok(()),
         Err(located) => Err(located.fault),
     }
 }
@@ -70,21 +78,50 @@ fn written_value(
         (map view bookies.items) (map view ledgers.items) (map view contents.items)) }
 {
     if delay == 0 {
-        json!(in alloc; {
-            "format": 1u64,
-            "grace": grace,
-            "bookies": bookies,
-            "ledgers": ledgers,
-            "contents": contents
-        })
+        first_value(alloc, grace, bookies, ledgers, contents)
     } else {
-        json!(in alloc; {
-            "format": 2u64,
-            "grace": grace,
-            "lostDelayTicks": delay,
-            "bookies": bookies,
-            "ledgers": ledgers,
-            "contents": contents
-        })
+        delayed_value(alloc, delay, grace, bookies, ledgers, contents)
     }
+}
+
+/// A picture of format 1.
+fn first_value(
+    alloc: Global,
+    grace: u64,
+    bookies: Vec<Value>,
+    ledgers: Vec<Value>,
+    contents: Vec<Value>,
+) -> Result<Value, AllocError>
+    ensures { IfOk result (λ v. view v ≡ first_data grace
+        (map view bookies.items) (map view ledgers.items) (map view contents.items)) }
+{
+    json!(in alloc; {
+        "bookies": bookies,
+        "ledgers": ledgers,
+        "contents": contents,
+        "format": 1u64,
+        "grace": grace
+    })
+}
+
+/// A picture of format 2.
+fn delayed_value(
+    alloc: Global,
+    delay: u64,
+    grace: u64,
+    bookies: Vec<Value>,
+    ledgers: Vec<Value>,
+    contents: Vec<Value>,
+) -> Result<Value, AllocError>
+    ensures { IfOk result (λ v. view v ≡ delayed_data delay grace
+        (map view bookies.items) (map view ledgers.items) (map view contents.items)) }
+{
+    json!(in alloc; {
+        "bookies": bookies,
+        "ledgers": ledgers,
+        "contents": contents,
+        "format": 2u64,
+        "grace": grace,
+        "lostDelayTicks": delay
+    })
 }

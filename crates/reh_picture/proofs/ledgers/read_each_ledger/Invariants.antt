@@ -8,6 +8,6 @@ use Rattle.reh_picture.proofs.ledgers.read_each_ledger.Given as goal
 abbrev pub invariant-loop-i : goal.invariant-loop-i
 invariant-loop-i l = record {
   made : HasMade (λ i before d. ledger_fault l.names i (ids_in before) d) (listed_in l.names) l.values l.i
-      l.listed.items;
-  ids : l.ids.keys ≡ ids_in (map view (take l.i l.values));
+      l.ledgers.listed.items;
+  ids : l.ledgers.ids.keys ≡ ids_in (map view (take l.i l.values));
 }
