@@ -72,7 +72,7 @@ fn check_cut(
     check_listed(alloc, head, assume, lines, text, &listed)
 }
 
-/// The same, of a text that lists this as a picture.
+/// Whether the text, which lists this, is such a picture.
 fn check_listed(
     alloc: Global,
     head: &Head,
@@ -85,7 +85,20 @@ fn check_listed(
     ensures { OnOk result (model.IsCut head.now lines.now assume text.now) }
 {
     let state = state_in(alloc, text)?;
-    if is_shown(head, assume, lines, listed, &state) {
+    check_shown(head, assume, lines, listed, &state)
+}
+
+/// That a picture which lists this, with that state, shows these ledgers as their lines do, or else that it differs.
+fn check_shown(
+    head: &Head,
+    assume: Assume,
+    lines: &[LedgerLine],
+    listed: &Listed,
+    state: &State,
+) -> Result<(), CutFault>
+    ensures { OnOk result (model.IsShown head.now lines.now assume listed.now state.now) }
+{
+    if is_shown(head, assume, lines, listed, state) {
         Ok(())
     } else {
         Err(CutFault::Differs)

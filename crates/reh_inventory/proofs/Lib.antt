@@ -1,3 +1,4 @@
+pub mod MadeLemmas
 pub mod LastLemmas
 pub mod LinesLemmas
 pub mod InventoryLemmas

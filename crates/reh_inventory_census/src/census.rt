@@ -1,15 +1,23 @@
 // The census of an inventory, line after line.
-ghost use Rattle.std.specs.Prelude.{◌≡◌, ◌++◌, ◌∷◌, [], ℕ, Bool, List, Ok, IfOk, OnOk, option_map, string_bytes};
+ghost use Rattle.std.specs.Prelude.{◌≡◌, ◌≤◌, ◌^◌, ◌++◌, ◌∷◌, [], ℕ, Bool, true, List, Ok, IfOk, OnOk, map, option_map, string_bytes};
+ghost use Rattle.reh_census.specs.Counting.{not_judged};
+ghost use Rattle.reh_census.specs.Ledgers.{Ledger as LedgerValue};
+ghost use Rattle.reh_census.specs.Order.{IsInOrder};
+ghost use Rattle.reh_census_file.specs.Values.{named_by};
+ghost use Rattle.reh_inventory.specs.Inventories.{added, no_lines};
 ghost use Rattle.reh_inventory.specs.Lines.{located_line_of};
+ghost use Rattle.reh_inventory_census.specs.Bookies as bookies;
+ghost use Rattle.reh_inventory_census.specs.Counting.{CountsLedgers, counts_in};
+ghost use Rattle.reh_inventory_census.specs.Numbers.{bookies_named};
 ghost use Rattle.reh_inventory_census.specs.declared.census.CountedLine.{CountedLine as CountedValue};
 ghost use Rattle.reh_inventory_census.specs.Census as model;
 
 use crate::bookies::{bookies_of, racks_of};
 use crate::counter::{Counter, LedgerCount};
-use crate::counts::{Counts, MOST};
+use crate::counts::MOST;
 use crate::faults::CountFault;
 use crate::numbers::{are_named, line_fault};
-use reh_census::Judged;
+use reh_census::{Bookies, Judged};
 use reh_census_file::{NameList, NamedCensus};
 use reh_inventory::{Head, Inventory, InventoryFault, Line, read_line};
 use std::alloc::{AllocError, Global};
@@ -68,6 +76,86 @@ pub(crate) fn read_head(alloc: Global, bytes: &[u8]) -> Result<Head, CountFault>
     }
 }
 
+/// What a census says of the cluster of a first line.
+#[derive(Drop)]
+struct Cluster {
+    racks: NameList,
+    bookies: Bookies,
+    taken: Option<String>,
+}
+
+/// The cluster of a first line, each of whose bookies must have a number.
+fn cluster_of(alloc: Global, names: &NameList, head: &Head) -> Result<Cluster, CountFault>
+    ensures named { IfOk result (λ _. bookies_named names.now head.now.bookies ≡ true) }
+    ensures racks { IfOk result (λ of. of.racks ≡ bookies.racks_of head.now.bookies) }
+    ensures bookies { IfOk result (λ of. of.bookies
+        ≡ map (bookies.bookie_of (bookies.racks_of head.now.bookies) head.now.bookies) names.now) }
+    ensures taken { IfOk result (λ of. option_map string_bytes of.taken ≡ head.now.taken) }
+{
+    let listed = head.bookies.as_slice();
+    if !are_named(names, listed) {
+        return Err(CountFault::Unnamed);
+    }
+    let racks = racks_of(alloc, listed)?;
+    let bookies = bookies_of(alloc, names, &racks, listed)?;
+    let taken = taken_of(alloc, head)?;
+    Ok(Cluster {
+        racks,
+        bookies,
+        taken,
+    })
+}
+
+/// An inventory of a first line alone.
+fn begun(alloc: Global, head: Head) -> Result<Inventory, InventoryFault>
+    ensures { IfOk result (λ inventory. added no_lines (Line.Head head) ≡ Ok inventory) }
+{
+    let mut inventory = Inventory::new(alloc);
+    inventory.add_line(Line::Head(head))?;
+    Ok(inventory)
+}
+
+/// How an inventory to which no more lines come was judged, if a census can say that.
+fn judged(inventory: Inventory, counter: &Counter) -> Result<Judged, CountFault>
+    ensures judged { IfOk result (λ judged. judged ≡ model.judged_by inventory counter.now.ledgers counter.now.assumed) }
+    ensures few { IfOk result (λ judged. not_judged judged ≤ 2 ^ 63) }
+{
+    let judged = judged_by(&inventory, counter.ledgers, counter.assumed);
+    if judged.unread >= MOST {
+        return Err(CountFault::TooMany);
+    }
+    Ok(judged)
+}
+
+/// The census of what was counted, with its names.
+fn named_census(
+    alloc: Global,
+    counter: Counter,
+    racks: NameList,
+    taken: Option<String>,
+    judged: Judged,
+) -> Result<NamedCensus, CountFault>
+    requires { not_judged judged ≤ 2 ^ 63 }
+    ensures named { IfOk result (λ made. made
+        ≡ named_by counter.names racks counter.bookies made.census counter.is_strict
+        (option_map string_bytes taken)) }
+    ensures counts { IfOk result (λ made. (holders : List ℕ) (ledgers : List LedgerValue)
+        → CountsLedgers holders ledgers counter.counts
+        → CountsLedgers holders ledgers (counts_in made.census)) }
+    ensures judged { IfOk result (λ made. made.census.judged ≡ judged) }
+    ensures order { IfOk result (λ made. IsInOrder made.census) }
+{
+    let Counter {
+        names,
+        bookies,
+        is_strict,
+        counts,
+        ..
+    } = counter;
+    let census = counts.into_census(alloc, judged)?;
+    Ok(NamedCensus::of(names, racks, bookies, census, is_strict, taken))
+}
+
 impl InventoryCount {
     /// Nothing counted but an inventory's first line. Bookies have the numbers of these names: all bookies of the first
     /// line, and of the lines to come. In a strict count what is assumed counts as untold.
@@ -80,26 +168,17 @@ impl InventoryCount {
         ensures { IfOk result (model.IsCount names is_strict first_line.now []) }
     {
         let head = read_head(alloc, first_line)?;
-        if !are_named(&names, head.bookies.as_slice()) {
-            return Err(CountFault::Unnamed);
-        }
-        let racks = racks_of(alloc, head.bookies.as_slice())?;
-        let bookies = bookies_of(alloc, &names, &racks, head.bookies.as_slice())?;
-        let counter = Counter {
-            names,
+        let cluster = cluster_of(alloc, &names, &head)?;
+        let assumes_striped = head.assumes_striped;
+        let inventory = begun(alloc, head)?;
+        let Cluster {
+            racks,
             bookies,
-            assumes_striped: head.assumes_striped,
-            is_strict,
-            counts: Counts::new(alloc),
-            ledgers: 0,
-            assumed: 0,
-        };
-        let taken = taken_of(alloc, &head)?;
-        let mut inventory = Inventory::new(alloc);
-        inventory.add_line(Line::Head(head))?;
+            taken,
+        } = cluster;
         Ok(InventoryCount {
             inventory,
-            counter,
+            counter: Counter::new(alloc, names, bookies, assumes_striped, is_strict),
             racks,
             taken,
         })
@@ -164,18 +243,8 @@ impl InventoryCount {
             racks,
             taken,
         } = self;
-        let judged = judged_by(&inventory, counter.ledgers, counter.assumed);
-        if judged.unread >= MOST {
-            return Err(CountFault::TooMany);
-        }
-        let census = counter.counts.into_census(alloc, judged)?;
-        Ok(NamedCensus::of(
-            counter.names,
-            racks,
-            counter.bookies,
-            census,
-            counter.is_strict,
-            taken,
-        ))
+        let judged = judged(inventory, &counter)?;
+        let census = named_census(alloc, counter, racks, taken, judged)?;
+        Ok(census)
     }
 }

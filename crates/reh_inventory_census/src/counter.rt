@@ -88,6 +88,31 @@ impl LedgerCount {
 }
 
 impl Counter {
+    /// One that has counted nothing yet.
+    pub(crate) fn new(
+        alloc: Global,
+        names: NameList,
+        bookies: Bookies,
+        assumes_striped: bool,
+        is_strict: bool,
+    ) -> Counter
+        ensures names { result.names ≡ names }
+        ensures bookies { result.bookies ≡ bookies }
+        ensures assumes { result.assumes_striped ≡ assumes_striped }
+        ensures strict { result.is_strict ≡ is_strict }
+        ensures none { model.CountsLines [] result }
+    {
+        Counter {
+            names,
+            bookies,
+            assumes_striped,
+            is_strict,
+            counts: Counts::new(alloc),
+            ledgers: 0,
+            assumed: 0,
+        }
+    }
+
     /// How many entries of a part of a ledger have a known copy by an assumption; with `is_strict` none.
     fn assumed_of(&self, alloc: Global, line: &LedgerLine) -> Result<u64, CountFault>
         ensures { IfOk result (λ assumed. assumed ≡ model.assumed_more self.now line.now) }

@@ -8,6 +8,7 @@ use Rattle.reh_inventory_census.proofs.census.InventoryCount.finish.Goals as goa
 pub returns : goal.returns
 returns c = λ names strict first lines was.
     let P : NamedCensus → Type 0 = λ census. IsCensusOf names strict first lines census in
-    subst P (sym c.of.ensures)
-    (finished names strict first lines c.args.self c.in_ok-census.census c.in_ok-census.ensures.counts
-    c.in_ok-census.ensures.order (c.in_ok-census.ensures.judged ∙ c.judged_by-judged.ensures) was)
+    let made = c.in_ok-census.ensures in
+    subst P (sym made.named)
+    (finished names strict first lines c.args.self c.in_ok-census.census.census made.counts made.order
+    (made.judged ∙ c.in_ok-judged.ensures.judged) was)
