@@ -142,15 +142,21 @@ pub(crate) fn read_words(names: &Names, roles: &[Role], text: &[u8]) -> Result<A
             None => Ok(Arguments::none()),
         };
     };
-    let (word, rest) = next.ok_or(LineFault::BadWords)?;
+    let Some((word, rest)) = next else {
+        return Err(LineFault::BadWords);
+    };
     match role.kind() {
         Kind::Number => {
-            let number = parse_number(word).ok_or(LineFault::BadWords)?;
+            let Some(number) = parse_number(word) else {
+                return Err(LineFault::BadWords);
+            };
             Ok(read_words(names, roles, rest)?.with_number(number))
         }
         Kind::Name => {
             let others = read_words(names, roles, rest)?;
-            let bookie = names.find(word).ok_or(LineFault::UnknownName)?;
+            let Some(bookie) = names.find(word) else {
+                return Err(LineFault::UnknownName);
+            };
             Ok(others.with_bookie(bookie))
         }
     }

@@ -3,7 +3,7 @@ use Rattle.std.proofs.Common.{◌≡◌, ℕ, Bool, true, false, cond, inl, inr,
 use Rattle.std.proofs.Common.{None, Some, subst, append-nil, arith, ◌+◌, ◌-◌, ◌<◌, ◌≤◌, length, take, drop, get_or}
 use Rattle.std.proofs.Common.{length-append}
 use Rattle.std.proofs.Math.Seq.{take-add}
-use Rattle.std.proofs.lemmas.List.{take_more, take_at, take-append-drop, length-take-le, length-drop, get_or-drop}
+use Rattle.std.proofs.lemmas.List.{take_more, take_at, take-append-drop, length-take-le, length-drop, get_or-drop, drop_more}
 use mathlib.Core.List.{append_assoc}
 use Rattle.std.specs.Prelude.{◌==◌, ◌&&◌, ◌||◌, ◌⊎◌}
 use Rattle.std.proofs.lemmas.Bool.Decides.{nat_tests}
@@ -101,6 +101,34 @@ fronts : (first next : List ℕ) (cut : Cut) → with_fronts first (with_fronts 
 fronts first next cut =
     ap (λ (picture : List ℕ). record { picture = picture; script = cut.script })
     (sym (append_assoc first next cut.picture))
+
+-- an LF that the line `%` doesn't follow is passed too, and so is any other byte
+passes_first : (byte : ℕ) (rest : List ℕ) → ((byte ≡ 10 → ⊥) ⊎ (after_percent rest ≡ None))
+    → cut_inside (byte ∷ rest) ≡ with_front byte (cut_inside rest)
+passes_first byte rest (inl other) =
+    let no : (byte == 10) ≡ false = grind (arith, nat_tests) in
+    ap (λ (t : Bool). cond t (cut_or (after_percent rest) (with_front byte (cut_inside rest)))
+    (with_front byte (cut_inside rest))) no
+passes_first byte rest (inr none) =
+    ap (λ (o : Option (List ℕ)). cond (byte == 10) (cut_or o (with_front byte (cut_inside rest)))
+    (with_front byte (cut_inside rest))) none
+    ∙ elim (byte == 10) as (λ t. cond t (with_front byte (cut_inside rest)) (with_front byte (cut_inside rest))
+    ≡ with_front byte (cut_inside rest)) [
+      | true ↦ refl
+      | false ↦ refl
+    ]
+
+-- and the cut of what is left begins a byte later
+pub passes_at : (text : List ℕ) (at : ℕ) → at < length text
+    → ((get_or text at 0 ≡ 10 → ⊥) ⊎ (after_percent (drop (at + 1) text) ≡ None))
+    → cut_inside text ≡ with_fronts (take at text) (cut_inside (drop at text))
+    → cut_inside text ≡ with_fronts (take (at + 1) text) (cut_inside (drop (at + 1) text))
+passes_at text at within none before =
+    before
+    ∙ ap (λ (t : List ℕ). with_fronts (take at text) (cut_inside t)) (drop_more text at 0 within)
+    ∙ ap (with_fronts (take at text)) (passes_first (get_or text at 0) (drop (at + 1) text) none)
+    ∙ fronts (take at text) (get_or text at 0 ∷ []) (cut_inside (drop (at + 1) text))
+    ∙ ap (λ (t : List ℕ). with_fronts t (cut_inside (drop (at + 1) text))) (sym (take_more text at 0 within))
 
 -- bytes with an LF after them end a line
 ends_line : (lines line : List ℕ) → ended (lines ++ (line ++ 10 ∷ [])) ≡ lines ++ (line ++ 10 ∷ [])

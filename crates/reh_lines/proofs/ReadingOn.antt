@@ -1,14 +1,15 @@
--- What reading on in a script gives.
-use Rattle.std.proofs.Common.{◌≡◌, ℕ, ◌+◌, ◌<◌, ◌≤◌, Bool, true, false, List, [], ◌∷◌, ◌++◌, length, take, Option}
+-- What reading a text, or reading on in a script, gives.
+use Rattle.std.proofs.Common.{◌≡◌, ℕ, ◌+◌, ◌<◌, ◌≤◌, Bool, true, false, List, [], ◌∷◌, ◌++◌, length, take, Option, None, Some}
 use Rattle.std.proofs.Common.{refl, sym, ap, ◌∙◌, subst, arith, append-nil, length-append}
 use mathlib.Core.List.{append_assoc}
 use Rattle.std.proofs.Math.Seq.{take-append_seam}
 use Rattle.std.proofs.lemmas.List.{take-append-le}
 use Rattle.std.proofs.KnownBytes.{Consumes-trans}
 use Rattle.std.specs.Io.KnownBytes.{Consumes}
+use Rattle.std.specs.Option.{IfSome}
 use Rattle.reh_types.specs.declared.limits.TheConstants.{MAX_SCRIPT_BYTES}
 use Rattle.reh_lines.specs.Lines.{ended}
-use Rattle.reh_lines.specs.Readings.{IsQuiet, ReadsOn, ReadsPast}
+use Rattle.reh_lines.specs.Readings.{IsQuiet, IsQuietUntil, ReadsEnough, ReadsOn, ReadsPast}
 use Rattle.reh_lines.specs.declared.readings.Progress.{Progress}
 use Rattle.reh_lines.specs.declared.readings.Progress.TheVariants.{Lines, End, Failed, TooLong}
 use Rattle.reh_lines.proofs.EndedLaws.{has_lf, ended_none}
@@ -99,3 +100,15 @@ pub given_front : (a b : Option (List ℕ)) (count : ℕ) (given rest : List ℕ
     → Consumes a b (take count given) → Consumes a b (take count (given ++ rest))
 given_front a b count given rest within takes =
     subst (λ (t : List ℕ). Consumes a b t) (sym (take-append-le count given rest within)) takes
+
+-- what was given before the last call ends no line
+pub quiet_until : (old left before : Option (List ℕ)) (bytes : List ℕ) → Consumes old left bytes → IsQuiet bytes
+    → before ≡ left → IsQuietUntil old before
+quiet_until old left before bytes given was last = subst (IsQuietUntil old) (sym last) (bytes, was, given)
+
+-- there are enough bytes, whatever follows them
+pub read_enough : (enough : ℕ) (bytes : List ℕ) (old left : Option (List ℕ)) → Consumes old left bytes
+    → enough ≤ length bytes → IfSome old (λ all. ReadsEnough enough bytes all)
+read_enough enough bytes None left given full = tt
+read_enough enough bytes (Some all) None given full = absurd given
+read_enough enough bytes (Some all) (Some rest) given full = (rest, given, λ few. absurd (omega arith))
