@@ -1,6 +1,7 @@
 pub mod FewestLaws
 pub mod NearLaws
 pub mod PositionLaws
+pub mod PushLaws
 pub mod RankLaws
 pub mod RiskLaws
 pub mod SetLaws

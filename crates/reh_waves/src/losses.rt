@@ -1,5 +1,6 @@
 // What the loss of bookies would break.
 ghost use Rattle.std.specs.Prelude.{◌≡◌, ◌<◌, All, IfOk, ℕ, map, length};
+ghost use Rattle.reh_census.specs.Answers.{numbers_on};
 ghost use Rattle.reh_census.specs.Bookies.{bookies_of, is_flagged};
 ghost use Rattle.reh_census.specs.Counting.{counting_in, not_judged};
 ghost use Rattle.reh_census.specs.Tails.{IsTail};
@@ -70,6 +71,26 @@ fn lost_set(alloc: Global, bookies: &Bookies, lost: Lost) -> Result<BookieSet, A
     }
 }
 
+/// The numbers of every rule where these bookies are lost.
+fn numbers_lost(
+    alloc: Global,
+    census: &Census,
+    bookies: &Bookies,
+    question: &Question,
+    largest: Largest,
+    lost: Lost,
+) -> Result<Numbers, AllocError>
+    requires largest { AreLargest census.now largest.tail largest.ensemble }
+    requires well_formed { All (λ t. IsTail t.tail) census.now.tails }
+    requires lost { IsWithin (length bookies.now) lost }
+    ensures { IfOk result (λ numbers. numbers ≡ numbers_on (counting_in census.now) (bookies_of bookies.now) question.now
+        (not_judged census.now.judged) (stopped_by (bookies_of bookies.now) lost)) }
+{
+    let stopped = lost_set(alloc, bookies, lost)?;
+    let near = near_of(alloc, census, &stopped)?;
+    Ok(numbers_near(alloc, census, &near, bookies, question, largest, &stopped))
+}
+
 /// The losses of these, in their order.
 pub(crate) fn losses_of(
     alloc: Global,
@@ -87,9 +108,7 @@ pub(crate) fn losses_of(
 {
     let mut losses = Vec::new(alloc);
     for one in lost {
-        let stopped = lost_set(alloc, bookies, *one)?;
-        let near = near_of(alloc, census, &stopped)?;
-        let numbers = numbers_near(alloc, census, &near, bookies, question, largest, &stopped);
+        let numbers = numbers_lost(alloc, census, bookies, question, largest, *one)?;
         losses.push(Loss {
             lost: *one,
             numbers,

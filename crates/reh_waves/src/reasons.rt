@@ -1,5 +1,6 @@
 // What speaks against a stop, in words.
-ghost use Rattle.std.specs.Prelude.{◌≡◌, ◌++◌, OnOk, string_bytes};
+ghost use Rattle.std.specs.Prelude.{◌≡◌, ◌++◌, OnOk, codes, string_bytes};
+ghost use Rattle.std.specs.Fmt.{decimal};
 ghost use Rattle.reh_waves.specs.Texts as texts;
 
 use reh_census::{Answer, Rule};
@@ -84,6 +85,13 @@ pub(crate) fn judged_words(one: bool) -> &'static str
     }
 }
 
+/// Adds how many it may be, in these words.
+fn push_unknown(text: &mut String, count: u64, words: &str) -> Result<(), AllocError>
+    ensures { OnOk result (string_bytes text.new ≡ string_bytes text.old ++ (codes "unknown, " ++ (decimal count ++ words.now))) }
+{
+    write!(text, "unknown, {count}{words}")
+}
+
 /// Adds what speaks against a stop.
 pub(crate) fn push_reason(text: &mut String, answer: Answer) -> Result<(), AllocError>
     ensures { OnOk result (string_bytes text.new ≡ string_bytes text.old ++ texts.reason_text answer) }
@@ -94,17 +102,8 @@ pub(crate) fn push_reason(text: &mut String, answer: Answer) -> Result<(), Alloc
             let words = no_words(rule, count == 1);
             write!(text, "{count}{words}")
         }
-        Answer::Unknown(rule, count) => {
-            let words = unknown_words(rule, count == 1);
-            write!(text, "unknown, {count}{words}")
-        }
-        Answer::UnknownDisks(count) => {
-            let words = disk_words(count == 1);
-            write!(text, "unknown, {count}{words}")
-        }
-        Answer::NotJudged(count) => {
-            let words = judged_words(count == 1);
-            write!(text, "unknown, {count}{words}")
-        }
+        Answer::Unknown(rule, count) => push_unknown(text, count, unknown_words(rule, count == 1)),
+        Answer::UnknownDisks(count) => push_unknown(text, count, disk_words(count == 1)),
+        Answer::NotJudged(count) => push_unknown(text, count, judged_words(count == 1)),
     }
 }

@@ -34,6 +34,24 @@ rank-requires-3-clause-lost c =
     ∙ ap (λ (bs : List ℕ). pairs_if c.args.with_pairs bs) (c.deref-2.ensures.value ∙ c.in_ok-registered.ensures)))
     (pairs-within c.args.bookies.now c.args.order.now c.args.with_pairs)
 
+pub rank-requires-clause-largest : goal.rank-requires-clause-largest
+rank-requires-clause-largest c = c.largest_of-largest.ensures.largest
+
+pub rank-requires-clause-well_formed : goal.rank-requires-clause-well_formed
+rank-requires-clause-well_formed c = c.largest_of-largest.ensures.well_formed
+
+pub rank-requires-2-clause-largest : goal.rank-requires-2-clause-largest
+rank-requires-2-clause-largest c = c.largest_of-largest.ensures.largest
+
+pub rank-requires-2-clause-well_formed : goal.rank-requires-2-clause-well_formed
+rank-requires-2-clause-well_formed c = c.largest_of-largest.ensures.well_formed
+
+pub rank-requires-3-clause-largest : goal.rank-requires-3-clause-largest
+rank-requires-3-clause-largest c = c.largest_of-largest.ensures.largest
+
+pub rank-requires-3-clause-well_formed : goal.rank-requires-3-clause-well_formed
+rank-requires-3-clause-well_formed c = c.largest_of-largest.ensures.well_formed
+
 pub returns-clause-census : goal.returns-clause-census
 returns-clause-census c =
     let f : Lost → Loss =

@@ -43,3 +43,9 @@ returns c =
     ∙ ap (λ (n : Numbers). answer_by n) c.numbers_near-numbers.ensures
     ∙ ap (λ (s : ℕ → Bool). answer_in c.args.census.now (bookies_of c.args.bookies.now) c.args.question.now s)
     (λ i b. c.in_ok-stopped.ensures b i)
+
+pub numbers_near-numbers-requires-clause-largest : goal.numbers_near-numbers-requires-clause-largest
+numbers_near-numbers-requires-clause-largest c = c.requires.largest
+
+pub numbers_near-numbers-requires-clause-well_formed : goal.numbers_near-numbers-requires-clause-well_formed
+numbers_near-numbers-requires-clause-well_formed c = c.requires.well_formed

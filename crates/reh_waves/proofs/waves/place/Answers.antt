@@ -1,7 +1,8 @@
-use Rattle.std.proofs.Common.{◌≡◌, ◌∙◌, ◌<◌, ℕ, Bool, All, List, Option, Some, None, ap, sym, refl, subst, length, arith}
-use Rattle.std.specs.Prelude.{position}
+use Rattle.std.proofs.Common.{◌≡◌, ◌∙◌, ◌<◌, ◌+◌, ◌++◌, ◌∷◌, [], cond, ℕ, Bool, All, List, Option, Some, None, ap, sym, refl, subst, length, arith}
+use Rattle.std.specs.Prelude.{◌==◌, count_by, position, sum_by}
 use Rattle.std.proofs.lemmas.List.Elements.{All-push}
 use Rattle.std.proofs.lemmas.List.Quantifiers.{position-Some}
+use Rattle.std.proofs.lemmas.List.Sums.{sum_by_push}
 use Rattle.reh_census.specs.Answers.{is_yes}
 use Rattle.reh_census.specs.Bookies.{bookies_of}
 use Rattle.reh_census.specs.Counting.{not_judged}
@@ -15,6 +16,32 @@ use Rattle.reh_waves.specs.Waves.{IsAlone, IsBegun, answer_in, joins, rack_for}
 use Rattle.reh_waves.proofs.PositionLaws.{position-none}
 use Rattle.reh_waves.proofs.WaveLaws.{IsMonotone, begun-apart, begun-rounds, joined-apart, joined-places, joined-rounds, placed-alone, placed-begun, placed-joined}
 use Rattle.reh_waves.proofs.waves.place.Goals as goal
+
+zero-plus : (n : ℕ) → 0 + n ≡ n
+zero-plus n = omega arith
+
+begun-places : (before after : List Round) (rack : Option ℕ) (b : ℕ) → IsBegun before after rack b → (x : ℕ)
+    → sum_by (λ round. count_by (λ y. y == x) round.bookies.items) after
+    ≡ sum_by (λ round. count_by (λ y. y == x) round.bookies.items) before + cond (b == x) 1 0
+begun-places before after rack b n x =
+    let f : Round → ℕ = λ round. count_by (λ y. y == x) round.bookies.items in
+    let one : count_by (λ y. y == x) n.round.bookies.items ≡ 0 + cond (b == x) 1 0 =
+    ap (λ (bookies : List ℕ). count_by (λ y. y == x) bookies) n.bookies_are in
+    ap (λ (rounds : List Round). sum_by f rounds) n.is
+    ∙ sum_by_push f before n.round
+    ∙ ap (λ (k : ℕ). sum_by f before + k) (one ∙ zero-plus (cond (b == x) 1 0))
+
+named-places : (before after : List Alone) (named : Alone) → after ≡ before ++ named ∷ [] → (x : ℕ)
+    → count_by (λ alone. alone.bookie == x) after ≡ count_by (λ alone. alone.bookie == x) before + cond (named.bookie == x) 1 0
+named-places before after named is x =
+    ap (λ (alone : List Alone). count_by (λ a. a.bookie == x) alone) is
+    ∙ sum_by_push (λ (alone : Alone). cond {A = ℕ} (alone.bookie == x) 1 0) before named
+
+one-between : (a b more after : ℕ) → after ≡ a + more → after + b ≡ a + b + more
+one-between a b more after is = omega (arith, is)
+
+one-last : (a b more after : ℕ) → after ≡ b + more → a + after ≡ a + b + more
+one-last a b more after is = omega (arith, is)
 
 pub returns-in-Some-clause-waves : goal.returns-in-Some-clause-waves
 returns-in-Some-clause-waves c =
@@ -87,6 +114,12 @@ returns-then-is_yes-clause-waves c =
       alone = c.requires.waves.alone;
     }
 
+pub returns-then-is_yes-clause-places : goal.returns-then-is_yes-clause-places
+returns-then-is_yes-clause-places c b =
+    one-between (sum_by (λ round. count_by (λ y. y == b) round.bookies.items) c.args.waves.now.rounds.items)
+    (count_by (λ alone. alone.bookie == b) c.args.waves.now.alone.items) (cond (c.args.bookie == b) 1 0) _
+    (begun-places c.args.waves.now.rounds.items c.begin.new.rounds.items c.rack_for-rack.result c.args.bookie c.in_ok-begin.ensures b)
+
 pub returns-then-is_yes-clause-placed : goal.returns-then-is_yes-clause-placed
 returns-then-is_yes-clause-placed c =
     let answer : (ℕ → Bool) → Answer = answer_in c.args.census.now (bookies_of c.args.bookies.now) c.args.question.now in
@@ -117,6 +150,13 @@ returns-clause-waves c =
           }));
     }
 
+pub returns-clause-places : goal.returns-clause-places
+returns-clause-places c b =
+    one-last (sum_by (λ round. count_by (λ y. y == b) round.bookies.items) c.args.waves.now.rounds.items)
+    (count_by (λ alone. alone.bookie == b) c.args.waves.now.alone.items) (cond (c.args.bookie == b) 1 0) _
+    (named-places c.args.waves.now.alone.items c.push.new.self.items
+    (record { bookie = c.args.bookie; answer = c.in_ok-answer.answer }) c.in_ok-push.ensures.items b)
+
 pub returns-clause-placed : goal.returns-clause-placed
 returns-clause-placed c =
     let answer : (ℕ → Bool) → Answer = answer_in c.args.census.now (bookies_of c.args.bookies.now) c.args.question.now in
@@ -145,3 +185,15 @@ answer_with-requires-clause-near c =
 
 pub answer_with-requires-clause-zero : goal.answer_with-requires-clause-zero
 answer_with-requires-clause-zero c = none-zero c.args.census.now (bookies_of c.args.bookies.now) c.args.question.now
+
+pub first_fit-requires-clause-largest : goal.first_fit-requires-clause-largest
+first_fit-requires-clause-largest c = c.requires.largest
+
+pub first_fit-requires-clause-well_formed : goal.first_fit-requires-clause-well_formed
+first_fit-requires-clause-well_formed c = c.requires.well_formed
+
+pub answer_with-requires-clause-largest : goal.answer_with-requires-clause-largest
+answer_with-requires-clause-largest c = c.requires.largest
+
+pub answer_with-requires-clause-well_formed : goal.answer_with-requires-clause-well_formed
+answer_with-requires-clause-well_formed c = c.requires.well_formed

@@ -100,3 +100,9 @@ returns-clause-placed c =
     c.args.by_rack order c.loop-bookie.waves)
     (take_all c.loop-bookie.bookie-index c.args.order.now (omega (arith, c.loop-bookie-test.false)))
     c.loop-bookie.invariant.placed
+
+pub place-requires-clause-largest : goal.place-requires-clause-largest
+place-requires-clause-largest c = c.largest_of-largest.ensures.largest
+
+pub place-requires-clause-well_formed : goal.place-requires-clause-well_formed
+place-requires-clause-well_formed c = c.largest_of-largest.ensures.well_formed
