@@ -14,6 +14,8 @@ from typing import Any, Callable, Deque, Dict, Iterable, Iterator, List, NamedTu
 from dumps import ZNODE_SIZES, Bookies, Fault, Ledger, Line, Metadata, Shown, Unread, metadata_by_znode, metadata_of, name_in
 
 ROOT = "/ledgers"
+# How BookKeeper's `metadataServiceUri` begins. It has semicolons between the servers.
+SERVICE = re.compile(r"^zk(\+[a-z]+)?://")
 # Where Debian's modules of Python are. This one is Python alone, so that another python3 can use it.
 DEBIAN_MODULES = "/usr/lib/python3/dist-packages"
 NO_CLIENT = "ZooKeeper's client isn't there: apt-get install python3-kazoo"
@@ -247,10 +249,16 @@ class Cluster:
                 yield Unread(number, str(fault))
 
 
+def split_address(address: str) -> Tuple[str, str]:
+    """Returns the servers and the root of `HOST:PORT,HOST:PORT/ROOT`, or of a `metadataServiceUri`."""
+    hosts, _, root = SERVICE.sub("", address).partition("/")
+    return hosts.replace(";", ","), f"/{root.strip('/')}" if root.strip("/") else ROOT
+
+
 @contextlib.contextmanager
 def open_cluster(address: str) -> Iterator[Cluster]:
-    """Connects to the servers of an address `HOST:PORT,HOST:PORT/ROOT`, and ends that at last."""
-    hosts, _, root = address.partition("/")
+    """Connects to the servers of an address (see `split_address`), and ends that at last."""
+    hosts, root = split_address(address)
     sys.path.append(DEBIAN_MODULES)
     try:
         import kazoo.client
@@ -270,7 +278,7 @@ def open_cluster(address: str) -> Iterator[Cluster]:
     except client.handler.timeout_exception:
         raise Fault(f"{hosts}: no ZooKeeper answers")
     try:
-        yield Cluster(Server(client, kazoo.exceptions, hosts), f"/{root.strip('/')}" if root.strip("/") else ROOT)
+        yield Cluster(Server(client, kazoo.exceptions, hosts), root)
     finally:
         client.stop()
         client.close()
