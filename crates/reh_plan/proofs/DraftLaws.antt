@@ -1,19 +1,17 @@
 -- How a plan's text and its session grow together.
-use Rattle.std.proofs.Common.{◌≡◌, ℕ, ◌+◌, ◌≤◌, false, List, [], ◌∷◌, ◌++◌, length, sym, ap, ◌∙◌, subst, arith, None, Some, length-append, take, take_all}
-use Rattle.std.proofs.lemmas.List.{take-append-le}
+use Rattle.std.proofs.Common.{◌≡◌, ℕ, ◌+◌, ◌≤◌, false, List, [], ◌∷◌, ◌++◌, length, sym, ap, ◌∙◌, subst, arith, None, Some, length-append}
 use Rattle.std.specs.Prelude.{Ok}
 use Rattle.reh_types.specs.declared.limits.TheConstants.{MAX_SCRIPT_BYTES}
 use Rattle.reh_types.specs.declared.moves.Event.{Event}
 use Rattle.reh_types.specs.declared.moves.Move.TheVariants.{Do}
-use Rattle.reh_types.specs.declared.moves.Reply.TheVariants.{Done, Refused}
-use Rattle.reh_types.specs.declared.refusals.Refusal.{Refusal}
+use Rattle.reh_types.specs.declared.moves.Reply.TheVariants.{Done}
 use Rattle.reh_model.specs.Cluster.{Cluster}
 use Rattle.reh_model.specs.Session.{replay, Session, state_of, with_event, Performs}
 use Rattle.reh_commands.specs.Answers.{asked}
 use Rattle.reh_lines.specs.Lines.{lines_of}
 use Rattle.reh_commands.specs.declared.commands.Command.TheVariants.{Make}
 use Rattle.reh_plan.specs.Plans.{has_lf, Asks, Draft, draft_of, IsDraft, IsMade}
-use Rattle.reh_plan.proofs.PlanLaws.{grown_lines, grown_ends, names_replay, Asks-event, Asks-none, performed, refused, state_after}
+use Rattle.reh_plan.proofs.PlanLaws.{grown_lines, grown_ends, names_replay, Asks-event, Asks-none, performed, state_after}
 
 grown_few : (text line : List ℕ) → length text + (length line + 1) ≤ MAX_SCRIPT_BYTES → length (text ++ (line ++ 10 ∷ [])) ≤ MAX_SCRIPT_BYTES
 grown_few text line room =
@@ -58,25 +56,6 @@ made_by m n s d text new line event draft view now none said is done =
       );
     } in
     subst (λ (x : Draft). IsMade x event (draft_of n new)) view made
-
--- and back again, where the event is refused
-taken_back : (text new back line : List ℕ) → new ≡ text ++ (line ++ 10 ∷ []) → back ≡ take (length text) new → back ≡ text
-taken_back text new back line is cut =
-    let all : length text ≤ length text = omega arith in
-    cut ∙ ap (take (length text)) is ∙ take-append-le (length text) text (line ++ 10 ∷ []) all ∙ take_all (length text) text all
-
-pub IsDraft-back : (m n : Session) (text new back line : List ℕ) (event : Event) (refusal : Refusal) → IsDraft m text
-    → new ≡ text ++ (line ++ 10 ∷ []) → back ≡ take (length text) new → Performs m (Do event) (Refused refusal) n → IsDraft n back
-IsDraft-back m n text new back line event refusal draft is cut answer =
-    subst (λ (x : Session). IsDraft x back) (sym (refused m n event refusal answer))
-    (subst (λ (t : List ℕ). IsDraft m t) (sym (taken_back text new back line is cut)) draft)
-
-pub draft_back : (m n : Session) (d : Draft) (text new back line : List ℕ) (event : Event) (refusal : Refusal)
-    → draft_of m text ≡ d → new ≡ text ++ (line ++ 10 ∷ []) → back ≡ take (length text) new
-    → Performs m (Do event) (Refused refusal) n → draft_of n back ≡ d
-draft_back m n d text new back line event refusal view is cut answer =
-    ap (λ (x : Session). draft_of x back) (refused m n event refusal answer)
-    ∙ ap (λ (t : List ℕ). draft_of m t) (taken_back text new back line is cut) ∙ view
 
 -- by a comment
 pub IsDraft-none : (m : Session) (s : Cluster) (text new line : List ℕ) → IsDraft m text

@@ -178,21 +178,10 @@ impl Plan {
     {
         let alloc = self.session.allocator();
         let command = Command::Make(Move::Do(*event));
-        match command_text(alloc, self.session.state().names(), &command)? {
-            Some(line) => self.make_by(event, line.as_bytes()),
-            None => Ok(Attempt::Unwritten),
-        }
-    }
-
-    /// Makes an event and writes the line that asks for it. Where the event is refused, or there is no room for the line,
-    /// nothing changes.
-    fn make_by(&mut self, event: &Event, line: &[u8]) -> Result<Attempt, PlanFault>
-        requires one_line { has_lf line.now ≡ false }
-        requires asks { asked self.old.opening.names line.now ≡ Some (Ok (Make (Do event.now))) }
-        ensures { MatchResult result
-            (λ outcome. Makes self.old event.now outcome self.new) (λ _. self.new ≡ self.old) }
-    {
-        let _replayed = self.session.state();
+        let Some(written) = command_text(alloc, self.session.state().names(), &command)? else {
+            return Ok(Attempt::Unwritten);
+        };
+        let line = written.as_bytes();
         let length = self.text.len();
         if !has_room(length, line, COMMENT_BYTES) {
             return Ok(Attempt::Unwritten);
@@ -202,10 +191,10 @@ impl Plan {
             Ok(()) => Ok(Attempt::Made),
             Err(refusal) => {
                 self.text.truncate(length);
-                if refusal == Refusal::NoMemory {
-                    return Err(PlanFault::NoMemory);
+                match refusal {
+                    Refusal::NoMemory => Err(PlanFault::NoMemory),
+                    refusal => Ok(Attempt::Refused(refusal)),
                 }
-                Ok(Attempt::Refused(refusal))
             }
         }
     }

@@ -1,10 +1,10 @@
--- The line that is printed is read back as the event's command.
-use Rattle.std.proofs.Common.{◌≡◌, ◌∙◌, ap, sym, List, ℕ, Some}
+-- The line that is printed is read back as the event's command, and is kept with the event.
+use Rattle.std.proofs.Common.{◌≡◌, ◌∙◌, ap, sym, refl, arith, List, ℕ, Some}
 use Rattle.std.specs.Prelude.{Ok}
 use Rattle.reh_commands.specs.declared.commands.Command.{Command}
 use Rattle.reh_commands.specs.Answers.{asked}
-use Rattle.reh_plan.specs.Plans.{Draft, has_lf}
-use Rattle.reh_plan.proofs.PlanLaws.{names_replay}
+use Rattle.reh_plan.specs.Plans.{has_lf}
+use Rattle.reh_plan.proofs.DraftLaws.{IsDraft-event, made_by}
 use Rattle.reh_plan.proofs.plans.Plan.make.Goals as goal
 
 -- what is read back, with the names of the state and the bytes of the text
@@ -13,16 +13,24 @@ asks_for : (names others : List (List ℕ)) (line text : List ℕ) (command : Co
 asks_for names others line text command same is read =
     ap (asked names) is ∙ ap (λ (ns : List (List ℕ)). asked ns text) (sym same) ∙ read
 
-pub make_by-requires-clause-one_line : goal.make_by-requires-clause-one_line
-make_by-requires-clause-one_line c =
-    let one_line = rw c.in-Some.is at c.in_ok-line.ensures.one_line in
-    ap has_lf c.as_bytes.ensures.value ∙ one_line
+pub invariant_of-self-in-Ok : goal.invariant_of-self-in-Ok
+invariant_of-self-in-Ok c =
+    let read = rw c.in-Some.is at c.in_ok-written.ensures.read in
+    let one_line = rw c.in-Some.is at c.in_ok-written.ensures.one_line in
+    IsDraft-event c.self.inside.session c.act.new.self c.state.result.now c.self.inside.text.items
+    c.push_line.new.text.items c.as_bytes-line.result.now c.args.event.now c.self.invariant c.state.ensures.replays
+    (omega (arith, c.if-not-has_room.ensures refl, c.len-length.ensures))
+    (ap has_lf c.as_bytes-line.ensures.value ∙ one_line)
+    (asks_for c.state.result.now.names c.names.result.now c.as_bytes-line.result.now _ _ c.names.ensures.names c.as_bytes-line.ensures.value read)
+    c.in_ok-push_line.ensures.ok c.in-Ok.ensures.answers
 
-pub make_by-requires-clause-asks : goal.make_by-requires-clause-asks
-make_by-requires-clause-asks c =
-    let i = c.self.inside in
-    let read = rw c.in-Some.is at c.in_ok-line.ensures.read in
-    asks_for c.args.self.now.opening.names c.names.result.now c.as_bytes.result.now _ _
-    (c.names.ensures.names ∙ names_replay i.session.done i.session.opening c.state.result.now c.state.ensures.replays
-    ∙ ap (λ (d : Draft). d.opening.names) c.self.view_is)
-    c.as_bytes.ensures.value read
+pub returns-in-Ok : goal.returns-in-Ok
+returns-in-Ok c =
+    let read = rw c.in-Some.is at c.in_ok-written.ensures.read in
+    let one_line = rw c.in-Some.is at c.in_ok-written.ensures.one_line in
+    made_by c.self.inside.session c.act.new.self c.state.result.now c.args.self.now c.self.inside.text.items
+    c.push_line.new.text.items c.as_bytes-line.result.now c.args.event.now c.self.invariant c.self.view_is
+    c.state.ensures.replays
+    (ap has_lf c.as_bytes-line.ensures.value ∙ one_line)
+    (asks_for c.state.result.now.names c.names.result.now c.as_bytes-line.result.now _ _ c.names.ensures.names c.as_bytes-line.ensures.value read)
+    c.in_ok-push_line.ensures.ok c.in-Ok.ensures.answers
