@@ -6,5 +6,5 @@ mod commands;
 mod pages;
 mod refusals;
 
-pub use pages::{refusal_page, refusals_page, script_page};
+pub use pages::{command_page, refusal_page, refusals_page, script_page};
 pub use refusals::{Topic, topic_named, topic_of};

@@ -1,6 +1,6 @@
 // The pages of help.
 ghost use Rattle.std.specs.Prelude.{IfOk, string_bytes};
-ghost use Rattle.reh_help.specs.Pages.{IsPageOf};
+ghost use Rattle.reh_help.specs.Pages.{IsCommandPageOf, IsPageOf};
 
 use crate::advice::advice;
 use crate::commands::effect;
@@ -26,9 +26,30 @@ applies is the answer, and nothing is changed. rehearse help 26 says what to loo
 pub fn script_page(alloc: Global) -> Result<String, AllocError> {
     let mut text = String::from_str(alloc, SCRIPT)?;
     for verb in Verb::all() {
-        let effect = effect(verb);
-        write!(text, "\n{verb}\n    {effect}\n")?;
+        let page = command_page(alloc, verb)?;
+        write!(text, "\n{page}")?;
     }
+    Ok(text)
+}
+
+/// The page of a command of a script: its words, and what happens by it.
+pub fn command_page(alloc: Global, verb: Verb) -> Result<String, AllocError>
+    ensures { IfOk result (λ text. IsCommandPageOf verb (string_bytes text)) }
+{
+    let mut text = String::from_str(alloc, verb.name())?;
+    let rest = after_name(alloc, verb)?;
+    text.push_str(rest.as_str())?;
+    Ok(text)
+}
+
+/// What is said of a command, after its name.
+fn after_name(alloc: Global, verb: Verb) -> Result<String, AllocError> {
+    let mut text = String::new(alloc);
+    for role in verb.roles() {
+        write!(text, " {role}")?;
+    }
+    let effect = effect(verb);
+    write!(text, "\n    {effect}\n")?;
     Ok(text)
 }
 

@@ -1,7 +1,7 @@
 // Refusals by their numbers and names, and what is said of each.
 ghost use Rattle.std.specs.Prelude.{◌≡◌, true, is_some, IfSome};
 ghost use Rattle.reh_types.specs.Texts.{refusal_number};
-ghost use Rattle.reh_help.specs.Pages.{topic_name, topic_number, topic_value};
+ghost use Rattle.reh_help.specs.Pages.{IsNamedBy, topic_name, topic_number, topic_value};
 
 use reh_types::{BookieIx, Refusal};
 
@@ -91,7 +91,9 @@ pub fn topic_of(number: u8) -> Option<Topic>
 }
 
 /// The refusal that a word names, by its number or its name.
-pub fn topic_named(word: &str) -> Option<Topic> {
+pub fn topic_named(word: &str) -> Option<Topic>
+    ensures { IfSome result (IsNamedBy word.now) }
+{
     match word.parse::<u8>() {
         Ok(number) => topic_of(number),
         Err(_) => topic_by_name(word),

@@ -7,3 +7,6 @@ pub mod NamesLaws
 pub mod FilledLaws
 pub mod SummaryLaws
 pub mod EndLaws
+pub mod RacksLaws
+pub mod ObjectLaws
+pub mod FewerLaws

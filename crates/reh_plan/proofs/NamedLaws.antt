@@ -13,7 +13,7 @@ Any-more P xs ys some =
     (some.0, some.1, omega (arith, some.2, length-append xs ys), get_or_append_left xs ys some.1 some.0 some.2 ∙ some.3, some.4)
 
 -- more lines name no fewer
-named_on : (s : Cluster) (lines more : List (List ℕ)) (ledgers : List Ledger) → AllNamed s lines ledgers → AllNamed s (lines ++ more) ledgers
+pub named_on : (s : Cluster) (lines more : List (List ℕ)) (ledgers : List Ledger) → AllNamed s lines ledgers → AllNamed s (lines ++ more) ledgers
 named_on s lines more ledgers named k d within left = Any-more _ lines more (named k d within left)
 
 next_named : (s : Cluster) (lines : List (List ℕ)) (ledgers : List Ledger) (k : ℕ) (g : Ledger) → k < length ledgers → g ≡ get_or ledgers k g

@@ -5,3 +5,5 @@ pub mod Ends
 pub mod Named
 pub mod Summaries
 pub mod Runbooks
+pub mod Racks
+pub mod Objects

@@ -3,9 +3,12 @@
 
 mod ends;
 mod faults;
+mod fewer;
 mod named;
+mod objects;
 mod planning;
 mod plans;
+mod racks;
 mod recoveries;
 mod repairs;
 mod runbooks;
@@ -13,8 +16,11 @@ mod summaries;
 mod workers;
 
 pub use faults::PlanFault;
+pub use fewer::FewerRacks;
 pub use named::{NamedTwice, find_bookies, first_unknown};
+pub use objects::plan_json;
 pub use planning::{Planned, plan};
 pub use plans::Plan;
+pub use racks::Racks;
 pub use runbooks::runbook;
 pub use summaries::{Share, Summary};

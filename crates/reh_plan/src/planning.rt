@@ -1,7 +1,7 @@
 // The plan for a cluster: bookies are lost, the auditor publishes, and AutoRecovery is played to its end.
-ghost use Rattle.std.specs.Prelude.{◌≡◌, ◌≤◌, ℕ, Bool, length, IfOk, OnOk, Some, true};
+ghost use Rattle.std.specs.Prelude.{◌≡◌, ◌≤◌, ◌++◌, [], ℕ, Bool, length, map, IfOk, OnOk, Some, true};
 ghost use Rattle.std.specs.List.{list_all};
-ghost use Rattle.reh_types.specs.declared.limits.TheConstants.{MAX_SCRIPT_BYTES};
+ghost use Rattle.reh_types.specs.declared.limits.TheConstants.{MAX_BOOKIES};
 ghost use Rattle.reh_model.specs.Book.{new_book};
 ghost use Rattle.reh_model.specs.Session.{replay, opened_session};
 ghost use Rattle.reh_transcript.specs.Transcript.{starting, transcript};
@@ -10,16 +10,20 @@ ghost use Rattle.reh_types.specs.Sets as set;
 ghost use Rattle.reh_plan.specs.Plans.{Asks, Works, Loses, GoesOnBy, IsWithout, AllNamed, OnlyLeft, IsNaming, IsPlayed, IsRepaired, WorksAndNames, losses_of};
 ghost use Rattle.reh_plan.specs.Ends.{Ends, IsHarmless};
 ghost use Rattle.reh_plan.specs.Plans.{is_filled_by};
-ghost use Rattle.reh_plan.specs.Summaries.{IsSum};
+ghost use Rattle.reh_plan.specs.Summaries.{IsSum, holdings_of};
+ghost use Rattle.reh_plan.specs.Racks as model;
 ghost use Rattle.reh_plan.specs.Workers.{can_work, may_work};
 
 use crate::ends::{check_end, check_harmless, recovering_in};
 use crate::faults::{PlanFault, Reason, first_reason};
+use crate::fewer::{FewerRacks, fewer_racks, metadata_of, tell};
 use crate::plans::Plan;
+use crate::racks::Racks;
 use crate::repairs::Repair;
 use crate::summaries::{Summary, holdings_of, is_left, summary_of};
 use crate::workers::Workers;
 use reh_cluster::State;
+use reh_meta::LedgerMeta;
 use reh_types::{BookieIx, BookieSet, Event, MAX_BOOKIES, Refusal};
 use std::alloc::{AllocError, Global};
 
@@ -28,15 +32,18 @@ use std::alloc::{AllocError, Global};
 pub struct Planned {
     pub plan: Plan,
     pub summary: Summary,
+    /// The fragments of which a write set stands in fewer racks at the end.
+    pub fewer: Vec<FewerRacks>,
 }
 
 /// The plan for a cluster of which these bookies are lost, where only the allowed bookies work, but for those that are
 /// read-only; and what it comes to.
 ///
 /// The bookies are lost, the auditor publishes, once the delay for lost bookies is over, and AutoRecovery is played to
-/// its end: of each ledger with a task a worker takes the places of missing members. It is a bookie in no ensemble of
-/// the ledger, where there is one, and of those the one that holds least. An open ledger that needs its writer is
-/// fenced after the grace and recovered first. Where AutoRecovery is disabled, the plan enables it.
+/// its end: of each ledger with a task a worker takes the places of missing members. It is one with which the fewest write
+/// sets lack racks; of those the one that has the ledger's lock, else one in no ensemble of the ledger, and then the one
+/// that holds least. An open ledger that needs its writer is fenced after the grace and recovered first. Where AutoRecovery
+/// is disabled, the plan enables it.
 ///
 /// Each line of the script is a comment or asks for an event (`asks`), and played on this state each of these events is
 /// accepted (`accepted`): each line that has an answer is answered `ok` (`replies`). First those of the lost bookies
@@ -47,14 +54,17 @@ pub struct Planned {
 /// registered, is named in a comment (`named`), and no other is (`only`). The comment's reason is the first that was met
 /// for that ledger, which no clause says. Where the script has room, no place is left in the end that could be filled, no
 /// ledger that could be recovered, no lock, and no task where nothing is missing (`ends`); and no ledger was fenced and
-/// left (`harmless`). The summary tells for each bookie how many places it takes and how many
-/// entries it holds more in the end, how many ledgers are left, and how many entries can't be read (`sum`).
+/// left (`harmless`). At the end of the script a comment tells of each fragment of which a write set comes to stand in
+/// fewer racks than before, and than are asked for (`racks` and `told`); `only` and `ends` speak of the lines before
+/// these. The summary tells for each bookie how many places it takes and how many entries it holds more in the end, how
+/// many ledgers are left, and how many entries can't be read (`sum`).
 pub fn plan(
     alloc: Global,
     state: State,
     lost: &BookieSet,
     allowed: &BookieSet,
     read_only: &BookieSet,
+    racks: &Racks,
 ) -> Result<Planned, PlanFault>
     ensures opening { IfOk result (λ p. p.plan.opening ≡ state) }
     ensures asks { IfOk result (λ p. Asks state.names p.plan.lines p.plan.events) }
@@ -68,17 +78,66 @@ pub fn plan(
     ensures filled { IfOk result (λ p. list_all
         (is_filled_by (can_work (may_work (allowed.now, read_only.now)) p.plan.state)) p.plan.events ≡ true) }
     ensures named { IfOk result (λ p. AllNamed p.plan.state p.plan.lines p.plan.state.parts.ledgers) }
-    ensures only { IfOk result (λ p. OnlyLeft state.names p.plan.state p.plan.lines) }
-    ensures ends { IfOk result (λ p. Ends (may_work (allowed.now, read_only.now)) p.plan.state p.plan.lines) }
+    ensures racks { IfOk result (λ p. p.fewer.items ≡ model.fewer_racks racks.now state p.plan.state) }
+    ensures told { IfOk result (λ p.
+        p.plan.lines ≡ model.lines_before p.fewer.items p.plan.lines ++ map model.racks_line p.fewer.items) }
+    ensures only { IfOk result (λ p.
+        OnlyLeft state.names p.plan.state (model.lines_before p.fewer.items p.plan.lines)) }
+    ensures ends { IfOk result (λ p. Ends (may_work (allowed.now, read_only.now)) p.plan.state
+        (model.lines_before p.fewer.items p.plan.lines)) }
     ensures harmless { IfOk result (λ p. IsHarmless state p.plan.state) }
     ensures sum { IfOk result (λ p. IsSum p.plan p.summary) }
 {
     let held = holdings_of(alloc, &state)?;
+    let before = metadata_of(alloc, &state)?;
+    let plan = played(alloc, state, lost, allowed, read_only, racks)?;
+    let planned = told(alloc, plan, racks, &before, &held)?;
+    let _checked = planned.plan.text();
+    Ok(planned)
+}
+
+/// The plan without what it tells of racks.
+fn played(
+    alloc: Global,
+    state: State,
+    lost: &BookieSet,
+    allowed: &BookieSet,
+    read_only: &BookieSet,
+    racks: &Racks,
+) -> Result<Plan, PlanFault>
+    ensures { IfOk result (λ plan. IsPlayed (record { opening = state; state = state; events = []; lines = [] })
+        (set.contains lost.now) (may_work (allowed.now, read_only.now)) plan) }
+{
     let mut plan = Plan::begin(alloc, state)?;
-    play(alloc, &mut plan, lost, allowed, read_only)?;
-    let _checked = plan.text();
-    let summary = summary_of(alloc, &held, &plan)?;
-    Ok(Planned { plan, summary })
+    play(alloc, &mut plan, lost, allowed, read_only, racks)?;
+    Ok(plan)
+}
+
+/// Tells in comments of the fragments of which a write set stands in fewer racks, and what the plan comes to.
+fn told(
+    alloc: Global,
+    plan: Plan,
+    racks: &Racks,
+    before: &[LedgerMeta],
+    held: &[usize],
+) -> Result<Planned, PlanFault>
+    requires held { held.now ≡ holdings_of plan.opening }
+    requires few { length held.now ≤ MAX_BOOKIES }
+    ensures racks { IfOk result (λ p.
+        p.fewer.items ≡ model.fewer_among racks.now before.now plan.state.parts.ledgers) }
+    ensures told { IfOk result (λ p.
+        p.plan ≡ record plan { lines = plan.lines ++ map model.racks_line p.fewer.items }) }
+    ensures sum { IfOk result (λ p. IsSum p.plan p.summary) }
+{
+    let mut plan = plan;
+    let fewer = fewer_racks(alloc, racks, before, plan.state())?;
+    tell(alloc, &mut plan, &fewer)?;
+    let summary = summary_of(alloc, held, &plan)?;
+    Ok(Planned {
+        plan,
+        summary,
+        fewer,
+    })
 }
 
 /// Loses these bookies, plays AutoRecovery to its end, and names what is left.
@@ -88,13 +147,14 @@ fn play(
     lost: &BookieSet,
     allowed: &BookieSet,
     read_only: &BookieSet,
+    racks: &Racks,
 ) -> Result<(), PlanFault>
     ensures { OnOk result
         (IsPlayed plan.old (set.contains lost.now) (may_work (allowed.now, read_only.now)) plan.new) }
 {
     let recovering = recovering_in(alloc, plan.state())?;
     lose_all(plan, lost)?;
-    repair_all(alloc, plan, allowed, read_only)?;
+    repair_all(alloc, plan, allowed, read_only, racks)?;
     check_harmless(plan.state(), &recovering)?;
     Ok(())
 }
@@ -105,11 +165,12 @@ fn repair_all(
     plan: &mut Plan,
     allowed: &BookieSet,
     read_only: &BookieSet,
+    racks: &Racks,
 ) -> Result<(), PlanFault>
     ensures { OnOk result (IsRepaired (may_work (allowed.now, read_only.now)) plan.old plan.new) }
 {
     publish(plan)?;
-    let mut workers = Workers::of(alloc, plan.state(), allowed, read_only)?;
+    let mut workers = Workers::of(alloc, plan.state(), allowed, read_only, racks)?;
     grant_all(plan, &workers)?;
     work_and_name(alloc, plan, &mut workers)?;
     check_end(plan, &workers)?;

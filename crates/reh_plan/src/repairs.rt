@@ -6,9 +6,9 @@ ghost use Rattle.reh_plan.specs.Workers.{can_work, may_work};
 
 use crate::faults::{PlanFault, Reason, StepFault, first_reason};
 use crate::plans::Plan;
-use crate::workers::Workers;
-use reh_audit::is_under;
+use crate::workers::{Workers, owner_of};
 use reh_cluster::{Ledger, State};
+use reh_meta::Fragment;
 use reh_types::{BookieIx, Event, LedgerId, LedgerState, Refusal};
 use std::alloc::{AllocError, Global};
 
@@ -43,18 +43,17 @@ impl Repair {
         }
     }
 
-    /// Where the ledger stands and its last fragment, if it isn't closed and some member of that isn't registered.
-    fn unclosed(&self, state: &State) -> Option<(LedgerState, usize)> {
-        let ledger = self.ledger_in(state)?;
-        let metadata = ledger.metadata();
-        let last = metadata.fragments().last()?;
-        match metadata.state() {
-            LedgerState::Closed { end: _ } => None,
-            unclosed if is_under(state, last) => {
-                Some((unclosed, metadata.fragments().len().saturating_sub(1)))
-            }
-            _ => None,
+    /// Where the ledger stands, and its last fragment with the index of the first member that isn't registered, if the
+    /// ledger isn't closed and there is such a member.
+    fn unclosed(&self, state: &State) -> Option<(LedgerState, usize, usize)> {
+        let metadata = self.ledger_in(state)?.metadata();
+        let unclosed = metadata.state();
+        if matches!(unclosed, LedgerState::Closed { end: _ }) {
+            return None;
         }
+        let last = metadata.fragments().len().checked_sub(1)?;
+        let index = first_missing(state, metadata.fragments().get(last)?)?;
+        Some((unclosed, last, index))
     }
 
     /// The places of missing members.
@@ -71,8 +70,7 @@ impl Repair {
 
     /// Who holds the lock.
     fn owner(&self, state: &State) -> Option<BookieIx> {
-        let lock = self.ledger_in(state)?.lock()?;
-        Some(lock.owner)
+        owner_of(self.ledger_in(state)?)
     }
 
     /// The version of the ledger's metadata.
@@ -85,17 +83,18 @@ impl Repair {
 
     // What is done
 
-    /// Locks the task by a worker that can take places of the fragment.
+    /// Locks the task by the worker that is to take the place at the index of the fragment.
     fn lock(
         &self,
         plan: &mut Plan,
         workers: &Workers,
         fragment: usize,
+        index: usize,
     ) -> Result<BookieIx, StepFault>
         ensures works { Works (may_work workers.now) plan.old plan.new }
         ensures worker { IfOk result (λ worker. may_work workers.now worker ≡ true) }
     {
-        let Some(worker) = self.worker(plan.state(), workers, fragment) else {
+        let Some(worker) = self.worker(plan.state(), workers, fragment, index) else {
             let fragment = fragment as u64;
             return Err(StepFault::Left(Reason::NoWorker { fragment }));
         };
@@ -112,11 +111,17 @@ impl Repair {
         Ok(worker)
     }
 
-    /// Who takes places of the fragment.
-    fn worker(&self, state: &State, workers: &Workers, fragment: usize) -> Option<BookieIx>
+    /// Who takes the place at the index of the fragment.
+    fn worker(
+        &self,
+        state: &State,
+        workers: &Workers,
+        fragment: usize,
+        index: usize,
+    ) -> Option<BookieIx>
         ensures { IfSome result (λ worker. can_work (may_work workers.now) state.now worker ≡ true) }
     {
-        workers.choose(state, self.ledger_in(state)?, fragment)
+        workers.choose(state, self.ledger_in(state)?, fragment, index)
     }
 
     /// Grants the writer of an open ledger its grace, if it needs another bookie.
@@ -128,10 +133,10 @@ impl Repair {
         if !self.has_task(plan.state()) {
             return Ok(());
         }
-        let Some((LedgerState::Open, last)) = self.unclosed(plan.state()) else {
+        let Some((LedgerState::Open, last, index)) = self.unclosed(plan.state()) else {
             return Ok(());
         };
-        let worker = self.lock(plan, workers, last)?;
+        let worker = self.lock(plan, workers, last, index)?;
         let ledger = self.ledger;
         plan.work(&Event::Grace { worker, ledger })
     }
@@ -143,10 +148,10 @@ impl Repair {
     {
         // The check of this function has to meet the types of what stops a step by their names.
         let _stop: Option<(Reason, Refusal)> = None;
-        let Some((state, last)) = self.unclosed(plan.state()) else {
+        let Some((state, last, index)) = self.unclosed(plan.state()) else {
             return Ok(());
         };
-        let worker = self.lock(plan, workers, last)?;
+        let worker = self.lock(plan, workers, last, index)?;
         let ledger = self.ledger;
         if state == LedgerState::Open {
             plan.check_recovery(worker, ledger)?;
@@ -162,7 +167,7 @@ impl Repair {
     {
         // The check of this function has to meet the types of what stops a step by their names.
         let _stop: Option<(Reason, Refusal)> = None;
-        let worker = self.lock(plan, workers, gap.fragment)?;
+        let worker = self.lock(plan, workers, gap.fragment, gap.index)?;
         let version = self.version(plan.state());
         let ledger = self.ledger;
         let fragment = gap.fragment as u64;
@@ -223,6 +228,14 @@ impl Repair {
             ended => ended,
         }
     }
+}
+
+/// The index of the fragment's first member that isn't registered.
+fn first_missing(state: &State, fragment: &Fragment) -> Option<usize> {
+    fragment
+        .ensemble
+        .iter()
+        .position(|member| !state.is_up(*member))
 }
 
 /// Adds the places of a fragment's missing members, if its entries are known.

@@ -3,8 +3,9 @@ ghost use Rattle.std.specs.Prelude.{◌≡◌, true, not, ◌&&◌, IfOk, IfSome
 ghost use Rattle.reh_types.specs.Sets as set;
 ghost use Rattle.reh_plan.specs.Workers.{can_work, may_work};
 
+use crate::racks::Racks;
 use reh_cluster::{Ledger, State};
-use reh_meta::Fragment;
+use reh_meta::{Fragment, LedgerMeta};
 use reh_types::{BookieIx, BookieSet, MAX_BOOKIES};
 use std::alloc::{AllocError, Global};
 use std::marker::Model;
@@ -18,6 +19,7 @@ pub(crate) struct Workers {
     /// How many entries each of the bookies that there can be holds: those of the picture, and about as many as it has
     /// copied since.
     loads: Vec<u64>,
+    racks: Racks,
 }
 
 impl Model for Workers {
@@ -28,6 +30,37 @@ impl Model for Workers {
     ghost view = { λ workers. (workers.allowed, workers.read_only) };
 }
 
+/// The place of a missing member, and who has the lock of its ledger.
+#[derive(Clone, Copy)]
+struct Place<'a> {
+    metadata: &'a LedgerMeta,
+    fragment: usize,
+    index: usize,
+    owner: Option<BookieIx>,
+}
+
+/// A bookie that can take a place. Of two candidates the lesser comes first, by the fields in their order.
+#[derive(Clone, Copy, PartialEq, Eq, PartialOrd, Ord)]
+struct Candidate {
+    /// How many write sets would stand in fewer racks than are asked for.
+    lacking: usize,
+    is_without_lock: bool,
+    /// Whether it is in an ensemble of the ledger.
+    is_member: bool,
+    load: u64,
+    bookie: BookieIx,
+}
+
+impl Candidate {
+    /// Whether it comes before the other one, if there is one.
+    fn is_before(&self, other: &Option<Candidate>) -> bool {
+        match other {
+            Some(other) => self < other,
+            None => true,
+        }
+    }
+}
+
 impl Workers {
     /// With what the bookies hold now. Only those that are allowed take places, and none that is read-only.
     pub(crate) fn of(
@@ -35,6 +68,7 @@ impl Workers {
         state: &State,
         allowed: &BookieSet,
         read_only: &BookieSet,
+        racks: &Racks,
     ) -> Result<Workers, AllocError>
         ensures { IfOk result (λ workers. workers ≡ (allowed.now, read_only.now)) }
     {
@@ -46,49 +80,79 @@ impl Workers {
             allowed: allowed.copied(),
             read_only: read_only.copied(),
             loads,
+            racks: racks.clone_in()?,
         })
     }
 
-    /// Who takes places of a fragment: the worker that has the ledger's lock, if it can; else one that is in no
-    /// ensemble of the ledger; else one that isn't in the fragment's. Of several it is the one that holds least.
-    pub(crate) fn choose(&self, state: &State, ledger: &Ledger, fragment: usize) -> Option<BookieIx>
+    /// Who takes the place at the index of a fragment. Of the bookies that can join its members it is the one with which
+    /// the fewest write sets lack racks; of several such the one that has the ledger's lock, else one that is in no
+    /// ensemble of the ledger, and of several such the one that holds least.
+    pub(crate) fn choose(
+        &self,
+        state: &State,
+        ledger: &Ledger,
+        fragment: usize,
+        index: usize,
+    ) -> Option<BookieIx>
         ensures { IfSome result (λ worker. can_work (may_work self.now) state.now worker ≡ true) }
     {
         let members = members_of(ledger.metadata().fragments().get(fragment)?);
-        if let Some(lock) = ledger.lock()
-            && self.can_join(state, lock.owner, &members)
+        let owner = owner_of(ledger);
+        let place = Place {
+            metadata: ledger.metadata(),
+            fragment,
+            index,
+            owner,
+        };
+        if let Some(owner) = owner
+            && self.can_join(state, owner, &members)
+            && self.lacking(&place, owner) == 0
         {
-            return Some(lock.owner);
+            return Some(owner);
         }
-        match self.least_outside(state, &all_members_of(ledger)) {
-            Some(worker) => Some(worker),
-            None => self.least_outside(state, &members),
+        self.first_candidate(state, &place, &members)
+    }
+
+    /// Of the bookies that can join these members, the first candidate for the place.
+    fn first_candidate(&self, state: &State, place: &Place, members: &BookieSet) -> Option<BookieIx>
+        ensures { IfSome result (λ worker. can_work (may_work self.now) state.now worker ≡ true) }
+    {
+        let all_members = all_members_of(place.metadata);
+        let mut first: Option<Candidate> = None;
+        for number in 0..MAX_BOOKIES as u8 {
+            let worker = BookieIx(number);
+            if self.can_join(state, worker, members) {
+                let candidate = self.candidate(place, &all_members, worker);
+                if candidate.is_before(&first) {
+                    first = Some(candidate);
+                }
+            }
+        }
+        Some(first?.bookie)
+    }
+
+    /// The bookie as a candidate for the place.
+    fn candidate(&self, place: &Place, all_members: &BookieSet, bookie: BookieIx) -> Candidate
+        ensures { result.bookie ≡ bookie }
+    {
+        Candidate {
+            lacking: self.lacking(place, bookie),
+            is_without_lock: place.owner != Some(bookie),
+            is_member: all_members.contains(bookie),
+            load: self.load(bookie),
+            bookie,
         }
     }
 
-    /// Of the bookies that can join these members, the one that holds least, and of several such the first.
-    fn least_outside(&self, state: &State, members: &BookieSet) -> Option<BookieIx>
-        ensures { IfSome result (λ worker.
-            (can_work (may_work self.now) state.now worker && not (set.contains members.now worker)) ≡ true) }
-    {
-        let none = MAX_BOOKIES as u8;
-        let mut least = none;
-        for number in 0..none {
-            if self.load(number) < self.load(least)
-                && self.can_join(state, BookieIx(number), members)
-            {
-                least = number;
-            }
-        }
-        if least == none {
-            return None;
-        }
-        Some(BookieIx(least))
+    /// How many write sets would lack racks, with that bookie at the place.
+    fn lacking(&self, place: &Place, bookie: BookieIx) -> usize {
+        self.racks
+            .lacking(place.metadata, place.fragment, place.index, bookie)
     }
 
     /// How many entries the bookie holds. A number that no bookie has counts as more than any.
-    fn load(&self, number: u8) -> u64 {
-        match self.loads.get(number as usize) {
+    fn load(&self, bookie: BookieIx) -> u64 {
+        match self.loads.get(bookie.0 as usize) {
             Some(load) => *load,
             None => u64::MAX,
         }
@@ -125,10 +189,16 @@ fn members_of(fragment: &Fragment) -> BookieSet {
     members
 }
 
+/// Who has the ledger's lock.
+pub(crate) fn owner_of(ledger: &Ledger) -> Option<BookieIx> {
+    let lock = ledger.lock()?;
+    Some(lock.owner)
+}
+
 /// The members of all ensembles of a ledger.
-fn all_members_of(ledger: &Ledger) -> BookieSet {
+fn all_members_of(metadata: &LedgerMeta) -> BookieSet {
     let mut members = BookieSet::new();
-    for fragment in ledger.metadata().fragments() {
+    for fragment in metadata.fragments() {
         add_members(&mut members, fragment);
     }
     members

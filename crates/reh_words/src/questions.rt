@@ -153,14 +153,14 @@ fn is_given(given: &ArgMatches<'_>, flag: &str) -> bool
 }
 
 /// The number that an argument says, if it says one.
-fn number_of(given: &ArgMatches<'_>, argument: &str) -> Option<u64>
+pub(crate) fn number_of(given: &ArgMatches<'_>, argument: &str) -> Option<u64>
     ensures { model.IsNumber given.now argument.now result }
 {
     given.get_one(argument)
 }
 
 /// Whether the answer is to be JSON.
-fn is_json(given: &ArgMatches<'_>) -> bool
+pub(crate) fn is_json(given: &ArgMatches<'_>) -> bool
     ensures { result ≡ model.is_json given.now }
 {
     match given.get_str("format") {

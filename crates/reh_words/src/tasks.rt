@@ -4,7 +4,7 @@ ghost use Rattle.reh_crew.specs.declared.threads.TheConstants.{MAX_WORKERS};
 ghost use Rattle.reh_words.specs.declared.tasks.TheConstants.{MAX_FILES};
 
 use crate::helps;
-use crate::questions::{asked_of_files, asked_prints};
+use crate::questions::{asked_of_files, asked_prints, is_json, number_of};
 use crate::styles::{Style, asked_style, with_style};
 use clap::error::ErrorKind;
 use clap::{Arg, ArgAction, ArgMatches, Command, Error, value_parser};
@@ -12,6 +12,7 @@ use reh_census::Question;
 use reh_commands::Verb;
 use reh_crew::{MAX_OPERATORS, MAX_WORKERS};
 use reh_help::{Topic, topic_named};
+use reh_types::MAX_ENSEMBLE_SIZE;
 use std::alloc::{AllocError, Global};
 use std::convert::AsStr;
 
@@ -61,6 +62,8 @@ pub enum HelpTopic<'a> {
     Refusals,
     /// On this one.
     Refusal(Topic),
+    /// On this command of a script.
+    Command(Verb),
     /// On this word, of which there is none.
     Unknown(&'a str),
 }
@@ -194,13 +197,21 @@ pub struct PlanWords<'a> {
     pub after: Option<&'a str>,
     pub lost: Vec<&'a str>,
     pub allowed: Vec<&'a str>,
+    /// In how many racks the copies of an entry are to stand.
+    pub min_racks: usize,
     pub only_sums: bool,
+    /// Whether only what it comes to is to be printed, as JSON.
+    pub as_json: bool,
     /// Whether the script says what each command is expected to be answered.
     pub expects: bool,
 }
 
 /// What `--version` says; a picture has the number of its format in itself.
 const VERSION: &str = "1.0.0";
+
+/// In how many racks the copies of an entry are to stand, unless the words say so: BookKeeper's default of
+/// `minNumRacksPerWriteQuorum`.
+const MIN_RACKS: u64 = 2;
 
 const ABOUT: &str =
     "Rehearses Apache BookKeeper AutoRecovery on a picture of a cluster, and not on the cluster.";
@@ -301,7 +312,9 @@ fn asked_plan<'a>(
         after: given.get_str("after"),
         lost: lost.to_vec(alloc)?,
         allowed: allowed.to_vec(alloc)?,
+        min_racks: number_of(given, "min-racks").unwrap_or(MIN_RACKS) as usize,
         only_sums: given.get_flag("summary"),
+        as_json: is_json(given),
         expects: given.get_flag("expect"),
     })
 }
@@ -315,15 +328,23 @@ fn asked_help<'a>(alloc: Global, topic: Option<&'a str>) -> Result<Option<Task<'
         }
         Some("script") => HelpTopic::Script,
         Some("refusals") => HelpTopic::Refusals,
-        Some(word) => match topic_named(word) {
-            Some(topic) => HelpTopic::Refusal(topic),
-            None => {
-                show_command(alloc, word)?;
-                HelpTopic::Unknown(word)
-            }
-        },
+        Some(word) => topic_of(alloc, word)?,
     };
     Ok(Some(Task::Help(topic)))
+}
+
+/// The help on a word: on the refusal that it names, or the command of a script.
+fn topic_of<'a>(alloc: Global, word: &'a str) -> Result<HelpTopic<'a>, Error> {
+    if let Some(topic) = topic_named(word) {
+        return Ok(HelpTopic::Refusal(topic));
+    }
+    for verb in Verb::all() {
+        if verb.name() == word {
+            return Ok(HelpTopic::Command(verb));
+        }
+    }
+    show_command(alloc, word)?;
+    Ok(HelpTopic::Unknown(word))
 }
 
 /// Help, as an error, for a word that is a command.
@@ -355,7 +376,7 @@ fn all_ways(alloc: Global) -> Result<String, AllocError> {
 /// The command line: no word, `run PICTURE SCRIPT --changes --json --workers N --picture-out FILE`,
 /// `talk PICTURE --changes --json`, `check PICTURE SCRIPT`, `drill PICTURE SCRIPT..`, `ok-to-stop --lose BOOKIE,.. FILE..`,
 /// `waves FILE..`, `risk FILE..`, `census FILE..`, `cut --ledgers ID,.. --window K INVENTORY`,
-/// `plan --lose BOOKIE,.. --to BOOKIE,.. --expect --summary PICTURE`, or `help TOPIC`.
+/// `plan --lose BOOKIE,.. --to BOOKIE,.. --min-racks R --expect --summary PICTURE`, or `help TOPIC`.
 fn command<'a>(alloc: Global, ways: &'a str) -> Result<Command<'a>, Error> {
     let command = Command::new(alloc, "rehearse")
         .version(VERSION)
@@ -494,6 +515,12 @@ fn plan_command<'a>(alloc: Global) -> Result<Command<'a>, Error> {
             "The bookies that may take their places; by default all",
         ),
     );
+    let command = with_arg(
+        command,
+        number_arg(alloc, "min-racks", "RACKS", MAX_ENSEMBLE_SIZE as i64).help(
+            "In how many racks each entry's copies are to be; by default 2",
+        ),
+    );
     let command = with_arg(command, after_arg(alloc));
     let command = with_arg(
         command,
@@ -503,13 +530,17 @@ fn plan_command<'a>(alloc: Global) -> Result<Command<'a>, Error> {
     with_arg(command, picture_arg(alloc))
 }
 
-/// The command with the flag for a plan's summary alone.
+/// The command with the flag for a plan's summary alone, and the argument for its form.
 fn with_summary<'a>(
     alloc: Global,
     command: Result<Command<'a>, Error>,
 ) -> Result<Command<'a>, Error> {
     let summary = flag_arg(alloc, "summary").help("Only what the plan comes to");
-    with_arg(command, summary.conflicts_with("expect")?)
+    let command = with_arg(command, summary.conflicts_with("expect")?);
+    let format = value_arg(alloc, "format", "FORMAT")
+        .value_parser(FORMATS)
+        .help("json prints what the plan comes to, as one object");
+    with_arg(command, format.conflicts_with("expect")?)
 }
 
 /// The command `ok-to-stop`.
@@ -606,10 +637,10 @@ fn with_empty<'a>(
 /// The command `help`.
 fn help_command<'a>(alloc: Global) -> Result<Command<'a>, Error> {
     let topic = Arg::new(alloc, "TOPIC").help(
-        "A command, script, refusals, or the number or the name of a refusal",
+        "A command, or one of a script; script, refusals, or the number or the name of a refusal",
     );
     let command = Command::new(alloc, "help")
-        .about("Says what a command does, the lines of a script, or a refusal")
+        .about("Says what a command, a line of a script or a refusal means")
         .after_help(helps::HELP)
         .arg(topic)?;
     Ok(command)

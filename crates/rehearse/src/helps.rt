@@ -1,7 +1,7 @@
 // Help on scripts and refusals.
 use crate::faults::RunFault;
 use crate::files::write_out;
-use reh_help::{refusal_page, refusals_page, script_page};
+use reh_help::{command_page, refusal_page, refusals_page, script_page};
 use reh_words::HelpTopic;
 use std::alloc::{AllocError, Global};
 
@@ -17,6 +17,7 @@ fn page_on(alloc: Global, topic: &HelpTopic<'_>) -> Result<String, RunFault> {
         HelpTopic::Script => Ok(script_page(alloc)?),
         HelpTopic::Refusals => Ok(refusals_page(alloc)?),
         HelpTopic::Refusal(refusal) => Ok(refusal_page(alloc, refusal)?),
+        HelpTopic::Command(verb) => Ok(command_page(alloc, *verb)?),
         HelpTopic::Unknown(word) => Err(no_help(alloc, word)),
     }
 }

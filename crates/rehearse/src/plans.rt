@@ -1,8 +1,9 @@
 // What is to be done without some bookies, planned from the file of a picture.
-ghost use Rattle.std.specs.Prelude.{◌≡◌, ◌&&◌, ℕ, nat_lt, false, slice_get};
+ghost use Rattle.std.specs.Prelude.{◌≡◌, ◌&&◌, ℕ, nat_lt, false, slice_get, take, map, IfOk};
 ghost use Rattle.std.specs.Option.{option_map_or};
 ghost use Rattle.reh_types.specs.declared.limits.TheConstants.{MAX_BOOKIES};
 ghost use Rattle.reh_types.specs.Sets as set;
+ghost use Rattle.reh_plan.specs.Racks.{racks_named};
 
 use crate::afters::text_after;
 use crate::faults::RunFault;
@@ -11,18 +12,17 @@ use crate::inputs::unfit;
 use crate::names::{named_twice, unknown};
 use reh_cluster::Names;
 use reh_picture::{BookieMarks, check_picture, list_picture};
-use reh_plan::{PlanFault, Planned, find_bookies, first_unknown, plan, runbook};
+use reh_plan::{PlanFault, Planned, Racks, find_bookies, first_unknown, plan, plan_json, runbook};
 use reh_types::{BookieIx, BookieSet, MAX_BOOKIES};
 use reh_words::PlanWords;
-use std::alloc::Global;
+use std::alloc::{AllocError, Global};
 
-/// Writes the plan to standard output, as a script or a runbook, or what it comes to, and gives the status.
+/// Writes the plan to standard output, as a script or a runbook, or what it comes to, as text or JSON; and gives the status.
 pub(crate) fn plan_file(rt: &HostRuntime, words: &PlanWords<'_>) -> Result<u8, RunFault> {
     let bytes = picture_bytes(rt, words)?;
     let planned = plan_of(rt.alloc(), &bytes, words)?;
-    if words.only_sums {
-        let names = planned.plan.state().names();
-        let text = planned.summary.text(rt.alloc(), names)?;
+    if words.only_sums || words.as_json {
+        let text = sums_of(rt.alloc(), &planned, words.as_json)?;
         write_out(rt, text.as_bytes())?;
     } else if words.expects {
         let text = runbook(rt.alloc(), &planned).map_err(|fault| unplanned(rt.alloc(), fault))?;
@@ -31,6 +31,20 @@ pub(crate) fn plan_file(rt: &HostRuntime, words: &PlanWords<'_>) -> Result<u8, R
         write_out(rt, planned.plan.text())?;
     }
     Ok(planned.summary.status())
+}
+
+/// What the plan comes to. Where it leaves fragments in fewer racks, a last line of the text says how many.
+fn sums_of(alloc: Global, planned: &Planned, as_json: bool) -> Result<String, RunFault> {
+    let names = planned.plan.state().names();
+    if as_json {
+        return Ok(plan_json(alloc, names, &planned.summary, &planned.fewer)?);
+    }
+    let mut text = planned.summary.text(alloc, names)?;
+    let fewer = planned.fewer.len();
+    if fewer > 0 {
+        write!(text, "fragments in fewer racks {fewer}\n")?;
+    }
+    Ok(text)
 }
 
 /// The bytes of the picture; or of the picture of the state to which a script leads from it.
@@ -47,14 +61,16 @@ fn picture_bytes(rt: &HostRuntime, words: &PlanWords<'_>) -> Result<Vec<u8>, Run
 /// The plan for the picture of these bytes.
 fn plan_of(alloc: Global, bytes: &[u8], words: &PlanWords<'_>) -> Result<Planned, RunFault> {
     let state = check_picture(alloc, bytes)?;
-    let read_only = read_only_of(&list_picture(alloc, bytes)?.marks);
+    let marks = list_picture(alloc, bytes)?.marks;
+    let read_only = read_only_of(&marks);
+    let racks = racks_of(alloc, &marks, words.min_racks)?;
     let lost = bookies_of(alloc, words.picture, state.names(), &words.lost)?;
     let allowed = if words.allowed.is_empty() {
         all_bookies()
     } else {
         bookies_of(alloc, words.picture, state.names(), &words.allowed)?
     };
-    plan(alloc, state, &lost, &allowed, &read_only).map_err(|fault| unplanned(alloc, fault))
+    plan(alloc, state, &lost, &allowed, &read_only, &racks).map_err(|fault| unplanned(alloc, fault))
 }
 
 /// The fault of a run that has no plan.
@@ -88,6 +104,18 @@ fn is_read_only(marks: &[BookieMarks], number: usize) -> bool
         Some(mark) => mark.is_read_only(),
         None => false,
     }
+}
+
+/// In which racks the bookies stand, as far as the picture says.
+fn racks_of(alloc: Global, marks: &[BookieMarks], least: usize) -> Result<Racks, AllocError>
+    ensures { IfOk result (λ racks.
+        racks ≡ racks_named (map (λ m. m.rack) (take MAX_BOOKIES marks.now)) least) }
+{
+    let mut names = Vec::new(alloc);
+    for mark in marks.iter().take(MAX_BOOKIES) {
+        names.push(mark.rack())?;
+    }
+    Racks::of(alloc, &names, least)
 }
 
 /// The bookies of a picture that these words name.

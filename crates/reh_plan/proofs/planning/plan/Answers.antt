@@ -1,78 +1,58 @@
--- What the steps come to.
-use Rattle.std.proofs.Common.{◌≡◌, ◌∙◌, ℕ, Bool, Some, length, ap, sym, subst}
+-- What the steps come to, with the comments at the end.
+use Rattle.std.proofs.Common.{◌≡◌, ◌∙◌, ℕ, Bool, Some, length, ap, refl, sym, subst}
 use Rattle.reh_types.specs.Sets as set
-use Rattle.reh_types.specs.Sets.{Set, numbers}
 use Rattle.reh_model.specs.Book.{new_book}
 use Rattle.reh_model.specs.Cluster.{Cluster}
 use Rattle.reh_model.specs.Session.{replay, opened_session}
 use Rattle.reh_transcript.specs.Transcript.{starting, transcript}
-use Rattle.reh_plan.specs.Ends.{IsHarmless}
 use Rattle.reh_plan.specs.Plans.{Asks, Draft}
+use Rattle.reh_plan.specs.Racks.{fewer_among, metadata_of}
 use Rattle.reh_plan.specs.Replies.{ok_answers}
 use Rattle.reh_plan.specs.Summaries.{holdings_of}
 use Rattle.reh_plan.specs.Workers.{may_work}
 use Rattle.reh_plan.proofs.FilledLaws.{filled_by}
-use Rattle.reh_plan.proofs.PlannedLaws.{planned-alone}
+use Rattle.reh_plan.proofs.PlannedLaws.{IsTold, empty_draft, planned-alone, told-alone}
 use Rattle.reh_plan.proofs.planning.plan.Goals as goal
 
 -- the steps leave the cluster on which the plan begins
-pub summary_of-requires-clause-held : goal.summary_of-requires-clause-held
-summary_of-requires-clause-held c =
-    c.deref.ensures.value ∙ c.in_ok-held.ensures.held ∙ ap holdings_of (sym (planned-alone c.args.state c.args.lost.now (may_work (c.args.allowed.now, c.args.read_only.now)) c.in_ok-plan.plan
-    c.play.new.plan c.in_ok-plan.ensures c.in_ok-play.ensures).opening)
+pub told-requires-clause-held : goal.told-requires-clause-held
+told-requires-clause-held c =
+    let opening : c.in_ok-plan.plan.opening ≡ c.args.state =
+    (planned-alone c.args.state c.args.lost.now (may_work (c.args.allowed.now, c.args.read_only.now))
+    (empty_draft c.args.state) c.in_ok-plan.plan refl c.in_ok-plan.ensures).opening in
+    c.deref-2.ensures.value ∙ c.in_ok-held.ensures.held ∙ ap holdings_of (sym opening)
 
-pub returns-clause-opening : goal.returns-clause-opening
-returns-clause-opening c = (planned-alone c.args.state c.args.lost.now (may_work (c.args.allowed.now, c.args.read_only.now)) c.in_ok-plan.plan
-    c.play.new.plan c.in_ok-plan.ensures c.in_ok-play.ensures).opening
-
-pub returns-clause-asks : goal.returns-clause-asks
-returns-clause-asks c =
-    subst (λ (s : Cluster). Asks s.names c.play.new.plan.lines c.play.new.plan.events) (planned-alone c.args.state c.args.lost.now (may_work (c.args.allowed.now, c.args.read_only.now)) c.in_ok-plan.plan
-    c.play.new.plan c.in_ok-plan.ensures c.in_ok-play.ensures).opening
-    c.text-checked.ensures.asks
-
-pub returns-clause-accepted : goal.returns-clause-accepted
-returns-clause-accepted c =
-    subst (λ (s : Cluster). replay s c.play.new.plan.events ≡ Some c.play.new.plan.state) (planned-alone c.args.state c.args.lost.now (may_work (c.args.allowed.now, c.args.read_only.now)) c.in_ok-plan.plan
-    c.play.new.plan c.in_ok-plan.ensures c.in_ok-play.ensures).opening
-    c.text-checked.ensures.accepted
-
-pub returns-clause-replies : goal.returns-clause-replies
-returns-clause-replies c =
-    subst
-    (λ (s : Cluster).
-    transcript s.names 0 (starting (new_book (opened_session s))) 1 c.play.new.plan.lines
-    ≡ ok_answers s.names 1 c.play.new.plan.lines)
-    (planned-alone c.args.state c.args.lost.now (may_work (c.args.allowed.now, c.args.read_only.now)) c.in_ok-plan.plan
-    c.play.new.plan c.in_ok-plan.ensures c.in_ok-play.ensures).opening c.text-checked.ensures.replies
-
-pub returns-clause-lost : goal.returns-clause-lost
-returns-clause-lost c = (planned-alone c.args.state c.args.lost.now (may_work (c.args.allowed.now, c.args.read_only.now)) c.in_ok-plan.plan
-    c.play.new.plan c.in_ok-plan.ensures c.in_ok-play.ensures).without
-
-pub returns-clause-order : goal.returns-clause-order
-returns-clause-order c = (planned-alone c.args.state c.args.lost.now (may_work (c.args.allowed.now, c.args.read_only.now)) c.in_ok-plan.plan
-    c.play.new.plan c.in_ok-plan.ensures c.in_ok-play.ensures).order
-
-pub returns-clause-filled : goal.returns-clause-filled
-returns-clause-filled c =
-    filled_by (may_work (c.args.allowed.now, c.args.read_only.now)) c.args.state c.play.new.plan.state
-    (set.contains c.args.lost.now) (length c.args.state.names) c.play.new.plan.events (planned-alone c.args.state c.args.lost.now (may_work (c.args.allowed.now, c.args.read_only.now)) c.in_ok-plan.plan
-    c.play.new.plan c.in_ok-plan.ensures c.in_ok-play.ensures).order
-    (subst (λ (s : Cluster). replay s c.play.new.plan.events ≡ Some c.play.new.plan.state) (planned-alone c.args.state c.args.lost.now (may_work (c.args.allowed.now, c.args.read_only.now)) c.in_ok-plan.plan
-    c.play.new.plan c.in_ok-plan.ensures c.in_ok-play.ensures).opening
-    c.text-checked.ensures.accepted)
-
-pub returns-clause-named : goal.returns-clause-named
-returns-clause-named c = c.in_ok-play.ensures.repaired.works.naming.named
-
-pub returns-clause-only : goal.returns-clause-only
-returns-clause-only c = (planned-alone c.args.state c.args.lost.now (may_work (c.args.allowed.now, c.args.read_only.now)) c.in_ok-plan.plan
-    c.play.new.plan c.in_ok-plan.ensures c.in_ok-play.ensures).only
-
-pub returns-clause-ends : goal.returns-clause-ends
-returns-clause-ends c = c.in_ok-play.ensures.repaired.ends
-
-pub returns-clause-harmless : goal.returns-clause-harmless
-returns-clause-harmless c =
-    subst (λ (d : Draft). IsHarmless d.state c.play.new.plan.state) c.in_ok-plan.ensures c.in_ok-play.ensures.harmless
+pub returns : goal.returns
+returns c =
+    let s : Cluster = c.args.state in
+    let may : ℕ → Bool = may_work (c.args.allowed.now, c.args.read_only.now) in
+    let p : Draft = c.in_ok-plan.plan in
+    let n : Draft = c.in_ok-planned.planned.plan in
+    let told : IsTold s c.args.lost.now may c.in_ok-planned.planned.fewer.items n =
+    told-alone s c.args.lost.now may (empty_draft s) p n c.in_ok-planned.planned.fewer.items refl c.in_ok-plan.ensures
+    c.in_ok-planned.ensures.told in
+    let accepted : replay s n.events ≡ Some n.state =
+    subst (λ (o : Cluster). replay o n.events ≡ Some n.state) told.opening c.text-checked.ensures.accepted in
+    let before : c.deref.result.now ≡ metadata_of s = c.deref.ensures.value ∙ c.in_ok-before.ensures in
+    let after : p.state ≡ n.state = sym (ap (λ (d : Draft). d.state) c.in_ok-planned.ensures.told) in
+    record {
+      opening = told.opening;
+      asks = subst (λ (o : Cluster). Asks o.names n.lines n.events) told.opening c.text-checked.ensures.asks;
+      accepted = accepted;
+      replies =
+          subst
+          (λ (o : Cluster).
+          transcript o.names 0 (starting (new_book (opened_session o))) 1 n.lines ≡ ok_answers o.names 1 n.lines)
+          told.opening c.text-checked.ensures.replies;
+      lost = told.without;
+      order = told.order;
+      filled =
+          filled_by may s n.state (set.contains c.args.lost.now) (length s.names) n.events told.order accepted;
+      named = told.named;
+      racks = c.in_ok-planned.ensures.racks ∙ (λ i. fewer_among c.args.racks.now (before i) (after i).parts.ledgers);
+      told = told.told;
+      only = told.only;
+      ends = told.ends;
+      harmless = told.harmless;
+      sum = c.in_ok-planned.ensures.sum;
+    }

@@ -1,0 +1,200 @@
+-- In which racks members stand, and the copies of an entry.
+use Rattle.std.proofs.Common.{◌≡◌, ◌∙◌, ◌+◌, ◌-◌, ◌<◌, ◌≤◌, ℕ, suc, false, Bool, not, cond, List, [], ◌∷◌, ◌++◌, append_assoc, ap, sym, subst, refl, arith, inl, inr}
+use Rattle.std.proofs.Common.{Option, None, Some, unwrap_or, map, length, length-set, get_or, set, take, All, count_by, nat_lt, min}
+use Rattle.std.proofs.Common.{slice_get, slice_index, position}
+use Rattle.std.specs.List.{filter, reduce, prefix_len, range_with_len}
+use Rattle.std.specs.Option.{option_map, option_map_or}
+use Rattle.reh_types.specs.declared.limits.TheConstants.{MAX_BOOKIES}
+use Rattle.std.proofs.lemmas.Bool.{cases_eq, le-ltb}
+use Rattle.std.proofs.lemmas.List.{get_or-set_same, get_or-set_other, take_more_set}
+use Rattle.std.proofs.lemmas.Simd.{map-map}
+use Rattle.std.proofs.lemmas.Option.{slice_get_within, get_or_from_slice_get}
+use Rattle.std.proofs.lemmas.List.Elements.{All-head, All-tail}
+use Rattle.std.proofs.lemmas.List.FromFn.{length-map-range_with_len}
+use Rattle.reh_model.specs.Metadata.{Fragment, Metadata, IsEnsemble, IsMetadata, with_member, writes}
+use Rattle.reh_model.specs.Striping.{index_at, range, write_set}
+use Rattle.reh_scan.proofs.ReadingLaws.{write_set_within}
+use Rattle.reh_plan.specs.Racks.{Racks, is_in_rack, rack_number, rack_of, count_racks, racks_at, fewest_after, fewest_racks, lacking}
+
+-- Names of racks
+
+prefix_len-map : {A B : Type 0} (p : B → Bool) (g : A → B) (xs : List A)
+    → prefix_len p (map g xs) ≡ prefix_len (λ x. p (g x)) xs
+prefix_len-map p g [] = refl
+prefix_len-map p g (x ∷ xs) = ap (λ n. cond (p (g x)) (1 + n) 0) (prefix_len-map p g xs)
+
+long-map : {A B : Type 0} (g : A → B) (xs : List A) → length (map g xs) ≡ length xs
+long-map g [] = refl
+long-map g (x ∷ xs) = ap suc (long-map g xs)
+
+-- the place of the first that passes, of what stands for others
+position-map : {A B : Type 0} (p : B → Bool) (g : A → B) (xs : List A)
+    → position p (map g xs) ≡ position (λ x. p (g x)) xs
+position-map p g xs = λ i.
+    cond (nat_lt (prefix_len-map (λ x. not (p x)) g xs i) (long-map g xs i))
+    (Some (prefix_len-map (λ x. not (p x)) g xs i)) None
+
+map_along : {A B : Type 0} (f g : A → B) → ((x : A) → f x ≡ g x) → (xs : List A) → map f xs ≡ map g xs
+map_along f g same [] = refl
+map_along f g same (x ∷ xs) = λ i. same x i ∷ map_along f g same xs i
+
+number_named : {A : Type 0} (bytes : A → List ℕ) (names : List (Option A)) (name : Option A)
+    → option_map_or (λ rack. unwrap_or (position (λ other. is_in_rack (bytes rack) (option_map bytes other)) names) MAX_BOOKIES)
+    name MAX_BOOKIES
+    ≡ rack_number (map (option_map bytes) names) (option_map bytes name)
+number_named bytes names None = refl
+number_named bytes names (Some rack) =
+    ap (λ found. unwrap_or found MAX_BOOKIES) (sym (position-map (is_in_rack (bytes rack)) (option_map bytes) names))
+
+-- the numbers of racks, by what stands for their names
+pub numbers_named : {A : Type 0} (bytes : A → List ℕ) (names : List (Option A))
+    → map (λ name. option_map_or (λ rack. unwrap_or (position (λ other. is_in_rack (bytes rack) (option_map bytes other)) names)
+    MAX_BOOKIES) name MAX_BOOKIES) names
+    ≡ map (rack_number (map (option_map bytes) names)) (map (option_map bytes) names)
+numbers_named bytes names =
+    map_along _ (λ name. rack_number (map (option_map bytes) names) (option_map bytes name)) (number_named bytes names) names
+    ∙ sym (map-map (rack_number (map (option_map bytes) names)) (option_map bytes) names)
+
+-- Racks of members
+
+-- one number more is in its place
+pub number_more : (xs : List ℕ) (f : ℕ → ℕ) (i n : ℕ) → i < length xs → n ≡ f i
+    → ((k : ℕ) → k < i → get_or xs k 0 ≡ f k) → (k : ℕ) → k < i + 1 → get_or (set xs i n) k 0 ≡ f k
+number_more xs f i n there is below k within = elim (cases_eq k i) [
+  | inl same ↦ ap (λ (j : ℕ). get_or (set xs i n) j 0) same ∙ get_or-set_same xs i n 0 there ∙ is ∙ ap f (sym same)
+  | inr apart ↦ get_or-set_other xs i k n 0 apart ∙ below k (omega arith)
+]
+
+-- the racks of members, of which another comes to stand at an index
+pub number_with : (r : Racks) (members numbers : List ℕ) (index bookie n : ℕ) → index < length numbers
+    → n ≡ rack_of r bookie
+    → ((i : ℕ) → i < length members → get_or numbers i 0 ≡ rack_of r (get_or members i 0))
+    → (i : ℕ) → i < length (set members index bookie)
+    → get_or (set numbers index n) i 0 ≡ rack_of r (get_or (set members index bookie) i 0)
+number_with r members numbers index bookie n there is all i within =
+    let long = length-set members index bookie in
+    elim (cases_eq i index) [
+      | inl same ↦
+          ap (λ (j : ℕ). get_or (set numbers index n) j 0) same ∙ get_or-set_same numbers index n 0 there ∙ is
+          ∙ ap (rack_of r)
+          (sym (ap (λ (j : ℕ). get_or (set members index bookie) j 0) same
+          ∙ get_or-set_same members index bookie 0 (omega (arith, long, same))))
+      | inr apart ↦
+          get_or-set_other numbers index i n 0 apart ∙ all i (omega (arith, long))
+          ∙ ap (rack_of r) (sym (get_or-set_other members index i bookie 0 apart))
+    ]
+
+-- an index past the members changes none of them
+pub number_past : (r : Racks) (members numbers : List ℕ) (index bookie : ℕ) → length members ≤ index
+    → ((i : ℕ) → i < length members → get_or numbers i 0 ≡ rack_of r (get_or members i 0))
+    → (i : ℕ) → i < length (set members index bookie)
+    → get_or numbers i 0 ≡ rack_of r (get_or (set members index bookie) i 0)
+number_past r members numbers index bookie past all i within =
+    let long = length-set members index bookie in
+    all i (omega (arith, long))
+    ∙ ap (rack_of r) (sym (get_or-set_other members index i bookie 0 (λ same. omega (arith, long, same))))
+
+-- Racks of copies
+
+map_below : (f g : ℕ → ℕ) (n : ℕ) (xs : List ℕ) → All (λ i. i < n) xs → ((i : ℕ) → i < n → f i ≡ g i)
+    → map f xs ≡ map g xs
+map_below f g n [] all same = refl
+map_below f g n (x ∷ xs) all same = λ i.
+    same x (All-head (λ j. j < n) x xs all) i ∷ map_below f g n xs (All-tail (λ j. j < n) x xs all) same i
+
+-- the racks of an entry's copies, by those of the members
+pub racks_there : (r : Racks) (m : Metadata) (f : Fragment) (numbers : List ℕ) → IsMetadata m
+    → length f.ensemble ≡ m.size
+    → ((i : ℕ) → i < length f.ensemble → slice_index numbers i ≡ rack_of r (slice_index f.ensemble i))
+    → (entry : ℕ)
+    → count_racks (map (slice_index numbers) (write_set entry m.size m.write_quorum)) ≡ racks_at r m f entry
+racks_there r m f numbers rules whole there entry =
+    ap count_racks
+    (map_below (slice_index numbers) (λ i. rack_of r (slice_index f.ensemble i)) m.size
+    (write_set entry m.size m.write_quorum) (write_set_within m entry rules)
+    (λ i within. there i (omega (arith, whole, within)))
+    ∙ sym (map-map (rack_of r) (λ i. slice_index f.ensemble i) (write_set entry m.size m.write_quorum)))
+
+-- the least number of racks, by another way to count them
+pub fewest_there : (r : Racks) (m : Metadata) (before : Fragment) (n : Metadata) (after : Fragment) (was is : ℕ → ℕ)
+    → ((entry : ℕ) → was entry ≡ racks_at r m before entry) → ((entry : ℕ) → is entry ≡ racks_at r n after entry)
+    → reduce min (map is (filter (λ e. nat_lt (is e) (min r.least (was e))) (range 0 n.size)))
+    ≡ fewest_after r m before n after
+fewest_there r m before n after was is then now = λ i.
+    reduce min
+    (map (λ e. now e i) (filter (λ e. nat_lt (now e i) (min r.least (then e i))) (range 0 n.size)))
+
+-- how many write sets stand in fewer racks than are asked for, by another way to count them
+pub lacking_there : (r : Racks) (m : Metadata) (f : Fragment) (index bookie : ℕ) (is : ℕ → ℕ)
+    → ((entry : ℕ) → is entry ≡ racks_at r m (with_member f index bookie) entry)
+    → count_by (λ e. nat_lt (is e) (min r.least m.write_quorum)) (range 0 m.size) ≡ lacking r m f index bookie
+lacking_there r m f index bookie is now = λ i.
+    count_by (λ e. nat_lt (now e i) (min r.least m.write_quorum)) (range 0 m.size)
+
+-- Copies that stay
+
+filter_none : {X : Type 0} (p : X → Bool) (xs : List X) → ((x : X) → p x ≡ false) → filter p xs ≡ []
+filter_none p [] none = refl
+filter_none p (x ∷ xs) none =
+    ap (λ b. cond b (x ∷ filter p xs) (filter p xs)) (none x) ∙ filter_none p xs none
+
+-- where each entry's copies stay, none stands in fewer racks
+pub fewest_same : (r : Racks) (m : Metadata) (before : Fragment) (n : Metadata) (after : Fragment)
+    → ((entry : ℕ) → writes n after entry ≡ writes m before entry) → fewest_after r m before n after ≡ None
+fewest_same r m before n after same =
+    ap (λ (es : List ℕ). reduce min (map (racks_at r n after) es))
+    (filter_none (λ e. nat_lt (racks_at r n after e) (min r.least (racks_at r m before e))) (range 0 n.size)
+    (λ e. le-ltb (racks_at r n after e) (min r.least (racks_at r m before e))
+    (omega (arith, ap (λ (bs : List ℕ). count_racks (map (rack_of r) bs)) (same e)))))
+
+-- members and sizes that stay keep the copies
+pub same_writes : (m : Metadata) (f : Fragment) (n : Metadata) (g : Fragment) → n.size ≡ m.size
+    → n.write_quorum ≡ m.write_quorum → g.ensemble ≡ f.ensemble → (entry : ℕ) → writes n g entry ≡ writes m f entry
+same_writes m f n g size quorum members entry = λ i.
+    map (λ j. slice_index (members i) j) (write_set entry (size i) (quorum i))
+
+-- Fragments
+
+-- the ensemble of a fragment has the size
+pub whole_at : (m : Metadata) (f : ℕ) (fragment : Fragment) → IsMetadata m → slice_get m.fragments f ≡ Some fragment
+    → length fragment.ensemble ≡ m.size
+whole_at m f fragment rules there =
+    let within = slice_get_within m.fragments f fragment there in
+    (subst (λ (x : Fragment). IsEnsemble m.size x.ensemble) (get_or_from_slice_get m.fragments f fragment fragment there)
+    (rules.ensembles f fragment within)).whole
+
+-- of a fragment that is there before and after, the least number of racks
+pub fewest_at : (r : Racks) (m n : Metadata) (f : ℕ) (before after : Fragment) → slice_get m.fragments f ≡ Some before
+    → slice_get n.fragments f ≡ Some after → fewest_racks r m n f ≡ fewest_after r m before n after
+fewest_at r m n f before after old new = λ i.
+    option_map_or (λ (b : Fragment). option_map_or (λ (a : Fragment). fewest_after r m b n a) (new i) None) (old i) None
+
+-- Copies that are passed
+
+-- one copy more
+pub copy_more : (numbers racks : List ℕ) (count index n : ℕ) (all left rest : List ℕ) → count < length numbers
+    → n ≡ slice_index racks index → left ≡ index ∷ rest
+    → take count numbers ++ map (slice_index racks) left ≡ all
+    → take (count + 1) (set numbers count n) ++ map (slice_index racks) rest ≡ all
+copy_more numbers racks count index n all left rest there is split done =
+    ap (λ (ns : List ℕ). ns ++ map (slice_index racks) rest) (take_more_set numbers count n there)
+    ∙ append_assoc (take count numbers) (n ∷ []) (map (slice_index racks) rest)
+    ∙ ap (λ (k : ℕ). take count numbers ++ k ∷ map (slice_index racks) rest) is
+    ∙ ap (λ (is : List ℕ). take count numbers ++ map (slice_index racks) is) (sym split)
+    ∙ done
+
+-- Write sets
+
+-- a write set has as many indexes as the write quorum
+pub long_writes : (entry size quorum : ℕ) → length (write_set entry size quorum) ≡ quorum
+long_writes entry size quorum =
+    let whole : quorum - 0 ≡ quorum = omega arith in
+    ap (λ n. length (map (index_at entry size) (range_with_len 0 n))) whole
+    ∙ length-map-range_with_len (index_at entry size) 0 quorum
+
+-- where they are the racks of a write set, there are as many as the write quorum
+pub long_copies : (numbers racks : List ℕ) (entry size quorum : ℕ)
+    → take quorum numbers ≡ map (slice_index racks) (write_set entry size quorum) → length (take quorum numbers) ≡ quorum
+long_copies numbers racks entry size quorum are =
+    ap (λ (ns : List ℕ). length ns) are ∙ long-map (slice_index racks) (write_set entry size quorum)
+    ∙ long_writes entry size quorum
