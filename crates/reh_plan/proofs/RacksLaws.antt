@@ -2,7 +2,8 @@
 use Rattle.std.proofs.Common.{◌≡◌, ◌∙◌, ◌+◌, ◌-◌, ◌<◌, ◌≤◌, ℕ, suc, false, Bool, not, cond, List, [], ◌∷◌, ◌++◌, append_assoc, ap, sym, subst, refl, arith, inl, inr}
 use Rattle.std.proofs.Common.{Option, None, Some, unwrap_or, map, length, length-set, get_or, set, take, All, count_by, nat_lt, min}
 use Rattle.std.proofs.Common.{slice_get, slice_index, position}
-use Rattle.std.specs.List.{filter, reduce, prefix_len, range_with_len}
+use Rattle.std.specs.List.{filter, list_any, reduce, prefix_len, range_with_len}
+use Rattle.std.specs.Prelude.{◌&&◌, is_some}
 use Rattle.std.specs.Option.{option_map, option_map_or}
 use Rattle.reh_types.specs.declared.limits.TheConstants.{MAX_BOOKIES}
 use Rattle.std.proofs.lemmas.Bool.{cases_eq, le-ltb}
@@ -11,10 +12,12 @@ use Rattle.std.proofs.lemmas.Simd.{map-map}
 use Rattle.std.proofs.lemmas.Option.{slice_get_within, get_or_from_slice_get}
 use Rattle.std.proofs.lemmas.List.Elements.{All-head, All-tail}
 use Rattle.std.proofs.lemmas.List.FromFn.{length-map-range_with_len}
+use Rattle.std.proofs.lemmas.List.Sums.{sum_by-cons}
 use Rattle.reh_model.specs.Metadata.{Fragment, Metadata, IsEnsemble, IsMetadata, with_member, writes}
 use Rattle.reh_model.specs.Striping.{index_at, range, write_set}
 use Rattle.reh_scan.proofs.ReadingLaws.{write_set_within}
-use Rattle.reh_plan.specs.Racks.{Racks, is_in_rack, rack_number, rack_of, count_racks, racks_at, fewest_after, fewest_racks, lacking}
+use Rattle.reh_types.specs.Same.{tells_lists, tells_numbers}
+use Rattle.reh_plan.specs.Racks.{Racks, is_in_rack, rack_number, rack_of, least_racks, most_racks, may_be_fewer, racks_of, racks_at, fewest_after, fewest_racks, lacking}
 
 -- Names of racks
 
@@ -54,6 +57,13 @@ pub numbers_named : {A : Type 0} (bytes : A → List ℕ) (names : List (Option 
 numbers_named bytes names =
     map_along _ (λ name. rack_number (map (option_map bytes) names) (option_map bytes name)) (number_named bytes names) names
     ∙ sym (map-map (rack_number (map (option_map bytes) names)) (option_map bytes) names)
+
+-- whether some rack is known, by what stands for their names
+pub any_named : {A : Type 0} (bytes : A → List ℕ) (names : List (Option A))
+    → list_any is_some (map (option_map bytes) names) ≡ list_any (λ name. is_some name) names
+any_named bytes [] = refl
+any_named bytes (None ∷ names) = any_named bytes names
+any_named bytes (Some rack ∷ names) = refl
 
 -- Racks of members
 
@@ -106,30 +116,36 @@ map_below f g n (x ∷ xs) all same = λ i.
 pub racks_there : (r : Racks) (m : Metadata) (f : Fragment) (numbers : List ℕ) → IsMetadata m
     → length f.ensemble ≡ m.size
     → ((i : ℕ) → i < length f.ensemble → slice_index numbers i ≡ rack_of r (slice_index f.ensemble i))
-    → (entry : ℕ)
-    → count_racks (map (slice_index numbers) (write_set entry m.size m.write_quorum)) ≡ racks_at r m f entry
+    → (entry : ℕ) → map (slice_index numbers) (write_set entry m.size m.write_quorum) ≡ racks_of r m f entry
 racks_there r m f numbers rules whole there entry =
-    ap count_racks
-    (map_below (slice_index numbers) (λ i. rack_of r (slice_index f.ensemble i)) m.size
+    map_below (slice_index numbers) (λ i. rack_of r (slice_index f.ensemble i)) m.size
     (write_set entry m.size m.write_quorum) (write_set_within m entry rules)
     (λ i within. there i (omega (arith, whole, within)))
-    ∙ sym (map-map (rack_of r) (λ i. slice_index f.ensemble i) (write_set entry m.size m.write_quorum)))
+    ∙ sym (map-map (rack_of r) (λ i. slice_index f.ensemble i) (write_set entry m.size m.write_quorum))
 
--- the least number of racks, by another way to count them
-pub fewest_there : (r : Racks) (m : Metadata) (before : Fragment) (n : Metadata) (after : Fragment) (was is : ℕ → ℕ)
-    → ((entry : ℕ) → was entry ≡ racks_at r m before entry) → ((entry : ℕ) → is entry ≡ racks_at r n after entry)
-    → reduce min (map is (filter (λ e. nat_lt (is e) (min r.least (was e))) (range 0 n.size)))
+-- the least number of racks, by another way to list them
+pub fewest_there : (r : Racks) (m : Metadata) (before : Fragment) (n : Metadata) (after : Fragment) (was is : ℕ → List ℕ)
+    → ((entry : ℕ) → was entry ≡ racks_of r m before entry) → ((entry : ℕ) → is entry ≡ racks_of r n after entry)
+    → reduce min (map (λ e. least_racks (is e)) (filter (λ e. may_be_fewer r.least (was e) (is e)) (range 0 n.size)))
     ≡ fewest_after r m before n after
 fewest_there r m before n after was is then now = λ i.
     reduce min
-    (map (λ e. now e i) (filter (λ e. nat_lt (now e i) (min r.least (then e i))) (range 0 n.size)))
+    (map (λ e. least_racks (now e i)) (filter (λ e. may_be_fewer r.least (then e i) (now e i)) (range 0 n.size)))
 
--- how many write sets stand in fewer racks than are asked for, by another way to count them
-pub lacking_there : (r : Racks) (m : Metadata) (f : Fragment) (index bookie : ℕ) (is : ℕ → ℕ)
-    → ((entry : ℕ) → is entry ≡ racks_at r m (with_member f index bookie) entry)
-    → count_by (λ e. nat_lt (is e) (min r.least m.write_quorum)) (range 0 m.size) ≡ lacking r m f index bookie
+-- how many write sets stand in fewer racks than are asked for, by another way to list them
+pub lacking_there : (r : Racks) (m : Metadata) (f : Fragment) (index bookie : ℕ) (is : ℕ → List ℕ)
+    → ((entry : ℕ) → is entry ≡ racks_of r m (with_member f index bookie) entry)
+    → count_by (λ e. nat_lt (least_racks (is e)) (min r.least m.write_quorum)) (range 0 m.size) ≡ lacking r m f index bookie
 lacking_there r m f index bookie is now = λ i.
-    count_by (λ e. nat_lt (now e i) (min r.least m.write_quorum)) (range 0 m.size)
+    count_by (λ e. nat_lt (least_racks (now e i)) (min r.least m.write_quorum)) (range 0 m.size)
+
+-- where no racks are asked for, no write set lacks any
+pub none_lacking : (racks : ℕ → ℕ) (wanted : ℕ) → wanted ≡ 0 → (entries : List ℕ)
+    → count_by (λ e. nat_lt (racks e) wanted) entries ≡ 0
+none_lacking racks wanted none [] = refl
+none_lacking racks wanted none (e ∷ es) =
+    sum_by-cons (λ x. cond (nat_lt (racks x) wanted) 1 0) e es
+    ∙ (λ i. cond (le-ltb (racks e) wanted (omega (arith, none)) i) 1 0 + none_lacking racks wanted none es i)
 
 -- Copies that stay
 
@@ -138,14 +154,19 @@ filter_none p [] none = refl
 filter_none p (x ∷ xs) none =
     ap (λ b. cond b (x ∷ filter p xs) (filter p xs)) (none x) ∙ filter_none p xs none
 
--- where each entry's copies stay, none stands in fewer racks
+-- the same racks are no fewer
+not_fewer : (least : ℕ) (before after : List ℕ) → after ≡ before → may_be_fewer least before after ≡ false
+not_fewer least before after same =
+    ap (λ b. not b && nat_lt (least_racks after) (min least (most_racks before)))
+    ((tells_lists tells_numbers before after).1 (sym same))
+
+-- where each entry's copies stay, none may stand in fewer racks
 pub fewest_same : (r : Racks) (m : Metadata) (before : Fragment) (n : Metadata) (after : Fragment)
     → ((entry : ℕ) → writes n after entry ≡ writes m before entry) → fewest_after r m before n after ≡ None
 fewest_same r m before n after same =
     ap (λ (es : List ℕ). reduce min (map (racks_at r n after) es))
-    (filter_none (λ e. nat_lt (racks_at r n after e) (min r.least (racks_at r m before e))) (range 0 n.size)
-    (λ e. le-ltb (racks_at r n after e) (min r.least (racks_at r m before e))
-    (omega (arith, ap (λ (bs : List ℕ). count_racks (map (rack_of r) bs)) (same e)))))
+    (filter_none (λ e. may_be_fewer r.least (racks_of r m before e) (racks_of r n after e)) (range 0 n.size)
+    (λ e. not_fewer r.least (racks_of r m before e) (racks_of r n after e) (ap (map (rack_of r)) (same e))))
 
 -- members and sizes that stay keep the copies
 pub same_writes : (m : Metadata) (f : Fragment) (n : Metadata) (g : Fragment) → n.size ≡ m.size

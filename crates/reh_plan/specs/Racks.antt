@@ -1,6 +1,6 @@
 -- In how many racks the copies of an entry stand, and what a plan says where they come to stand in fewer.
-use Rattle.std.specs.Prelude.{ℕ, ◌+◌, ◌-◌, ◌==◌, min, Bool, false, nat_lt, nat_le, ◌||◌, List, [], ◌∷◌, ◌++◌, map, flat_map, take, length, count_by, zip}
-use Rattle.std.specs.Prelude.{Option, None, Some, unwrap_or, slice_get, position, bytes_eq, codes, if◌then◌else◌}
+use Rattle.std.specs.Prelude.{ℕ, ◌+◌, ◌-◌, ◌==◌, min, max, Bool, false, not, nat_lt, nat_le, ◌&&◌, ◌||◌, List, [], ◌∷◌, ◌++◌, map, flat_map, take, length, count_by, zip}
+use Rattle.std.specs.Prelude.{Option, None, Some, is_some, unwrap_or, slice_get, position, bytes_eq, codes, if◌then◌else◌}
 use Rattle.std.specs.List.{filter, list_any, reduce}
 use Rattle.std.specs.Fmt.{decimal}
 use Rattle.std.specs.Option.{option_map_or}
@@ -26,12 +26,16 @@ abbrev pub rack_number : List (Option (List ℕ)) → Option (List ℕ) → ℕ
 rack_number names None = MAX_BOOKIES
 rack_number names (Some rack) = unwrap_or (position (is_in_rack rack) names) MAX_BOOKIES
 
--- by the names of the bookies' racks, where they are known
+-- by the names of the bookies' racks, where they are known; where none is, none are asked for
 abbrev pub racks_named : List (Option (List ℕ)) → ℕ → Racks
-racks_named names least = record { numbers = map (rack_number names) names; least = least }
+racks_named names least =
+    record { numbers = map (rack_number names) names; least = if list_any is_some names then least else 0 }
 
+-- the number of a bookie's rack; where it isn't known, a number of the bookie's own, past those of all racks
 abbrev pub rack_of : Racks → ℕ → ℕ
-rack_of r bookie = unwrap_or (slice_get r.numbers bookie) MAX_BOOKIES
+rack_of r bookie =
+    let number = unwrap_or (slice_get r.numbers bookie) MAX_BOOKIES in
+    if nat_lt number MAX_BOOKIES then number else MAX_BOOKIES + bookie
 
 -- how many different racks these are, without those that aren't known
 abbrev pub count_racks : List ℕ → ℕ
@@ -39,13 +43,30 @@ count_racks [] = 0
 count_racks (n ∷ ns) =
     if nat_le MAX_BOOKIES n || list_any (λ other. other == n) ns then count_racks ns else count_racks ns + 1
 
--- in how many racks the write set of an entry stands
-abbrev pub racks_at : Racks → Metadata → Fragment → ℕ → ℕ
-racks_at r m fragment entry = count_racks (map (rack_of r) (writes m fragment entry))
+-- how many they are at least
+abbrev pub least_racks : List ℕ → ℕ
+least_racks ns = max (count_racks ns) 1
 
--- whether that is fewer than before, and than it is to be
+-- how many they can be at most: each that isn't known may be another one
+abbrev pub most_racks : List ℕ → ℕ
+most_racks ns = count_racks ns + count_by (nat_le MAX_BOOKIES) ns
+
+-- whether racks that come in the place of others may be fewer, and are fewer than there are to be
+abbrev pub may_be_fewer : ℕ → List ℕ → List ℕ → Bool
+may_be_fewer least before after =
+    not (bytes_eq before after) && nat_lt (least_racks after) (min least (most_racks before))
+
+-- the racks of the write set of an entry
+abbrev pub racks_of : Racks → Metadata → Fragment → ℕ → List ℕ
+racks_of r m fragment entry = map (rack_of r) (writes m fragment entry)
+
+-- in how many racks it stands at least
+abbrev pub racks_at : Racks → Metadata → Fragment → ℕ → ℕ
+racks_at r m fragment entry = least_racks (racks_of r m fragment entry)
+
+-- whether they may be fewer than before, and are fewer than there are to be
 abbrev pub is_fewer : Racks → Metadata → Fragment → Metadata → Fragment → ℕ → Bool
-is_fewer r m before n after entry = nat_lt (racks_at r n after entry) (min r.least (racks_at r m before entry))
+is_fewer r m before n after entry = may_be_fewer r.least (racks_of r m before entry) (racks_of r n after entry)
 
 -- of the write sets of a fragment for which it is, the least such number, if there is one
 abbrev pub fewest_after : Racks → Metadata → Fragment → Metadata → Fragment → Option ℕ

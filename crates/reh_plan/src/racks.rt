@@ -1,7 +1,8 @@
 // In which racks bookies stand.
-ghost use Rattle.std.specs.Prelude.{◌≡◌, ℕ, ◌<◌, ◌≤◌, length, map, min, nat_lt, count_by, position, take, unwrap_or, IfOk, IsTrue};
+ghost use Rattle.std.specs.Prelude.{◌≡◌, ℕ, ◌<◌, ◌≤◌, length, map, min, nat_lt, count_by, position, take, unwrap_or, is_some};
+ghost use Rattle.std.specs.Prelude.{IfOk, IsTrue, if◌then◌else◌};
 ghost use Rattle.std.specs.Prelude.{slice_get, slice_index};
-ghost use Rattle.std.specs.List.{filter, reduce};
+ghost use Rattle.std.specs.List.{filter, list_any, reduce};
 ghost use Rattle.std.specs.Option.{option_map, option_map_or};
 ghost use Rattle.reh_types.specs.declared.limits.TheConstants.{MAX_BOOKIES, MAX_ENSEMBLE_SIZE};
 ghost use Rattle.reh_model.specs.Metadata.{with_member, writes};
@@ -15,17 +16,19 @@ use std::alloc::{AllocError, Global};
 use std::marker::Model;
 
 /// The number of a rack that isn't known.
-const NO_RACK: u8 = MAX_BOOKIES as u8;
+const NO_RACK: u16 = MAX_BOOKIES as u16;
 
 /// The rack of the member at each index of an ensemble, or of each copy of an entry, by the number of the first bookie in it.
-type RackNumbers = [u8; MAX_ENSEMBLE_SIZE as usize];
+/// A rack that isn't known has a number of its own from `NO_RACK` on.
+type RackNumbers = [u16; MAX_ENSEMBLE_SIZE as usize];
 
 /// In which rack each bookie stands, and in how many racks the copies of an entry are to stand, if there are as many copies
-/// (BookKeeper's `minNumRacksPerWriteQuorum`). A bookie whose rack isn't known counts for none.
+/// (BookKeeper's `minNumRacksPerWriteQuorum`). A bookie whose rack isn't known may have stood in one of its own; but one that
+/// comes counts for none.
 #[derive(Drop)]
 pub struct Racks {
     /// Of each bookie the number of the first that stands in its rack, or `NO_RACK`.
-    numbers: Vec<u8>,
+    numbers: Vec<u16>,
     least: usize,
 }
 
@@ -38,7 +41,7 @@ impl Model for Racks {
 }
 
 impl Racks {
-    /// By the names of the bookies' racks, where they are known.
+    /// By the names of the bookies' racks, where they are known. If none is, none are asked for.
     pub fn of(alloc: Global, names: &[Option<&str>], least: usize) -> Result<Racks, AllocError>
         requires { length names.now ≤ MAX_BOOKIES }
         ensures { IfOk result (λ racks.
@@ -46,7 +49,7 @@ impl Racks {
     {
         Ok(Racks {
             numbers: numbers_of(alloc, names)?,
-            least,
+            least: least_of(names, least),
         })
     }
 
@@ -60,8 +63,8 @@ impl Racks {
         })
     }
 
-    /// Of the write sets of a fragment that stand in fewer racks than before, and than are asked for, the least number of
-    /// racks, if there are any.
+    /// Of the write sets of a fragment that may stand in fewer racks than before, and stand in fewer than are asked for, the
+    /// least number of racks, if there are any.
     pub(crate) fn fewest(
         &self,
         before: &LedgerMeta,
@@ -132,20 +135,34 @@ impl Racks {
     }
 
     /// The rack of a bookie.
-    fn rack_of(&self, bookie: BookieIx) -> u8
+    fn rack_of(&self, bookie: BookieIx) -> u16
         ensures { result ≡ model.rack_of self.now bookie }
     {
         match self.numbers.get(bookie.0 as usize) {
-            Some(number) => *number,
-            None => NO_RACK,
+            Some(number) if *number < NO_RACK => *number,
+            _ => NO_RACK + bookie.0 as u16,
         }
     }
 }
 
 // Names of racks
 
+/// How many racks are asked for: none if no rack is known.
+fn least_of(names: &[Option<&str>], least: usize) -> usize
+    ensures { result ≡ (if list_any (λ name. is_some name) names.now then least else 0) }
+{
+    if is_any_known(names) { least } else { 0 }
+}
+
+/// Whether some rack is known.
+fn is_any_known(names: &[Option<&str>]) -> bool
+    ensures { result ≡ list_any (λ name. is_some name) names.now }
+{
+    names.iter().any(|name| name.is_some())
+}
+
 /// Of each bookie the number of the first that stands in its rack.
-fn numbers_of(alloc: Global, names: &[Option<&str>]) -> Result<Vec<u8>, AllocError>
+fn numbers_of(alloc: Global, names: &[Option<&str>]) -> Result<Vec<u16>, AllocError>
     requires { length names.now ≤ MAX_BOOKIES }
     ensures { IfOk result (λ numbers. numbers.items ≡ map (λ name. option_map_or (λ rack.
         unwrap_or (position (λ other. model.is_in_rack rack.now (option_map (λ n. n.now) other)) names.now) MAX_BOOKIES)
@@ -158,7 +175,7 @@ fn numbers_of(alloc: Global, names: &[Option<&str>]) -> Result<Vec<u8>, AllocErr
 }
 
 /// The number of a rack, if it is known.
-fn rack_number(names: &[Option<&str>], name: &Option<&str>) -> u8
+fn rack_number(names: &[Option<&str>], name: &Option<&str>) -> u16
     requires { length names.now ≤ MAX_BOOKIES }
     ensures { result ≡ option_map_or (λ rack.
         unwrap_or (position (λ other. model.is_in_rack rack.now (option_map (λ n. n.now) other)) names.now) MAX_BOOKIES)
@@ -171,13 +188,13 @@ fn rack_number(names: &[Option<&str>], name: &Option<&str>) -> u8
 }
 
 /// The number of a rack: that of the first bookie that stands in it.
-fn number_of(names: &[Option<&str>], rack: &str) -> u8
+fn number_of(names: &[Option<&str>], rack: &str) -> u16
     requires { length names.now ≤ MAX_BOOKIES }
     ensures { result
         ≡ unwrap_or (position (λ other. model.is_in_rack rack.now (option_map (λ n. n.now) other)) names.now) MAX_BOOKIES }
 {
     match first_in(names, rack) {
-        Some(number) => number as u8,
+        Some(number) => number as u16,
         None => NO_RACK,
     }
 }
@@ -216,8 +233,8 @@ fn have_same_sizes(before: &LedgerMeta, after: &LedgerMeta) -> bool
     before.size() == after.size() && before.write_quorum() == after.write_quorum()
 }
 
-/// Of the write sets that stand in fewer racks than before, and than are asked for, the least number of racks, if there
-/// are any, by the racks of the members before and after.
+/// Of the write sets that may stand in fewer racks than before, and stand in fewer than are asked for, the least number of
+/// racks, if there are any, by the racks of the members before and after.
 fn least_fewer(
     old: &RackNumbers,
     before: &LedgerMeta,
@@ -225,39 +242,72 @@ fn least_fewer(
     after: &LedgerMeta,
     least: usize,
 ) -> Option<usize>
-    ensures { let racks = λ (entry : ℕ). model.count_racks (map (slice_index new.now)
-        (stripe.write_set entry after.now.size after.now.write_quorum)) in
-        let racks_before = λ (entry : ℕ). model.count_racks (map (slice_index old.now)
-        (stripe.write_set entry before.now.size before.now.write_quorum)) in
-        result ≡ reduce min (map racks (filter (λ entry. nat_lt (racks entry) (min least (racks_before entry)))
-        (stripe.range 0 after.now.size))) }
+    ensures { let racks = λ (entry : ℕ). map (slice_index new.now)
+        (stripe.write_set entry after.now.size after.now.write_quorum) in
+        let racks_before = λ (entry : ℕ). map (slice_index old.now)
+        (stripe.write_set entry before.now.size before.now.write_quorum) in
+        result ≡ reduce min (map (λ entry. model.least_racks (racks entry))
+        (filter (λ entry. model.may_be_fewer least (racks_before entry) (racks entry)) (stripe.range 0 after.now.size))) }
 {
     (0..after.size())
-        .filter(|entry| { racks_at(new, after, *entry) < least.min(racks_at(old, before, *entry)) })
+        .filter(|entry| is_fewer(old, before, new, after, least, *entry))
         .map(|entry| racks_at(new, after, entry))
         .min()
+}
+
+/// Whether the write set of an entry may stand in fewer racks than before, and stands in fewer than are asked for.
+fn is_fewer(
+    old: &RackNumbers,
+    before: &LedgerMeta,
+    new: &RackNumbers,
+    after: &LedgerMeta,
+    least: usize,
+    entry: u32,
+) -> bool
+    ensures { result ≡ model.may_be_fewer least
+        (map (slice_index old.now) (stripe.write_set entry before.now.size before.now.write_quorum))
+        (map (slice_index new.now) (stripe.write_set entry after.now.size after.now.write_quorum)) }
+{
+    let old = copy_racks(old, before, entry);
+    let new = copy_racks(new, after, entry);
+    may_be_fewer(
+        &old[..before.write_quorum() as usize],
+        &new[..after.write_quorum() as usize],
+        least,
+    )
+}
+
+/// Whether racks that come in the place of others may be fewer, and are fewer than are asked for.
+fn may_be_fewer(before: &[u16], after: &[u16], least: usize) -> bool
+    requires { length before.now ≤ MAX_ENSEMBLE_SIZE }
+    ensures { result ≡ model.may_be_fewer least before.now after.now }
+{
+    before != after && least_racks(after) < least.min(most_racks(before))
 }
 
 /// How many write sets stand in fewer racks than are asked for, by the racks of the members.
 fn count_lacking(racks: &RackNumbers, metadata: &LedgerMeta, least: usize) -> usize
     ensures { result ≡ count_by (λ entry. nat_lt
-        (model.count_racks (map (slice_index racks.now)
+        (model.least_racks (map (slice_index racks.now)
         (stripe.write_set entry metadata.now.size metadata.now.write_quorum)))
         (min least metadata.now.write_quorum)) (stripe.range 0 metadata.now.size) }
 {
     let wanted = least.min(metadata.write_quorum() as usize);
+    if wanted == 0 {
+        return 0;
+    }
     (0..metadata.size())
         .filter(|entry| racks_at(racks, metadata, *entry) < wanted)
         .count()
 }
 
-/// In how many racks the write set of an entry stands, by the racks of the members.
+/// In how many racks the write set of an entry stands at least, by the racks of the members.
 fn racks_at(racks: &RackNumbers, metadata: &LedgerMeta, entry: u32) -> usize
-    ensures { result ≡ model.count_racks (map (slice_index racks.now)
+    ensures { result ≡ model.least_racks (map (slice_index racks.now)
         (stripe.write_set entry metadata.now.size metadata.now.write_quorum)) }
 {
     let copies = copy_racks(racks, metadata, entry);
-    count_racks(&copies[..metadata.write_quorum() as usize])
+    least_racks(&copies[..metadata.write_quorum() as usize])
 }
 
 /// The racks of the copies of an entry.
@@ -275,7 +325,7 @@ fn copy_racks(racks: &RackNumbers, metadata: &LedgerMeta, entry: u32) -> RackNum
 }
 
 /// How many different racks these are, without those that aren't known.
-fn count_racks(racks: &[u8]) -> usize
+fn count_racks(racks: &[u16]) -> usize
     ensures different { result ≡ model.count_racks racks.now }
     ensures few { result ≤ length racks.now }
 {
@@ -290,4 +340,19 @@ fn count_racks(racks: &[u8]) -> usize
             }
         }
     }
+}
+
+/// How many different racks these are at least.
+fn least_racks(racks: &[u16]) -> usize
+    ensures { result ≡ model.least_racks racks.now }
+{
+    count_racks(racks).max(1)
+}
+
+/// How many different racks these can be at most: each that isn't known may be another one.
+fn most_racks(racks: &[u16]) -> usize
+    requires { length racks.now ≤ MAX_ENSEMBLE_SIZE }
+    ensures { result ≡ model.most_racks racks.now }
+{
+    count_racks(racks) + racks.iter().filter(|rack| **rack >= NO_RACK).count()
 }

@@ -1,17 +1,26 @@
 -- What is asked, by the arguments that are given.
-use Rattle.std.specs.Prelude.{◌≡◌, ℕ, Bool, true, false, List, [], map, take, Option, None, Some, codes}
+use Rattle.std.specs.Prelude.{◌≡◌, ◌⊎◌, ℕ, Bool, true, false, List, [], map, take, Option, None, Some, unwrap_or, codes}
 use Rattle.std.specs.Option.{option_map, option_map_or}
 use Rattle.std.specs.Str.{bytes_eq}
 use Rattle.std.specs.Str.Parse.{digits_value, without_leading_plus, ParsesUnsigned, ExplainsUnsignedError, HasUnsignedDigitsIfOk}
+use Rattle.clap.specs.Matches.{has_subcommand, subcommand_name_of}
+use Rattle.clap.specs.Simple.{subcommand_rows}
+use Rattle.clap.specs.Walk.{rows_of}
 use Rattle.clap.specs.Words.{ReadsOne, first_value, found_of, matched_of, one_text, raw_values}
 use Rattle.clap.specs.declared.parser.matches.ArgMatches.{ArgMatches}
+use Rattle.clap.specs.declared.parser.matches.ArgMatches.TheViews.{out-ArgMatches}
 use Rattle.reh_census.specs.declared.questions.Keep.{Keep}
 use Rattle.reh_census.specs.declared.questions.Keep.TheVariants.{AckQuorum, Copies, AckLessOne}
 use Rattle.reh_census.specs.declared.questions.Question.{Question}
 use Rattle.reh_words.specs.declared.tasks.TheConstants.{MAX_FILES}
 use Rattle.reh_words.specs.declared.tasks.CensusWords.{CensusWords}
+use Rattle.reh_words.specs.declared.tasks.Crew.{Crew}
 use Rattle.reh_words.specs.declared.tasks.CutWords.{CutWords}
+use Rattle.reh_words.specs.declared.tasks.DrillFiles.{DrillFiles}
 use Rattle.reh_words.specs.declared.tasks.Inputs.{Inputs}
+use Rattle.reh_words.specs.declared.tasks.PlanWords.{PlanWords}
+use Rattle.reh_words.specs.declared.tasks.PlayOut.{PlayOut}
+use Rattle.reh_words.specs.declared.tasks.PlayWords.TheVariants as play
 use Rattle.reh_words.specs.declared.tasks.Prints.{Prints}
 use Rattle.reh_words.specs.declared.tasks.Prints.TheVariants.{Answers, Changes, Json}
 use Rattle.reh_words.specs.declared.tasks.RiskWords.{RiskWords}
@@ -131,3 +140,80 @@ IsAsked command given (task.Risk words) = (command ≡ codes "risk") × IsRisk g
 IsAsked command given (task.Census words) = (command ≡ codes "census") × IsCensus given words
 IsAsked command given (task.Cut words) = (command ≡ codes "cut") × IsCut given words
 IsAsked command given other = ⊥
+
+-- What is asked of a picture
+
+-- what `check` is asked: of the picture, or of a script on it
+abbrev pub IsCheck : ArgMatches → Task → Type 0
+IsCheck given (task.Check picture script) =
+    (word_of given (codes "PICTURE") ≡ Some picture.now)
+    × (option_map (λ file. file.now) script ≡ word_of given (codes "SCRIPT"))
+IsCheck given other = ⊥
+
+-- what `talk` is asked
+abbrev pub IsTalk : ArgMatches → Task → Type 0
+IsTalk given (task.Play (play.Talk picture prints)) =
+    (word_of given (codes "PICTURE") ≡ Some picture.now) × IsPrints given prints
+IsTalk given other = ⊥
+
+-- who makes the surveys: one, unless a number says otherwise
+pub record IsCrew (given : ArgMatches) (crew : Crew) : Type 0 where
+  pub number : Option ℕ
+  pub is_number : IsNumber given (codes "workers") number
+  pub works : crew.workers ≡ unwrap_or number 1
+
+-- a picture and a script, each in a file; who makes the surveys; and what is printed
+pub record IsFiles (given : ArgMatches) (picture script : List ℕ) (crew : Crew) (prints : Prints) : Type 0 where
+  pub reads : word_of given (codes "PICTURE") ≡ Some picture
+  pub plays : word_of given (codes "SCRIPT") ≡ Some script
+  pub crew_is : IsCrew given crew
+  pub is_printed : IsPrints given prints
+
+-- what `run` is asked: a picture of the end is written exactly where a file for it is named
+abbrev pub IsRun : ArgMatches → Task → Type 0
+IsRun given (task.Play (play.Files picture script crew prints)) =
+    IsFiles given picture.now script.now crew prints × (word_of given (codes "picture-out") ≡ None)
+IsRun given (task.PlayOut words) =
+    IsFiles given words.picture.now words.script.now words.crew words.prints
+    × (word_of given (codes "picture-out") ≡ Some words.out.now)
+IsRun given other = ⊥
+
+-- what `drill` is asked: each script of an operator of its own
+pub record IsDrill (given : ArgMatches) (files : DrillFiles) : Type 0 where
+  pub reads : word_of given (codes "PICTURE") ≡ Some files.picture.now
+  pub plays : map (λ file. file.now) files.scripts.items ≡ words_of given (codes "SCRIPT")
+
+-- what `plan` is asked: two racks, as BookKeeper asks for, unless a number says otherwise
+pub record IsPlan (given : ArgMatches) (words : PlanWords) : Type 0 where
+  pub reads : word_of given (codes "PICTURE") ≡ Some words.picture.now
+  pub after_is : option_map (λ script. script.now) words.after ≡ word_of given (codes "after")
+  pub lost_are : map (λ word. word.now) words.lost.items ≡ words_of given (codes "lose")
+  pub allowed_are : map (λ word. word.now) words.allowed.items ≡ words_of given (codes "to")
+  pub number : Option ℕ
+  pub is_number : IsNumber given (codes "min-racks") number
+  pub in_racks : words.min_racks ≡ unwrap_or number 2
+  pub is_sum : IsFlag given (codes "summary") words.only_sums
+  pub prints : words.as_json ≡ is_json given
+  pub expects : IsFlag given (codes "expect") words.expects
+
+-- what one of these commands asks of a picture
+abbrev pub IsAskedOfPicture : List ℕ → ArgMatches → Task → Type 0
+IsAskedOfPicture command given (task.Drill files) = (command ≡ codes "drill") × IsDrill given files
+IsAskedOfPicture command given (task.Plan words) = (command ≡ codes "plan") × IsPlan given words
+IsAskedOfPicture command given asked =
+    ((command ≡ codes "check") × IsCheck given asked)
+    ⊎ (((command ≡ codes "talk") × IsTalk given asked) ⊎ ((command ≡ codes "run") × IsRun given asked))
+
+-- What is asked by all words
+
+-- the command of that name was met, and what was found of its arguments
+pub record IsGiven (matches : ArgMatches) (name : List ℕ) (given : ArgMatches) : Type 0 where
+  pub named : Some name ≡ subcommand_name_of matches
+  pub found : Some (rows_of (found_of given)) ≡ option_map (λ p. p.1) (subcommand_rows (out-ArgMatches matches).subcommand)
+
+-- without a command it is what is piped in, and else what the command asks
+abbrev pub IsTask : ArgMatches → Task → Type 0
+IsTask matches asked =
+    ((has_subcommand matches ≡ false) × (asked ≡ task.Play play.Pipe))
+    ⊎ ((name : List ℕ) × (given : ArgMatches) × IsGiven matches name given
+    × (IsAskedOfPicture name given asked ⊎ IsAsked name given asked))

@@ -2,6 +2,7 @@
 #![tactic(auto)]
 
 mod helps;
+mod pictures;
 mod questions;
 mod styles;
 mod tasks;

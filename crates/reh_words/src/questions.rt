@@ -121,7 +121,7 @@ fn ids_of(alloc: Global, words: &[&str]) -> Result<Option<Vec<u64>>, AllocError>
 }
 
 /// The words of an argument.
-fn words_of<'a>(
+pub(crate) fn words_of<'a>(
     alloc: Global,
     given: &ArgMatches<'a>,
     argument: &str,
@@ -146,7 +146,7 @@ pub(crate) fn asked_prints(given: &ArgMatches<'_>) -> Prints
 }
 
 /// Whether a flag is given.
-fn is_given(given: &ArgMatches<'_>, flag: &str) -> bool
+pub(crate) fn is_given(given: &ArgMatches<'_>, flag: &str) -> bool
     ensures { model.IsFlag given.now flag.now result }
 {
     given.get_flag(flag)

@@ -4,7 +4,7 @@ ghost use Rattle.reh_crew.specs.declared.threads.TheConstants.{MAX_WORKERS};
 ghost use Rattle.reh_words.specs.declared.tasks.TheConstants.{MAX_FILES};
 
 use crate::helps;
-use crate::questions::{asked_of_files, asked_prints, is_json, number_of};
+use crate::pictures::asked_task;
 use crate::styles::{Style, asked_style, with_style};
 use clap::error::ErrorKind;
 use clap::{Arg, ArgAction, ArgMatches, Command, Error, value_parser};
@@ -209,10 +209,6 @@ pub struct PlanWords<'a> {
 /// What `--version` says; a picture has the number of its format in itself.
 const VERSION: &str = "1.0.0";
 
-/// In how many racks the copies of an entry are to stand, unless the words say so: BookKeeper's default of
-/// `minNumRacksPerWriteQuorum`.
-const MIN_RACKS: u64 = 2;
-
 const ABOUT: &str =
     "Rehearses Apache BookKeeper AutoRecovery on a picture of a cluster, and not on the cluster.";
 
@@ -238,85 +234,6 @@ pub fn request_of<'a>(alloc: Global, words: &'a [String]) -> Result<Option<Reque
             Err(error)
         }
     }
-}
-
-/// What these matches ask for.
-fn asked_task<'a>(alloc: Global, matches: &ArgMatches<'a>) -> Result<Option<Task<'a>>, AllocError> {
-    let Some((name, given)) = matches.subcommand() else {
-        return Ok(Some(Task::Play(PlayWords::Pipe)));
-    };
-    match given.get_str("PICTURE") {
-        Some(picture) => asked_of_picture(alloc, name, given, picture),
-        None => asked_of_files(alloc, name, given),
-    }
-}
-
-/// What these matches of a command ask of a picture, if it is one that does.
-fn asked_of_picture<'a>(
-    alloc: Global,
-    command: &str,
-    given: &ArgMatches<'a>,
-    picture: &'a str,
-) -> Result<Option<Task<'a>>, AllocError> {
-    let scripts = given.get_strs("SCRIPT").unwrap_or(&[]);
-    let workers = given.get_one("workers").unwrap_or(1);
-    let task = match (command, scripts.first()) {
-        ("check", script) => Task::Check {
-            picture,
-            script: script.copied(),
-        },
-        ("talk", _) => Task::Play(PlayWords::Talk {
-            picture,
-            prints: asked_prints(given),
-        }),
-        ("plan", _) => Task::Plan(asked_plan(alloc, given, picture)?),
-        ("drill", Some(_)) if scripts.len() <= MAX_OPERATORS => {
-            let scripts = scripts.to_vec(alloc)?;
-            Task::Drill(DrillFiles { picture, scripts })
-        }
-        ("run", Some(script)) if 0 < workers && workers <= MAX_WORKERS => {
-            let crew = Crew { workers };
-            let prints = asked_prints(given);
-            match given.get_str("picture-out") {
-                Some(out) => Task::PlayOut(PlayOut {
-                    picture,
-                    script,
-                    crew,
-                    prints,
-                    out,
-                }),
-                None => Task::Play(PlayWords::Files {
-                    picture,
-                    script,
-                    crew,
-                    prints,
-                }),
-            }
-        }
-        // The parser asks for a script, and lets no other number of scripts or workers through.
-        _ => return Ok(None),
-    };
-    Ok(Some(task))
-}
-
-/// What these matches of `plan` ask for.
-fn asked_plan<'a>(
-    alloc: Global,
-    given: &ArgMatches<'a>,
-    picture: &'a str,
-) -> Result<PlanWords<'a>, AllocError> {
-    let lost = given.get_strs("lose").unwrap_or(&[]);
-    let allowed = given.get_strs("to").unwrap_or(&[]);
-    Ok(PlanWords {
-        picture,
-        after: given.get_str("after"),
-        lost: lost.to_vec(alloc)?,
-        allowed: allowed.to_vec(alloc)?,
-        min_racks: number_of(given, "min-racks").unwrap_or(MIN_RACKS) as usize,
-        only_sums: given.get_flag("summary"),
-        as_json: is_json(given),
-        expects: given.get_flag("expect"),
-    })
 }
 
 /// The help that is asked for. That of the program and of a command comes as an error, as by `--help`.

@@ -4,4 +4,5 @@ pub mod Cuts
 pub mod Faults
 pub mod Inputs
 pub mod Inventories
+pub mod Plans
 pub mod Runs

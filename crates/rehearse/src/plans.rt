@@ -1,8 +1,11 @@
 // What is to be done without some bookies, planned from the file of a picture.
-ghost use Rattle.std.specs.Prelude.{◌≡◌, ◌&&◌, ℕ, nat_lt, false, slice_get};
+ghost use Rattle.std.specs.Prelude.{◌≡◌, ◌++◌, ◌&&◌, ℕ, nat_lt, false, slice_get, length, string_bytes, if◌then◌else◌, IfOk};
 ghost use Rattle.std.specs.Option.{option_map_or};
 ghost use Rattle.reh_types.specs.declared.limits.TheConstants.{MAX_BOOKIES};
 ghost use Rattle.reh_types.specs.Sets as set;
+ghost use Rattle.reh_plan.specs.Named.{AreNamed};
+ghost use Rattle.reh_plan.specs.Summaries.{summary_text};
+ghost use Rattle.rehearse.specs.Plans as model;
 
 use crate::afters::text_after;
 use crate::faults::RunFault;
@@ -17,28 +20,44 @@ use reh_words::PlanWords;
 use std::alloc::{AllocError, Global};
 
 /// Writes the plan to standard output, as a script or a runbook, or what it comes to, as text or JSON; and gives the status.
-pub(crate) fn plan_file(rt: &HostRuntime, words: &PlanWords<'_>) -> Result<u8, RunFault> {
+pub(crate) fn plan_file(rt: &HostRuntime, words: &PlanWords<'_>) -> Result<u8, RunFault>
+    ensures { IfOk result (model.IsStatus words.now) }
+{
     let bytes = picture_bytes(rt, words)?;
     let planned = plan_of(rt.alloc(), &bytes, words)?;
-    if words.only_sums || words.as_json {
-        let text = sums_of(rt.alloc(), &planned, words.as_json)?;
-        write_out(rt, text.as_bytes())?;
-    } else if words.expects {
-        let text = runbook(rt.alloc(), &planned).map_err(|fault| unplanned(rt.alloc(), fault))?;
-        write_out(rt, &text)?;
-    } else {
-        write_out(rt, planned.plan.text())?;
-    }
+    let text = printed(rt.alloc(), &planned, words)?;
+    write_out(rt, &text)?;
     Ok(planned.summary.status())
 }
 
-/// What the plan comes to. Where it leaves fragments in fewer racks, a last line of the text says how many.
-fn sums_of(alloc: Global, planned: &Planned, as_json: bool) -> Result<String, RunFault> {
+/// What is printed of the plan.
+fn printed(alloc: Global, planned: &Planned, words: &PlanWords<'_>) -> Result<Vec<u8>, RunFault>
+    ensures { IfOk result (λ text.
+        model.PrintsPlan words.now.as_json words.now.only_sums words.now.expects planned.now text.items) }
+{
     let names = planned.plan.state().names();
-    if as_json {
-        return Ok(plan_json(alloc, names, &planned.summary, &planned.fewer)?);
+    if words.as_json {
+        let text = plan_json(alloc, names, &planned.summary, &planned.fewer)?;
+        return Ok(text.into_bytes());
     }
-    let mut text = planned.summary.text(alloc, names)?;
+    if words.only_sums {
+        let text = sums_of(alloc, planned)?;
+        return Ok(text.into_bytes());
+    }
+    if words.expects {
+        return runbook(alloc, planned).map_err(|fault| unplanned(alloc, fault));
+    }
+    Ok(Vec::from_slice(alloc, planned.plan.text())?)
+}
+
+/// What the plan comes to. Where it leaves fragments in fewer racks, a last line says how many.
+fn sums_of(alloc: Global, planned: &Planned) -> Result<String, RunFault>
+    ensures { IfOk result (λ text. string_bytes text
+        ≡ summary_text planned.now.plan.state.names planned.now.summary ++ model.fewer_text (length planned.now.fewer.items)) }
+{
+    let mut text = planned
+        .summary
+        .text(alloc, planned.plan.state().names())?;
     let fewer = planned.fewer.len();
     if fewer > 0 {
         write!(text, "fragments in fewer racks {fewer}\n")?;
@@ -58,17 +77,15 @@ fn picture_bytes(rt: &HostRuntime, words: &PlanWords<'_>) -> Result<Vec<u8>, Run
 }
 
 /// The plan for the picture of these bytes.
-fn plan_of(alloc: Global, bytes: &[u8], words: &PlanWords<'_>) -> Result<Planned, RunFault> {
+fn plan_of(alloc: Global, bytes: &[u8], words: &PlanWords<'_>) -> Result<Planned, RunFault>
+    ensures { IfOk result (model.IsPlanFor bytes.now words.now) }
+{
     let state = check_picture(alloc, bytes)?;
     let marks = list_picture(alloc, bytes)?.marks;
     let read_only = read_only_of(&marks);
     let racks = racks_of(alloc, &marks, words.min_racks)?;
     let lost = bookies_of(alloc, words.picture, state.names(), &words.lost)?;
-    let allowed = if words.allowed.is_empty() {
-        all_bookies()
-    } else {
-        bookies_of(alloc, words.picture, state.names(), &words.allowed)?
-    };
+    let allowed = allowed_of(alloc, words.picture, state.names(), &words.allowed)?;
     plan(alloc, state, &lost, &allowed, &read_only, &racks).map_err(|fault| unplanned(alloc, fault))
 }
 
@@ -106,12 +123,29 @@ fn is_read_only(marks: &[BookieMarks], number: usize) -> bool
 }
 
 /// In which racks the bookies stand, as far as the picture says.
-fn racks_of(alloc: Global, marks: &[BookieMarks], least: usize) -> Result<Racks, AllocError> {
+fn racks_of(alloc: Global, marks: &[BookieMarks], least: usize) -> Result<Racks, AllocError>
+    ensures { IfOk result (λ racks. racks ≡ model.racks_of marks.now least) }
+{
     let mut names = Vec::new(alloc);
     for number in 0..marks.len().min(MAX_BOOKIES) {
         names.push(marks[number].rack())?;
     }
     Racks::of(alloc, &names, least)
+}
+
+/// The bookies of a picture that may work: those that these words name, or all, where there are no words.
+fn allowed_of(
+    alloc: Global,
+    picture: &str,
+    names: &Names,
+    words: &[&str],
+) -> Result<BookieSet, RunFault>
+    ensures { IfOk result (model.AreAllowed names.now words.now) }
+{
+    match words {
+        [] => Ok(all_bookies()),
+        _ => bookies_of(alloc, picture, names, words),
+    }
 }
 
 /// The bookies of a picture that these words name.
@@ -120,7 +154,9 @@ fn bookies_of(
     picture: &str,
     names: &Names,
     words: &[&str],
-) -> Result<BookieSet, RunFault> {
+) -> Result<BookieSet, RunFault>
+    ensures { IfOk result (AreNamed names.now words.now) }
+{
     let bookies = find_bookies(names, words).map_err(|again| named_twice(
         alloc, words, again.word,
     ))?;
@@ -131,7 +167,9 @@ fn bookies_of(
 }
 
 /// The set of all bookies that there can be.
-fn all_bookies() -> BookieSet {
+fn all_bookies() -> BookieSet
+    ensures { (b : ℕ) → set.contains result b ≡ nat_lt b MAX_BOOKIES }
+{
     let mut set = BookieSet::new();
     for number in 0..MAX_BOOKIES as u8 {
         set.insert(BookieIx(number));

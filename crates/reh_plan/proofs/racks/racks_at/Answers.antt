@@ -14,8 +14,8 @@ slice_bounds-copies-end c =
       long_copies c.copy_racks-copies.result c.args.racks.now c.args.entry m.size m.write_quorum c.copy_racks-copies.ensures,
     )
 
-pub slice_bounds-count_racks-end : goal.slice_bounds-count_racks-end
-slice_bounds-count_racks-end c =
+pub slice_bounds-least_racks-end : goal.slice_bounds-least_racks-end
+slice_bounds-least_racks-end c =
     let m : Metadata = c.args.metadata.now in
     sym
     (ap (λ (q : ℕ). length (take q c.copy_racks-copies.result)) c.write_quorum.ensures

@@ -1,10 +1,10 @@
 -- The racks of the members before and after tell those of the copies. Copies that stay stand in no fewer racks.
-use Rattle.std.proofs.Common.{◌≡◌, ◌∙◌, ap, sym, ℕ, List, Some, filter, map, min, nat_lt, slice_get, slice_index}
+use Rattle.std.proofs.Common.{◌≡◌, ◌∙◌, ap, sym, ℕ, List, Some, filter, map, min, slice_get, slice_index}
 use Rattle.std.specs.List.{reduce}
 use Rattle.reh_model.specs.Metadata.{Fragment, Metadata}
 use Rattle.reh_model.specs.Striping.{range, write_set}
 use Rattle.reh_model.proofs.ListLaws.{slice_get-there}
-use Rattle.reh_plan.specs.Racks.{Racks, count_racks}
+use Rattle.reh_plan.specs.Racks.{Racks, least_racks, may_be_fewer}
 use Rattle.reh_plan.proofs.RacksLaws.{fewest_at, fewest_same, fewest_there, racks_there, whole_at}
 use Rattle.reh_plan.proofs.racks.Racks.fewest.Goals as goal
 
@@ -42,10 +42,8 @@ returns c =
     ap (λ (fragments : List Fragment). slice_get fragments c.args.fragment) (sym c.fragments-2.ensures.fragments)
     ∙ slice_get-there c.fragments-2.result.now c.args.fragment after c.in_ok-new.ensures.lookup.3.0
     c.in_ok-new.ensures.lookup.1 in
-    let was : ℕ → ℕ = λ e.
-    count_racks (map (slice_index c.member_racks.result) (write_set e m.size m.write_quorum)) in
-    let is : ℕ → ℕ = λ e.
-    count_racks (map (slice_index c.member_racks-2.result) (write_set e n.size n.write_quorum)) in
+    let was : ℕ → List ℕ = λ e. map (slice_index c.member_racks.result) (write_set e m.size m.write_quorum) in
+    let is : ℕ → List ℕ = λ e. map (slice_index c.member_racks-2.result) (write_set e n.size n.write_quorum) in
     let then =
     racks_there r m before c.member_racks.result c.fragments.ensures.well_formed
     (whole_at m c.args.fragment before c.fragments.ensures.well_formed old) c.member_racks.ensures in
@@ -53,7 +51,7 @@ returns c =
     racks_there r n after c.member_racks-2.result c.fragments-2.ensures.well_formed
     (whole_at n c.args.fragment after c.fragments-2.ensures.well_formed new) c.member_racks-2.ensures in
     c.least_fewer.ensures
-    ∙ ap (λ (s : Racks). reduce min (map is (filter (λ e. nat_lt (is e) (min s.least (was e))) (range 0 n.size))))
+    ∙ ap (λ (s : Racks). reduce min (map (λ e. least_racks (is e)) (filter (λ e. may_be_fewer s.least (was e) (is e)) (range 0 n.size))))
     c.self.view_is
     ∙ fewest_there r m before n after was is then now
     ∙ sym (fewest_at r m n c.args.fragment before after old new)

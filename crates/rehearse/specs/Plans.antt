@@ -1,0 +1,79 @@
+-- The plan that the command line asks for, and what is printed of it.
+use Rattle.std.specs.Prelude.{◌≡◌, ℕ, ◌==◌, ◌++◌, ◌&&◌, Bool, true, false, List, [], ◌∷◌, Some, Ok, codes, if◌then◌else◌, length, map, nat_lt, slice_get, take}
+use Rattle.std.specs.Borrow.{Bor}
+use Rattle.std.specs.Fmt.{decimal}
+use Rattle.std.specs.Option.{option_map_or}
+use Rattle.reh_types.specs.declared.limits.TheConstants.{MAX_BOOKIES}
+use Rattle.reh_types.specs.Sets as set
+use Rattle.reh_types.specs.Sets.{Set, numbers}
+use Rattle.reh_model.specs.Cluster.{Cluster}
+use Rattle.reh_model.specs.Session.{replay}
+use Rattle.reh_lines.specs.Lines.{lines_of}
+use Rattle.reh_commands.specs.Texts.{text_of}
+use Rattle.reh_picture.specs.Listings.{Lists}
+use Rattle.reh_picture.specs.Marks.{BookieMarks}
+use Rattle.reh_picture.specs.Pictures.{located_picture_of}
+use Rattle.reh_picture.specs.declared.listings.Listed.{Listed}
+use Rattle.reh_plan.specs.Named.{AreNamed}
+use Rattle.reh_plan.specs.Objects.{json_of}
+use Rattle.reh_plan.specs.Plans.{GoesOnBy, IsWithout, losses_of}
+use Rattle.reh_plan.specs.Racks.{Racks, fewer_racks, racks_named}
+use Rattle.reh_plan.specs.Runbooks.{runbook_lines}
+use Rattle.reh_plan.specs.Summaries.{is_whole, summary_text}
+use Rattle.reh_plan.specs.Workers.{may_work}
+use Rattle.reh_plan.specs.declared.planning.Planned.{Planned}
+use Rattle.reh_words.specs.declared.tasks.PlanWords.{PlanWords}
+
+-- in which racks the bookies stand, by the marks of as many as there can be
+abbrev pub racks_of : List BookieMarks → ℕ → Racks
+racks_of marks least = racks_named (map (λ m. m.rack) (take MAX_BOOKIES marks)) least
+
+-- whether a bookie is marked as read-only
+abbrev pub is_read_only : List BookieMarks → ℕ → Bool
+is_read_only marks b = nat_lt b MAX_BOOKIES && option_map_or (λ m. m.is_read_only) (slice_get marks b) false
+
+-- who may work: the bookies that the words name, or all that there can be, where there are no words
+abbrev pub AreAllowed : List (List ℕ) → List (Bor (List ℕ)) → Set numbers → Type 0
+AreAllowed names [] bookies = (b : ℕ) → set.contains bookies b ≡ nat_lt b MAX_BOOKIES
+AreAllowed names (word ∷ words) bookies = AreNamed names (word ∷ words) bookies
+
+-- the plan for the picture of these bytes, without the bookies that the words name, by those that may work and aren't read-only
+pub record IsPlanFor (bytes : List ℕ) (words : PlanWords) (p : Planned) : Type 0 where
+  pub state : Cluster
+  pub shown : located_picture_of bytes ≡ Ok state
+  pub listed : Listed
+  pub lists : Lists bytes listed
+  pub lost : Set numbers
+  pub are_lost : AreNamed state.names words.lost.items lost
+  pub allowed : Set numbers
+  pub are_allowed : AreAllowed state.names words.allowed.items allowed
+  pub read_only : Set numbers
+  pub are_read_only : (b : ℕ) → set.contains read_only b ≡ is_read_only listed.marks.items b
+  pub opening : p.plan.opening ≡ state
+  pub accepted : replay state p.plan.events ≡ Some p.plan.state
+  pub without : IsWithout state (set.contains lost) p.plan.state
+  pub order : GoesOnBy (may_work (allowed, read_only)) (losses_of state (set.contains lost) (length state.names))
+      p.plan.events
+  pub racks : p.fewer.items ≡ fewer_racks (racks_of listed.marks.items words.min_racks) state p.plan.state
+
+-- What is printed
+
+-- how many fragments are in fewer racks, if some are
+abbrev pub fewer_text : ℕ → List ℕ
+fewer_text fewer = if fewer == 0 then [] else codes "fragments in fewer racks " ++ (decimal fewer ++ codes "\n")
+
+-- JSON, or what the plan comes to, or its runbook, where they are asked for, the first of these; else its script
+abbrev pub PrintsPlan : Bool → Bool → Bool → Planned → List ℕ → Type 0
+PrintsPlan true only_sums expects p text = text ≡ json_of p.plan.state.names p.summary p.fewer.items
+PrintsPlan false true expects p text =
+    text ≡ summary_text p.plan.state.names p.summary ++ fewer_text (length p.fewer.items)
+PrintsPlan false false true p text =
+    text ≡ text_of (runbook_lines p.plan.state.names p.plan.lines p.summary.unreadable)
+PrintsPlan false false false p text = lines_of text ≡ p.plan.lines
+
+-- the status of a plan as these words ask, of some picture: 0 where nothing is left and no entry is lost, else 8
+pub record IsStatus (words : PlanWords) (status : ℕ) : Type 0 where
+  pub bytes : List ℕ
+  pub planned : Planned
+  pub is_planned : IsPlanFor bytes words planned
+  pub is_status : status ≡ (if is_whole planned.summary then 0 else 8)
