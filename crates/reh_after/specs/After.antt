@@ -56,25 +56,30 @@ after_lines names m [] = Some m
 after_lines names m (line ∷ lines) =
     option_and_then (λ n. after_lines names n lines) (after_asked m (asked names line))
 
--- a session opens on the picture
-pub record IsBegun (picture : List ℕ) (begun : Begun) : Type 0 where
+-- a session opens on the picture, with these names of bookies
+pub record IsOpened (picture : List ℕ) (names : List (List ℕ)) (session : Session) : Type 0 where
   pub opening : Cluster
   pub is_picture : picture_of picture ≡ Ok opening
-  pub lists : Lists picture begun.marked
-  pub names : begun.names ≡ opening.names
-  pub session : begun.session ≡ opened_session opening
+  pub names_are : names ≡ opening.names
+  pub session_is : session ≡ opened_session opening
 
--- From the picture the script leads to a state, by commands that are all accepted, and the text is that state's picture, with
--- the marks that still hold.
-pub record IsAfter (picture script text : List ℕ) : Type 0 where
-  pub opening : Cluster
-  pub is_picture : picture_of picture ≡ Ok opening
-  pub marked : Listed
-  pub lists : Lists picture marked
+pub record IsBegun (picture : List ℕ) (begun : Begun) : Type 0 where
+  pub opened : IsOpened picture begun.names begun.session
+  pub lists : Lists picture begun.marked
+
+-- From what was begun the script leads to a state, by commands that are all accepted, and the text is that state's picture, with the
+-- marks that still hold.
+pub record IsEnd (begun : Begun) (script text : List ℕ) : Type 0 where
   pub session : Session
-  pub played : after_lines opening.names (opened_session opening) (lines_of script) ≡ Some session
+  pub played : after_lines begun.names begun.session (lines_of script) ≡ Some session
   pub shown : picture_of text ≡ Ok (kept_of (state_of session))
-  pub marks : KeepsMarksIn (state_of session) marked text
+  pub marks : KeepsMarksIn (state_of session) begun.marked text
+
+-- the text is the picture of the state to which the script leads from the picture
+pub record IsAfter (picture script text : List ℕ) : Type 0 where
+  pub begun : Begun
+  pub is_begun : IsBegun picture begun
+  pub ends : IsEnd begun script text
 
 -- the fault of a picture that is refused
 abbrev pub refused_by : PictureFault → LocatedFault → AfterFault

@@ -22,14 +22,18 @@ pub fn picture_after(alloc: Global, picture: &[u8], script: &[u8]) -> Result<Str
     if script.len() > MAX_SCRIPT_BYTES {
         return Err(AfterFault::TooLong);
     }
-    let begun = begin(alloc, picture)?;
-    let Begun {
-        marked,
-        names,
-        mut session,
-    } = begun;
-    play_lines(alloc, &names, &mut session, script)?;
-    match picture_text(alloc, session.state(), &marked) {
+    let mut begun = begin(alloc, picture)?;
+    let text = end_of(alloc, &mut begun, script);
+    begun.close();
+    text
+}
+
+/// The picture of the state to which a script leads from what was begun.
+fn end_of(alloc: Global, begun: &mut Begun, script: &[u8]) -> Result<String, AfterFault>
+    ensures { IfOk result (λ text. model.IsEnd begun.old script.now (string_bytes text)) }
+{
+    play_lines(alloc, &begun.names, &mut begun.session, script)?;
+    match picture_text(alloc, begun.session.state(), &begun.marked) {
         Ok(text) => Ok(text),
         Err(fault) => Err(unheld(fault)),
     }
@@ -43,17 +47,30 @@ pub(crate) struct Begun {
     pub(crate) session: Session,
 }
 
-/// Opens a session on a picture.
+impl Begun {
+    /// Gives back its memory. Where it would be dropped, each function would have a proof of that of its own.
+    fn close(self) {}
+}
+
+/// Opens a session on a picture, and lists what it has.
 fn begin(alloc: Global, picture: &[u8]) -> Result<Begun, AfterFault>
     ensures { IfOk result (model.IsBegun picture.now) }
 {
-    let state = check_picture(alloc, picture)?;
+    let (names, session) = opened(alloc, picture)?;
     let marked = list_picture(alloc, picture)?;
-    let names = state.names().clone_in()?;
-    let session = Session::open(alloc, state)?;
     Ok(Begun {
         marked,
         names,
         session,
     })
+}
+
+/// A session on a picture, and the names of its bookies.
+fn opened(alloc: Global, picture: &[u8]) -> Result<(Names, Session), AfterFault>
+    ensures { IfOk result (λ opened. model.IsOpened picture.now opened.0 opened.1) }
+{
+    let state = check_picture(alloc, picture)?;
+    let names = state.names().clone_in()?;
+    let session = Session::open(alloc, state)?;
+    Ok((names, session))
 }

@@ -4,14 +4,14 @@ use Rattle.std.specs.Str.{is_utf8, chars}
 use Rattle.serde_json.proofs.OnLiterals.{serde_json_on_literals}
 use Rattle.reh_types.specs.Sets as set
 use Rattle.reh_types.specs.declared.names.LedgerState.TheVariants.{Open, Closed}
-use Rattle.reh_model.specs.Cluster.{Cluster, Ledger, with_held, with_ledgers}
+use Rattle.reh_model.specs.Cluster.{Cluster, Ledger, cluster_of, with_held, with_ledgers}
 use Rattle.reh_model.proofs.Examples.{clear_cluster}
 use Rattle.reh_model.specs.Contents.{Contents, copies_of}
 use Rattle.reh_model.specs.Metadata.{Fragment}
 use Rattle.reh_fields.specs.declared.fields.Field.TheVariants as field
 use Rattle.reh_fields.specs.declared.faults.LedgerFlaw.TheVariants as flaw
 use Rattle.reh_fields.specs.declared.faults.Repeated.TheVariants as repeated
-use Rattle.reh_fields.specs.declared.faults.PictureFault.TheVariants.{NotJson, WrongKind, Twice, UnknownBookie, Limit}
+use Rattle.reh_fields.specs.declared.faults.PictureFault.TheVariants.{NotJson, Missing, WrongKind, Twice, UnknownBookie, Limit}
 use Rattle.reh_fields.specs.declared.faults.PictureFault.TheVariants.{BadLedger}
 use Rattle.reh_picture.specs.Bookies.{bookies_fault, each_bookie_fault}
 use Rattle.reh_picture.specs.Ledgers.{members_fault, fragments_fault, metadata_fault, each_ledger_fault, ledgers_fault}
@@ -298,3 +298,38 @@ unfolding serde_json_on_literals is_utf8 chars head_fault bookies_fault ledgers_
     members_fault fragments_fault metadata_fault each_ledger_fault ranges_fault each_content_fault set.from_list
     set.insert set.empty set.items
 no_bookies = refl
+
+-- Formats: one registered bookie, and no ledger.
+
+abbrev one_bookie : List ℕ
+one_bookie = codes "\"grace\":3,\"bookies\":[{\"name\":\"b1:3181\",\"up\":true}],\"ledgers\":[],\"contents\":[]}"
+
+abbrev delayed_by : ℕ → Cluster
+delayed_by ticks = cluster_of (codes "b1:3181" ∷ []) (None ∷ []) 3 ticks true [] set.empty
+
+-- format 2 has the delay of an audit after a loss
+with_delay : picture_of (codes "{\"format\":2,\"lostDelayTicks\":5," ++ one_bookie) ≡ Ok (delayed_by 5)
+unfolding serde_json_on_literals is_utf8 chars head_fault bookies_fault ledgers_fault contents_fault each_bookie_fault
+    members_fault fragments_fault metadata_fault each_ledger_fault ranges_fault each_content_fault set.from_list
+    set.insert set.empty set.items
+with_delay = refl
+
+without_delay : picture_of (codes "{\"format\":2," ++ one_bookie) ≡ Err (Missing field.LostDelayTicks)
+unfolding serde_json_on_literals is_utf8 chars head_fault bookies_fault ledgers_fault contents_fault each_bookie_fault
+    members_fault fragments_fault metadata_fault each_ledger_fault ranges_fault each_content_fault set.from_list
+    set.insert set.empty set.items
+without_delay = refl
+
+-- in format 1 there is none, whatever stands there
+first_format : picture_of (codes "{\"format\":1,\"lostDelayTicks\":5," ++ one_bookie) ≡ Ok (delayed_by 0)
+unfolding serde_json_on_literals is_utf8 chars head_fault bookies_fault ledgers_fault contents_fault each_bookie_fault
+    members_fault fragments_fault metadata_fault each_ledger_fault ranges_fault each_content_fault set.from_list
+    set.insert set.empty set.items
+first_format = refl
+
+-- there is no format 3
+third_format : picture_of (codes "{\"format\":3,\"lostDelayTicks\":5," ++ one_bookie) ≡ Err (Limit field.Format)
+unfolding serde_json_on_literals is_utf8 chars head_fault bookies_fault ledgers_fault contents_fault each_bookie_fault
+    members_fault fragments_fault metadata_fault each_ledger_fault ranges_fault each_content_fault set.from_list
+    set.insert set.empty set.items
+third_format = refl

@@ -24,6 +24,11 @@ pub struct Opened {
     pub names: Names,
 }
 
+impl Opened {
+    /// Gives back its memory. Where it would be dropped, each function would have a proof of that of its own.
+    pub fn close(self) {}
+}
+
 /// Opens a book on a picture.
 pub fn open_picture(alloc: Global, picture: &[u8]) -> Result<Opened, PipeFault>
     ensures { Opens (picture_of picture.now) result }

@@ -58,7 +58,7 @@ fn open_whole(alloc: Global, input: &[u8]) -> Result<(), PipeFault>
     ensures writes_none { loses_output result ≡ false }
 {
     let (picture, _) = split_input(input);
-    open_picture(alloc, picture)?;
+    open_picture(alloc, picture)?.close();
     Ok(())
 }
 
@@ -101,6 +101,7 @@ fn play_behind<V: Surveyor, R: TextIn, W: TextOut>(
         reader,
         writer,
     );
+    rehearsal.close();
     pipe_end(end)
 }
 

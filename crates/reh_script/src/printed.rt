@@ -49,5 +49,6 @@ pub fn run_printing<V: Surveyor, N: Printer<Book>, P: TextIn, R: TextIn, W: Text
         script,
         writer,
     );
+    rehearsal.close();
     pipe_end(end)
 }

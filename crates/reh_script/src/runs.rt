@@ -49,5 +49,6 @@ pub fn run<V: Surveyor, P: TextIn, R: TextIn, W: TextOut>(
         script,
         writer,
     );
+    rehearsal.close();
     pipe_end(end)
 }

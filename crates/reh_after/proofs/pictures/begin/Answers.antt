@@ -1,14 +1,8 @@
--- A session opens on what the picture shows.
-use Rattle.std.proofs.Common.{◌∙◌, ap}
-use Rattle.std.specs.Prelude.{Result}
-use Rattle.std.specs.Result.{result_map_both}
+-- What is opened on the picture, and what it lists.
 use Rattle.reh_after.proofs.pictures.begin.Goals as goal
 
 pub returns : goal.returns
 returns c = record {
-  opening = c.in_ok-state.state;
-  is_picture = ap (result_map_both (λ s. s) (λ found. found.0)) c.in_ok-state.ensures;
+  opened = c.in_ok-names.ensures;
   lists = c.in_ok-marked.ensures.listed;
-  names = c.in_ok-names.ensures ∙ c.names.ensures.names;
-  session = c.in_ok-session.ensures;
 }
