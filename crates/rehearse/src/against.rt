@@ -147,8 +147,24 @@ fn weigh_file(
 {
     let alloc = rt.alloc();
     let mut reader = reader_of(alloc, path, open_file(rt, path)?)?;
-    let mut again = read_first(alloc, path, by, &mut reader)?;
-    weigh_lines(alloc, path, &mut reader, &mut again, by, worst)?;
+    weigh_reader(alloc, path, &mut reader, ids, by, worst)
+}
+
+/// Weighs the ledgers of an inventory that this reads from its beginning.
+fn weigh_reader(
+    alloc: Global,
+    path: &str,
+    reader: &mut BufReader<File>,
+    ids: &[u64],
+    by: &WeighedBy<'_>,
+    worst: &mut Worst,
+) -> Result<(), RunFault>
+    ensures { OnOk result ((before : List ℕ) (ledgers : List (List LedgerValue))
+        → WeighsBy by.now.stop before ledgers worst.old
+        → HasWeighed by.now.stop by.now.names.now by.now.is_strict ids.now before ledgers worst.new) }
+{
+    let mut again = read_first(alloc, path, by, reader)?;
+    weigh_lines(alloc, path, reader, &mut again, by, worst)?;
     if again.is_of(ids) {
         Ok(())
     } else {

@@ -192,14 +192,6 @@ pub(crate) fn reader_of<R: Read + Drop>(
     BufReader::new(alloc, inner).map_err(|error| unread(alloc, "read", path, error))
 }
 
-/// The fault, if there is one.
-fn unless(fault: Option<RunFault>) -> Result<(), RunFault> {
-    match fault {
-        Some(fault) => Err(fault),
-        None => Ok(()),
-    }
-}
-
 /// The names of the bookies that an inventory has, in their order.
 fn names_in<R: Read + Drop, T: thread::Threads + Sync>(
     threads: &T,
@@ -228,17 +220,29 @@ fn number_batch<R: Read + Drop, T: thread::Threads + Sync>(
     first: u64,
     names: &mut NameList,
 ) -> Result<u64, RunFault> {
+    let Batch { lines, fault } = next_lines(source.alloc, source.path, reader)?;
+    let count = lines.len() as u64;
+    match (number_parsed(threads, source, first, names, lines), fault) {
+        (Ok(()), None) => Ok(count),
+        (Ok(()), Some(fault)) | (Err(fault), _) => Err(fault),
+    }
+}
+
+/// Parses these lines, and gives each bookie that they name a number, if it has none. The first line has this number.
+fn number_parsed<T: thread::Threads + Sync>(
+    threads: &T,
+    source: Source<'_>,
+    first: u64,
+    names: &mut NameList,
+    lines: Vec<Vec<u8>>,
+) -> Result<(), RunFault> {
     let Source {
         alloc,
         path,
         workers,
     } = source;
-    let Batch { lines, fault } = next_lines(alloc, path, reader)?;
-    let count = lines.len() as u64;
     let lines = parse_lines(threads, alloc, workers, lines)?;
-    number_lines(alloc, path, first, names, lines)?;
-    unless(fault)?;
-    Ok(count)
+    number_lines(alloc, path, first, names, lines)
 }
 
 /// Gives each bookie that these lines name a number, if it has none. The first line has this number.
@@ -393,17 +397,31 @@ fn count_batch<R: Read + Drop, T: thread::Threads + Sync>(
 ) -> Result<u64, RunFault>
     ensures { OnOk result (model.CountsMore count.old count.new) }
 {
+    let Batch { lines, fault } = next_lines(source.alloc, source.path, reader)?;
+    let number = lines.len() as u64;
+    match (count_parsed(threads, source, first, count, lines), fault) {
+        (Ok(()), None) => Ok(number),
+        (Ok(()), Some(fault)) | (Err(fault), _) => Err(fault),
+    }
+}
+
+/// Counts these lines, the first of which has this number.
+fn count_parsed<T: thread::Threads + Sync>(
+    threads: &T,
+    source: Source<'_>,
+    first: u64,
+    count: &mut InventoryCount,
+    lines: Vec<Vec<u8>>,
+) -> Result<(), RunFault>
+    ensures { OnOk result (model.CountsMore count.old count.new) }
+{
     let Source {
         alloc,
         path,
         workers,
     } = source;
-    let Batch { lines, fault } = next_lines(alloc, path, reader)?;
-    let number = lines.len() as u64;
     let lines = count_each(threads, alloc, workers, count, lines)?;
-    add_lines(alloc, path, first, count, lines)?;
-    unless(fault)?;
-    Ok(number)
+    add_lines(alloc, path, first, count, lines)
 }
 
 /// The fault of a line that can't be counted.

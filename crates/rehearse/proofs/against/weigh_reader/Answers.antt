@@ -1,7 +1,7 @@
 -- All lines were read once more.
 use Rattle.std.proofs.Common.{[], sym, rules}
 use Rattle.reh_inventory_against.proofs.RereadLaws.{weighs-first}
-use Rattle.rehearse.proofs.against.weigh_file.Goals as goal
+use Rattle.rehearse.proofs.against.weigh_reader.Goals as goal
 
 pub returns-then-is_of : goal.returns-then-is_of
 returns-then-is_of c = λ before ledgers was.
