@@ -2,8 +2,8 @@
 use Rattle.std.proofs.Common.{◌≡◌, ◌∙◌, ◌+◌, ◌-◌, ◌<◌, ◌≤◌, ℕ, suc, false, Bool, not, cond, List, [], ◌∷◌, ◌++◌, append_assoc, ap, sym, subst, refl, arith, inl, inr}
 use Rattle.std.proofs.Common.{Option, None, Some, unwrap_or, map, length, length-set, get_or, set, take, All, count_by, nat_lt, min}
 use Rattle.std.proofs.Common.{slice_get, slice_index, position}
-use Rattle.std.specs.List.{filter, list_any, reduce, prefix_len, range_with_len}
-use Rattle.std.specs.Prelude.{◌&&◌, is_some}
+use Rattle.std.specs.List.{filter, list_all, list_any, reduce, prefix_len, range_with_len}
+use Rattle.std.specs.Prelude.{◌&&◌, ◌==◌, true, is_some}
 use Rattle.std.specs.Option.{option_map, option_map_or}
 use Rattle.reh_types.specs.declared.limits.TheConstants.{MAX_BOOKIES}
 use Rattle.std.proofs.lemmas.Bool.{cases_eq, le-ltb}
@@ -12,12 +12,13 @@ use Rattle.std.proofs.lemmas.Simd.{map-map}
 use Rattle.std.proofs.lemmas.Option.{slice_get_within, get_or_from_slice_get}
 use Rattle.std.proofs.lemmas.List.Elements.{All-head, All-tail}
 use Rattle.std.proofs.lemmas.List.FromFn.{length-map-range_with_len}
-use Rattle.std.proofs.lemmas.List.Sums.{sum_by-cons}
+use Rattle.std.proofs.lemmas.List.Folds.{list_any_at}
+use Rattle.std.proofs.lemmas.List.Sums.{list_all-from_AllPass, sum_by-cons}
 use Rattle.reh_model.specs.Metadata.{Fragment, Metadata, IsEnsemble, IsMetadata, with_member, writes}
 use Rattle.reh_model.specs.Striping.{index_at, range, write_set}
 use Rattle.reh_scan.proofs.ReadingLaws.{write_set_within}
-use Rattle.reh_types.specs.Same.{tells_lists, tells_numbers}
-use Rattle.reh_plan.specs.Racks.{Racks, is_in_rack, rack_number, rack_of, least_racks, most_racks, may_be_fewer, racks_of, racks_at, fewest_after, fewest_racks, lacking}
+use Rattle.reh_types.specs.Same.{tells_numbers}
+use Rattle.reh_plan.specs.Racks.{Racks, is_among, is_in_rack, rack_number, rack_of, least_racks, most_racks, may_be_fewer, racks_of, racks_at, fewest_after, fewest_racks, lacking}
 
 -- Names of racks
 
@@ -154,11 +155,18 @@ filter_none p [] none = refl
 filter_none p (x ∷ xs) none =
     ap (λ b. cond b (x ∷ filter p xs) (filter p xs)) (none x) ∙ filter_none p xs none
 
+-- each of some racks is among them
+all_among : (ns : List ℕ) → list_all (is_among ns) ns ≡ true
+all_among ns =
+    list_all-from_AllPass (is_among ns) ns
+    (λ k d within. list_any_at (λ other. other == get_or ns k d) ns k d within
+    ((tells_numbers (get_or ns k d) (get_or ns k d)).1 refl))
+
 -- the same racks are no fewer
 not_fewer : (least : ℕ) (before after : List ℕ) → after ≡ before → may_be_fewer least before after ≡ false
 not_fewer least before after same =
-    ap (λ b. not b && nat_lt (least_racks after) (min least (most_racks before)))
-    ((tells_lists tells_numbers before after).1 (sym same))
+    ap (λ (ns : List ℕ). may_be_fewer least before ns) same
+    ∙ ap (λ b. not b && nat_lt (least_racks before) (min least (most_racks before))) (all_among before)
 
 -- where each entry's copies stay, none may stand in fewer racks
 pub fewest_same : (r : Racks) (m : Metadata) (before : Fragment) (n : Metadata) (after : Fragment)

@@ -1,7 +1,7 @@
 -- In how many racks the copies of an entry stand, and what a plan says where they come to stand in fewer.
 use Rattle.std.specs.Prelude.{ℕ, ◌+◌, ◌-◌, ◌==◌, min, max, Bool, false, not, nat_lt, nat_le, ◌&&◌, ◌||◌, List, [], ◌∷◌, ◌++◌, map, flat_map, take, length, count_by, zip}
 use Rattle.std.specs.Prelude.{Option, None, Some, is_some, unwrap_or, slice_get, position, bytes_eq, codes, if◌then◌else◌}
-use Rattle.std.specs.List.{filter, list_any, reduce}
+use Rattle.std.specs.List.{filter, list_all, list_any, reduce}
 use Rattle.std.specs.Fmt.{decimal}
 use Rattle.std.specs.Option.{option_map_or}
 use Rattle.reh_types.specs.declared.limits.TheConstants.{MAX_BOOKIES}
@@ -51,10 +51,14 @@ least_racks ns = max (count_racks ns) 1
 abbrev pub most_racks : List ℕ → ℕ
 most_racks ns = count_racks ns + count_by (nat_le MAX_BOOKIES) ns
 
--- whether racks that come in the place of others may be fewer, and are fewer than there are to be
+-- whether a rack is among these
+abbrev pub is_among : List ℕ → ℕ → Bool
+is_among ns n = list_any (λ other. other == n) ns
+
+-- whether racks that come in the place of others may be fewer, and are fewer than there are to be: some rack isn't there any more
 abbrev pub may_be_fewer : ℕ → List ℕ → List ℕ → Bool
 may_be_fewer least before after =
-    not (bytes_eq before after) && nat_lt (least_racks after) (min least (most_racks before))
+    not (list_all (is_among after) before) && nat_lt (least_racks after) (min least (most_racks before))
 
 -- the racks of the write set of an entry
 abbrev pub racks_of : Racks → Metadata → Fragment → ℕ → List ℕ

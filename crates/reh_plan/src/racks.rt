@@ -2,7 +2,7 @@
 ghost use Rattle.std.specs.Prelude.{◌≡◌, ℕ, ◌<◌, ◌≤◌, length, map, min, nat_lt, count_by, position, take, unwrap_or, is_some};
 ghost use Rattle.std.specs.Prelude.{IfOk, IsTrue, if◌then◌else◌};
 ghost use Rattle.std.specs.Prelude.{slice_get, slice_index};
-ghost use Rattle.std.specs.List.{filter, list_any, reduce};
+ghost use Rattle.std.specs.List.{filter, list_all, list_any, reduce};
 ghost use Rattle.std.specs.Option.{option_map, option_map_or};
 ghost use Rattle.reh_types.specs.declared.limits.TheConstants.{MAX_BOOKIES, MAX_ENSEMBLE_SIZE};
 ghost use Rattle.reh_model.specs.Metadata.{with_member, writes};
@@ -282,7 +282,14 @@ fn may_be_fewer(before: &[u16], after: &[u16], least: usize) -> bool
     requires { length before.now ≤ MAX_ENSEMBLE_SIZE }
     ensures { result ≡ model.may_be_fewer least before.now after.now }
 {
-    before != after && least_racks(after) < least.min(most_racks(before))
+    !are_among(after, before) && least_racks(after) < least.min(most_racks(before))
+}
+
+/// Whether each of some racks is among others.
+fn are_among(others: &[u16], racks: &[u16]) -> bool
+    ensures { result ≡ list_all (model.is_among others.now) racks.now }
+{
+    racks.iter().all(|rack| others.contains(rack))
 }
 
 /// How many write sets stand in fewer racks than are asked for, by the racks of the members.

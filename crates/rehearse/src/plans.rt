@@ -58,11 +58,19 @@ fn sums_of(alloc: Global, planned: &Planned) -> Result<String, RunFault>
     let mut text = planned
         .summary
         .text(alloc, planned.plan.state().names())?;
-    let fewer = planned.fewer.len();
-    if fewer > 0 {
-        write!(text, "fragments in fewer racks {fewer}\n")?;
-    }
+    let line = fewer_line(alloc, planned.fewer.len())?;
+    text.push_str(&line)?;
     Ok(text)
+}
+
+/// The line that says how many fragments are in fewer racks, if some are.
+fn fewer_line(alloc: Global, fewer: usize) -> Result<String, AllocError>
+    ensures { IfOk result (λ line. string_bytes line ≡ model.fewer_text fewer) }
+{
+    if fewer == 0 {
+        return Ok(String::new(alloc));
+    }
+    format!(in alloc; "fragments in fewer racks {fewer}\n")
 }
 
 /// The bytes of the picture; or of the picture of the state to which a script leads from it.
