@@ -23,6 +23,7 @@ use Rattle.reh_plan.specs.Summaries.{is_whole, summary_text}
 use Rattle.reh_plan.specs.Workers.{may_work}
 use Rattle.reh_plan.specs.declared.planning.Planned.{Planned}
 use Rattle.reh_words.specs.declared.tasks.PlanWords.{PlanWords}
+use Rattle.rehearse.specs.declared.plans.Asked.{Asked}
 
 -- in which racks the bookies stand, by the marks of as many as there can be
 abbrev pub racks_of : List BookieMarks → ℕ → Racks
@@ -37,24 +38,31 @@ abbrev pub AreAllowed : List (List ℕ) → List (Bor (List ℕ)) → Set number
 AreAllowed names [] bookies = (b : ℕ) → set.contains bookies b ≡ nat_lt b MAX_BOOKIES
 AreAllowed names (word ∷ words) bookies = AreNamed names (word ∷ words) bookies
 
--- the plan for the picture of these bytes, without the bookies that the words name, by those that may work and aren't read-only
+-- what the words ask of the picture of these bytes, whose bookies have these names
+pub record IsAsked (bytes : List ℕ) (names : List (List ℕ)) (words : PlanWords) (asked : Asked) : Type 0 where
+  pub listed : Listed
+  pub lists : Lists bytes listed
+  pub lost : AreNamed names words.lost.items asked.lost
+  pub allowed : AreAllowed names words.allowed.items asked.allowed
+  pub read_only : (b : ℕ) → set.contains asked.read_only b ≡ is_read_only listed.marks.items b
+  pub racks : asked.racks ≡ racks_of listed.marks.items words.min_racks
+
+-- a plan for a cluster, without the lost bookies, by those that may work and aren't read-only
+pub record IsPlan (state : Cluster) (asked : Asked) (p : Planned) : Type 0 where
+  pub opening : p.plan.opening ≡ state
+  pub accepted : replay state p.plan.events ≡ Some p.plan.state
+  pub without : IsWithout state (set.contains asked.lost) p.plan.state
+  pub order : GoesOnBy (may_work (asked.allowed, asked.read_only))
+      (losses_of state (set.contains asked.lost) (length state.names)) p.plan.events
+  pub racks : p.fewer.items ≡ fewer_racks asked.racks state p.plan.state
+
+-- the plan for the picture of these bytes, as the words ask
 pub record IsPlanFor (bytes : List ℕ) (words : PlanWords) (p : Planned) : Type 0 where
   pub state : Cluster
   pub shown : located_picture_of bytes ≡ Ok state
-  pub listed : Listed
-  pub lists : Lists bytes listed
-  pub lost : Set numbers
-  pub are_lost : AreNamed state.names words.lost.items lost
-  pub allowed : Set numbers
-  pub are_allowed : AreAllowed state.names words.allowed.items allowed
-  pub read_only : Set numbers
-  pub are_read_only : (b : ℕ) → set.contains read_only b ≡ is_read_only listed.marks.items b
-  pub opening : p.plan.opening ≡ state
-  pub accepted : replay state p.plan.events ≡ Some p.plan.state
-  pub without : IsWithout state (set.contains lost) p.plan.state
-  pub order : GoesOnBy (may_work (allowed, read_only)) (losses_of state (set.contains lost) (length state.names))
-      p.plan.events
-  pub racks : p.fewer.items ≡ fewer_racks (racks_of listed.marks.items words.min_racks) state p.plan.state
+  pub asked : Asked
+  pub is_asked : IsAsked bytes state.names words asked
+  pub is_plan : IsPlan state asked p
 
 -- What is printed
 

@@ -12,7 +12,7 @@ use crate::faults::RunFault;
 use crate::files::{read_picture, write_out};
 use crate::inputs::unfit;
 use crate::names::{named_twice, unknown};
-use reh_cluster::Names;
+use reh_cluster::{Names, State};
 use reh_picture::{BookieMarks, check_picture, list_picture};
 use reh_plan::{PlanFault, Planned, Racks, find_bookies, first_unknown, plan, plan_json, runbook};
 use reh_types::{BookieIx, BookieSet, MAX_BOOKIES};
@@ -89,12 +89,54 @@ fn plan_of(alloc: Global, bytes: &[u8], words: &PlanWords<'_>) -> Result<Planned
     ensures { IfOk result (model.IsPlanFor bytes.now words.now) }
 {
     let state = check_picture(alloc, bytes)?;
+    match asked_of(alloc, bytes, state.names(), words) {
+        Ok(asked) => plan_by(alloc, state, &asked),
+        Err(fault) => Err(fault),
+    }
+}
+
+/// Which bookies are lost, who may work, who is read-only, and in which racks bookies stand.
+#[derive(Drop)]
+struct Asked {
+    lost: BookieSet,
+    allowed: BookieSet,
+    read_only: BookieSet,
+    racks: Racks,
+}
+
+/// What is asked of the picture of these bytes, whose bookies have these names.
+fn asked_of(
+    alloc: Global,
+    bytes: &[u8],
+    names: &Names,
+    words: &PlanWords<'_>,
+) -> Result<Asked, RunFault>
+    ensures { IfOk result (model.IsAsked bytes.now names.now words.now) }
+{
     let marks = list_picture(alloc, bytes)?.marks;
-    let read_only = read_only_of(&marks);
     let racks = racks_of(alloc, &marks, words.min_racks)?;
-    let lost = bookies_of(alloc, words.picture, state.names(), &words.lost)?;
-    let allowed = allowed_of(alloc, words.picture, state.names(), &words.allowed)?;
-    plan(alloc, state, &lost, &allowed, &read_only, &racks).map_err(|fault| unplanned(alloc, fault))
+    Ok(Asked {
+        lost: bookies_of(alloc, words.picture, names, &words.lost)?,
+        allowed: allowed_of(alloc, words.picture, names, &words.allowed)?,
+        read_only: read_only_of(&marks),
+        racks,
+    })
+}
+
+/// The plan that is asked for.
+fn plan_by(alloc: Global, state: State, asked: &Asked) -> Result<Planned, RunFault>
+    ensures { IfOk result (model.IsPlan state asked.now) }
+{
+    let Asked {
+        lost,
+        allowed,
+        read_only,
+        racks,
+    } = asked;
+    match plan(alloc, state, lost, allowed, read_only, racks) {
+        Ok(planned) => Ok(planned),
+        Err(fault) => Err(unplanned(alloc, fault)),
+    }
 }
 
 /// The fault of a run that has no plan.
