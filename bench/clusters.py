@@ -56,3 +56,12 @@ def seconds(*words):
         if done.returncode not in (0, 8, 9):
             sys.exit(done.stderr + "the program ended with status %d" % done.returncode)
     return min(times), done.stdout
+
+
+def additions():
+    """How long ten million additions take."""
+    begun = time.perf_counter()
+    total = 0
+    for number in range(10_000_000):
+        total += number
+    return time.perf_counter() - begun
