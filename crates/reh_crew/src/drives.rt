@@ -1,11 +1,12 @@
 // Replication workers, each with a seat of its own, at one desk.
-ghost use Rattle.std.specs.Prelude.{◌≡◌, ◌<◌, ◌≤◌, ℕ, false, IsTrue, length, slice_index_or};
-ghost use Rattle.reh_desk.specs.Unspent.{number_of, aim_of};
-ghost use Rattle.reh_crew.specs.Gained.{Closes, Attended, Strayed, Gained, share_of};
+ghost use Rattle.std.specs.Prelude.{◌≡◌, ◌<◌, ◌≤◌, ℕ, length, slice_index_or};
+ghost use Rattle.reh_crew.specs.Gained.{Gained, share_of};
+ghost use Rattle.reh_crew.specs.Workers.{seated, GivesBack, Spends, Finishes, Attends, Works};
 ghost use Rattle.reh_crew.specs.declared.threads.TheConstants.{MAX_WORKERS};
 
 use crate::gates::Gate;
-use reh_desk::{AtDesk, Counter, Desk, Finding, Seat, SpendFault, Unspent, scan};
+use crate::scanners::{InMemory, Scanner};
+use reh_desk::{AtDesk, Counter, Desk, Finding, Seat, SpendFault, Unspent};
 use reh_types::Aim;
 use std::alloc::Global;
 use std::sync::Wait;
@@ -64,12 +65,12 @@ fn work_at<R: Wait>(
     ensures { Gained (share_of count worker aims.now) seat.old seat.new }
 {
     let mut counter = AtDesk { desk, rt };
-    work(alloc, &mut counter, seat, aims, worker, count);
+    work(&InMemory { alloc }, &mut counter, seat, aims, worker, count);
 }
 
-/// Attends to the share of a worker, of so many.
-fn work<C: Counter>(
-    alloc: Global,
+/// Attends to the share of a worker, of so many: to each of its aims in order, until the worker ends.
+fn work<C: Counter, S: Scanner>(
+    scanner: &S,
     counter: &mut C,
     seat: &mut Seat,
     aims: &[Aim],
@@ -78,37 +79,48 @@ fn work<C: Counter>(
 )
     requires count { 0 < count }
     requires may { C.may counter.old seat.old }
-    ensures { Gained (share_of count worker aims.now) seat.old seat.new }
+    ensures { Works C.goes (S.scans scanner.now) (share_of count worker aims.now)
+        (seated counter.old seat.old) (seated counter.new seat.new) }
 {
     for (place, aim) in aims.iter().enumerate() {
-        if place % count == worker && !attend(alloc, counter, seat, *aim) {
+        if place % count == worker && !attend(scanner, counter, seat, *aim) {
             return;
         }
     }
 }
 
 /// Attends to an aim, and says whether the worker goes on.
-fn attend<C: Counter>(alloc: Global, counter: &mut C, seat: &mut Seat, aim: Aim) -> bool
+fn attend<C: Counter, S: Scanner>(scanner: &S, counter: &mut C, seat: &mut Seat, aim: Aim) -> bool
     requires { C.may counter.old seat.old }
     ensures may { C.may counter.new seat.new }
-    ensures group { IsTrue result → Attended aim seat.old seat.new }
-    ensures strayed { result ≡ false → Strayed aim seat.old seat.new }
+    ensures attends { Attends C.goes (S.scans scanner.now) aim result
+        (seated counter.old seat.old) (seated counter.new seat.new) }
 {
     match counter.checkout(seat, aim) {
         Err(_) => true,
-        Ok(ticket) => match scan(alloc, ticket) {
-            Ok(finding) => spend(counter, seat, finding),
-            Err((ticket, _)) => give_back(counter, seat, Unspent::Unscanned(ticket)),
-        },
+        Ok(ticket) => finish(counter, seat, scanner.scan(ticket)),
     }
 }
 
-/// Spends what was found, or gives it back, and says whether its ticket was out.
+/// Spends what was found, or gives back a ticket that was not scanned, and says whether the worker goes on.
+fn finish<C: Counter>(counter: &mut C, seat: &mut Seat, found: Unspent) -> bool
+    requires { C.may counter.old seat.old }
+    ensures may { C.may counter.new seat.new }
+    ensures finishes { Finishes C.goes found result
+        (seated counter.old seat.old) (seated counter.new seat.new) }
+{
+    match found {
+        Unspent::Scanned(finding) => spend(counter, seat, finding),
+        Unspent::Unscanned(ticket) => give_back(counter, seat, Unspent::Unscanned(ticket)),
+    }
+}
+
+/// Spends what was found, or gives it back, where that is a fault, and says whether the worker goes on.
 fn spend<C: Counter>(counter: &mut C, seat: &mut Seat, finding: Finding) -> bool
     requires { C.may counter.old seat.old }
     ensures may { C.may counter.new seat.new }
-    ensures ended { IsTrue result → Closes finding.number finding.content.aim seat.old seat.new }
-    ensures stray { result ≡ false → seat.new ≡ seat.old }
+    ensures spends { Spends C.goes finding result
+        (seated counter.old seat.old) (seated counter.new seat.new) }
 {
     match counter.spend(seat, finding) {
         Ok(_) => true,
@@ -124,8 +136,8 @@ fn spend<C: Counter>(counter: &mut C, seat: &mut Seat, finding: Finding) -> bool
 fn give_back<C: Counter>(counter: &mut C, seat: &mut Seat, unspent: Unspent) -> bool
     requires { C.may counter.old seat.old }
     ensures may { C.may counter.new seat.new }
-    ensures ended { IsTrue result → Closes (number_of unspent) (aim_of unspent) seat.old seat.new }
-    ensures stray { result ≡ false → seat.new ≡ seat.old }
+    ensures given { GivesBack C.goes unspent result
+        (seated counter.old seat.old) (seated counter.new seat.new) }
 {
     match counter.discard(seat, unspent) {
         Ok(()) => true,

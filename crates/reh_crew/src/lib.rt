@@ -4,6 +4,7 @@
 mod drives;
 mod gates;
 mod laws;
+mod scanners;
 mod shares;
 mod surveyors;
 mod threads;
