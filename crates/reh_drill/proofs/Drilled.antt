@@ -1,7 +1,7 @@
 -- How a drill ends.
 use Rattle.std.proofs.Common.{◌≡◌, inl, inr, ℕ, suc, ◌+◌, List, [], ◌∷◌, ◌++◌, map, length, refl, sym, ap, ◌∙◌, subst}
 use Rattle.std.proofs.Common.{Option, None, Some, Result, Ok, Err, Bool, true, false}
-use Rattle.std.specs.Prelude.{◌≢◌, IsErrAnd, is_some, is_err}
+use Rattle.std.specs.Prelude.{◌≢◌, ◌↔◌, ◌⊎◌, IsErrAnd, is_some, is_err}
 use Rattle.std.specs.List.{flat_map}
 use Rattle.std.specs.Io.KnownBytes.{Appends}
 use Rattle.reh_drill.proofs.Writing.{appends_kept}
@@ -10,8 +10,11 @@ use Rattle.std.proofs.lemmas.Bool.{false≢true}
 use Rattle.reh_types.specs.declared.calls.Line.{Line}
 use Rattle.reh_model.specs.Cluster.{Cluster}
 use Rattle.reh_model.specs.Session.{Session, state_of}
-use Rattle.reh_desk.specs.Desks.{DeskView, AreNewFrom, AreSeated, AllAgree, IsClosed, IsHistory, own_lines}
+use Rattle.reh_desk.specs.Closings.{IsUnsettled}
+use Rattle.reh_desk.specs.Desks.{DeskView, AreNewFrom, AreSeated, AreSeats, AllAgree, IsClosed, IsHistory, own_lines}
 use Rattle.reh_desk.specs.Seats.{SeatView, new_seat}
+use Rattle.reh_desk.specs.declared.desks.CloseCause.{CloseCause}
+use Rattle.reh_desk.specs.declared.desks.CloseCause.TheVariants.{Seats}
 use Rattle.reh_fields.specs.declared.faults.PictureFault.{PictureFault}
 use Rattle.reh_fields.specs.declared.faults.PictureFault.TheVariants as picture_fault
 use Rattle.reh_play.specs.DeskPlays.{at_desk, sitting, PlaysAtDesk}
@@ -21,10 +24,10 @@ use Rattle.reh_play.specs.declared.faults.PlayFault.{PlayFault}
 use Rattle.reh_play.specs.declared.faults.PlayFault.TheVariants as play_fault
 use Rattle.reh_lines.specs.declared.streams.StreamFault.{StreamFault}
 use Rattle.reh_play.proofs.Sitting.{number_at_desk}
-use Rattle.reh_drill.specs.Drills.{end_text, Writes, IsRoom, OpensDesk, fault_in_memory, IsOutcome}
+use Rattle.reh_drill.specs.Drills.{end_text, Writes, desk_of, IsRoom, OpensDesk, fault_in_memory, IsOutcome}
 use Rattle.reh_drill.specs.Drills.{OnePlayed, AllPlayed, transcript_of, fault_of, or_else, first_fault, seat_of}
 use Rattle.reh_drill.specs.Drills.{IsOperated, AreOperated, IsDrilled, AreOutcomes, transcripts_of, ClosesWith, Closes}
-use Rattle.reh_drill.specs.Drills.{IsUnclosed, EndsWith, Ends, Drills, is_lost, is_lost_play}
+use Rattle.reh_drill.specs.Drills.{IsCauseOf, IsUnclosed, EndsFor, EndsWith, Ends, Drills, is_lost, is_lost_play}
 use Rattle.reh_drill.specs.Faults.{drill_fault_of, refusal_of}
 use Rattle.reh_drill.specs.declared.faults.DrillFault.{DrillFault}
 use Rattle.reh_drill.specs.declared.faults.DrillFault.TheVariants.{Picture, WriteFault, NoMemory}
@@ -294,7 +297,9 @@ drills_ended (Ok state) count room scripts outcomes (Err fault) old new opens co
     (inl (record {
       outcomes = outcomes;
       are = are_outcomes state count room scripts outcomes opens played;
-      reason = reason;
+      reason =
+          subst (λ (d : DeskView). EndsFor d outcomes fault)
+          (opens.desk ∙ ap (λ (n : ℕ). desk_of state n) counted) reason;
       written = written;
     }))
 drills_ended (Ok state) count room scripts outcomes (Err fault) old new opens counted played
@@ -318,11 +323,19 @@ drills_ended (Ok state) count room scripts outcomes (Err fault) old new opens co
 
 -- Ends of a desk
 
+-- what a desk that doesn't close answers
+pub cause_is : (desk : DeskView) (seats : List SeatView) (cause : CloseCause)
+    → ((cause ≡ Seats) ↔ (AreSeats desk.seats seats → ⊥)) → (cause ≡ Seats) ⊎ IsUnsettled desk.opening seats cause
+    → IsCauseOf desk seats cause
+cause_is desk seats cause own (inl is) = inl (is, own.0 is)
+cause_is desk seats cause own (inr unsettled) = inr unsettled
+
 -- where it doesn't close, or there is no memory for its text
 pub closes_not : (desk : DeskView) (seats : List SeatView) (fault : DrillFault) (result : Result (Unit {0}) DrillFault)
-    (old : Option (List ℕ)) → IsUnclosed fault → IsErrAnd result (λ e. e ≡ fault) → Closes desk seats result old old
+    (old : Option (List ℕ)) → IsUnclosed desk seats fault → IsErrAnd result (λ e. e ≡ fault)
+    → Closes desk seats result old old
 closes_not desk seats fault (Ok done) old unclosed is = absurd is
-closes_not desk seats fault (Err e) old unclosed is = inl (subst IsUnclosed (sym is) unclosed, Keeps-refl old)
+closes_not desk seats fault (Err e) old unclosed is = inl (subst (IsUnclosed desk seats) (sym is) unclosed, Keeps-refl old)
 
 closes_with : (desk : DeskView) (seats : List SeatView) (tape : List Line) (end : Session) (text : List ℕ)
     → IsClosed desk seats end tape → text ≡ end_text (length tape) (state_of end) → ClosesWith desk seats text
@@ -379,7 +392,10 @@ ends_closing desk outcomes seats (Ok done) old mid new fine handed before (text,
   Appends-trans old mid new _ _ before written,
 )
 ends_closing desk outcomes seats (Err fault) old mid new fine handed before (inl (unclosed, kept)) =
-    inl (inr (fine, unclosed), appends_kept old mid new (transcripts_of outcomes) before kept)
+    inl (
+      inr (fine, subst (λ s. IsUnclosed desk s fault) handed unclosed),
+      appends_kept old mid new (transcripts_of outcomes) before kept,
+    )
 ends_closing desk outcomes seats (Err fault) old mid new fine handed before (inr (is, text, closes, part)) =
     inr (
       is,

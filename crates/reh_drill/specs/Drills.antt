@@ -7,9 +7,11 @@ use Rattle.std.specs.Io.KnownBytes.{Appends, Keeps}
 use Rattle.reh_types.specs.declared.calls.Line.{Line}
 use Rattle.reh_model.specs.Cluster.{Cluster}
 use Rattle.reh_model.specs.Session.{Session, state_of, opened_session}
-use Rattle.reh_desk.specs.Desks.{DeskView, AreNew, AreNewFrom, AreSeated, IsClosed, IsHistory, own_lines}
+use Rattle.reh_desk.specs.Closings.{IsUnsettled}
+use Rattle.reh_desk.specs.Desks.{DeskView, AreNew, AreNewFrom, AreSeated, AreSeats, IsClosed, IsHistory, own_lines}
 use Rattle.reh_desk.specs.Seats.{SeatView, new_seat}
 use Rattle.reh_desk.specs.declared.desks.CloseCause.{CloseCause}
+use Rattle.reh_desk.specs.declared.desks.CloseCause.TheVariants.{Seats}
 use Rattle.reh_fields.specs.declared.faults.PictureFault.{PictureFault}
 use Rattle.reh_play.specs.DeskPlays.{at_desk, sitting, PlaysAtDesk}
 use Rattle.reh_lines.specs.Lines.{answered_lines}
@@ -52,9 +54,13 @@ is_lost_play (Some fault) = is_write_fault (Err fault)
 
 -- Openings
 
--- a desk with so many new seats, on a session that opens on this state, and the names of the bookies
+-- a desk with so many seats, on a session that opens on this state
+abbrev pub desk_of : Cluster → ℕ → DeskView
+desk_of state count = record { opening = opened_session state; seats = count }
+
+-- such a desk with its seats, which are new, and the names of the bookies
 pub record IsRoom (state : Cluster) (count : ℕ) (room : Room) : Type 0 where
-  pub desk : room.desk ≡ record { opening = opened_session state; seats = count }
+  pub desk : room.desk ≡ desk_of state count
   pub seats : AreNew count room.seats.items
   pub names : room.names ≡ state.names
 
@@ -166,23 +172,29 @@ pub record ClosesWith (desk : DeskView) (seats : List SeatView) (text : List ℕ
   pub closed : IsClosed desk seats end tape
   pub is : text ≡ end_text (length tape) (state_of end)
 
--- why it doesn't close, or its text isn't made: nothing is written then
-abbrev pub IsUnclosed : DrillFault → Type 0
-IsUnclosed fault = ((cause : CloseCause) × (fault ≡ Close cause)) ⊎ (fault ≡ NoMemory)
+-- why it doesn't close with these seats: they are not its own, each once; or its book does not settle with them
+abbrev pub IsCauseOf : DeskView → List SeatView → CloseCause → Type 0
+IsCauseOf desk seats cause =
+    ((cause ≡ Seats) × (AreSeats desk.seats seats → ⊥)) ⊎ IsUnsettled desk.opening seats cause
+
+-- the fault of a desk that doesn't close, or whose text isn't made: nothing is written then
+abbrev pub IsUnclosed : DeskView → List SeatView → DrillFault → Type 0
+IsUnclosed desk seats fault =
+    ((cause : CloseCause) × IsCauseOf desk seats cause × (fault ≡ Close cause)) ⊎ (fault ≡ NoMemory)
 
 -- A desk is closed with these seats, and its text is written, or a part of it, where a write failed.
 abbrev pub Closes : DeskView → List SeatView → Result (Unit {0}) DrillFault → Option (List ℕ) → Option (List ℕ) → Type 0
 Closes desk seats (Ok done) old new = (text : List ℕ) × ClosesWith desk seats text × Appends old new text
 Closes desk seats (Err fault) old new =
-    (IsUnclosed fault × Keeps old new)
+    (IsUnclosed desk seats fault × Keeps old new)
     ⊎ ((fault ≡ WriteFault) × (text : List ℕ) × ClosesWith desk seats text × Writes (Err fault) text old new)
 
 -- Why a drill ends early whose operators ended so: the lowest one's fault, where one has any, or what the desk answers
 -- that doesn't close, or out of memory for what comes after the transcripts. All of these are written.
-abbrev pub EndsFor : List (Result Outcome PlayFault) → DrillFault → Type 0
-EndsFor outcomes fault =
+abbrev pub EndsFor : DeskView → List (Result Outcome PlayFault) → DrillFault → Type 0
+EndsFor desk outcomes fault =
     ((reason : PlayFault) × (first_fault outcomes ≡ Some reason) × (fault ≡ drill_fault_of reason))
-    ⊎ ((first_fault outcomes ≡ None) × IsUnclosed fault)
+    ⊎ ((first_fault outcomes ≡ None) × IsUnclosed desk (flat_map seat_of outcomes) fault)
 
 -- What is printed of a desk whose operators all ended well.
 pub record EndsWith (desk : DeskView) (outcomes : List (Result Outcome PlayFault)) (text : List ℕ) : Type 0 where
@@ -196,7 +208,7 @@ abbrev pub Ends : DeskView → List (Result Outcome PlayFault) → Result (Unit 
     → Option (List ℕ) → Type 0
 Ends desk outcomes (Ok done) old new = (text : List ℕ) × EndsWith desk outcomes text × Appends old new text
 Ends desk outcomes (Err fault) old new =
-    (EndsFor outcomes fault × Appends old new (transcripts_of outcomes))
+    (EndsFor desk outcomes fault × Appends old new (transcripts_of outcomes))
     ⊎ ((fault ≡ WriteFault)
     × (text : List ℕ) × ((text ≡ transcripts_of outcomes) ⊎ EndsWith desk outcomes text)
     × Writes (Err fault) text old new)
@@ -205,7 +217,7 @@ pub record EndsEarly (state : Cluster) (scripts : List (List ℕ)) (fault : Dril
     : Type 0 where
   pub outcomes : List (Result Outcome PlayFault)
   pub are : AreOutcomes state scripts outcomes
-  pub reason : EndsFor outcomes fault
+  pub reason : EndsFor (desk_of state (length scripts)) outcomes fault
   pub written : Appends old new (transcripts_of outcomes)
 
 -- What a drill has to print: the transcripts of operators that ended so, or the whole text, where it went well.

@@ -1,7 +1,8 @@
 use Rattle.std.proofs.Common.{refl, inl, inr, string_bytes}
 use Rattle.std.proofs.KnownBytes.{Keeps-refl}
+use Rattle.reh_drill.specs.Drills.{IsCauseOf}
 use Rattle.reh_drill.specs.declared.faults.DrillFault.TheVariants.{WriteFault, NoMemory}
-use Rattle.reh_drill.proofs.Drilled.{lost_as, closes_not, closes_short, closes_whole}
+use Rattle.reh_drill.proofs.Drilled.{lost_as, cause_is, closes_not, closes_short, closes_whole}
 use Rattle.reh_drill.proofs.drills.close_desk.Goals as goal
 
 pub returns-in_err-text-in-Ok-clause-closes : goal.returns-in_err-text-in-Ok-clause-closes
@@ -32,4 +33,8 @@ returns-in_ok-write_text-in-Ok-clause-closes g c =
     (rw c.as_bytes.ensures.value at c.in_ok-write_text-in-Ok.ensures.written)
 
 pub returns-in-Err-clause-closes : goal.returns-in-Err-clause-closes
-returns-in-Err-clause-closes g c = inl (inl (c.cause_of.result, c.from.ensures), Keeps-refl _)
+returns-in-Err-clause-closes g c =
+    let cause : IsCauseOf c.args.desk c.args.seats.items c.cause_of.result =
+    rw c.cause_of.ensures
+    (cause_is c.args.desk c.args.seats.items c.in-Err.fault.cause c.in-Err.ensures.seats c.in-Err.ensures.book) in
+    inl (inl (c.cause_of.result, cause, c.from.ensures), Keeps-refl _)
