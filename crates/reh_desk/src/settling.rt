@@ -1,5 +1,6 @@
 // Whether a tape and the lists of its seats tell the same.
 ghost use Rattle.std.specs.Prelude.{◌≡◌, ◌↔◌, IsTrue, MatchOption, length};
+ghost use Rattle.reh_model.specs.Book.{new_book, Legal};
 ghost use Rattle.reh_desk.specs.Seats.{own_line};
 ghost use Rattle.reh_desk.specs.Desks.{own_lines, AreSeated, AllAgree, AgreeBelow, Differs};
 ghost use Rattle.reh_desk.specs.Desks.{IsAbsent, AreBelow, AreSeats, Settles};
@@ -24,16 +25,18 @@ impl Book {
     /// no memory. The numbers of the seats have to be those from 0 on, each once.
     pub fn settle(&self, opening: &Session, seats: &[Seat]) -> Result<(), Unsettled>
         requires { AreSeats (length seats.now) seats.now }
-        ensures { Settles self.now opening.now seats.now result }
+        ensures settles { Settles self.now opening.now seats.now result }
+        ensures legal { Legal (new_book self.now.opening) self.now.tape self.now.book }
     {
+        let tape = self.tape();
         let out = self.out();
         if out > 0 {
             return Err(Unsettled::StillOut(out));
         }
-        if !self.opening().same(opening) || !are_seated(self.tape(), seats.len()) {
+        if !self.opening().same(opening) || !are_seated(tape, seats.len()) {
             return Err(Unsettled::Mismatch(0));
         }
-        match first_mismatch(self.tape(), seats) {
+        match first_mismatch(tape, seats) {
             None => Ok(()),
             Some(number) => Err(Unsettled::Mismatch(number)),
         }
