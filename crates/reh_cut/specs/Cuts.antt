@@ -12,6 +12,8 @@ use Rattle.reh_cut.specs.declared.said.Striping.{Striping}
 use Rattle.reh_cut.specs.Ranges.{is_within}
 use Rattle.reh_cut.specs.Said.{is_sure, shown}
 use Rattle.reh_inventory.specs.declared.contents.Content.{Content}
+use Rattle.reh_inventory.specs.declared.contents.Entries.{Entries}
+use Rattle.reh_inventory.specs.declared.contents.Entries.TheVariants.{Holds, Lacks}
 use Rattle.reh_inventory.specs.declared.heads.Bookie.{Bookie}
 use Rattle.reh_inventory.specs.declared.heads.Head.{Head}
 use Rattle.reh_inventory.specs.declared.ledgers.Fragment.{Fragment}
@@ -46,6 +48,23 @@ bookie_in head name = find (λ b. bytes_eq b.name name) head.bookies
 abbrev pub rules_for : Head → Assume → List ℕ → Rules
 rules_for head assume name =
     rules_by (option_map_or (λ b. b.is_empty) (bookie_in head name) false) head.assumes_striped assume
+
+-- whether something is said to be held
+abbrev pub says_held : Entries → Bool
+says_held (Holds ranges) = nat_lt 0 (length ranges)
+says_held (Lacks ranges) = true
+
+-- a content says that its bookie holds entries, though that came back without its disk
+abbrev pub holds_though_empty : Head → Content → Bool
+holds_though_empty head content =
+    option_map_or (λ b. b.is_empty && says_held content.entries) (bookie_in head content.bookie) false
+
+-- a content of the line does
+abbrev pub refills : Head → LedgerLine → Bool
+refills head line = list_any (holds_though_empty head) line.contents
+
+abbrev pub keeps_empties : Head → LedgerLine → Bool
+keeps_empties head line = not (refills head line)
 
 -- the picture's bookie is registered, is read-only and came back without its disk where the first line says so, and has
 -- its rack; one that the first line doesn't have isn't registered
@@ -227,6 +246,15 @@ knows_tail head assume line =
     is_some (end_of line.state)
     || list_all (is_known head assume line) (last_members line)
 
+-- the first of these members of which neither is so
+abbrev pub first_unknown_of : Head → Assume → LedgerLine → List (List ℕ) → Option (List ℕ)
+first_unknown_of head assume line members = find (λ name. not (is_known head assume line name)) members
+
+-- that of the members of the last fragment, if the ledger isn't closed
+abbrev pub first_unknown : Head → Assume → LedgerLine → Option (List ℕ)
+first_unknown head assume line =
+    if is_some (end_of line.state) then None else first_unknown_of head assume line (last_members line)
+
 -- each bookie of which the line tells is in the picture
 abbrev pub has_bookies : List (List ℕ) → List Content → Bool
 has_bookies names contents = list_all (λ (c : Content). is_some (bookie_named names c.bookie)) contents
@@ -263,10 +291,11 @@ pub record IsShown (head : Head) (lines : List LedgerLine) (assume : Assume) (li
   pub ledgers : shows_ledgers head assume listed.listing.names listed.listing.holdings.items lines
       listed.listing.ledgers.items ≡ true
 
--- The text is such a picture.
+-- The text is such a picture, and no line says that a bookie holds entries which came back without its disk.
 pub record IsCut (head : Head) (lines : List LedgerLine) (assume : Assume) (text : List ℕ) : Type 0 where
   pub listed : Listed
   pub cluster : Cluster
   pub lists : Lists text listed
   pub is_picture : picture_of text ≡ Ok cluster
   pub shown : IsShown head lines assume listed cluster
+  pub empties : list_all (keeps_empties head) lines ≡ true

@@ -46,20 +46,30 @@ pub(crate) fn rules_for(head: &Head, assume: Assume, name: &str) -> Rules
     }
 }
 
-/// Whether a content says that its bookie holds entries, though that came back without its disk.
-fn holds_though_empty(head: &Head, content: &Content) -> bool {
-    let holds = match &content.entries {
+/// Whether a content says that its bookie holds entries.
+fn says_held(content: &Content) -> bool
+    ensures { result ≡ model.says_held content.now.entries }
+{
+    match &content.entries {
         Entries::Holds(ranges) => !ranges.as_slice().is_empty(),
         Entries::Lacks(_) => true,
-    };
+    }
+}
+
+/// Whether a content says that its bookie holds entries, though that came back without its disk.
+fn holds_though_empty(head: &Head, content: &Content) -> bool
+    ensures { result ≡ model.holds_though_empty head.now content.now }
+{
     match bookie_in(head, content.bookie.as_str()) {
-        Some(bookie) => bookie.is_empty && holds,
+        Some(bookie) => bookie.is_empty && says_held(content),
         None => false,
     }
 }
 
 /// Whether a content of the line does.
-pub(crate) fn refills(head: &Head, line: &LedgerLine) -> bool {
+pub(crate) fn refills(head: &Head, line: &LedgerLine) -> bool
+    ensures { result ≡ model.refills head.now line.now }
+{
     line.contents
         .as_slice()
         .iter()
@@ -493,18 +503,32 @@ fn knows_tail(head: &Head, assume: Assume, line: &LedgerLine) -> bool
     end_of(line.state).is_some() || are_known(head, assume, line, last_members(line))
 }
 
+/// The first of these members of which nothing is known.
+fn first_unknown_of<'a>(
+    head: &Head,
+    assume: Assume,
+    line: &LedgerLine,
+    members: &'a [Name],
+) -> Option<&'a Name>
+    ensures { option_copied result ≡ model.first_unknown_of head.now assume line.now members.now }
+{
+    members
+        .iter()
+        .find(|member| !is_known(head, assume, line, member))
+}
+
 /// The first member of the last fragment of a ledger that isn't closed of which nothing is known.
 pub(crate) fn first_unknown<'a>(
     head: &Head,
     assume: Assume,
     line: &'a LedgerLine,
-) -> Option<&'a Name> {
+) -> Option<&'a Name>
+    ensures { option_copied result ≡ model.first_unknown head.now assume line.now }
+{
     if end_of(line.state).is_some() {
         return None;
     }
-    last_members(line)
-        .iter()
-        .find(|member| !is_known(head, assume, line, member))
+    first_unknown_of(head, assume, line, last_members(line))
 }
 
 /// Whether each bookie of which the line tells is in the picture.

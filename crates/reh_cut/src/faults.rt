@@ -1,29 +1,11 @@
 // Why ledgers of an inventory have no picture.
+use crate::limits::{Limit, TotalLimit};
+use crate::passed::past_total;
 use reh_inventory::Name;
-use reh_picture::{LocatedFault, PictureFault};
-use reh_types::{MAX_BOOKIES, MAX_ENTRY_ID};
+use reh_picture::{Field, LocatedFault, PictureFault};
 use reh_window::WindowFault;
 use std::alloc::{AllocError, AllocFailed};
 use std::fmt;
-
-/// How ledgers of more entries are cut: so many entries at a time.
-#[derive(Clone, Copy, Debug)]
-pub struct WayOut(pub u64);
-
-impl fmt::Display for WayOut {
-    ghost use Rattle.std.specs.Prelude.{Some};
-    ghost use Rattle.reh_cut.specs.Faults.{way_text};
-
-    ghost output = { λ way. Some (way_text way) };
-
-    fn fmt<W: fmt::Write>(&self, f: &mut fmt::Formatter<W>) -> fmt::Result {
-        let width = self.0;
-        write!(
-            f,
-            ", and a picture up to {MAX_ENTRY_ID}: --window K cuts {width} of them"
-        )
-    }
-}
 
 /// Why there is no picture of these ledgers.
 #[derive(Debug, Drop)]
@@ -32,10 +14,8 @@ pub enum CutFault {
     NotWhole,
     /// No line has the ledger of this id, or it could not be read.
     NoLedger(u64),
-    /// They name more bookies than a picture may have: so many.
-    TooManyBookies(usize),
-    /// The ledger of this id has entries up to this one, past those that a picture may have.
-    TooManyEntries(u64, u64, WayOut),
+    /// They pass this limit of a picture.
+    Limit(Limit),
     /// The last window of the ledger of this id has this number, which is below the one that is asked for.
     NoWindow(u64, u64),
     /// The ledger of this id isn't closed, and the window has entries of its last fragment, but it isn't the last window,
@@ -65,13 +45,7 @@ impl fmt::Display for CutFault {
             CutFault::NoLedger(id) => {
                 write!(f, "no line has ledger {id}, or it could not be read")
             }
-            CutFault::TooManyBookies(bookies) => write!(
-                f,
-                "these ledgers name {bookies} bookies, and a picture has at most {MAX_BOOKIES}: cut fewer ledgers"
-            ),
-            CutFault::TooManyEntries(id, last, way) => {
-                write!(f, "ledger {id} has entries up to {last}{way}")
-            }
+            CutFault::Limit(limit) => write!(f, "{limit}"),
             CutFault::NoWindow(id, last) => write!(f, "the last window of ledger {id} is {last}"),
             CutFault::OpenWindow(id, last) => write!(
                 f,
@@ -118,10 +92,12 @@ impl<T: Drop> From<AllocFailed<T>> for CutFault {
     }
 }
 
-/// A fault of what would be written, or that there is no memory to read it.
-pub(crate) fn no_picture(fault: LocatedFault) -> CutFault {
+/// A fault of what would be written for so many ledgers, or that there is no memory to read it. The entries that are held of
+/// them take so many words.
+pub(crate) fn no_picture(fault: LocatedFault, words: u64, ledgers: usize) -> CutFault {
     match fault.fault {
         PictureFault::NoMemory => CutFault::NoMemory,
+        PictureFault::Limit(Field::Contents) => past_total(TotalLimit::Words, words, ledgers),
         _ => CutFault::NoPicture(fault),
     }
 }

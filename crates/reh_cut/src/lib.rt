@@ -5,7 +5,9 @@ mod checks;
 mod chosen;
 mod cuts;
 mod faults;
+mod limits;
 mod names;
+mod passed;
 mod ranges;
 mod said;
 mod texts;
@@ -13,5 +15,6 @@ mod windows;
 
 pub use chosen::ChosenLedgers;
 pub use cuts::cut;
-pub use faults::{CutFault, WayOut};
+pub use faults::CutFault;
+pub use limits::{LedgerLimit, Limit, Past, Sum, Total, TotalLimit, Twice, WayOut};
 pub use said::Assume;

@@ -1,5 +1,7 @@
 // The bookies of a cut.
 use crate::faults::CutFault;
+use crate::limits::TotalLimit;
+use crate::passed::past_total;
 use reh_census_file::{MAX_NAMES, NameList};
 use reh_inventory::{Bookie, Head, LedgerLine, Name};
 use reh_types::MAX_BOOKIES;
@@ -17,7 +19,7 @@ pub(crate) fn names_of(
         add_line(&mut names, line)?;
     }
     if names.len() > MAX_BOOKIES {
-        return Err(CutFault::TooManyBookies(names.len()));
+        return Err(past_total(TotalLimit::Bookies, names.len() as u64, lines.len()));
     }
     for is_writable in [true, false] {
         add_others(alloc, &mut names, head, is_writable)?;

@@ -6,10 +6,18 @@ use json::Writer;
 use reh_answer::{add_number, add_text};
 use reh_census_file::NameList;
 use reh_inventory::{Bookie, Content, Fragment, Head, LedgerLine, LedgerState, Name, Sizes};
+use reh_types::ENTRIES_IN_WORD;
 use std::alloc::{AllocError, Global};
 
 /// The number of the format without a delay for lost bookies, and of the one with it.
 const FORMATS: (u64, u64) = (1, 2);
+
+/// A picture, as text, and how many words the entries take that its bookies hold.
+#[derive(Drop)]
+pub(crate) struct Written {
+    pub(crate) text: String,
+    pub(crate) words: u64,
+}
 
 /// The picture of these ledgers, with bookies of these names.
 pub(crate) fn picture_text(
@@ -18,16 +26,18 @@ pub(crate) fn picture_text(
     assume: Assume,
     names: &NameList,
     lines: &[LedgerLine],
-) -> Result<String, CutFault> {
+) -> Result<Written, CutFault> {
     let mut json = Writer::new(Vec::new(alloc));
-    add_picture(&mut json, alloc, head, assume, names, lines)?;
+    let words = add_picture(&mut json, alloc, head, assume, names, lines)?;
+    let words = words.saturating_mul(names.len() as u64);
     match String::from_utf8(json.into_inner()) {
-        Ok(text) => Ok(text),
+        Ok(text) => Ok(Written { text, words }),
         Err(_) => Err(CutFault::Differs),
     }
 }
 
-/// Adds the picture. The members of this object, and of each below it, are in the order of their names.
+/// Adds the picture, and says how many words each bookie takes. The members of this object, and of each below it, are in the
+/// order of their names.
 fn add_picture(
     json: &mut Writer<Global>,
     alloc: Global,
@@ -35,12 +45,12 @@ fn add_picture(
     assume: Assume,
     names: &NameList,
     lines: &[LedgerLine],
-) -> Result<(), CutFault> {
+) -> Result<u64, CutFault> {
     json.begin_object()?;
     add_bookies(json, head, names)?;
-    add_contents(json, alloc, head, assume, names, lines)?;
+    let words = add_contents(json, alloc, head, assume, names, lines)?;
     add_times_and_ledgers(json, head, lines)?;
-    Ok(())
+    Ok(words)
 }
 
 /// Adds the format, the times and the ledgers, and ends the picture.
@@ -177,7 +187,7 @@ fn add_members(json: &mut Writer<Global>, members: &[Name]) -> Result<(), AllocE
     json.end_array()
 }
 
-/// Adds what bookies of these names hold of these ledgers.
+/// Adds what bookies of these names hold of these ledgers, and says how many words of them each bookie takes.
 fn add_contents(
     json: &mut Writer<Global>,
     alloc: Global,
@@ -185,17 +195,20 @@ fn add_contents(
     assume: Assume,
     names: &NameList,
     lines: &[LedgerLine],
-) -> Result<(), CutFault> {
+) -> Result<u64, CutFault> {
     json.key("contents")?;
     json.begin_array()?;
+    let mut words: u64 = 0;
     for line in lines {
-        add_contents_of(json, alloc, head, assume, names, line)?;
+        let end = add_contents_of(json, alloc, head, assume, names, line)?;
+        words = words.saturating_add(end.div_ceil(ENTRIES_IN_WORD));
     }
     json.end_array()?;
-    Ok(())
+    Ok(words)
 }
 
-/// Adds what they hold of a ledger: each member of an ensemble, and each bookie of which the line tells.
+/// Adds what they hold of a ledger: each member of an ensemble, and each bookie of which the line tells. Says where the entries
+/// end that are held.
 fn add_contents_of(
     json: &mut Writer<Global>,
     alloc: Global,
@@ -203,17 +216,19 @@ fn add_contents_of(
     assume: Assume,
     names: &NameList,
     line: &LedgerLine,
-) -> Result<(), CutFault> {
+) -> Result<u64, CutFault> {
+    let mut end = 0;
     for number in 0..names.len() {
         if let Some(name) = names.name(number as u16) {
             if names_bookie(line, name) {
                 let rules = rules_for(head, assume, name);
                 let holding = gather(alloc, rules, line, name)?;
                 add_content(json, line.id, name, &holding)?;
+                end = holding.end().max(end);
             }
         }
     }
-    Ok(())
+    Ok(end)
 }
 
 /// Looks through what a bookie holds of a ledger.
@@ -282,6 +297,14 @@ impl Gathered {
             self.is_assumed = self.is_assumed || !is_sure(striping, content, entry);
         }
         Ok(true)
+    }
+
+    /// One past the last entry that the bookie holds, 0 where it holds none.
+    fn end(&self) -> u64 {
+        match self.ranges.last() {
+            Some(range) => range.1.saturating_add(1),
+            None => 0,
+        }
     }
 
     /// Adds an entry.

@@ -11,8 +11,9 @@ returns c =
     λ shown. record {
       listed = c.args.listed.now;
       cluster = c.in_ok-state.state;
-      lists = c.requires;
+      lists = c.requires.lists;
       is_picture = c.in_ok-state.ensures;
       shown = shown;
+      empties = c.requires.empties;
     } in
     on_ok_weaker c.check_shown.result cut c.check_shown.ensures
