@@ -1,4 +1,5 @@
 mod FaultLaws
 pub mod GatheredLaws
+mod RackLaws
 mod VerdictLaws
 mod WordLaws

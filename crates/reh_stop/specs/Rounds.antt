@@ -1,11 +1,10 @@
 -- What is said of rounds, and of what the next losses cost.
-use Rattle.std.specs.Prelude.{◌≡◌, ℕ, Bool, true, if◌then◌else◌, cond, filter, List, map, length, String, string_bytes}
+use Rattle.std.specs.Prelude.{◌≡◌, ℕ, Bool, true, if◌then◌else◌, cond, filter, List, map, String, string_bytes}
 use Rattle.std.specs.declared.alloc.Global.{Global}
 use Rattle.reh_census.specs.Answers.{answer_on}
 use Rattle.reh_census.specs.Bookies.{bookies_of, holders}
 use Rattle.reh_census.specs.Counting.{counting_in, counting_of, not_judged}
 use Rattle.reh_census.specs.Ledgers.{Ledger}
-use Rattle.reh_census.specs.Striping.{range}
 use Rattle.reh_inputs.specs.Cluster.{Cluster, is_first_in_rack, rack_name}
 use Rattle.reh_inputs.specs.declared.together.Gathered.{Gathered}
 use Rattle.reh_waves.specs.Json.{ArePrintable, risk_json, waves_json}
@@ -71,17 +70,19 @@ pub record SaysRounds (g : Gathered) (asked : AskedWaves) (text : String Global)
 abbrev pub risk_by : Bool → List (String Global) → List (String Global) → Risk → List ℕ
 risk_by as_json names racks risk = if as_json then risk_json names racks risk else risk_text names racks risk
 
--- the racks by their numbers: each has that of the first bookie in it
-abbrev pub racks_of : Cluster → List ℕ
-racks_of cluster = filter (is_first_in_rack cluster.shown) (range 0 (length cluster.shown))
+-- the racks in the order of their names, each by the number of the first bookie in it; these are the names of the bookies' racks
+pub record AreRacks (cluster : Cluster) (names : List (String Global)) (racks : List ℕ) : Type 0 where
+  pub order : List ℕ
+  pub in_order : IsNameOrder names order
+  pub first : racks ≡ filter (is_first_in_rack cluster.shown) order
 
 -- what the next losses cost by what inputs show together, and by the ledgers of all inputs
-pub record IsCost (g : Gathered) (asked : AskedRisk) (order : List ℕ) (risk : Risk) : Type 0 where
-  pub census : IsRisk (counting_in g.census) (bookies_of g.bookies) asked.question (not_judged g.census.judged) order
-      (racks_of g.cluster) asked.with_pairs risk
+pub record IsCost (g : Gathered) (asked : AskedRisk) (order racks : List ℕ) (risk : Risk) : Type 0 where
+  pub census : IsRisk (counting_in g.census) (bookies_of g.bookies) asked.question (not_judged g.census.judged) order racks
+      asked.with_pairs risk
   pub ledgers : (ledgers : List Ledger) → AreLedgersOf g ledgers
       → IsRisk (counting_of (holders (bookies_of g.bookies)) ledgers) (bookies_of g.bookies) asked.question
-      (not_judged g.census.judged) order (racks_of g.cluster) asked.with_pairs risk
+      (not_judged g.census.judged) order racks asked.with_pairs risk
 
 -- why no cost is said: JSON is asked for, and the name of a bookie or of a rack has a byte that can't be printed
 abbrev pub IsUnsaidCost : Gathered → AskedRisk → RoundFault → Type 0
@@ -91,8 +92,8 @@ IsUnsaidCost g asked fault.Unprintable =
     × (ArePrintable names × ArePrintable racks → ⊥)
 IsUnsaidCost g asked fault.NoMemory = Unit {0}
 
--- the text says the cost, by the names of bookies and racks, and in the order of the bookies' names; in JSON each byte
--- of these names can be printed
+-- the text says the cost, by the names of bookies and racks, and in the order of these names; in JSON each byte of them can
+-- be printed
 pub record SaysCost (g : Gathered) (asked : AskedRisk) (text : String Global) : Type 0 where
   pub names : List (String Global)
   pub are_names : map string_bytes names ≡ g.cluster.names
@@ -100,7 +101,9 @@ pub record SaysCost (g : Gathered) (asked : AskedRisk) (text : String Global) : 
   pub are_racks : map string_bytes racks ≡ map rack_name g.cluster.shown
   pub order : List ℕ
   pub in_order : IsNameOrder names order
+  pub rack_numbers : List ℕ
+  pub are_rack_numbers : AreRacks g.cluster racks rack_numbers
   pub risk : Risk
-  pub is_cost : IsCost g asked order risk
+  pub is_cost : IsCost g asked order rack_numbers risk
   pub says : string_bytes text ≡ risk_by asked.as_json names racks risk
   pub printable : asked.as_json ≡ true → ArePrintable names × ArePrintable racks

@@ -1,6 +1,7 @@
 // In which rounds bookies may be stopped, and what the next losses cost.
-ghost use Rattle.std.specs.Prelude.{◌≡◌, ◌≤◌, length, map, string_bytes, true, IfErr, IfOk, OnOk};
+ghost use Rattle.std.specs.Prelude.{◌≡◌, ◌≤◌, filter, length, map, string_bytes, true, IfErr, IfOk, OnOk};
 ghost use Rattle.std.specs.List.Sorted.{IsPermutation};
+ghost use Rattle.reh_census.specs.Copies.{is_in};
 ghost use Rattle.reh_census.specs.Striping.{range};
 ghost use Rattle.reh_waves.specs.Json.{ArePrintable};
 ghost use Rattle.reh_stop.specs.Rounds as model;
@@ -127,24 +128,57 @@ pub fn answer_waves(
     Ok(text)
 }
 
-/// What the next losses cost, by what inputs show together: bookies in this order, where losses are alike.
+/// Whether the number is one of these.
+fn is_among(numbers: &[u16], number: u16) -> bool
+    ensures { result ≡ is_in numbers.now number }
+{
+    numbers.iter().any(|one| *one == number)
+}
+
+/// The numbers that are among these, in this order.
+fn in_order(alloc: Global, order: &[u16], numbers: &[u16]) -> Result<Vec<u16>, AllocError>
+    ensures { IfOk result (λ sorted. sorted.items ≡ filter (is_in numbers.now) order.now) }
+{
+    order
+        .iter()
+        .copied()
+        .filter(|number| is_among(numbers, *number))
+        .collect(alloc)
+}
+
+/// The racks in the order of their names, where the racks of the bookies have these names.
+fn racks_in_order(
+    alloc: Global,
+    cluster: &Cluster,
+    names: &[String],
+) -> Result<Vec<u16>, AllocError>
+    requires { length names.now ≤ 4096 }
+    ensures { IfOk result (λ racks. model.AreRacks cluster.now names.now racks.items) }
+{
+    let order = order_by_name(alloc, names)?;
+    let numbers = cluster.rack_numbers(alloc)?;
+    let racks = in_order(alloc, &order, &numbers)?;
+    Ok(racks)
+}
+
+/// What the next losses cost, by what inputs show together: bookies and racks in these orders, where losses are alike.
 fn cost_of(
     alloc: Global,
     gathered: &Gathered,
     asked: &AskedRisk,
     order: &[u16],
+    racks: &[u16],
 ) -> Result<Risk, AllocError>
     requires { IsPermutation (range 0 (length gathered.now.bookies)) order.now }
-    ensures { IfOk result (λ risk. model.IsCost gathered.now asked.now order.now risk) }
+    ensures { IfOk result (λ risk. model.IsCost gathered.now asked.now order.now racks.now risk) }
 {
-    let racks = gathered.cluster.rack_numbers(alloc)?;
     let risk = risk_of(
         alloc,
         &gathered.census,
         &gathered.bookies,
         &asked.question,
         order,
-        &racks,
+        racks,
         asked.with_pairs,
     )?;
     Ok(risk)
@@ -184,8 +218,9 @@ pub fn answer_risk(
 {
     let names = names_of(&gathered.cluster);
     let order = order_by_name(alloc, names)?;
-    let risk = cost_of(alloc, gathered, asked, &order)?;
     let racks = gathered.cluster.racks(alloc)?;
+    let numbers = racks_in_order(alloc, &gathered.cluster, &racks)?;
+    let risk = cost_of(alloc, gathered, asked, &order, &numbers)?;
     let text = say_cost(alloc, names, &racks, &risk, asked.as_json)?;
     Ok(text)
 }
