@@ -1,24 +1,20 @@
 -- What is said of the names is said of the words that give them; and a fault that a call answers is handed on.
-use Rattle.std.proofs.Common.{◌≡◌, refl, sym, subst, true, Bool, Result, Ok, Err, IfErr, IfOk, List, String, Global, map, string_bytes}
+use Rattle.std.proofs.Common.{◌≡◌, sym, subst, true, Bool, Result, Ok, Err, IfErr, IfOk, List, String, Global, map, string_bytes}
 use Rattle.std.specs.Prelude.{IsErrAnd, OnOk}
-use Rattle.reh_inputs.specs.Cluster.{rack_name}
+use Rattle.reh_inputs.specs.Cluster.{Cluster, rack_name}
 use Rattle.reh_inputs.specs.declared.together.Gathered.{Gathered}
 use Rattle.reh_waves.specs.Json.{ArePrintable}
 use Rattle.reh_stop.specs.Named.{AreClear}
 use Rattle.reh_stop.specs.Rounds.{AreUnsaid, IsUnprintable, IsUnsaidCost}
 use Rattle.reh_stop.specs.declared.verdicts.Verdict.{Verdict}
-use Rattle.reh_tally.specs.declared.census.TallyFault.{TallyFault}
-use Rattle.reh_tally.specs.declared.census.TallyFault.TheVariants as tally
-use Rattle.reh_tally.specs.Few.{AreFewCounts}
-use Rattle.reh_stop.proofs.GatheredLaws.{each_few}
-use Rattle.reh_stop.specs.Stops.{AnswersLedgers, AreNamed, HasTooLarge, IsByNames, IsFaultOf, IsGathered, IsJudged, IsRefused, IsUnsaid, facts_of, fault_of_tally, has_words, stopped_by}
+use Rattle.reh_stop.specs.Stops.{AnswersLedgers, AreNamed, IsByNames, IsFaultOf, IsJudged, IsRefused, IsUnsaid, facts_of, has_words, stopped_by}
 use Rattle.reh_stop.specs.declared.rounds.AskedRisk.{AskedRisk}
 use Rattle.reh_stop.specs.declared.rounds.AskedWaves.{AskedWaves}
 use Rattle.reh_stop.specs.declared.rounds.RoundFault.{RoundFault}
 use Rattle.reh_stop.specs.declared.rounds.RoundFault.TheVariants as round
 use Rattle.reh_stop.specs.declared.stops.Asked.{Asked}
 use Rattle.reh_stop.specs.declared.stops.StopFault.{StopFault}
-use Rattle.reh_stop.specs.declared.stops.StopFault.TheVariants.{Nobody, Ambiguous, UnknownBookie, Twice, UnknownRack, TooMany, NoMemory}
+use Rattle.reh_stop.specs.declared.stops.StopFault.TheVariants.{Nobody, Ambiguous, UnknownBookie, Twice, UnknownRack, NoMemory}
 
 -- the fault of a call is that of the whole
 pub if_err : {T E : Type 0} (P : E → Type 0) (result : Result T E) (fault : E) → IsErrAnd result (λ x. x ≡ fault) → P fault
@@ -26,27 +22,19 @@ pub if_err : {T E : Type 0} (P : E → Type 0) (result : Result T E) (fault : E)
 if_err P (Ok x) fault is holds = absurd is
 if_err P (Err x) fault is holds = subst P (sym is) holds
 
--- and if the whole has this fault, the call has it
-pub failed : {T U E : Type 0} (result : Result T E) (handed fault : E) → IsErrAnd result (λ x. x ≡ handed) → result ≡ Err fault
-    → ◌≡◌ {A = Result U E} (Err handed) (Err fault)
-failed {T} {U} {E} result handed fault is same =
-    let back : fault ≡ handed = subst (λ (r : Result T E). IsErrAnd r (λ x. x ≡ handed)) same is in
-    λ i. Err (sym back i)
-
 -- Stops
 
 module _ (g : Gathered) (asked named : Asked) (some : has_words asked ≡ true) (clear : AreClear g.cluster.names asked.bookies.now)
     (by : IsByNames g.cluster asked named) where
-  refused : (fault : StopFault) → IsUnsaid g named fault → IsRefused g asked fault
+  refused : (fault : StopFault) → IsUnsaid g.cluster named fault → IsRefused g asked fault
   refused Nobody never = absurd never
   refused (Ambiguous word) never = absurd never
   refused (UnknownBookie name) is = (some, clear, named, by, is)
   refused (Twice name) is = (some, clear, named, by, is)
   refused (UnknownRack name) is = (some, clear, named, by, is)
-  refused TooMany is = (some, clear, named, by, is)
   refused NoMemory is = tt
 
-  pub refused-by : {T : Type 0} (result : Result T StopFault) → IfErr result (IsUnsaid g named)
+  pub refused-by : {T : Type 0} (result : Result T StopFault) → IfErr result (IsUnsaid g.cluster named)
       → IfErr result (IsRefused g asked)
   refused-by (Ok said) is = tt
   refused-by (Err fault) is = refused fault is
@@ -69,25 +57,14 @@ module _ (g : Gathered) (asked named : Asked) (some : has_words asked ≡ true) 
   judged-by (Err fault) are stopped facts ledgers = tt
 
 -- what is wrong with names
-pub misnamed : (g : Gathered) (named : Asked) (fault : StopFault) → IsFaultOf g.cluster named fault → IsUnsaid g named fault
-misnamed g named Nobody never = absurd never
-misnamed g named (Ambiguous word) never = absurd never
-misnamed g named (UnknownBookie name) is = is
-misnamed g named (Twice name) is = is
-misnamed g named (UnknownRack name) is = is
-misnamed g named TooMany never = absurd never
-misnamed g named NoMemory never = tt
-
--- nothing is wrong with the names, and a ledger is too large
-too_large : (g : Gathered) → AreFewCounts g.census.entries g.census.tails g.census.ensembles → HasTooLarge g → IsGathered g → ⊥
-too_large g few too gathered = too (each_few g gathered.0 gathered.1 gathered.2 few)
-
-pub uncounted : {T : Type 0} (g : Gathered) (asked : Asked) (verdict : Verdict) → IsJudged g asked verdict
-    → AreFewCounts g.census.entries g.census.tails g.census.ensembles → (fault : TallyFault)
-    → (◌≡◌ {A = Result T TallyFault} (Err fault) (Err tally.TooMany) → HasTooLarge g) → IsRefused g asked (fault_of_tally fault)
-uncounted g asked verdict judged few tally.TooMany has =
-    (judged.some, judged.clear, judged.named, judged.by_names, (judged.are_named, has refl, too_large g few (has refl)))
-uncounted g asked verdict judged few tally.NoMemory has = tt
+pub misnamed : (cluster : Cluster) (named : Asked) (fault : StopFault) → IsFaultOf cluster named fault
+    → IsUnsaid cluster named fault
+misnamed cluster named Nobody never = absurd never
+misnamed cluster named (Ambiguous word) never = absurd never
+misnamed cluster named (UnknownBookie name) is = is
+misnamed cluster named (Twice name) is = is
+misnamed cluster named (UnknownRack name) is = is
+misnamed cluster named NoMemory never = tt
 
 -- Rounds and costs
 

@@ -1,5 +1,5 @@
 -- What is said by a verdict.
-use Rattle.std.proofs.Common.{◌≡◌, ◌∙◌, [], ap, refl, sym, subst, ℕ, Bool, List, string_bytes, if◌then◌else◌}
+use Rattle.std.proofs.Common.{◌≡◌, ◌∙◌, ap, refl, sym, subst, ℕ, Bool, List, string_bytes, if◌then◌else◌}
 use Rattle.reh_census.specs.declared.answers.Answer.{Answer}
 use Rattle.reh_census.specs.declared.questions.Question.{Question}
 use Rattle.reh_census.specs.Bookies.{Bookies, bookies_of, is_flagged}

@@ -1,5 +1,5 @@
 -- What is said of a stop.
-use Rattle.std.specs.Prelude.{◌≡◌, ◌<◌, ◌||◌, ℕ, Bool, true, false, not, nat_lt, Option, None, Some, All, List, [], ◌∷◌, length, map, position, slice_get, if◌then◌else◌, string_bytes}
+use Rattle.std.specs.Prelude.{◌≡◌, ◌<◌, ◌||◌, ℕ, Bool, true, false, not, nat_lt, Option, None, Some, List, length, map, position, slice_get, if◌then◌else◌, string_bytes}
 use Rattle.std.specs.List.{list_any}
 use Rattle.reh_census.specs.declared.answers.Answer.{Answer}
 use Rattle.reh_census.specs.Bookies.{bookies_of, holders, is_flagged}
@@ -8,19 +8,14 @@ use Rattle.reh_census.specs.Answers.{answer_on}
 use Rattle.reh_census.specs.Counting.{counting_in, counting_of, not_judged}
 use Rattle.reh_census.specs.Ledgers.{Ledger}
 use Rattle.reh_against.specs.declared.stops.Stop.{Stop}
-use Rattle.reh_against.specs.Worst.{SaysAgainst, alone}
+use Rattle.reh_against.specs.Worst.{SaysAgainst}
 use Rattle.reh_answer.specs.declared.against.Against.{Against}
 use Rattle.reh_answer.specs.declared.facts.Facts.{Facts}
 use Rattle.reh_answer.specs.Facts.{facts_on, most_copies}
 use Rattle.reh_answer.specs.Objects.{json_of}
 use Rattle.reh_answer.specs.Texts.{status_number, text_of}
-use Rattle.reh_tally.specs.Few.{AreFew}
-use Rattle.reh_tally.specs.declared.census.TallyFault.{TallyFault}
-use Rattle.reh_tally.specs.declared.census.TallyFault.TheVariants as tally
 use Rattle.reh_inputs.specs.Cluster.{Cluster}
-use Rattle.reh_inputs.specs.Gathered.{Gathers}
 use Rattle.reh_inputs.specs.Shown.{is_in}
-use Rattle.reh_inputs.specs.declared.inputs.Input.{Input}
 use Rattle.reh_stop.specs.Named.{AreClear, IsFirstAmbiguous, is_name, is_repeated, is_stopped, names_in, texts}
 use Rattle.reh_stop.specs.Together.{AreLedgersOf}
 use Rattle.reh_inputs.specs.declared.together.Gathered.{Gathered}
@@ -29,10 +24,6 @@ use Rattle.reh_stop.specs.declared.stops.Said.{Said}
 use Rattle.reh_stop.specs.declared.stops.StopFault.{StopFault}
 use Rattle.reh_stop.specs.declared.stops.StopFault.TheVariants as fault
 use Rattle.reh_stop.specs.declared.verdicts.Verdict.{Verdict}
-
-abbrev pub fault_of_tally : TallyFault → StopFault
-fault_of_tally tally.TooMany = fault.TooMany
-fault_of_tally tally.NoMemory = fault.NoMemory
 
 -- the facts of a stop of the bookies whose flags are set, by what inputs show together
 abbrev pub facts_of : Gathered → Asked → List Bool → Facts
@@ -105,20 +96,10 @@ IsFaultOf cluster asked (fault.UnknownRack name) =
     × (slice_get asked.racks.now word ≡ Some name)
 IsFaultOf cluster asked other = ⊥
 
--- one ledger of the pictures has more entries or fragments than a census counts
-abbrev pub HasTooLarge : Gathered → Type 0
-HasTooLarge g = All (λ ledger. AreFew (holders (bookies_of g.bookies)) (ledger ∷ [])) g.ledgers.items → ⊥
-
--- some inputs show this together
-abbrev pub IsGathered : Gathered → Type 0
-IsGathered g = (inputs : List Input) × (strict : Bool) × Gathers inputs strict g
-
--- why nothing is said of these names: what is wrong with them; or, where nothing is, that a ledger is too large, as no
--- ledger of inputs is that were gathered. Of `NoMemory` nothing is claimed
-abbrev pub IsUnsaid : Gathered → Asked → StopFault → Type 0
-IsUnsaid g named fault.TooMany = AreNamed g.cluster named × HasTooLarge g × (IsGathered g → ⊥)
-IsUnsaid g named fault.NoMemory = Unit {0}
-IsUnsaid g named other = IsFaultOf g.cluster named other
+-- why nothing is said of these names: what is wrong with them. Of `NoMemory` nothing is claimed
+abbrev pub IsUnsaid : Cluster → Asked → StopFault → Type 0
+IsUnsaid cluster named fault.NoMemory = Unit {0}
+IsUnsaid cluster named other = IsFaultOf cluster named other
 
 -- the same question, in which the words are the names that they give
 pub record IsByNames (cluster : Cluster) (asked named : Asked) : Type 0 where
@@ -143,10 +124,6 @@ pub record IsAnsweredBy (ids : List ℕ) (among : List (List Ledger)) (further :
   pub says : IsSaid ids among further g named (stopped_by g.cluster named) said
   pub ledgers : IsOfLedgers g named said
 
--- where those of pictures may, and nothing more is noted
-abbrev pub IsAnswered : Gathered → Asked → Said → Type 0
-IsAnswered g asked said = IsAnsweredBy g.ids.items (map alone g.ledgers.items) [] g asked said
-
 -- the facts of a stop of the bookies that the words name, of which each is clear and known
 pub record IsJudged (g : Gathered) (asked : Asked) (verdict : Verdict) : Type 0 where
   pub some : has_words asked ≡ true
@@ -167,7 +144,7 @@ pub record IsAbout (g : Gathered) (asked : Asked) (verdict : Verdict) (stop : St
   pub answer : stop.answer.now ≡ verdict.facts.answer
 
 -- why nothing is said: there is no word; or a word can be read in two ways, the first of these; or, where none can, what
--- is wrong with the names that the words give, or that a ledger is too large
+-- is wrong with the names that the words give
 abbrev pub IsRefused : Gathered → Asked → StopFault → Type 0
 IsRefused g asked fault.Nobody = has_words asked ≡ false
 IsRefused g asked (fault.Ambiguous word) =
@@ -175,4 +152,4 @@ IsRefused g asked (fault.Ambiguous word) =
 IsRefused g asked fault.NoMemory = Unit {0}
 IsRefused g asked other =
     (has_words asked ≡ true) × AreClear g.cluster.names asked.bookies.now × (named : Asked) × IsByNames g.cluster asked named
-    × IsUnsaid g named other
+    × IsFaultOf g.cluster named other

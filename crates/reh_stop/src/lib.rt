@@ -8,5 +8,5 @@ mod stops;
 mod verdicts;
 
 pub use rounds::{AskedRisk, AskedWaves, RoundFault, answer_risk, answer_waves};
-pub use stops::{Asked, Said, StopFault, answer_stop, judge_stop, say_weighed, stop_of};
+pub use stops::{Asked, Said, StopFault, judge_stop, say_weighed, stop_of};
 pub use verdicts::Verdict;

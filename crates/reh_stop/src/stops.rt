@@ -1,23 +1,20 @@
 // Whether bookies may be stopped.
-ghost use Rattle.std.specs.Prelude.{◌≡◌, ℕ, Err, List, map, string_bytes, IfErr, IfOk, OnOk};
+ghost use Rattle.std.specs.Prelude.{◌≡◌, ℕ, List, map, string_bytes, IfErr, IfOk, OnOk};
 ghost use Rattle.reh_census.specs.Bookies.{bookies_of as census_bookies, is_flagged};
 ghost use Rattle.reh_census.specs.Ledgers.{Ledger as LedgerValue};
 ghost use Rattle.reh_against.specs.Weighed.{WeighsBy};
-ghost use Rattle.reh_against.specs.Worst.{SaysAgainst, alone};
+ghost use Rattle.reh_against.specs.Worst.{SaysAgainst};
 ghost use Rattle.reh_inputs.specs.declared.together.Gathered.{Gathered as GatheredValue};
 ghost use Rattle.reh_stop.specs.Stops as model;
-ghost use Rattle.reh_tally.specs.Few.{AreFewCounts};
-ghost use Rattle.reh_tally.specs.declared.census.TallyFault.TheVariants.{TooMany};
 
 use crate::named::{
     first_ambiguous, first_twice, first_unknown, first_unknown_rack, names_in, stopped_of,
 };
 use crate::verdicts::Verdict;
-use reh_against::{Stop, Worst, against_of};
+use reh_against::{Stop, Worst};
 use reh_answer::{Against, Facts, facts_of, json_of, status_of, text_of};
-use reh_census::{Bookies, Census, Question};
+use reh_census::{Bookies, Question};
 use reh_inputs::{Cluster, Gathered};
-use reh_tally::TallyFault;
 use std::alloc::{AllocError, Global};
 
 /// What is asked: may these bookies be stopped, and those of these racks; and whether the answer is to be JSON. A word that
@@ -50,8 +47,6 @@ pub enum StopFault<'a> {
     Twice(&'a str),
     /// The rack is no bookie's.
     UnknownRack(&'a str),
-    /// One ledger has more entries or fragments than a census counts.
-    TooMany,
     /// Out of memory.
     NoMemory,
 }
@@ -64,20 +59,6 @@ impl<'a> From<AllocError> for StopFault<'a> {
 
     fn from(_want: AllocError) -> StopFault<'a> {
         StopFault::NoMemory
-    }
-}
-
-impl<'a> From<TallyFault> for StopFault<'a> {
-    ghost use Rattle.std.specs.Prelude.{◌≡◌};
-    ghost use Rattle.reh_stop.specs.Stops.{fault_of_tally};
-
-    ghost from_gives = { λ tally fault. fault ≡ fault_of_tally tally };
-
-    fn from(fault: TallyFault) -> StopFault<'a> {
-        match fault {
-            TallyFault::TooMany => StopFault::TooMany,
-            TallyFault::NoMemory => StopFault::NoMemory,
-        }
     }
 }
 
@@ -118,15 +99,6 @@ fn text_by(
     Ok(text)
 }
 
-/// A census counts no more than it can: its type says so.
-fn check_counts(census: &Census)
-    ensures { AreFewCounts census.now.entries census.now.tails census.now.ensembles }
-{
-    let _entries = census.entries();
-    let _tails = census.tails();
-    let _ensembles = census.ensembles();
-}
-
 /// Whether the bookies of these names may be stopped, by what inputs show together.
 fn judge_named<'a>(
     alloc: Global,
@@ -137,7 +109,7 @@ fn judge_named<'a>(
     ensures stopped { IfOk result (λ verdict. verdict.stopped ≡ model.stopped_by gathered.now.cluster named.now) }
     ensures facts { IfOk result (λ verdict. verdict.facts ≡ model.facts_of gathered.now named.now verdict.stopped) }
     ensures ledgers { IfOk result (λ verdict. model.AnswersLedgers gathered.now named.now verdict.facts.answer) }
-    ensures fault { IfErr result (model.IsUnsaid gathered.now named.now) }
+    ensures fault { IfErr result (model.IsUnsaid gathered.now.cluster named.now) }
 {
     check_names(&gathered.cluster, named)?;
     let Gathered {
@@ -180,30 +152,6 @@ pub fn judge_stop<'a>(
         ..*asked
     };
     judge_named(alloc, gathered, &named)
-}
-
-/// Which of the ledgers that inputs show speak against a stop.
-fn against_in(
-    alloc: Global,
-    gathered: &Gathered,
-    asked: &Asked<'_, '_>,
-    verdict: &Verdict,
-) -> Result<Vec<Against>, TallyFault>
-    ensures says { IfOk result (λ against. SaysAgainst gathered.now.cluster.names gathered.now.ids.items
-        (map alone gathered.now.ledgers.items) (census_bookies gathered.now.bookies) asked.now.question
-        (is_flagged verdict.now.stopped) verdict.now.facts.answer against.items) }
-    ensures too_many { result ≡ Err TooMany → model.HasTooLarge gathered.now }
-{
-    let Gathered {
-        cluster,
-        bookies,
-        ids,
-        ledgers,
-        ..
-    } = gathered;
-    let stop = stop_of(cluster, bookies, asked, verdict);
-    let against = against_of(alloc, ids, ledgers, &stop)?;
-    Ok(against)
 }
 
 /// What a verdict is about, with the names of the bookies.
@@ -267,23 +215,5 @@ pub fn say_weighed(
 {
     let against = worst.say(alloc, stop)?;
     let said = say_stop(alloc, asked, verdict, stop.names, &against, further)?;
-    Ok(said)
-}
-
-/// Whether the bookies that the words name may be stopped, by what inputs show together: the text that says so, and the
-/// exit status.
-pub fn answer_stop<'a>(
-    alloc: Global,
-    gathered: &Gathered,
-    asked: &Asked<'_, 'a>,
-) -> Result<Said, StopFault<'a>>
-    ensures answered { IfOk result (λ said. model.IsAnswered gathered.now asked.now said) }
-    ensures fault { IfErr result (model.IsRefused gathered.now asked.now) }
-{
-    let verdict = judge_stop(alloc, gathered, asked)?;
-    check_counts(&gathered.census);
-    let against = against_in(alloc, gathered, asked, &verdict)?;
-    let names = gathered.cluster.names().as_slice();
-    let said = say_stop(alloc, asked, &verdict, names, &against, &[])?;
     Ok(said)
 }

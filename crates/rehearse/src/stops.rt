@@ -6,7 +6,7 @@ ghost use Rattle.rehearse.specs.Inputs.{AreGathered, SaysStop};
 
 use crate::against::{WeighedBy, has_against, notes_of, weigh, weigh_files};
 use crate::faults::RunFault;
-use crate::inputs::{GatheredFiles, gather_files, too_many};
+use crate::inputs::{GatheredFiles, gather_files};
 use crate::looks::{Looks, show_answer};
 use crate::names::{ambiguous, named_again, nobody, unknown_rack, unknown_to_all};
 use crate::progress::{Progress, Teller};
@@ -109,7 +109,6 @@ fn fault_of(alloc: Global, cluster: &Cluster, fault: StopFault<'_>) -> RunFault 
         StopFault::UnknownBookie(name) => unknown_to_all(alloc, cluster.names(), name),
         StopFault::Twice(name) => named_again(alloc, name),
         StopFault::UnknownRack(name) => unknown_rack(alloc, cluster, name),
-        StopFault::TooMany => too_many(alloc),
         StopFault::NoMemory => RunFault::NoMemory,
     }
 }

@@ -11,10 +11,11 @@ use Rattle.reh_stop.proofs.stops.judge_named.Goals as goal
 
 pub returns-in_err-check_names-clause-fault : goal.returns-in_err-check_names-clause-fault
 returns-in_err-check_names-clause-fault c =
-    let g = c.args.gathered.now in
+    let cluster = c.args.gathered.now.cluster in
     let named = c.args.named.now in
     let fault = c.in_err-check_names.field-0.0 in
-    if_err (IsUnsaid g named) _ fault c.from_residual.ensures.1 (misnamed g named fault c.in_err-check_names.ensures.fault)
+    if_err (IsUnsaid cluster named) _ fault c.from_residual.ensures.1
+    (misnamed cluster named fault c.in_err-check_names.ensures.fault)
 
 pub returns-clause-ledgers : goal.returns-clause-ledgers
 returns-clause-ledgers c = λ ledgers are.
