@@ -7,7 +7,7 @@ use Rattle.reh_waves.specs.Json.{ArePrintable}
 use Rattle.reh_stop.specs.Named.{AreClear}
 use Rattle.reh_stop.specs.Rounds.{AreUnsaid, IsUnprintable, IsUnsaidCost}
 use Rattle.reh_stop.specs.declared.verdicts.Verdict.{Verdict}
-use Rattle.reh_stop.specs.Stops.{AnswersLedgers, AreNamed, IsByNames, IsFaultOf, IsJudged, IsRefused, IsUnsaid, facts_of, has_words, stopped_by}
+use Rattle.reh_stop.specs.Stops.{AreNamed, AreOfLedgers, IsByNames, IsFaultOf, IsJudged, IsRefused, IsUnsaid, facts_of, has_words, stopped_by}
 use Rattle.reh_stop.specs.declared.rounds.AskedRisk.{AskedRisk}
 use Rattle.reh_stop.specs.declared.rounds.AskedWaves.{AskedWaves}
 use Rattle.reh_stop.specs.declared.rounds.RoundFault.{RoundFault}
@@ -42,7 +42,7 @@ module _ (g : Gathered) (asked named : Asked) (some : has_words asked ≡ true) 
   pub judged-by : (result : Result Verdict StopFault) → OnOk result (AreNamed g.cluster named)
       → IfOk result (λ verdict. verdict.stopped ≡ stopped_by g.cluster named)
       → IfOk result (λ verdict. verdict.facts ≡ facts_of g named verdict.stopped)
-      → IfOk result (λ verdict. AnswersLedgers g named verdict.facts.answer)
+      → IfOk result (λ verdict. AreOfLedgers g named verdict.facts)
       → IfOk result (λ verdict. IsJudged g asked verdict)
   judged-by (Ok verdict) are stopped facts ledgers = record {
     some = some;

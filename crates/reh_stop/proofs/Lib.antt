@@ -1,5 +1,6 @@
 mod FaultLaws
 pub mod GatheredLaws
+mod MostLaws
 mod RackLaws
 mod VerdictLaws
 mod WordLaws

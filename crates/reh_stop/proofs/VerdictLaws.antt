@@ -13,7 +13,7 @@ use Rattle.reh_inputs.specs.declared.together.Gathered.{Gathered}
 use Rattle.reh_stop.specs.declared.stops.Asked.{Asked}
 use Rattle.reh_stop.specs.declared.stops.Said.{Said}
 use Rattle.reh_stop.specs.declared.verdicts.Verdict.{Verdict}
-use Rattle.reh_stop.specs.Stops.{IsAnsweredBy, IsJudged, facts_of, stopped_by, text_by}
+use Rattle.reh_stop.specs.Stops.{AreOfLedgers, IsAnsweredBy, IsJudged, facts_of, stopped_by, text_by}
 
 -- the same is said of the same
 pub says-same : (names names' : List (List ℕ)) (ids ids' : List ℕ) (ledgers ledgers' : List (List Ledger)) (bookies bookies' : Bookies)
@@ -62,5 +62,5 @@ said-by g asked verdict against further said ids ledgers judged says text status
             else text_of (facts i) (question i) g.cluster.names against further);
         status = status ∙ ap (λ (f : Facts). status_number f.answer) facts;
       };
-      ledgers = λ all are. status ∙ ap status_number (judged.ledgers all are);
+      ledgers = subst (λ (f : Facts). AreOfLedgers g named f) facts judged.ledgers;
     }

@@ -1,11 +1,9 @@
 -- What is said of a stop.
-use Rattle.std.specs.Prelude.{◌≡◌, ◌<◌, ◌||◌, ℕ, Bool, true, false, not, nat_lt, Option, None, Some, List, length, map, position, slice_get, if◌then◌else◌, string_bytes}
+use Rattle.std.specs.Prelude.{◌≡◌, ◌<◌, ◌||◌, ◌==◌, ℕ, Bool, true, false, not, nat_lt, Option, None, Some, List, length, map, position, slice_get, if◌then◌else◌, string_bytes}
 use Rattle.std.specs.List.{list_any}
-use Rattle.reh_census.specs.declared.answers.Answer.{Answer}
 use Rattle.reh_census.specs.Bookies.{bookies_of, holders, is_flagged}
 use Rattle.reh_census.specs.Striping.{range}
-use Rattle.reh_census.specs.Answers.{answer_on}
-use Rattle.reh_census.specs.Counting.{counting_in, counting_of, not_judged}
+use Rattle.reh_census.specs.Counting.{Counting, counting_in, counting_of}
 use Rattle.reh_census.specs.Ledgers.{Ledger}
 use Rattle.reh_against.specs.declared.stops.Stop.{Stop}
 use Rattle.reh_against.specs.Worst.{SaysAgainst}
@@ -49,21 +47,19 @@ abbrev pub stopped_by : Cluster → Asked → List Bool
 stopped_by cluster asked =
     map (is_stopped cluster asked.bookies.now asked.racks.now) (range 0 (length cluster.names))
 
--- the answer is that on the ledgers of all inputs
-abbrev pub AnswersLedgers : Gathered → Asked → Answer → Type 0
-AnswersLedgers g asked answer =
-    (ledgers : List Ledger) → AreLedgersOf g ledgers
-    → answer
-    ≡ answer_on (counting_of (holders (bookies_of g.bookies)) ledgers) (bookies_of g.bookies) asked.question
-    (not_judged g.census.judged) (is_flagged (stopped_by g.cluster asked))
+-- the most known copies that an entry has
+pub record AreMost (counting : Counting) (most : ℕ) : Type 0 where
+  pub none_more : counting.entries (λ class. nat_lt most (length class.known)) ≡ 0
+  pub some_has : 0 < most → 0 < counting.entries (λ class. length class.known == most)
 
--- the status is the answer's on the ledgers of all inputs
-abbrev pub IsOfLedgers : Gathered → Asked → Said → Type 0
-IsOfLedgers g asked said =
+-- these are the facts by the ledgers of all inputs
+abbrev pub AreOfLedgers : Gathered → Asked → Facts → Type 0
+AreOfLedgers g asked facts =
     (ledgers : List Ledger) → AreLedgersOf g ledgers
-    → said.status
-    ≡ status_number (answer_on (counting_of (holders (bookies_of g.bookies)) ledgers) (bookies_of g.bookies) asked.question
-    (not_judged g.census.judged) (is_flagged (stopped_by g.cluster asked)))
+    → let counting : Counting = counting_of (holders (bookies_of g.bookies)) ledgers in
+    (most : ℕ) × AreMost counting most
+    × (facts
+    ≡ facts_on counting most (bookies_of g.bookies) asked.question g.census.judged (is_flagged (stopped_by g.cluster asked)))
 
 -- the first name that is no bookie's, and the first rack
 abbrev pub first_unknown : Cluster → Asked → Option ℕ
@@ -122,7 +118,7 @@ pub record IsAnsweredBy (ids : List ℕ) (among : List (List Ledger)) (further :
   pub by_names : IsByNames g.cluster asked named
   pub are_named : AreNamed g.cluster named
   pub says : IsSaid ids among further g named (stopped_by g.cluster named) said
-  pub ledgers : IsOfLedgers g named said
+  pub ledgers : AreOfLedgers g named (facts_of g named (stopped_by g.cluster named))
 
 -- the facts of a stop of the bookies that the words name, of which each is clear and known
 pub record IsJudged (g : Gathered) (asked : Asked) (verdict : Verdict) : Type 0 where
@@ -133,7 +129,7 @@ pub record IsJudged (g : Gathered) (asked : Asked) (verdict : Verdict) : Type 0 
   pub are_named : AreNamed g.cluster named
   pub stopped : verdict.stopped ≡ stopped_by g.cluster named
   pub facts : verdict.facts ≡ facts_of g named verdict.stopped
-  pub ledgers : AnswersLedgers g named verdict.facts.answer
+  pub ledgers : AreOfLedgers g named verdict.facts
 
 -- the stop that this verdict is about, of what inputs show together
 pub record IsAbout (g : Gathered) (asked : Asked) (verdict : Verdict) (stop : Stop) : Type 0 where

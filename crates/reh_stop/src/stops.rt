@@ -108,7 +108,7 @@ fn judge_named<'a>(
     ensures named { OnOk result (model.AreNamed gathered.now.cluster named.now) }
     ensures stopped { IfOk result (λ verdict. verdict.stopped ≡ model.stopped_by gathered.now.cluster named.now) }
     ensures facts { IfOk result (λ verdict. verdict.facts ≡ model.facts_of gathered.now named.now verdict.stopped) }
-    ensures ledgers { IfOk result (λ verdict. model.AnswersLedgers gathered.now named.now verdict.facts.answer) }
+    ensures ledgers { IfOk result (λ verdict. model.AreOfLedgers gathered.now named.now verdict.facts) }
     ensures fault { IfErr result (model.IsUnsaid gathered.now.cluster named.now) }
 {
     check_names(&gathered.cluster, named)?;

@@ -1,12 +1,12 @@
 -- What inputs show together is counted as their ledgers are.
-use Rattle.std.proofs.Common.{◌∙◌, ap}
-use Rattle.reh_answer.specs.declared.facts.Facts.{Facts}
-use Rattle.reh_census.specs.Answers.{answer_on}
+use Rattle.std.proofs.Common.{◌∙◌}
+use Rattle.reh_answer.specs.Facts.{facts_on, most_copies}
 use Rattle.reh_census.specs.Bookies.{bookies_of, holders, is_flagged}
-use Rattle.reh_census.specs.Counting.{counting_of, not_judged}
+use Rattle.reh_census.specs.Counting.{counting_of}
 use Rattle.reh_stop.specs.Stops.{IsUnsaid}
 use Rattle.reh_stop.proofs.FaultLaws.{if_err, misnamed}
 use Rattle.reh_stop.proofs.GatheredLaws.{all_counted}
+use Rattle.reh_stop.proofs.MostLaws.{in_ledgers}
 use Rattle.reh_stop.proofs.stops.judge_named.Goals as goal
 
 pub returns-in_err-check_names-clause-fault : goal.returns-in_err-check_names-clause-fault
@@ -20,7 +20,11 @@ returns-in_err-check_names-clause-fault c =
 pub returns-clause-ledgers : goal.returns-clause-ledgers
 returns-clause-ledgers c = λ ledgers are.
     let g = c.args.gathered.now in
-    ap (λ (facts : Facts). facts.answer) (c.in_ok-facts.ensures.ledgers ledgers (all_counted g ledgers are))
-    ∙ (λ i.
-    answer_on (counting_of (holders (bookies_of g.bookies)) ledgers) (bookies_of g.bookies) c.args.named.now.question
-    (not_judged g.census.judged) (is_flagged (c.in_ok-stopped.ensures i)))
+    let counted = all_counted g ledgers are in (
+      most_copies g.census.entries,
+      in_ledgers g.census (holders (bookies_of g.bookies)) ledgers counted,
+      c.in_ok-facts.ensures.ledgers ledgers counted
+          ∙ (λ i.
+          facts_on (counting_of (holders (bookies_of g.bookies)) ledgers) (most_copies g.census.entries) (bookies_of g.bookies)
+          c.args.named.now.question g.census.judged (is_flagged (c.in_ok-stopped.ensures i))),
+    )
