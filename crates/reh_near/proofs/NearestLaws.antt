@@ -1,6 +1,6 @@
 -- The first three names of a list, or fewer.
 use Rattle.std.proofs.Common.{◌≡◌, ◌<◌, ◌≤◌, ℕ, List, [], ◌∷◌, ap, arith, length, get_or, map, refl, take, Bor}
-use Rattle.reh_near.specs.Near.{Told, told_nearest}
+use Rattle.reh_near.specs.Near.{told_nearest}
 
 pub none : (names : List (Bor (List ℕ))) → length names < 1
     → told_nearest [] ≡ told_nearest (take 3 (map (λ name. name.now) names))

@@ -1,5 +1,5 @@
 -- The last row of the table is the distance.
-use Rattle.std.proofs.Common.{◌≡◌, ℕ, zero, suc, ◌+◌, ◌<◌, ◌≤◌, min, nat_eq, List, [], ◌∷◌, length, slice_index, arith, refl, sym, ap, ◌∙◌}
+use Rattle.std.proofs.Common.{◌≡◌, ℕ, zero, suc, ◌+◌, ◌<◌, ◌≤◌, nat_eq, List, [], ◌∷◌, length, slice_index, arith, refl, sym, ap, ◌∙◌}
 use Rattle.strsim.specs.Edits.{cost_at, next_row, rows, levenshtein_row}
 use Rattle.reh_near.specs.Distance.{cost, distance, distance_at}
 

@@ -1,5 +1,5 @@
 -- Which names are near a word that is none of them.
-use Rattle.std.specs.Prelude.{ℕ, ◌+◌, ◌*◌, ◌/◌, ◌==◌, ◌&&◌, not, max, nat_eq, nat_le, Bool, true, false, if◌then◌else◌, List, [], ◌∷◌, ◌++◌, length, take, filter, flat_map, codes}
+use Rattle.std.specs.Prelude.{ℕ, ◌+◌, ◌*◌, ◌==◌, ◌&&◌, ◌||◌, not, max, nat_eq, nat_le, Bool, if◌then◌else◌, List, [], ◌∷◌, ◌++◌, length, take, filter, flat_map, codes, slice_index}
 use Rattle.std.specs.List.{range_with_len, starts_with}
 use Rattle.reh_near.specs.declared.near.Near.{Near}
 use Rattle.reh_near.specs.declared.near.Near.TheVariants.{Longer, Nothing, One, Two, Three}
@@ -10,21 +10,29 @@ use Rattle.reh_near.specs.Distance.{distance}
 abbrev pub begins_with : List ℕ → List ℕ → Bool
 begins_with word name = not (length word == 0) && starts_with nat_eq name word
 
--- whether a name is near the word: no further than half the length of the longer one, of which neither has more than
--- 300 bytes
+-- whether only the port is missing: the name goes on with a colon, which is byte 58
+abbrev pub lacks_port : List ℕ → List ℕ → Bool
+lacks_port word name = begins_with word name && slice_index name (length word) == 58
+
+-- whether a name is near the word: it begins with it, or is no further than half the length of the longer one; neither has
+-- more than 300 bytes
 abbrev pub is_near : List ℕ → List ℕ → Bool
 is_near word name =
     nat_le (max (length word) (length name)) MAX_BYTES
-    && nat_le (distance word name * 2) (max (length word) (length name))
+    && (begins_with word name || nat_le (distance word name * 2) (max (length word) (length name)))
 
--- of these names those at one distance, in their order
+-- how late a near name is told: as far as it is from the word, but those of which only the port is missing come first
+abbrev pub rank_of : List ℕ → List ℕ → ℕ
+rank_of word name = if lacks_port word name then 0 else distance word name
+
+-- of these names those of one rank, in their order
 abbrev pub names_at : List ℕ → List (List ℕ) → ℕ → List (List ℕ)
-names_at word names d = filter (λ name. distance word name == d) names
+names_at word names r = filter (λ name. rank_of word name == r) names
 
--- the near names, nearest first: those at distance 0, then those at distance 1, and so on
+-- the near names, nearest first: those of rank 0, then those of rank 1, and so on
 abbrev pub near_first : List ℕ → List (List ℕ) → List (List ℕ)
 near_first word names =
-    flat_map (names_at word (filter (is_near word) names)) (range_with_len 0 (MAX_BYTES / 2 + 1))
+    flat_map (names_at word (filter (is_near word) names)) (range_with_len 0 (MAX_BYTES + 1))
 
 -- what is near: the one full name, or the nearest ones
 pub data Told : Type 0 where

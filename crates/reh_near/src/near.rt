@@ -2,7 +2,6 @@
 ghost use Rattle.std.specs.Prelude.{◌≡◌, ◌≢◌, ◌==◌, ◌++◌, ◌∷◌, [], All, length, map, max, take, Some, None, if◌then◌else◌, IfOk, MatchOption, OnOk};
 ghost use Rattle.std.specs.List.{filter};
 ghost use Rattle.std.specs.Option.{IsSomeAnd};
-ghost use Rattle.reh_near.specs.Distance.{distance as how_far};
 ghost use Rattle.reh_near.specs.Near as model;
 
 use crate::distances::distance_of;
@@ -28,16 +27,17 @@ pub enum Near<'a> {
     Three(&'a str, &'a str, &'a str),
 }
 
-/// A near name, and how far it is from the word.
+/// A near name, and how late it is told.
 #[derive(Clone, Copy)]
 struct Candidate<'a> {
     name: &'a str,
-    distance: usize,
+    rank: usize,
 }
 
 /// What is near a word among names: the one name that begins with it, where exactly one does; else the three names at the
-/// least distance, the nearest first, and those at the same distance in the order of the names. A name is near if at most
-/// half as many bytes have to be put in, taken out or replaced as the longer of both has, of at most 300 bytes.
+/// least distance, the nearest first, and those at the same distance in the order of the names. Names of which only the
+/// port is missing stand before them. A name is near if it begins with the word, or if at most half as many bytes have to
+/// be put in, taken out or replaced as the longer of both has, of at most 300 bytes.
 pub fn near_to<'a>(alloc: Global, names: &[&'a str], word: &[u8]) -> Result<Near<'a>, AllocError>
     ensures { IfOk result (λ near. model.told near
         ≡ model.near_to (map (λ name. name.now) names.now) word.now) }
@@ -96,13 +96,13 @@ fn near_first<'a>(alloc: Global, names: &[&'a str], word: &[u8]) -> Result<Vec<&
 {
     let candidates = candidates(alloc, names, word)?;
     let mut near = Vec::new(alloc);
-    for distance in 0..MAX_BYTES / 2 + 1 {
-        push_at(&mut near, &candidates, distance)?;
+    for rank in 0..MAX_BYTES + 1 {
+        push_at(&mut near, &candidates, rank)?;
     }
     Ok(near)
 }
 
-/// The near names in their order, each with its distance.
+/// The near names in their order, each with its rank.
 fn candidates<'a>(
     alloc: Global,
     names: &[&'a str],
@@ -110,44 +110,54 @@ fn candidates<'a>(
 ) -> Result<Vec<Candidate<'a>>, AllocError>
     ensures names { IfOk result (λ near. map (λ c. c.name.now) near.items
         ≡ filter (model.is_near word.now) (map (λ name. name.now) names.now)) }
-    ensures distances { IfOk result (λ near. All (λ c. c.distance ≡ how_far word.now c.name.now) near.items) }
+    ensures ranks { IfOk result (λ near. All (λ c. c.rank ≡ model.rank_of word.now c.name.now) near.items) }
 {
     let mut near = Vec::new(alloc);
     for name in names {
-        if let Some(distance) = near_distance(alloc, word, name.as_bytes())? {
-            near.push(Candidate { name, distance })?;
+        if let Some(rank) = near_rank(alloc, word, name)? {
+            near.push(Candidate { name, rank })?;
         }
     }
     Ok(near)
 }
 
-/// How far a name is from the word, if it is near.
-fn near_distance(alloc: Global, word: &[u8], name: &[u8]) -> Result<Option<usize>, AllocError>
-    ensures { IfOk result (λ distance. distance
-        ≡ (if model.is_near word.now name.now then Some (how_far word.now name.now) else None)) }
+/// How late a name is told, if it is near the word.
+fn near_rank(alloc: Global, word: &[u8], name: &str) -> Result<Option<usize>, AllocError>
+    ensures { IfOk result (λ rank. rank
+        ≡ (if model.is_near word.now name.now then Some (model.rank_of word.now name.now) else None)) }
 {
     let longer = word.len().max(name.len());
     if longer > MAX_BYTES {
         return Ok(None);
     }
-    let distance = distance_of(alloc, word, name)?;
-    if distance <= longer / 2 {
-        return Ok(Some(distance));
+    let distance = distance_of(alloc, word, name.as_bytes())?;
+    if !begins_with(name, word) && distance > longer / 2 {
+        return Ok(None);
     }
-    Ok(None)
+    if lacks_port(name, word) {
+        return Ok(Some(0));
+    }
+    Ok(Some(distance))
 }
 
-/// Adds the names of the candidates at this distance.
+/// Whether only the port is missing: the name begins with the word, and goes on with a colon.
+fn lacks_port(name: &str, word: &[u8]) -> bool
+    ensures { result ≡ model.lacks_port word.now name.now }
+{
+    begins_with(name, word) && name.as_bytes().get(word.len()) == Some(&b':')
+}
+
+/// Adds the names of the candidates of this rank.
 fn push_at<'a>(
     near: &mut Vec<&'a str>,
     candidates: &[Candidate<'a>],
-    distance: usize,
+    rank: usize,
 ) -> Result<(), AllocError>
     ensures { OnOk result (map (λ name. name.now) near.new.items ≡ map (λ name. name.now) near.old.items
-        ++ map (λ c. c.name.now) (filter (λ c. c.distance == distance) candidates.now)) }
+        ++ map (λ c. c.name.now) (filter (λ c. c.rank == rank) candidates.now)) }
 {
     for candidate in candidates {
-        if candidate.distance == distance {
+        if candidate.rank == rank {
             near.push(candidate.name)?;
         }
     }
