@@ -42,7 +42,7 @@ use reh_crew::{OpenGate, Plain};
 use reh_drill::drill_over;
 use reh_script::{FromRead, Gathered, TextOut, ToWrite, pipe};
 use reh_words::{Crew, DrillFiles, PlayWords, Prints, Request, Task, request_of};
-use runs::run_by;
+use runs::{run_by, tell_unbegun};
 use std::process::ExitCode;
 use std::sync::Wait;
 use std::thread::Threads;
@@ -180,7 +180,11 @@ fn talk<R: Threads + Wait + Sync, W: TextOut>(
 ) -> Result<(), RunFault>
     requires { W.has_failed writer.old ≡ false }
 {
-    let mut picture = FromRead::new(open_file(rt, picture).map_err(RunFault::without_reason)?);
+    let file = match open_file(rt, picture) {
+        Ok(file) => file,
+        Err(fault) => return Err(tell_unbegun(prints, fault.without_reason(), writer)),
+    };
+    let mut picture = FromRead::new(file);
     let mut script = Typed::new(rt, looks, FromRead::new(rt.reader()));
     let crew = Crew { workers: 1 };
     run_by(
@@ -207,7 +211,11 @@ fn run_files<R: Threads + Wait + Sync, W: TextOut>(
 ) -> Result<(), RunFault>
     requires { W.has_failed writer.old ≡ false }
 {
-    let mut picture = FromRead::new(open_file(rt, picture).map_err(RunFault::without_reason)?);
+    let file = match open_file(rt, picture) {
+        Ok(file) => file,
+        Err(fault) => return Err(tell_unbegun(prints, fault.without_reason(), writer)),
+    };
+    let mut picture = FromRead::new(file);
     let mut script = LateFile::new(rt, script);
     let played = run_by(
         threads,

@@ -9,7 +9,7 @@ use crate::colors::Colored;
 use crate::faults::{RunFault, after_flush};
 use crate::files::{LateFile, read_picture, unwritten};
 use crate::looks::Looks;
-use crate::runs::play_opened;
+use crate::runs::{play_opened, tell_unbegun};
 use reh_cluster::State;
 use reh_picture::{Holding, Listed, PictureFault, list_picture};
 use reh_picture_out::{Unshown, picture_text};
@@ -32,11 +32,25 @@ pub(crate) fn run_out<R: Threads + Wait + Sync>(
     looks: Looks,
     words: &PlayOut<'_>,
 ) -> Result<(), RunFault> {
-    let bytes = read_picture(rt, words.picture).map_err(RunFault::without_reason)?;
-    let mut rehearsal = open_rehearsal(rt.alloc(), &bytes)?;
-    let began = list_picture(rt.alloc(), &bytes)?;
+    let (mut rehearsal, began) = match begin(rt, words.picture) {
+        Ok(begun) => begun,
+        Err(fault) => {
+            let mut writer = ToWrite::new(io::writer(rt));
+            return Err(tell_unbegun(words.prints, fault, &mut writer));
+        }
+    };
     play_out(rt, threads, looks, words, &mut rehearsal)?;
     write_end(rt, looks, words, state_at_end(&rehearsal), &began)
+}
+
+/// Reads a picture, opens a book on it, and judges its marks. No ticket is out.
+fn begin(rt: &HostRuntime, picture: &str) -> Result<(Opened, Listed), RunFault>
+    ensures { IfOk result (λ begun. length begun.0.book.book.out ≡ begun.0.seat.out) }
+{
+    let bytes = read_picture(rt, picture).map_err(RunFault::without_reason)?;
+    let rehearsal = open_rehearsal(rt.alloc(), &bytes)?;
+    let began = list_picture(rt.alloc(), &bytes)?;
+    Ok((rehearsal, began))
 }
 
 /// Plays a script file at the book of a picture, to standard output.

@@ -1,15 +1,18 @@
 // Runs whose surveys may be made by several workers.
-ghost use Rattle.std.specs.Prelude.{◌≡◌, ◌⊎◌, false, length, IfOk, OnOk};
+ghost use Rattle.std.specs.Prelude.{◌≡◌, ◌⊎◌, false, length, IfOk, OnOk, Some, Err};
 ghost use Rattle.reh_model.specs.Survey as model;
 ghost use Rattle.reh_crew.specs.Surveys.{FindsSurvey};
 ghost use Rattle.reh_script.specs.Pipes.{loses_output};
-ghost use Rattle.rehearse.specs.Runs.{RunsBy, IsInTime, PlaysBy};
+ghost use Rattle.reh_script.specs.AsJson.{end_text};
+ghost use Rattle.rehearse.specs.Runs.{RunsBy, IsInTime, PlaysBy, TellsUnbegun, unbegun_text};
 
+use crate::faults::RunFault;
 use reh_cluster::State;
 use reh_crew::{BySurvey, OpenGate, Plain, SurveyFault, SurveyLine, Surveyor, Threads};
+use reh_picture::PictureFault;
 use reh_script::{
-    AsJson, Opened, PipeFault, TextIn, TextOut, WithChanges, pipe_end, play_book, play_by, run,
-    run_as_json, run_printing, tell_end,
+    AsJson, Opened, PipeFault, PlayFault, TextIn, TextOut, WithChanges, pipe_end, play_book,
+    play_by, run, run_as_json, run_printing, tell_end,
 };
 use reh_words::{Crew, Prints};
 use std::alloc::Global;
@@ -142,6 +145,33 @@ fn play_as<V: Surveyor, R: TextIn, W: TextOut>(
             let end = play_by(alloc, book, seat, names, surveyor, &printer, script, writer);
             tell_end(pipe_end(end), writer)
         }
+    }
+}
+
+/// The fault with which a run ends that can't begin. A stream of JSON says so in its one object; where that isn't written,
+/// the run ends with a write fault.
+pub(crate) fn tell_unbegun<W: TextOut>(prints: Prints, fault: RunFault, writer: &mut W) -> RunFault
+    requires { W.has_failed writer.old ≡ false }
+    ensures { TellsUnbegun prints fault result (W.contents writer.old) (W.contents writer.new) }
+{
+    match prints {
+        Prints::Answers | Prints::Changes => fault,
+        Prints::Json => match tell_end(Err(unbegun(&fault)), writer) {
+            Err(PipeFault::Play(PlayFault::WriteFault)) => RunFault::WriteFault,
+            _ => fault,
+        },
+    }
+}
+
+/// A fault before a run can begin as one of the run's with the same last object, which doesn't tell what is wrong with a
+/// picture.
+fn unbegun(fault: &RunFault) -> PipeFault
+    ensures { end_text (Err result) ≡ Some (unbegun_text fault.now) }
+{
+    match fault {
+        RunFault::Picture(_) | RunFault::Refused(..) => PipeFault::Picture(PictureFault::NotJson),
+        RunFault::NoMemory => PipeFault::Play(PlayFault::NoMemory),
+        _ => PipeFault::Play(PlayFault::ReadFault),
     }
 }
 
