@@ -1,7 +1,8 @@
 // Help on scripts and refusals.
 use crate::faults::RunFault;
 use crate::files::write_out;
-use reh_help::{command_page, refusal_page, refusals_page, script_page};
+use reh_commands::Verb;
+use reh_help::{command_page, refusal_page, refusals_page, script_page, topic_named};
 use reh_words::HelpTopic;
 use std::alloc::{AllocError, Global};
 
@@ -9,6 +10,61 @@ use std::alloc::{AllocError, Global};
 pub(crate) fn help_on(rt: &HostRuntime, topic: &HelpTopic<'_>) -> Result<(), RunFault> {
     let page = page_on(rt.alloc(), topic)?;
     write_out(rt, page.as_bytes())
+}
+
+/// Shows on standard error the page that a line which was typed asks for, if it asks for help.
+pub(crate) fn say_help(rt: &HostRuntime, line: &[u8]) {
+    let Some(topic) = topic_in(line) else {
+        return;
+    };
+    match page_on(rt.alloc(), &topic) {
+        Ok(page) => {
+            let _ = eprint!(rt; "{page}");
+        }
+        Err(fault) => {
+            let _ = eprintln!(rt; "{fault}");
+        }
+    }
+}
+
+/// The topic that a line asks for, by the word `help` and at most one more, also in a comment: without one, the commands.
+fn topic_in(line: &[u8]) -> Option<HelpTopic<'_>> {
+    let Ok(text) = str::from_utf8(line) else {
+        return None;
+    };
+    let mut words = text.split_whitespace();
+    let first = words.next()?;
+    let asks = if first == "#" {
+        words.next()?
+    } else {
+        first.strip_prefix("#").unwrap_or(first)
+    };
+    if asks != "help" {
+        return None;
+    }
+    match (words.next(), words.next()) {
+        (None, _) => Some(HelpTopic::Script),
+        (Some(word), None) => Some(topic_of(word)),
+        (Some(_), Some(_)) => None,
+    }
+}
+
+/// What a word asks for: it names a table, a refusal or a command, or nothing.
+fn topic_of(word: &str) -> HelpTopic<'_> {
+    match word {
+        "script" => return HelpTopic::Script,
+        "refusals" => return HelpTopic::Refusals,
+        _ => {}
+    }
+    if let Some(topic) = topic_named(word) {
+        return HelpTopic::Refusal(topic);
+    }
+    for verb in Verb::all() {
+        if verb.name() == word {
+            return HelpTopic::Command(verb);
+        }
+    }
+    HelpTopic::Unknown(word)
 }
 
 /// The page of a topic, or that there is none.

@@ -1,12 +1,13 @@
 // What is shown to whoever types.
 ghost use Rattle.std.specs.Prelude.{◌≡◌};
 
+use crate::helps::say_help;
 use crate::looks::Looks;
 use reh_script::{StreamFault, TextIn};
 use std::io::IsTerminal;
 
-/// A script on standard input. Before each line a prompt is shown on standard error, where both are terminals and
-/// more than faults is said.
+/// A script on standard input. Before each line a prompt is shown on standard error, and help after a line that asks for it,
+/// where both are terminals and more than faults is said.
 #[derive(Drop)]
 pub(crate) struct Typed<'a, R: TextIn> {
     rt: &'a HostRuntime,
@@ -36,6 +37,16 @@ impl<'a, R: TextIn> Typed<'a, R> {
         }
     }
 
+    /// Shows help, if what was taken is a line that asks for it.
+    fn help(&self, taken: Result<usize, StreamFault>, buffer: &[u8]) {
+        if !self.is_prompted || !self.begins_line || !ends_line(taken, buffer) {
+            return;
+        }
+        if let Some(line) = buffer.get(..taken.unwrap_or(0)) {
+            say_help(self.rt, line);
+        }
+    }
+
     /// Ends the line on which the prompt is.
     fn end_line(&self) {
         if self.is_prompted {
@@ -59,6 +70,7 @@ impl<R: TextIn> TextIn for Typed<'_, R> {
         if taken.unwrap_or(0) == 0 {
             self.end_line();
         }
+        self.help(taken, buffer);
         self.begins_line = ends_line(taken, buffer);
         taken
     }
