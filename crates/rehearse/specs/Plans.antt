@@ -79,9 +79,17 @@ PrintsPlan false false true p text =
     text ≡ text_of (runbook_lines p.plan.state.names p.plan.lines p.summary.unreadable)
 PrintsPlan false false false p text = lines_of text ≡ p.plan.lines
 
--- the status of a plan as these words ask, of some picture: 0 where nothing is left and no entry is lost, else 8
-pub record IsStatus (words : PlanWords) (status : ℕ) : Type 0 where
+-- a plan as these words ask, for some picture
+pub record IsPlanned (words : PlanWords) (p : Planned) : Type 0 where
   pub bytes : List ℕ
+  pub planned : IsPlanFor bytes words p
+
+-- 0 where nothing is left and no entry is lost, else 8
+abbrev pub status_of : Planned → ℕ
+status_of p = if is_whole p.summary then 0 else 8
+
+-- the status of such a plan
+pub record IsStatus (words : PlanWords) (status : ℕ) : Type 0 where
   pub planned : Planned
-  pub is_planned : IsPlanFor bytes words planned
-  pub is_status : status ≡ (if is_whole planned.summary then 0 else 8)
+  pub is_planned : IsPlanned words planned
+  pub is_status : status ≡ status_of planned

@@ -7,19 +7,26 @@ use crate::files::{open_file, write_out};
 use crate::inputs::unfit;
 use crate::inventories::{read_line, reader_of, refused};
 use crate::looks::Looks;
+use crate::progress::Teller;
 use reh_cut::{Assume, ChosenLedgers, CutFault};
 use reh_near::{Near, near_to};
 use reh_words::CutWords;
 use std::alloc::{AllocError, Global};
 use std::io::{BufReader, Read};
+use std::sync::Wait;
+use std::thread;
 
 /// Says to standard output what the picture is, and to standard error if it may show only a part of a ledger.
-pub(crate) fn cut_over(
+pub(crate) fn cut_over<R: thread::Threads + Wait + Copy + Send + 'static>(
     rt: &HostRuntime,
+    threads: &R,
     looks: Looks,
     words: &CutWords<'_>,
 ) -> Result<(), RunFault> {
-    let mut text = cut_of(rt, words)?;
+    let teller = Teller::begin(rt, threads, looks, 1);
+    let cut = cut_of(rt, words);
+    teller.end(threads);
+    let mut text = cut?;
     text.push('\n')?;
     write_out(rt, text.as_bytes())?;
     if words.window.is_some() && !looks.is_quiet {

@@ -94,8 +94,8 @@ fn perform<R: Threads + Wait + Sync + Copy + Send + 'static>(
         Task::Waves(words) => waves_over(rt, threads, looks, &words),
         Task::Risk(words) => risk_over(rt, threads, looks, &words),
         Task::Census(words) => census_over(rt, threads, looks, &words),
-        Task::Cut(words) => cut_over(rt, looks, &words),
-        Task::Plan(words) => match plan_file(rt, &words) {
+        Task::Cut(words) => cut_over(rt, threads, looks, &words),
+        Task::Plan(words) => match plan_file(rt, threads, looks, &words) {
             Ok(status) => return ExitCode::from(status),
             Err(fault) => Err(fault),
         },

@@ -11,21 +11,55 @@ use crate::afters::text_after;
 use crate::faults::RunFault;
 use crate::files::{read_picture, write_out};
 use crate::inputs::unfit;
+use crate::looks::Looks;
 use crate::names::{named_twice, unknown};
+use crate::progress::{Progress, Teller};
 use reh_cluster::{Names, State};
 use reh_picture::{BookieMarks, check_picture, list_picture};
 use reh_plan::{PlanFault, Planned, Racks, find_bookies, first_unknown, plan, plan_json, runbook};
 use reh_types::{BookieIx, BookieSet, MAX_BOOKIES};
 use reh_words::PlanWords;
 use std::alloc::{AllocError, Global};
+use std::sync::Wait;
+use std::thread;
 
 /// Writes the plan to standard output, as a script or a runbook, or what it comes to, as text or JSON; and gives the status.
-pub(crate) fn plan_file(rt: &HostRuntime, words: &PlanWords<'_>) -> Result<u8, RunFault>
+pub(crate) fn plan_file<R: thread::Threads + Wait + Copy + Send + 'static>(
+    rt: &HostRuntime,
+    threads: &R,
+    looks: Looks,
+    words: &PlanWords<'_>,
+) -> Result<u8, RunFault>
     ensures { IfOk result (model.IsStatus words.now) }
 {
-    let bytes = picture_bytes(rt, words)?;
-    let planned = plan_of(rt.alloc(), &bytes, words)?;
-    let text = printed(rt.alloc(), &planned, words)?;
+    let teller = Teller::begin(rt, threads, looks, files_of(words));
+    let planned = planned_by(rt, words, &teller.progress);
+    teller.end(threads);
+    write_plan(rt, words, &planned?)
+}
+
+/// How many files are read.
+fn files_of(words: &PlanWords<'_>) -> usize {
+    if words.after.is_some() { 2 } else { 1 }
+}
+
+/// The plan that is asked for.
+fn planned_by(
+    rt: &HostRuntime,
+    words: &PlanWords<'_>,
+    progress: &Progress,
+) -> Result<Planned, RunFault>
+    ensures { IfOk result (model.IsPlanned words.now) }
+{
+    let bytes = picture_bytes(rt, words, progress)?;
+    plan_of(rt.alloc(), &bytes, words)
+}
+
+/// Writes a plan as it is asked for, and gives the status.
+fn write_plan(rt: &HostRuntime, words: &PlanWords<'_>, planned: &Planned) -> Result<u8, RunFault>
+    ensures { IfOk result (λ status. status ≡ model.status_of planned.now) }
+{
+    let text = printed(rt.alloc(), planned, words)?;
     write_out(rt, &text)?;
     Ok(planned.summary.status())
 }
@@ -74,14 +108,21 @@ fn fewer_line(alloc: Global, fewer: usize) -> Result<String, AllocError>
 }
 
 /// The bytes of the picture; or of the picture of the state to which a script leads from it.
-fn picture_bytes(rt: &HostRuntime, words: &PlanWords<'_>) -> Result<Vec<u8>, RunFault> {
-    match words.after {
-        None => read_picture(rt, words.picture),
+fn picture_bytes(
+    rt: &HostRuntime,
+    words: &PlanWords<'_>,
+    progress: &Progress,
+) -> Result<Vec<u8>, RunFault> {
+    let bytes = match words.after {
+        None => read_picture(rt, words.picture)?,
         Some(script) => {
             let text = text_after(rt, words.picture, script)?;
-            Ok(text.into_bytes())
+            progress.count();
+            text.into_bytes()
         }
-    }
+    };
+    progress.count();
+    Ok(bytes)
 }
 
 /// The plan for the picture of these bytes.
