@@ -140,6 +140,14 @@ def entries_of(cluster: Cluster, ledger: Ledger, question: Question) -> Iterator
             yield entry_of(cluster, ledger, write_set(ledger, ensemble, entry), entry, question)
 
 
+# The entries of each ledger, by its id: those that are alike, and how many there are of them.
+Counted = Dict[int, List[Tuple[Entry, int]]]
+
+
+def counted_of(cluster: Cluster, question: Question) -> Counted:
+    return {ledger.id: list(Counter(entries_of(cluster, ledger, question)).items()) for ledger in cluster.ledgers}
+
+
 def copies_to_keep(question: Question, ack: int) -> int:
     """At least one copy is kept, whatever is asked."""
     return max(1, {"ack": ack, "ack-1": ack - 1}[question.keep] if "ack" in question.keep else int(question.keep))
@@ -292,11 +300,11 @@ class Numbers(NamedTuple):
     disks: int
 
 
-def numbers_of(cluster: Cluster, ledgers: List[Ledger], question: Question) -> Numbers:
+def numbers_of(cluster: Cluster, ledgers: List[Ledger], question: Question, counted: Counted) -> Numbers:
     """The numbers of all rules, of these ledgers alone."""
     no, unknown, disks = Counter(dict.fromkeys(RULES, 0)), Counter(), 0
     for ledger in ledgers:
-        for entry, count in Counter(entries_of(cluster, ledger, question)).items():
+        for entry, count in counted[ledger.id]:
             disks += count * may_be_on_disks(cluster, entry, question)
             for rule, broken in (
                 ("readable", [is_lost(copies, question) for copies in completions(entry)]),
@@ -323,6 +331,19 @@ def verdict_of(numbers: Numbers) -> Tuple[str, Optional[str], int]:
     return "yes", None, 0
 
 
+def whole_numbers(cluster: Cluster, question: Question, counted: Counted) -> Numbers:
+    """The numbers of all ledgers, and of new ones."""
+    numbers = numbers_of(cluster, cluster.ledgers, question, counted)
+    numbers.no["writable"] += new_ledgers(cluster, question)
+    return numbers
+
+
+def rules_of(numbers: Numbers) -> Dict[str, object]:
+    """The numbers as JSON shows them."""
+    rules: Dict[str, object] = {name: {"no": numbers.no[name], "unknown": numbers.unknown[name]} for name in RULES[:2]}
+    return {**rules, **{name: numbers.no[name] for name in RULES[2:]}, "disks": numbers.disks}
+
+
 def weight_of(numbers: Numbers, verdict: str, rule: Optional[str]) -> int:
     """How much of a ledger speaks for the verdict."""
     if rule == "disks":
@@ -330,18 +351,18 @@ def weight_of(numbers: Numbers, verdict: str, rule: Optional[str]) -> int:
     return {"no": numbers.no, "unknown": numbers.unknown, "yes": Counter()}[verdict][rule]
 
 
-def against(cluster: Cluster, question: Question, verdict: str, rule: Optional[str]) -> List[Tuple[int, int]]:
+def against(cluster: Cluster, question: Question, counted: Counted, verdict: str, rule: Optional[str]) -> List[Tuple[int, int]]:
     """The ten worst ledgers, each with how many of its entries speak against a stop."""
-    weights = [(weight_of(numbers_of(cluster, [ledger], question), verdict, rule), ledger.id) for ledger in cluster.ledgers]
+    numbers = [(numbers_of(cluster, [ledger], question, counted), ledger.id) for ledger in cluster.ledgers]
+    weights = [(weight_of(those, verdict, rule), number) for those, number in numbers]
     worst = sorted((-weight, number) for weight, number in weights if weight)[:10]
     return [(number, -weight if rule in ("readable", "kept", "disks") else 0) for weight, number in worst]
 
 
-def notes_of(cluster: Cluster, question: Question) -> List[str]:
+def notes_of(cluster: Cluster, question: Question, counted: Counted) -> List[str]:
     up = {name for name in question.stopped if cluster.bookies[name].is_up}
     notes = [f"{name} is not registered" for name in sorted(question.stopped - up)]
-    entries = [entry for ledger in cluster.ledgers for entry in entries_of(cluster, ledger, question)]
-    nowhere = sum(not entry.known and not entry.untold for entry in entries)
+    nowhere = sum(count for alike in counted.values() for entry, count in alike if not entry.known and not entry.untold)
     if nowhere:
         notes.append(f"{nowhere} {'entry' if nowhere == 1 else 'entries'} can't be read already, with or without this stop")
     if any(ledger.state == "OPEN" and up & set(ledger.fragments[-1][1]) for ledger in cluster.ledgers):
@@ -374,33 +395,36 @@ def unasked_notes(cluster: Cluster, question: Question) -> List[str]:
     return notes
 
 
-def answer_of(cluster: Cluster, question: Question) -> Dict[str, object]:
-    """The answer as JSON shows it; of what speaks against a stop, the ledgers and entries alone."""
-    entries = [entry for ledger in cluster.ledgers for entry in entries_of(cluster, ledger, question)]
-    numbers = numbers_of(cluster, cluster.ledgers, question)
-    numbers.no["writable"] += new_ledgers(cluster, question)
-    verdict, rule, count = verdict_of(numbers)
-    columns = range(max((len(entry.known) for entry in entries), default=0) + 1)
-    now = Counter(len(entry.known) for entry in entries)
-    without = Counter(len(entry.known - question.stopped) for entry in entries)
-    rules: Dict[str, object] = {name: {"no": numbers.no[name], "unknown": numbers.unknown[name]} for name in RULES[:2]}
-    rules.update({name: numbers.no[name] for name in RULES[2:]}, disks=numbers.disks)
+def answer_of(cluster: Cluster, question: Question, counted: Optional[Counted] = None) -> Dict[str, object]:
+    """The answer as JSON shows it; of what speaks against a stop, the ledgers and entries alone. Who counts the entries
+    otherwise than one by one gives what was counted."""
+    counted = counted_of(cluster, question) if counted is None else counted
+    numbers = whole_numbers(cluster, question, counted)
+    verdict, rule, named = verdict_of(numbers)
+    entries: Counter = Counter()
+    now: Counter = Counter()
+    without: Counter = Counter()
+    for entry, count in (pair for alike in counted.values() for pair in alike):
+        entries[entry] += count
+        now[len(entry.known)] += count
+        without[len(entry.known - question.stopped)] += count
+    columns = range(max(now, default=0) + 1)
     return {
         "verdict": verdict,
         "rule": rule,
-        "count": count,
-        "rules": rules,
+        "count": named,
+        "rules": rules_of(numbers),
         "judged": {
             "ledgers": len(cluster.ledgers),
-            "entries": len(entries),
-            "assumed": sum(entry.is_assumed for entry in entries),
-            "unknown": sum(bool(entry.untold) for entry in entries),
+            "entries": sum(entries.values()),
+            "assumed": sum(count for entry, count in entries.items() if entry.is_assumed),
+            "unknown": sum(count for entry, count in entries.items() if entry.untold),
             "unread": 0,
             "missing": 0,
             "announced": None,
             "taken": None,
         },
         "copies": {"now": [now[number] for number in columns], "without": [without[number] for number in columns]},
-        "against": against(cluster, question, verdict, rule),
-        "notes": notes_of(cluster, question),
+        "against": against(cluster, question, counted, verdict, rule),
+        "notes": notes_of(cluster, question, counted),
     }
