@@ -1,9 +1,25 @@
-"""Random inventories, for the checks that judge what the program makes of them."""
+"""Random inventories, and the one of a picture, for the checks that judge what the program makes of them."""
 
 import random
 from typing import Dict, List, Set
 
 Json = Dict[str, object]
+
+
+def as_inventory(picture: Json) -> List[Json]:
+    """The inventory of a picture's cluster."""
+    ledgers = picture["ledgers"]
+    delay = picture["lostDelayTicks"] if picture["format"] == 2 else 0
+    lines: List[Json] = [{"inventory": 1, "grace": picture["grace"], "lostDelayTicks": delay, "bookies": picture["bookies"]}]
+    for ledger in ledgers:
+        contents = [
+            {key: value for key, value in content.items() if key != "ledger"}
+            for content in picture["contents"]
+            if content["ledger"] == ledger["id"]
+        ]
+        lines.append({**ledger, "contents": contents})
+    return [*lines, {"end": True, "ledgers": len(ledgers)}]
+
 
 def some_ranges(rng: random.Random, end: int) -> List[List[int]]:
     """Some ranges of entries, each past the one before it, of which the last may go past the end."""
