@@ -1,4 +1,4 @@
-"""What has to be answered where bookies are to be stopped: a plain reference, entry by entry and over every completion.
+"""What has to be answered where bookies are to be stopped, and by waves and risk: a plain reference, entry by entry and over every completion.
 
 A completion of an entry says of each bookie of which nobody told whether it holds the entry. The ledgers' rules are asked
 write set by write set. Nothing here is counted by ranges.
@@ -427,4 +427,70 @@ def answer_of(cluster: Cluster, question: Question, counted: Optional[Counted] =
         "copies": {"now": [now[number] for number in columns], "without": [without[number] for number in columns]},
         "against": against(cluster, question, counted, verdict, rule),
         "notes": notes_of(cluster, question, counted),
+    }
+
+
+# Waves and risk.
+
+
+def up_bookies(cluster: Cluster) -> List[str]:
+    return sorted(name for name, bookie in cluster.bookies.items() if bookie.is_up)
+
+
+def waves_of(cluster: Cluster, question: Question, are_in_racks: bool) -> Dict[str, object]:
+    """The rounds as JSON shows them: each bookie is in the first one that may be stopped together with it."""
+    counted = counted_of(cluster, question)
+
+    def verdict_on(names: Set[str]) -> Tuple[str, Optional[str], int]:
+        return verdict_of(whole_numbers(cluster, question._replace(stopped=frozenset(names)), counted))
+
+    def may_join(name: str, round: List[str]) -> bool:
+        rack = cluster.bookies[name].rack
+        is_of_rack = rack is not None and rack == cluster.bookies[round[0]].rack
+        return (is_of_rack or not are_in_racks) and verdict_on({name, *round})[0] == "yes"
+
+    rounds: List[List[str]] = []
+    alone: List[Dict[str, object]] = []
+    for name in up_bookies(cluster):
+        verdict, rule, count = verdict_on({name})
+        joined = [round for round in rounds if verdict == "yes" and may_join(name, round)]
+        if verdict != "yes":
+            alone.append({"bookie": name, "verdict": verdict, "rule": rule, "count": count})
+        elif joined:
+            joined[0].append(name)
+        else:
+            rounds.append([name])
+    return {"waves": rounds, "alone": alone}
+
+
+def losses(cluster: Cluster, question: Question, counted: Counted, lost: List[Tuple[Dict[str, object], Set[str]]]) -> List[object]:
+    """What each of these losses breaks, as JSON shows it: the worst first, by what is broken in the order of the rules, and then
+    by what nobody knows."""
+    weighed = []
+    for named, stopped in lost:
+        numbers = whole_numbers(cluster, question._replace(stopped=frozenset(stopped)), counted)
+        broken = [*(numbers.no[rule] for rule in RULES), *(numbers.unknown[rule] for rule in RULES[:2]), numbers.disks]
+        weighed.append(([-number for number in broken], {**named, "rules": rules_of(numbers)}))
+    return [shown for _, shown in sorted(weighed, key=lambda pair: pair[0])]
+
+
+def risk_of(cluster: Cluster, question: Question) -> Dict[str, object]:
+    """What the next losses cost, as JSON shows it, with each two bookies."""
+    counted = counted_of(cluster, question)
+    copies = [len(entry.known) for alike in counted.values() for entry, _ in alike if entry.known]
+    # An acknowledged entry may lack a copy on as many members of its write set as needn't have acknowledged it.
+    acknowledged = [
+        max(0, sum(cluster.bookies[name].is_up and not cluster.bookies[name].is_empty for name in members) - ledger.write + ledger.ack)
+        for ledger in cluster.ledgers if ledger.state != "CLOSED" for members in write_sets(ledger)
+    ]
+    up = up_bookies(cluster)
+    racks = sorted({bookie.rack for bookie in cluster.bookies.values()} - {None})
+    of_rack = {rack: {name for name, bookie in cluster.bookies.items() if bookie.rack == rack} for rack in racks}
+    return {
+        "fewest_copies": min(copies, default=None),
+        "fewest_copies_not_closed": min(acknowledged, default=None),
+        "not_judged": 0,
+        "bookies": losses(cluster, question, counted, [({"bookie": name}, {name}) for name in up]),
+        "racks": losses(cluster, question, counted, [({"rack": rack}, of_rack[rack]) for rack in racks]),
+        "pairs": losses(cluster, question, counted, [({"bookies": list(pair)}, set(pair)) for pair in combinations(up, 2)]),
     }
