@@ -1,4 +1,5 @@
-"""What has to be answered where bookies are to be stopped, and by waves and risk: a plain reference, entry by entry and over every completion.
+"""What has to be answered where bookies are to be stopped, and by waves and risk: a plain reference, entry by entry and over
+every completion.
 
 A completion of an entry says of each bookie of which nobody told whether it holds the entry. The ledgers' rules are asked
 write set by write set. Nothing here is counted by ranges.
@@ -463,9 +464,13 @@ def waves_of(cluster: Cluster, question: Question, are_in_racks: bool) -> Dict[s
     return {"waves": rounds, "alone": alone}
 
 
-def losses(cluster: Cluster, question: Question, counted: Counted, lost: List[Tuple[Dict[str, object], Set[str]]]) -> List[object]:
-    """What each of these losses breaks, as JSON shows it: the worst first, by what is broken in the order of the rules, and then
-    by what nobody knows."""
+# What is lost, as JSON names it, and its bookies.
+Lost = Tuple[Dict[str, object], Set[str]]
+
+
+def losses(cluster: Cluster, question: Question, counted: Counted, lost: List[Lost]) -> List[object]:
+    """What each of these losses breaks, as JSON shows it: the worst first, by what is broken in the order of the rules, and
+    then by what nobody knows."""
     weighed = []
     for named, stopped in lost:
         numbers = whole_numbers(cluster, question._replace(stopped=frozenset(stopped)), counted)
@@ -478,9 +483,10 @@ def risk_of(cluster: Cluster, question: Question) -> Dict[str, object]:
     """What the next losses cost, as JSON shows it, with each two bookies."""
     counted = counted_of(cluster, question)
     copies = [len(entry.known) for alike in counted.values() for entry, _ in alike if entry.known]
+    full = {name for name, bookie in cluster.bookies.items() if bookie.is_up and not bookie.is_empty}
     # An acknowledged entry may lack a copy on as many members of its write set as needn't have acknowledged it.
     acknowledged = [
-        max(0, sum(cluster.bookies[name].is_up and not cluster.bookies[name].is_empty for name in members) - ledger.write + ledger.ack)
+        max(0, len(members & full) - (ledger.write - ledger.ack))
         for ledger in cluster.ledgers if ledger.state != "CLOSED" for members in write_sets(ledger)
     ]
     up = up_bookies(cluster)
