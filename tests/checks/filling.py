@@ -7,8 +7,9 @@ import importlib.util
 import os
 import socket
 import subprocess
+import sys
 import time
-from typing import Any, Dict, List, NamedTuple, Optional, Tuple
+from typing import Any, Dict, Iterable, List, NamedTuple, Optional, Tuple
 
 import zookeeper
 
@@ -90,12 +91,14 @@ def path_of(number: int) -> str:
     return f"{digits[:3]}/{digits[3:7]}/{digits[7:11]}/{digits[11:15]}/L{digits[15:]}"
 
 
+def are_there() -> bool:
+    """Whether the packages are there."""
+    folder = os.path.join(zookeeper.DEBIAN_MODULES, "kazoo")
+    return os.path.exists(SERVER) and (os.path.isdir(folder) or importlib.util.find_spec("kazoo") is not None)
+
+
 def need_packages() -> Optional[str]:
     """Installs the packages where that is possible, and returns why this check is left out, if it is."""
-    def are_there() -> bool:
-        folder = os.path.join(zookeeper.DEBIAN_MODULES, "kazoo")
-        return os.path.exists(SERVER) and (os.path.isdir(folder) or importlib.util.find_spec("kazoo") is not None)
-
     if not are_there() and os.geteuid() == 0:
         for words in [["update"], ["install", "-y", "--no-install-recommends", *PACKAGES]]:
             subprocess.run(["apt-get", "-q", *words], env={**os.environ, "DEBIAN_FRONTEND": "noninteractive"},
@@ -135,6 +138,21 @@ class Keeper:
         """Ends the server."""
         self.process.kill()
         self.process.wait()
+
+
+def client_of(keeper: Keeper) -> Any:
+    """Returns a client that is connected to the server."""
+    sys.path.append(zookeeper.DEBIAN_MODULES)
+    import kazoo.client
+
+    client = kazoo.client.KazooClient(hosts=f"127.0.0.1:{keeper.port}", timeout=SECONDS)
+    client.start(timeout=SECONDS)
+    return client
+
+
+def znodes_of(ledgers: Iterable[Ledger]) -> Dict[str, Tuple[bytes, int]]:
+    """Returns what stands at the paths of these ledgers, and how often it was changed."""
+    return {path_of(it.id): (by_text(it) if it.form == 2 else by_bytes(it), it.version) for it in ledgers}
 
 
 def fill(client: Any, root: str, layout: str, znodes: Dict[str, Tuple[bytes, int]]) -> None:
