@@ -12,6 +12,7 @@ import time
 from typing import Any, Dict, Iterable, List, NamedTuple, Optional, Tuple
 
 import zookeeper
+from judging import install
 
 PACKAGES = ["zookeeper", "python3-kazoo"]
 SERVER = "/usr/share/java/zookeeper.jar"
@@ -99,10 +100,8 @@ def are_there() -> bool:
 
 def need_packages() -> Optional[str]:
     """Installs the packages where that is possible, and returns why this check is left out, if it is."""
-    if not are_there() and os.geteuid() == 0:
-        for words in [["update"], ["install", "-y", "--no-install-recommends", *PACKAGES]]:
-            subprocess.run(["apt-get", "-q", *words], env={**os.environ, "DEBIAN_FRONTEND": "noninteractive"},
-                           stdin=subprocess.DEVNULL, stdout=subprocess.DEVNULL, stderr=subprocess.DEVNULL)
+    if not are_there():
+        install(PACKAGES)
     return None if are_there() else f"apt-get install {' '.join(PACKAGES)}"
 
 

@@ -3,9 +3,11 @@
 Who imports it sets `sys.dont_write_bytecode` first: a folder of compiled modules in tests/checks/ would be taken for a check.
 """
 
+import fcntl
 import glob
 import os
 import re
+import shutil
 import subprocess
 import sys
 from typing import List, NamedTuple, Optional, Tuple
@@ -51,6 +53,17 @@ def need_program() -> str:
     if not os.environ.get("UNPROVED") and subprocess.run([rehearse, "--prove"]).returncode != 0:
         sys.exit(1)
     return subprocess.run([rehearse, "--program"], stdout=subprocess.PIPE, text=True, check=True).stdout.strip()
+
+
+def install(packages: List[str]) -> None:
+    """Installs packages of Debian where that is possible, while no other check installs any."""
+    if os.geteuid() != 0 or not shutil.which("apt-get"):
+        return
+    with open(__file__, "rb") as it:
+        fcntl.flock(it, fcntl.LOCK_EX)
+        for words in [["update"], ["install", "-y", "--no-install-recommends", *packages]]:
+            subprocess.run(["timeout", "300", "apt-get", "-q", *words], env={**os.environ, "DEBIAN_FRONTEND": "noninteractive"},
+                           stdin=subprocess.DEVNULL, stdout=subprocess.DEVNULL, stderr=subprocess.DEVNULL, check=False)
 
 
 def read_text(name: str) -> str:
