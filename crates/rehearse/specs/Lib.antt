@@ -1,6 +1,7 @@
 pub mod Against
 pub mod Colors
 pub mod Cuts
+pub mod Endings
 pub mod Faults
 pub mod Inputs
 pub mod Inventories

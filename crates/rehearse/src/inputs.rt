@@ -5,6 +5,7 @@ ghost use Rattle.std.specs.Option.{option_map};
 ghost use Rattle.reh_inputs.specs.Gathered.{Gathers};
 ghost use Rattle.reh_inputs.specs.Inputs.{IsRead};
 ghost use Rattle.reh_inputs.specs.Named.{taken_of as model_taken};
+ghost use Rattle.rehearse.specs.Endings.{EndsCensus};
 ghost use Rattle.rehearse.specs.Inputs as model;
 ghost use Rattle.rehearse.specs.Inventories.{IsOfLines};
 
@@ -107,11 +108,15 @@ pub(crate) fn census_over<R: thread::Threads + Wait + Sync + Copy + Send + 'stat
     threads: &R,
     looks: Looks,
     words: &CensusWords<'_>,
-) -> Result<(), RunFault> {
+) -> Result<(), RunFault>
+    ensures { OnOk result (EndsCensus words.now) }
+{
     let teller = Teller::begin(rt, threads, looks, words.inputs.files.len());
     let text = census_of(rt, threads, words, &teller.progress);
     teller.end(threads);
-    write_out(rt, text?.as_bytes())
+    let text = text?;
+    write_out(rt, text.as_bytes())?;
+    Ok(())
 }
 
 /// The census of the files, as text or as JSON.

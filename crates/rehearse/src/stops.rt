@@ -1,7 +1,8 @@
 // Whether bookies may be stopped, judged from files.
-ghost use Rattle.std.specs.Prelude.{IfOk};
+ghost use Rattle.std.specs.Prelude.{◌≡◌, IfOk};
 ghost use Rattle.reh_stop.specs.Stops.{IsJudged};
 ghost use Rattle.rehearse.specs.Against.{SaysOf};
+ghost use Rattle.rehearse.specs.Endings.{EndsStop};
 ghost use Rattle.rehearse.specs.Inputs.{AreGathered, SaysStop};
 
 use crate::against::{WeighedBy, has_against, notes_of, weigh, weigh_files};
@@ -23,11 +24,21 @@ pub(crate) fn stop_over<R: thread::Threads + Wait + Sync + Copy + Send + 'static
     threads: &R,
     looks: Looks,
     stop: &StopWords<'_>,
-) -> Result<u8, RunFault> {
+) -> Result<u8, RunFault>
+    ensures { IfOk result (EndsStop stop.now) }
+{
     let teller = Teller::begin(rt, threads, looks, stop.inputs.files.len());
     let said = said_of(rt, threads, stop, &teller.progress);
     teller.end(threads);
     let said = said?;
+    let status = show_said(rt, looks, &said)?;
+    Ok(status)
+}
+
+/// Shows what is said of the stop, and gives the status.
+fn show_said(rt: &HostRuntime, looks: Looks, said: &Said) -> Result<u8, RunFault>
+    ensures { IfOk result (λ status. status ≡ said.now.status) }
+{
     show_answer(rt, looks, said.text.as_bytes())?;
     Ok(said.status)
 }

@@ -1,5 +1,6 @@
 // Rounds of bookies that may be stopped together, and what the next losses cost, judged from files.
-ghost use Rattle.std.specs.Prelude.{IfOk};
+ghost use Rattle.std.specs.Prelude.{IfOk, OnOk};
+ghost use Rattle.rehearse.specs.Endings.{EndsRisk, EndsWaves};
 ghost use Rattle.rehearse.specs.Inputs.{SaysRisk, SaysWaves};
 
 use crate::faults::RunFault;
@@ -19,11 +20,15 @@ pub(crate) fn waves_over<R: thread::Threads + Wait + Sync + Copy + Send + 'stati
     threads: &R,
     looks: Looks,
     words: &WaveWords<'_>,
-) -> Result<(), RunFault> {
+) -> Result<(), RunFault>
+    ensures { OnOk result (EndsWaves words.now) }
+{
     let teller = Teller::begin(rt, threads, looks, words.inputs.files.len());
     let text = waves_of(rt, threads, words, &teller.progress);
     teller.end(threads);
-    write_out(rt, text?.as_bytes())
+    let text = text?;
+    write_out(rt, text.as_bytes())?;
+    Ok(())
 }
 
 /// What is said of rounds, by all files.
@@ -53,11 +58,15 @@ pub(crate) fn risk_over<R: thread::Threads + Wait + Sync + Copy + Send + 'static
     threads: &R,
     looks: Looks,
     words: &RiskWords<'_>,
-) -> Result<(), RunFault> {
+) -> Result<(), RunFault>
+    ensures { OnOk result (EndsRisk words.now) }
+{
     let teller = Teller::begin(rt, threads, looks, words.inputs.files.len());
     let text = risk_of(rt, threads, words, &teller.progress);
     teller.end(threads);
-    write_out(rt, text?.as_bytes())
+    let text = text?;
+    write_out(rt, text.as_bytes())?;
+    Ok(())
 }
 
 /// What is said of the next losses, by all files.

@@ -1,0 +1,40 @@
+-- How the run of a question ends. Where no fault ends it, its status is that of what was answered.
+use Rattle.std.specs.Prelude.{◌≡◌, ℕ, List, String, Ok, if◌then◌else◌}
+use Rattle.std.specs.declared.alloc.Global.{Global}
+use Rattle.reh_picture.specs.Pictures.{located_picture_of}
+use Rattle.reh_plan.specs.Summaries.{IsSum, is_whole}
+use Rattle.reh_plan.specs.declared.planning.Planned.{Planned}
+use Rattle.reh_stop.specs.declared.stops.Said.{Said}
+use Rattle.reh_words.specs.declared.tasks.CensusWords.{CensusWords}
+use Rattle.reh_words.specs.declared.tasks.RiskWords.{RiskWords}
+use Rattle.reh_words.specs.declared.tasks.StopWords.{StopWords}
+use Rattle.reh_words.specs.declared.tasks.WaveWords.{WaveWords}
+use Rattle.rehearse.specs.Inputs.{SaysCensus, SaysRisk, SaysStop, SaysWaves}
+
+-- of a stop the status of the answer by all files: 0 for yes, 8 for no, and 9 for unknown
+pub record EndsStop (words : StopWords) (status : ℕ) : Type 0 where
+  pub said : Said
+  pub says : SaysStop words said
+  pub status_is : status ≡ said.status
+
+-- there is an answer of rounds, of the next losses, or of a census, by all files
+abbrev pub EndsWaves : WaveWords → Type 0
+EndsWaves words = (text : String Global) × SaysWaves words text
+
+abbrev pub EndsRisk : RiskWords → Type 0
+EndsRisk words = (text : String Global) × SaysRisk words text
+
+abbrev pub EndsCensus : CensusWords → Type 0
+EndsCensus words = (text : String Global) × SaysCensus words text
+
+-- a plan for the picture of these bytes, and what it comes to
+pub record IsPlanFor (picture : List ℕ) (planned : Planned) : Type 0 where
+  pub opening : located_picture_of picture ≡ Ok planned.plan.opening
+  pub sum : IsSum planned.plan planned.summary
+
+-- of a plan for some picture: 0 where nothing is left to do and each entry can be read in the end, otherwise 8
+pub record EndsPlan (status : ℕ) : Type 0 where
+  pub picture : List ℕ
+  pub planned : Planned
+  pub is_plan : IsPlanFor picture planned
+  pub status_is : status ≡ (if is_whole planned.summary then 0 else 8)
