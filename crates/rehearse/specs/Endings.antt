@@ -1,5 +1,5 @@
 -- How the run of a question ends. Where no fault ends it, its status is that of what was answered.
-use Rattle.std.specs.Prelude.{◌≡◌, ℕ, List, String, Ok, if◌then◌else◌}
+use Rattle.std.specs.Prelude.{◌≡◌, ◌⊎◌, ℕ, List, String, Result, Ok, Err, if◌then◌else◌}
 use Rattle.std.specs.declared.alloc.Global.{Global}
 use Rattle.reh_picture.specs.Pictures.{located_picture_of}
 use Rattle.reh_plan.specs.Summaries.{IsSum, is_whole}
@@ -8,8 +8,12 @@ use Rattle.reh_stop.specs.declared.stops.Said.{Said}
 use Rattle.reh_words.specs.declared.tasks.CensusWords.{CensusWords}
 use Rattle.reh_words.specs.declared.tasks.RiskWords.{RiskWords}
 use Rattle.reh_words.specs.declared.tasks.StopWords.{StopWords}
+use Rattle.reh_words.specs.declared.tasks.Task.{Task}
+use Rattle.reh_words.specs.declared.tasks.Task.TheVariants as task
 use Rattle.reh_words.specs.declared.tasks.WaveWords.{WaveWords}
+use Rattle.rehearse.specs.Faults.{status_number}
 use Rattle.rehearse.specs.Inputs.{SaysCensus, SaysRisk, SaysStop, SaysWaves}
+use Rattle.rehearse.specs.declared.faults.RunFault.{RunFault}
 
 -- of a stop the status of the answer by all files: 0 for yes, 8 for no, and 9 for unknown
 pub record EndsStop (words : StopWords) (status : ℕ) : Type 0 where
@@ -38,3 +42,26 @@ pub record EndsPlan (status : ℕ) : Type 0 where
   pub planned : Planned
   pub is_plan : IsPlanFor picture planned
   pub status_is : status ≡ (if is_whole planned.summary then 0 else 8)
+
+-- what is asked was answered, and that is the status; of tasks that ask no question nothing is said
+abbrev pub Answers : Task → ℕ → Type 0
+Answers (task.Stop words) status = EndsStop words status
+Answers (task.Waves words) status = EndsWaves words × (status ≡ 0)
+Answers (task.Risk words) status = EndsRisk words × (status ≡ 0)
+Answers (task.Census words) status = EndsCensus words × (status ≡ 0)
+Answers (task.Plan words) status = EndsPlan status
+Answers other status = Unit {0}
+
+-- the status of a run that ends well is 0
+abbrev pub done_well : Result (Unit {0}) RunFault → Result ℕ RunFault
+done_well (Ok done) = Ok 0
+done_well (Err fault) = Err fault
+
+-- the status of a run, or that of its fault, which is none of an answer's
+abbrev pub end_status : Result ℕ RunFault → ℕ
+end_status (Ok status) = status
+end_status (Err fault) = status_number fault
+
+-- what is asked was answered, with that status, or some fault has it
+abbrev pub EndsTask : Task → ℕ → Type 0
+EndsTask asked status = Answers asked status ⊎ ((fault : RunFault) × (status ≡ status_number fault))

@@ -3,7 +3,9 @@
 // prints help.
 #![tactic(auto)]
 
-ghost use Rattle.std.specs.Prelude.{◌≡◌, false};
+ghost use Rattle.std.specs.Prelude.{◌≡◌, false, IfOk};
+ghost use Rattle.std.specs.Process.{exit_status};
+ghost use Rattle.rehearse.specs.Endings.{Answers, EndsTask, done_well, end_status};
 
 mod afters;
 mod against;
@@ -70,38 +72,53 @@ fn perform<R: Threads + Wait + Sync + Copy + Send + 'static>(
     rt: &HostRuntime,
     threads: &R,
     request: Request<'_>,
-) -> ExitCode {
-    let looks = Looks::of(rt, request.style);
-    let done = match request.task {
-        Task::Play(input) => play(rt, threads, looks, input),
-        Task::PlayOut(words) => run_out(rt, threads, looks, &words),
+) -> ExitCode
+    ensures { EndsTask request.entry.task (exit_status result) }
+{
+    let Request { task, style } = request;
+    let looks = Looks::of(rt, style);
+    end(rt, looks, answer(rt, threads, looks, task))
+}
+
+/// Does what is asked, and gives the status.
+fn answer<R: Threads + Wait + Sync + Copy + Send + 'static>(
+    rt: &HostRuntime,
+    threads: &R,
+    looks: Looks,
+    task: Task<'_>,
+) -> Result<u8, RunFault>
+    ensures { IfOk result (Answers task.entry) }
+{
+    match task {
+        Task::Play(input) => well(play(rt, threads, looks, input)),
+        Task::PlayOut(words) => well(run_out(rt, threads, looks, &words)),
         Task::Check {
             picture,
             script: None,
-        } => check_file(rt, picture),
+        } => well(check_file(rt, picture)),
         Task::Check {
             picture,
             script: Some(script),
-        } => match check_script(rt, picture, script) {
-            Ok(status) => return ExitCode::from(status),
-            Err(fault) => Err(fault),
-        },
-        Task::Drill(files) => drill(rt, threads, looks, files),
-        Task::Stop(stop) => match stop_over(rt, threads, looks, &stop) {
-            Ok(status) => return ExitCode::from(status),
-            Err(fault) => Err(fault),
-        },
-        Task::Waves(words) => waves_over(rt, threads, looks, &words),
-        Task::Risk(words) => risk_over(rt, threads, looks, &words),
-        Task::Census(words) => census_over(rt, threads, looks, &words),
-        Task::Cut(words) => cut_over(rt, threads, looks, &words),
-        Task::Plan(words) => match plan_file(rt, threads, looks, &words) {
-            Ok(status) => return ExitCode::from(status),
-            Err(fault) => Err(fault),
-        },
-        Task::Help(topic) => help_on(rt, &topic),
-    };
-    end(rt, looks, done)
+        } => check_script(rt, picture, script),
+        Task::Drill(files) => well(drill(rt, threads, looks, files)),
+        Task::Stop(stop) => stop_over(rt, threads, looks, &stop),
+        Task::Waves(words) => well(waves_over(rt, threads, looks, &words)),
+        Task::Risk(words) => well(risk_over(rt, threads, looks, &words)),
+        Task::Census(words) => well(census_over(rt, threads, looks, &words)),
+        Task::Cut(words) => well(cut_over(rt, threads, looks, &words)),
+        Task::Plan(words) => plan_file(rt, threads, looks, &words),
+        Task::Help(topic) => well(help_on(rt, &topic)),
+    }
+}
+
+/// The status 0, where a run has no fault.
+fn well(run: Result<(), RunFault>) -> Result<u8, RunFault>
+    ensures { result ≡ done_well run }
+{
+    match run {
+        Ok(()) => Ok(0),
+        Err(fault) => Err(fault),
+    }
 }
 
 /// The words of the command line. A word that is no text names no file.
@@ -111,9 +128,11 @@ fn words(rt: &HostRuntime) -> Result<Vec<String>, RunFault> {
 }
 
 /// Ends with the status of a run, and says its fault, if it has one.
-fn end(rt: &HostRuntime, looks: Looks, run: Result<(), RunFault>) -> ExitCode {
+fn end(rt: &HostRuntime, looks: Looks, run: Result<u8, RunFault>) -> ExitCode
+    ensures { exit_status result ≡ end_status run }
+{
     match run {
-        Ok(()) => ExitCode::SUCCESS,
+        Ok(status) => ExitCode::from(status),
         Err(fault) => {
             say_fault(rt, looks, &fault);
             ExitCode::from(status_of(&fault))
