@@ -1,9 +1,6 @@
 -- How the run of a question ends. Where no fault ends it, its status is that of what was answered.
-use Rattle.std.specs.Prelude.{◌≡◌, ◌⊎◌, ℕ, List, String, Result, Ok, Err, if◌then◌else◌}
+use Rattle.std.specs.Prelude.{◌≡◌, ◌⊎◌, ℕ, List, String, Result, Ok, Err}
 use Rattle.std.specs.declared.alloc.Global.{Global}
-use Rattle.reh_picture.specs.Pictures.{located_picture_of}
-use Rattle.reh_plan.specs.Summaries.{IsSum, is_whole}
-use Rattle.reh_plan.specs.declared.planning.Planned.{Planned}
 use Rattle.reh_stop.specs.declared.stops.Said.{Said}
 use Rattle.reh_words.specs.declared.tasks.CensusWords.{CensusWords}
 use Rattle.reh_words.specs.declared.tasks.RiskWords.{RiskWords}
@@ -13,6 +10,7 @@ use Rattle.reh_words.specs.declared.tasks.Task.TheVariants as task
 use Rattle.reh_words.specs.declared.tasks.WaveWords.{WaveWords}
 use Rattle.rehearse.specs.Faults.{status_number}
 use Rattle.rehearse.specs.Inputs.{SaysCensus, SaysRisk, SaysStop, SaysWaves}
+use Rattle.rehearse.specs.Plans.{IsStatus}
 use Rattle.rehearse.specs.declared.faults.RunFault.{RunFault}
 
 -- of a stop the status of the answer by all files: 0 for yes, 8 for no, and 9 for unknown
@@ -31,25 +29,13 @@ EndsRisk words = (text : String Global) × SaysRisk words text
 abbrev pub EndsCensus : CensusWords → Type 0
 EndsCensus words = (text : String Global) × SaysCensus words text
 
--- a plan for the picture of these bytes, and what it comes to
-pub record IsPlanFor (picture : List ℕ) (planned : Planned) : Type 0 where
-  pub opening : located_picture_of picture ≡ Ok planned.plan.opening
-  pub sum : IsSum planned.plan planned.summary
-
--- of a plan for some picture: 0 where nothing is left to do and each entry can be read in the end, otherwise 8
-pub record EndsPlan (status : ℕ) : Type 0 where
-  pub picture : List ℕ
-  pub planned : Planned
-  pub is_plan : IsPlanFor picture planned
-  pub status_is : status ≡ (if is_whole planned.summary then 0 else 8)
-
 -- what is asked was answered, and that is the status; of tasks that ask no question nothing is said
 abbrev pub Answers : Task → ℕ → Type 0
 Answers (task.Stop words) status = EndsStop words status
 Answers (task.Waves words) status = EndsWaves words × (status ≡ 0)
 Answers (task.Risk words) status = EndsRisk words × (status ≡ 0)
 Answers (task.Census words) status = EndsCensus words × (status ≡ 0)
-Answers (task.Plan words) status = EndsPlan status
+Answers (task.Plan words) status = IsStatus words status
 Answers other status = Unit {0}
 
 -- the status of a run that ends well is 0

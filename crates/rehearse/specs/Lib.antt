@@ -5,5 +5,6 @@ pub mod Endings
 pub mod Faults
 pub mod Inputs
 pub mod Inventories
+pub mod Mistaken
 pub mod Plans
 pub mod Runs

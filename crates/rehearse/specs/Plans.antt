@@ -19,7 +19,7 @@ use Rattle.reh_plan.specs.Objects.{json_of}
 use Rattle.reh_plan.specs.Plans.{GoesOnBy, IsWithout, losses_of}
 use Rattle.reh_plan.specs.Racks.{Racks, fewer_racks, racks_named}
 use Rattle.reh_plan.specs.Runbooks.{runbook_lines}
-use Rattle.reh_plan.specs.Summaries.{is_whole, summary_text}
+use Rattle.reh_plan.specs.Summaries.{IsSum, is_whole, summary_text}
 use Rattle.reh_plan.specs.Workers.{may_work}
 use Rattle.reh_plan.specs.declared.planning.Planned.{Planned}
 use Rattle.reh_words.specs.declared.tasks.PlanWords.{PlanWords}
@@ -55,6 +55,7 @@ pub record IsPlan (state : Cluster) (asked : Asked) (p : Planned) : Type 0 where
   pub order : GoesOnBy (may_work (asked.allowed, asked.read_only))
       (losses_of state (set.contains asked.lost) (length state.names)) p.plan.events
   pub racks : p.fewer.items ≡ fewer_racks asked.racks state p.plan.state
+  pub sum : IsSum p.plan p.summary
 
 -- the plan for the picture of these bytes, as the words ask
 pub record IsPlanFor (bytes : List ℕ) (words : PlanWords) (p : Planned) : Type 0 where

@@ -5,6 +5,7 @@ ghost use Rattle.rehearse.specs.Inputs as model;
 use crate::faults::RunFault;
 use crate::files::{read_picture, read_script};
 use crate::inputs::{refused, unfit};
+use crate::mistaken::explained;
 use reh_after::{AfterFault, Unaccepted, picture_after};
 use std::alloc::{AllocError, Global};
 
@@ -17,7 +18,10 @@ pub(crate) fn text_after(rt: &HostRuntime, picture: &str, script: &str) -> Resul
     let commands = read_script(rt, script)?;
     match picture_after(alloc, &bytes, &commands) {
         Ok(text) => Ok(text),
-        Err(fault) => Err(unplayed(alloc, picture, script, fault)),
+        Err(fault) => {
+            let fault = unplayed(alloc, picture, script, fault);
+            Err(explained(alloc, picture, &bytes, fault))
+        }
     }
 }
 

@@ -2,6 +2,7 @@
 use crate::faults::RunFault;
 use crate::files::{PICTURE_BYTES, open_file, read_on, read_picture, read_script, write_out};
 use crate::inventories::{INVENTORY_BEGINS, check_inventory};
+use crate::mistaken::{no_picture, state_in};
 use reh_cluster::Names;
 use reh_lint::{Linted, lint};
 use reh_picture::{Counts, check_picture};
@@ -15,7 +16,7 @@ const FAULTY: u8 = 3;
 /// status.
 pub(crate) fn check_script(rt: &HostRuntime, picture: &str, path: &str) -> Result<u8, RunFault> {
     let bytes = read_picture(rt, picture)?;
-    let state = check_picture(rt.alloc(), &bytes)?;
+    let state = state_in(rt.alloc(), picture, &bytes)?;
     check_lines(rt, state.names(), path)
 }
 
@@ -53,15 +54,19 @@ pub(crate) fn check_file(rt: &HostRuntime, path: &str) -> Result<(), RunFault> {
         check_inventory(rt, path, file, bytes)?
     } else {
         read_on(rt, path, file, PICTURE_BYTES, &mut bytes)?;
-        counts_of(rt.alloc(), &bytes)?
+        counts_of(rt.alloc(), path, &bytes)?
     };
     write_out(rt, text.as_bytes())
 }
 
 /// How much there is in the picture of these bytes.
-fn counts_of(alloc: Global, bytes: &[u8]) -> Result<String, RunFault> {
-    let state = check_picture(alloc, bytes)?;
-    let counts = Counts::of(&state);
-    let text = format!(in alloc; "ok\n{counts}\n")?;
-    Ok(text)
+fn counts_of(alloc: Global, path: &str, bytes: &[u8]) -> Result<String, RunFault> {
+    match check_picture(alloc, bytes) {
+        Ok(state) => {
+            let counts = Counts::of(&state);
+            let text = format!(in alloc; "ok\n{counts}\n")?;
+            Ok(text)
+        }
+        Err(located) => Err(no_picture(alloc, path, bytes, located)),
+    }
 }

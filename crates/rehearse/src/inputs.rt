@@ -14,6 +14,7 @@ use crate::faults::RunFault;
 use crate::files::{InputBytes, read_input_file, write_out};
 use crate::inventories::{CountedInventory, Source, count_bytes, count_inventory};
 use crate::looks::Looks;
+use crate::mistaken::headless;
 use crate::names::misnamed;
 use crate::progress::{Progress, Teller};
 use reh_census_file::{CensusFault, NamedCensus, census_text};
@@ -401,8 +402,18 @@ fn read_whole(alloc: Global, path: &str, bytes: &[u8]) -> Result<FileInput, RunF
             let file = of_bytes(alloc, input)?;
             Ok(file)
         }
-        Err(fault) => Err(unreadable(alloc, path, fault)),
+        Err(fault) => Err(no_input(alloc, path, bytes, fault)),
     }
+}
+
+/// The fault of a run whose file is no input: of an inventory without its first line, that this isn't there.
+fn no_input(alloc: Global, path: &str, bytes: &[u8], fault: InputFault) -> RunFault {
+    if let InputFault::Picture(_) = &fault
+        && let Some(headless) = headless(alloc, path, bytes)
+    {
+        return headless;
+    }
+    unreadable(alloc, path, fault)
 }
 
 /// What an inventory shows.

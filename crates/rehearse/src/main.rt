@@ -19,6 +19,7 @@ mod helps;
 mod inputs;
 mod inventories;
 mod looks;
+mod mistaken;
 mod names;
 mod outs;
 mod plans;
@@ -37,6 +38,7 @@ use files::{LateFile, open_file, read_picture, read_scripts};
 use helps::help_on;
 use inputs::census_over;
 use looks::{Looks, say_fault};
+use mistaken::{end_on, picture_of};
 use outs::run_out;
 use plans::plan_file;
 use prompts::{Typed, tell_input};
@@ -77,7 +79,9 @@ fn perform<R: Threads + Wait + Sync + Copy + Send + 'static>(
 {
     let Request { task, style } = request;
     let looks = Looks::of(rt, style);
-    end(rt, looks, answer(rt, threads, looks, task))
+    let picture = picture_of(&task);
+    let run = answer(rt, threads, looks, task);
+    end(rt, looks, end_on(rt, picture, run))
 }
 
 /// Does what is asked, and gives the status.

@@ -12,10 +12,11 @@ use crate::faults::RunFault;
 use crate::files::{read_picture, write_out};
 use crate::inputs::unfit;
 use crate::looks::Looks;
+use crate::mistaken::state_in;
 use crate::names::{named_twice, unknown};
 use crate::progress::{Progress, Teller};
 use reh_cluster::{Names, State};
-use reh_picture::{BookieMarks, check_picture, list_picture};
+use reh_picture::{BookieMarks, list_picture};
 use reh_plan::{PlanFault, Planned, Racks, find_bookies, first_unknown, plan, plan_json, runbook};
 use reh_types::{BookieIx, BookieSet, MAX_BOOKIES};
 use reh_words::PlanWords;
@@ -129,7 +130,7 @@ fn picture_bytes(
 fn plan_of(alloc: Global, bytes: &[u8], words: &PlanWords<'_>) -> Result<Planned, RunFault>
     ensures { IfOk result (model.IsPlanFor bytes.now words.now) }
 {
-    let state = check_picture(alloc, bytes)?;
+    let state = state_in(alloc, words.picture, bytes)?;
     match asked_of(alloc, bytes, state.names(), words) {
         Ok(asked) => plan_by(alloc, state, &asked),
         Err(fault) => Err(fault),

@@ -8,4 +8,5 @@ returns-in-Ok c = record {
   without = c.in-Ok.ensures.lost;
   order = c.in-Ok.ensures.order;
   racks = c.in-Ok.ensures.racks;
+  sum = c.in-Ok.ensures.sum;
 }
