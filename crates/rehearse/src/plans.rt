@@ -36,7 +36,9 @@ pub(crate) fn plan_file<R: thread::Threads + Wait + Copy + Send + 'static>(
     let teller = Teller::begin(rt, threads, looks, files_of(words));
     let planned = planned_by(rt, words, &teller.progress);
     teller.end(threads);
-    write_plan(rt, words, &planned?)
+    let planned = planned?;
+    let status = write_plan(rt, words, &planned)?;
+    Ok(status)
 }
 
 /// How many files are read.
