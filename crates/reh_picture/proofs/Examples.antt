@@ -1,5 +1,5 @@
 -- Worked pictures: one with two ledgers, and what is found where one thing in it is changed.
-use Rattle.std.specs.Prelude.{◌≡◌, ℕ, List, [], ◌∷◌, ◌++◌, codes, None, Ok, Err, refl}
+use Rattle.std.specs.Prelude.{◌≡◌, ℕ, true, List, [], ◌∷◌, ◌++◌, codes, None, Ok, Err, refl}
 use Rattle.std.specs.Str.{is_utf8, chars}
 use Rattle.serde_json.proofs.OnLiterals.{serde_json_on_literals}
 use Rattle.reh_types.specs.Sets as set
