@@ -92,9 +92,7 @@ fn sums_of(alloc: Global, planned: &Planned) -> Result<String, RunFault>
     ensures { IfOk result (λ text. string_bytes text
         ≡ summary_text planned.now.plan.state.names planned.now.summary ++ model.fewer_text (length planned.now.fewer.items)) }
 {
-    let mut text = planned
-        .summary
-        .text(alloc, planned.plan.state().names())?;
+    let mut text = planned.summary.text(alloc, planned.plan.state().names())?;
     let line = fewer_line(alloc, planned.fewer.len())?;
     text.push_str(&line)?;
     Ok(text)
