@@ -2,3 +2,6 @@ mod Examples
 pub mod RangeLaws
 pub mod FragmentLaws
 pub mod WordLaws
+pub mod EntryLaws
+pub mod ToldLaws
+pub mod KeptLaws
