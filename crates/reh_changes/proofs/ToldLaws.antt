@@ -292,12 +292,8 @@ word_told s t b l k bits same e = (
 )
 
 told : (s t : Cluster) (c : Change) → SameAt (put s.parts c) t.parts (place_of c) → TellsEntries s t c
-told s t (change.Registration b lost) same = tt
-told s t (change.Metadata i m) same = tt
-told s t (change.Task i task) same = tt
-told s t (change.Lock i lock) same = tt
 told s t (change.Word b l k bits) same = word_told s t b l k bits same
-told s t (change.Scalar scalar) same = tt
+told s t other same = tt
 
 pub entries_told : (s t : Cluster) (cs : List Change) → IsDelta s t cs → All (TellsEntries s t) cs
 entries_told s t cs delta =
