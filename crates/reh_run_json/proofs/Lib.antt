@@ -5,3 +5,4 @@ pub mod WordLaws
 pub mod ReportLaws
 pub mod LineLaws
 pub mod DepthLaws
+pub mod ObjectLaws

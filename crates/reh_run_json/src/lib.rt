@@ -3,6 +3,7 @@
 
 mod answers;
 mod fragments;
+mod laws;
 mod ledgers;
 mod lines;
 mod metadata;
@@ -13,5 +14,6 @@ mod surveys;
 mod values;
 mod words;
 
+pub use laws::changes_have_objects;
 pub use lines::push_line;
 pub use places::add_changes;
