@@ -4,3 +4,4 @@ pub mod Answered
 pub mod ReadLaws
 pub mod Enough
 pub mod Sitting
+pub mod EndLaws

@@ -1,7 +1,7 @@
 // Answering the lines of a script.
 ghost use Rattle.std.specs.Prelude.{◌≡◌, ◌+◌, ◌^◌, ◌≤◌, ◌<◌, ◌++◌, ◌⊎◌, ℕ, List, [], None, true, false, Ok, Err, length};
 ghost use Rattle.std.specs.Prelude.{string_bytes, IfOk, IfErr, OnOk, OnErr, MatchResult};
-ghost use Rattle.std.specs.Io.KnownBytes.{Appends, prepend_known};
+ghost use Rattle.std.specs.Io.KnownBytes.{Appends, IsAtEnd, prepend_known};
 ghost use Rattle.reh_commands.specs.Answers.{asked};
 ghost use Rattle.reh_lines.specs.Lines.{lines_of, answered_lines};
 ghost use Rattle.reh_play.specs.Players.{setting, setting_by, seated, Takes, Begins};
@@ -91,6 +91,7 @@ pub fn play<C: Counter, V: Surveyor, R: TextIn, W: TextOut>(
     ensures prompt { (reader.new ≡ reader.old) ⊎ GoesOut (setting C.goes C.scene names.now)
         (R.remaining reader.old) (R.before reader.new) (seated counter.old seat.old)
         (W.contents writer.old) (W.seen writer.new) }
+    ensures ended { OnOk result (IsAtEnd (R.remaining reader.new)) }
     ensures seen { OnOk result (W.seen writer.new ≡ W.contents writer.new) }
     ensures write { W.has_failed writer.new ≡ is_write_fault result }
     ensures calls { R.calls reader.new ≤ R.calls reader.old + (MAX_SCRIPT_BYTES + 1) }
@@ -131,6 +132,7 @@ pub fn play_on<C: Counter, V: Surveyor, R: TextIn, W: TextOut>(
     ensures prompt { (reader.new ≡ reader.old) ⊎ GoesOut (setting C.goes C.scene names.now)
         (prepend_known script.items (R.remaining reader.old)) (R.before reader.new)
         (seated counter.old seat.old) (W.contents writer.old) (W.seen writer.new) }
+    ensures ended { OnOk result (IsAtEnd (R.remaining reader.new)) }
     ensures seen { OnOk result (W.seen writer.new ≡ W.contents writer.new) }
     ensures write { W.has_failed writer.new ≡ is_write_fault result }
     ensures calls { R.calls reader.new ≤ R.calls reader.old + (MAX_SCRIPT_BYTES + 1) }
@@ -171,6 +173,7 @@ pub fn play_by<C: Counter, V: Surveyor, P: Printer<C>, R: TextIn, W: TextOut>(
     ensures prompt { (reader.new ≡ reader.old) ⊎ GoesOut (setting_by C.goes C.scene P.prints names.now)
         (R.remaining reader.old) (R.before reader.new) (seated counter.old seat.old)
         (W.contents writer.old) (W.seen writer.new) }
+    ensures ended { OnOk result (IsAtEnd (R.remaining reader.new)) }
     ensures seen { OnOk result (W.seen writer.new ≡ W.contents writer.new) }
     ensures write { W.has_failed writer.new ≡ is_write_fault result }
     ensures calls { R.calls reader.new ≤ R.calls reader.old + (MAX_SCRIPT_BYTES + 1) }
@@ -206,6 +209,7 @@ fn play_on_by<C: Counter, V: Surveyor, P: Printer<C>, R: TextIn, W: TextOut>(
     ensures prompt { (reader.new ≡ reader.old) ⊎ GoesOut (setting_by C.goes C.scene P.prints names.now)
         (prepend_known script.items (R.remaining reader.old)) (R.before reader.new)
         (seated counter.old seat.old) (W.contents writer.old) (W.seen writer.new) }
+    ensures ended { OnOk result (IsAtEnd (R.remaining reader.new)) }
     ensures seen { OnOk result (W.seen writer.new ≡ W.contents writer.new) }
     ensures write { W.has_failed writer.new ≡ is_write_fault result }
     ensures calls { R.calls reader.new ≤ R.calls reader.old + (MAX_SCRIPT_BYTES + 1) }
@@ -258,6 +262,7 @@ fn answer_reads<C: Counter, V: Surveyor, P: Printer<C>, R: TextIn, W: TextOut>(
         (prepend_known script.items (R.remaining reader.old)) (R.before reader.new)
         (player counter.old seat.old hand.old)
         (W.contents writer.old) (W.seen writer.new) }
+    ensures ended { OnOk result (IsAtEnd (R.remaining reader.new)) }
     ensures seen { OnOk result (W.seen writer.new ≡ W.contents writer.new) }
     ensures write { MatchResult result
         (λ _. W.has_failed writer.new ≡ false)

@@ -188,6 +188,12 @@ returns-clause-ok g c =
     ends_whole place c.loop-read.script.items _ _ _ _ _ _ _ _ ends.1 ends.2 c.loop-read.invariant.few ends.3
     (is_at_kept place _ _ _ _ _ _ _ _ at c.flush-2.ensures.bytes)
 
+pub returns-clause-ended : goal.returns-clause-ended
+returns-clause-ended g c =
+    let ends = end_stands c.loop-read.read c.loop-read.done c.loop-read.script.items _ _ _ c.in_default.not-Lines
+    c.in-Lines-read.is c.loop-read.invariant.stands in
+    ends.2
+
 pub returns-clause-prompt : goal.returns-clause-prompt
 returns-clause-prompt g c =
     out_grown _ _ _ _ _ _ _ _ (out_grown _ _ _ _ _ _ _ _ c.loop-read.invariant.out c.answer_lines-2.ensures.seen)
