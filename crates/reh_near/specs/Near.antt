@@ -1,5 +1,6 @@
 -- Which names are near a word that is none of them.
-use Rattle.std.specs.Prelude.{ℕ, ◌+◌, ◌*◌, ◌==◌, ◌&&◌, ◌||◌, not, max, nat_eq, nat_le, Bool, if◌then◌else◌, List, [], ◌∷◌, ◌++◌, length, take, filter, flat_map, codes, slice_index}
+use Rattle.std.specs.Prelude.{ℕ, ◌+◌, ◌*◌, ◌==◌, ◌&&◌, ◌||◌, not, max, nat_eq, nat_le, Bool, if◌then◌else◌, List, [], ◌∷◌, ◌++◌, length, map, take, filter, flat_map, codes, slice_index}
+use Rattle.std.specs.Fmt.{decimal}
 use Rattle.std.specs.List.{range_with_len, starts_with}
 use Rattle.reh_near.specs.declared.near.Near.{Near}
 use Rattle.reh_near.specs.declared.near.Near.TheVariants.{Longer, Nothing, One, Two, Three}
@@ -69,3 +70,12 @@ nearest_text (a ∷ b ∷ c ∷ more) =
 abbrev pub near_text : Told → List ℕ
 near_text (told_full name) = codes ": its full name is '" ++ (name ++ codes "'")
 near_text (told_nearest names) = nearest_text names
+
+-- what follows an id that is none of these, as of names by their digits; an id that only begins with its digits is another
+-- one, and not the full name of it
+abbrev pub id_text : Told → List ℕ
+id_text (told_full id) = nearest_text (id ∷ [])
+id_text (told_nearest ids) = nearest_text ids
+
+abbrev pub near_ids_text : List ℕ → ℕ → List ℕ
+near_ids_text ids id = id_text (near_to (map decimal ids) (decimal id))

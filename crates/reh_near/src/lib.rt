@@ -2,6 +2,8 @@
 #![tactic(auto)]
 
 mod distances;
+mod ids;
 mod near;
 
+pub use ids::near_ids;
 pub use near::{MAX_BYTES, Near, near_to};
