@@ -2,17 +2,18 @@
 use Rattle.std.proofs.Common.{◌≡◌, ◌∙◌, ◌+◌, ◌≤◌, ◌==◌, ◌++◌, ◌∷◌, [], ℕ, Bool, true, false, List, cond, ap, append_assoc, arith, length, refl, sym}
 use Rattle.std.proofs.lemmas.Bool.Decides.{nat_tests}
 use Rattle.std.specs.List.{filter}
+use Rattle.reh_model.specs.Cluster.{Cluster}
 use Rattle.reh_commands.specs.Answers.{asked}
 use Rattle.reh_lines.specs.Lines.{lines_of}
 use Rattle.reh_lint.specs.Lints.{finding_of, findings}
 
-pub more_found : (path : List ℕ) (names : List (List ℕ)) (n : ℕ) (line : List ℕ) (more lines : List (List ℕ))
-    (old new whole : List ℕ) → lines ≡ line ∷ more → old ++ findings path names n lines ≡ whole
-    → new ≡ old ++ finding_of path names n line (asked names line) → new ++ findings path names (n + 1) more ≡ whole
-more_found path names n line more lines old new whole is before next =
-    ap (λ (t : List ℕ). t ++ findings path names (n + 1) more) next
-    ∙ append_assoc old (finding_of path names n line (asked names line)) (findings path names (n + 1) more)
-    ∙ ap (λ (ls : List (List ℕ)). old ++ findings path names n ls) (sym is)
+pub more_found : (path : List ℕ) (s : Cluster) (n : ℕ) (line : List ℕ) (more lines : List (List ℕ))
+    (old new whole : List ℕ) → lines ≡ line ∷ more → old ++ findings path s n lines ≡ whole
+    → new ≡ old ++ finding_of path s n line (asked s.names line) → new ++ findings path s (n + 1) more ≡ whole
+more_found path s n line more lines old new whole is before next =
+    ap (λ (t : List ℕ). t ++ findings path s (n + 1) more) next
+    ∙ append_assoc old (finding_of path s n line (asked s.names line)) (findings path s (n + 1) more)
+    ∙ ap (λ (ls : List (List ℕ)). old ++ findings path s n ls) (sym is)
     ∙ before
 
 counted : (b : Bool) (line : List ℕ) (rest : List (List ℕ)) → length (cond b (line ∷ rest) rest) ≡ cond b 1 0 + length rest

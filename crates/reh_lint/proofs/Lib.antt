@@ -1,2 +1,3 @@
 pub mod FindingLaws
+pub mod MissingLaws
 pub mod PlaceLaws

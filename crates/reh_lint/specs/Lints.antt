@@ -1,15 +1,17 @@
 -- What is found in a script. Its lines are judged as a play judges them: by what each asks for.
-use Rattle.std.specs.Prelude.{ℕ, ◌+◌, Bool, true, false, List, [], ◌∷◌, ◌++◌, map, Option, Some, Result, Ok, Err, codes}
+use Rattle.std.specs.Prelude.{ℕ, ◌+◌, Bool, true, false, List, [], ◌∷◌, ◌++◌, map, Option, None, Some, Result, Ok, Err, codes}
 use Rattle.std.specs.Fmt.{decimal}
 use Rattle.std.specs.Option.{option_map_or}
+use Rattle.reh_model.specs.Cluster.{Cluster}
 use Rattle.reh_commands.specs.declared.commands.Command.{Command}
 use Rattle.reh_commands.specs.declared.commands.LineFault.{LineFault}
 use Rattle.reh_commands.specs.declared.commands.LineFault.TheVariants.{TooLong, UnknownCommand, BadWords, UnknownName}
 use Rattle.reh_commands.specs.Answers.{asked}
 use Rattle.reh_commands.specs.Script.{form_of, verbs}
 use Rattle.reh_commands.specs.Texts.{line_fault_text}
+use Rattle.reh_lint.specs.Ledgers.{ids_of, missing_ledger}
 use Rattle.reh_lint.specs.Unknown.{line_words, unknown_command, unknown_name}
-use Rattle.reh_near.specs.Near.{Told, told_nearest, near_to, near_text}
+use Rattle.reh_near.specs.Near.{Told, told_nearest, near_to, near_text, near_ids_text}
 
 -- whether a line asks for a command, and whether it has a fault of the language
 abbrev pub is_made : Option (Result Command LineFault) → Bool
@@ -41,23 +43,26 @@ near_it names line UnknownName = near_word names (unknown_name names (line_words
 near_it names line TooLong = told_nearest []
 near_it names line BadWords = told_nearest []
 
--- the line that is printed of the n-th line of a script, with this fault
-abbrev pub finding : List ℕ → List (List ℕ) → ℕ → List ℕ → LineFault → List ℕ
-finding path names n line fault =
-    path
-    ++ (codes ":"
-    ++ (decimal n
-    ++ (codes ": "
-    ++ (line_fault_text fault
-    ++ (near_text (near_it names line fault) ++ codes "\n")))))
+-- what is printed of the n-th line of a script: with this fault, or naming a ledger that isn't there
+abbrev pub placed : List ℕ → ℕ → List ℕ → List ℕ
+placed path n what = path ++ (codes ":" ++ (decimal n ++ (codes ": " ++ (what ++ codes "\n"))))
 
--- nothing, where it has none
-abbrev pub finding_of : List ℕ → List (List ℕ) → ℕ → List ℕ → Option (Result Command LineFault) → List ℕ
-finding_of path names n line (Some (Err fault)) = finding path names n line fault
-finding_of path names n line other = []
+abbrev pub finding : List ℕ → List (List ℕ) → ℕ → List ℕ → LineFault → List ℕ
+finding path names n line fault = placed path n (line_fault_text fault ++ near_text (near_it names line fault))
+
+abbrev pub missing_text : List ℕ → ℕ → List ℕ → ℕ → List ℕ
+missing_text path n ids l =
+    placed path n (codes "the picture has no ledger " ++ (decimal l ++ near_ids_text ids l))
+
+-- nothing, where a line has no answer, or asks for a command whose ledger there is, or that names none
+abbrev pub finding_of : List ℕ → Cluster → ℕ → List ℕ → Option (Result Command LineFault) → List ℕ
+finding_of path s n line (Some (Err fault)) = finding path s.names n line fault
+finding_of path s n line (Some (Ok command)) =
+    option_map_or (missing_text path n (ids_of s)) (missing_ledger s command) []
+finding_of path s n line None = []
 
 -- of all lines, of which the first is the n-th
-abbrev pub findings : List ℕ → List (List ℕ) → ℕ → List (List ℕ) → List ℕ
-findings path names n [] = []
-findings path names n (line ∷ lines) =
-    finding_of path names n line (asked names line) ++ findings path names (n + 1) lines
+abbrev pub findings : List ℕ → Cluster → ℕ → List (List ℕ) → List ℕ
+findings path s n [] = []
+findings path s n (line ∷ lines) =
+    finding_of path s n line (asked s.names line) ++ findings path s (n + 1) lines

@@ -1,41 +1,47 @@
 // What is found in a line.
-ghost use Rattle.std.specs.Prelude.{◌≡◌, ◌++◌, map, IfOk, OnOk, codes, option_map, string_bytes};
+ghost use Rattle.std.specs.Prelude.{◌≡◌, ◌++◌, [], map, IfOk, OnOk, option_map, string_bytes};
+ghost use Rattle.std.specs.Option.{option_map_or};
+ghost use Rattle.reh_lint.specs.Ledgers.{ids_of, missing_ledger};
 ghost use Rattle.reh_lint.specs.Lints as model;
 ghost use Rattle.reh_lint.specs.Unknown as unknown;
-ghost use Rattle.reh_near.specs.Near.{told};
+ghost use Rattle.reh_near.specs.Near.{near_ids_text, told};
 
+use crate::ledgers::{ledger_ids, missing_ledger};
 use crate::names::{bookie_names, verb_names};
 use crate::unknown::{line_words, unknown_command, unknown_name};
-use reh_cluster::Names;
-use reh_commands::LineFault;
-use reh_near::{Near, near_to};
+use reh_cluster::State;
+use reh_commands::{Command, LineFault};
+use reh_near::{Near, near_ids, near_to};
 use std::alloc::{AllocError, Global};
 
-/// The bookies of a picture, and the names that a word of a script may be near.
+/// The state of a picture, and the names and ids that a word of a script may be near.
 #[derive(Drop)]
 pub(crate) struct Known<'a> {
-    pub names: &'a Names,
+    pub state: &'a State,
     pub bookies: Vec<&'a str>,
     pub verbs: Vec<&'a str>,
-    ghost is_bookies: { map (λ name. name.now) bookies.items ≡ names.now },
+    pub ids: Vec<u64>,
+    ghost is_bookies: { map (λ name. name.now) bookies.items ≡ state.now.names },
     ghost is_verbs: { map (λ name. name.now) verbs.items ≡ model.verb_names },
+    ghost is_ids: { ids.items ≡ ids_of state.now },
 }
 
 impl<'a> Known<'a> {
-    /// Those of these bookies.
-    pub(crate) fn new(alloc: Global, names: &'a Names) -> Result<Known<'a>, AllocError>
-        ensures { IfOk result (λ known. known.names.now ≡ names.now) }
+    /// Those of this state.
+    pub(crate) fn new(alloc: Global, state: &'a State) -> Result<Known<'a>, AllocError>
+        ensures { IfOk result (λ known. known.state.now ≡ state.now) }
     {
         Ok(Known {
-            names,
-            bookies: bookie_names(alloc, names)?,
+            state,
+            bookies: bookie_names(alloc, state.names())?,
             verbs: verb_names(alloc)?,
+            ids: ledger_ids(alloc, state)?,
         })
     }
 
     /// What is near the unknown word of a line with this fault.
     fn near(&self, alloc: Global, line: &[u8], fault: LineFault) -> Result<Near<'a>, AllocError>
-        ensures { IfOk result (λ near. told near ≡ model.near_it self.now.names.now line.now fault) }
+        ensures { IfOk result (λ near. told near ≡ model.near_it self.now.state.now.names line.now fault) }
     {
         match fault {
             LineFault::UnknownCommand => self.near_command(alloc, line),
@@ -56,10 +62,21 @@ impl<'a> Known<'a> {
     /// What is near the unknown name of a line.
     fn near_name(&self, alloc: Global, line: &[u8]) -> Result<Near<'a>, AllocError>
         ensures { IfOk result (λ near. told near
-            ≡ model.near_word self.now.names.now (unknown.unknown_name self.now.names.now (unknown.line_words line.now))) }
+            ≡ model.near_word self.now.state.now.names (unknown.unknown_name self.now.state.now.names (unknown.line_words line.now))) }
     {
         let words = line_words(alloc, line)?;
-        near_word(alloc, &self.bookies, unknown_name(self.names, &words))
+        near_word(
+            alloc,
+            &self.bookies,
+            unknown_name(self.state.names(), &words),
+        )
+    }
+
+    /// What is said of the ids that are near this one.
+    fn near_id(&self, alloc: Global, id: u64) -> Result<String, AllocError>
+        ensures { IfOk result (λ text. string_bytes text ≡ near_ids_text (ids_of self.now.state.now) id) }
+    {
+        near_ids(alloc, &self.ids, id)
     }
 }
 
@@ -88,8 +105,44 @@ pub(crate) fn push_finding(
     fault: LineFault,
 ) -> Result<(), AllocError>
     ensures { OnOk result (string_bytes text.new ≡ string_bytes text.old
-        ++ model.finding path.now known.now.names.now number line.now fault) }
+        ++ model.finding path.now known.now.state.now.names number line.now fault) }
 {
     let near = known.near(text.allocator().clone()?, line, fault)?;
     write!(text, "{path}:{number}: {fault}{near}\n")
+}
+
+/// Adds the line for a line that asks for this command, if it names a ledger that isn't there.
+pub(crate) fn push_missing(
+    text: &mut String,
+    known: &Known<'_>,
+    path: &str,
+    number: usize,
+    command: &Command,
+) -> Result<(), AllocError>
+    ensures { OnOk result (string_bytes text.new ≡ string_bytes text.old
+        ++ option_map_or (model.missing_text path.now number (ids_of known.now.state.now))
+        (missing_ledger known.now.state.now command.now) []) }
+{
+    match missing_ledger(known.state, command) {
+        Some(ledger) => push_absent(text, known, path, number, ledger.0),
+        None => Ok(()),
+    }
+}
+
+/// Adds the line for a line that names this ledger, which isn't there.
+fn push_absent(
+    text: &mut String,
+    known: &Known<'_>,
+    path: &str,
+    number: usize,
+    id: u64,
+) -> Result<(), AllocError>
+    ensures { OnOk result (string_bytes text.new ≡ string_bytes text.old
+        ++ model.missing_text path.now number (ids_of known.now.state.now) id) }
+{
+    let near = known.near_id(text.allocator().clone()?, id)?;
+    write!(
+        text,
+        "{path}:{number}: the picture has no ledger {id}{near}\n"
+    )
 }

@@ -2,8 +2,11 @@
 #![tactic(auto)]
 
 mod findings;
+mod laws;
+mod ledgers;
 mod lints;
 mod names;
 mod unknown;
 
+pub use laws::missing_ledgers_are_refused;
 pub use lints::{Linted, lint};

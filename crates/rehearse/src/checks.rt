@@ -3,7 +3,7 @@ use crate::faults::RunFault;
 use crate::files::{PICTURE_BYTES, open_file, read_on, read_picture, read_script, write_out};
 use crate::inventories::{INVENTORY_BEGINS, check_inventory};
 use crate::mistaken::{no_picture, state_in};
-use reh_cluster::Names;
+use reh_cluster::State;
 use reh_lint::{Linted, lint};
 use reh_picture::{Counts, check_picture};
 use reh_types::MAX_SCRIPT_BYTES;
@@ -12,18 +12,18 @@ use std::alloc::{AllocError, Global};
 /// The status where lines of a script are faulty, as where a picture is refused.
 const FAULTY: u8 = 3;
 
-/// Checks the script in a file on the picture in another, says to standard output which lines are faulty, and gives the
-/// status.
+/// Checks the script in a file on the picture in another, says to standard output which lines are faulty and which name a
+/// ledger that the picture doesn't have, and gives the status.
 pub(crate) fn check_script(rt: &HostRuntime, picture: &str, path: &str) -> Result<u8, RunFault> {
     let bytes = read_picture(rt, picture)?;
     let state = state_in(rt.alloc(), picture, &bytes)?;
-    check_lines(rt, state.names(), path)
+    check_lines(rt, &state, path)
 }
 
-/// The same, where the picture's bookies have these names.
-fn check_lines(rt: &HostRuntime, names: &Names, path: &str) -> Result<u8, RunFault> {
+/// The same, on the picture of this state.
+fn check_lines(rt: &HostRuntime, state: &State, path: &str) -> Result<u8, RunFault> {
     let script = read_script(rt, path)?;
-    let lint = summed(lint(rt.alloc(), names, path, &script)?)?;
+    let lint = summed(lint(rt.alloc(), state, path, &script)?)?;
     write_out(rt, lint.text.as_bytes())?;
     if script.len() > MAX_SCRIPT_BYTES {
         return Err(RunFault::TooLong);

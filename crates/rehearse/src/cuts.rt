@@ -9,7 +9,7 @@ use crate::inventories::{read_line, reader_of, refused};
 use crate::looks::Looks;
 use crate::progress::Teller;
 use reh_cut::{Assume, ChosenLedgers, CutFault};
-use reh_near::{Near, near_to};
+use reh_near::near_ids;
 use reh_words::CutWords;
 use std::alloc::{AllocError, Global};
 use std::io::{BufReader, Read};
@@ -114,35 +114,6 @@ fn uncut(alloc: Global, path: &str, ids: &[u64], fault: &CutFault) -> RunFault {
 /// That there is no such ledger, and which ids are near.
 fn no_ledger_text(alloc: Global, path: &str, ids: &[u64], id: u64) -> Result<String, AllocError> {
     let fault = CutFault::NoLedger(id);
-    let near = near_text(alloc, ids, id)?;
+    let near = near_ids(alloc, ids, id)?;
     format!(in alloc; "inventory {path}: {fault}{near}")
-}
-
-/// Which of these ids are near one that isn't among them.
-fn near_text(alloc: Global, ids: &[u64], id: u64) -> Result<String, AllocError> {
-    let texts = texts_of(alloc, ids)?;
-    let names = words_of(alloc, &texts)?;
-    let word = format!(in alloc; "{id}")?;
-    match near_to(alloc, &names, word.as_bytes())? {
-        Near::Longer(one) => format!(in alloc; ": near it is '{one}'"),
-        near => format!(in alloc; "{near}"),
-    }
-}
-
-/// The same texts, borrowed.
-fn words_of<'a>(alloc: Global, texts: &'a [String]) -> Result<Vec<&'a str>, AllocError> {
-    let mut words = Vec::new(alloc);
-    for text in texts {
-        words.push(text.as_str())?;
-    }
-    Ok(words)
-}
-
-/// The ids in digits.
-fn texts_of(alloc: Global, ids: &[u64]) -> Result<Vec<String>, AllocError> {
-    let mut texts = Vec::new(alloc);
-    for id in ids {
-        texts.push(format!(in alloc; "{id}")?)?;
-    }
-    Ok(texts)
 }

@@ -7,12 +7,12 @@ use Rattle.reh_lint.proofs.lints.lint_lines.Given as goal
 
 abbrev pub invariant-loop-rest : goal.invariant-loop-rest
 invariant-loop-rest l =
-    (string_bytes l.lint.text ++ findings l.path l.known.names.now (l.number + 1) (lines_of l.rest)
-    ≡ findings l.path l.known.names.now 1 (lines_of l.text))
-    × (l.lint.commands + length (filter (is_command l.known.names.now) (lines_of l.rest))
-    ≡ length (filter (is_command l.known.names.now) (lines_of l.text)))
-    × (l.lint.faulty + length (filter (is_faulty l.known.names.now) (lines_of l.rest))
-    ≡ length (filter (is_faulty l.known.names.now) (lines_of l.text)))
+    (string_bytes l.lint.text ++ findings l.path l.known.state.now (l.number + 1) (lines_of l.rest)
+    ≡ findings l.path l.known.state.now 1 (lines_of l.text))
+    × (l.lint.commands + length (filter (is_command l.known.state.now.names) (lines_of l.rest))
+    ≡ length (filter (is_command l.known.state.now.names) (lines_of l.text)))
+    × (l.lint.faulty + length (filter (is_faulty l.known.state.now.names) (lines_of l.rest))
+    ≡ length (filter (is_faulty l.known.state.now.names) (lines_of l.text)))
     × (l.number + length l.rest ≤ length l.text)
     × (l.lint.commands ≤ l.number)
     × (l.lint.faulty ≤ l.number)
