@@ -2,6 +2,7 @@
 use Rattle.std.specs.Prelude.{◌≡◌, ◌⊎◌, ℕ, List, ◌++◌, Option, None, codes}
 use Rattle.std.specs.Fmt.{decimal}
 use Rattle.std.specs.Str.Parse.{digits_value, without_leading_plus}
+use Rattle.reh_types.specs.declared.refusals.Refusal.TheVariants.{NoMemory}
 use Rattle.reh_types.specs.Texts.{refusal_name, refusal_number, refusal_value}
 use Rattle.reh_commands.specs.Script.{form_of}
 use Rattle.reh_commands.specs.declared.verbs.Verb.{Verb}
@@ -11,12 +12,12 @@ use Rattle.reh_help.specs.declared.refusals.Topic.TheVariants.{Refusal, WantOfMe
 -- the number of a refusal that something is said of
 abbrev pub topic_number : Topic → ℕ
 topic_number (Refusal refusal) = refusal_number refusal
-topic_number WantOfMemory = 41
+topic_number WantOfMemory = refusal_number NoMemory
 
 -- its name
 abbrev pub topic_name : Topic → List ℕ
 topic_name (Refusal refusal) = refusal_name refusal
-topic_name WantOfMemory = codes "NoMemory"
+topic_name WantOfMemory = refusal_name NoMemory
 
 -- its value, if it has one
 abbrev pub topic_value : Topic → Option ℕ

@@ -4,7 +4,7 @@ ghost use Rattle.reh_help.specs.Pages.{IsCommandPageOf, IsPageOf};
 
 use crate::advice::advice;
 use crate::commands::effect;
-use crate::refusals::{Topic, meaning, topic_of, value_word};
+use crate::refusals::{Topic, meaning, topics, value_word};
 use reh_commands::Verb;
 use std::alloc::{AllocError, Global};
 
@@ -56,12 +56,10 @@ fn after_name(alloc: Global, verb: Verb) -> Result<String, AllocError> {
 /// The refusals, by their numbers: each with its name, and when it is the answer.
 pub fn refusals_page(alloc: Global) -> Result<String, AllocError> {
     let mut text = String::from_str(alloc, REFUSALS)?;
-    for number in 1..=u8::MAX {
-        if let Some(topic) = topic_of(number) {
-            let name = named(alloc, &topic)?;
-            let meaning = meaning(&topic);
-            write!(text, "{name:<25}{meaning}\n")?;
-        }
+    for topic in topics() {
+        let name = named(alloc, &topic)?;
+        let meaning = meaning(&topic);
+        write!(text, "{name:<25}{meaning}\n")?;
     }
     Ok(text)
 }

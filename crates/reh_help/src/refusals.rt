@@ -1,5 +1,5 @@
 // Refusals by their numbers and names, and what is said of each.
-ghost use Rattle.std.specs.Prelude.{◌≡◌, true, is_some, IfSome};
+ghost use Rattle.std.specs.Prelude.{◌≡◌, ◌==◌, true, find, is_some, IfSome};
 ghost use Rattle.reh_types.specs.Texts.{refusal_number};
 ghost use Rattle.reh_help.specs.Pages.{IsNamedBy, topic_name, topic_number, topic_value};
 
@@ -36,58 +36,75 @@ impl Topic {
     }
 }
 
+/// All refusals that something is said of, in the order of their numbers: for each refusal, one that has its number.
+pub(crate) fn topics() -> [Topic; 44]
+    ensures { (refusal : Refusal)
+        → is_some (find (λ topic. topic_number topic == refusal_number refusal) result) ≡ true }
+{
+    [
+        Topic::Refusal(Refusal::NoBookie),
+        Topic::Refusal(Refusal::NoLedger),
+        Topic::Refusal(Refusal::AlreadyDown),
+        Topic::Refusal(Refusal::AlreadyUp),
+        Topic::Refusal(Refusal::NothingToPublish),
+        Topic::Refusal(Refusal::NoTask),
+        Topic::Refusal(Refusal::Locked(BookieIx(0))),
+        Topic::Refusal(Refusal::NotOwner),
+        Topic::Refusal(Refusal::StillUnder(0)),
+        Topic::Refusal(Refusal::NoLocks),
+        Topic::Refusal(Refusal::NotOpen),
+        Topic::Refusal(Refusal::NotNeeded),
+        Topic::Refusal(Refusal::GraceSet(0)),
+        Topic::Refusal(Refusal::GraceRuns(0)),
+        Topic::Refusal(Refusal::NoGrace),
+        Topic::Refusal(Refusal::BadTick),
+        Topic::Refusal(Refusal::ClockEnd),
+        Topic::Refusal(Refusal::NoFragment),
+        Topic::Refusal(Refusal::NoIndex),
+        Topic::Refusal(Refusal::MemberUp),
+        Topic::Refusal(Refusal::TargetDown),
+        Topic::Refusal(Refusal::TargetIsMember),
+        Topic::Refusal(Refusal::NoEndpoint),
+        Topic::Refusal(Refusal::Stale(0)),
+        Topic::Refusal(Refusal::NoSource(0)),
+        Topic::Refusal(Refusal::MissingEntry(0)),
+        Topic::Refusal(Refusal::Undecided(0)),
+        Topic::Refusal(Refusal::TooFew(0)),
+        Topic::Refusal(Refusal::NotRecovering),
+        Topic::Refusal(Refusal::FragmentsFull),
+        Topic::Refusal(Refusal::EntryEnd),
+        Topic::Refusal(Refusal::VersionEnd),
+        Topic::Refusal(Refusal::NothingToUndo),
+        Topic::Refusal(Refusal::NothingToRedo),
+        Topic::Refusal(Refusal::Full),
+        Topic::Refusal(Refusal::SourceGone(0)),
+        Topic::Refusal(Refusal::NotOut),
+        Topic::Refusal(Refusal::TapeFull),
+        Topic::Refusal(Refusal::HandFull),
+        Topic::Refusal(Refusal::HandEmpty),
+        Topic::WantOfMemory,
+        Topic::Refusal(Refusal::Disabled),
+        Topic::Refusal(Refusal::AlreadyDisabled),
+        Topic::Refusal(Refusal::AlreadyEnabled),
+    ]
+}
+
 /// The refusal of this number. Each number that is printed of a refusal is found.
 pub fn topic_of(number: u8) -> Option<Topic>
     ensures numbered { IfSome result (λ topic. topic_number topic ≡ number) }
     ensures each { (refusal : Refusal) → refusal_number refusal ≡ number → is_some result ≡ true }
 {
-    match number {
-        1 => Some(Topic::Refusal(Refusal::NoBookie)),
-        2 => Some(Topic::Refusal(Refusal::NoLedger)),
-        3 => Some(Topic::Refusal(Refusal::AlreadyDown)),
-        4 => Some(Topic::Refusal(Refusal::AlreadyUp)),
-        5 => Some(Topic::Refusal(Refusal::NothingToPublish)),
-        6 => Some(Topic::Refusal(Refusal::NoTask)),
-        7 => Some(Topic::Refusal(Refusal::Locked(BookieIx(0)))),
-        8 => Some(Topic::Refusal(Refusal::NotOwner)),
-        9 => Some(Topic::Refusal(Refusal::StillUnder(0))),
-        10 => Some(Topic::Refusal(Refusal::NoLocks)),
-        11 => Some(Topic::Refusal(Refusal::NotOpen)),
-        12 => Some(Topic::Refusal(Refusal::NotNeeded)),
-        13 => Some(Topic::Refusal(Refusal::GraceSet(0))),
-        14 => Some(Topic::Refusal(Refusal::GraceRuns(0))),
-        15 => Some(Topic::Refusal(Refusal::NoGrace)),
-        16 => Some(Topic::Refusal(Refusal::BadTick)),
-        17 => Some(Topic::Refusal(Refusal::ClockEnd)),
-        18 => Some(Topic::Refusal(Refusal::NoFragment)),
-        19 => Some(Topic::Refusal(Refusal::NoIndex)),
-        20 => Some(Topic::Refusal(Refusal::MemberUp)),
-        21 => Some(Topic::Refusal(Refusal::TargetDown)),
-        22 => Some(Topic::Refusal(Refusal::TargetIsMember)),
-        23 => Some(Topic::Refusal(Refusal::NoEndpoint)),
-        24 => Some(Topic::Refusal(Refusal::Stale(0))),
-        25 => Some(Topic::Refusal(Refusal::NoSource(0))),
-        26 => Some(Topic::Refusal(Refusal::MissingEntry(0))),
-        27 => Some(Topic::Refusal(Refusal::Undecided(0))),
-        28 => Some(Topic::Refusal(Refusal::TooFew(0))),
-        29 => Some(Topic::Refusal(Refusal::NotRecovering)),
-        30 => Some(Topic::Refusal(Refusal::FragmentsFull)),
-        31 => Some(Topic::Refusal(Refusal::EntryEnd)),
-        32 => Some(Topic::Refusal(Refusal::VersionEnd)),
-        33 => Some(Topic::Refusal(Refusal::NothingToUndo)),
-        34 => Some(Topic::Refusal(Refusal::NothingToRedo)),
-        35 => Some(Topic::Refusal(Refusal::Full)),
-        36 => Some(Topic::Refusal(Refusal::SourceGone(0))),
-        37 => Some(Topic::Refusal(Refusal::NotOut)),
-        38 => Some(Topic::Refusal(Refusal::TapeFull)),
-        39 => Some(Topic::Refusal(Refusal::HandFull)),
-        40 => Some(Topic::Refusal(Refusal::HandEmpty)),
-        41 => Some(Topic::WantOfMemory),
-        42 => Some(Topic::Refusal(Refusal::Disabled)),
-        43 => Some(Topic::Refusal(Refusal::AlreadyDisabled)),
-        44 => Some(Topic::Refusal(Refusal::AlreadyEnabled)),
-        _ => None,
-    }
+    first_numbered(&topics(), number)
+}
+
+/// The first of these that has that number.
+fn first_numbered(topics: &[Topic], number: u8) -> Option<Topic>
+    ensures { result ≡ find (λ topic. topic_number topic == number) topics.now }
+{
+    topics
+        .iter()
+        .copied()
+        .find(|topic| topic.number() == number)
 }
 
 /// The refusal that a word names, by its number or its name.
@@ -104,11 +121,9 @@ pub fn topic_named(word: &str) -> Option<Topic>
 fn topic_by_name(word: &str) -> Option<Topic>
     ensures { IfSome result (λ topic. topic_name topic ≡ word.now) }
 {
-    for number in 1..=u8::MAX {
-        if let Some(topic) = topic_of(number) {
-            if topic.name() == word {
-                return Some(topic);
-            }
+    for topic in topics() {
+        if topic.name() == word {
+            return Some(topic);
         }
     }
     None
