@@ -43,16 +43,25 @@ near_it names line UnknownName = near_word names (unknown_name names (line_words
 near_it names line TooLong = told_nearest []
 near_it names line BadWords = told_nearest []
 
--- what is printed of the n-th line of a script: with this fault, or naming a ledger that isn't there
-abbrev pub placed : List ℕ → ℕ → List ℕ → List ℕ
-placed path n what = path ++ (codes ":" ++ (decimal n ++ (codes ": " ++ (what ++ codes "\n"))))
-
+-- the line that is printed of the n-th line of a script, with this fault
 abbrev pub finding : List ℕ → List (List ℕ) → ℕ → List ℕ → LineFault → List ℕ
-finding path names n line fault = placed path n (line_fault_text fault ++ near_text (near_it names line fault))
+finding path names n line fault =
+    path
+    ++ (codes ":"
+    ++ (decimal n
+    ++ (codes ": "
+    ++ (line_fault_text fault
+    ++ (near_text (near_it names line fault) ++ codes "\n")))))
+
+-- or of one that names a ledger which isn't there, with what is said of near ids
+abbrev pub absent_text : List ℕ → ℕ → ℕ → List ℕ → List ℕ
+absent_text path n l near =
+    path
+    ++ (codes ":"
+    ++ (decimal n ++ (codes ": the picture has no ledger " ++ (decimal l ++ (near ++ codes "\n")))))
 
 abbrev pub missing_text : List ℕ → ℕ → List ℕ → ℕ → List ℕ
-missing_text path n ids l =
-    placed path n (codes "the picture has no ledger " ++ (decimal l ++ near_ids_text ids l))
+missing_text path n ids l = absent_text path n l (near_ids_text ids l)
 
 -- nothing, where a line has no answer, or asks for a command whose ledger there is, or that names none
 abbrev pub finding_of : List ℕ → Cluster → ℕ → List ℕ → Option (Result Command LineFault) → List ℕ

@@ -124,23 +124,26 @@ pub(crate) fn push_missing(
         (missing_ledger known.now.state.now command.now) []) }
 {
     match missing_ledger(known.state, command) {
-        Some(ledger) => push_absent(text, known, path, number, ledger.0),
+        Some(ledger) => {
+            let id = ledger.0;
+            let near = known.near_id(text.allocator().clone()?, id)?;
+            push_absent(text, path, number, id, near.as_str())
+        }
         None => Ok(()),
     }
 }
 
-/// Adds the line for a line that names this ledger, which isn't there.
+/// Adds the line for a line that names this ledger, which isn't there, with what is said of ids near it.
 fn push_absent(
     text: &mut String,
-    known: &Known<'_>,
     path: &str,
     number: usize,
     id: u64,
+    near: &str,
 ) -> Result<(), AllocError>
     ensures { OnOk result (string_bytes text.new ≡ string_bytes text.old
-        ++ model.missing_text path.now number (ids_of known.now.state.now) id) }
+        ++ model.absent_text path.now number id near.now) }
 {
-    let near = known.near_id(text.allocator().clone()?, id)?;
     write!(
         text,
         "{path}:{number}: the picture has no ledger {id}{near}\n"
