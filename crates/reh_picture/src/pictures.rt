@@ -1,11 +1,18 @@
 // A picture as a whole.
-ghost use Rattle.std.specs.Prelude.{◌≡◌, ◌≢◌, ◌*◌, ◌≤◌, All, length, sum_by, Ok, Err, MatchResult, IfOk, IfErr};
+ghost use Rattle.std.specs.Prelude.{◌≡◌, ◌≢◌, ◌*◌, ◌≤◌, [], ◌∷◌, ℕ, Option, All, length, map, sum_by, true, Ok, Err};
+ghost use Rattle.std.specs.Prelude.{MatchResult, IfOk, IfErr};
 ghost use Rattle.std.specs.Result.{result_err};
 ghost use Rattle.serde_json.specs.View.{view};
 ghost use Rattle.reh_types.specs.declared.limits.TheConstants.{ENTRIES_IN_WORD, ENTRY_END, MAX_BOOKIES};
 ghost use Rattle.reh_types.specs.declared.limits.TheConstants.{MAX_LEDGERS};
-ghost use Rattle.reh_fields.specs.Members.{number_of};
-ghost use Rattle.reh_picture.specs.Places.{FailsAt};
+ghost use Rattle.reh_model.specs.Checks.{first_reason};
+ghost use Rattle.reh_model.specs.Cluster.{cluster_of};
+ghost use Rattle.reh_model.specs.WellFormed.{IsWellFormed};
+ghost use Rattle.reh_cluster.specs.Parts.{HasRows};
+ghost use Rattle.reh_fields.specs.Members.{number_of, list_of};
+ghost use Rattle.reh_picture.specs.Places.{FailsAt, fault_at};
+ghost use Rattle.reh_picture.specs.Ledgers.{ledgers_fault, listed_in, ledger_of};
+ghost use Rattle.reh_picture.specs.Contents.{contents_fault, holding_in, held_in, IsGreatest};
 ghost use Rattle.reh_picture.specs.Pictures.{picture_of, located_picture_of, json_in, head_fault, parts_fault};
 ghost use Rattle.reh_picture.specs.Pictures.{fields_fault, pictured_cluster, IsListed, IsShown, delay_fault, delay_of};
 ghost use Rattle.reh_picture.specs.Pictures.{ids_of};
@@ -18,9 +25,10 @@ use indexmap::IndexSet;
 use reh_cluster::{Ledger, Names, State};
 use reh_fields::members::number_within;
 use reh_fields::{Field, PictureFault};
+use reh_held::Held;
 use reh_types::{MAX_DELAY, MAX_GRACE, MAX_PICTURE_BYTES, MAX_WORDS};
 use serde_json::Value;
-use std::alloc::Global;
+use std::alloc::{AllocError, Global};
 
 /// The number of the first format.
 const FIRST_FORMAT: u64 = 1;
@@ -71,17 +79,19 @@ fn read_cluster(alloc: Global, picture: &Value) -> Result<State, LocatedFault>
     ensures fault { FailsAt result (fields_fault (view picture.now)) }
     ensures state { IfOk result (λ state. state ≡ pictured_cluster (view picture.now)) }
 {
-    let Listing {
-        names,
-        lost_at,
-        ticks,
-        ids,
-        ledgers,
-        holdings,
-    } = read_listing(alloc, picture)?;
-    let held = hold(alloc, names.len(), &ledgers, &holdings)?;
-    let Ticks { grace, delay } = ticks;
-    Ok(State::build(names, lost_at, grace, delay, true, ids, ledgers, held))
+    let listing = read_listing(alloc, picture)?;
+    match hold(
+        alloc,
+        listing.names.len(),
+        &listing.ledgers,
+        &listing.holdings,
+    ) {
+        Ok(held) => Ok(listing.into_state(held)),
+        Err(want) => {
+            listing.close();
+            Err(LocatedFault::from(want))
+        }
+    }
 }
 
 /// What a picture lists, whose words are within the limit: the state that it shows can be made of that.
@@ -99,12 +109,59 @@ pub struct Listing {
     pub holdings: Vec<Holding>,
 }
 
+impl Listing {
+    /// Gives back its memory. Where it would be dropped, each function would have a proof of that of its own.
+    pub(crate) fn close(self) {}
+
+    /// The state that it shows, where the bookies hold this.
+    fn into_state(self, held: Held) -> State
+        requires cluster { IsWellFormed (cluster_of self.names self.lost_at.items self.ticks.grace self.ticks.delay true
+            self.ledgers.items held.contents) }
+        requires ids { self.ids.keys ≡ map (λ g. g.id) self.ledgers.items }
+        requires rows { HasRows (length self.names) self.ledgers.items held }
+        ensures { result ≡ cluster_of self.names self.lost_at.items self.ticks.grace self.ticks.delay true
+            self.ledgers.items held.contents }
+    {
+        let Ticks { grace, delay } = self.ticks;
+        let Listing {
+            names,
+            lost_at,
+            ids,
+            ledgers,
+            ..
+        } = self;
+        State::build(names, lost_at, grace, delay, true, ids, ledgers, held)
+    }
+}
+
 /// What a picture's fields list.
 pub(crate) fn read_listing(alloc: Global, picture: &Value) -> Result<Listing, LocatedFault>
     ensures fault { FailsAt result (fields_fault (view picture.now)) }
     ensures listed { IfOk result (λ l. IsListed (view picture.now)
         l.names l.lost_at.items l.ticks.grace l.ticks.delay l.ledgers.items l.holdings.items) }
     ensures ids { IfOk result (λ l. l.ids.keys ≡ ids_of (view picture.now)) }
+{
+    let parts = read_parts(alloc, picture)?;
+    let listing = listing_of(alloc, parts)?;
+    if words_in_all(listing.names.len(), &listing.ledgers) > MAX_WORDS {
+        listing.close();
+        return Err(LocatedFault::new(PictureFault::Limit(Field::Contents), Place::Picture));
+    }
+    Ok(listing)
+}
+
+/// What these parts list, each ledger with as many words as reach its greatest entry.
+fn listing_of(alloc: Global, parts: PictureParts) -> Result<Listing, AllocError>
+    requires { All (λ holding. All (λ range. range.0 ≤ range.1) holding.ranges) parts.holdings.items }
+    ensures names { IfOk result (λ l. l.names ≡ parts.names) }
+    ensures lost_at { IfOk result (λ l. l.lost_at.items ≡ parts.lost_at.items) }
+    ensures grace { IfOk result (λ l. l.ticks.grace ≡ parts.ticks.grace) }
+    ensures delay { IfOk result (λ l. l.ticks.delay ≡ parts.ticks.delay) }
+    ensures ids { IfOk result (λ l. l.ids.keys ≡ parts.ids.keys) }
+    ensures ledgers { IfOk result (λ l. (ends : ℕ → Option ℕ)
+        × IsGreatest ends (held_in parts.holdings.items)
+        × (l.ledgers.items ≡ map (ledger_of ends) parts.listed.items)) }
+    ensures holdings { IfOk result (λ l. l.holdings.items ≡ parts.holdings.items) }
 {
     let PictureParts {
         names,
@@ -113,12 +170,8 @@ pub(crate) fn read_listing(alloc: Global, picture: &Value) -> Result<Listing, Lo
         ids,
         listed,
         holdings,
-    } = read_parts(alloc, picture)?;
-    let greatest = greatest_ends(alloc, &holdings)?;
-    let ledgers = with_words(alloc, listed, &greatest)?;
-    if words_in_all(names.len(), &ledgers) > MAX_WORDS {
-        return Err(LocatedFault::new(PictureFault::Limit(Field::Contents), Place::Picture));
-    }
+    } = parts;
+    let ledgers = reaching(alloc, listed, &holdings)?;
     Ok(Listing {
         names,
         lost_at,
@@ -127,6 +180,21 @@ pub(crate) fn read_listing(alloc: Global, picture: &Value) -> Result<Listing, Lo
         ledgers,
         holdings,
     })
+}
+
+/// The listed ledgers, each with as many words as reach its greatest entry that is held.
+fn reaching(
+    alloc: Global,
+    listed: Vec<ListedLedger>,
+    holdings: &[Holding],
+) -> Result<Vec<Ledger>, AllocError>
+    requires { All (λ holding. All (λ range. range.0 ≤ range.1) holding.ranges) holdings.now }
+    ensures { IfOk result (λ ledgers. (ends : ℕ → Option ℕ) × IsGreatest ends (held_in holdings.now)
+        × (ledgers.items ≡ map (ledger_of ends) listed.items)) }
+{
+    let greatest = greatest_ends(alloc, holdings)?;
+    let ledgers = with_words(alloc, listed, &greatest)?;
+    Ok(ledgers)
 }
 
 /// How many words of entries so many bookies take, each as many for a ledger as it has.
@@ -198,16 +266,56 @@ fn read_parts(alloc: Global, picture: &Value) -> Result<PictureParts, LocatedFau
         p.names p.lost_at.items p.ticks.grace p.ticks.delay p.listed.items p.holdings.items) }
     ensures ids { IfOk result (λ p. p.ids.keys ≡ ids_of (view picture.now)) }
 {
-    let ticks = read_ticks(picture).map_err(|fault| LocatedFault::new(fault, Place::Picture))?;
+    let ticks = read_ticks_at(picture)?;
     let (names, lost_at) = read_bookies(alloc, picture)?;
-    let Ledgers { ids, listed } = read_ledgers(alloc, &names, picture)?;
-    let holdings = read_contents(alloc, &names, &ids, picture)?;
-    Ok(PictureParts {
-        names,
-        lost_at,
-        ticks,
-        ids,
-        listed,
-        holdings,
-    })
+    match read_lists(alloc, &names, picture) {
+        Ok((ledgers, holdings)) => {
+            let Ledgers { ids, listed } = ledgers;
+            Ok(PictureParts {
+                names,
+                lost_at,
+                ticks,
+                ids,
+                listed,
+                holdings,
+            })
+        }
+        Err(fault) => Err(fault),
+    }
+}
+
+/// The grace and the delay of a picture, in ticks, or a fault with its place.
+fn read_ticks_at(picture: &Value) -> Result<Ticks, LocatedFault>
+    ensures fault { FailsAt result (fault_at Place.Picture (head_fault (view picture.now))) }
+    ensures grace { IfOk result
+        (λ ticks. ticks.grace ≡ number_of (view picture.now) Field.Grace) }
+    ensures delay { IfOk result (λ ticks. ticks.delay ≡ delay_of (view picture.now)) }
+{
+    match read_ticks(picture) {
+        Ok(ticks) => Ok(ticks),
+        Err(fault) => Err(LocatedFault::new(fault, Place::Picture)),
+    }
+}
+
+/// The ledgers of a picture, and what its bookies hold.
+fn read_lists(
+    alloc: Global,
+    names: &Names,
+    picture: &Value,
+) -> Result<(Ledgers, Vec<Holding>), LocatedFault>
+    ensures fault { FailsAt result (first_reason (
+        ledgers_fault names.now (view picture.now)
+        ∷ contents_fault names.now (ids_of (view picture.now)) (view picture.now)
+        ∷ [])) }
+    ensures ids { IfOk result (λ r. r.0.ids.keys ≡ ids_of (view picture.now)) }
+    ensures listed { IfOk result (λ r. r.0.listed.items
+        ≡ map (listed_in names.now) (list_of (view picture.now) Field.Ledgers)) }
+    ensures holdings { IfOk result (λ r. r.1.items
+        ≡ map (holding_in names.now) (list_of (view picture.now) Field.Contents)) }
+{
+    let ledgers = read_ledgers(alloc, names, picture)?;
+    match read_contents(alloc, names, &ledgers.ids, picture) {
+        Ok(holdings) => Ok((ledgers, holdings)),
+        Err(fault) => Err(fault),
+    }
 }

@@ -19,7 +19,7 @@ use Rattle.reh_picture.proofs.pictures.read_cluster.Goals as goal
 pub hold-requires-clause-few : goal.hold-requires-clause-few
 hold-requires-clause-few c =
     let d = view c.args.picture.now in
-    let read = c.in_ok-names.ensures in
+    let read = c.in_ok-listing.ensures in
     omega (
       arith,
       ap (λ (ledgers : List Ledger). length ledgers) (c.deref.ensures.value ∙ read.listed.ledgers_are),
@@ -30,7 +30,7 @@ hold-requires-clause-few c =
 pub hold-requires-clause-different : goal.hold-requires-clause-different
 hold-requires-clause-different c =
     let d = view c.args.picture.now in
-    let read = c.in_ok-names.ensures in
+    let read = c.in_ok-listing.ensures in
     subst (λ (ledgers : List Ledger). IsDistinct nat_eq (map (λ g. g.id) ledgers))
     (sym (c.deref.ensures.value ∙ read.listed.ledgers_are))
     (pictured_ids d (IsFaultless-none d (parts_of-none d read.fault)))
@@ -38,7 +38,7 @@ hold-requires-clause-different c =
 pub hold-requires-clause-words : goal.hold-requires-clause-words
 hold-requires-clause-words c =
     let d = view c.args.picture.now in
-    let read = c.in_ok-names.ensures in
+    let read = c.in_ok-listing.ensures in
     subst (λ (ledgers : List Ledger). All (λ g. ENTRIES_IN_WORD * g.words ≤ ENTRY_END) ledgers)
     (sym (c.deref.ensures.value ∙ read.listed.ledgers_are))
     (pictured_words d (IsFaultless-none d (parts_of-none d read.fault)))
@@ -46,38 +46,38 @@ hold-requires-clause-words c =
 pub hold-requires-clause-ends : goal.hold-requires-clause-ends
 hold-requires-clause-ends c =
     let d = view c.args.picture.now in
-    let read = c.in_ok-names.ensures in
+    let read = c.in_ok-listing.ensures in
     ends-shown d _ _ _ (IsFaultless-none d (parts_of-none d read.fault))
     (c.len.ensures.count ∙ ap (λ (names : List (List ℕ)). length names) read.listed.names_are)
     (c.deref.ensures.value ∙ read.listed.ledgers_are) (c.deref-2.ensures.value ∙ read.listed.holdings_are)
 
-pub build-requires-clause-cluster : goal.build-requires-clause-cluster
-build-requires-clause-cluster c =
+pub into_state-requires-clause-cluster : goal.into_state-requires-clause-cluster
+into_state-requires-clause-cluster c =
     let d = view c.args.picture.now in
-    let read = c.in_ok-names.ensures in
+    let read = c.in_ok-listing.ensures in
     let whole =
     cluster_of-listed d _ _ _ _ _ _ _ read.listed
-    (c.in_ok-held.ensures.contents ∙ ap (λ (holdings : List Holding). held_in holdings) c.deref-2.ensures.value) in
+    (c.in-Ok.ensures.contents ∙ ap (λ (holdings : List Holding). held_in holdings) c.deref-2.ensures.value) in
     subst (λ (s : Cluster). IsWellFormed s) (sym whole)
     (IsWellFormed-pictured_cluster d (IsFaultless-none d (parts_of-none d read.fault)) (words_of-none d read.fault))
 
-pub build-requires-clause-ids : goal.build-requires-clause-ids
-build-requires-clause-ids c =
+pub into_state-requires-clause-ids : goal.into_state-requires-clause-ids
+into_state-requires-clause-ids c =
     let d = view c.args.picture.now in
-    let read = c.in_ok-names.ensures in
+    let read = c.in_ok-listing.ensures in
     read.ids
     ∙ sym (ap (λ (ledgers : List Ledger). map (λ g. g.id) ledgers) read.listed.ledgers_are
     ∙ ids_made (names_of d) (contents_of d) (list_of d field.Ledgers))
 
 -- there is no memory for the rows
-pub returns-in_err-held-clause-fault : goal.returns-in_err-held-clause-fault
-returns-in_err-held-clause-fault c = search (rules, c.from_residual-in_err-held.ensures)
+pub returns-in-Err-clause-fault : goal.returns-in-Err-clause-fault
+returns-in-Err-clause-fault c = search (rules, c.from.ensures)
 
-pub returns-clause-state : goal.returns-clause-state
-returns-clause-state c =
+pub returns-in-Ok-clause-state : goal.returns-in-Ok-clause-state
+returns-in-Ok-clause-state c =
     let d = view c.args.picture.now in
-    let read = c.in_ok-names.ensures in
+    let read = c.in_ok-listing.ensures in
     let whole =
     cluster_of-listed d _ _ _ _ _ _ _ read.listed
-    (c.in_ok-held.ensures.contents ∙ ap (λ (holdings : List Holding). held_in holdings) c.deref-2.ensures.value) in
-    c.build.ensures ∙ whole
+    (c.in-Ok.ensures.contents ∙ ap (λ (holdings : List Holding). held_in holdings) c.deref-2.ensures.value) in
+    c.into_state.ensures ∙ whole

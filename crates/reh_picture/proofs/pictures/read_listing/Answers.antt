@@ -1,8 +1,6 @@
 -- The ledgers of the parts are those that the picture shows, and their words are within the limit, or that is the fault.
-use Rattle.std.proofs.Common.{◌≡◌, ◌≤◌, ◌*◌, ◌∙◌, List, length, sym, ap, subst, arith}
+use Rattle.std.proofs.Common.{◌≡◌, ◌≤◌, ◌*◌, ◌∙◌, List, length, refl, sym, ap, subst, arith}
 use Rattle.std.specs.Prelude.{All}
-use Rattle.std.specs.BTreeMap.{get}
-use Rattle.std.specs.Ordering.{nat_cmp}
 use Rattle.std.proofs.lemmas.List.{length-map}
 use Rattle.serde_json.specs.View.{view}
 use Rattle.reh_types.specs.declared.limits.TheConstants.{ENTRIES_IN_WORD, ENTRY_END}
@@ -16,22 +14,23 @@ use Rattle.reh_picture.proofs.Sound.{IsFaultless-none, contents_rise, pictured_w
 use Rattle.reh_picture.proofs.Sound.{words_in_all-shown, fields_fault-within, fields_fault-past}
 use Rattle.reh_picture.proofs.pictures.read_listing.Goals as goal
 
-pub greatest_ends-requires : goal.greatest_ends-requires
-greatest_ends-requires c =
+pub listing_of-requires : goal.listing_of-requires
+listing_of-requires c =
     let d = view c.args.picture.now in
-    let read = c.in_ok-names.ensures in
+    let read = c.in_ok-parts.ensures in
     subst (λ (holdings : List Holding). All (λ holding. All (λ range. range.0 ≤ range.1) holding.ranges) holdings)
-    (sym (c.deref.ensures.value ∙ read.shown.holdings_are))
+    (sym read.shown.holdings_are)
     (contents_rise (names_of d) (ids_of d) (list_of d field.Contents) (IsFaultless-none d read.fault).each_content)
 
 pub words_in_all-requires-clause-ledgers : goal.words_in_all-requires-clause-ledgers
 words_in_all-requires-clause-ledgers c =
     let d = view c.args.picture.now in
-    let read = c.in_ok-names.ensures in
+    let read = c.in_ok-parts.ensures in
+    let told = c.in_ok-listing.ensures in
     let made =
-    c.deref-2.ensures.value
-    ∙ ledgers-shown d _ _ _ _ _ _ c.deref.result.now (get nat_cmp c.in_ok-greatest.greatest) _ read.shown
-    c.deref.ensures.value c.in_ok-greatest.ensures c.in_ok-ledgers.ensures in
+    c.deref.ensures.value
+    ∙ ledgers-shown d _ _ _ _ _ _ c.in_ok-parts.parts.holdings.items told.ledgers.0 _ read.shown refl told.ledgers.1
+    told.ledgers.2 in
     omega (
       arith,
       ap (λ (ledgers : List Ledger). length ledgers) made,
@@ -42,50 +41,55 @@ words_in_all-requires-clause-ledgers c =
 pub words_in_all-requires-clause-words : goal.words_in_all-requires-clause-words
 words_in_all-requires-clause-words c =
     let d = view c.args.picture.now in
-    let read = c.in_ok-names.ensures in
+    let read = c.in_ok-parts.ensures in
+    let told = c.in_ok-listing.ensures in
     let made =
-    c.deref-2.ensures.value
-    ∙ ledgers-shown d _ _ _ _ _ _ c.deref.result.now (get nat_cmp c.in_ok-greatest.greatest) _ read.shown
-    c.deref.ensures.value c.in_ok-greatest.ensures c.in_ok-ledgers.ensures in
+    c.deref.ensures.value
+    ∙ ledgers-shown d _ _ _ _ _ _ c.in_ok-parts.parts.holdings.items told.ledgers.0 _ read.shown refl told.ledgers.1
+    told.ledgers.2 in
     subst (λ (ledgers : List Ledger). All (λ g. ENTRIES_IN_WORD * g.words ≤ ENTRY_END) ledgers) (sym made)
     (pictured_words d (IsFaultless-none d read.fault))
 
 pub returns-then-words_in_all-gt-MAX_WORDS-clause-fault : goal.returns-then-words_in_all-gt-MAX_WORDS-clause-fault
 returns-then-words_in_all-gt-MAX_WORDS-clause-fault c =
     let d = view c.args.picture.now in
-    let read = c.in_ok-names.ensures in
+    let read = c.in_ok-parts.ensures in
+    let told = c.in_ok-listing.ensures in
     let made =
-    c.deref-2.ensures.value
-    ∙ ledgers-shown d _ _ _ _ _ _ c.deref.result.now (get nat_cmp c.in_ok-greatest.greatest) _ read.shown
-    c.deref.ensures.value c.in_ok-greatest.ensures c.in_ok-ledgers.ensures in
+    c.deref.ensures.value
+    ∙ ledgers-shown d _ _ _ _ _ _ c.in_ok-parts.parts.holdings.items told.ledgers.0 _ read.shown refl told.ledgers.1
+    told.ledgers.2 in
     let words : c.words_in_all.result ≡ words_in_all (pictured_cluster d) =
-    words_in_all-shown d _ _ _ _ read.shown.names_are made c.len.ensures.count c.words_in_all.ensures in
+    words_in_all-shown d _ _ _ _ (told.names ∙ read.shown.names_are) made c.len.ensures.count c.words_in_all.ensures in
     rw c.new.ensures (λ known. fields_fault-past d read.fault (omega (arith, words)))
 
 pub returns-clause-fault : goal.returns-clause-fault
 returns-clause-fault c =
     let d = view c.args.picture.now in
-    let read = c.in_ok-names.ensures in
+    let read = c.in_ok-parts.ensures in
+    let told = c.in_ok-listing.ensures in
     let made =
-    c.deref-2.ensures.value
-    ∙ ledgers-shown d _ _ _ _ _ _ c.deref.result.now (get nat_cmp c.in_ok-greatest.greatest) _ read.shown
-    c.deref.ensures.value c.in_ok-greatest.ensures c.in_ok-ledgers.ensures in
+    c.deref.ensures.value
+    ∙ ledgers-shown d _ _ _ _ _ _ c.in_ok-parts.parts.holdings.items told.ledgers.0 _ read.shown refl told.ledgers.1
+    told.ledgers.2 in
     let words : c.words_in_all.result ≡ words_in_all (pictured_cluster d) =
-    words_in_all-shown d _ _ _ _ read.shown.names_are made c.len.ensures.count c.words_in_all.ensures in
+    words_in_all-shown d _ _ _ _ (told.names ∙ read.shown.names_are) made c.len.ensures.count c.words_in_all.ensures in
     fields_fault-within d read.fault (omega (arith, words))
 
 pub returns-clause-listed : goal.returns-clause-listed
 returns-clause-listed c =
     let d = view c.args.picture.now in
-    let read = c.in_ok-names.ensures in
-    let made =
-    ledgers-shown d _ _ _ _ _ _ c.deref.result.now (get nat_cmp c.in_ok-greatest.greatest) _ read.shown
-    c.deref.ensures.value c.in_ok-greatest.ensures c.in_ok-ledgers.ensures in
-    record {
-      names_are = read.shown.names_are;
-      lost_are = read.shown.lost_are;
-      grace_is = read.shown.grace_is;
-      delay_is = read.shown.delay_is;
-      ledgers_are = made;
-      holdings_are = read.shown.holdings_are;
+    let read = c.in_ok-parts.ensures in
+    let told = c.in_ok-listing.ensures in record {
+      names_are = told.names ∙ read.shown.names_are;
+      lost_are = told.lost_at ∙ read.shown.lost_are;
+      grace_is = told.grace ∙ read.shown.grace_is;
+      delay_is = told.delay ∙ read.shown.delay_is;
+      ledgers_are =
+          ledgers-shown d _ _ _ _ _ _ c.in_ok-parts.parts.holdings.items told.ledgers.0 _ read.shown refl
+          told.ledgers.1 told.ledgers.2;
+      holdings_are = told.holdings ∙ read.shown.holdings_are;
     }
+
+pub returns-clause-ids : goal.returns-clause-ids
+returns-clause-ids c = c.in_ok-listing.ensures.ids ∙ c.in_ok-parts.ensures.ids
