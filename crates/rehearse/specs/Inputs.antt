@@ -1,5 +1,5 @@
 -- What is read of the files of a cluster, and what is said of it.
-use Rattle.std.specs.Prelude.{◌≡◌, ◌⊎◌, ℕ, ◌%◌, Bool, true, false, if◌then◌else◌, List, [], ◌++◌, All, Option, Result, Ok, Err, String, codes, length, map, nat_eq, slice_get, string_bytes, vec_len, IfOk}
+use Rattle.std.specs.Prelude.{◌≡◌, ◌⊎◌, ℕ, ◌%◌, Bool, true, false, if◌then◌else◌, List, [], ◌++◌, All, Option, Result, Ok, Err, String, codes, length, map, nat_eq, slice_get, string_bytes, vec_len, IfOk, IfSome}
 use Rattle.std.specs.Borrow.{Bor}
 use Rattle.std.specs.Fmt.{decimal}
 use Rattle.std.specs.List.{flat_map, IsDistinct}
@@ -68,6 +68,16 @@ pub record IsAfterSome (text : List ℕ) : Type 0 where
   pub script : List ℕ
   pub is_after : IsAfter picture script text
 
+-- a file shows what the picture of such a state shows
+pub record IsOfEnd (file : FileInput) : Type 0 where
+  pub text : List ℕ
+  pub is_after : IsAfterSome text
+  pub is_read : IsRead text file.input
+
+-- after a script each of the files does
+abbrev pub AreAfter : Inputs → List FileInput → Type 0
+AreAfter words files = IfSome words.after (λ script. All IsOfEnd files)
+
 -- what files show, the ids of each one's ledgers, and what each is
 pub record IsParted (files : List FileInput) (parted : Parted) : Type 0 where
   pub inputs : parted.inputs.items ≡ map (λ file. file.input) files
@@ -87,6 +97,7 @@ pub record IsOfFiles (words : Inputs) (gathered : Gathered) : Type 0 where
   pub files : List FileInput
   pub each_file : length files ≡ vec_len words.files
   pub are_read : All IsOfFile files
+  pub after : AreAfter words files
   pub apart : AreApart files
   pub gathers : Gathers (map (λ file. file.input) files) words.strict gathered
 

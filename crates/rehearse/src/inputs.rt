@@ -217,6 +217,7 @@ fn read_inputs<R: thread::Threads + Wait + Sync>(
 ) -> Result<Vec<FileInput>, RunFault>
     ensures each { IfOk result (λ read. length read.items ≡ vec_len inputs.now.files) }
     ensures read { IfOk result (λ read. All model.IsOfFile read.items) }
+    ensures after { IfOk result (λ read. model.AreAfter inputs.now read.items) }
 {
     match inputs.after {
         None => read_files(rt, threads, inputs, progress),
@@ -228,6 +229,7 @@ fn read_inputs<R: thread::Threads + Wait + Sync>(
 fn read_end(rt: &HostRuntime, files: &[&str], script: &str) -> Result<Vec<FileInput>, RunFault>
     ensures each { IfOk result (λ read. length read.items ≡ length files.now) }
     ensures read { IfOk result (λ read. All model.IsOfFile read.items) }
+    ensures end { IfOk result (λ read. All model.IsOfEnd read.items) }
 {
     let [picture] = files else {
         return Err(several_files(rt.alloc()));
@@ -253,7 +255,8 @@ fn several_files(alloc: Global) -> RunFault {
 
 /// What the state shows to which a script leads from a picture.
 fn end_of(rt: &HostRuntime, picture: &str, script: &str) -> Result<FileInput, RunFault>
-    ensures { IfOk result model.IsOfFile }
+    ensures of { IfOk result model.IsOfFile }
+    ensures end { IfOk result model.IsOfEnd }
 {
     let text = text_after(rt, picture, script)?;
     match read_input(rt.alloc(), text.as_bytes()) {
@@ -431,7 +434,8 @@ fn of_inventory(counted: CountedInventory, kind: FileKind) -> FileInput
 
 /// What the bytes of a picture or of a census show.
 fn of_bytes(alloc: Global, input: Input) -> Result<FileInput, AllocError>
-    ensures { IfOk result (λ file. (bytes : List ℕ) → IsRead bytes input → model.IsOfBytes file) }
+    ensures input { IfOk result (λ file. file.input ≡ input) }
+    ensures of { IfOk result (λ file. (bytes : List ℕ) → IsRead bytes input → model.IsOfBytes file) }
 {
     let ids = ids_of(alloc, &input)?;
     Ok(FileInput {

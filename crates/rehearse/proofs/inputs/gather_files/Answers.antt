@@ -13,6 +13,7 @@ returns g c = record {
     files = c.in_ok-read.read.items;
     each_file = c.in_ok-read.ensures.each;
     are_read = c.in_ok-read.ensures.read;
+    after = c.in_ok-read.ensures.after;
     apart =
         subst (λ (ids : List (Vec ℕ Global)). IsDistinct nat_eq (flat_map (λ list. list.items) ids)) c.in_ok-read-2.ensures.ids
         c.in_ok-gathered.ensures.apart;
