@@ -1,5 +1,5 @@
 -- The plan that the command line asks for, and what is printed of it.
-use Rattle.std.specs.Prelude.{◌≡◌, ℕ, ◌==◌, ◌++◌, ◌&&◌, Bool, true, false, List, [], ◌∷◌, Some, Ok, codes, if◌then◌else◌, length, map, nat_lt, slice_get, take}
+use Rattle.std.specs.Prelude.{◌≡◌, ℕ, ◌==◌, ◌++◌, ◌&&◌, Bool, true, false, List, [], ◌∷◌, Some, Ok, codes, IfSome, if◌then◌else◌, length, map, nat_lt, slice_get, take}
 use Rattle.std.specs.Borrow.{Bor}
 use Rattle.std.specs.Fmt.{decimal}
 use Rattle.std.specs.Option.{option_map_or}
@@ -23,6 +23,7 @@ use Rattle.reh_plan.specs.Summaries.{IsSum, is_whole, summary_text}
 use Rattle.reh_plan.specs.Workers.{may_work}
 use Rattle.reh_plan.specs.declared.planning.Planned.{Planned}
 use Rattle.reh_words.specs.declared.tasks.PlanWords.{PlanWords}
+use Rattle.rehearse.specs.Inputs.{IsAfterSome}
 use Rattle.rehearse.specs.declared.plans.Asked.{Asked}
 
 -- in which racks the bookies stand, by the marks of as many as there can be
@@ -80,9 +81,14 @@ PrintsPlan false false true p text =
     text ≡ text_of (runbook_lines p.plan.state.names p.plan.lines p.summary.unreadable)
 PrintsPlan false false false p text = lines_of text ≡ p.plan.lines
 
+-- after a script the bytes are the picture of some state to which some script leads
+abbrev pub IsPictureFor : PlanWords → List ℕ → Type 0
+IsPictureFor words bytes = IfSome words.after (λ script. IsAfterSome bytes)
+
 -- a plan as these words ask, for some picture
 pub record IsPlanned (words : PlanWords) (p : Planned) : Type 0 where
   pub bytes : List ℕ
+  pub picture : IsPictureFor words bytes
   pub planned : IsPlanFor bytes words p
 
 -- 0 where nothing is left and no entry is lost, else 8

@@ -113,17 +113,22 @@ fn picture_bytes(
     rt: &HostRuntime,
     words: &PlanWords<'_>,
     progress: &Progress,
-) -> Result<Vec<u8>, RunFault> {
-    let bytes = match words.after {
-        None => read_picture(rt, words.picture)?,
+) -> Result<Vec<u8>, RunFault>
+    ensures { IfOk result (λ bytes. model.IsPictureFor words.now bytes.items) }
+{
+    match words.after {
+        None => {
+            let bytes = read_picture(rt, words.picture)?;
+            progress.count();
+            Ok(bytes)
+        }
         Some(script) => {
             let text = text_after(rt, words.picture, script)?;
             progress.count();
-            text.into_bytes()
+            progress.count();
+            Ok(text.into_bytes())
         }
-    };
-    progress.count();
-    Ok(bytes)
+    }
 }
 
 /// The plan for the picture of these bytes.
