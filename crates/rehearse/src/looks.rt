@@ -1,4 +1,7 @@
 // How the program shows what it says: in colour or not, and with more than faults on standard error or not.
+ghost use Rattle.std.specs.Prelude.{◌≡◌};
+ghost use Rattle.rehearse.specs.Colors as model;
+
 use crate::faults::RunFault;
 use crate::files::write_out;
 use reh_colors::{Color, Shade, colored};
@@ -38,8 +41,13 @@ impl Looks {
     }
 
     /// Whether what is printed of each line has colours. JSON has none.
-    pub(crate) fn colors(self, prints: Prints) -> bool {
-        self.colors_answers && prints != Prints::Json
+    pub(crate) fn colors(self, prints: Prints) -> bool
+        ensures { result ≡ model.has_colors self.colors_answers prints }
+    {
+        match prints {
+            Prints::Answers | Prints::Changes => self.colors_answers,
+            Prints::Json => false,
+        }
     }
 }
 
