@@ -1,5 +1,5 @@
--- How the run of a question ends. Where no fault ends it, its status is that of what was answered.
-use Rattle.std.specs.Prelude.{◌≡◌, ◌⊎◌, ℕ, List, String, Result, Ok, Err}
+-- How a run ends. Where no fault ends it, its status is 0, or that of what was answered.
+use Rattle.std.specs.Prelude.{◌≡◌, ◌⊎◌, ℕ, List, Some, String, Result, Ok, Err}
 use Rattle.std.specs.declared.alloc.Global.{Global}
 use Rattle.reh_stop.specs.declared.stops.Said.{Said}
 use Rattle.reh_words.specs.declared.tasks.CensusWords.{CensusWords}
@@ -8,6 +8,7 @@ use Rattle.reh_words.specs.declared.tasks.StopWords.{StopWords}
 use Rattle.reh_words.specs.declared.tasks.Task.{Task}
 use Rattle.reh_words.specs.declared.tasks.Task.TheVariants as task
 use Rattle.reh_words.specs.declared.tasks.WaveWords.{WaveWords}
+use Rattle.rehearse.specs.Checks.{IsChecked}
 use Rattle.rehearse.specs.Faults.{status_number}
 use Rattle.rehearse.specs.Inputs.{SaysCensus, SaysRisk, SaysStop, SaysWaves}
 use Rattle.rehearse.specs.Plans.{IsStatus}
@@ -29,14 +30,15 @@ EndsRisk words = (text : String Global) × SaysRisk words text
 abbrev pub EndsCensus : CensusWords → Type 0
 EndsCensus words = (text : String Global) × SaysCensus words text
 
--- what is asked was answered, and that is the status; of tasks that ask no question nothing is said
+-- what is asked was answered, and that is the status; of tasks that ask no question it is 0
 abbrev pub Answers : Task → ℕ → Type 0
 Answers (task.Stop words) status = EndsStop words status
 Answers (task.Waves words) status = EndsWaves words × (status ≡ 0)
 Answers (task.Risk words) status = EndsRisk words × (status ≡ 0)
 Answers (task.Census words) status = EndsCensus words × (status ≡ 0)
 Answers (task.Plan words) status = IsStatus words status
-Answers other status = Unit {0}
+Answers (task.Check picture (Some script)) status = IsChecked status
+Answers other status = status ≡ 0
 
 -- the status of a run that ends well is 0
 abbrev pub done_well : Result (Unit {0}) RunFault → Result ℕ RunFault

@@ -1,4 +1,5 @@
 pub mod Against
+pub mod Checks
 pub mod Colors
 pub mod Cuts
 pub mod Endings
