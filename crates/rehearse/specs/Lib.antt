@@ -7,5 +7,6 @@ pub mod Faults
 pub mod Inputs
 pub mod Inventories
 pub mod Mistaken
+pub mod Names
 pub mod Plans
 pub mod Runs

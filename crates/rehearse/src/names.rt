@@ -1,4 +1,7 @@
 // Bookies and racks that words of the command line name.
+ghost use Rattle.std.specs.Prelude.{◌≡◌};
+ghost use Rattle.rehearse.specs.Names as model;
+
 use crate::faults::RunFault;
 use reh_cluster::Names;
 use reh_inputs::{Cluster, ClusterNames};
@@ -48,7 +51,9 @@ fn known_text(alloc: Global, known: &[&str], name: &str) -> Result<String, Alloc
 }
 
 /// That the name is no bookie's of any input, and what is near; or out of memory.
-pub(crate) fn unknown_to_all(alloc: Global, names: &ClusterNames, name: &str) -> RunFault {
+pub(crate) fn unknown_to_all(alloc: Global, names: &ClusterNames, name: &str) -> RunFault
+    ensures { model.IsOfNames result }
+{
     misnamed(unknown_to_all_text(alloc, names, name))
 }
 
@@ -67,7 +72,9 @@ fn unknown_to_all_text(
 }
 
 /// That the name is no bookie's rack, and what is near; or out of memory.
-pub(crate) fn unknown_rack(alloc: Global, cluster: &Cluster, name: &str) -> RunFault {
+pub(crate) fn unknown_rack(alloc: Global, cluster: &Cluster, name: &str) -> RunFault
+    ensures { model.IsOfNames result }
+{
     misnamed(unknown_rack_text(alloc, cluster, name))
 }
 
@@ -84,27 +91,37 @@ fn unknown_rack_text(alloc: Global, cluster: &Cluster, name: &str) -> Result<Str
 }
 
 /// That no bookie is named; or out of memory.
-pub(crate) fn nobody(alloc: Global) -> RunFault {
+pub(crate) fn nobody(alloc: Global) -> RunFault
+    ensures { model.IsMisnamed model.nobody_text result }
+{
     misnamed(format!(in alloc; "no bookie is named: give --lose or --lose-rack"))
 }
 
 /// That the word of this number names a bookie which a word before it names; or out of memory.
-pub(crate) fn named_twice(alloc: Global, words: &[&str], number: usize) -> RunFault {
+pub(crate) fn named_twice(alloc: Global, words: &[&str], number: usize) -> RunFault
+    ensures { model.IsMisnamed (model.again_text (model.word_at words.now number)) result }
+{
     named_again(alloc, name_at(words, number))
 }
 
 /// That the bookie of this name is named before, too; or out of memory.
-pub(crate) fn named_again(alloc: Global, name: &str) -> RunFault {
+pub(crate) fn named_again(alloc: Global, name: &str) -> RunFault
+    ensures { model.IsMisnamed (model.again_text name.now) result }
+{
     misnamed(format!(in alloc; "bookie '{name}' is named twice"))
 }
 
 /// That the word can be read in two ways; or out of memory.
-pub(crate) fn ambiguous(alloc: Global, word: &str) -> RunFault {
+pub(crate) fn ambiguous(alloc: Global, word: &str) -> RunFault
+    ensures { model.IsMisnamed (model.ambiguous_text word.now) result }
+{
     misnamed(format!(in alloc; "'{word}' is one bookie, and a list of others"))
 }
 
 /// The fault with this text.
-pub(crate) fn misnamed(text: Result<String, AllocError>) -> RunFault {
+pub(crate) fn misnamed(text: Result<String, AllocError>) -> RunFault
+    ensures { model.TellsText text result }
+{
     match text {
         Ok(text) => RunFault::Misnamed(text),
         Err(want) => RunFault::from(want),
@@ -112,7 +129,9 @@ pub(crate) fn misnamed(text: Result<String, AllocError>) -> RunFault {
 }
 
 /// The word of that number.
-fn name_at<'a>(words: &[&'a str], number: usize) -> &'a str {
+fn name_at<'a>(words: &[&'a str], number: usize) -> &'a str
+    ensures { result.now ≡ model.word_at words.now number }
+{
     match words.get(number) {
         Some(name) => *name,
         None => "",

@@ -4,6 +4,7 @@ ghost use Rattle.reh_stop.specs.Stops.{IsJudged};
 ghost use Rattle.rehearse.specs.Against.{SaysOf};
 ghost use Rattle.rehearse.specs.Endings.{EndsStop};
 ghost use Rattle.rehearse.specs.Inputs.{AreGathered, SaysStop};
+ghost use Rattle.rehearse.specs.Names.{TellsOf};
 
 use crate::against::{WeighedBy, has_against, notes_of, weigh, weigh_files};
 use crate::faults::RunFault;
@@ -113,7 +114,9 @@ fn say(
 }
 
 /// The fault of a run that answers nothing.
-fn fault_of(alloc: Global, cluster: &Cluster, fault: StopFault<'_>) -> RunFault {
+fn fault_of(alloc: Global, cluster: &Cluster, fault: StopFault<'_>) -> RunFault
+    ensures { TellsOf fault.entry result }
+{
     match fault {
         StopFault::Nobody => nobody(alloc),
         StopFault::Ambiguous(word) => ambiguous(alloc, word),
