@@ -16,11 +16,11 @@ use std::alloc::{AllocError, Global};
 
 /// The state of a picture, and the names and ids that a word of a script may be near.
 #[derive(Drop)]
-pub(crate) struct Known<'a> {
+pub struct Known<'a> {
     pub state: &'a State,
-    pub bookies: Vec<&'a str>,
-    pub verbs: Vec<&'a str>,
-    pub ids: Vec<u64>,
+    bookies: Vec<&'a str>,
+    verbs: Vec<&'a str>,
+    ids: Vec<u64>,
     ghost is_bookies: { map (λ name. name.now) bookies.items ≡ state.now.names },
     ghost is_verbs: { map (λ name. name.now) verbs.items ≡ model.verb_names },
     ghost is_ids: { ids.items ≡ ids_of state.now },
@@ -28,7 +28,7 @@ pub(crate) struct Known<'a> {
 
 impl<'a> Known<'a> {
     /// Those of this state.
-    pub(crate) fn new(alloc: Global, state: &'a State) -> Result<Known<'a>, AllocError>
+    pub fn new(alloc: Global, state: &'a State) -> Result<Known<'a>, AllocError>
         ensures { IfOk result (λ known. known.state.now ≡ state.now) }
     {
         Ok(Known {
@@ -40,7 +40,7 @@ impl<'a> Known<'a> {
     }
 
     /// What is near the unknown word of a line with this fault.
-    fn near(&self, alloc: Global, line: &[u8], fault: LineFault) -> Result<Near<'a>, AllocError>
+    pub fn near(&self, alloc: Global, line: &[u8], fault: LineFault) -> Result<Near<'a>, AllocError>
         ensures { IfOk result (λ near. told near ≡ model.near_it self.now.state.now.names line.now fault) }
     {
         match fault {
