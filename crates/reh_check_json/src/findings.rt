@@ -76,7 +76,7 @@ pub(crate) fn add_fault(
     line: &[u8],
     fault: LineFault,
 ) -> Result<(), AllocError>
-    ensures { OnOk result (Adds (json_tokens (model.fault_json known.now.names.now number line.now fault)) json.old json.new) }
+    ensures { OnOk result (Adds (json_tokens (model.fault_json known.now.state.now.names number line.now fault)) json.old json.new) }
 {
     let near = known.near(alloc, line, fault)?;
     json.begin_object()?;

@@ -10,7 +10,7 @@ use crate::counts::add_counts;
 use crate::scripts::add_script;
 use json::Writer;
 use reh_answer::{add_null, text_in};
-use reh_cluster::Names;
+use reh_cluster::State;
 use reh_lint::Known;
 use reh_picture::Counts;
 use std::alloc::{AllocError, Global};
@@ -45,10 +45,10 @@ fn add_checked(
     known: &Known<'_>,
     script: &[u8],
 ) -> Result<usize, AllocError>
-    ensures adds { OnOk result (Adds (json_tokens (model.checked_value counts.now known.now.names.now
+    ensures adds { OnOk result (Adds (json_tokens (model.checked_value counts.now known.now.state.now.names
         (answered_lines false script.now))) json.old json.new) }
     ensures faulty { IfOk result (λ faulty. faulty
-        ≡ length (filter (is_faulty known.now.names.now) (answered_lines false script.now))) }
+        ≡ length (filter (is_faulty known.now.state.now.names) (answered_lines false script.now))) }
 {
     json.begin_object()?;
     add_counts(json, counts)?;
@@ -64,22 +64,22 @@ pub struct CheckedScript {
     pub faulty: usize,
 }
 
-/// How much a picture shows, and what is found in a script on it, as JSON: one object, on one line. The picture's bookies
-/// have these names.
+/// How much a picture shows, and what is found in a script on it, as JSON: one object, on one line. The picture is of this
+/// state.
 pub fn script_json(
     alloc: Global,
     counts: &Counts,
-    names: &Names,
+    state: &State,
     script: &[u8],
 ) -> Result<CheckedScript, AllocError>
     ensures text { IfOk result (λ checked. string_bytes checked.text
-        ≡ model.checked_text counts.now names.now (answered_lines false script.now)) }
+        ≡ model.checked_text counts.now state.now.names (answered_lines false script.now)) }
     ensures reads_back { IfOk result (λ checked. IsLineOf
-        (model.checked_value counts.now names.now (answered_lines false script.now)) (string_bytes checked.text)) }
+        (model.checked_value counts.now state.now.names (answered_lines false script.now)) (string_bytes checked.text)) }
     ensures faulty { IfOk result (λ checked. checked.faulty
-        ≡ length (filter (is_faulty names.now) (answered_lines false script.now))) }
+        ≡ length (filter (is_faulty state.now.names) (answered_lines false script.now))) }
 {
-    match Known::new(alloc, names) {
+    match Known::new(alloc, state) {
         Ok(known) => known_json(alloc, counts, &known, script),
         Err(want) => Err(want),
     }
@@ -93,12 +93,12 @@ fn known_json(
     script: &[u8],
 ) -> Result<CheckedScript, AllocError>
     ensures text { IfOk result (λ checked. string_bytes checked.text
-        ≡ model.checked_text counts.now known.now.names.now (answered_lines false script.now)) }
+        ≡ model.checked_text counts.now known.now.state.now.names (answered_lines false script.now)) }
     ensures reads_back { IfOk result (λ checked. IsLineOf
-        (model.checked_value counts.now known.now.names.now (answered_lines false script.now))
+        (model.checked_value counts.now known.now.state.now.names (answered_lines false script.now))
         (string_bytes checked.text)) }
     ensures faulty { IfOk result (λ checked. checked.faulty
-        ≡ length (filter (is_faulty known.now.names.now) (answered_lines false script.now))) }
+        ≡ length (filter (is_faulty known.now.state.now.names) (answered_lines false script.now))) }
 {
     let mut json = Writer::new(Vec::new(alloc));
     let faulty = add_checked(alloc, &mut json, counts, known, script)?;

@@ -33,13 +33,13 @@ fn add_line(
 ) -> Result<(), AllocError>
     requires few { (counts.old.commands + 1 < 2 ^ 64) × (counts.old.faulty + 1 < 2 ^ 64) }
     ensures adds { OnOk result (Adds (flat_map json_tokens
-        (model.found_in known.now.names.now number line.now (asked known.now.names.now line.now))) json.old json.new) }
+        (model.found_in known.now.state.now.names number line.now (asked known.now.state.now.names line.now))) json.old json.new) }
     ensures commands { OnOk result (counts.new.commands ≡ counts.old.commands
-        + cond (is_command known.now.names.now line.now) 1 0) }
+        + cond (is_command known.now.state.now.names line.now) 1 0) }
     ensures faulty { OnOk result (counts.new.faulty ≡ counts.old.faulty
-        + cond (is_faulty known.now.names.now line.now) 1 0) }
+        + cond (is_faulty known.now.state.now.names line.now) 1 0) }
 {
-    match parse_line(known.names, line) {
+    match parse_line(known.state.names(), line) {
         Some(Ok(_)) => counts.commands += 1,
         Some(Err(fault)) => {
             counts.faulty += 1;
@@ -58,11 +58,11 @@ fn add_lines(
     text: &[u8],
 ) -> Result<LineCounts, AllocError>
     ensures adds { OnOk result (Adds (flat_map json_tokens
-        (model.found known.now.names.now 1 (lines_of text.now))) json.old json.new) }
+        (model.found known.now.state.now.names 1 (lines_of text.now))) json.old json.new) }
     ensures commands { IfOk result (λ counts. counts.commands
-        ≡ length (filter (is_command known.now.names.now) (lines_of text.now))) }
+        ≡ length (filter (is_command known.now.state.now.names) (lines_of text.now))) }
     ensures faulty { IfOk result (λ counts. counts.faulty
-        ≡ length (filter (is_faulty known.now.names.now) (lines_of text.now))) }
+        ≡ length (filter (is_faulty known.now.state.now.names) (lines_of text.now))) }
 {
     let mut counts = LineCounts {
         commands: 0,
@@ -87,11 +87,11 @@ fn add_found(
     text: &[u8],
 ) -> Result<LineCounts, AllocError>
     ensures adds { OnOk result (Adds (member_tokens (codes "lines")
-        (list_json (model.found known.now.names.now 1 (lines_of text.now)))) json.old json.new) }
+        (list_json (model.found known.now.state.now.names 1 (lines_of text.now)))) json.old json.new) }
     ensures commands { IfOk result (λ counts. counts.commands
-        ≡ length (filter (is_command known.now.names.now) (lines_of text.now))) }
+        ≡ length (filter (is_command known.now.state.now.names) (lines_of text.now))) }
     ensures faulty { IfOk result (λ counts. counts.faulty
-        ≡ length (filter (is_faulty known.now.names.now) (lines_of text.now))) }
+        ≡ length (filter (is_faulty known.now.state.now.names) (lines_of text.now))) }
 {
     json.key("lines")?;
     json.begin_array()?;
@@ -108,9 +108,9 @@ pub(crate) fn add_script(
     script: &[u8],
 ) -> Result<usize, AllocError>
     ensures adds { OnOk result (Adds (member_tokens (codes "script")
-        (model.script_json known.now.names.now (answered_lines false script.now))) json.old json.new) }
+        (model.script_json known.now.state.now.names (answered_lines false script.now))) json.old json.new) }
     ensures faulty { IfOk result (λ faulty. faulty
-        ≡ length (filter (is_faulty known.now.names.now) (answered_lines false script.now))) }
+        ≡ length (filter (is_faulty known.now.state.now.names) (answered_lines false script.now))) }
 {
     json.key("script")?;
     json.begin_object()?;

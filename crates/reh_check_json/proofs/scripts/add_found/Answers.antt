@@ -9,7 +9,7 @@ use Rattle.reh_check_json.proofs.scripts.add_found.Goals as goal
 
 pub returns-clause-adds : goal.returns-clause-adds
 returns-clause-adds c =
-    in_place (Ok tt) c.args.json.now c.end_array.new.self _ _ (values-tokens (codes "lines") (found c.args.known.now.names.now 1 (lines_of c.args.text.now)))
+    in_place (Ok tt) c.args.json.now c.end_array.new.self _ _ (values-tokens (codes "lines") (found c.args.known.now.state.now.names 1 (lines_of c.args.text.now)))
     (then (Ok tt) c.args.json.now c.key.new.self c.end_array.new.self _ _ (one c.args.json.now c.key.new.self _ c.in_ok-key.ensures.ok c.in_ok-key.ensures.room.0)
     (then (Ok tt) c.key.new.self c.begin_array.new.self c.end_array.new.self _ _ (one c.key.new.self c.begin_array.new.self _ c.in_ok-begin_array.ensures.ok c.in_ok-begin_array.ensures.room.0)
     (then (Ok tt) c.begin_array.new.self c.add_lines.new.json c.end_array.new.self _ _ c.in_ok-counts.ensures.adds

@@ -8,7 +8,7 @@ use Rattle.reh_check_json.proofs.scripts.add_lines.Goals as goal
 
 pub loop-rest-preserved : goal.loop-rest-preserved
 loop-rest-preserved c =
-    let names : List (List ℕ) = c.args.known.now.names.now in
+    let names : List (List ℕ) = c.args.known.now.state.now.names in
     let line : List ℕ = c.first_line.result.0.now in
     let more : List (List ℕ) = lines_of c.first_line.result.1.now in
     let before = c.loop-rest.invariant in
@@ -23,17 +23,17 @@ loop-rest-preserved c =
 
 pub returns-clause-adds : goal.returns-clause-adds
 returns-clause-adds c =
-    leaves-none c.args.known.now.names.now (c.loop-rest.number + 1) _ _ _ _
+    leaves-none c.args.known.now.state.now.names (c.loop-rest.number + 1) _ _ _ _
     (none_left c.loop-rest.rest.now (sym c.loop-rest-test.ensures)) c.loop-rest.invariant.0
 
 pub returns-clause-commands : goal.returns-clause-commands
 returns-clause-commands c =
     let none = none_left c.loop-rest.rest.now (sym c.loop-rest-test.ensures) in
-    let left = ap (λ (ls : List (List ℕ)). length (filter (is_command c.args.known.now.names.now) ls)) none in
+    let left = ap (λ (ls : List (List ℕ)). length (filter (is_command c.args.known.now.state.now.names) ls)) none in
     omega (arith, left, c.loop-rest.invariant.1)
 
 pub returns-clause-faulty : goal.returns-clause-faulty
 returns-clause-faulty c =
     let none = none_left c.loop-rest.rest.now (sym c.loop-rest-test.ensures) in
-    let left = ap (λ (ls : List (List ℕ)). length (filter (is_faulty c.args.known.now.names.now) ls)) none in
+    let left = ap (λ (ls : List (List ℕ)). length (filter (is_faulty c.args.known.now.state.now.names) ls)) none in
     omega (arith, left, c.loop-rest.invariant.2)

@@ -11,12 +11,12 @@ use Rattle.reh_check_json.proofs.scripts.add_lines.Given as goal
 
 abbrev pub invariant-loop-rest : goal.invariant-loop-rest
 invariant-loop-rest l =
-    Leaves (flat_map json_tokens (found l.known.names.now (l.number + 1) (lines_of l.rest)))
-    (flat_map json_tokens (found l.known.names.now 1 (lines_of l.text))) l.fn.json l.json
-    × (l.counts.commands + length (filter (is_command l.known.names.now) (lines_of l.rest))
-    ≡ length (filter (is_command l.known.names.now) (lines_of l.text)))
-    × (l.counts.faulty + length (filter (is_faulty l.known.names.now) (lines_of l.rest))
-    ≡ length (filter (is_faulty l.known.names.now) (lines_of l.text)))
+    Leaves (flat_map json_tokens (found l.known.state.now.names (l.number + 1) (lines_of l.rest)))
+    (flat_map json_tokens (found l.known.state.now.names 1 (lines_of l.text))) l.fn.json l.json
+    × (l.counts.commands + length (filter (is_command l.known.state.now.names) (lines_of l.rest))
+    ≡ length (filter (is_command l.known.state.now.names) (lines_of l.text)))
+    × (l.counts.faulty + length (filter (is_faulty l.known.state.now.names) (lines_of l.rest))
+    ≡ length (filter (is_faulty l.known.state.now.names) (lines_of l.text)))
     × (l.number + length l.rest ≤ length l.text)
     × (l.counts.commands ≤ l.number)
     × (l.counts.faulty ≤ l.number)

@@ -10,7 +10,7 @@ use Rattle.reh_check_json.proofs.scripts.add_script.Goals as goal
 
 pub returns-clause-adds : goal.returns-clause-adds
 returns-clause-adds c =
-    let names : List (List ℕ) = c.args.known.now.names.now in
+    let names : List (List ℕ) = c.args.known.now.state.now.names in
     let lines = c.answered.ensures in
     in_place (Ok tt) c.args.json.now c.end_object.new.self _ _
     (λ i. member_tokens (codes "script") (script_with (found names 1 (lines i))
@@ -26,4 +26,4 @@ returns-clause-adds c =
 pub returns-clause-faulty : goal.returns-clause-faulty
 returns-clause-faulty c =
     c.in_ok-counts.ensures.faulty
-    ∙ ap (λ (ls : List (List ℕ)). length (filter (is_faulty c.args.known.now.names.now) ls)) c.answered.ensures
+    ∙ ap (λ (ls : List (List ℕ)). length (filter (is_faulty c.args.known.now.state.now.names) ls)) c.answered.ensures
