@@ -145,9 +145,10 @@ IsAsked command given other = ⊥
 
 -- what `check` is asked: of the picture, or of a script on it
 abbrev pub IsCheck : ArgMatches → Task → Type 0
-IsCheck given (task.Check picture script) =
+IsCheck given (task.Check picture script as_json) =
     (word_of given (codes "PICTURE") ≡ Some picture.now)
     × (option_map (λ file. file.now) script ≡ word_of given (codes "SCRIPT"))
+    × (as_json ≡ is_json given)
 IsCheck given other = ⊥
 
 -- what `talk` is asked

@@ -30,10 +30,11 @@ pub enum Task<'a> {
     Play(PlayWords<'a>),
     /// Plays a script on a picture, and writes a picture of the end.
     PlayOut(PlayOut<'a>),
-    /// Checks the picture in a file, or a script on it.
+    /// Checks the picture in a file, or a script on it, and prints what is found as text or as JSON.
     Check {
         picture: &'a str,
         script: Option<&'a str>,
+        as_json: bool,
     },
     /// Plays scripts on a picture, each by an operator of its own.
     Drill(DrillFiles<'a>),
@@ -291,8 +292,9 @@ fn all_ways(alloc: Global) -> Result<String, AllocError> {
 }
 
 /// The command line: no word, `run PICTURE SCRIPT --changes --json --workers N --picture-out FILE`,
-/// `talk PICTURE --changes --json`, `check PICTURE SCRIPT`, `drill PICTURE SCRIPT..`, `ok-to-stop --lose BOOKIE,.. FILE..`,
-/// `waves FILE..`, `risk FILE..`, `census FILE..`, `cut --ledgers ID,.. --window K INVENTORY`,
+/// `talk PICTURE --changes --json`, `check --format json PICTURE SCRIPT`, `drill PICTURE SCRIPT..`,
+/// `ok-to-stop --lose BOOKIE,.. FILE..`, `waves FILE..`, `risk FILE..`, `census FILE..`,
+/// `cut --ledgers ID,.. --window K INVENTORY`,
 /// `plan --lose BOOKIE,.. --to BOOKIE,.. --min-racks R --expect --summary PICTURE`, or `help TOPIC`.
 fn command<'a>(alloc: Global, ways: &'a str) -> Result<Command<'a>, Error> {
     let command = Command::new(alloc, "rehearse")
@@ -394,7 +396,8 @@ fn check_command<'a>(alloc: Global) -> Result<Command<'a>, Error> {
     let command = Command::new(alloc, "check")
         .about("Says how much a picture or an inventory shows, or where it is wrong")
         .after_help(helps::CHECK);
-    let command = with_arg(Ok(command), picture_arg(alloc));
+    let command = with_arg(Ok(command), format_arg(alloc));
+    let command = with_arg(command, picture_arg(alloc));
     with_arg(
         command,
         Arg::new(alloc, "SCRIPT").help(
@@ -622,12 +625,7 @@ fn with_inputs<'a>(
     alloc: Global,
     command: Result<Command<'a>, Error>,
 ) -> Result<Command<'a>, Error> {
-    let command = with_arg(
-        command,
-        value_arg(alloc, "format", "FORMAT")
-            .value_parser(FORMATS)
-            .help("How the answer is printed; by default text"),
-    );
+    let command = with_arg(command, format_arg(alloc));
     let command = with_arg(command, after_arg(alloc));
     let command = with_arg(
         command,
@@ -647,6 +645,13 @@ fn with_inputs<'a>(
 
 /// How an answer is printed.
 const FORMATS: &[&str] = &["text", "json"];
+
+/// The argument for how an answer is printed.
+fn format_arg<'a>(alloc: Global) -> Arg<'a> {
+    value_arg(alloc, "format", "FORMAT")
+        .value_parser(FORMATS)
+        .help("How the answer is printed; by default text")
+}
 
 /// An argument without a value.
 fn flag_arg<'a>(alloc: Global, name: &'a str) -> Arg<'a> {

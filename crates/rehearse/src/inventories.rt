@@ -9,6 +9,7 @@ use crate::faults::RunFault;
 use crate::files::unread;
 use crate::inputs::unfit;
 use reh_census_file::{NameList, NamedCensus};
+use reh_check_json::{InventoryCounts, inventory_json};
 use reh_inventory::{Inventory, InventoryFault};
 use reh_inventory_census::{CountFault, InventoryCount, in_order, number_line};
 use std::alloc::{AllocError, Global};
@@ -29,13 +30,14 @@ pub(crate) fn check_inventory(
     path: &str,
     file: File,
     start: Vec<u8>,
+    as_json: bool,
 ) -> Result<String, RunFault> {
     let alloc = rt.alloc();
     let inventory = read_inventory(alloc, path, file, start)?;
     if !inventory.is_whole() {
         return Err(cut(alloc, path, &inventory));
     }
-    Ok(counts_text(alloc, &inventory)?)
+    Ok(inventory_said(alloc, &inventory, as_json)?)
 }
 
 /// The inventory in a file of whose first line this was read.
@@ -107,21 +109,17 @@ fn cut(alloc: Global, path: &str, inventory: &Inventory) -> RunFault {
     }
 }
 
-/// How much there is in a whole inventory.
-fn counts_text(alloc: Global, inventory: &Inventory) -> Result<String, AllocError> {
-    let (mut bookies, mut registered) = (0, 0);
-    if let Some(head) = inventory.head() {
-        bookies = head.bookies.as_slice().len();
-        registered = head
-            .bookies
-            .as_slice()
-            .iter()
-            .filter(|bookie| bookie.is_up)
-            .count();
+/// How much there is in a whole inventory, as text or as JSON.
+fn inventory_said(
+    alloc: Global,
+    inventory: &Inventory,
+    as_json: bool,
+) -> Result<String, AllocError> {
+    let counts = InventoryCounts::of(inventory);
+    if as_json {
+        return inventory_json(alloc, &counts);
     }
-    let ledgers = inventory.ledgers();
-    let unread = inventory.unread();
-    format!(in alloc; "ok\nbookies {bookies} up {registered}\nledgers {ledgers} unread {unread}\n")
+    format!(in alloc; "ok\n{counts}\n")
 }
 
 /// The census of an inventory, and the ids of its ledgers.
