@@ -42,7 +42,14 @@ fn check_lines(rt: &HostRuntime, state: &State, path: &str, as_json: bool) -> Re
     if script.len() > MAX_SCRIPT_BYTES {
         return Err(RunFault::TooLong);
     }
-    Ok(if checked.faulty == 0 { 0 } else { FAULTY })
+    Ok(status_by(checked.faulty))
+}
+
+/// The status, where so many lines are faulty.
+fn status_by(faulty: usize) -> u8
+    ensures { result ≡ model.status_by faulty }
+{
+    if faulty == 0 { 0 } else { FAULTY }
 }
 
 /// What is found in the script of a file, on a picture that shows this state, as text or as JSON.

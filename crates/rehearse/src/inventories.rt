@@ -1,5 +1,6 @@
 // Inventories, read line by line: one that is checked, and one whose ledgers are counted.
-ghost use Rattle.std.specs.Prelude.{◌∷◌, [], All, Bool, IfOk, OnOk};
+ghost use Rattle.std.specs.Prelude.{◌≡◌, ◌∷◌, [], All, Bool, IfOk, OnOk, string_bytes};
+ghost use Rattle.rehearse.specs.Checks.{inventory_text};
 ghost use Rattle.rehearse.specs.Inventories as model;
 
 use crate::batches::{
@@ -110,11 +111,9 @@ fn cut(alloc: Global, path: &str, inventory: &Inventory) -> RunFault {
 }
 
 /// How much there is in a whole inventory, as text or as JSON.
-fn inventory_said(
-    alloc: Global,
-    inventory: &Inventory,
-    as_json: bool,
-) -> Result<String, AllocError> {
+fn inventory_said(alloc: Global, inventory: &Inventory, as_json: bool) -> Result<String, AllocError>
+    ensures { IfOk result (λ text. string_bytes text ≡ inventory_text as_json inventory.now) }
+{
     let counts = InventoryCounts::of(inventory);
     if as_json {
         return inventory_json(alloc, &counts);
