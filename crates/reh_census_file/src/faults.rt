@@ -4,7 +4,7 @@ use std::fmt;
 use thiserror::Error;
 
 /// A word that stands before a value.
-#[derive(Clone, Copy, PartialEq, Eq, Debug)]
+#[derive(Clone, Copy, PartialEq, Eq)]
 pub enum Keyword {
     Census,
     Strict,
@@ -48,7 +48,7 @@ impl Keyword {
 }
 
 /// Which lines have come, and so which may follow.
-#[derive(Clone, Copy, PartialEq, Eq, Debug)]
+#[derive(Clone, Copy, PartialEq, Eq)]
 pub enum Part {
     /// Those of bookies, at most.
     Bookies,
@@ -78,7 +78,7 @@ impl Part {
 }
 
 /// What a line should have had.
-#[derive(Clone, Copy, PartialEq, Eq, Debug)]
+#[derive(Clone, Copy, PartialEq, Eq)]
 pub enum Expected {
     /// The version of the text, which is 1.
     Version,
@@ -191,7 +191,7 @@ impl fmt::Display for Expected {
 }
 
 /// Why a text is no census.
-#[derive(Clone, Copy, PartialEq, Eq, Debug, Error)]
+#[derive(Clone, Copy, PartialEq, Eq, Error)]
 pub enum CensusFault {
     /// This line, counted from 1, should have had something else.
     Line(u64, Expected),
@@ -213,6 +213,13 @@ impl fmt::Display for CensusFault {
     }
 }
 
+/// Its text.
+impl fmt::Debug for CensusFault {
+    fn fmt<W: fmt::Write>(&self, f: &mut fmt::Formatter<W>) -> fmt::Result {
+        fmt::Display::fmt(self, f)
+    }
+}
+
 impl From<AllocError> for CensusFault {
     ghost use Rattle.std.specs.Prelude.{◌≡◌};
     ghost use Rattle.reh_census_file.specs.declared.faults.CensusFault.TheVariants.{NoMemory};
@@ -225,7 +232,7 @@ impl From<AllocError> for CensusFault {
 }
 
 /// Why a line isn't read.
-#[derive(Debug, Drop)]
+#[derive(Drop)]
 pub(crate) enum LineFault {
     /// There is no memory.
     NoMemory,

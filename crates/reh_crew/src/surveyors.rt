@@ -9,7 +9,7 @@ use std::alloc::{AllocError, Global};
 use std::thread::SpawnError;
 
 /// Why there is no survey.
-#[derive(Clone, Copy, PartialEq, Eq, Debug)]
+#[derive(Clone, Copy, PartialEq, Eq)]
 pub enum SurveyFault {
     /// There is no memory for its lines.
     NoMemory,
@@ -51,7 +51,7 @@ pub trait Surveyor {
 }
 
 /// Surveys one fragment after the other.
-#[derive(Clone, Copy, Debug)]
+#[derive(Clone, Copy)]
 pub struct Plain;
 
 impl Surveyor for Plain {

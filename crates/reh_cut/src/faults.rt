@@ -8,7 +8,7 @@ use std::alloc::{AllocError, AllocFailed};
 use std::fmt;
 
 /// Why there is no picture of these ledgers.
-#[derive(Debug, Drop)]
+#[derive(Drop)]
 pub enum CutFault {
     /// The last line of the inventory isn't there.
     NotWhole,

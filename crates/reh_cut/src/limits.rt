@@ -7,7 +7,7 @@ use reh_types::{
 use std::fmt;
 
 /// How ledgers of more entries are cut: so many entries at a time.
-#[derive(Clone, Copy, Debug)]
+#[derive(Clone, Copy)]
 pub struct WayOut(pub u64);
 
 impl fmt::Display for WayOut {
@@ -26,7 +26,7 @@ impl fmt::Display for WayOut {
 }
 
 /// A limit for a number of one ledger.
-#[derive(Clone, Copy, PartialEq, Eq, Debug)]
+#[derive(Clone, Copy, PartialEq, Eq)]
 pub enum LedgerLimit {
     /// The greatest id.
     Id,
@@ -39,7 +39,7 @@ pub enum LedgerLimit {
 }
 
 /// A number of a ledger that is past this limit.
-#[derive(Clone, Copy, PartialEq, Eq, Debug)]
+#[derive(Clone, Copy, PartialEq, Eq)]
 pub struct Past {
     pub limit: LedgerLimit,
     pub number: u64,
@@ -75,7 +75,7 @@ impl fmt::Display for Past {
 }
 
 /// A limit for all ledgers of a picture together.
-#[derive(Clone, Copy, PartialEq, Eq, Debug)]
+#[derive(Clone, Copy, PartialEq, Eq)]
 pub enum TotalLimit {
     /// How many they may be.
     Ledgers,
@@ -88,7 +88,7 @@ pub enum TotalLimit {
 }
 
 /// How much ledgers have together of what this limit is for.
-#[derive(Clone, Copy, PartialEq, Eq, Debug)]
+#[derive(Clone, Copy, PartialEq, Eq)]
 pub struct Sum {
     pub limit: TotalLimit,
     pub number: u64,
@@ -127,7 +127,7 @@ impl fmt::Display for Sum {
 const _: () = prove!(ENTRIES_IN_WORD == 64);
 
 /// What so many ledgers have too much of together.
-#[derive(Clone, Copy, PartialEq, Eq, Debug)]
+#[derive(Clone, Copy, PartialEq, Eq)]
 pub struct Total {
     pub sum: Sum,
     pub ledgers: usize,
@@ -163,7 +163,7 @@ impl fmt::Display for Total {
 }
 
 /// A bookie that stands twice in the ensemble of the fragment that begins with this entry.
-#[derive(Debug, Drop)]
+#[derive(Drop)]
 pub struct Twice(pub Name, pub u64);
 
 impl fmt::Display for Twice {
@@ -182,7 +182,7 @@ impl fmt::Display for Twice {
 }
 
 /// The limit of a picture that ledgers pass.
-#[derive(Debug, Drop)]
+#[derive(Drop)]
 pub enum Limit {
     /// The ledger of this id has a number past a limit.
     Ledger(u64, Past),

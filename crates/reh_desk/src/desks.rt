@@ -40,7 +40,7 @@ pub struct Closed {
 }
 
 /// Why a desk doesn't close.
-#[derive(Clone, Copy, PartialEq, Eq, Debug)]
+#[derive(Clone, Copy, PartialEq, Eq)]
 pub enum CloseCause {
     /// These are not the seats of the desk, each once.
     Seats,

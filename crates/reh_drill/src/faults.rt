@@ -6,7 +6,7 @@ use reh_play::PlayFault;
 use std::alloc::AllocError;
 
 /// Why a drill ends early.
-#[derive(Debug, Drop)]
+#[derive(Drop)]
 pub enum DrillFault {
     /// The picture is refused.
     Picture(PictureFault),

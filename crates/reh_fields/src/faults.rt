@@ -12,7 +12,7 @@ use thiserror::Error;
 /// A bookie's name in a fault, as the picture has it; contracts see its bytes.
 ///
 /// It is printed with a `?` in the place of each byte outside 0x21 to 0x7E.
-#[derive(Debug, Drop)]
+#[derive(Drop)]
 pub struct FaultName {
     text: String,
 }
@@ -68,7 +68,7 @@ fn printed(byte: u8) -> char
 }
 
 /// What a picture has twice.
-#[derive(Debug, Drop)]
+#[derive(Drop)]
 pub enum Repeated {
     /// The name of a bookie.
     Bookie(FaultName),
@@ -94,7 +94,7 @@ impl fmt::Display for Repeated {
 }
 
 /// What is wrong with a ledger.
-#[derive(Clone, Copy, PartialEq, Eq, Debug)]
+#[derive(Clone, Copy, PartialEq, Eq)]
 pub enum LedgerFlaw {
     /// Not `1 <= ack quorum <= write quorum <= ensemble size <= 16`.
     Quorum,
@@ -126,7 +126,7 @@ impl LedgerFlaw {
 }
 
 /// Why a picture is refused. Its text is its number, its name and what it speaks of.
-#[derive(Debug, Drop, Error)]
+#[derive(Drop, Error)]
 pub enum PictureFault {
     /// The picture has more than 8,388,608 bytes.
     TooLong,
@@ -171,6 +171,13 @@ impl fmt::Display for PictureFault {
             }
             PictureFault::NoMemory => f.write_str("10 NoMemory"),
         }
+    }
+}
+
+/// Its text.
+impl fmt::Debug for PictureFault {
+    fn fmt<W: fmt::Write>(&self, f: &mut fmt::Formatter<W>) -> fmt::Result {
+        fmt::Display::fmt(self, f)
     }
 }
 

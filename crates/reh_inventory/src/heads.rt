@@ -18,7 +18,7 @@ use std::alloc::Global;
 use std::marker::Model;
 
 /// A bookie of the first line.
-#[derive(Debug, Drop)]
+#[derive(Drop)]
 pub struct Bookie {
     pub name: Name,
     /// Whether it is registered.
@@ -31,7 +31,7 @@ pub struct Bookie {
 }
 
 /// Bookies, in the order of the line. Contracts see the list.
-#[derive(Debug, Drop)]
+#[derive(Drop)]
 pub struct BookieList {
     items: Vec<Bookie>,
 }
@@ -62,7 +62,7 @@ impl BookieList {
 }
 
 /// The first line of an inventory.
-#[derive(Debug, Drop)]
+#[derive(Drop)]
 pub struct Head {
     /// When the inventory was taken, if that is told.
     pub taken: Option<Name>,

@@ -14,7 +14,7 @@ use std::marker::Model;
 use thiserror::Error;
 
 /// Why a line can't be the next one of an inventory.
-#[derive(Clone, Copy, PartialEq, Eq, Debug, Error)]
+#[derive(Clone, Copy, PartialEq, Eq, Error)]
 pub enum InventoryFault {
     /// The line by itself has this fault.
     Line(LineFault),
@@ -61,6 +61,13 @@ impl fmt::Display for InventoryFault {
             }
             InventoryFault::NoMemory => write!(f, "expected more memory"),
         }
+    }
+}
+
+/// Its text.
+impl fmt::Debug for InventoryFault {
+    fn fmt<W: fmt::Write>(&self, f: &mut fmt::Formatter<W>) -> fmt::Result {
+        fmt::Display::fmt(self, f)
     }
 }
 

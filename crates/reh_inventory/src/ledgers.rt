@@ -17,7 +17,7 @@ use std::alloc::Global;
 use std::marker::Model;
 
 /// Where a ledger stands, by its metadata.
-#[derive(Clone, Copy, PartialEq, Eq, Debug)]
+#[derive(Clone, Copy, PartialEq, Eq)]
 pub enum LedgerState {
     Open,
     InRecovery,
@@ -27,7 +27,7 @@ pub enum LedgerState {
 
 /// How many bookies an ensemble has, how many of them an entry is written to, and how many of these must have
 /// acknowledged it.
-#[derive(Clone, Copy, PartialEq, Eq, Debug)]
+#[derive(Clone, Copy, PartialEq, Eq)]
 pub struct Sizes {
     pub ensemble: u64,
     pub write_quorum: u64,
@@ -35,14 +35,14 @@ pub struct Sizes {
 }
 
 /// A fragment, by its first entry and the names of the members of its ensemble.
-#[derive(Debug, Drop)]
+#[derive(Drop)]
 pub struct Fragment {
     pub first: u64,
     pub ensemble: Ensemble,
 }
 
 /// Fragments, in the order of the line. Contracts see the list.
-#[derive(Debug, Drop)]
+#[derive(Drop)]
 pub struct FragmentList {
     items: Vec<Fragment>,
 }

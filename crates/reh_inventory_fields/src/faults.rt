@@ -3,7 +3,7 @@ use crate::fields::Field;
 use std::alloc::{AllocError, AllocFailed};
 
 /// What is wrong with a part of a line.
-#[derive(Clone, Copy, PartialEq, Eq, Debug)]
+#[derive(Clone, Copy, PartialEq, Eq)]
 pub enum Fault {
     /// The bytes aren't one JSON value.
     NotJson,

@@ -6,7 +6,7 @@ use std::fmt;
 use std::marker::Model;
 
 /// A text of 1 to 300 bytes, each 0x21 to 0x7E: the name of a bookie or of a rack, or a time. Contracts see its bytes.
-#[derive(Debug, Drop)]
+#[derive(Drop)]
 pub struct Name {
     text: String,
 }
@@ -47,7 +47,7 @@ impl fmt::Display for Name {
 }
 
 /// The members of an ensemble, by their names, in order. Contracts see the list of their bytes.
-#[derive(Debug, Drop)]
+#[derive(Drop)]
 pub struct Ensemble {
     items: Vec<Name>,
 }

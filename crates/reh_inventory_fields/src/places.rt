@@ -12,7 +12,7 @@ use std::fmt;
 use thiserror::Error;
 
 /// A part of a line, by the numbers of elements of its lists, each from 0 on.
-#[derive(Clone, Copy, PartialEq, Eq, Debug)]
+#[derive(Clone, Copy, PartialEq, Eq)]
 pub enum Place {
     /// The line itself.
     Line,
@@ -101,7 +101,7 @@ impl fmt::Display for Path {
 }
 
 /// Why a line is refused, and where in it that is. Its text is the place and what was expected there.
-#[derive(Clone, Copy, PartialEq, Eq, Debug, Error)]
+#[derive(Clone, Copy, PartialEq, Eq, Error)]
 pub struct LineFault {
     /// The first fault.
     pub fault: Fault,
@@ -238,6 +238,13 @@ impl fmt::Display for LineFault {
                 write!(f, "{path}: expected {expected}")
             }
         }
+    }
+}
+
+/// Its text.
+impl fmt::Debug for LineFault {
+    fn fmt<W: fmt::Write>(&self, f: &mut fmt::Formatter<W>) -> fmt::Result {
+        fmt::Display::fmt(self, f)
     }
 }
 

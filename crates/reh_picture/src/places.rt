@@ -12,7 +12,7 @@ use std::error::Error;
 use std::fmt;
 
 /// A part of a picture, by the numbers of elements of its lists, each from 0 on.
-#[derive(Clone, Copy, PartialEq, Eq, Debug)]
+#[derive(Clone, Copy, PartialEq, Eq)]
 pub enum Place {
     /// The picture itself.
     Picture,
@@ -111,7 +111,7 @@ impl fmt::Display for Path {
 }
 
 /// A place in a text, by its line and its column, both from 1 on.
-#[derive(Clone, Copy, PartialEq, Eq, Debug)]
+#[derive(Clone, Copy, PartialEq, Eq)]
 pub struct TextPlace {
     pub line: usize,
     pub column: usize,
@@ -129,7 +129,7 @@ impl fmt::Display for TextPlace {
 }
 
 /// Why a picture is refused, and where in it that is. Its text has a second line, with the place and what was expected.
-#[derive(Debug, Drop)]
+#[derive(Drop)]
 pub struct LocatedFault {
     /// The first fault.
     pub fault: PictureFault,
@@ -304,6 +304,13 @@ impl fmt::Display for LocatedFault {
                 write!(f, "{fault}\nat {path}: expected {expected}")
             }
         }
+    }
+}
+
+/// Its text.
+impl fmt::Debug for LocatedFault {
+    fn fmt<W: fmt::Write>(&self, f: &mut fmt::Formatter<W>) -> fmt::Result {
+        fmt::Display::fmt(self, f)
     }
 }
 

@@ -6,7 +6,7 @@ ghost use Rattle.reh_picture_out.specs.Unshown.{IsUnshown};
 use reh_cluster::{Ledger, State};
 
 /// What a state has that no field of a picture shows.
-#[derive(Clone, Copy, PartialEq, Eq, Debug)]
+#[derive(Clone, Copy, PartialEq, Eq)]
 pub struct Unshown {
     /// How many ledgers have a task.
     pub tasks: usize,

@@ -6,7 +6,7 @@ use std::error::Error;
 use std::fmt;
 
 /// Why there is no plan.
-#[derive(Clone, Copy, PartialEq, Eq, Debug)]
+#[derive(Clone, Copy, PartialEq, Eq)]
 pub enum PlanFault {
     /// There is no memory for it.
     NoMemory,
@@ -27,6 +27,13 @@ impl fmt::Display for PlanFault {
     }
 }
 
+/// Its text.
+impl fmt::Debug for PlanFault {
+    fn fmt<W: fmt::Write>(&self, f: &mut fmt::Formatter<W>) -> fmt::Result {
+        fmt::Display::fmt(self, f)
+    }
+}
+
 impl Error for PlanFault {}
 
 impl From<AllocError> for PlanFault {
@@ -36,7 +43,7 @@ impl From<AllocError> for PlanFault {
 }
 
 /// Why something is left to do for a ledger.
-#[derive(Clone, Copy, PartialEq, Eq, Debug)]
+#[derive(Clone, Copy, PartialEq, Eq)]
 pub enum Reason {
     /// No bookie that may take places is registered and outside of the ensemble of this fragment.
     NoWorker { fragment: u64 },
@@ -78,7 +85,7 @@ impl fmt::Display for Reason {
 }
 
 /// Why a step of a plan is not made: something is left then, or there is no plan.
-#[derive(Clone, Copy, PartialEq, Eq, Debug)]
+#[derive(Clone, Copy, PartialEq, Eq)]
 pub(crate) enum StepFault {
     /// Something is left for this reason.
     Left(Reason),

@@ -14,7 +14,7 @@ use reh_types::{BookieIx, Event, SurveyLine};
 use std::alloc::{AllocError, Global};
 
 /// What a bookie is given by a plan.
-#[derive(Clone, Copy, PartialEq, Eq, Debug)]
+#[derive(Clone, Copy, PartialEq, Eq)]
 pub struct Share {
     pub bookie: BookieIx,
     /// How many places it takes.

@@ -32,7 +32,7 @@ pub trait Printer<C: Counter> {
 }
 
 /// Prints answers alone.
-#[derive(Clone, Copy, Debug)]
+#[derive(Clone, Copy)]
 pub struct AnswersAlone;
 
 impl<C: Counter> Printer<C> for AnswersAlone {

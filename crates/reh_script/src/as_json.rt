@@ -23,7 +23,7 @@ use reh_types::{MAX_PICTURE_BYTES, MAX_SCRIPT_BYTES};
 use std::alloc::{AllocError, Global};
 
 /// Prints an object of each line that has an answer: its command, the answer, and what it changed.
-#[derive(Clone, Copy, Debug)]
+#[derive(Clone, Copy)]
 pub struct AsJson {
     pub alloc: Global,
 }

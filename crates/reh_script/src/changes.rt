@@ -20,7 +20,7 @@ use reh_types::{Change, Move, Reply};
 use std::alloc::AllocError;
 
 /// Prints answers, and after the answer to a line that changed something what it changed.
-#[derive(Clone, Copy, Debug)]
+#[derive(Clone, Copy)]
 pub struct WithChanges;
 
 impl Printer<Book> for WithChanges {

@@ -4,7 +4,7 @@ use reh_play::PlayFault;
 use std::alloc::AllocError;
 
 /// Why an input is not played to its end.
-#[derive(Debug, Drop)]
+#[derive(Drop)]
 pub enum PipeFault {
     /// The picture is refused.
     Picture(PictureFault),

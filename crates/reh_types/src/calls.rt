@@ -61,7 +61,7 @@ pub struct OwnLine {
 }
 
 /// A ticket that was issued to a seat, and was neither spent nor given back.
-#[derive(Clone, Copy, PartialEq, Eq, Debug)]
+#[derive(Clone, Copy, PartialEq, Eq)]
 pub struct TicketOut {
     pub seat: u32,
     pub number: u32,

@@ -5,7 +5,7 @@ ghost use Rattle.reh_types.specs.Scalars.{first_scalars, scalar_at, with_scalar}
 use std::mem;
 
 /// The parts of a cluster that are single values.
-#[derive(Clone, Copy, PartialEq, Eq, Debug)]
+#[derive(Clone, Copy, PartialEq, Eq)]
 pub struct Scalars {
     /// The clock, in ticks.
     pub clock: u64,
@@ -14,7 +14,7 @@ pub struct Scalars {
 }
 
 /// One of these parts, with the value that it is to have.
-#[derive(Clone, Copy, PartialEq, Eq, Debug)]
+#[derive(Clone, Copy, PartialEq, Eq)]
 pub enum Scalar {
     /// The clock, in ticks.
     Clock(u64),

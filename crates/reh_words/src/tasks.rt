@@ -97,7 +97,7 @@ pub enum PlayWords<'a> {
 }
 
 /// What is printed of each line.
-#[derive(Clone, Copy, Debug, PartialEq, Eq)]
+#[derive(Clone, Copy, PartialEq, Eq)]
 pub enum Prints {
     /// The answer.
     Answers,

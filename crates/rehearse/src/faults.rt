@@ -12,7 +12,7 @@ use std::io::ErrorKind;
 use std::{fmt, io};
 
 /// Why a run ends early. Its text is what standard error shows.
-#[derive(Debug, Drop)]
+#[derive(Drop)]
 pub enum RunFault {
     /// The picture is refused.
     Picture(PictureFault),
@@ -92,6 +92,13 @@ impl fmt::Display for RunFault {
                 write!(f, "close: 3 Mismatch {number}")
             }
         }
+    }
+}
+
+/// Its text.
+impl fmt::Debug for RunFault {
+    fn fmt<W: fmt::Write>(&self, f: &mut fmt::Formatter<W>) -> fmt::Result {
+        fmt::Display::fmt(self, f)
     }
 }
 
