@@ -5,7 +5,7 @@ ghost use Rattle.reh_answer.specs.Texts as texts;
 use std::fmt;
 
 /// What is counted.
-#[derive(Clone, Copy, PartialEq, Eq)]
+#[derive(Clone, Copy)]
 pub enum Noun {
     Entry,
     Ledger,
@@ -51,7 +51,7 @@ pub(crate) fn were(number: u64) -> &'static str
 }
 
 /// So many of a kind.
-#[derive(Clone, Copy, PartialEq, Eq)]
+#[derive(Clone, Copy)]
 pub(crate) struct Amount {
     pub number: u64,
     pub noun: Noun,

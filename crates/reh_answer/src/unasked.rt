@@ -12,7 +12,7 @@ use reh_census::{BookieSet, Bookies, Census, Question};
 use reh_rules::{count_writable, lacks_racks};
 
 /// Which words of a question ask nothing of a stop.
-#[derive(Clone, Copy, PartialEq, Eq)]
+#[derive(Clone, Copy)]
 pub struct Unasked {
     /// `--min-racks`: no ledger is OPEN, and new ledgers have no size.
     pub racks: bool,

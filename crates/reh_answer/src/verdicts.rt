@@ -20,7 +20,7 @@ pub fn status_of(answer: &Answer) -> u8
 }
 
 /// How many copies so many entries would have too few of.
-#[derive(Clone, Copy, PartialEq, Eq)]
+#[derive(Clone, Copy)]
 struct Asked {
     keep: Keep,
     number: u64,
@@ -129,7 +129,7 @@ fn push_no(
 }
 
 /// What could happen to so many.
-#[derive(Clone, Copy, PartialEq, Eq)]
+#[derive(Clone, Copy)]
 struct Could {
     keep: Keep,
     rule: Rule,

@@ -3,7 +3,7 @@ ghost use Rattle.std.specs.Prelude.{◌≡◌};
 ghost use Rattle.reh_census.specs.Answers as model;
 
 /// What a stop must not break.
-#[derive(Clone, Copy, PartialEq, Eq)]
+#[derive(Clone, Copy)]
 pub enum Rule {
     /// An entry that can be read can be read without the bookies.
     Readable,
@@ -18,14 +18,14 @@ pub enum Rule {
 }
 
 /// How many entries break a rule whatever the untold bookies hold, and how many more may break it.
-#[derive(Clone, Copy, PartialEq, Eq)]
+#[derive(Clone, Copy)]
 pub struct Broken {
     pub no: u64,
     pub unknown: u64,
 }
 
 /// How often a stop breaks each rule, and what nobody knows.
-#[derive(Clone, Copy, PartialEq, Eq)]
+#[derive(Clone, Copy)]
 pub struct Numbers {
     pub readable: Broken,
     pub kept: Broken,
@@ -43,7 +43,7 @@ pub struct Numbers {
 }
 
 /// Whether bookies may be stopped, and if not, what speaks against it, and how often.
-#[derive(Clone, Copy, PartialEq, Eq)]
+#[derive(Clone, Copy)]
 pub enum Answer {
     Yes,
     No(Rule, u64),

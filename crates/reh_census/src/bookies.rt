@@ -6,7 +6,7 @@ use std::marker::Model;
 
 /// A bookie: whether it is registered, and read-only; whether it came back without its disk, so that it holds nothing;
 /// and its rack, if that is known.
-#[derive(Clone, Copy, PartialEq, Eq)]
+#[derive(Clone, Copy)]
 pub struct Bookie {
     pub is_registered: bool,
     pub is_read_only: bool,

@@ -33,7 +33,7 @@ pub struct CountedEnsemble {
 
 /// How many ledgers were counted, how many entries rest on an assumption, how many ledgers could not be read, and how
 /// many more were announced.
-#[derive(Clone, Copy, PartialEq, Eq)]
+#[derive(Clone, Copy)]
 pub struct Judged {
     pub ledgers: u64,
     pub assumed: u64,

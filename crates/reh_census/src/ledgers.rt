@@ -7,7 +7,7 @@ use crate::names::Names;
 use std::marker::Model;
 
 /// The entries from the first to the last.
-#[derive(Clone, Copy, PartialEq, Eq)]
+#[derive(Clone, Copy)]
 pub struct Range {
     pub first: u64,
     pub last: u64,
@@ -71,7 +71,7 @@ pub struct Fragment {
 }
 
 /// A ledger's state, by its metadata.
-#[derive(Clone, Copy, PartialEq, Eq)]
+#[derive(Clone, Copy)]
 pub enum LedgerState {
     Open,
     InRecovery,

@@ -1,7 +1,7 @@
 // What is asked of a stop.
 
 /// How many copies each entry is to keep, if it has so many now: at least one.
-#[derive(Clone, Copy, PartialEq, Eq)]
+#[derive(Clone, Copy)]
 pub enum Keep {
     /// As many as its ledger's ack quorum.
     AckQuorum,
@@ -12,7 +12,7 @@ pub enum Keep {
 }
 
 /// What is asked of a stop, and what it may break.
-#[derive(Clone, Copy, PartialEq, Eq)]
+#[derive(Clone, Copy)]
 pub struct Question {
     /// How many copies each entry is to keep.
     pub keep: Keep,

@@ -4,7 +4,7 @@ use std::fmt;
 use thiserror::Error;
 
 /// A word that stands before a value.
-#[derive(Clone, Copy, PartialEq, Eq)]
+#[derive(Clone, Copy)]
 pub enum Keyword {
     Census,
     Strict,
@@ -48,7 +48,7 @@ impl Keyword {
 }
 
 /// Which lines have come, and so which may follow.
-#[derive(Clone, Copy, PartialEq, Eq)]
+#[derive(Clone, Copy)]
 pub enum Part {
     /// Those of bookies, at most.
     Bookies,
@@ -78,7 +78,7 @@ impl Part {
 }
 
 /// What a line should have had.
-#[derive(Clone, Copy, PartialEq, Eq)]
+#[derive(Clone, Copy)]
 pub enum Expected {
     /// The version of the text, which is 1.
     Version,
@@ -191,7 +191,7 @@ impl fmt::Display for Expected {
 }
 
 /// Why a text is no census.
-#[derive(Clone, Copy, PartialEq, Eq, Error)]
+#[derive(Clone, Copy, Error)]
 pub enum CensusFault {
     /// This line, counted from 1, should have had something else.
     Line(u64, Expected),

@@ -3,7 +3,7 @@ ghost use Rattle.std.specs.Prelude.{◌≡◌};
 ghost use Rattle.reh_colors.specs.Choices as model;
 
 /// Where colours are shown.
-#[derive(Clone, Copy, PartialEq, Eq)]
+#[derive(Clone, Copy)]
 pub enum Color {
     /// On a terminal, unless the environment asks for none.
     Auto,

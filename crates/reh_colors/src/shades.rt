@@ -4,7 +4,7 @@ ghost use Rattle.std.specs.List.{after_first};
 ghost use Rattle.reh_colors.specs.Shades as model;
 
 /// A colour: what is refused, or answered no, is red; a yes is green; and yellow is for what is unknown.
-#[derive(Clone, Copy, PartialEq, Eq)]
+#[derive(Clone, Copy)]
 pub enum Shade {
     Red,
     Green,

@@ -20,7 +20,7 @@ pub enum Command {
 }
 
 /// Why a line of a script asks for nothing. Its text is the line's reply.
-#[derive(Clone, Copy, PartialEq, Eq)]
+#[derive(Clone, Copy)]
 pub enum LineFault {
     /// The line has more than 1,024 bytes.
     TooLong,

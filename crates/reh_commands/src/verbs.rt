@@ -38,7 +38,7 @@ const MEMBER: &[Role] = &[
 ];
 
 /// The verbs, one for each command. Each is printed as its command is written, with the roles of its words.
-#[derive(Clone, Copy, PartialEq, Eq)]
+#[derive(Clone, Copy)]
 pub enum Verb {
     Lose,
     Join,

@@ -18,7 +18,7 @@ use std::fmt;
 const NUMBER_END: u64 = 10_000_000_000_000;
 
 /// What a word after a verb stands for.
-#[derive(Clone, Copy, PartialEq, Eq)]
+#[derive(Clone, Copy)]
 pub enum Role {
     /// A bookie.
     Bookie,

@@ -9,7 +9,7 @@ use std::alloc::{AllocError, Global};
 use std::thread::SpawnError;
 
 /// Why there is no survey.
-#[derive(Clone, Copy, PartialEq, Eq)]
+#[derive(Clone, Copy)]
 pub enum SurveyFault {
     /// There is no memory for its lines.
     NoMemory,

@@ -26,7 +26,7 @@ impl fmt::Display for WayOut {
 }
 
 /// A limit for a number of one ledger.
-#[derive(Clone, Copy, PartialEq, Eq)]
+#[derive(Clone, Copy)]
 pub enum LedgerLimit {
     /// The greatest id.
     Id,
@@ -39,7 +39,7 @@ pub enum LedgerLimit {
 }
 
 /// A number of a ledger that is past this limit.
-#[derive(Clone, Copy, PartialEq, Eq)]
+#[derive(Clone, Copy)]
 pub struct Past {
     pub limit: LedgerLimit,
     pub number: u64,
@@ -75,7 +75,7 @@ impl fmt::Display for Past {
 }
 
 /// A limit for all ledgers of a picture together.
-#[derive(Clone, Copy, PartialEq, Eq)]
+#[derive(Clone, Copy)]
 pub enum TotalLimit {
     /// How many they may be.
     Ledgers,
@@ -88,7 +88,7 @@ pub enum TotalLimit {
 }
 
 /// How much ledgers have together of what this limit is for.
-#[derive(Clone, Copy, PartialEq, Eq)]
+#[derive(Clone, Copy)]
 pub struct Sum {
     pub limit: TotalLimit,
     pub number: u64,
@@ -127,7 +127,7 @@ impl fmt::Display for Sum {
 const _: () = prove!(ENTRIES_IN_WORD == 64);
 
 /// What so many ledgers have too much of together.
-#[derive(Clone, Copy, PartialEq, Eq)]
+#[derive(Clone, Copy)]
 pub struct Total {
     pub sum: Sum,
     pub ledgers: usize,

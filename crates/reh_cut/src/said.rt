@@ -12,7 +12,7 @@ use reh_inventory::{Content, Entries, Sizes};
 use reh_types::MAX_ENSEMBLE_SIZE;
 
 /// What stands for what nobody says of an entry that is written to a bookie.
-#[derive(Clone, Copy, PartialEq, Eq)]
+#[derive(Clone, Copy)]
 pub enum Assume {
     /// Nothing: a ledger with such an entry has no picture.
     Nothing,

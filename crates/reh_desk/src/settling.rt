@@ -11,7 +11,7 @@ use reh_session::Session;
 use reh_types::{Line, OwnLine, Reply};
 
 /// Why a book doesn't settle with its seats.
-#[derive(Clone, Copy, PartialEq, Eq)]
+#[derive(Clone, Copy)]
 pub enum Unsettled {
     /// So many tickets are out.
     StillOut(u32),

@@ -94,7 +94,7 @@ impl fmt::Display for Repeated {
 }
 
 /// What is wrong with a ledger.
-#[derive(Clone, Copy, PartialEq, Eq)]
+#[derive(Clone, Copy)]
 pub enum LedgerFlaw {
     /// Not `1 <= ack quorum <= write quorum <= ensemble size <= 16`.
     Quorum,

@@ -16,7 +16,7 @@ use std::alloc::{AllocError, Global};
 use std::marker::Model;
 
 /// Why a bookie of an input can't be one of the cluster.
-#[derive(Clone, Copy, PartialEq, Eq)]
+#[derive(Clone, Copy)]
 pub enum ClusterFault {
     /// An input before shows it otherwise.
     Differs,

@@ -8,7 +8,7 @@ use reh_picture::{Holding, Listed};
 use reh_types::BookieIx;
 
 /// What an empty bookie is said to hold.
-#[derive(Clone, Copy, PartialEq, Eq)]
+#[derive(Clone, Copy)]
 pub struct EmptyHolds {
     /// The number of the bookie in its input.
     pub bookie: usize,

@@ -34,7 +34,7 @@ use std::alloc::{AllocError, AllocFailed, Global};
 use std::thread::Threads;
 
 /// Why inputs can't be judged together.
-#[derive(Clone, Copy, PartialEq, Eq)]
+#[derive(Clone, Copy)]
 pub enum GatherFault {
     /// This bookie of this input is shown otherwise by an input before.
     Differs { input: usize, bookie: usize },

@@ -75,7 +75,7 @@ fn ranges_of(alloc: Global, ranges: &[(u32, u32)]) -> Result<Ranges, AllocError>
 }
 
 /// What counts as told of what a bookie holds.
-#[derive(Clone, Copy, PartialEq, Eq)]
+#[derive(Clone, Copy)]
 pub enum Reading {
     /// What is told, and what is assumed.
     All,

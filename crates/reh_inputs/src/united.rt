@@ -19,7 +19,7 @@ use reh_types::BookieIx;
 use std::alloc::{AllocError, Global};
 
 /// The bookie of an input that can't be one of the cluster, and why.
-#[derive(Clone, Copy, PartialEq, Eq)]
+#[derive(Clone, Copy)]
 pub struct UniteFault {
     /// The number of the bookie in its input.
     pub bookie: usize,

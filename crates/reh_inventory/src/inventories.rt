@@ -14,7 +14,7 @@ use std::marker::Model;
 use thiserror::Error;
 
 /// Why a line can't be the next one of an inventory.
-#[derive(Clone, Copy, PartialEq, Eq, Error)]
+#[derive(Clone, Copy, Error)]
 pub enum InventoryFault {
     /// The line by itself has this fault.
     Line(LineFault),

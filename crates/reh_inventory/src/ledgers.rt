@@ -17,7 +17,7 @@ use std::alloc::Global;
 use std::marker::Model;
 
 /// Where a ledger stands, by its metadata.
-#[derive(Clone, Copy, PartialEq, Eq)]
+#[derive(Clone, Copy)]
 pub enum LedgerState {
     Open,
     InRecovery,
@@ -27,7 +27,7 @@ pub enum LedgerState {
 
 /// How many bookies an ensemble has, how many of them an entry is written to, and how many of these must have
 /// acknowledged it.
-#[derive(Clone, Copy, PartialEq, Eq)]
+#[derive(Clone, Copy)]
 pub struct Sizes {
     pub ensemble: u64,
     pub write_quorum: u64,

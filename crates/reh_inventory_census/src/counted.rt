@@ -16,7 +16,7 @@ use reh_inventory_fields::{MAX_NUMBER, Name};
 use std::alloc::{AllocError, Global};
 
 /// Why a census can't count the ledger of a line.
-#[derive(Clone, Copy, PartialEq, Eq)]
+#[derive(Clone, Copy)]
 pub(crate) enum UnfitFault {
     /// A bookie stands twice in an ensemble, or two members of it have no number.
     Unfit,

@@ -24,7 +24,7 @@ pub(crate) const MOST: u64 = 1 << 63;
 const LEAST_TO_JOIN: usize = 1 << 16;
 
 /// Why no more can be counted.
-#[derive(Clone, Copy, PartialEq, Eq)]
+#[derive(Clone, Copy)]
 pub(crate) enum CountsFault {
     /// A census counts no more entries, ledgers or fragments.
     TooMany,

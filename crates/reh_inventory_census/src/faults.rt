@@ -10,7 +10,7 @@ use reh_tally::TallyFault;
 use std::alloc::AllocError;
 
 /// Why the next line of an inventory can't be counted with those before it.
-#[derive(Clone, Copy, PartialEq, Eq)]
+#[derive(Clone, Copy)]
 pub enum CountFault {
     /// It isn't the next line of an inventory.
     Line(InventoryFault),

@@ -12,7 +12,7 @@ use reh_inventory_fields::Name;
 use std::alloc::{AllocError, Global};
 
 /// Why a member can't get a number.
-#[derive(Clone, Copy, PartialEq, Eq)]
+#[derive(Clone, Copy)]
 pub(crate) enum NumberFault {
     /// 4,096 bookies have numbers already.
     TooMany,

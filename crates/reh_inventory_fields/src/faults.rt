@@ -3,7 +3,7 @@ use crate::fields::Field;
 use std::alloc::{AllocError, AllocFailed};
 
 /// What is wrong with a part of a line.
-#[derive(Clone, Copy, PartialEq, Eq)]
+#[derive(Clone, Copy)]
 pub enum Fault {
     /// The bytes aren't one JSON value.
     NotJson,

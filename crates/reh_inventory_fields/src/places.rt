@@ -12,7 +12,7 @@ use std::fmt;
 use thiserror::Error;
 
 /// A part of a line, by the numbers of elements of its lists, each from 0 on.
-#[derive(Clone, Copy, PartialEq, Eq)]
+#[derive(Clone, Copy)]
 pub enum Place {
     /// The line itself.
     Line,
@@ -92,7 +92,7 @@ impl fmt::Display for Path {
         let Path { place, field } = *self;
         if field.name() == place.element().name() {
             write!(f, "{place}")
-        } else if place == Place::Line {
+        } else if matches!(place, Place::Line) {
             write!(f, "{field}")
         } else {
             write!(f, "{place}.{field}")
@@ -101,7 +101,7 @@ impl fmt::Display for Path {
 }
 
 /// Why a line is refused, and where in it that is. Its text is the place and what was expected there.
-#[derive(Clone, Copy, PartialEq, Eq, Error)]
+#[derive(Clone, Copy, Error)]
 pub struct LineFault {
     /// The first fault.
     pub fault: Fault,

@@ -9,7 +9,7 @@ use std::io::{Read, Write};
 use std::snapshot::Snapshot;
 
 /// A call that failed: a read or a write that moved no byte, or a flush that may have handed on a part.
-#[derive(Clone, Copy, PartialEq, Eq)]
+#[derive(Clone, Copy)]
 pub struct StreamFault;
 
 /// A reader, like std's `Read`.

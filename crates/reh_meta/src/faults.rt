@@ -2,7 +2,7 @@
 use std::alloc::AllocError;
 
 /// Why there is no metadata: the rule that it would break, or out of memory.
-#[derive(Clone, Copy, PartialEq, Eq)]
+#[derive(Clone, Copy)]
 pub enum MetaFault {
     /// Not `1 <= ack quorum <= write quorum <= ensemble size <= 16`.
     BadQuorum,

@@ -15,7 +15,7 @@ use std::marker::Model;
 
 /// How many bookies an ensemble has, how many of them each entry is written to, and how many of
 /// these must have acknowledged it: BookKeeper's ensemble size, write quorum and ack quorum.
-#[derive(Clone, Copy, PartialEq, Eq)]
+#[derive(Clone, Copy)]
 pub struct Sizes {
     /// The ensemble size.
     pub ensemble: u64,

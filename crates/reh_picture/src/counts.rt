@@ -10,7 +10,7 @@ use reh_types::{BookieIx, LedgerState, MAX_WORDS};
 use std::fmt;
 
 /// How many bookies, ledgers, fragments, entries and words a state has. Its text has a line for each.
-#[derive(Clone, Copy, PartialEq, Eq)]
+#[derive(Clone, Copy)]
 pub struct Counts {
     /// All bookies.
     pub bookies: usize,

@@ -12,7 +12,7 @@ use std::error::Error;
 use std::fmt;
 
 /// A part of a picture, by the numbers of elements of its lists, each from 0 on.
-#[derive(Clone, Copy, PartialEq, Eq)]
+#[derive(Clone, Copy)]
 pub enum Place {
     /// The picture itself.
     Picture,
@@ -102,7 +102,7 @@ impl fmt::Display for Path {
         let Path { place, field } = *self;
         if field.name() == place.element().name() {
             write!(f, "{place}")
-        } else if place == Place::Picture {
+        } else if matches!(place, Place::Picture) {
             write!(f, "{field}")
         } else {
             write!(f, "{place}.{field}")
@@ -111,7 +111,7 @@ impl fmt::Display for Path {
 }
 
 /// A place in a text, by its line and its column, both from 1 on.
-#[derive(Clone, Copy, PartialEq, Eq)]
+#[derive(Clone, Copy)]
 pub struct TextPlace {
     pub line: usize,
     pub column: usize,

@@ -6,7 +6,7 @@ ghost use Rattle.reh_picture_out.specs.Unshown.{IsUnshown};
 use reh_cluster::{Ledger, State};
 
 /// What a state has that no field of a picture shows.
-#[derive(Clone, Copy, PartialEq, Eq)]
+#[derive(Clone, Copy)]
 pub struct Unshown {
     /// How many ledgers have a task.
     pub tasks: usize,

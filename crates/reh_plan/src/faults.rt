@@ -6,7 +6,7 @@ use std::error::Error;
 use std::fmt;
 
 /// Why there is no plan.
-#[derive(Clone, Copy, PartialEq, Eq)]
+#[derive(Clone, Copy)]
 pub enum PlanFault {
     /// There is no memory for it.
     NoMemory,
@@ -43,7 +43,7 @@ impl From<AllocError> for PlanFault {
 }
 
 /// Why something is left to do for a ledger.
-#[derive(Clone, Copy, PartialEq, Eq)]
+#[derive(Clone, Copy)]
 pub enum Reason {
     /// No bookie that may take places is registered and outside of the ensemble of this fragment.
     NoWorker { fragment: u64 },
@@ -85,7 +85,7 @@ impl fmt::Display for Reason {
 }
 
 /// Why a step of a plan is not made: something is left then, or there is no plan.
-#[derive(Clone, Copy, PartialEq, Eq)]
+#[derive(Clone, Copy)]
 pub(crate) enum StepFault {
     /// Something is left for this reason.
     Left(Reason),

@@ -11,7 +11,7 @@ use reh_types::LedgerId;
 use std::alloc::{AllocError, Global};
 
 /// A fragment of which a write set stands in so few racks: in fewer than before the plan, and than are asked for.
-#[derive(Clone, Copy, PartialEq, Eq)]
+#[derive(Clone, Copy)]
 pub struct FewerRacks {
     pub ledger: LedgerId,
     pub fragment: usize,

@@ -9,7 +9,7 @@ use reh_cluster::Names;
 use reh_types::{BookieIx, BookieSet};
 
 /// A word names a bookie that a word before it names.
-#[derive(Clone, Copy, PartialEq, Eq)]
+#[derive(Clone, Copy)]
 pub struct NamedTwice {
     /// The number of the word, from 0.
     pub word: usize,

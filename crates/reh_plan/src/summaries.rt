@@ -14,7 +14,7 @@ use reh_types::{BookieIx, Event, SurveyLine};
 use std::alloc::{AllocError, Global};
 
 /// What a bookie is given by a plan.
-#[derive(Clone, Copy, PartialEq, Eq)]
+#[derive(Clone, Copy)]
 pub struct Share {
     pub bookie: BookieIx,
     /// How many places it takes.

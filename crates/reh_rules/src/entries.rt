@@ -8,7 +8,7 @@ ghost use Rattle.reh_rules.specs.Entries as model;
 use reh_census::{BookieSet, Class, Counted, Keep};
 
 /// Which rules an entry breaks.
-#[derive(Clone, Copy, PartialEq, Eq)]
+#[derive(Clone, Copy)]
 pub struct Breaks {
     pub lost: bool,
     pub may_be_lost: bool,
@@ -18,7 +18,7 @@ pub struct Breaks {
 }
 
 /// How many entries break each rule.
-#[derive(Clone, Copy, PartialEq, Eq)]
+#[derive(Clone, Copy)]
 pub struct Entries {
     pub lost: u64,
     pub may_be_lost: u64,

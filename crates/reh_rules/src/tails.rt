@@ -15,7 +15,7 @@ use crate::writers::{Room, loses_ensemble};
 use reh_census::{BookieSet, Bookies, CountedTail, Question, Tail};
 
 /// How many ledgers that aren't closed break each rule.
-#[derive(Clone, Copy, PartialEq, Eq)]
+#[derive(Clone, Copy)]
 pub struct Tails {
     pub recoverable: u64,
     pub writable: u64,

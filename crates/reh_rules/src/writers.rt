@@ -8,7 +8,7 @@ use crate::racks::{count_writable, lacks_racks};
 use reh_census::{BookieSet, Bookies, Question};
 
 /// How many bookies may be written to, and whether these stand in too few racks: now, and without the stopped ones.
-#[derive(Clone, Copy, PartialEq, Eq)]
+#[derive(Clone, Copy)]
 pub struct Room {
     pub writable_now: u64,
     pub writable_then: u64,

@@ -32,7 +32,7 @@ pub struct AskedRisk {
 }
 
 /// Why nothing is said.
-#[derive(Clone, Copy, PartialEq, Eq)]
+#[derive(Clone, Copy)]
 pub enum RoundFault {
     /// A name has a byte that can't be printed.
     Unprintable,

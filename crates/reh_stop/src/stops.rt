@@ -35,7 +35,7 @@ pub struct Said {
 }
 
 /// Why nothing is said.
-#[derive(Clone, Copy, PartialEq, Eq)]
+#[derive(Clone, Copy)]
 pub enum StopFault<'a> {
     /// No bookie and no rack is named.
     Nobody,

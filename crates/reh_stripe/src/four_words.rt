@@ -9,7 +9,7 @@ use crate::words::{bits_between, word_at};
 /// Four words that follow one another.
 ///
 /// What goes by four words at a time goes through rows in half or a third of the time that it takes word by word.
-#[derive(Clone, Copy, PartialEq, Eq)]
+#[derive(Clone, Copy)]
 pub struct FourWords {
     pub words: [u64; 4],
 }

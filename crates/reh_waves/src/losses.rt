@@ -15,7 +15,7 @@ use reh_census::{BookieSet, Bookies, Census, Numbers, Question};
 use std::alloc::{AllocError, Global};
 
 /// Bookies that are lost: one, all of a rack, two.
-#[derive(Clone, Copy, PartialEq, Eq)]
+#[derive(Clone, Copy)]
 pub enum Lost {
     Bookie(u16),
     Rack(u16),
@@ -23,7 +23,7 @@ pub enum Lost {
 }
 
 /// A loss, with the numbers of every rule.
-#[derive(Clone, Copy, PartialEq, Eq)]
+#[derive(Clone, Copy)]
 pub struct Loss {
     pub lost: Lost,
     pub numbers: Numbers,

@@ -2,7 +2,7 @@
 use std::alloc::{AllocError, AllocFailed};
 
 /// Why a ledger has no window of this number.
-#[derive(Clone, Copy, PartialEq, Eq)]
+#[derive(Clone, Copy)]
 pub enum WindowFault {
     /// The ensemble size is 0 or past 64, or an entry is past 2^63 - 1. No line of an inventory is so.
     Unfit,

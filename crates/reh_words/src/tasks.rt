@@ -97,7 +97,7 @@ pub enum PlayWords<'a> {
 }
 
 /// What is printed of each line.
-#[derive(Clone, Copy, PartialEq, Eq)]
+#[derive(Clone, Copy)]
 pub enum Prints {
     /// The answer.
     Answers,

@@ -164,7 +164,7 @@ fn copy_taken(alloc: Global, read: &[Input]) -> Result<Option<String>, AllocErro
 }
 
 /// What a file is.
-#[derive(Clone, Copy, PartialEq, Eq)]
+#[derive(Clone, Copy)]
 pub(crate) enum FileKind {
     /// A picture or a census.
     Other,
