@@ -27,7 +27,7 @@ use std::alloc::AllocError;
 use std::marker::Model;
 
 /// Why a finding could not be spent.
-#[derive(Clone, Copy)]
+#[derive(Clone, Copy, PartialEq, Eq, Debug)]
 pub enum SpendCause {
     /// Its ticket isn't out at that seat of the book.
     NotOut,

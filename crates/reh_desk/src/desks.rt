@@ -40,7 +40,7 @@ pub struct Closed {
 }
 
 /// Why a desk doesn't close.
-#[derive(Clone, Copy)]
+#[derive(Clone, Copy, PartialEq, Eq, Debug)]
 pub enum CloseCause {
     /// These are not the seats of the desk, each once.
     Seats,

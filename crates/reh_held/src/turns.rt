@@ -1,6 +1,6 @@
 // Words with bits to turn.
 /// A word's number in a row, and the bits of it that turn.
-#[derive(Clone, Copy)]
+#[derive(Clone, Copy, PartialEq, Eq, Debug)]
 pub struct Turn {
     /// The entries of the word are the 64 from 64 times this number on.
     pub number: usize,

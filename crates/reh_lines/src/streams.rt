@@ -9,7 +9,7 @@ use std::io::{Read, Write};
 use std::snapshot::Snapshot;
 
 /// A call that failed: a read or a write that moved no byte, or a flush that may have handed on a part.
-#[derive(Clone, Copy)]
+#[derive(Clone, Copy, PartialEq, Eq, Debug)]
 pub struct StreamFault;
 
 /// A reader, like std's `Read`.

@@ -4,7 +4,7 @@ use std::alloc::AllocError;
 use std::thread::SpawnError;
 
 /// Why the lines of a script are not all answered.
-#[derive(Clone, Copy)]
+#[derive(Clone, Copy, Debug)]
 pub enum PlayFault {
     /// A read failed.
     ReadFault,

@@ -3,7 +3,7 @@ ghost use Rattle.std.specs.Prelude.{◌≡◌, ℕ, ◌+◌, ◌*◌, ◌^◌, �
 ghost use Rattle.reh_stripe.specs.Words.{has_bit, is_between, entries_in};
 
 /// Some of the 64 entries of a word: bit i of word n stands for entry 64 n + i.
-#[derive(Clone, Copy)]
+#[derive(Clone, Copy, PartialEq, Eq, Debug)]
 pub struct Word {
     pub number: u32,
     pub bits: u64,

@@ -14,7 +14,7 @@ use reh_census::{Bookies, Census, Judged, Ledger};
 use std::alloc::{AllocError, Global};
 
 /// Why ledgers can't be counted.
-#[derive(Clone, Copy)]
+#[derive(Clone, Copy, Debug)]
 pub enum TallyFault {
     /// There are more entries, ledgers or fragments than a census counts.
     TooMany,

@@ -2,7 +2,7 @@
 use crate::names::LedgerId;
 
 /// How much of a ledger's fragment is lost.
-#[derive(Clone, Copy)]
+#[derive(Clone, Copy, PartialEq, Eq, Debug)]
 pub struct SurveyLine {
     pub ledger: LedgerId,
     /// The number of the fragment in the ledger.
