@@ -49,8 +49,8 @@ fn registered_in(alloc: Global, bookies: &Bookies, order: &[u16]) -> Result<Vec<
 }
 
 /// Each bookie alone.
-fn each_bookie(alloc: Global, bookies: &[u16]) -> Result<Vec<Lost>, AllocError>
-    ensures { IfOk result (λ lost. lost.items ≡ map (λ b. Bookie b) bookies.now) }
+fn each_bookie(alloc: Global, bookies: Vec<u16>) -> Result<Vec<Lost>, AllocError>
+    ensures { IfOk result (λ lost. lost.items ≡ map (λ b. Bookie b) bookies.items) }
 {
     bookies
         .iter()
@@ -104,15 +104,15 @@ fn rank(
     bookies: &Bookies,
     question: &Question,
     largest: Largest,
-    lost: &[Lost],
+    lost: Vec<Lost>,
 ) -> Result<Vec<Loss>, AllocError>
     requires largest { AreLargest census.now largest.tail largest.ensemble }
     requires well_formed { All (λ t. IsTail t.tail) census.now.tails }
-    requires lost { All (IsWithin (length bookies.now)) lost.now }
+    requires lost { All (IsWithin (length bookies.now)) lost.items }
     ensures { IfOk result (λ ranked. losses.AreRanked (map (losses.loss_on (counting_in census.now) (bookies_of bookies.now) question.now
-        (not_judged census.now.judged)) lost.now) ranked.items) }
+        (not_judged census.now.judged)) lost.items) ranked.items) }
 {
-    let losses = losses_of(alloc, census, bookies, question, largest, lost)?;
+    let losses = losses_of(alloc, census, bookies, question, largest, &lost)?;
     let ranked = ranked(losses)?;
     Ok(ranked)
 }
@@ -138,17 +138,19 @@ pub fn risk_of(
     ensures once { IfOk result (λ risk. (b : ℕ) → count_by (model.is_loss_of b) risk.bookies.items
         ≡ cond ((bookies_of bookies.now).is_registered b) 1 0) }
 {
-    let registered = registered_in(alloc, bookies, order)?;
-    let alone = each_bookie(alloc, &registered)?;
-    let by_rack = each_rack(alloc, racks)?;
-    let pairs = pairs_if(alloc, with_pairs, &registered)?;
     let largest = largest_of(census);
+    let registered = registered_in(alloc, bookies, order)?;
+    let each_two = pairs_if(alloc, with_pairs, &registered)?;
+    let each_one = each_bookie(alloc, registered)?;
+    let pairs = rank(alloc, census, bookies, question, largest, each_two)?;
+    let alone = rank(alloc, census, bookies, question, largest, each_one)?;
+    let by_rack = each_rack(alloc, racks)?;
     Ok(Risk {
         fewest_copies: fewest_copies(census.entries()),
         fewest_in_tails: least_spare(bookies, census.tails()),
-        bookies: rank(alloc, census, bookies, question, largest, &alone)?,
-        racks: rank(alloc, census, bookies, question, largest, &by_rack)?,
-        pairs: rank(alloc, census, bookies, question, largest, &pairs)?,
+        bookies: alone,
+        racks: rank(alloc, census, bookies, question, largest, by_rack)?,
+        pairs,
         not_judged: census.not_judged(),
     })
 }
