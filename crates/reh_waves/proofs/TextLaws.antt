@@ -24,3 +24,12 @@ pub six : (start one two' three' four' five' all a b c d e f : List ℕ) → one
     → all ≡ start ++ (a ++ (b ++ (c ++ (d ++ (e ++ f)))))
 six start one two' three' four' five' all a b c d e f first second third fourth fifth sixth =
     two start one all a (b ++ (c ++ (d ++ (e ++ f)))) first (five one two' three' four' five' all b c d e f second third fourth fifth sixth)
+
+-- the numbers of the rules, one after the other
+pub rules-parts : (p k a n b u e k' n' u' l r m w q s v d end : List ℕ)
+    → (p ++ (k ++ (a ++ (n ++ (b ++ (u ++ (e ++ (k' ++ (a ++ (n' ++ (b ++ (u' ++ (e ++ (l ++ (r ++ (m ++ w))))))))))))))))
+    ++ (q ++ (s ++ (v ++ (d ++ end))))
+    ≡ p
+    ++ ((k ++ ((a ++ (n ++ (b ++ (u ++ e)))) ++ (k' ++ (a ++ (n' ++ (b ++ (u' ++ e)))))))
+    ++ ((l ++ (r ++ (m ++ w))) ++ ((q ++ (s ++ (v ++ d))) ++ end)))
+rules-parts p k a n b u e k' n' u' l r m w q s v d end = simp append_assoc

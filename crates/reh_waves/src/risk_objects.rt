@@ -6,60 +6,25 @@ ghost use Rattle.reh_waves.specs.Json.{ArePrintable};
 use crate::losses::{Loss, Lost};
 use crate::objects::{push_comma, push_json_name};
 use crate::risk::Risk;
-use reh_census::{Broken, Numbers};
+use reh_census::Numbers;
 use std::alloc::{AllocError, Global};
-
-/// Adds how many break a rule, and how many more may.
-fn push_broken(text: &mut String, broken: &Broken) -> Result<(), AllocError>
-    ensures { OnOk result (string_bytes text.new ≡ string_bytes text.old ++ json.broken_json broken.now) }
-{
-    let no = broken.no;
-    let unknown = broken.unknown;
-    write!(text, "{{\"no\":{no},\"unknown\":{unknown}}}")
-}
-
-/// Adds the numbers of the rules for entries.
-fn push_entries(text: &mut String, numbers: &Numbers) -> Result<(), AllocError>
-    ensures { OnOk result (string_bytes text.new ≡ string_bytes text.old ++ json.entries_json numbers.now) }
-{
-    text.push_str("\"readable\":")?;
-    push_broken(text, &numbers.readable)?;
-    text.push_str(",\"kept\":")?;
-    push_broken(text, &numbers.kept)?;
-    Ok(())
-}
-
-/// Adds those for ledgers and writers.
-fn push_ledgers(text: &mut String, numbers: &Numbers) -> Result<(), AllocError>
-    ensures { OnOk result (string_bytes text.new ≡ string_bytes text.old ++ json.ledgers_json numbers.now) }
-{
-    let recoverable = numbers.recoverable;
-    let writable = numbers.writable;
-    write!(
-        text,
-        ",\"recoverable\":{recoverable},\"writable\":{writable}"
-    )
-}
-
-/// Adds the others.
-fn push_rare(text: &mut String, numbers: &Numbers) -> Result<(), AllocError>
-    ensures { OnOk result (string_bytes text.new ≡ string_bytes text.old ++ json.rare_json numbers.now) }
-{
-    let replaceable = numbers.replaceable;
-    let disks = numbers.disks;
-    write!(text, ",\"replaceable\":{replaceable},\"disks\":{disks}")
-}
 
 /// Adds the numbers of the rules.
 fn push_rules(text: &mut String, numbers: &Numbers) -> Result<(), AllocError>
     ensures { OnOk result (string_bytes text.new ≡ string_bytes text.old ++ json.rules_json numbers.now) }
 {
-    text.push_str("\"rules\":{")?;
-    push_entries(text, numbers)?;
-    push_ledgers(text, numbers)?;
-    push_rare(text, numbers)?;
-    text.push_str("}")?;
-    Ok(())
+    write!(
+        text,
+        "\"rules\":{{\"readable\":{{\"no\":{},\"unknown\":{}}},\"kept\":{{\"no\":{},\"unknown\":{}}},\"recoverable\":{},\"writable\":{},\"replaceable\":{},\"disks\":{}}}",
+        numbers.readable.no,
+        numbers.readable.unknown,
+        numbers.kept.no,
+        numbers.kept.unknown,
+        numbers.recoverable,
+        numbers.writable,
+        numbers.replaceable,
+        numbers.disks
+    )
 }
 
 /// Adds two bookies.
