@@ -25,11 +25,13 @@ pub six : (start one two' three' four' five' all a b c d e f : List ℕ) → one
 six start one two' three' four' five' all a b c d e f first second third fourth fifth sixth =
     two start one all a (b ++ (c ++ (d ++ (e ++ f)))) first (five one two' three' four' five' all b c d e f second third fourth fifth sixth)
 
--- the numbers of the rules, one after the other
-pub rules-parts : (p k a n b u e k' n' u' l r m w q s v d end : List ℕ)
-    → (p ++ (k ++ (a ++ (n ++ (b ++ (u ++ (e ++ (k' ++ (a ++ (n' ++ (b ++ (u' ++ (e ++ (l ++ (r ++ (m ++ w))))))))))))))))
-    ++ (q ++ (s ++ (v ++ (d ++ end))))
-    ≡ p
+-- the numbers of the rules, one after the other, and the end of the object
+pub rules-parts : (o p k a n b u e k' n' u' l r m w q s v d : List ℕ)
+    → (o ++ (p ++ (k ++ (a ++ (n ++ (b ++ (u ++ (e ++ (k' ++ (a ++ (n' ++ (b ++ (u' ++ (e ++ (l ++ (r ++ (m ++ w)))))))))))))))))
+    ++ (q ++ (s ++ (v ++ (d ++ (e ++ e)))))
+    ≡ o
+    ++ ((p
     ++ ((k ++ ((a ++ (n ++ (b ++ (u ++ e)))) ++ (k' ++ (a ++ (n' ++ (b ++ (u' ++ e)))))))
-    ++ ((l ++ (r ++ (m ++ w))) ++ ((q ++ (s ++ (v ++ d))) ++ end)))
-rules-parts p k a n b u e k' n' u' l r m w q s v d end = simp append_assoc
+    ++ ((l ++ (r ++ (m ++ w))) ++ ((q ++ (s ++ (v ++ d))) ++ e))))
+    ++ e)
+rules-parts o p k a n b u e k' n' u' l r m w q s v d = simp append_assoc
