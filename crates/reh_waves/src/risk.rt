@@ -41,28 +41,35 @@ pub struct Risk {
 fn registered_in(alloc: Global, bookies: &Bookies, order: &[u16]) -> Result<Vec<u16>, AllocError>
     ensures { IfOk result (λ registered. registered.items ≡ filter (bookies_of bookies.now).is_registered order.now) }
 {
-    order
-        .iter()
-        .copied()
-        .filter(|bookie| bookies.is_registered(*bookie))
-        .collect(alloc)
+    let mut registered = Vec::new(alloc);
+    for bookie in order {
+        if bookies.is_registered(*bookie) {
+            registered.push(*bookie)?;
+        }
+    }
+    Ok(registered)
 }
 
 /// Each bookie alone.
-fn each_bookie(alloc: Global, bookies: Vec<u16>) -> Result<Vec<Lost>, AllocError>
-    ensures { IfOk result (λ lost. lost.items ≡ map (λ b. Bookie b) bookies.items) }
+fn each_bookie(alloc: Global, bookies: &[u16]) -> Result<Vec<Lost>, AllocError>
+    ensures { IfOk result (λ lost. lost.items ≡ map (λ b. Bookie b) bookies.now) }
 {
-    bookies
-        .iter()
-        .map(|bookie| Lost::Bookie(*bookie))
-        .collect(alloc)
+    let mut lost = Vec::new(alloc);
+    for bookie in bookies {
+        lost.push(Lost::Bookie(*bookie))?;
+    }
+    Ok(lost)
 }
 
 /// Each rack.
 fn each_rack(alloc: Global, racks: &[u16]) -> Result<Vec<Lost>, AllocError>
     ensures { IfOk result (λ lost. lost.items ≡ map (λ rack. Rack rack) racks.now) }
 {
-    racks.iter().map(|rack| Lost::Rack(*rack)).collect(alloc)
+    let mut lost = Vec::new(alloc);
+    for rack in racks {
+        lost.push(Lost::Rack(*rack))?;
+    }
+    Ok(lost)
 }
 
 /// Adds the pairs of a bookie with each of the others.
@@ -141,7 +148,7 @@ pub fn risk_of(
     let largest = largest_of(census);
     let registered = registered_in(alloc, bookies, order)?;
     let each_two = pairs_if(alloc, with_pairs, &registered)?;
-    let each_one = each_bookie(alloc, registered)?;
+    let each_one = each_bookie(alloc, &registered)?;
     let pairs = rank(alloc, census, bookies, question, largest, each_two)?;
     let alone = rank(alloc, census, bookies, question, largest, each_one)?;
     let by_rack = each_rack(alloc, racks)?;

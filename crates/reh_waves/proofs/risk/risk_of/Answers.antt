@@ -23,7 +23,9 @@ rank-requires-clause-lost c =
 pub rank-requires-2-clause-lost : goal.rank-requires-2-clause-lost
 rank-requires-2-clause-lost c =
     subst (λ (lost : List Lost). All (IsWithin (length c.args.bookies.now)) lost)
-    (sym (c.in_ok-each_one.ensures ∙ ap (λ (bs : List ℕ). map (λ b. Bookie b) bs) c.in_ok-registered.ensures))
+    (sym
+    (c.in_ok-each_one.ensures
+    ∙ ap (λ (bs : List ℕ). map (λ b. Bookie b) bs) (c.deref-2.ensures.value ∙ c.in_ok-registered.ensures)))
     (bookies-within c.args.bookies.now c.args.order.now)
 
 pub rank-requires-3-clause-lost : goal.rank-requires-3-clause-lost
@@ -61,7 +63,8 @@ returns-clause-census c =
           c.tails.ensures.tails c.least_spare.ensures;
       each_bookie =
           subst (λ (lost : List Lost). AreRanked (map f lost) c.in_ok-alone.alone.items)
-          (c.in_ok-each_one.ensures ∙ ap (λ (bs : List ℕ). map (λ b. Bookie b) bs) c.in_ok-registered.ensures)
+          (c.in_ok-each_one.ensures
+          ∙ ap (λ (bs : List ℕ). map (λ b. Bookie b) bs) (c.deref-2.ensures.value ∙ c.in_ok-registered.ensures))
           c.in_ok-alone.ensures;
       each_rack =
           subst (λ (lost : List Lost). AreRanked (map f lost) c.in_ok-rank.field-0.items) c.in_ok-by_rack.ensures
