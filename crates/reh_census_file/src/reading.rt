@@ -26,18 +26,16 @@ pub fn is_census(bytes: &[u8]) -> bool
     bytes.starts_with(b"census ")
 }
 
-/// Whether the byte ends a line.
-fn is_line_end(byte: u8) -> bool
-    ensures { result ≡ whole.is_line_end byte }
-{
-    byte == b'\n'
-}
-
 /// Where the first line ends, if it does.
 fn line_len(text: &[u8]) -> Option<usize>
     ensures { result ≡ position whole.is_line_end text.now }
 {
-    text.iter().position(|b| is_line_end(*b))
+    for index in 0..text.len() {
+        if text[index] == b'\n' {
+            return Some(index);
+        }
+    }
+    None
 }
 
 /// The first line, and what comes after the LF that ends it, if one does.
