@@ -100,8 +100,7 @@ fn pairs_if(alloc: Global, asked: bool, bookies: &[u16]) -> Result<Vec<Lost>, Al
     if !asked {
         return Ok(Vec::new(alloc));
     }
-    let pairs = each_pair(alloc, bookies)?;
-    Ok(pairs)
+    each_pair(alloc, bookies)
 }
 
 /// The losses of these, worst first.
@@ -120,8 +119,7 @@ fn rank(
         (not_judged census.now.judged)) lost.items) ranked.items) }
 {
     let losses = losses_of(alloc, census, bookies, question, largest, &lost)?;
-    let ranked = ranked(losses)?;
-    Ok(ranked)
+    ranked(losses)
 }
 
 /// What the next failures cost, by the census: bookies and racks in these orders, where losses are alike. `Err` only where
