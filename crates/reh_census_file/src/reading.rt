@@ -1,7 +1,5 @@
 // Reading a census.
 ghost use Rattle.std.specs.Prelude.{◌≡◌, ◌∷◌, ◌<◌, [], ◌+◌, ◌^◌, codes, nat_eq, length, MatchOption, position, IfOk, Ok};
-ghost use Rattle.reh_census_file.specs.declared.faults.Expected.TheVariants as expected;
-ghost use Rattle.reh_census_file.specs.Reading as words;
 ghost use Rattle.std.specs.List.{starts_with, position_or_len};
 ghost use Rattle.reh_census_file.specs.Drafts as drafts;
 ghost use Rattle.reh_census_file.specs.Reading.{Gives, words_after, words_of};
@@ -68,21 +66,13 @@ fn version_line(line: &[u8]) -> Result<(), LineFault>
     version_at(rest)
 }
 
-/// Which of `yes` and `no` comes next, and what follows it.
-fn yes_at(rest: &[u8]) -> Result<(bool, &[u8]), LineFault>
-    ensures { Gives (λ x. (x.0, words_after x.1.now)) result
-        (words.choice_at (codes "yes") (codes "no") expected.YesOrNo (words_after rest.now)) }
-{
-    choice_at("yes", "no", Expected::YesOrNo, rest)
-}
-
 /// The line that says whether what is assumed counts as untold.
 #[tactic(auto, unfolding(crate::specs::Whole::strict_line))]
 fn strict_line(line: &[u8]) -> Result<bool, LineFault>
     ensures { Gives (λ x. x) result (whole.strict_line (words_of line.now)) }
 {
     let rest = line_behind(Keyword::Strict, line)?;
-    let (is_strict, rest) = yes_at(rest)?;
+    let (is_strict, rest) = choice_at("yes", "no", Expected::YesOrNo, rest)?;
     no_more(rest)?;
     Ok(is_strict)
 }
