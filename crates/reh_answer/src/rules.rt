@@ -18,10 +18,7 @@ pub(crate) fn push_rules(
         return write!(
             text,
             "rules              readable {}, kept {}, recoverable {}, writable {}\n",
-            numbers.readable.no,
-            numbers.kept.no,
-            numbers.recoverable,
-            numbers.writable
+            numbers.readable.no, numbers.kept.no, numbers.recoverable, numbers.writable
         );
     }
     write!(

@@ -116,7 +116,10 @@ fn push_answer(text: &mut String, answer: Answer) -> Result<(), AllocError>
         Answer::Yes => text.push_str(",\"verdict\":\"yes\",\"rule\":null,\"count\":0}"),
         Answer::No(rule, count) => {
             let name = rule_name(rule);
-            write!(text, ",\"verdict\":\"no\",\"rule\":{name},\"count\":{count}}}")
+            write!(
+                text,
+                ",\"verdict\":\"no\",\"rule\":{name},\"count\":{count}}}"
+            )
         }
         Answer::Unknown(rule, count) => {
             let name = rule_name(rule);
