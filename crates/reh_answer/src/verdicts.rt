@@ -128,44 +128,30 @@ fn push_no(
     }
 }
 
-/// What could happen to so many.
-#[derive(Clone, Copy)]
-struct Could {
-    keep: Keep,
-    rule: Rule,
-    number: u64,
-}
-
-impl fmt::Display for Could {
-    ghost use Rattle.std.specs.Prelude.{Some};
-
-    ghost output = { λ could. Some (texts.could could.keep could.rule could.number) };
-
-    fn fmt<W: fmt::Write>(&self, f: &mut fmt::Formatter<W>) -> fmt::Result {
-        let asked = Asked {
-            keep: self.keep,
-            number: self.number,
-        };
-        match self.rule {
-            Rule::Readable => f.write_str("be lost"),
-            Rule::Kept => write!(f, "have fewer than {asked}, and fewer than now"),
-            Rule::Recoverable | Rule::Writable | Rule::Replaceable => f.write_str("break a rule"),
-        }
-    }
-}
-
 /// Adds that it is unknown, as a rule may be broken, and how often.
 fn push_may(text: &mut String, keep: Keep, rule: Rule, number: u64) -> Result<(), AllocError>
     ensures { OnOk result (string_bytes text.new ≡ string_bytes text.old ++ (codes "unknown, " ++ texts.may_words keep rule number)) }
 {
     let noun = noun_of(rule);
     let amount = Amount { number, noun };
-    let could = Could { keep, rule, number };
     let whose = whose(number);
-    write!(
-        text,
-        "unknown, {amount} could {could}: nobody told what some of {whose} bookies hold"
-    )
+    match rule {
+        Rule::Readable => write!(
+            text,
+            "unknown, {amount} could be lost: nobody told what some of {whose} bookies hold"
+        ),
+        Rule::Kept => {
+            let asked = Asked { keep, number };
+            write!(
+                text,
+                "unknown, {amount} could have fewer than {asked}, and fewer than now: nobody told what some of {whose} bookies hold"
+            )
+        }
+        Rule::Recoverable | Rule::Writable | Rule::Replaceable => write!(
+            text,
+            "unknown, {amount} could break a rule: nobody told what some of {whose} bookies hold"
+        ),
+    }
 }
 
 /// Adds that it is unknown, as so many entries may have copies on disks that go for good, and have too few elsewhere.
