@@ -180,15 +180,6 @@ fn read_lines(draft: &mut Draft, alloc: Global, text: &[u8]) -> Result<(), Censu
     Err(CensusFault::Line(lines + 1, Expected::MoreLines))
 }
 
-/// What the lines after the head tell.
-fn read_body(alloc: Global, text: &[u8]) -> Result<Draft, CensusFault>
-    ensures { GivesAll (λ d. d) result (whole.body_at 3 drafts.no_lines (parts_of text.now)) }
-{
-    let mut draft = Draft::new(alloc);
-    read_lines(&mut draft, alloc, text)?;
-    Ok(draft)
-}
-
 /// The census that these parts of a text told.
 fn census_of(
     alloc: Global,
@@ -221,7 +212,8 @@ fn read_all(alloc: Global, bytes: &[u8]) -> Result<NamedCensus, CensusFault>
     let rest = behind_version(bytes)?;
     let (is_strict, rest) = read_strict(rest)?;
     let (taken, rest) = read_taken(rest)?;
-    let draft = read_body(alloc, rest)?;
+    let mut draft = Draft::new(alloc);
+    read_lines(&mut draft, alloc, rest)?;
     census_of(alloc, is_strict, taken, draft)
 }
 
