@@ -64,7 +64,7 @@ impl NameList {
             (λ new. self.new ≡ (if new then self.old ++ name.now ∷ [] else self.old)) }
         ensures err { OnErr result (self.new ≡ self.old) }
     {
-        let owned = String::from_str(self.names.allocator().clone()?, name)?;
+        let owned = String::from_str(*self.names.allocator(), name)?;
         let added = self.names.insert(owned)?;
         Ok(added)
     }
