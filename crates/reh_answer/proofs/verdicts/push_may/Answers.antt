@@ -1,7 +1,7 @@
 use Rattle.std.proofs.Common.{◌≡◌, ◌∙◌, ◌++◌, ◌⊎◌, ℕ, List, ap, append_assoc, inl, inr, string_bytes, sym}
 use Rattle.std.specs.Prelude.{codes}
 use Rattle.reh_census.specs.declared.answers.Rule.{Rule}
-use Rattle.reh_census.specs.declared.answers.Rule.TheVariants.{Readable, Kept, Recoverable, Writable, Replaceable}
+use Rattle.reh_census.specs.declared.answers.Rule.TheVariants.{Recoverable, Writable, Replaceable}
 use Rattle.reh_census.specs.declared.questions.Keep.{Keep}
 use Rattle.reh_answer.specs.Texts as texts
 use Rattle.reh_answer.specs.declared.nouns.Noun.{Noun}
