@@ -62,3 +62,9 @@ pub flat_map-map : {X : Type 0} (f : List ℕ → List ℕ) (h : X → List ℕ)
     → flat_map f (map h xs) ≡ flat_map (λ x. f (h x)) xs
 flat_map-map f h [] = refl
 flat_map-map f h (x ∷ xs) = ap (λ ys. f (h x) ++ ys) (flat_map-map f h xs)
+
+-- eight parts before the rest
+pub eight-first : (a b c d e f g h rest : List ℕ)
+    → a ++ (b ++ (c ++ (d ++ (e ++ (f ++ (g ++ (h ++ rest)))))))
+    ≡ (a ++ (b ++ (c ++ (d ++ (e ++ (f ++ (g ++ h))))))) ++ rest
+eight-first a b c d e f g h rest = simp append_assoc

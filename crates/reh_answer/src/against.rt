@@ -13,27 +13,18 @@ pub struct Against {
     pub cause: String,
 }
 
-/// Adds how many entries speak against the stop, where it is entries.
-fn push_entries(text: &mut String, number: u64) -> Result<(), AllocError>
-    ensures { OnOk result (string_bytes text.new ≡ string_bytes text.old ++ texts.entries_words number) }
-{
-    if number == 0 {
-        return Ok(());
-    }
-    let entries = Amount {
-        number,
-        noun: Noun::Entry,
-    };
-    write!(text, "{entries}, ")
-}
-
-/// Adds the line of a ledger.
+/// Adds the line of a ledger, with how many of its entries speak against the stop, where it is entries.
 fn push_one(text: &mut String, against: &Against) -> Result<(), AllocError>
     ensures { OnOk result (string_bytes text.new ≡ string_bytes text.old ++ texts.against_line against.now) }
 {
-    write!(text, "ledger {}: ", against.ledger)?;
-    push_entries(text, against.entries)?;
-    write!(text, "{}\n", against.cause)
+    let ledger = against.ledger;
+    let number = against.entries;
+    if number == 0 {
+        return write!(text, "ledger {ledger}: {}\n", against.cause);
+    }
+    let noun = Noun::Entry;
+    let entries = Amount { number, noun };
+    write!(text, "ledger {ledger}: {entries}, {}\n", against.cause)
 }
 
 /// Adds the lines of ledgers.

@@ -119,9 +119,12 @@ fn is_stopped_up(bookies: &Bookies, stopped: &BookieSet, bookie: u16) -> bool
 fn has_stopped(bookies: &Bookies, stopped: &BookieSet, names: &[u16]) -> bool
     ensures { result ≡ list_any (model.is_stopped_up (bookies_of bookies.now) (is_flagged stopped.now)) names.now }
 {
-    names
-        .iter()
-        .any(|name| is_stopped_up(bookies, stopped, *name))
+    for name in names {
+        if is_stopped_up(bookies, stopped, *name) {
+            return true;
+        }
+    }
+    false
 }
 
 /// Whether the writer of this ledger has to change its ensemble.

@@ -6,17 +6,7 @@ use crate::facts::Facts;
 use reh_census::Numbers;
 use std::alloc::AllocError;
 
-/// Adds the number of the last rule, where bookies go for good.
-fn push_replaceable(text: &mut String, number: u64, for_good: bool) -> Result<(), AllocError>
-    ensures { OnOk result (string_bytes text.new ≡ string_bytes text.old ++ texts.replaceable_words number for_good) }
-{
-    if !for_good {
-        return Ok(());
-    }
-    write!(text, ", replaceable {number}")
-}
-
-/// Adds the line of the rules.
+/// Adds the line of the rules, with the number of the last one, where bookies go for good.
 pub(crate) fn push_rules(
     text: &mut String,
     numbers: &Numbers,
@@ -24,13 +14,22 @@ pub(crate) fn push_rules(
 ) -> Result<(), AllocError>
     ensures { OnOk result (string_bytes text.new ≡ string_bytes text.old ++ texts.rules_line numbers.now for_good) }
 {
+    if !for_good {
+        return write!(
+            text,
+            "rules              readable {}, kept {}, recoverable {}, writable {}\n",
+            numbers.readable.no, numbers.kept.no, numbers.recoverable, numbers.writable
+        );
+    }
     write!(
         text,
-        "rules              readable {}, kept {}, recoverable {}, writable {}",
-        numbers.readable.no, numbers.kept.no, numbers.recoverable, numbers.writable
-    )?;
-    push_replaceable(text, numbers.replaceable, for_good)?;
-    text.push_str("\n")
+        "rules              readable {}, kept {}, recoverable {}, writable {}, replaceable {}\n",
+        numbers.readable.no,
+        numbers.kept.no,
+        numbers.recoverable,
+        numbers.writable,
+        numbers.replaceable
+    )
 }
 
 /// Adds a number after its label, where there is one.

@@ -1,5 +1,5 @@
 // The verdict, in words and as a status.
-ghost use Rattle.std.specs.Prelude.{◌≡◌, ◌++◌, OnOk, string_bytes};
+ghost use Rattle.std.specs.Prelude.{◌≡◌, ◌++◌, OnOk, codes, string_bytes};
 ghost use Rattle.reh_answer.specs.Texts as texts;
 
 use crate::facts::Facts;
@@ -128,66 +128,52 @@ fn push_no(
     }
 }
 
-/// What could happen to so many.
-#[derive(Clone, Copy)]
-struct Could {
-    keep: Keep,
-    rule: Rule,
-    number: u64,
-}
-
-impl fmt::Display for Could {
-    ghost use Rattle.std.specs.Prelude.{Some};
-
-    ghost output = { λ could. Some (texts.could could.keep could.rule could.number) };
-
-    fn fmt<W: fmt::Write>(&self, f: &mut fmt::Formatter<W>) -> fmt::Result {
-        let asked = Asked {
-            keep: self.keep,
-            number: self.number,
-        };
-        match self.rule {
-            Rule::Readable => write!(f, "be lost"),
-            Rule::Kept => write!(f, "have fewer than {asked}, and fewer than now"),
-            Rule::Recoverable | Rule::Writable | Rule::Replaceable => write!(f, "break a rule"),
-        }
-    }
-}
-
-/// Adds which rule may be broken, and how often.
+/// Adds that it is unknown, as a rule may be broken, and how often.
 fn push_may(text: &mut String, keep: Keep, rule: Rule, number: u64) -> Result<(), AllocError>
-    ensures { OnOk result (string_bytes text.new ≡ string_bytes text.old ++ texts.may_words keep rule number) }
+    ensures { OnOk result (string_bytes text.new ≡ string_bytes text.old ++ (codes "unknown, " ++ texts.may_words keep rule number)) }
 {
     let noun = noun_of(rule);
     let amount = Amount { number, noun };
-    let could = Could { keep, rule, number };
     let whose = whose(number);
-    write!(
-        text,
-        "{amount} could {could}: nobody told what some of {whose} bookies hold"
-    )
+    match rule {
+        Rule::Readable => write!(
+            text,
+            "unknown, {amount} could be lost: nobody told what some of {whose} bookies hold"
+        ),
+        Rule::Kept => {
+            let asked = Asked { keep, number };
+            write!(
+                text,
+                "unknown, {amount} could have fewer than {asked}, and fewer than now: nobody told what some of {whose} bookies hold"
+            )
+        }
+        Rule::Recoverable | Rule::Writable | Rule::Replaceable => write!(
+            text,
+            "unknown, {amount} could break a rule: nobody told what some of {whose} bookies hold"
+        ),
+    }
 }
 
-/// Adds how many entries may have copies on disks that go for good, and have too few elsewhere.
+/// Adds that it is unknown, as so many entries may have copies on disks that go for good, and have too few elsewhere.
 fn push_disks(text: &mut String, number: u64) -> Result<(), AllocError>
-    ensures { OnOk result (string_bytes text.new ≡ string_bytes text.old ++ texts.disks_words number) }
+    ensures { OnOk result (string_bytes text.new ≡ string_bytes text.old ++ (codes "unknown, " ++ texts.disks_words number)) }
 {
     let noun = Noun::Entry;
     let entries = Amount { number, noun };
     let has = has(number);
     write!(
         text,
-        "{entries} {has} fewer known copies than are to be kept, and a bookie that is down and goes for good may have more"
+        "unknown, {entries} {has} fewer known copies than are to be kept, and a bookie that is down and goes for good may have more"
     )
 }
 
-/// Adds how many ledgers were not judged, where so many were.
+/// Adds that it is unknown, as so many ledgers were not judged, where so many were.
 fn push_not_judged(text: &mut String, ledgers: u64, number: u64) -> Result<(), AllocError>
-    ensures { OnOk result (string_bytes text.new ≡ string_bytes text.old ++ texts.not_judged_words ledgers number) }
+    ensures { OnOk result (string_bytes text.new ≡ string_bytes text.old ++ (codes "unknown, " ++ texts.not_judged_words ledgers number)) }
 {
     let all = u128::from(ledgers) + u128::from(number);
     let were = were(number);
-    write!(text, "{number} of {all} ledgers {were} not judged")
+    write!(text, "unknown, {number} of {all} ledgers {were} not judged")
 }
 
 /// Adds the answer.
@@ -201,18 +187,9 @@ fn push_answer(text: &mut String, facts: &Facts, keep: Keep) -> Result<(), Alloc
             text.push_str("no, ")?;
             push_no(text, facts, keep, rule, number)
         }
-        Answer::Unknown(rule, number) => {
-            text.push_str("unknown, ")?;
-            push_may(text, keep, rule, number)
-        }
-        Answer::UnknownDisks(number) => {
-            text.push_str("unknown, ")?;
-            push_disks(text, number)
-        }
-        Answer::NotJudged(number) => {
-            text.push_str("unknown, ")?;
-            push_not_judged(text, facts.judged.ledgers, number)
-        }
+        Answer::Unknown(rule, number) => push_may(text, keep, rule, number),
+        Answer::UnknownDisks(number) => push_disks(text, number),
+        Answer::NotJudged(number) => push_not_judged(text, facts.judged.ledgers, number),
     }
 }
 

@@ -132,9 +132,11 @@ pub tail_is : (t count state size write ack : List ℕ) (members : List (List �
 tail_is t count state size write ack members = simp append_assoc
 
 -- the lines at the head
-pub head_is : (t strict taken : List ℕ) → (t ++ (codes "census 1\nstrict " ++ (strict ++ codes "\n"))) ++ (codes "taken " ++ (taken ++ codes "\n"))
+pub head_is : (t strict taken : List ℕ)
+    → t ++ (codes "census 1\nstrict " ++ (strict ++ (codes "\ntaken " ++ (taken ++ codes "\n"))))
     ≡ t ++ lines_of ((codes "census" ∷ codes "1" ∷ []) ∷ (codes "strict" ∷ strict ∷ []) ∷ (codes "taken" ∷ taken ∷ []) ∷ [])
 head_is t strict taken =
-    append_assoc t (codes "census 1\nstrict " ++ (strict ++ codes "\n")) (codes "taken " ++ (taken ++ codes "\n"))
-    ∙ ap (λ s. t ++ (codes "census 1\nstrict " ++ ((s ++ codes "\n") ++ (codes "taken " ++ (taken ++ codes "\n"))))) (sym (append-nil strict))
-    ∙ ap (λ k. t ++ (codes "census 1\nstrict " ++ (((strict ++ []) ++ codes "\n") ++ (codes "taken " ++ k)))) (ap (λ k. k ++ codes "\n") (sym (append-nil taken)) ∙ sym (append-nil ((taken ++ []) ++ codes "\n")))
+    ap (λ s. t ++ (codes "census 1\nstrict " ++ s))
+    ((λ i. sym (append-nil strict) i ++ (codes "\ntaken " ++ (sym (append-nil taken) i ++ codes "\n")))
+    ∙ ap (λ s. (strict ++ []) ++ (codes "\ntaken " ++ s)) (sym (append-nil ((taken ++ []) ++ codes "\n")))
+    ∙ sym (append_assoc (strict ++ []) (codes "\n") (codes "taken " ++ (((taken ++ []) ++ codes "\n") ++ []))))

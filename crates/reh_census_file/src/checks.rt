@@ -46,14 +46,24 @@ fn is_holder(bookies: &[Bookie], number: u16) -> bool
 fn are_holders(bookies: &[Bookie], numbers: &[u16]) -> bool
     ensures { result ≡ list_all (model.is_holder (bookies_of bookies.now)) numbers.now }
 {
-    numbers.iter().all(|number| is_holder(bookies, *number))
+    for number in numbers {
+        if !is_holder(bookies, *number) {
+            return false;
+        }
+    }
+    true
 }
 
 /// Whether some of the others is one of these.
 fn overlap(numbers: &[u16], others: &[u16]) -> bool
     ensures { result ≡ list_any (is_in numbers.now) others.now }
 {
-    others.iter().any(|other| numbers.contains(other))
+    for other in others {
+        if numbers.contains(other) {
+            return true;
+        }
+    }
+    false
 }
 
 /// Whether these are quorums of a ledger.

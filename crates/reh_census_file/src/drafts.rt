@@ -255,8 +255,9 @@ impl Draft {
     fn take_entries(&mut self, alloc: Global, rest: &[u8]) -> Result<(), LineFault>
         ensures { Gives (λ _. self.new) result (spec.entries_step self.old (words_after rest.now)) }
     {
-        if self.judged.is_none() || !self.tails.is_empty() || !self.ensembles.is_empty() {
-            return Err(LineFault::At(Expected::Line(self.part())));
+        let part = self.part();
+        if !matches!(part, Part::Entries) {
+            return Err(LineFault::At(Expected::Line(part)));
         }
         let counted = lines::entries_at(alloc, &self.names, rest)?;
         self.add_entries(counted)

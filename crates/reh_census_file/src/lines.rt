@@ -26,14 +26,6 @@ pub(crate) struct BookieLine<'a> {
     pub rack: Option<&'a str>,
 }
 
-/// Whether a bookie is up, and what follows that.
-fn up_at(rest: &[u8]) -> Result<(bool, &[u8]), LineFault>
-    ensures { Gives (λ x. (x.0, words_after x.1.now)) result
-        (words.choice_at (codes "up") (codes "down") expected.UpOrDown (words_after rest.now)) }
-{
-    choice_at("up", "down", Expected::UpOrDown, rest)
-}
-
 /// Whether ledgers are open, and what follows that.
 fn state_at(rest: &[u8]) -> Result<(bool, &[u8]), LineFault>
     ensures { Gives (λ x. (x.0, words_after x.1.now)) result
@@ -70,7 +62,7 @@ pub(crate) fn bookie_line_at(rest: &[u8]) -> Result<BookieLine<'_>, LineFault>
     ensures { Gives seen result (reading.bookie_line_at (words_after rest.now)) }
 {
     let (name, rest) = name_at(rest)?;
-    let (is_registered, rest) = up_at(rest)?;
+    let (is_registered, rest) = choice_at("up", "down", Expected::UpOrDown, rest)?;
     let (is_read_only, rest) = flag_at(Keyword::ReadOnly, rest);
     let (is_empty, rest) = flag_at(Keyword::Empty, rest);
     let rack = rack_at(rest)?;

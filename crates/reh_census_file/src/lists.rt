@@ -64,7 +64,7 @@ impl NameList {
             (λ new. self.new ≡ (if new then self.old ++ name.now ∷ [] else self.old)) }
         ensures err { OnErr result (self.new ≡ self.old) }
     {
-        let owned = String::from_str(self.names.allocator().clone()?, name)?;
+        let owned = String::from_str(*self.names.allocator(), name)?;
         let added = self.names.insert(owned)?;
         Ok(added)
     }
@@ -87,8 +87,10 @@ impl NameList {
         ensures { option_map (λ name. name.now) result ≡ slice_get self.now (length self.now - 1) }
     {
         let len = self.names.len();
-        let name = self.names.get_index(len.saturating_sub(1))?;
-        Some(name.as_str())
+        match self.names.get_index(len.saturating_sub(1)) {
+            Some(name) => Some(name.as_str()),
+            None => None,
+        }
     }
 
     /// The number of that name, if it is there.
@@ -109,7 +111,9 @@ impl NameList {
     pub fn name(&self, number: u16) -> Option<&str>
         ensures { option_map (λ name. name.now) result ≡ slice_get self.now number }
     {
-        let name = self.names.get_index(number as usize)?;
-        Some(name.as_str())
+        match self.names.get_index(number as usize) {
+            Some(name) => Some(name.as_str()),
+            None => None,
+        }
     }
 }

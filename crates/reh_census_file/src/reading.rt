@@ -1,7 +1,5 @@
 // Reading a census.
 ghost use Rattle.std.specs.Prelude.{◌≡◌, ◌∷◌, ◌<◌, [], ◌+◌, ◌^◌, codes, nat_eq, length, MatchOption, position, IfOk, Ok};
-ghost use Rattle.reh_census_file.specs.declared.faults.Expected.TheVariants as expected;
-ghost use Rattle.reh_census_file.specs.Reading as words;
 ghost use Rattle.std.specs.List.{starts_with, position_or_len};
 ghost use Rattle.reh_census_file.specs.Drafts as drafts;
 ghost use Rattle.reh_census_file.specs.Reading.{Gives, words_after, words_of};
@@ -26,18 +24,16 @@ pub fn is_census(bytes: &[u8]) -> bool
     bytes.starts_with(b"census ")
 }
 
-/// Whether the byte ends a line.
-fn is_line_end(byte: u8) -> bool
-    ensures { result ≡ whole.is_line_end byte }
-{
-    byte == b'\n'
-}
-
 /// Where the first line ends, if it does.
 fn line_len(text: &[u8]) -> Option<usize>
     ensures { result ≡ position whole.is_line_end text.now }
 {
-    text.iter().position(|b| is_line_end(*b))
+    for index in 0..text.len() {
+        if text[index] == b'\n' {
+            return Some(index);
+        }
+    }
+    None
 }
 
 /// The first line, and what comes after the LF that ends it, if one does.
@@ -70,21 +66,13 @@ fn version_line(line: &[u8]) -> Result<(), LineFault>
     version_at(rest)
 }
 
-/// Which of `yes` and `no` comes next, and what follows it.
-fn yes_at(rest: &[u8]) -> Result<(bool, &[u8]), LineFault>
-    ensures { Gives (λ x. (x.0, words_after x.1.now)) result
-        (words.choice_at (codes "yes") (codes "no") expected.YesOrNo (words_after rest.now)) }
-{
-    choice_at("yes", "no", Expected::YesOrNo, rest)
-}
-
 /// The line that says whether what is assumed counts as untold.
 #[tactic(auto, unfolding(crate::specs::Whole::strict_line))]
 fn strict_line(line: &[u8]) -> Result<bool, LineFault>
     ensures { Gives (λ x. x) result (whole.strict_line (words_of line.now)) }
 {
     let rest = line_behind(Keyword::Strict, line)?;
-    let (is_strict, rest) = yes_at(rest)?;
+    let (is_strict, rest) = choice_at("yes", "no", Expected::YesOrNo, rest)?;
     no_more(rest)?;
     Ok(is_strict)
 }
@@ -192,15 +180,6 @@ fn read_lines(draft: &mut Draft, alloc: Global, text: &[u8]) -> Result<(), Censu
     Err(CensusFault::Line(lines + 1, Expected::MoreLines))
 }
 
-/// What the lines after the head tell.
-fn read_body(alloc: Global, text: &[u8]) -> Result<Draft, CensusFault>
-    ensures { GivesAll (λ d. d) result (whole.body_at 3 drafts.no_lines (parts_of text.now)) }
-{
-    let mut draft = Draft::new(alloc);
-    read_lines(&mut draft, alloc, text)?;
-    Ok(draft)
-}
-
 /// The census that these parts of a text told.
 fn census_of(
     alloc: Global,
@@ -233,7 +212,8 @@ fn read_all(alloc: Global, bytes: &[u8]) -> Result<NamedCensus, CensusFault>
     let rest = behind_version(bytes)?;
     let (is_strict, rest) = read_strict(rest)?;
     let (taken, rest) = read_taken(rest)?;
-    let draft = read_body(alloc, rest)?;
+    let mut draft = Draft::new(alloc);
+    read_lines(&mut draft, alloc, rest)?;
     census_of(alloc, is_strict, taken, draft)
 }
 

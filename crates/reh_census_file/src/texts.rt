@@ -54,10 +54,10 @@ fn push_head(text: &mut String, census: &NamedCensus) -> Result<(), AllocError>
 {
     write!(
         text,
-        "census 1\nstrict {}\n",
-        strict_word(census.is_strict())
-    )?;
-    write!(text, "taken {}\n", taken_word(census))
+        "census 1\nstrict {}\ntaken {}\n",
+        strict_word(census.is_strict()),
+        taken_word(census)
+    )
 }
 
 /// Adds the line of a bookie.
@@ -78,10 +78,10 @@ fn push_bookie(
     };
     let empty = if bookie.is_empty { " empty" } else { "" };
     write!(text, "bookie {name} {up}{read_only}{empty}")?;
-    if let Some(rack) = bookie.rack {
-        write!(text, " rack {}", name_of(racks, rack))?;
+    match bookie.rack {
+        Some(rack) => write!(text, " rack {}\n", name_of(racks, rack)),
+        None => text.push('\n'),
     }
-    text.push('\n')
 }
 
 /// Adds the lines of all bookies.

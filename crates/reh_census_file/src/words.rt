@@ -1,5 +1,5 @@
 // The words of a line, one after another, and the values that they stand for.
-ghost use Rattle.std.specs.Prelude.{◌≡◌, ◌≤◌, ◌∷◌, [], length, MatchOption, map, position, count_by, option_map, if◌then◌else◌};
+ghost use Rattle.std.specs.Prelude.{◌≡◌, ◌≤◌, ◌∷◌, [], length, MatchOption, map, count_by, option_map, if◌then◌else◌};
 ghost use Rattle.std.specs.Char.{is_ascii_graphic};
 ghost use Rattle.std.specs.Fmt.{decimal};
 ghost use Rattle.std.specs.Str.{bytes_eq};
@@ -19,29 +19,17 @@ pub const MAX_COUNT: u64 = 1 << 63;
 /// How many bytes a name may have.
 pub const MAX_NAME_BYTES: usize = 300;
 
-/// Whether the byte parts words.
-fn is_space(byte: u8) -> bool
-    ensures { result ≡ reading.is_space byte }
-{
-    byte == b' '
-}
-
-/// Where the first space stands, if there is one.
-fn first_space(text: &[u8]) -> Option<usize>
-    ensures { result ≡ position reading.is_space text.now }
-{
-    text.iter().position(|b| is_space(*b))
-}
-
 /// How many bytes stand before the first space.
 fn word_len(text: &[u8]) -> usize
     ensures count { result ≡ position_or_len reading.is_space text.now }
     ensures within { result ≤ length text.now }
 {
-    match first_space(text) {
-        Some(end) => end,
-        None => text.len(),
+    for index in 0..text.len() {
+        if text[index] == b' ' {
+            return index;
+        }
     }
+    text.len()
 }
 
 /// The first word of a line, and what follows it, from the space on that ends it.
@@ -67,7 +55,13 @@ fn space_count(text: &[u8]) -> usize
     ensures count { result ≡ count_by reading.is_space text.now }
     ensures within { result ≤ length text.now }
 {
-    text.iter().filter(|b| is_space(**b)).count()
+    let mut count = 0;
+    for byte in text {
+        if *byte == b' ' {
+            count += 1;
+        }
+    }
+    count
 }
 
 /// How many words follow.
@@ -84,7 +78,12 @@ pub(crate) fn word_count(rest: &[u8]) -> u64
 fn is_printed(word: &[u8]) -> bool
     ensures { result ≡ list_all is_ascii_graphic word.now }
 {
-    word.iter().all(|b| b.is_ascii_graphic())
+    for byte in word {
+        if !byte.is_ascii_graphic() {
+            return false;
+        }
+    }
+    true
 }
 
 /// Whether a word may be a name.

@@ -1,8 +1,9 @@
 // Which bookies hold copies, and may be written to, and how many of a write set.
-ghost use Rattle.std.specs.Prelude.{◌≡◌, ◌^◌, ◌≤◌, ◌<◌, ℕ, Bool, cond, count_by, length};
+ghost use Rattle.std.specs.Prelude.{◌≡◌, ◌≤◌, ◌<◌, cond, count_by, slice_index};
 ghost use Rattle.std.specs.List.{list_any};
 ghost use Rattle.reh_census.specs.Bookies as bookies_model;
 ghost use Rattle.reh_census.specs.Bookies.{bookies_of, is_flagged};
+ghost use Rattle.reh_census.specs.Striping.{index_at};
 ghost use Rattle.reh_census.specs.Tails as model;
 ghost use Rattle.reh_census.specs.Tails.{IsTail};
 
@@ -73,24 +74,18 @@ pub fn takes_some_disk(bookies: &Bookies, question: &Question, stopped: &BookieS
     false
 }
 
-/// How many members of an entry's write set pass the test.
-fn count_members<F: Fn(u16) -> bool>(tail: &Tail, entry: u64, passes: F) -> u64
+/// The member of this rank of an entry's write set.
+fn member_at(tail: &Tail, entry: u64, rank: u64) -> u16
     requires tail { IsTail tail.now }
     requires entry { entry ≤ 64 }
-    requires callable { F.IsAlwaysCallable passes }
-    ensures { (test : ℕ → Bool) → ((b : ℕ) (r : Bool) → b < 2 ^ 16 → F.post passes b r → r ≡ test b)
-        → result ≡ count_by test (model.members tail.now entry) }
+    requires rank { rank < tail.now.write_quorum }
+    ensures { result ≡ slice_index tail.now.ensemble (index_at entry tail.now.size rank) }
 {
-    let ensemble = tail.ensemble.as_slice();
-    let mut count = 0;
-    for rank in 0..tail.write_quorum {
-        let index = (entry + rank) % tail.size;
-        count += one_if(passes(ensemble[index as usize]));
-    }
-    count
+    let index = (entry + rank) % tail.size;
+    tail.ensemble.as_slice()[index as usize]
 }
 
-/// How many of them have copies at stake.
+/// How many members of an entry's write set have copies at stake.
 pub(crate) fn count_at_stake(
     bookies: &Bookies,
     question: &Question,
@@ -103,11 +98,12 @@ pub(crate) fn count_at_stake(
     ensures { result ≡ count_by (model.is_at_stake (bookies_of bookies.now) question.now (is_flagged stopped.now))
         (model.members tail.now entry) }
 {
-    count_members(
-        tail,
-        entry,
-        |bookie| is_at_stake(bookies, question, stopped, bookie),
-    )
+    let mut count = 0;
+    for rank in 0..tail.write_quorum {
+        let member = member_at(tail, entry, rank);
+        count += one_if(is_at_stake(bookies, question, stopped, member));
+    }
+    count
 }
 
 /// How many of them hold copies, and aren't stopped.
@@ -117,11 +113,11 @@ pub(crate) fn count_left(bookies: &Bookies, stopped: &BookieSet, tail: &Tail, en
     ensures { result ≡ count_by (bookies_model.is_holder_left (bookies_of bookies.now) (is_flagged stopped.now))
         (model.members tail.now entry) }
 {
-    count_members(
-        tail,
-        entry,
-        |bookie| is_holder_left(bookies, stopped, bookie),
-    )
+    let mut count = 0;
+    for rank in 0..tail.write_quorum {
+        count += one_if(is_holder_left(bookies, stopped, member_at(tail, entry, rank)));
+    }
+    count
 }
 
 /// How many of them may be written to.
@@ -131,5 +127,9 @@ pub(crate) fn count_acks(bookies: &Bookies, stopped: &BookieSet, tail: &Tail, en
     ensures { result ≡ count_by (bookies_model.is_writable (bookies_of bookies.now) (is_flagged stopped.now))
         (model.members tail.now entry) }
 {
-    count_members(tail, entry, |bookie| is_writable(bookies, stopped, bookie))
+    let mut count = 0;
+    for rank in 0..tail.write_quorum {
+        count += one_if(is_writable(bookies, stopped, member_at(tail, entry, rank)));
+    }
+    count
 }

@@ -10,19 +10,12 @@ use crate::entries::count_if;
 use crate::members::{is_up, is_writable, one_if};
 use reh_census::{BookieSet, Bookies, CountedEnsemble, Question};
 
-/// Whether the bookie is one of these.
-fn is_member(names: &[u16], bookie: u16) -> bool
-    ensures { result ≡ is_in names.now bookie }
-{
-    names.contains(&bookie)
-}
-
 /// Whether the bookie is outside of the ensemble, and may be written to.
 fn is_spare(bookies: &Bookies, stopped: &BookieSet, members: &[u16], bookie: u16) -> bool
     ensures { result ≡ (bookies_model.is_writable (bookies_of bookies.now) (is_flagged stopped.now) bookie
         && not (is_in members.now bookie)) }
 {
-    is_writable(bookies, stopped, bookie) && !is_member(members, bookie)
+    is_writable(bookies, stopped, bookie) && !members.contains(&bookie)
 }
 
 /// How many bookies outside of the ensemble may be written to.

@@ -21,20 +21,14 @@ pub struct Tails {
     pub writable: u64,
 }
 
-/// Whether acknowledged entries may be out of a recovery's reach: until the bookies are back.
-fn may_wait(question: &Question) -> bool
-    ensures { result ≡ model.may_wait question.now }
-{
-    question.allow_blocked_recovery && !question.for_good
-}
-
 /// How many members of each write set are to stay.
 fn members_to_keep(question: &Question, tail: &Tail) -> u64
     requires { IsTail tail.now }
     ensures { result ≡ model.members_to_keep question.now tail.now }
 {
     let copies = copies_to_keep(question.keep, tail.ack_quorum);
-    if may_wait(question) {
+    // Acknowledged entries may then be out of a recovery's reach, until the bookies are back.
+    if question.allow_blocked_recovery && !question.for_good {
         copies
     } else {
         copies.max(tail.write_quorum - tail.ack_quorum + 1)

@@ -2,14 +2,14 @@
 ghost use Rattle.std.specs.Prelude.{◌≡◌, OnOk, Some, codes};
 ghost use Rattle.json.specs.Json.{string};
 ghost use Rattle.json.specs.Tree.{json_tokens};
-ghost use Rattle.reh_answer.specs.Objects.{Adds};
+ghost use Rattle.reh_answer.specs.Objects.{Adds, member_tokens};
 ghost use Rattle.reh_commands.specs.Texts.{line_fault_text};
 ghost use Rattle.reh_run_json.specs.Lines as model;
 ghost use Rattle.reh_run_json.specs.Reports.{report_json, survey_json};
 
 use crate::reports::add_report;
 use crate::surveys::add_survey;
-use crate::values::{add_count, add_name};
+use crate::values::{add_count, add_named};
 use json::Writer;
 use reh_answer::{add_number, add_text};
 use reh_cluster::{Names, State};
@@ -95,18 +95,22 @@ fn add_reason(
     json.begin_object()?;
     add_number(json, "number", number as u64)?;
     add_text(json, "name", name)?;
-    json.key("value")?;
-    add_value(json, names, refusal)?;
+    add_value(json, "value", names, refusal)?;
     json.end_object()
 }
 
-/// Adds a refusal's value, or null where it has none: a lock's owner by name, other values as numbers.
-fn add_value(json: &mut Writer<Global>, names: &Names, refusal: &Refusal) -> Result<(), AllocError>
-    ensures { OnOk result (Adds (json_tokens (model.value_json names.now refusal.now)) json.old json.new) }
+/// Adds a refusal's value under a name, or null where it has none: a lock's owner by name, other values as numbers.
+fn add_value(
+    json: &mut Writer<Global>,
+    name: &str,
+    names: &Names,
+    refusal: &Refusal,
+) -> Result<(), AllocError>
+    ensures { OnOk result (Adds (member_tokens name.now (model.value_json names.now refusal.now)) json.old json.new) }
 {
     match refusal {
-        Refusal::Locked(owner) => add_name(json, names, *owner),
-        refusal => add_count(json, refusal.value()),
+        Refusal::Locked(owner) => add_named(json, name, names, *owner),
+        refusal => add_count(json, name, refusal.value()),
     }
 }
 

@@ -7,10 +7,10 @@ ghost use Rattle.reh_run_json.specs.Changes as changes;
 ghost use Rattle.reh_run_json.specs.Fragments as fragments;
 ghost use Rattle.reh_run_json.specs.Values.{or_null, tokens_of};
 
-use crate::metadata::{add_ledger, begin_change};
-use crate::values::{add_ensemble, add_name};
+use crate::metadata::begin_change;
+use crate::values::{add_ensemble, add_id, add_named};
 use json::Writer;
-use reh_answer::add_number;
+use reh_answer::{add_null, add_number};
 use reh_cluster::Names;
 use reh_meta::Fragment;
 use reh_types::{BookieIx, LedgerId};
@@ -66,7 +66,7 @@ fn add_place(json: &mut Writer<Global>, id: LedgerId, number: usize) -> Result<(
     ensures { OnOk result (Adds (member_tokens (codes "ledger") (number_json id)
         ++ member_tokens (codes "fragment") (number_json number)) json.old json.new) }
 {
-    add_ledger(json, id)?;
+    add_id(json, "ledger", id)?;
     add_number(json, "fragment", number as u64)
 }
 
@@ -84,41 +84,41 @@ fn add_whole(
 {
     begin_change(json, "fragment")?;
     add_place(json, id, number)?;
-    json.key("was")?;
-    add_kept(json, names, was)?;
-    json.key("now")?;
-    add_kept(json, names, now)?;
+    add_kept(json, "was", names, was)?;
+    add_kept(json, "now", names, now)?;
     json.end_object()
 }
 
-/// Adds a fragment's first entry and ensemble, or null where there is no fragment.
+/// Adds a fragment's first entry and ensemble under a name, or null where there is no fragment.
 fn add_kept(
     json: &mut Writer<Global>,
+    name: &str,
     names: &Names,
     fragment: Option<&Fragment>,
 ) -> Result<(), AllocError>
-    ensures { OnOk result (Adds (json_tokens (or_null (changes.fragment_json names.now)
+    ensures { OnOk result (Adds (member_tokens name.now (or_null (changes.fragment_json names.now)
         (option_copied fragment.entry))) json.old json.new) }
 {
     match fragment {
-        Some(fragment) => add_contents(json, names, fragment.first, &fragment.ensemble),
-        None => json.null(),
+        Some(fragment) => add_contents(json, name, names, fragment.first, &fragment.ensemble),
+        None => add_null(json, name),
     }
 }
 
-/// Adds a fragment's first entry and ensemble.
+/// Adds a fragment's first entry and ensemble under a name.
 fn add_contents(
     json: &mut Writer<Global>,
+    name: &str,
     names: &Names,
     first: u32,
     ensemble: &[BookieIx],
 ) -> Result<(), AllocError>
-    ensures { OnOk result (Adds (json_tokens (changes.contents_json names.now first ensemble.now)) json.old json.new) }
+    ensures { OnOk result (Adds (member_tokens name.now (changes.contents_json names.now first ensemble.now)) json.old json.new) }
 {
+    json.key(name)?;
     json.begin_object()?;
     add_number(json, "firstEntry", first as u64)?;
-    json.key("ensemble")?;
-    add_ensemble(json, names, ensemble)?;
+    add_ensemble(json, "ensemble", names, ensemble)?;
     json.end_object()
 }
 
@@ -175,9 +175,7 @@ fn add_replaced(
     begin_change(json, "member")?;
     add_place(json, id, fragment)?;
     add_number(json, "index", index as u64)?;
-    json.key("was")?;
-    add_name(json, names, was)?;
-    json.key("now")?;
-    add_name(json, names, now)?;
+    add_named(json, "was", names, was)?;
+    add_named(json, "now", names, now)?;
     json.end_object()
 }

@@ -50,10 +50,8 @@ fn add_parts(
     add_standing(json, id, metadata)?;
     add_sizes(json, metadata)?;
     add_fragments(json, names, metadata)?;
-    json.key("task")?;
-    add_task(json, names, task)?;
-    json.key("lock")?;
-    add_lock(json, names, lock)?;
+    add_task(json, "task", names, task)?;
+    add_lock(json, "lock", names, lock)?;
     json.end_object()
 }
 
@@ -77,13 +75,10 @@ fn add_state_of(
 ) -> Result<(), AllocError>
     ensures { OnOk result (Adds (reports.state_tokens id state version) json.old json.new) }
 {
-    json.key("id")?;
-    add_id(json, id)?;
-    json.key("state")?;
-    add_state(json, state)?;
+    add_id(json, "id", id)?;
+    add_state(json, "state", state)?;
     add_number(json, "version", version)?;
-    json.key("lastEntryId")?;
-    add_last(json, state)
+    add_last(json, "lastEntryId", state)
 }
 
 /// Adds the ensemble size and the quorum sizes.
@@ -200,9 +195,7 @@ fn add_stopped(
 {
     json.begin_object()?;
     add_number(json, "firstEntry", first as u64)?;
-    json.key("stop")?;
-    add_entry(json, stop)?;
-    json.key("ensemble")?;
-    add_ensemble(json, names, ensemble)?;
+    add_entry(json, "stop", stop)?;
+    add_ensemble(json, "ensemble", names, ensemble)?;
     json.end_object()
 }

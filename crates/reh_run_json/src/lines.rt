@@ -70,7 +70,5 @@ pub fn push_line(
     let mut json = Writer::new(Vec::new(alloc));
     add_line(&mut json, state, number, command, answer, changes)?;
     let object = text_in(json)?;
-    text.push_str(object.as_str())?;
-    text.push_str("\n")?;
-    Ok(())
+    write!(text, "{object}\n")
 }

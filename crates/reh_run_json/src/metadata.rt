@@ -3,14 +3,14 @@ ghost use Rattle.std.specs.Prelude.{◌≡◌, ◌∷◌, OnOk, codes};
 ghost use Rattle.json.specs.Json.{string};
 ghost use Rattle.json.specs.Token as token;
 ghost use Rattle.json.specs.Tree.{json_tokens};
-ghost use Rattle.reh_answer.specs.Objects.{Adds, member_tokens, number_json};
+ghost use Rattle.reh_answer.specs.Objects.{Adds, member_tokens};
 ghost use Rattle.reh_changes.specs.Changes as texts;
 ghost use Rattle.reh_run_json.specs.Changes as changes;
 ghost use Rattle.reh_run_json.specs.Values as values;
 ghost use Rattle.reh_run_json.specs.Values.{tokens_of};
 
 use crate::fragments::add_fragments;
-use crate::values::{add_last, add_state};
+use crate::values::{add_id, add_last, add_state};
 use json::Writer;
 use reh_answer::{add_number, add_text};
 use reh_cluster::{Ledger, Names};
@@ -25,13 +25,6 @@ pub(crate) fn begin_change(json: &mut Writer<Global>, what: &str) -> Result<(), 
 {
     json.begin_object()?;
     add_text(json, "what", what)
-}
-
-/// Adds a ledger's id.
-pub(crate) fn add_ledger(json: &mut Writer<Global>, id: LedgerId) -> Result<(), AllocError>
-    ensures { OnOk result (Adds (member_tokens (codes "ledger") (number_json id)) json.old json.new) }
-{
-    add_number(json, "ledger", id.0)
 }
 
 /// Adds the changes of a ledger's metadata, where it was this one: of its version, its state and its fragments.
@@ -71,7 +64,7 @@ fn add_raised(json: &mut Writer<Global>, id: LedgerId, was: u64, now: u64) -> Re
     ensures { OnOk result (Adds (json_tokens (changes.version_change id was now)) json.old json.new) }
 {
     begin_change(json, "version")?;
-    add_ledger(json, id)?;
+    add_id(json, "ledger", id)?;
     add_number(json, "was", was)?;
     add_number(json, "now", now)?;
     json.end_object()
@@ -128,11 +121,9 @@ fn add_words(
     ensures { OnOk result (Adds (json_tokens (changes.state_change id was now)) json.old json.new) }
 {
     begin_change(json, "state")?;
-    add_ledger(json, id)?;
-    json.key("was")?;
-    add_state(json, was)?;
-    json.key("now")?;
-    add_state(json, now)?;
+    add_id(json, "ledger", id)?;
+    add_state(json, "was", was)?;
+    add_state(json, "now", now)?;
     json.end_object()
 }
 
@@ -168,10 +159,8 @@ fn add_both_ends(
     ensures { OnOk result (Adds (json_tokens (changes.last_change id was now)) json.old json.new) }
 {
     begin_change(json, "lastEntryId")?;
-    add_ledger(json, id)?;
-    json.key("was")?;
-    add_last(json, was)?;
-    json.key("now")?;
-    add_last(json, now)?;
+    add_id(json, "ledger", id)?;
+    add_last(json, "was", was)?;
+    add_last(json, "now", now)?;
     json.end_object()
 }

@@ -9,8 +9,8 @@ ghost use Rattle.reh_run_json.specs.Changes as objects;
 ghost use Rattle.reh_run_json.specs.Values as values;
 ghost use Rattle.reh_run_json.specs.Values.{tokens_of};
 
-use crate::metadata::{add_ledger, add_metadata, begin_change};
-use crate::values::{add_lock, add_name, add_registration, add_task};
+use crate::metadata::{add_metadata, begin_change};
+use crate::values::{add_id, add_lock, add_named, add_registration, add_task};
 use crate::words::add_word;
 use json::Writer;
 use reh_answer::add_number;
@@ -110,36 +110,35 @@ fn add_registrations(
         json.old json.new) }
 {
     begin_change(json, "registration")?;
-    json.key("bookie")?;
-    add_name(json, state.names(), bookie)?;
-    json.key("was")?;
-    add_registration_before(json, lost_at)?;
-    json.key("now")?;
-    add_registration_now(json, state, bookie)?;
+    add_named(json, "bookie", state.names(), bookie)?;
+    add_registration_before(json, "was", lost_at)?;
+    add_registration_now(json, "now", state, bookie)?;
     json.end_object()
 }
 
-/// Adds the registration of a bookie that was lost at that tick, or was registered.
+/// Adds under a name the registration of a bookie that was lost at that tick, or was registered.
 fn add_registration_before(
     json: &mut Writer<Global>,
+    name: &str,
     lost_at: Option<u64>,
 ) -> Result<(), AllocError>
-    ensures { OnOk result (Adds (json_tokens (values.registration_json (is_none lost_at) lost_at))
+    ensures { OnOk result (Adds (member_tokens name.now (values.registration_json (is_none lost_at) lost_at))
         json.old json.new) }
 {
-    add_registration(json, lost_at.is_none(), lost_at)
+    add_registration(json, name, lost_at.is_none(), lost_at)
 }
 
-/// Adds a bookie's registration now.
+/// Adds a bookie's registration now under a name.
 fn add_registration_now(
     json: &mut Writer<Global>,
+    name: &str,
     state: &State,
     bookie: BookieIx,
 ) -> Result<(), AllocError>
-    ensures { OnOk result (Adds (json_tokens (values.registration_json (is_up state.now bookie)
+    ensures { OnOk result (Adds (member_tokens name.now (values.registration_json (is_up state.now bookie)
         (lost_tick state.now bookie))) json.old json.new) }
 {
-    add_registration(json, state.is_up(bookie), state.lost_tick(bookie))
+    add_registration(json, name, state.is_up(bookie), state.lost_tick(bookie))
 }
 
 /// Adds the change of a ledger's task, where it was this one.
@@ -167,11 +166,9 @@ fn add_tasks(
         (option_copied now.entry))) json.old json.new) }
 {
     begin_change(json, "task")?;
-    add_ledger(json, id)?;
-    json.key("was")?;
-    add_task(json, names, was)?;
-    json.key("now")?;
-    add_task(json, names, now)?;
+    add_id(json, "ledger", id)?;
+    add_task(json, "was", names, was)?;
+    add_task(json, "now", names, now)?;
     json.end_object()
 }
 
@@ -199,11 +196,9 @@ fn add_locks(
     ensures { OnOk result (Adds (json_tokens (objects.lock_change names.now id was now)) json.old json.new) }
 {
     begin_change(json, "lock")?;
-    add_ledger(json, id)?;
-    json.key("was")?;
-    add_lock(json, names, was)?;
-    json.key("now")?;
-    add_lock(json, names, now)?;
+    add_id(json, "ledger", id)?;
+    add_lock(json, "was", names, was)?;
+    add_lock(json, "now", names, now)?;
     json.end_object()
 }
 

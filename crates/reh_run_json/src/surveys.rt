@@ -4,8 +4,7 @@ ghost use Rattle.json.specs.Tree.{json_tokens};
 ghost use Rattle.reh_answer.specs.Objects.{Adds};
 ghost use Rattle.reh_run_json.specs.Reports as reports;
 
-use crate::metadata::add_ledger;
-use crate::values::add_entry;
+use crate::values::{add_entry, add_id};
 use json::Writer;
 use reh_answer::add_number;
 use reh_types::{LedgerId, SurveyLine};
@@ -50,10 +49,9 @@ fn add_counts(
     ensures { OnOk result (Adds (json_tokens (reports.lost_json ledger fragment down lost)) json.old json.new) }
 {
     json.begin_object()?;
-    add_ledger(json, ledger)?;
+    add_id(json, "ledger", ledger)?;
     add_number(json, "fragment", fragment)?;
     add_number(json, "down", down as u64)?;
-    json.key("lost")?;
-    add_entry(json, lost)?;
+    add_entry(json, "lost", lost)?;
     json.end_object()
 }

@@ -5,42 +5,51 @@ ghost use Rattle.json.specs.Json.{string};
 ghost use Rattle.json.specs.Token as token;
 ghost use Rattle.json.specs.Tree.{json_tokens};
 ghost use Rattle.reh_types.specs.Sets as set;
-ghost use Rattle.reh_answer.specs.Objects.{Adds, number_json};
+ghost use Rattle.reh_answer.specs.Objects.{Adds, member_tokens, number_json};
 ghost use Rattle.reh_commands.specs.Texts.{name_of, names_in};
 ghost use Rattle.reh_run_json.specs.Values as values;
 ghost use Rattle.reh_run_json.specs.Values.{tokens_of};
 
 use json::Writer;
+use reh_answer::{add_null, add_number, add_text};
 use reh_cluster::Names;
 use reh_commands::state_word;
 use reh_types::{BookieIx, BookieSet, LedgerId, LedgerState, Lock, MAX_BOOKIES};
 use std::alloc::{AllocError, Global};
 
-/// Adds a number, or null where there is none.
-pub(crate) fn add_count(json: &mut Writer<Global>, number: Option<u64>) -> Result<(), AllocError>
-    ensures { OnOk result (Adds (json_tokens (values.or_null number_json number)) json.old json.new) }
+/// Adds a number under a name, or null where there is none.
+pub(crate) fn add_count(
+    json: &mut Writer<Global>,
+    name: &str,
+    number: Option<u64>,
+) -> Result<(), AllocError>
+    ensures { OnOk result (Adds (member_tokens name.now (values.or_null number_json number)) json.old json.new) }
 {
     match number {
-        Some(number) => json.u64(number),
-        None => json.null(),
+        Some(number) => add_number(json, name, number),
+        None => add_null(json, name),
     }
 }
 
-/// Adds an entry or a count of entries, or null where there is none.
-pub(crate) fn add_entry(json: &mut Writer<Global>, entry: Option<u32>) -> Result<(), AllocError>
-    ensures { OnOk result (Adds (json_tokens (values.or_null number_json entry)) json.old json.new) }
+/// Adds an entry or a count of entries under a name, or null where there is none.
+pub(crate) fn add_entry(
+    json: &mut Writer<Global>,
+    name: &str,
+    entry: Option<u32>,
+) -> Result<(), AllocError>
+    ensures { OnOk result (Adds (member_tokens name.now (values.or_null number_json entry)) json.old json.new) }
 {
     match entry {
-        Some(entry) => json.u64(entry as u64),
-        None => json.null(),
+        Some(entry) => add_number(json, name, entry as u64),
+        None => add_null(json, name),
     }
 }
 
-/// Adds a ledger's id.
-pub(crate) fn add_id(json: &mut Writer<Global>, id: LedgerId) -> Result<(), AllocError>
-    ensures { OnOk result (Adds (json_tokens (number_json id)) json.old json.new) }
+/// Adds a ledger's id under a name.
+pub(crate) fn add_id(json: &mut Writer<Global>, name: &str, id: LedgerId) -> Result<(), AllocError>
+    ensures { OnOk result (Adds (member_tokens name.now (number_json id)) json.old json.new) }
 {
-    json.u64(id.0)
+    add_number(json, name, id.0)
 }
 
 /// Adds a bookie's name, or its number where the names have none for it.
@@ -57,6 +66,19 @@ pub(crate) fn add_name(
     }
 }
 
+/// Adds it under a key.
+pub(crate) fn add_named(
+    json: &mut Writer<Global>,
+    key: &str,
+    names: &Names,
+    bookie: BookieIx,
+) -> Result<(), AllocError>
+    ensures { OnOk result (Adds (member_tokens key.now (values.name_json names.now bookie)) json.old json.new) }
+{
+    json.key(key)?;
+    add_name(json, names, bookie)
+}
+
 /// Adds whether a bookie is registered, and the tick at which it was lost, or null while it is registered.
 pub(crate) fn add_registration_members(
     json: &mut Writer<Global>,
@@ -67,18 +89,19 @@ pub(crate) fn add_registration_members(
 {
     json.key("up")?;
     json.boolean(up)?;
-    json.key("lostAt")?;
-    add_count(json, lost)
+    add_count(json, "lostAt", lost)
 }
 
-/// Adds both as an object.
+/// Adds both as an object under a name.
 pub(crate) fn add_registration(
     json: &mut Writer<Global>,
+    name: &str,
     up: bool,
     lost: Option<u64>,
 ) -> Result<(), AllocError>
-    ensures { OnOk result (Adds (json_tokens (values.registration_json up lost)) json.old json.new) }
+    ensures { OnOk result (Adds (member_tokens name.now (values.registration_json up lost)) json.old json.new) }
 {
+    json.key(name)?;
     json.begin_object()?;
     add_registration_members(json, up, lost)?;
     json.end_object()
@@ -99,34 +122,47 @@ fn add_each_name(
     Ok(())
 }
 
-/// Adds the list of the names of an ensemble.
+/// Adds the list of the names of an ensemble under a name.
 pub(crate) fn add_ensemble(
     json: &mut Writer<Global>,
+    name: &str,
     names: &Names,
     ensemble: &[BookieIx],
 ) -> Result<(), AllocError>
-    ensures { OnOk result (Adds (json_tokens (values.ensemble_json names.now ensemble.now)) json.old json.new) }
+    ensures { OnOk result (Adds (member_tokens name.now (values.ensemble_json names.now ensemble.now)) json.old json.new) }
 {
+    json.key(name)?;
     json.begin_array()?;
     add_each_name(json, names, ensemble)?;
     json.end_array()
 }
 
-/// Adds a ledger's state.
-pub(crate) fn add_state(json: &mut Writer<Global>, state: LedgerState) -> Result<(), AllocError>
-    ensures { OnOk result (Adds (json_tokens (values.state_json state)) json.old json.new) }
+/// Adds a ledger's state under a name.
+pub(crate) fn add_state(
+    json: &mut Writer<Global>,
+    name: &str,
+    state: LedgerState,
+) -> Result<(), AllocError>
+    ensures { OnOk result (Adds (member_tokens name.now (values.state_json state)) json.old json.new) }
 {
-    json.string(state_word(state))
+    add_text(json, name, state_word(state))
 }
 
-/// Adds a ledger's last entry id, or null where it isn't closed.
-pub(crate) fn add_last(json: &mut Writer<Global>, state: LedgerState) -> Result<(), AllocError>
-    ensures { OnOk result (Adds (json_tokens (values.last_json state)) json.old json.new) }
+/// Adds a ledger's last entry id under a name, or null where it isn't closed.
+pub(crate) fn add_last(
+    json: &mut Writer<Global>,
+    name: &str,
+    state: LedgerState,
+) -> Result<(), AllocError>
+    ensures { OnOk result (Adds (member_tokens name.now (values.last_json state)) json.old json.new) }
 {
     match state {
-        LedgerState::Open | LedgerState::InRecovery => json.null(),
-        LedgerState::Closed { end: 0 } => json.number("-1"),
-        LedgerState::Closed { end } => json.u64((end - 1) as u64),
+        LedgerState::Open | LedgerState::InRecovery => add_null(json, name),
+        LedgerState::Closed { end: 0 } => {
+            json.key(name)?;
+            json.number("-1")
+        }
+        LedgerState::Closed { end } => add_number(json, name, (end - 1) as u64),
     }
 }
 
@@ -162,57 +198,65 @@ fn add_each_member(
     Ok(())
 }
 
-/// Adds the list of the names of a set's bookies in picture order.
+/// Adds the list of the names of a set's bookies in picture order, under a name.
 fn add_members(
     json: &mut Writer<Global>,
+    name: &str,
     names: &Names,
     bookies: &BookieSet,
 ) -> Result<(), AllocError>
-    ensures { OnOk result (Adds (json_tokens (values.task_json names.now bookies.now)) json.old json.new) }
+    ensures { OnOk result (Adds (member_tokens name.now (values.task_json names.now bookies.now)) json.old json.new) }
 {
+    json.key(name)?;
     json.begin_array()?;
     add_each_member(json, names, bookies)?;
     json.end_array()
 }
 
-/// Adds the bookies that a task is to replace, or null where there is none.
+/// Adds the bookies that a task is to replace under a name, or null where there is none.
 pub(crate) fn add_task(
     json: &mut Writer<Global>,
+    name: &str,
     names: &Names,
     task: Option<&BookieSet>,
 ) -> Result<(), AllocError>
-    ensures { OnOk result (Adds (json_tokens (values.or_null (values.task_json names.now) (option_copied task.entry)))
+    ensures { OnOk result (Adds (member_tokens name.now (values.or_null (values.task_json names.now) (option_copied task.entry)))
         json.old json.new) }
 {
     match task {
-        Some(bookies) => add_members(json, names, bookies),
-        None => json.null(),
+        Some(bookies) => add_members(json, name, names, bookies),
+        None => add_null(json, name),
     }
 }
 
-/// Adds a lock.
-fn add_locked(json: &mut Writer<Global>, names: &Names, lock: Lock) -> Result<(), AllocError>
-    ensures { OnOk result (Adds (json_tokens (values.lock_json names.now lock)) json.old json.new) }
+/// Adds a lock under a name.
+fn add_locked(
+    json: &mut Writer<Global>,
+    name: &str,
+    names: &Names,
+    lock: Lock,
+) -> Result<(), AllocError>
+    ensures { OnOk result (Adds (member_tokens name.now (values.lock_json names.now lock)) json.old json.new) }
 {
+    json.key(name)?;
     json.begin_object()?;
-    json.key("owner")?;
-    add_name(json, names, lock.owner)?;
-    json.key("due")?;
-    add_count(json, lock.due)?;
+    add_named(json, "owner", names, lock.owner)?;
+    add_count(json, "due", lock.due)?;
     json.end_object()
 }
 
-/// Adds a lock, or null where there is none.
+/// Adds a lock under a name, or null where there is none.
 pub(crate) fn add_lock(
     json: &mut Writer<Global>,
+    name: &str,
     names: &Names,
     lock: Option<Lock>,
 ) -> Result<(), AllocError>
-    ensures { OnOk result (Adds (json_tokens (values.or_null (values.lock_json names.now) lock)) json.old json.new) }
+    ensures { OnOk result (Adds (member_tokens name.now (values.or_null (values.lock_json names.now) lock)) json.old json.new) }
 {
     match lock {
-        Some(lock) => add_locked(json, names, lock),
-        None => json.null(),
+        Some(lock) => add_locked(json, name, names, lock),
+        None => add_null(json, name),
     }
 }
 

@@ -5,9 +5,9 @@ ghost use Rattle.reh_model.specs.Cluster.{words_among};
 ghost use Rattle.reh_answer.specs.Objects.{Adds, member_tokens};
 ghost use Rattle.reh_run_json.specs.Changes as changes;
 
-use crate::metadata::{add_ledger, begin_change};
+use crate::metadata::begin_change;
 use crate::ranges::add_ranges;
-use crate::values::add_name;
+use crate::values::{add_id, add_named};
 use json::Writer;
 use reh_cluster::{Names, State};
 use reh_types::{BookieIx, LedgerId};
@@ -42,9 +42,8 @@ fn begin_entries(
     ensures { OnOk result (Adds (changes.entries_begun names.now bookie ledger) json.old json.new) }
 {
     begin_change(json, "entries")?;
-    json.key("bookie")?;
-    add_name(json, names, bookie)?;
-    add_ledger(json, ledger)
+    add_named(json, "bookie", names, bookie)?;
+    add_id(json, "ledger", ledger)
 }
 
 /// Adds the ranges of those entries that the bookie holds now, and of those that it held.

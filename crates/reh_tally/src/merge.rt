@@ -126,8 +126,7 @@ pub fn merged(alloc: Global, census: Vec<Counted>) -> Result<Vec<Counted>, Alloc
     ensures order { IfOk result (λ merged. InOrder (on (λ c. c.class) class_cmp) merged.items) }
     ensures some { IfOk result (λ merged. All (λ c. 1 ≤ c.count) merged.items) }
 {
-    let merged = joined(alloc, census)?;
-    Ok(merged)
+    joined(alloc, census)
 }
 
 /// The same tails in order, with equal ones joined, and without those that no ledger has.
@@ -140,8 +139,7 @@ pub fn merged_tails(alloc: Global, tails: Vec<CountedTail>) -> Result<Vec<Counte
     ensures some { IfOk result (λ merged. All (λ t. 1 ≤ t.count) merged.items) }
     ensures well_formed { IfOk result (λ merged. All (λ t. IsTail t.tail) merged.items) }
 {
-    let merged = joined(alloc, tails)?;
-    Ok(merged)
+    joined(alloc, tails)
 }
 
 /// The same ensembles in order, with equal ones joined, and without those that no fragment has.
@@ -155,6 +153,5 @@ pub fn merged_ensembles(
     ensures order { IfOk result (λ merged. InOrder (on (λ e. e.members) names_cmp) merged.items) }
     ensures some { IfOk result (λ merged. All (λ e. 1 ≤ e.count) merged.items) }
 {
-    let merged = joined(alloc, ensembles)?;
-    Ok(merged)
+    joined(alloc, ensembles)
 }

@@ -117,7 +117,12 @@ pub(crate) fn stretch_in(
 fn is_in(ranges: &[Range], entry: u64) -> bool
     ensures { result ≡ list_any (is_within entry) ranges.now }
 {
-    ranges.iter().any(|r| r.first <= entry && entry <= r.last)
+    for range in ranges {
+        if range.first <= entry && entry <= range.last {
+            return true;
+        }
+    }
+    false
 }
 
 /// The first entry after this one that is otherwise in the ranges or not, or an earlier one, at most the stop.

@@ -101,8 +101,7 @@ fn count_fragment(
 {
     let members = members_of(alloc, bookies, &fragment.ensemble)?;
     let lines = lines_of(alloc, &members, ledger, risings, fragment)?;
-    add_lines(alloc, &members, ledger, lines.as_slice(), census)?;
-    Ok(())
+    add_lines(alloc, &members, ledger, lines.as_slice(), census)
 }
 
 /// Adds the entries of a ledger.

@@ -13,14 +13,18 @@ pub four : (start one more most all a b c d : List ℕ) → one ≡ start ++ a �
 four start one more most all a b c d first second third fourth =
     two start one all a (b ++ (c ++ d)) first (three one more most all b c d second third fourth)
 
-pub five : (start one two' three' four' all a b c d e : List ℕ) → one ≡ start ++ a → two' ≡ one ++ b → three' ≡ two' ++ c → four' ≡ three' ++ d
-    → all ≡ four' ++ e
-    → all ≡ start ++ (a ++ (b ++ (c ++ (d ++ e))))
-five start one two' three' four' all a b c d e first second third fourth fifth =
-    two start one all a (b ++ (c ++ (d ++ e))) first (four one two' three' four' all b c d e second third fourth fifth)
+-- the numbers of the rules in a line
+pub line-parts : (s a b c d l m n : List ℕ)
+    → (s ++ (a ++ b)) ++ ((c ++ d) ++ (l ++ (m ++ n))) ≡ s ++ ((a ++ (b ++ (c ++ d))) ++ (l ++ (m ++ n)))
+line-parts s a b c d l m n = simp append_assoc
 
-pub six : (start one two' three' four' five' all a b c d e f : List ℕ) → one ≡ start ++ a → two' ≡ one ++ b → three' ≡ two' ++ c
-    → four' ≡ three' ++ d → five' ≡ four' ++ e → all ≡ five' ++ f
-    → all ≡ start ++ (a ++ (b ++ (c ++ (d ++ (e ++ f)))))
-six start one two' three' four' five' all a b c d e f first second third fourth fifth sixth =
-    two start one all a (b ++ (c ++ (d ++ (e ++ f)))) first (five one two' three' four' five' all b c d e f second third fourth fifth sixth)
+-- the numbers of the rules, one after the other, and the end of the object
+pub rules-parts : (o p k a n b u e k' n' u' l r m w q s v d : List ℕ)
+    → (o ++ (p ++ (k ++ (a ++ (n ++ (b ++ (u ++ (e ++ (k' ++ (a ++ (n' ++ (b ++ (u' ++ (e ++ (l ++ (r ++ (m ++ w)))))))))))))))))
+    ++ (q ++ (s ++ (v ++ (d ++ (e ++ e)))))
+    ≡ o
+    ++ ((p
+    ++ ((k ++ ((a ++ (n ++ (b ++ (u ++ e)))) ++ (k' ++ (a ++ (n' ++ (b ++ (u' ++ e)))))))
+    ++ ((l ++ (r ++ (m ++ w))) ++ ((q ++ (s ++ (v ++ d))) ++ e))))
+    ++ e)
+rules-parts o p k a n b u e k' n' u' l r m w q s v d = simp append_assoc

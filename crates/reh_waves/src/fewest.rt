@@ -12,7 +12,7 @@ use reh_census::Counted;
 fn is_member(names: &[u16], bookie: u16) -> bool
     ensures { result ≡ is_in names.now bookie }
 {
-    names.iter().any(|member| *member == bookie)
+    names.contains(&bookie)
 }
 
 /// How many different bookies these are.

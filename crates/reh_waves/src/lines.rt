@@ -7,22 +7,14 @@ use crate::reasons::push_reason;
 use crate::waves::{Alone, Round, Waves};
 use std::alloc::{AllocError, Global};
 
-/// Adds the name of this number.
-pub(crate) fn push_name(text: &mut String, names: &[String], number: u16) -> Result<(), AllocError>
-    ensures { OnOk result (string_bytes text.new ≡ string_bytes text.old ++ orders.name_at names.now number) }
+/// The name of this number, or an empty one where no name has it.
+pub(crate) fn name_of(names: &[String], number: u16) -> &str
+    ensures { result.now ≡ orders.name_at names.now number }
 {
     match names.get(number as usize) {
-        Some(name) => text.push_str(name.as_str()),
-        None => Ok(()),
+        Some(name) => name.as_str(),
+        None => "",
     }
-}
-
-/// Adds a space, and the name.
-fn push_spaced_one(text: &mut String, names: &[String], number: u16) -> Result<(), AllocError>
-    ensures { OnOk result (string_bytes text.new ≡ string_bytes text.old ++ texts.spaced_one names.now number) }
-{
-    text.push_str(" ")?;
-    push_name(text, names, number)
 }
 
 /// Adds names, with a space before each.
@@ -30,7 +22,7 @@ fn push_spaced(text: &mut String, names: &[String], bookies: &[u16]) -> Result<(
     ensures { OnOk result (string_bytes text.new ≡ string_bytes text.old ++ texts.spaced names.now bookies.now) }
 {
     for bookie in bookies {
-        push_spaced_one(text, names, *bookie)?;
+        write!(text, " {}", name_of(names, *bookie))?;
     }
     Ok(())
 }
@@ -63,9 +55,7 @@ fn push_rounds(text: &mut String, names: &[String], rounds: &[Round]) -> Result<
 fn push_alone(text: &mut String, names: &[String], alone: &Alone) -> Result<(), AllocError>
     ensures { OnOk result (string_bytes text.new ≡ string_bytes text.old ++ texts.alone_text names.now alone.now) }
 {
-    text.push_str("alone ")?;
-    push_name(text, names, alone.bookie)?;
-    text.push_str(": ")?;
+    write!(text, "alone {}: ", name_of(names, alone.bookie))?;
     push_reason(text, alone.answer)?;
     text.push_str("\n")
 }

@@ -56,18 +56,9 @@ fn lost_set(alloc: Global, bookies: &Bookies, lost: Lost) -> Result<BookieSet, A
     ensures { IfOk result (λ set. (b : ℕ) → is_flagged set b ≡ stopped_by (bookies_of bookies.now) lost b) }
 {
     match lost {
-        Lost::Bookie(bookie) => {
-            let set = set_of(alloc, bookies.count(), &[], bookie)?;
-            Ok(set)
-        }
-        Lost::Rack(rack) => {
-            let set = rack_set(alloc, bookies, rack)?;
-            Ok(set)
-        }
-        Lost::Pair(one, other) => {
-            let set = set_of(alloc, bookies.count(), &[one], other)?;
-            Ok(set)
-        }
+        Lost::Bookie(bookie) => set_of(alloc, bookies.count(), &[], bookie),
+        Lost::Rack(rack) => rack_set(alloc, bookies, rack),
+        Lost::Pair(one, other) => set_of(alloc, bookies.count(), &[one], other),
     }
 }
 

@@ -1,5 +1,5 @@
 // Waves as JSON.
-ghost use Rattle.std.specs.Prelude.{◌≡◌, ◌++◌, ◌<◌, ◌≤◌, All, OnOk, IfOk, string_bytes, true};
+ghost use Rattle.std.specs.Prelude.{◌≡◌, ◌++◌, ◌<◌, ◌≤◌, All, OnOk, IfOk, codes, string_bytes, true};
 ghost use Rattle.reh_waves.specs.Json as json;
 ghost use Rattle.reh_waves.specs.Json.{ArePrintable};
 ghost use Rattle.reh_waves.specs.Orders.{name_at};
@@ -19,30 +19,31 @@ fn push_escaped(text: &mut String, byte: u8) -> Result<(), AllocError>
     text.push(byte as char)
 }
 
-/// Adds the bytes as a string.
-fn push_quoted(text: &mut String, bytes: &[u8]) -> Result<(), AllocError>
+/// Adds the bytes as a string, behind this text.
+fn push_quoted(text: &mut String, before: &str, bytes: &[u8]) -> Result<(), AllocError>
     requires { All (λ b. (32 ≤ b) × (b < 127)) bytes.now }
-    ensures { OnOk result (string_bytes text.new ≡ string_bytes text.old ++ json.quoted bytes.now) }
+    ensures { OnOk result (string_bytes text.new ≡ string_bytes text.old ++ (before.now ++ json.quoted bytes.now)) }
 {
-    text.push_str("\"")?;
+    write!(text, "{before}\"")?;
     for byte in bytes {
         push_escaped(text, *byte)?;
     }
     text.push_str("\"")
 }
 
-/// Adds the name of this number as a string.
+/// Adds the name of this number as a string, behind this text.
 pub(crate) fn push_json_name(
     text: &mut String,
+    before: &str,
     names: &[String],
     number: u16,
 ) -> Result<(), AllocError>
     requires { ArePrintable names.now }
-    ensures { OnOk result (string_bytes text.new ≡ string_bytes text.old ++ json.name_json names.now number) }
+    ensures { OnOk result (string_bytes text.new ≡ string_bytes text.old ++ (before.now ++ json.name_json names.now number)) }
 {
     match names.get(number as usize) {
-        Some(name) => push_quoted(text, name.as_bytes()),
-        None => push_quoted(text, &[]),
+        Some(name) => push_quoted(text, before, name.as_bytes()),
+        None => push_quoted(text, before, &[]),
     }
 }
 
@@ -64,7 +65,7 @@ fn push_names(text: &mut String, names: &[String], bookies: &[u16]) -> Result<()
     let mut is_first = true;
     for bookie in bookies {
         push_comma(text, is_first)?;
-        push_json_name(text, names, *bookie)?;
+        push_json_name(text, "", names, *bookie)?;
         is_first = false;
     }
     Ok(())
@@ -107,30 +108,33 @@ fn rule_name(rule: Rule) -> &'static str
     }
 }
 
-/// Adds what the answer is, the rule that it names, and how often.
+/// Adds what the answer is, the rule that it names, and how often, as the last members of an object.
 fn push_answer(text: &mut String, answer: Answer) -> Result<(), AllocError>
-    ensures { OnOk result (string_bytes text.new ≡ string_bytes text.old ++ json.answer_json answer) }
+    ensures { OnOk result (string_bytes text.new ≡ string_bytes text.old ++ (codes "," ++ (json.answer_json answer ++ codes "}"))) }
 {
     match answer {
-        Answer::Yes => text.push_str("\"verdict\":\"yes\",\"rule\":null,\"count\":0"),
+        Answer::Yes => text.push_str(",\"verdict\":\"yes\",\"rule\":null,\"count\":0}"),
         Answer::No(rule, count) => {
             let name = rule_name(rule);
-            write!(text, "\"verdict\":\"no\",\"rule\":{name},\"count\":{count}")
+            write!(
+                text,
+                ",\"verdict\":\"no\",\"rule\":{name},\"count\":{count}}}"
+            )
         }
         Answer::Unknown(rule, count) => {
             let name = rule_name(rule);
             write!(
                 text,
-                "\"verdict\":\"unknown\",\"rule\":{name},\"count\":{count}"
+                ",\"verdict\":\"unknown\",\"rule\":{name},\"count\":{count}}}"
             )
         }
         Answer::UnknownDisks(count) => write!(
             text,
-            "\"verdict\":\"unknown\",\"rule\":\"disks\",\"count\":{count}"
+            ",\"verdict\":\"unknown\",\"rule\":\"disks\",\"count\":{count}}}"
         ),
         Answer::NotJudged(count) => write!(
             text,
-            "\"verdict\":\"unknown\",\"rule\":\"judged\",\"count\":{count}"
+            ",\"verdict\":\"unknown\",\"rule\":\"judged\",\"count\":{count}}}"
         ),
     }
 }
@@ -140,11 +144,8 @@ fn push_alone(text: &mut String, names: &[String], alone: &Alone) -> Result<(), 
     requires { ArePrintable names.now }
     ensures { OnOk result (string_bytes text.new ≡ string_bytes text.old ++ json.alone_json names.now alone.now) }
 {
-    text.push_str("{\"bookie\":")?;
-    push_json_name(text, names, alone.bookie)?;
-    text.push_str(",")?;
-    push_answer(text, alone.answer)?;
-    text.push_str("}")
+    push_json_name(text, "{\"bookie\":", names, alone.bookie)?;
+    push_answer(text, alone.answer)
 }
 
 /// Adds the bookies that can't be stopped.

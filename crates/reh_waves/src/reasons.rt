@@ -35,31 +35,17 @@ fn no_words(rule: Rule, one: bool) -> &'static str
 fn unknown_words(rule: Rule, one: bool) -> &'static str
     ensures { result.now ≡ texts.unknown_words rule one }
 {
-    match rule {
-        Rule::Readable => readable_words(one),
-        _ => other_words(one),
-    }
-}
-
-/// How many entries could be lost.
-fn readable_words(one: bool) -> &'static str
-    ensures { result.now ≡ texts.readable_words one }
-{
-    if one {
-        " entry could be lost: nobody told what some of its bookies hold"
-    } else {
-        " entries could be lost: nobody told what some of their bookies hold"
-    }
-}
-
-/// How many could have too few copies.
-fn other_words(one: bool) -> &'static str
-    ensures { result.now ≡ texts.other_words one }
-{
-    if one {
-        " entry could have fewer copies than are to be kept: nobody told what some of its bookies hold"
-    } else {
-        " entries could have fewer copies than are to be kept: nobody told what some of their bookies hold"
+    match (rule, one) {
+        (Rule::Readable, true) => " entry could be lost: nobody told what some of its bookies hold",
+        (Rule::Readable, false) => {
+            " entries could be lost: nobody told what some of their bookies hold"
+        }
+        (_, true) => {
+            " entry could have fewer copies than are to be kept: nobody told what some of its bookies hold"
+        }
+        (_, false) => {
+            " entries could have fewer copies than are to be kept: nobody told what some of their bookies hold"
+        }
     }
 }
 

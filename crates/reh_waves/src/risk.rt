@@ -41,28 +41,35 @@ pub struct Risk {
 fn registered_in(alloc: Global, bookies: &Bookies, order: &[u16]) -> Result<Vec<u16>, AllocError>
     ensures { IfOk result (λ registered. registered.items ≡ filter (bookies_of bookies.now).is_registered order.now) }
 {
-    order
-        .iter()
-        .copied()
-        .filter(|bookie| bookies.is_registered(*bookie))
-        .collect(alloc)
+    let mut registered = Vec::new(alloc);
+    for bookie in order {
+        if bookies.is_registered(*bookie) {
+            registered.push(*bookie)?;
+        }
+    }
+    Ok(registered)
 }
 
 /// Each bookie alone.
 fn each_bookie(alloc: Global, bookies: &[u16]) -> Result<Vec<Lost>, AllocError>
     ensures { IfOk result (λ lost. lost.items ≡ map (λ b. Bookie b) bookies.now) }
 {
-    bookies
-        .iter()
-        .map(|bookie| Lost::Bookie(*bookie))
-        .collect(alloc)
+    let mut lost = Vec::new(alloc);
+    for bookie in bookies {
+        lost.push(Lost::Bookie(*bookie))?;
+    }
+    Ok(lost)
 }
 
 /// Each rack.
 fn each_rack(alloc: Global, racks: &[u16]) -> Result<Vec<Lost>, AllocError>
     ensures { IfOk result (λ lost. lost.items ≡ map (λ rack. Rack rack) racks.now) }
 {
-    racks.iter().map(|rack| Lost::Rack(*rack)).collect(alloc)
+    let mut lost = Vec::new(alloc);
+    for rack in racks {
+        lost.push(Lost::Rack(*rack))?;
+    }
+    Ok(lost)
 }
 
 /// Adds the pairs of a bookie with each of the others.
@@ -93,8 +100,7 @@ fn pairs_if(alloc: Global, asked: bool, bookies: &[u16]) -> Result<Vec<Lost>, Al
     if !asked {
         return Ok(Vec::new(alloc));
     }
-    let pairs = each_pair(alloc, bookies)?;
-    Ok(pairs)
+    each_pair(alloc, bookies)
 }
 
 /// The losses of these, worst first.
@@ -104,17 +110,16 @@ fn rank(
     bookies: &Bookies,
     question: &Question,
     largest: Largest,
-    lost: &[Lost],
+    lost: Vec<Lost>,
 ) -> Result<Vec<Loss>, AllocError>
     requires largest { AreLargest census.now largest.tail largest.ensemble }
     requires well_formed { All (λ t. IsTail t.tail) census.now.tails }
-    requires lost { All (IsWithin (length bookies.now)) lost.now }
+    requires lost { All (IsWithin (length bookies.now)) lost.items }
     ensures { IfOk result (λ ranked. losses.AreRanked (map (losses.loss_on (counting_in census.now) (bookies_of bookies.now) question.now
-        (not_judged census.now.judged)) lost.now) ranked.items) }
+        (not_judged census.now.judged)) lost.items) ranked.items) }
 {
-    let losses = losses_of(alloc, census, bookies, question, largest, lost)?;
-    let ranked = ranked(losses)?;
-    Ok(ranked)
+    let losses = losses_of(alloc, census, bookies, question, largest, &lost)?;
+    ranked(losses)
 }
 
 /// What the next failures cost, by the census: bookies and racks in these orders, where losses are alike. `Err` only where
@@ -138,17 +143,19 @@ pub fn risk_of(
     ensures once { IfOk result (λ risk. (b : ℕ) → count_by (model.is_loss_of b) risk.bookies.items
         ≡ cond ((bookies_of bookies.now).is_registered b) 1 0) }
 {
-    let registered = registered_in(alloc, bookies, order)?;
-    let alone = each_bookie(alloc, &registered)?;
-    let by_rack = each_rack(alloc, racks)?;
-    let pairs = pairs_if(alloc, with_pairs, &registered)?;
     let largest = largest_of(census);
+    let registered = registered_in(alloc, bookies, order)?;
+    let each_two = pairs_if(alloc, with_pairs, &registered)?;
+    let each_one = each_bookie(alloc, &registered)?;
+    let pairs = rank(alloc, census, bookies, question, largest, each_two)?;
+    let alone = rank(alloc, census, bookies, question, largest, each_one)?;
+    let by_rack = each_rack(alloc, racks)?;
     Ok(Risk {
         fewest_copies: fewest_copies(census.entries()),
         fewest_in_tails: least_spare(bookies, census.tails()),
-        bookies: rank(alloc, census, bookies, question, largest, &alone)?,
-        racks: rank(alloc, census, bookies, question, largest, &by_rack)?,
-        pairs: rank(alloc, census, bookies, question, largest, &pairs)?,
+        bookies: alone,
+        racks: rank(alloc, census, bookies, question, largest, by_rack)?,
+        pairs,
         not_judged: census.not_judged(),
     })
 }

@@ -1,24 +1,24 @@
 // The lines of a risk.
-ghost use Rattle.std.specs.Prelude.{◌≡◌, ◌++◌, OnOk, IfOk, string_bytes};
+ghost use Rattle.std.specs.Prelude.{◌≡◌, ◌++◌, OnOk, IfOk, codes, string_bytes};
 ghost use Rattle.reh_waves.specs.Texts as texts;
 
-use crate::lines::push_name;
+use crate::lines::name_of;
 use crate::losses::{Loss, Lost};
 use crate::reasons::judged_words;
 use crate::risk::Risk;
 use reh_census::{Broken, Numbers};
 use std::alloc::{AllocError, Global};
 
-/// Adds how many break a rule, and how many more may.
-fn push_broken(text: &mut String, broken: &Broken) -> Result<(), AllocError>
-    ensures { OnOk result (string_bytes text.new ≡ string_bytes text.old ++ texts.broken_text broken.now) }
+/// Adds how many break a rule, and how many more may, behind this text.
+fn push_broken(text: &mut String, before: &str, broken: &Broken) -> Result<(), AllocError>
+    ensures { OnOk result (string_bytes text.new ≡ string_bytes text.old ++ (before.now ++ texts.broken_text broken.now)) }
 {
     let no = broken.no;
     let unknown = broken.unknown;
     if unknown > 0 {
-        return write!(text, "{no} unknown {unknown}");
+        return write!(text, "{before}{no} unknown {unknown}");
     }
-    write!(text, "{no}")
+    write!(text, "{before}{no}")
 }
 
 /// Adds the words and the number, where it isn't 0.
@@ -31,41 +31,19 @@ fn push_more(text: &mut String, words: &str, count: u64) -> Result<(), AllocErro
     write!(text, "{words}{count}")
 }
 
-/// Adds the numbers of the rules for entries.
-fn push_entries(text: &mut String, numbers: &Numbers) -> Result<(), AllocError>
-    ensures { OnOk result (string_bytes text.new ≡ string_bytes text.old ++ texts.entries_text numbers.now) }
-{
-    text.push_str("readable ")?;
-    push_broken(text, &numbers.readable)?;
-    text.push_str(", kept ")?;
-    push_broken(text, &numbers.kept)
-}
-
-/// Adds those for ledgers and writers.
-fn push_ledgers(text: &mut String, numbers: &Numbers) -> Result<(), AllocError>
-    ensures { OnOk result (string_bytes text.new ≡ string_bytes text.old ++ texts.ledgers_text numbers.now) }
-{
-    let recoverable = numbers.recoverable;
-    let writable = numbers.writable;
-    write!(text, ", recoverable {recoverable}, writable {writable}")
-}
-
-/// Adds those that aren't always there.
-fn push_rare(text: &mut String, numbers: &Numbers) -> Result<(), AllocError>
-    ensures { OnOk result (string_bytes text.new ≡ string_bytes text.old ++ texts.rare_text numbers.now) }
-{
-    push_more(text, ", replaceable ", numbers.replaceable)?;
-    push_more(text, ", disks ", numbers.disks)?;
-    Ok(())
-}
-
-/// Adds the numbers of the rules.
+/// Adds the numbers of the rules, behind a space.
 fn push_rules(text: &mut String, numbers: &Numbers) -> Result<(), AllocError>
-    ensures { OnOk result (string_bytes text.new ≡ string_bytes text.old ++ texts.rules_text numbers.now) }
+    ensures { OnOk result (string_bytes text.new ≡ string_bytes text.old ++ (codes " " ++ texts.rules_text numbers.now)) }
 {
-    push_entries(text, numbers)?;
-    push_ledgers(text, numbers)?;
-    push_rare(text, numbers)
+    push_broken(text, " readable ", &numbers.readable)?;
+    push_broken(text, ", kept ", &numbers.kept)?;
+    write!(
+        text,
+        ", recoverable {}, writable {}",
+        numbers.recoverable, numbers.writable
+    )?;
+    push_more(text, ", replaceable ", numbers.replaceable)?;
+    push_more(text, ", disks ", numbers.disks)
 }
 
 /// Adds what is lost.
@@ -78,20 +56,14 @@ fn push_lost(
     ensures { OnOk result (string_bytes text.new ≡ string_bytes text.old ++ texts.lost_text names.now racks.now lost) }
 {
     match lost {
-        Lost::Bookie(bookie) => {
-            text.push_str("bookie ")?;
-            push_name(text, names, bookie)
-        }
-        Lost::Rack(rack) => {
-            text.push_str("rack ")?;
-            push_name(text, racks, rack)
-        }
-        Lost::Pair(one, other) => {
-            text.push_str("pair ")?;
-            push_name(text, names, one)?;
-            text.push_str(" ")?;
-            push_name(text, names, other)
-        }
+        Lost::Bookie(bookie) => write!(text, "bookie {}", name_of(names, bookie)),
+        Lost::Rack(rack) => write!(text, "rack {}", name_of(racks, rack)),
+        Lost::Pair(one, other) => write!(
+            text,
+            "pair {} {}",
+            name_of(names, one),
+            name_of(names, other)
+        ),
     }
 }
 
@@ -105,7 +77,6 @@ fn push_loss(
     ensures { OnOk result (string_bytes text.new ≡ string_bytes text.old ++ texts.loss_text names.now racks.now loss.now) }
 {
     push_lost(text, names, racks, loss.lost)?;
-    text.push_str(" ")?;
     push_rules(text, &loss.numbers)?;
     text.push_str("\n")
 }
@@ -161,8 +132,7 @@ fn push_both_fewest(text: &mut String, risk: &Risk) -> Result<(), AllocError>
     ensures { OnOk result (string_bytes text.new ≡ string_bytes text.old ++ texts.fewest_text risk.now) }
 {
     push_fewest(text, risk.fewest_copies)?;
-    push_least(text, risk.fewest_in_tails)?;
-    Ok(())
+    push_least(text, risk.fewest_in_tails)
 }
 
 /// Adds the lines of all losses.

@@ -1,65 +1,30 @@
 // Risks as JSON.
-ghost use Rattle.std.specs.Prelude.{◌≡◌, ◌++◌, OnOk, IfOk, string_bytes, true};
+ghost use Rattle.std.specs.Prelude.{◌≡◌, ◌++◌, OnOk, IfOk, codes, string_bytes, true};
 ghost use Rattle.reh_waves.specs.Json as json;
 ghost use Rattle.reh_waves.specs.Json.{ArePrintable};
 
 use crate::losses::{Loss, Lost};
 use crate::objects::{push_comma, push_json_name};
 use crate::risk::Risk;
-use reh_census::{Broken, Numbers};
+use reh_census::Numbers;
 use std::alloc::{AllocError, Global};
 
-/// Adds how many break a rule, and how many more may.
-fn push_broken(text: &mut String, broken: &Broken) -> Result<(), AllocError>
-    ensures { OnOk result (string_bytes text.new ≡ string_bytes text.old ++ json.broken_json broken.now) }
+/// Adds the numbers of the rules, as the last member of an object.
+fn push_rules(text: &mut String, numbers: &Numbers) -> Result<(), AllocError>
+    ensures { OnOk result (string_bytes text.new ≡ string_bytes text.old ++ (codes "," ++ (json.rules_json numbers.now ++ codes "}"))) }
 {
-    let no = broken.no;
-    let unknown = broken.unknown;
-    write!(text, "{{\"no\":{no},\"unknown\":{unknown}}}")
-}
-
-/// Adds the numbers of the rules for entries.
-fn push_entries(text: &mut String, numbers: &Numbers) -> Result<(), AllocError>
-    ensures { OnOk result (string_bytes text.new ≡ string_bytes text.old ++ json.entries_json numbers.now) }
-{
-    text.push_str("\"readable\":")?;
-    push_broken(text, &numbers.readable)?;
-    text.push_str(",\"kept\":")?;
-    push_broken(text, &numbers.kept)?;
-    Ok(())
-}
-
-/// Adds those for ledgers and writers.
-fn push_ledgers(text: &mut String, numbers: &Numbers) -> Result<(), AllocError>
-    ensures { OnOk result (string_bytes text.new ≡ string_bytes text.old ++ json.ledgers_json numbers.now) }
-{
-    let recoverable = numbers.recoverable;
-    let writable = numbers.writable;
     write!(
         text,
-        ",\"recoverable\":{recoverable},\"writable\":{writable}"
+        ",\"rules\":{{\"readable\":{{\"no\":{},\"unknown\":{}}},\"kept\":{{\"no\":{},\"unknown\":{}}},\"recoverable\":{},\"writable\":{},\"replaceable\":{},\"disks\":{}}}}}",
+        numbers.readable.no,
+        numbers.readable.unknown,
+        numbers.kept.no,
+        numbers.kept.unknown,
+        numbers.recoverable,
+        numbers.writable,
+        numbers.replaceable,
+        numbers.disks
     )
-}
-
-/// Adds the others.
-fn push_rare(text: &mut String, numbers: &Numbers) -> Result<(), AllocError>
-    ensures { OnOk result (string_bytes text.new ≡ string_bytes text.old ++ json.rare_json numbers.now) }
-{
-    let replaceable = numbers.replaceable;
-    let disks = numbers.disks;
-    write!(text, ",\"replaceable\":{replaceable},\"disks\":{disks}")
-}
-
-/// Adds the numbers of the rules.
-fn push_rules(text: &mut String, numbers: &Numbers) -> Result<(), AllocError>
-    ensures { OnOk result (string_bytes text.new ≡ string_bytes text.old ++ json.rules_json numbers.now) }
-{
-    text.push_str("\"rules\":{")?;
-    push_entries(text, numbers)?;
-    push_ledgers(text, numbers)?;
-    push_rare(text, numbers)?;
-    text.push_str("}")?;
-    Ok(())
 }
 
 /// Adds two bookies.
@@ -67,12 +32,9 @@ fn push_pair(text: &mut String, names: &[String], one: u16, other: u16) -> Resul
     requires { ArePrintable names.now }
     ensures { OnOk result (string_bytes text.new ≡ string_bytes text.old ++ json.pair_json names.now one other) }
 {
-    text.push_str("\"bookies\":[")?;
-    push_json_name(text, names, one)?;
-    text.push_str(",")?;
-    push_json_name(text, names, other)?;
-    text.push_str("]")?;
-    Ok(())
+    push_json_name(text, "\"bookies\":[", names, one)?;
+    push_json_name(text, ",", names, other)?;
+    text.push_str("]")
 }
 
 /// Adds what is lost.
@@ -87,14 +49,8 @@ fn push_lost(
     ensures { OnOk result (string_bytes text.new ≡ string_bytes text.old ++ json.lost_json names.now racks.now lost) }
 {
     match lost {
-        Lost::Bookie(bookie) => {
-            text.push_str("\"bookie\":")?;
-            push_json_name(text, names, bookie)
-        }
-        Lost::Rack(rack) => {
-            text.push_str("\"rack\":")?;
-            push_json_name(text, racks, rack)
-        }
+        Lost::Bookie(bookie) => push_json_name(text, "\"bookie\":", names, bookie),
+        Lost::Rack(rack) => push_json_name(text, "\"rack\":", racks, rack),
         Lost::Pair(one, other) => push_pair(text, names, one, other),
     }
 }
@@ -112,10 +68,7 @@ fn push_loss(
 {
     text.push_str("{")?;
     push_lost(text, names, racks, loss.lost)?;
-    text.push_str(",")?;
-    push_rules(text, &loss.numbers)?;
-    text.push_str("}")?;
-    Ok(())
+    push_rules(text, &loss.numbers)
 }
 
 /// Adds the losses in a list.
@@ -139,21 +92,21 @@ fn push_each(
     Ok(())
 }
 
-/// Adds the list of the losses.
+/// Adds the list of the losses, behind this text.
 fn push_losses(
     text: &mut String,
+    before: &str,
     names: &[String],
     racks: &[String],
     losses: &[Loss],
 ) -> Result<(), AllocError>
     requires names { ArePrintable names.now }
     requires racks { ArePrintable racks.now }
-    ensures { OnOk result (string_bytes text.new ≡ string_bytes text.old ++ json.losses_json names.now racks.now losses.now) }
+    ensures { OnOk result (string_bytes text.new ≡ string_bytes text.old ++ (before.now ++ json.losses_json names.now racks.now losses.now)) }
 {
-    text.push_str("[")?;
+    write!(text, "{before}[")?;
     push_each(text, names, racks, losses)?;
-    text.push_str("]")?;
-    Ok(())
+    text.push_str("]")
 }
 
 /// Adds the fewest copies.
@@ -176,21 +129,13 @@ fn push_least(text: &mut String, least: Option<u64>) -> Result<(), AllocError>
     }
 }
 
-/// Adds how many ledgers were not judged.
-fn push_judged(text: &mut String, not_judged: u64) -> Result<(), AllocError>
-    ensures { OnOk result (string_bytes text.new ≡ string_bytes text.old ++ json.judged_field not_judged) }
-{
-    write!(text, ",\"not_judged\":{not_judged}")
-}
-
 /// Adds the fewest copies, and how many ledgers were not judged.
 fn push_both_fewest(text: &mut String, risk: &Risk) -> Result<(), AllocError>
     ensures { OnOk result (string_bytes text.new ≡ string_bytes text.old ++ json.fewest_json risk.now) }
 {
     push_fewest(text, risk.fewest_copies)?;
     push_least(text, risk.fewest_in_tails)?;
-    push_judged(text, risk.not_judged)?;
-    Ok(())
+    write!(text, ",\"not_judged\":{}", risk.not_judged)
 }
 
 /// Adds all losses.
@@ -204,13 +149,9 @@ fn push_all_losses(
     requires racks { ArePrintable racks.now }
     ensures { OnOk result (string_bytes text.new ≡ string_bytes text.old ++ json.all_losses_json names.now racks.now risk.now) }
 {
-    text.push_str(",\"bookies\":")?;
-    push_losses(text, names, racks, &risk.bookies)?;
-    text.push_str(",\"racks\":")?;
-    push_losses(text, names, racks, &risk.racks)?;
-    text.push_str(",\"pairs\":")?;
-    push_losses(text, names, racks, &risk.pairs)?;
-    Ok(())
+    push_losses(text, ",\"bookies\":", names, racks, &risk.bookies)?;
+    push_losses(text, ",\"racks\":", names, racks, &risk.racks)?;
+    push_losses(text, ",\"pairs\":", names, racks, &risk.pairs)
 }
 
 /// The risk as one object, where bookies and racks have these names.

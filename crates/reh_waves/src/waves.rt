@@ -187,6 +187,44 @@ fn begin(
     Ok(())
 }
 
+/// Puts the registered bookie into the first round that it fits, or begins one, or names it alone, by the part of the
+/// census that names it.
+fn put(
+    alloc: Global,
+    census: &Census,
+    near: &Census,
+    bookies: &Bookies,
+    question: &Question,
+    largest: Largest,
+    by_rack: bool,
+    waves: &mut Waves,
+    bookie: u16,
+) -> Result<(), AllocError>
+    requires near { IsNear census.now near.now (is_in (bookie ∷ [])) }
+    requires largest { AreLargest census.now largest.tail largest.ensemble }
+    requires well_formed { All (λ t. IsTail t.tail) census.now.tails }
+    requires waves { AreWaves (answer_in census.now (bookies_of bookies.now) question.now) (bookies_of bookies.now) by_rack waves.old }
+    requires bookie { (bookies_of bookies.now).is_registered bookie ≡ true }
+    ensures waves { OnOk result (AreWaves (answer_in census.now (bookies_of bookies.now) question.now) (bookies_of bookies.now) by_rack waves.new) }
+    ensures places { OnOk result ((b : ℕ) → places waves.new b ≡ places waves.old b + cond (bookie == b) 1 0) }
+    ensures placed { OnOk result (IsPlaced (answer_in census.now (bookies_of bookies.now) question.now) (bookies_of bookies.now) by_rack waves.old waves.new bookie) }
+{
+    let rack = rack_for(bookies, by_rack, bookie);
+    let rounds = &waves.rounds;
+    let found = first_fit(
+        alloc, census, near, bookies, question, largest, by_rack, rounds, rack, bookie,
+    )?;
+    if let Some(number) = found {
+        return join(&mut waves.rounds, number, bookie);
+    }
+    let answer = answer_with(alloc, census, near, bookies, question, largest, &[], bookie)?;
+    if is_yes(answer) {
+        return begin(alloc, &mut waves.rounds, rack, bookie);
+    }
+    waves.alone.push(Alone { bookie, answer })?;
+    Ok(())
+}
+
 /// Puts the registered bookie into the first round that it fits, or begins one, or names it alone.
 fn place(
     alloc: Global,
@@ -208,39 +246,9 @@ fn place(
 {
     let among = set_of(alloc, bookies.count(), &[], bookie)?;
     let near = near_of(alloc, census, &among)?;
-    let rack = rack_for(bookies, by_rack, bookie);
-    let found = first_fit(
-        alloc,
-        census,
-        &near,
-        bookies,
-        question,
-        largest,
-        by_rack,
-        &waves.rounds,
-        rack,
-        bookie,
-    )?;
-    if let Some(number) = found {
-        join(&mut waves.rounds, number, bookie)?;
-        return Ok(());
-    }
-    let answer = answer_with(
-        alloc,
-        census,
-        &near,
-        bookies,
-        question,
-        largest,
-        &[],
-        bookie,
-    )?;
-    if is_yes(answer) {
-        begin(alloc, &mut waves.rounds, rack, bookie)?;
-        return Ok(());
-    }
-    waves.alone.push(Alone { bookie, answer })?;
-    Ok(())
+    put(
+        alloc, census, &near, bookies, question, largest, by_rack, waves, bookie,
+    )
 }
 
 /// Rounds of the registered bookies, each of which may be stopped together, by the census: each bookie in this order goes

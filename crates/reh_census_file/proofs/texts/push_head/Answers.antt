@@ -5,5 +5,5 @@ use Rattle.reh_census_file.proofs.texts.push_head.Goals as goal
 
 pub returns : goal.returns
 returns c =
-    IfOk-equal c.write-2.result _ _ _ c.write-2.ensures.bytes
-    (rw (c.in_ok-write.ensures.bytes, c.taken_word.ensures, c.strict_word.ensures, c.is_strict.ensures) (head_is _ (strict_word c.args.census.now.is_strict) (taken_word c.args.census.now.taken)))
+    IfOk-equal c.write.result _ _ _ c.write.ensures.bytes
+    (rw (c.taken_word.ensures, c.strict_word.ensures, c.is_strict.ensures) (head_is _ (strict_word c.args.census.now.is_strict) (taken_word c.args.census.now.taken)))

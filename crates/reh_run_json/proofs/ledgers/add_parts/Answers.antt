@@ -8,8 +8,6 @@ returns c =
     (then c.end_object.result c.begin_object.new.self c.add_standing.new.json c.end_object.new.self _ _ c.in_ok-add_standing.ensures
     (then c.end_object.result c.add_standing.new.json c.add_sizes.new.json c.end_object.new.self _ _ c.in_ok-add_sizes.ensures
     (then c.end_object.result c.add_sizes.new.json c.add_fragments.new.json c.end_object.new.self _ _ c.in_ok-add_fragments.ensures
-    (then c.end_object.result c.add_fragments.new.json c.key.new.self c.end_object.new.self _ _ (one c.add_fragments.new.json c.key.new.self _ c.in_ok-key.ensures.ok c.in_ok-key.ensures.room.0)
-    (then c.end_object.result c.key.new.self c.add_task.new.json c.end_object.new.self _ _ c.in_ok-add_task.ensures
-    (then c.end_object.result c.add_task.new.json c.key-2.new.self c.end_object.new.self _ _ (one c.add_task.new.json c.key-2.new.self _ c.in_ok-key-2.ensures.ok c.in_ok-key-2.ensures.room.0)
-    (then c.end_object.result c.key-2.new.self c.add_lock.new.json c.end_object.new.self _ _ c.in_ok-add_lock.ensures
-    (last c.end_object.result c.add_lock.new.json c.end_object.new.self _ c.end_object.ensures))))))))
+    (then c.end_object.result c.add_fragments.new.json c.add_task.new.json c.end_object.new.self _ _ c.in_ok-add_task.ensures
+    (then c.end_object.result c.add_task.new.json c.add_lock.new.json c.end_object.new.self _ _ c.in_ok-add_lock.ensures
+    (last c.end_object.result c.add_lock.new.json c.end_object.new.self _ c.end_object.ensures))))))

@@ -6,8 +6,6 @@ pub returns : goal.returns
 returns c =
     then c.end_object.result c.args.json.now c.begin_object.new.self c.end_object.new.self _ _ (one c.args.json.now c.begin_object.new.self _ c.in_ok-begin_object.ensures.ok c.in_ok-begin_object.ensures.room.0)
     (then c.end_object.result c.begin_object.new.self c.add_number.new.json c.end_object.new.self _ _ c.in_ok-add_number.ensures
-    (then c.end_object.result c.add_number.new.json c.key.new.self c.end_object.new.self _ _ (one c.add_number.new.json c.key.new.self _ c.in_ok-key.ensures.ok c.in_ok-key.ensures.room.0)
-    (then c.end_object.result c.key.new.self c.add_entry.new.json c.end_object.new.self _ _ c.in_ok-add_entry.ensures
-    (then c.end_object.result c.add_entry.new.json c.key-2.new.self c.end_object.new.self _ _ (one c.add_entry.new.json c.key-2.new.self _ c.in_ok-key-2.ensures.ok c.in_ok-key-2.ensures.room.0)
-    (then c.end_object.result c.key-2.new.self c.add_ensemble.new.json c.end_object.new.self _ _ c.in_ok-add_ensemble.ensures
-    (last c.end_object.result c.add_ensemble.new.json c.end_object.new.self _ c.end_object.ensures))))))
+    (then c.end_object.result c.add_number.new.json c.add_entry.new.json c.end_object.new.self _ _ c.in_ok-add_entry.ensures
+    (then c.end_object.result c.add_entry.new.json c.add_ensemble.new.json c.end_object.new.self _ _ c.in_ok-add_ensemble.ensures
+    (last c.end_object.result c.add_ensemble.new.json c.end_object.new.self _ c.end_object.ensures))))

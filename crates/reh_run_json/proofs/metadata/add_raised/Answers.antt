@@ -5,7 +5,7 @@ use Rattle.reh_run_json.proofs.metadata.add_raised.Goals as goal
 pub returns : goal.returns
 returns c =
     then c.end_object.result c.args.json.now c.begin_change.new.json c.end_object.new.self _ _ c.in_ok-begin_change.ensures
-    (then c.end_object.result c.begin_change.new.json c.add_ledger.new.json c.end_object.new.self _ _ c.in_ok-add_ledger.ensures
-    (then c.end_object.result c.add_ledger.new.json c.add_number.new.json c.end_object.new.self _ _ c.in_ok-add_number.ensures
+    (then c.end_object.result c.begin_change.new.json c.add_id.new.json c.end_object.new.self _ _ c.in_ok-add_id.ensures
+    (then c.end_object.result c.add_id.new.json c.add_number.new.json c.end_object.new.self _ _ c.in_ok-add_number.ensures
     (then c.end_object.result c.add_number.new.json c.add_number-2.new.json c.end_object.new.self _ _ c.in_ok-add_number-2.ensures
     (last c.end_object.result c.add_number-2.new.json c.end_object.new.self _ c.end_object.ensures))))

@@ -1,13 +1,11 @@
 -- The tokens, one part after another.
-use Rattle.reh_answer.proofs.ObjectLaws.{last, one, then}
+use Rattle.reh_answer.proofs.ObjectLaws.{last, then}
 use Rattle.reh_run_json.proofs.metadata.add_words.Goals as goal
 
 pub returns : goal.returns
 returns c =
     then c.end_object.result c.args.json.now c.begin_change.new.json c.end_object.new.self _ _ c.in_ok-begin_change.ensures
-    (then c.end_object.result c.begin_change.new.json c.add_ledger.new.json c.end_object.new.self _ _ c.in_ok-add_ledger.ensures
-    (then c.end_object.result c.add_ledger.new.json c.key.new.self c.end_object.new.self _ _ (one c.add_ledger.new.json c.key.new.self _ c.in_ok-key.ensures.ok c.in_ok-key.ensures.room.0)
-    (then c.end_object.result c.key.new.self c.add_state.new.json c.end_object.new.self _ _ c.in_ok-add_state.ensures
-    (then c.end_object.result c.add_state.new.json c.key-2.new.self c.end_object.new.self _ _ (one c.add_state.new.json c.key-2.new.self _ c.in_ok-key-2.ensures.ok c.in_ok-key-2.ensures.room.0)
-    (then c.end_object.result c.key-2.new.self c.add_state-2.new.json c.end_object.new.self _ _ c.in_ok-add_state-2.ensures
-    (last c.end_object.result c.add_state-2.new.json c.end_object.new.self _ c.end_object.ensures))))))
+    (then c.end_object.result c.begin_change.new.json c.add_id.new.json c.end_object.new.self _ _ c.in_ok-add_id.ensures
+    (then c.end_object.result c.add_id.new.json c.add_state.new.json c.end_object.new.self _ _ c.in_ok-add_state.ensures
+    (then c.end_object.result c.add_state.new.json c.add_state-2.new.json c.end_object.new.self _ _ c.in_ok-add_state-2.ensures
+    (last c.end_object.result c.add_state-2.new.json c.end_object.new.self _ c.end_object.ensures))))

@@ -5,9 +5,8 @@ use Rattle.reh_run_json.proofs.surveys.add_counts.Goals as goal
 pub returns : goal.returns
 returns c =
     then c.end_object.result c.args.json.now c.begin_object.new.self c.end_object.new.self _ _ (one c.args.json.now c.begin_object.new.self _ c.in_ok-begin_object.ensures.ok c.in_ok-begin_object.ensures.room.0)
-    (then c.end_object.result c.begin_object.new.self c.add_ledger.new.json c.end_object.new.self _ _ c.in_ok-add_ledger.ensures
-    (then c.end_object.result c.add_ledger.new.json c.add_number.new.json c.end_object.new.self _ _ c.in_ok-add_number.ensures
+    (then c.end_object.result c.begin_object.new.self c.add_id.new.json c.end_object.new.self _ _ c.in_ok-add_id.ensures
+    (then c.end_object.result c.add_id.new.json c.add_number.new.json c.end_object.new.self _ _ c.in_ok-add_number.ensures
     (then c.end_object.result c.add_number.new.json c.add_number-2.new.json c.end_object.new.self _ _ c.in_ok-add_number-2.ensures
-    (then c.end_object.result c.add_number-2.new.json c.key.new.self c.end_object.new.self _ _ (one c.add_number-2.new.json c.key.new.self _ c.in_ok-key.ensures.ok c.in_ok-key.ensures.room.0)
-    (then c.end_object.result c.key.new.self c.add_entry.new.json c.end_object.new.self _ _ c.in_ok-add_entry.ensures
-    (last c.end_object.result c.add_entry.new.json c.end_object.new.self _ c.end_object.ensures))))))
+    (then c.end_object.result c.add_number-2.new.json c.add_entry.new.json c.end_object.new.self _ _ c.in_ok-add_entry.ensures
+    (last c.end_object.result c.add_entry.new.json c.end_object.new.self _ c.end_object.ensures)))))

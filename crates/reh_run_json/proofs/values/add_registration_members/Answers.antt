@@ -6,5 +6,4 @@ pub returns : goal.returns
 returns c =
     then c.add_count.result c.args.json.now c.key.new.self c.add_count.new.json _ _ (one c.args.json.now c.key.new.self _ c.in_ok-key.ensures.ok c.in_ok-key.ensures.room.0)
     (then c.add_count.result c.key.new.self c.boolean.new.self c.add_count.new.json _ _ (one c.key.new.self c.boolean.new.self _ c.in_ok-boolean.ensures.ok c.in_ok-boolean.ensures.room.0)
-    (then c.add_count.result c.boolean.new.self c.key-2.new.self c.add_count.new.json _ _ (one c.boolean.new.self c.key-2.new.self _ c.in_ok-key-2.ensures.ok c.in_ok-key-2.ensures.room.0)
-    c.add_count.ensures))
+    c.add_count.ensures)

@@ -16,23 +16,28 @@ pub rank-requires-clause-lost : goal.rank-requires-clause-lost
 rank-requires-clause-lost c =
     subst (λ (lost : List Lost). All (IsWithin (length c.args.bookies.now)) lost)
     (sym
-    (c.deref-3.ensures.value ∙ c.in_ok-alone.ensures
-    ∙ ap (λ (bs : List ℕ). map (λ b. Bookie b) bs) (c.deref.ensures.value ∙ c.in_ok-registered.ensures)))
-    (bookies-within c.args.bookies.now c.args.order.now)
+    (c.in_ok-each_two.ensures
+    ∙ ap (λ (bs : List ℕ). pairs_if c.args.with_pairs bs) (c.deref.ensures.value ∙ c.in_ok-registered.ensures)))
+    (pairs-within c.args.bookies.now c.args.order.now c.args.with_pairs)
 
 pub rank-requires-2-clause-lost : goal.rank-requires-2-clause-lost
 rank-requires-2-clause-lost c =
     subst (λ (lost : List Lost). All (IsWithin (length c.args.bookies.now)) lost)
-    (sym (c.deref-4.ensures.value ∙ c.in_ok-by_rack.ensures))
-    (racks-within (length c.args.bookies.now) c.args.racks.now)
+    (sym
+    (c.in_ok-each_one.ensures
+    ∙ ap (λ (bs : List ℕ). map (λ b. Bookie b) bs) (c.deref-2.ensures.value ∙ c.in_ok-registered.ensures)))
+    (bookies-within c.args.bookies.now c.args.order.now)
 
 pub rank-requires-3-clause-lost : goal.rank-requires-3-clause-lost
 rank-requires-3-clause-lost c =
-    subst (λ (lost : List Lost). All (IsWithin (length c.args.bookies.now)) lost)
-    (sym
-    (c.deref-5.ensures.value ∙ c.in_ok-pairs.ensures
-    ∙ ap (λ (bs : List ℕ). pairs_if c.args.with_pairs bs) (c.deref-2.ensures.value ∙ c.in_ok-registered.ensures)))
-    (pairs-within c.args.bookies.now c.args.order.now c.args.with_pairs)
+    subst (λ (lost : List Lost). All (IsWithin (length c.args.bookies.now)) lost) (sym c.in_ok-by_rack.ensures)
+    (racks-within (length c.args.bookies.now) c.args.racks.now)
+
+pub rank-requires-3-clause-largest : goal.rank-requires-3-clause-largest
+rank-requires-3-clause-largest c = c.largest_of-largest.ensures.largest
+
+pub rank-requires-3-clause-well_formed : goal.rank-requires-3-clause-well_formed
+rank-requires-3-clause-well_formed c = c.largest_of-largest.ensures.well_formed
 
 pub rank-requires-clause-largest : goal.rank-requires-clause-largest
 rank-requires-clause-largest c = c.largest_of-largest.ensures.largest
@@ -46,12 +51,6 @@ rank-requires-2-clause-largest c = c.largest_of-largest.ensures.largest
 pub rank-requires-2-clause-well_formed : goal.rank-requires-2-clause-well_formed
 rank-requires-2-clause-well_formed c = c.largest_of-largest.ensures.well_formed
 
-pub rank-requires-3-clause-largest : goal.rank-requires-3-clause-largest
-rank-requires-3-clause-largest c = c.largest_of-largest.ensures.largest
-
-pub rank-requires-3-clause-well_formed : goal.rank-requires-3-clause-well_formed
-rank-requires-3-clause-well_formed c = c.largest_of-largest.ensures.well_formed
-
 pub returns-clause-census : goal.returns-clause-census
 returns-clause-census c =
     let f : Lost → Loss =
@@ -63,18 +62,18 @@ returns-clause-census c =
           subst (λ (tails : List CountedTail). AreLeastSpare (count_tails_in tails) (bookies_of c.args.bookies.now) c.least_spare.result)
           c.tails.ensures.tails c.least_spare.ensures;
       each_bookie =
-          subst (λ (lost : List Lost). AreRanked (map f lost) c.in_ok-rank.field-0.items)
-          (c.deref-3.ensures.value ∙ c.in_ok-alone.ensures
-          ∙ ap (λ (bs : List ℕ). map (λ b. Bookie b) bs) (c.deref.ensures.value ∙ c.in_ok-registered.ensures))
-          c.in_ok-rank.ensures;
+          subst (λ (lost : List Lost). AreRanked (map f lost) c.in_ok-alone.alone.items)
+          (c.in_ok-each_one.ensures
+          ∙ ap (λ (bs : List ℕ). map (λ b. Bookie b) bs) (c.deref-2.ensures.value ∙ c.in_ok-registered.ensures))
+          c.in_ok-alone.ensures;
       each_rack =
-          subst (λ (lost : List Lost). AreRanked (map f lost) c.in_ok-rank-2.field-0.items)
-          (c.deref-4.ensures.value ∙ c.in_ok-by_rack.ensures) c.in_ok-rank-2.ensures;
+          subst (λ (lost : List Lost). AreRanked (map f lost) c.in_ok-rank.field-0.items) c.in_ok-by_rack.ensures
+          c.in_ok-rank.ensures;
       each_pair =
-          subst (λ (lost : List Lost). AreRanked (map f lost) c.in_ok-rank-3.field-0.items)
-          (c.deref-5.ensures.value ∙ c.in_ok-pairs.ensures
-          ∙ ap (λ (bs : List ℕ). pairs_if c.args.with_pairs bs) (c.deref-2.ensures.value ∙ c.in_ok-registered.ensures))
-          c.in_ok-rank-3.ensures;
+          subst (λ (lost : List Lost). AreRanked (map f lost) c.in_ok-pairs.pairs.items)
+          (c.in_ok-each_two.ensures
+          ∙ ap (λ (bs : List ℕ). pairs_if c.args.with_pairs bs) (c.deref.ensures.value ∙ c.in_ok-registered.ensures))
+          c.in_ok-pairs.ensures;
       unjudged = c.not_judged.ensures;
     }
 
@@ -85,9 +84,9 @@ returns-clause-ledgers c ledgers counts =
     c.args.order.now c.args.racks.now c.args.with_pairs (record {
       fewest_copies = c.fewest_copies.result;
       fewest_in_tails = c.least_spare.result;
-      bookies = c.in_ok-rank.field-0;
-      racks = c.in_ok-rank-2.field-0;
-      pairs = c.in_ok-rank-3.field-0;
+      bookies = c.in_ok-alone.alone;
+      racks = c.in_ok-rank.field-0;
+      pairs = c.in_ok-pairs.pairs;
       not_judged = c.not_judged.result;
     }))
     (counting-same c.args.census.now (holders (bookies_of c.args.bookies.now)) ledgers counts)
@@ -96,4 +95,4 @@ returns-clause-ledgers c ledgers counts =
 pub returns-clause-once : goal.returns-clause-once
 returns-clause-once c b =
     loss-once (counting_in c.args.census.now) c.args.bookies.now c.args.question.now (not_judged c.args.census.now.judged) c.args.order.now
-    c.in_ok-rank.field-0.items c.requires (returns-clause-census c).each_bookie.permutation b
+    c.in_ok-alone.alone.items c.requires (returns-clause-census c).each_bookie.permutation b

@@ -1,4 +1,4 @@
-use Rattle.std.proofs.Common.{◌≡◌, ◌∙◌, ◌<◌, ◌+◌, ◌&&◌, ℕ, Bool, true, false, cond, List, [], ap, get_or, length, subst, sym, take, arith}
+use Rattle.std.proofs.Common.{◌≡◌, ◌∙◌, ◌<◌, ◌+◌, ◌&&◌, ℕ, Bool, true, false, cond, List, ap, get_or, length, subst, sym, take, arith}
 use Rattle.std.specs.Prelude.{count_by, sum_by, ◌==◌}
 use Rattle.std.proofs.lemmas.List.{get_or_default, take_all}
 use Rattle.reh_census.specs.Bookies.{Bookies, bookies_of, holders}

@@ -1,6 +1,0 @@
-use Rattle.std.proofs.Common.{◌∙◌, sym}
-use Rattle.reh_census_file.proofs.WordLaws.{none_found}
-use Rattle.reh_census_file.proofs.words.word_len.Goals as goal
-
-pub returns-in-None-clause-count : goal.returns-in-None-clause-count
-returns-in-None-clause-count c = none_found _ c.args.text.now (sym c.first_space.ensures ∙ c.in-None.is)
