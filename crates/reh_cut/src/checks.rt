@@ -283,7 +283,12 @@ pub(crate) fn entries_of(line: &LedgerLine, fragment: usize) -> (u64, u64)
 fn index_in(ensemble: &[Name], name: &str) -> Option<usize>
     ensures { result ≡ model.index_in ensemble.now name.now }
 {
-    ensemble.iter().position(|member| member.as_str() == name)
+    for (index, member) in ensemble.iter().enumerate() {
+        if name == member.as_str() {
+            return Some(index);
+        }
+    }
+    None
 }
 
 /// How the fragment of this number writes entries to the bookie of this name.

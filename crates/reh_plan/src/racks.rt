@@ -158,7 +158,12 @@ fn least_of(names: &[Option<&str>], least: usize) -> usize
 fn is_any_known(names: &[Option<&str>]) -> bool
     ensures { result ≡ list_any (λ name. is_some name) names.now }
 {
-    names.iter().any(|name| name.is_some())
+    for name in names {
+        if name.is_some() {
+            return true;
+        }
+    }
+    false
 }
 
 /// Of each bookie the number of the first that stands in its rack.
@@ -168,10 +173,11 @@ fn numbers_of(alloc: Global, names: &[Option<&str>]) -> Result<Vec<u16>, AllocEr
         unwrap_or (position (λ other. model.is_in_rack rack.now (option_map (λ n. n.now) other)) names.now) MAX_BOOKIES)
         name MAX_BOOKIES) names.now) }
 {
-    names
-        .iter()
-        .map(|name| rack_number(names, name))
-        .collect(alloc)
+    let mut numbers = Vec::new(alloc);
+    for name in names {
+        numbers.push(rack_number(names, name))?;
+    }
+    Ok(numbers)
 }
 
 /// The number of a rack, if it is known.
@@ -203,7 +209,12 @@ fn number_of(names: &[Option<&str>], rack: &str) -> u16
 fn first_in(names: &[Option<&str>], rack: &str) -> Option<usize>
     ensures { result ≡ position (λ other. model.is_in_rack rack.now (option_map (λ n. n.now) other)) names.now }
 {
-    names.iter().position(|other| is_in_rack(rack, other))
+    for (place, other) in names.iter().enumerate() {
+        if is_in_rack(rack, other) {
+            return Some(place);
+        }
+    }
+    None
 }
 
 /// Whether a bookie with that rack, if it is known, stands in this one.

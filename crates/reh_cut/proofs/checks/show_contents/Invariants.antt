@@ -5,5 +5,5 @@ use Rattle.reh_cut.specs.Cuts.{shows_content_at}
 use Rattle.reh_cut.proofs.checks.show_contents.Given as goal
 
 abbrev pub invariant-loop-number : goal.invariant-loop-number
-invariant-loop-number l = 
+invariant-loop-number l =
     list_all (shows_content_at l.head l.assume l.line l.names l.holdings) (range_with_len 0 l.number) ≡ true

@@ -5,5 +5,5 @@ use Rattle.reh_cut.specs.Cuts.{shows_bookie_at}
 use Rattle.reh_cut.proofs.checks.shows_bookies.Given as goal
 
 abbrev pub invariant-loop-number : goal.invariant-loop-number
-invariant-loop-number l = 
+invariant-loop-number l =
     list_all (shows_bookie_at l.head l.listing.names l.listing.lost_at.items l.marks) (range_with_len 0 l.number) ≡ true

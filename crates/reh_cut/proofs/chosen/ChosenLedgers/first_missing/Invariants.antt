@@ -5,5 +5,5 @@ use Rattle.reh_cut.specs.Chosen.{has_id}
 use Rattle.reh_cut.proofs.chosen.ChosenLedgers.first_missing.Given as goal
 
 abbrev pub invariant-loop-id : goal.invariant-loop-id
-invariant-loop-id l = 
+invariant-loop-id l =
     list_all (λ id. list_any (has_id id) l.self.ledgers.items) (take l.id-index l.id-items) ≡ true
