@@ -1,5 +1,5 @@
 -- Ranges in order, and tests of all numbers of a range.
-use Rattle.std.proofs.Common.{◌≡◌, ◌∙◌, ◌+◌, ◌<◌, ◌≤◌, ◌&&◌, ℕ, suc, ◌-◌, Bool, cond, drop, Option, Some, true, false, List, get_or, length, nat_le, nat_lt, ap, sym, arith, inl, inr}
+use Rattle.std.proofs.Common.{◌≡◌, ◌∙◌, ◌+◌, ◌<◌, ◌≤◌, ◌&&◌, ℕ, suc, ◌-◌, Bool, cond, drop, Some, true, false, List, get_or, length, nat_le, nat_lt, ap, sym, arith, inl, inr}
 use Rattle.std.specs.Prelude.{find}
 use Rattle.std.specs.List.{AllAdjacentBelow, list_all, list_any, range_with_len}
 use Rattle.std.proofs.lemmas.Bool.{cases_lt}

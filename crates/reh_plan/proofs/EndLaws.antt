@@ -1,5 +1,5 @@
 -- Flags of ledgers, one after another, and ledgers that are finished.
-use Rattle.std.proofs.Common.{◌≡◌, ◌∙◌, ℕ, zero, suc, ◌+◌, ◌<◌, All, Bool, true, false, is_some, List, [], ◌∷◌, ◌++◌, ap, arith, length, map, refl, subst, sym, take}
+use Rattle.std.proofs.Common.{◌≡◌, ◌∙◌, ℕ, zero, suc, ◌+◌, ◌<◌, All, Bool, false, is_some, List, [], ◌∷◌, ◌++◌, ap, arith, length, map, subst, sym, take}
 use Rattle.std.specs.Prelude.{IsTrue, get_or}
 use Rattle.std.proofs.lemmas.List.{length-map, length-take-le, map_more}
 use Rattle.std.proofs.lemmas.List.Elements.{All-weaker}

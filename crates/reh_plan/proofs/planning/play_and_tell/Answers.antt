@@ -1,5 +1,5 @@
 -- The steps leave the cluster on which the plan begins, and are what comes before the comments.
-use Rattle.std.proofs.Common.{◌≡◌, ◌∙◌, List, ap, subst, sym}
+use Rattle.std.proofs.Common.{◌≡◌, ◌∙◌, List, ap, sym}
 use Rattle.std.proofs.lemmas.Result.{IfOk-weaker}
 use Rattle.reh_model.specs.Metadata.{Metadata}
 use Rattle.reh_plan.specs.Racks.{fewer_among, metadata_of}
