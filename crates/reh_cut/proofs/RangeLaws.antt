@@ -1,11 +1,16 @@
--- Ranges in order.
-use Rattle.std.proofs.Common.{◌≡◌, ◌∙◌, ◌+◌, ◌<◌, ◌≤◌, ◌&&◌, ℕ, Bool, true, false, List, get_or, length, nat_le, nat_lt, ap, sym, arith, inl, inr}
-use Rattle.std.specs.List.{AllAdjacentBelow, list_any}
+-- Ranges in order, and tests of all numbers of a range.
+use Rattle.std.proofs.Common.{◌≡◌, ◌∙◌, ◌+◌, ◌<◌, ◌≤◌, ◌&&◌, ℕ, suc, ◌-◌, Bool, cond, drop, Some, true, false, List, get_or, length, nat_le, nat_lt, ap, sym, arith, inl, inr}
+use Rattle.std.specs.Prelude.{find}
+use Rattle.std.specs.List.{AllAdjacentBelow, list_all, list_any, range_with_len}
 use Rattle.std.proofs.lemmas.Bool.{cases_lt}
 use Rattle.std.proofs.lemmas.Bool.Decides.{nat_tests}
 use Rattle.std.proofs.lemmas.List.{get_or_default}
 use Rattle.std.proofs.lemmas.List.Folds.{list_any_at, list_any_none}
 use Rattle.std.proofs.lemmas.List.Sorted.{IsNonDecreasingBy-from_all_adjacent}
+use Rattle.std.proofs.lemmas.List.Folds.{list_all-append}
+use Rattle.std.proofs.Common.{add-one}
+use Rattle.std.proofs.Math.Seq.{drop-cons}
+use Rattle.reh_census.proofs.RangeLaws.{one_fails, range-append}
 use Rattle.reh_cut.specs.Ranges.{AreInOrder, is_within}
 
 -- each range and the next are in order
@@ -61,3 +66,47 @@ pub all-ended : (ranges : List (ℕ × ℕ)) (place entry : ℕ) → place ≡ l
     → false ≡ list_any (is_within entry) ranges
 all-ended ranges place entry all before =
     sym (list_any_none (is_within entry) ranges (λ k e inside. ended _ _ entry (before k e (omega arith) (omega (arith, all, inside)))))
+
+-- Tests of all numbers of a range
+
+-- one number more passes
+pub next_passes : (p : ℕ → Bool) (n : ℕ) → list_all p (range_with_len 0 n) ≡ true → p n ≡ true
+    → list_all p (range_with_len 0 (n + 1)) ≡ true
+next_passes p n before passes =
+    let at : 0 + n ≡ n = omega arith in
+    ap (list_all p) (range-append 0 n 1)
+    ∙ list_all-append p (range_with_len 0 n) (range_with_len (0 + n) 1)
+    ∙ ap (λ b. b && list_all p (range_with_len (0 + n) 1)) before
+    ∙ ap (λ b. b && true) (ap p at ∙ passes)
+
+pub next_from : (p : ℕ → Bool) (a k : ℕ) → a ≤ k → list_all p (range_with_len a (k - a)) ≡ true → p k ≡ true
+    → list_all p (range_with_len a (k + 1 - a)) ≡ true
+next_from p a k above before passes =
+    let long : k + 1 - a ≡ (k - a) + 1 = omega (arith, above) in
+    let at : a + (k - a) ≡ k = omega (arith, above) in
+    ap (λ n. list_all p (range_with_len a n)) long
+    ∙ ap (list_all p) (range-append a (k - a) 1)
+    ∙ list_all-append p (range_with_len a (k - a)) (range_with_len (a + (k - a)) 1)
+    ∙ ap (λ b. b && list_all p (range_with_len (a + (k - a)) 1)) before
+    ∙ ap (λ b. b && true) (ap p at ∙ passes)
+
+-- some number fails
+pub fails_at : (p : ℕ → Bool) (n k : ℕ) → k < n → p k ≡ false → list_all p (range_with_len 0 n) ≡ false
+fails_at p n k within fails = one_fails p 0 n k (omega arith) (omega (arith, within)) fails
+
+-- The first that passes
+
+-- of elements of which the first passes
+pub found_at : {X : Type 0} (p : X → Bool) (xs : List X) (i : ℕ) (d : X) → i < length xs → p (get_or xs i d) ≡ true
+    → find p (drop i xs) ≡ Some (get_or xs i d)
+found_at p xs i d within passes =
+    ap (find p) (drop-cons xs i d within)
+    ∙ ap (λ b. cond b (Some (get_or xs i d)) (find p (drop (suc i) xs))) passes
+
+-- of elements of which the first fails
+pub passed_over : {X : Type 0} (p : X → Bool) (xs : List X) (i : ℕ) (d : X) → i < length xs → p (get_or xs i d) ≡ false
+    → find p (drop (i + 1) xs) ≡ find p (drop i xs)
+passed_over p xs i d within fails =
+    ap (λ k. find p (drop k xs)) (add-one i)
+    ∙ sym (ap (find p) (drop-cons xs i d within)
+    ∙ ap (λ b. cond b (Some (get_or xs i d)) (find p (drop (suc i) xs))) fails)

@@ -19,10 +19,12 @@ use reh_types::{BookieIx, ENTRY_END, LedgerId, LedgerState as PictureState};
 pub(crate) fn bookie_in<'a>(head: &'a Head, name: &str) -> Option<&'a Bookie>
     ensures { option_copied result ≡ model.bookie_in head.now name.now }
 {
-    head.bookies
-        .as_slice()
-        .iter()
-        .find(|bookie| bookie.name.as_str() == name)
+    for bookie in head.bookies.as_slice() {
+        if bookie.name.as_str() == name {
+            return Some(bookie);
+        }
+    }
+    None
 }
 
 /// What is assumed of a bookie.
@@ -70,10 +72,12 @@ fn holds_though_empty(head: &Head, content: &Content) -> bool
 pub(crate) fn refills(head: &Head, line: &LedgerLine) -> bool
     ensures { result ≡ model.refills head.now line.now }
 {
-    line.contents
-        .as_slice()
-        .iter()
-        .any(|content| holds_though_empty(head, content))
+    for content in line.contents.as_slice() {
+        if holds_though_empty(head, content) {
+            return true;
+        }
+    }
+    false
 }
 
 /// Whether the picture's bookie, registered or not, has the marks of the first line's.
@@ -111,10 +115,16 @@ fn shows_bookie_at(head: &Head, listing: &Listing, marks: &[BookieMarks], number
 }
 
 /// Whether it holds of all bookies.
+#[tactic(auto, using(crate::proofs::RangeLaws::next_passes))]
 pub(crate) fn shows_bookies(head: &Head, listing: &Listing, marks: &[BookieMarks]) -> bool
     ensures { result ≡ model.shows_bookies head.now listing.now.names listing.now.lost_at.items marks.now }
 {
-    (0..listing.names.len()).all(|number| shows_bookie_at(head, listing, marks, number))
+    for number in 0..listing.names.len() {
+        if !shows_bookie_at(head, listing, marks, number) {
+            return false;
+        }
+    }
+    true
 }
 
 // Metadata
@@ -148,11 +158,17 @@ fn is_same_member(names: &Names, members: &[Name], bookies: &[BookieIx], index: 
 }
 
 /// Whether so many members, from the first on, are these bookies.
+#[tactic(auto, using(crate::proofs::RangeLaws::next_passes))]
 fn begin_with(names: &Names, members: &[Name], bookies: &[BookieIx], count: usize) -> bool
     ensures { result
         ≡ list_all (model.is_same_member names.now members.now bookies.now) (range_with_len 0 count) }
 {
-    (0..count).all(|index| is_same_member(names, members, bookies, index))
+    for index in 0..count {
+        if !is_same_member(names, members, bookies, index) {
+            return false;
+        }
+    }
+    true
 }
 
 /// Whether the members are these bookies, in order.
@@ -189,6 +205,7 @@ fn is_same_fragment_at(
 }
 
 /// Whether so many fragments, from the first on, are the same.
+#[tactic(auto, using(crate::proofs::RangeLaws::next_passes))]
 fn begin_alike(
     names: &Names,
     fragments: &[Fragment],
@@ -198,7 +215,12 @@ fn begin_alike(
     ensures { result
         ≡ list_all (model.is_same_fragment_at names.now fragments.now others.now) (range_with_len 0 count) }
 {
-    (0..count).all(|index| is_same_fragment_at(names, fragments, others, index))
+    for index in 0..count {
+        if !is_same_fragment_at(names, fragments, others, index) {
+            return false;
+        }
+    }
+    true
 }
 
 /// Whether the fragments are the same, in order.
@@ -228,10 +250,12 @@ fn has_metadata(names: &Names, line: &LedgerLine, ledger: &Ledger) -> bool
 pub(crate) fn content_of<'a>(line: &'a LedgerLine, name: &str) -> Option<&'a Content>
     ensures { option_copied result ≡ model.content_of line.now name.now }
 {
-    line.contents
-        .as_slice()
-        .iter()
-        .find(|content| content.bookie.as_str() == name)
+    for content in line.contents.as_slice() {
+        if content.bookie.as_str() == name {
+            return Some(content);
+        }
+    }
+    None
 }
 
 /// One past the last entry that the picture may show.
@@ -259,7 +283,12 @@ pub(crate) fn entries_of(line: &LedgerLine, fragment: usize) -> (u64, u64)
 fn index_in(ensemble: &[Name], name: &str) -> Option<usize>
     ensures { result ≡ model.index_in ensemble.now name.now }
 {
-    ensemble.iter().position(|member| member.as_str() == name)
+    for (index, member) in ensemble.iter().enumerate() {
+        if name == member.as_str() {
+            return Some(index);
+        }
+    }
+    None
 }
 
 /// How the fragment of this number writes entries to the bookie of this name.
@@ -279,15 +308,24 @@ pub(crate) fn striping_of(line: &LedgerLine, fragment: usize, name: &str) -> Str
 fn holding_of(holdings: &[Holding], bookie: BookieIx, ledger: u64) -> Option<&Holding>
     ensures { option_copied result ≡ model.holding_of holdings.now bookie ledger }
 {
-    holdings.iter().find(|holding| holding.bookie() == bookie
-        && holding.ledger() == LedgerId(ledger))
+    for holding in holdings {
+        if holding.bookie() == bookie && holding.ledger() == LedgerId(ledger) {
+            return Some(holding);
+        }
+    }
+    None
 }
 
 /// Whether each of the ranges ends below the bound.
 fn are_below(ranges: &[(u32, u32)], bound: u64) -> bool
     ensures { result ≡ list_all (model.is_below bound) ranges.now }
 {
-    ranges.iter().all(|range| (range.1 as u64) < bound)
+    for range in ranges {
+        if range.1 as u64 >= bound {
+            return false;
+        }
+    }
+    true
 }
 
 /// Whether the ranges that are listed are in order.
@@ -355,7 +393,12 @@ fn show_entries(
         (range_with_len first (end - first)) }
 {
     let in_order = is_in_order(holding);
-    (first..end).all(|entry| shows_entry(rules, striping, content, holding, in_order, entry))
+    for entry in first..end {
+        if !shows_entry(rules, striping, content, holding, in_order, entry) {
+            return false;
+        }
+    }
+    true
 }
 
 /// Whether it does so of the entries of the fragment of this number.
@@ -376,21 +419,28 @@ fn shows_fragment(
 }
 
 /// Whether it does so of the entries of all fragments.
+#[tactic(auto, using(crate::proofs::RangeLaws::next_passes))]
 fn show_fragments(rules: Rules, line: &LedgerLine, name: &str, holding: Option<&Holding>) -> bool
     ensures { result ≡ model.show_fragments rules line.now name.now (option_copied holding.entry) }
 {
-    let fragments = line.fragments.as_slice().len();
-    (0..fragments).all(|fragment| shows_fragment(rules, line, name, holding, fragment))
+    for fragment in 0..line.fragments.as_slice().len() {
+        if !shows_fragment(rules, line, name, holding, fragment) {
+            return false;
+        }
+    }
+    true
 }
 
 /// Whether an ensemble of the ledger has the bookie as a member.
 fn is_member(line: &LedgerLine, name: &str) -> bool
     ensures { result ≡ model.is_member line.now name.now }
 {
-    line.fragments.as_slice().iter().any(|fragment| index_in(
-        fragment.ensemble.as_slice(),
-        name,
-    ).is_some())
+    for fragment in line.fragments.as_slice() {
+        if index_in(fragment.ensemble.as_slice(), name).is_some() {
+            return true;
+        }
+    }
+    false
 }
 
 /// Whether the line names the bookie: as a member, or in a content.
@@ -491,9 +541,12 @@ fn last_members(line: &LedgerLine) -> &[Name]
 fn are_known(head: &Head, assume: Assume, line: &LedgerLine, members: &[Name]) -> bool
     ensures { result ≡ list_all (model.is_known head.now assume line.now) members.now }
 {
-    members
-        .iter()
-        .all(|member| is_known(head, assume, line, member))
+    for member in members {
+        if !is_known(head, assume, line, member) {
+            return false;
+        }
+    }
+    true
 }
 
 /// Whether the entries of a ledger that isn't closed are known, or something is assumed.
@@ -512,9 +565,12 @@ fn first_unknown_of<'a>(
 ) -> Option<&'a Name>
     ensures { option_copied result ≡ model.first_unknown_of head.now assume line.now members.now }
 {
-    members
-        .iter()
-        .find(|member| !is_known(head, assume, line, member))
+    for member in members {
+        if !is_known(head, assume, line, member) {
+            return Some(member);
+        }
+    }
+    None
 }
 
 /// The first member of the last fragment of a ledger that isn't closed of which nothing is known.
@@ -535,10 +591,16 @@ pub(crate) fn first_unknown<'a>(
 fn has_bookies(names: &Names, contents: &[Content]) -> bool
     ensures { result ≡ model.has_bookies names.now contents.now }
 {
-    contents.iter().all(|content| names.find(content.bookie.as_str().as_bytes()).is_some())
+    for content in contents {
+        if names.find(content.bookie.as_str().as_bytes()).is_none() {
+            return false;
+        }
+    }
+    true
 }
 
 /// Whether the picture shows what it is to show of these bookies and the ledger.
+#[tactic(auto, using(crate::proofs::RangeLaws::next_passes))]
 fn show_contents(
     head: &Head,
     assume: Assume,
@@ -548,7 +610,12 @@ fn show_contents(
 ) -> bool
     ensures { result ≡ model.show_contents head.now assume line.now names.now holdings.now }
 {
-    (0..names.len()).all(|number| shows_content_at(head, assume, line, names, holdings, number))
+    for number in 0..names.len() {
+        if !shows_content_at(head, assume, line, names, holdings, number) {
+            return false;
+        }
+    }
+    true
 }
 
 /// Whether the picture shows the ledger as its line does.
@@ -589,6 +656,7 @@ fn shows_ledger_at(
 }
 
 /// Whether it shows so many of these ledgers, from the first on.
+#[tactic(auto, using(crate::proofs::RangeLaws::next_passes))]
 fn begins_with(
     head: &Head,
     assume: Assume,
@@ -600,7 +668,12 @@ fn begins_with(
         (model.shows_ledger_at head.now assume listing.now.names listing.now.holdings.items lines.now listing.now.ledgers.items)
         (range_with_len 0 count) }
 {
-    (0..count).all(|index| shows_ledger_at(head, assume, listing, lines, index))
+    for index in 0..count {
+        if !shows_ledger_at(head, assume, listing, lines, index) {
+            return false;
+        }
+    }
+    true
 }
 
 /// Whether it shows these ledgers, and no others.

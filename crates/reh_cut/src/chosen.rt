@@ -1,5 +1,5 @@
 // The ledgers of an inventory that are asked for.
-ghost use Rattle.std.specs.Prelude.{◌≡◌, ◌++◌, ◌∷◌, [], ℕ, List, IfOk, OnOk, string_bytes};
+ghost use Rattle.std.specs.Prelude.{◌≡◌, ◌++◌, ◌∷◌, [], ℕ, List, None, IfOk, OnOk, string_bytes, true};
 ghost use Rattle.std.specs.List.{list_any};
 ghost use Rattle.reh_cut.specs.Chosen as model;
 
@@ -21,7 +21,12 @@ pub struct ChosenLedgers {
 fn has_ledger(ledgers: &[LedgerLine], id: u64) -> bool
     ensures { result ≡ list_any (model.has_id id) ledgers.now }
 {
-    ledgers.iter().any(|ledger| ledger.id == id)
+    for ledger in ledgers {
+        if ledger.id == id {
+            return true;
+        }
+    }
+    false
 }
 
 impl ChosenLedgers {
@@ -47,7 +52,7 @@ impl ChosenLedgers {
     fn is_asked(&self, id: u64) -> bool
         ensures { result ≡ model.is_asked self.now.ids.items id }
     {
-        self.ids.iter().any(|asked| *asked == id)
+        self.ids.contains(&id)
     }
 
     /// Adds the next line. After an `Err` nothing has changed, but where there was no memory.
@@ -63,17 +68,16 @@ impl ChosenLedgers {
         Ok(())
     }
 
-    /// Whether each id has its ledger.
-    fn has_all(&self) -> bool
-        ensures { result ≡ model.has_all self.now.ids.items self.now.ledgers.items }
+    /// The first id without a ledger, if there is one.
+    fn first_missing(&self) -> Option<u64>
+        ensures { result ≡ None → model.has_all self.now.ids.items self.now.ledgers.items ≡ true }
     {
-        self.ids.iter().all(|id| has_ledger(&self.ledgers, *id))
-    }
-
-    /// The first id without a ledger.
-    fn first_missing(&self) -> u64 {
-        let missing = self.ids.iter().find(|id| !has_ledger(&self.ledgers, **id));
-        missing.copied().unwrap_or(0)
+        for id in &self.ids {
+            if !has_ledger(&self.ledgers, *id) {
+                return Some(*id);
+            }
+        }
+        None
     }
 
     /// The picture of these ledgers, or of the window of this number of each, once all lines came; `cut` says which that is.
@@ -92,8 +96,8 @@ impl ChosenLedgers {
         if !self.inventory.is_whole() {
             return Err(CutFault::NotWhole);
         }
-        if !self.has_all() {
-            return Err(CutFault::NoLedger(self.first_missing()));
+        if let Some(id) = self.first_missing() {
+            return Err(CutFault::NoLedger(id));
         }
         cut_lines(alloc, head, &self.ledgers, assume, window)
     }

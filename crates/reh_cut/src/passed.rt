@@ -77,20 +77,25 @@ fn entry_limit(line: &LedgerLine) -> Option<Limit>
 fn stands_twice(ensemble: &[Name], name: &Name) -> bool
     ensures { result ≡ model.stands_twice ensemble.now name.now }
 {
-    ensemble
-        .iter()
-        .filter(|member| member.as_str() == name.as_str())
-        .count()
-        > 1
+    let mut count: usize = 0;
+    for member in ensemble {
+        if member.as_str() == name.as_str() {
+            count += 1;
+        }
+    }
+    count > 1
 }
 
 /// The first member that stands twice in an ensemble, if one does.
 fn repeated_in(ensemble: &[Name]) -> Option<&Name>
     ensures { option_copied result ≡ model.repeated_in ensemble.now }
 {
-    ensemble
-        .iter()
-        .find(|member| stands_twice(ensemble, member))
+    for member in ensemble {
+        if stands_twice(ensemble, member) {
+            return Some(member);
+        }
+    }
+    None
 }
 
 /// Whether a bookie stands twice in the ensemble.
@@ -104,10 +109,12 @@ fn repeats(fragment: &Fragment) -> bool
 fn first_repeating(line: &LedgerLine) -> Option<&Fragment>
     ensures { option_copied result ≡ model.first_repeating line.now }
 {
-    line.fragments
-        .as_slice()
-        .iter()
-        .find(|fragment| repeats(fragment))
+    for fragment in line.fragments.as_slice() {
+        if repeats(fragment) {
+            return Some(fragment);
+        }
+    }
+    None
 }
 
 /// That no number of the line is past a limit of a picture.

@@ -30,7 +30,10 @@ pub(crate) fn are_around(ranges: &[(u32, u32)], are_in_order: bool, entry: u64) 
     if are_in_order {
         return find_around(ranges, entry);
     }
-    ranges
-        .iter()
-        .any(|range| range.0 as u64 <= entry && entry <= range.1 as u64)
+    for range in ranges {
+        if range.0 as u64 <= entry && entry <= range.1 as u64 {
+            return true;
+        }
+    }
+    false
 }

@@ -83,9 +83,12 @@ pub(crate) fn is_written(striping: &Striping, entry: u64) -> bool
 pub(crate) fn has(ranges: &[Range], entry: u64) -> bool
     ensures { result ≡ list_any (is_within entry) ranges.now }
 {
-    ranges
-        .iter()
-        .any(|range| range.first <= entry && entry <= range.last)
+    for range in ranges {
+        if range.first <= entry && entry <= range.last {
+            return true;
+        }
+    }
+    false
 }
 
 /// Whether the content speaks of the entry.

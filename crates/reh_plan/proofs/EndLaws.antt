@@ -1,10 +1,12 @@
--- Flags of ledgers, one after another.
-use Rattle.std.proofs.Common.{◌≡◌, ◌∙◌, ℕ, zero, suc, ◌+◌, ◌<◌, Bool, true, false, List, [], ◌∷◌, ◌++◌, ap, arith, length, map, refl, subst, sym, take}
+-- Flags of ledgers, one after another, and ledgers that are finished.
+use Rattle.std.proofs.Common.{◌≡◌, ◌∙◌, ℕ, zero, suc, ◌+◌, ◌<◌, All, Bool, false, is_some, List, [], ◌∷◌, ◌++◌, ap, arith, length, map, subst, sym, take}
 use Rattle.std.specs.Prelude.{IsTrue, get_or}
 use Rattle.std.proofs.lemmas.List.{length-map, length-take-le, map_more}
-use Rattle.reh_model.specs.Cluster.{Ledger}
+use Rattle.std.proofs.lemmas.List.Elements.{All-weaker}
+use Rattle.std.proofs.lemmas.List.Folds.{list_any_none}
+use Rattle.reh_model.specs.Cluster.{Cluster, Ledger}
 use Rattle.reh_model.specs.Metadata.{is_in_recovery}
-use Rattle.reh_plan.specs.Ends.{AreAmong, flag_at}
+use Rattle.reh_plan.specs.Ends.{AllFilled, AreAmong, IsDone, IsUnrecoverable, flag_at, is_needless}
 
 -- a flag more, that is set only where a test says so
 more : (flags : List Bool) (flag : Bool) (test : ℕ → Bool) → ((k : ℕ) → IsTrue (flag_at flags k) → IsTrue (test k))
@@ -29,3 +31,24 @@ among-more ledgers others place g within is among last =
     length-map (take place ledgers) flag_of ∙ length-take-le place ledgers (omega (arith, within)) in
     subst (λ (fs : List Bool). AreAmong fs others) (sym grown)
     (more flags (flag_of g) (flag_at others) among (λ set. subst (λ n. IsTrue (flag_at others n)) (sym long) (last set)))
+
+-- nothing is left of a ledger that the bookies that may work could do
+pub record IsFinished (may : ℕ → Bool) (s : Cluster) (g : Ledger) : Type 0 where
+  pub filled : AllFilled may s g
+  pub recovered : IsUnrecoverable may s g
+  pub unlocked : is_some g.lock ≡ false
+  pub needed : is_needless s g ≡ false
+
+-- and so of any
+pub all_done : (may : ℕ → Bool) (s : Cluster) → All (IsFinished may s) s.parts.ledgers → IsDone may s
+all_done may s all = record {
+  complete = All-weaker (IsFinished may s) (AllFilled may s) (λ g finished. finished.filled) s.parts.ledgers all;
+  recovered =
+      All-weaker (IsFinished may s) (IsUnrecoverable may s) (λ g finished. finished.recovered) s.parts.ledgers all;
+  unlocked =
+      list_any_none (λ g. is_some g.lock) s.parts.ledgers
+      (All-weaker (IsFinished may s) (λ g. is_some g.lock ≡ false) (λ g finished. finished.unlocked) s.parts.ledgers all);
+  needed =
+      list_any_none (is_needless s) s.parts.ledgers
+      (All-weaker (IsFinished may s) (λ g. is_needless s g ≡ false) (λ g finished. finished.needed) s.parts.ledgers all);
+}

@@ -1,3 +1,4 @@
+pub mod PlaceLaws
 pub mod PlanLaws
 pub mod DraftLaws
 pub mod NamedLaws

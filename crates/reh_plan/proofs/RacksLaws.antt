@@ -7,16 +7,17 @@ use Rattle.std.specs.Prelude.{◌&&◌, ◌==◌, true, is_some}
 use Rattle.std.specs.Option.{option_map, option_map_or}
 use Rattle.reh_types.specs.declared.limits.TheConstants.{MAX_BOOKIES}
 use Rattle.std.proofs.lemmas.Bool.{cases_eq, le-ltb}
-use Rattle.std.proofs.lemmas.List.{get_or-set_same, get_or-set_other, take_more_set}
+use Rattle.std.proofs.lemmas.List.{append-nil, get_or-set_same, get_or-set_other, map-append, take_more_set}
 use Rattle.std.proofs.lemmas.Simd.{map-map}
 use Rattle.std.proofs.lemmas.Option.{slice_get_within, get_or_from_slice_get}
-use Rattle.std.proofs.lemmas.List.Elements.{All-head, All-tail}
+use Rattle.std.proofs.lemmas.List.Elements.{All-head, All-tail, filter-append}
 use Rattle.std.proofs.lemmas.List.FromFn.{length-map-range_with_len}
 use Rattle.std.proofs.lemmas.List.Folds.{list_any_at}
-use Rattle.std.proofs.lemmas.List.Sums.{list_all-from_AllPass, sum_by-cons}
+use Rattle.std.proofs.lemmas.List.Sums.{fold_push, list_all-from_AllPass, sum_by-cons, sum_by_push}
 use Rattle.reh_model.specs.Metadata.{Fragment, Metadata, IsEnsemble, IsMetadata, with_member, writes}
 use Rattle.reh_model.specs.Striping.{index_at, range, write_set}
 use Rattle.reh_scan.proofs.ReadingLaws.{write_set_within}
+use Rattle.reh_stripe.proofs.WordLaws.{range-append}
 use Rattle.reh_types.specs.Same.{tells_numbers}
 use Rattle.reh_plan.specs.Racks.{Racks, is_among, is_in_rack, rack_number, rack_of, least_racks, most_racks, may_be_fewer, racks_of, racks_at, fewest_after, fewest_racks, lacking}
 
@@ -147,6 +148,42 @@ none_lacking racks wanted none [] = refl
 none_lacking racks wanted none (e ∷ es) =
     sum_by-cons (λ x. cond (nat_lt (racks x) wanted) 1 0) e es
     ∙ (λ i. cond (le-ltb (racks e) wanted (omega (arith, none)) i) 1 0 + none_lacking racks wanted none es i)
+
+-- Write sets, one after another
+
+range_more : (n : ℕ) → range 0 (n + 1) ≡ range 0 n ++ n ∷ []
+range_more n =
+    let long : n + 1 - 0 ≡ (n - 0) + 1 = omega arith in
+    let last : 0 + (n - 0) ≡ n = omega arith in
+    ap (λ k. range_with_len 0 k) long ∙ range-append 0 (n - 0) 1
+    ∙ ap (λ k. range_with_len 0 (n - 0) ++ k ∷ []) last
+
+pub count_more : (p : ℕ → Bool) (n : ℕ) → count_by p (range 0 (n + 1)) ≡ count_by p (range 0 n) + cond (p n) 1 0
+count_more p n = ap (count_by p) (range_more n) ∙ sum_by_push (λ x. cond (p x) 1 0) (range 0 n) n
+
+-- the least of so many numbers and one more
+reduce_push : (ns : List ℕ) (one : ℕ)
+    → reduce min (ns ++ one ∷ []) ≡ Some (option_map_or (λ n. min n one) (reduce min ns) one)
+reduce_push [] one = refl
+reduce_push (n ∷ ns) one = ap Some (fold_push min n ns one)
+
+pub fewest_more : (racks : ℕ → ℕ) (p : ℕ → Bool) (n : ℕ) → p n ≡ true
+    → reduce min (map racks (filter p (range 0 (n + 1))))
+    ≡ Some (option_map_or (λ so_far. min so_far (racks n)) (reduce min (map racks (filter p (range 0 n)))) (racks n))
+fewest_more racks p n passes =
+    ap (λ entries. reduce min (map racks (filter p entries))) (range_more n)
+    ∙ ap (λ entries. reduce min (map racks entries))
+    (filter-append p (range 0 n) (n ∷ []) ∙ ap (λ b. filter p (range 0 n) ++ cond b (n ∷ []) []) passes)
+    ∙ ap (reduce min) (map-append racks (filter p (range 0 n)) (n ∷ []))
+    ∙ reduce_push (map racks (filter p (range 0 n))) (racks n)
+
+pub fewest_kept : (racks : ℕ → ℕ) (p : ℕ → Bool) (n : ℕ) → p n ≡ false
+    → reduce min (map racks (filter p (range 0 (n + 1)))) ≡ reduce min (map racks (filter p (range 0 n)))
+fewest_kept racks p n fails =
+    ap (λ entries. reduce min (map racks (filter p entries))) (range_more n)
+    ∙ ap (λ entries. reduce min (map racks entries))
+    (filter-append p (range 0 n) (n ∷ []) ∙ ap (λ b. filter p (range 0 n) ++ cond b (n ∷ []) []) fails
+    ∙ append-nil (filter p (range 0 n)))
 
 -- Copies that stay
 

@@ -8,7 +8,6 @@ use Rattle.std.proofs.lemmas.List.FromFn.{length-enumerate_from, length-map-rang
 use Rattle.reh_types.specs.declared.limits.TheConstants.{MAX_FRAGMENTS, MAX_LEDGERS}
 use Rattle.reh_model.specs.Cluster.{Cluster, Ledger}
 use Rattle.reh_model.specs.Contents.{count_held}
-use Rattle.reh_model.specs.Metadata.{IsMetadata}
 use Rattle.reh_model.specs.Survey.{line_of, lines_of, survey}
 use Rattle.reh_model.specs.WellFormed.{IsLedger, IsWellFormed}
 use Rattle.reh_plan.specs.Plans.{Draft}

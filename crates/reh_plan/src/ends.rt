@@ -1,6 +1,5 @@
 // What a plan must not leave, where its script has room.
-ghost use Rattle.std.specs.Prelude.{◌≡◌, ◌≢◌, ℕ, IfOk, IfSome, IsFalse, IsTrue, None, OnOk, is_none, is_some};
-ghost use Rattle.std.specs.List.{list_any};
+ghost use Rattle.std.specs.Prelude.{◌≡◌, ◌≢◌, ℕ, false, IfOk, IfSome, IsFalse, IsTrue, None, OnOk, is_none, is_some};
 ghost use Rattle.reh_model.specs.Metadata.{is_in_recovery};
 ghost use Rattle.reh_model.specs.Refusals.{no_place};
 ghost use Rattle.reh_plan.specs.Ends as model;
@@ -120,48 +119,7 @@ fn can_fill_ledger(state: &State, workers: &Workers, ledger: &Ledger) -> bool
     false
 }
 
-/// Whether some bookie that may work can take some place of some ledger.
-fn can_fill_some(state: &State, workers: &Workers) -> bool
-    ensures { IsFalse result → model.IsComplete (may_work workers.now) state.now }
-{
-    for ledger in state.ledgers() {
-        if can_fill_ledger(state, workers, ledger) {
-            return true;
-        }
-    }
-    false
-}
-
-/// Whether some bookie that may work could recover some ledger.
-fn can_recover_some(state: &State, workers: &Workers) -> bool
-    ensures { IsFalse result → model.IsRecovered (may_work workers.now) state.now }
-{
-    for ledger in state.ledgers() {
-        if can_recover(state, workers, ledger) {
-            return true;
-        }
-    }
-    false
-}
-
-/// Whether some task is locked.
-fn has_locks(state: &State) -> bool
-    ensures { result ≡ list_any (λ g. is_some g.lock) state.now.parts.ledgers }
-{
-    state.ledgers().iter().any(|ledger| ledger.lock().is_some())
-}
-
-/// Whether some ledger has a task, though each member of its ensembles is registered.
-fn has_needless_tasks(state: &State) -> bool
-    ensures { result ≡ list_any (model.is_needless state.now) state.now.parts.ledgers }
-{
-    state
-        .ledgers()
-        .iter()
-        .any(|ledger| is_needless(state, ledger))
-}
-
-/// Whether the ledger has one so.
+/// Whether the ledger has a task, though each member of its ensembles is registered.
 fn is_needless(state: &State, ledger: &Ledger) -> bool
     ensures { result ≡ model.is_needless state.now ledger.now }
 {
@@ -223,20 +181,37 @@ pub(crate) fn check_harmless(state: &State, recovering: &[bool]) -> Result<(), P
     }
 }
 
+/// Whether a ledger has a place that could be filled, could be recovered, is locked, or has a needless task.
+fn is_unfinished(state: &State, workers: &Workers, ledger: &Ledger) -> bool
+    ensures filled { IsFalse result → model.AllFilled (may_work workers.now) state.now ledger.now }
+    ensures recovered { IsFalse result → model.IsUnrecoverable (may_work workers.now) state.now ledger.now }
+    ensures unlocked { IsFalse result → is_some ledger.now.lock ≡ false }
+    ensures needed { IsFalse result → model.is_needless state.now ledger.now ≡ false }
+{
+    can_fill_ledger(state, workers, ledger)
+        || can_recover(state, workers, ledger)
+        || ledger.lock().is_some()
+        || is_needless(state, ledger)
+}
+
+/// Whether some ledger is unfinished.
+fn has_unfinished(state: &State, workers: &Workers) -> bool
+    ensures { IsFalse result → model.IsDone (may_work workers.now) state.now }
+{
+    for ledger in state.ledgers() {
+        if is_unfinished(state, workers, ledger) {
+            return true;
+        }
+    }
+    false
+}
+
 /// Checks that a plan leaves no place that could be filled, no ledger that could be recovered, no lock and no needless task,
 /// where its script has room.
 pub(crate) fn check_end(plan: &Plan, workers: &Workers) -> Result<(), PlanFault>
     ensures { OnOk result (model.Ends (may_work workers.now) plan.now.state plan.now.lines) }
 {
-    if plan.is_full() {
-        return Ok(());
-    }
-    let state = plan.state();
-    if can_fill_some(state, workers)
-        || can_recover_some(state, workers)
-        || has_locks(state)
-        || has_needless_tasks(state)
-    {
+    if !plan.is_full() && has_unfinished(plan.state(), workers) {
         return Err(PlanFault::Unfinished);
     }
     Ok(())

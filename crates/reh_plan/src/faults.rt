@@ -19,11 +19,11 @@ pub enum PlanFault {
 
 impl fmt::Display for PlanFault {
     fn fmt<W: fmt::Write>(&self, f: &mut fmt::Formatter<W>) -> fmt::Result {
-        match self {
-            PlanFault::NoMemory => write!(f, "no memory"),
-            PlanFault::NoRoom => write!(f, "the plan is too long for a script"),
-            PlanFault::Unfinished => write!(f, "the plan would leave something undone"),
-        }
+        f.write_str(match self {
+            PlanFault::NoMemory => "no memory",
+            PlanFault::NoRoom => "the plan is too long for a script",
+            PlanFault::Unfinished => "the plan would leave something undone",
+        })
     }
 }
 
@@ -78,8 +78,8 @@ impl fmt::Display for Reason {
                     _ => write!(f, "{verb} refused {refusal}"),
                 }
             }
-            Reason::NoRoom => write!(f, "no room in the script"),
-            Reason::NoTask => write!(f, "no task"),
+            Reason::NoRoom => f.write_str("no room in the script"),
+            Reason::NoTask => f.write_str("no task"),
         }
     }
 }

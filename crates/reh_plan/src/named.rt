@@ -48,7 +48,12 @@ fn add(bookies: &mut BookieSet, bookie: BookieIx) -> bool
 pub fn first_unknown(names: &Names, words: &[&str]) -> Option<usize>
     ensures { result ≡ position (λ word. not (is_some (bookie_named names.now word.now))) words.now }
 {
-    words.iter().position(|word| !has(names, word))
+    for (number, word) in words.iter().enumerate() {
+        if !has(names, word) {
+            return Some(number);
+        }
+    }
+    None
 }
 
 /// Whether there is a bookie of that name.

@@ -7,7 +7,7 @@ ghost use Rattle.reh_model.specs.Session.{replay, opened_session};
 ghost use Rattle.reh_transcript.specs.Transcript.{starting, transcript};
 ghost use Rattle.reh_plan.specs.Replies.{ok_answers};
 ghost use Rattle.reh_types.specs.Sets as set;
-ghost use Rattle.reh_plan.specs.Plans.{Asks, Works, Loses, GoesOnBy, IsWithout, AllNamed, OnlyLeft, IsNaming, IsPlayed, IsRepaired, WorksAndNames, losses_of};
+ghost use Rattle.reh_plan.specs.Plans.{Asks, Draft, Works, Loses, GoesOnBy, IsWithout, AllNamed, OnlyLeft, IsNaming, IsPlayed, IsRepaired, WorksAndNames, losses_of};
 ghost use Rattle.reh_plan.specs.Ends.{Ends, IsHarmless};
 ghost use Rattle.reh_plan.specs.Plans.{is_filled_by};
 ghost use Rattle.reh_plan.specs.Summaries.{IsSum, holdings_of};
@@ -88,56 +88,60 @@ pub fn plan(
     ensures harmless { IfOk result (λ p. IsHarmless state p.plan.state) }
     ensures sum { IfOk result (λ p. IsSum p.plan p.summary) }
 {
-    let held = holdings_of(alloc, &state)?;
-    let before = metadata_of(alloc, &state)?;
-    let plan = played(alloc, state, lost, allowed, read_only, racks)?;
-    let planned = told(alloc, plan, racks, &before, &held)?;
-    let _checked = planned.plan.text();
-    Ok(planned)
-}
-
-/// The plan without what it tells of racks.
-fn played(
-    alloc: Global,
-    state: State,
-    lost: &BookieSet,
-    allowed: &BookieSet,
-    read_only: &BookieSet,
-    racks: &Racks,
-) -> Result<Plan, PlanFault>
-    ensures { IfOk result (λ plan. IsPlayed (record { opening = state; state = state; events = []; lines = [] })
-        (set.contains lost.now) (may_work (allowed.now, read_only.now)) plan) }
-{
     let mut plan = Plan::begin(alloc, state)?;
-    play(alloc, &mut plan, lost, allowed, read_only, racks)?;
-    Ok(plan)
-}
-
-/// Tells in comments of the fragments of which a write set stands in fewer racks, and what the plan comes to.
-fn told(
-    alloc: Global,
-    plan: Plan,
-    racks: &Racks,
-    before: &[LedgerMeta],
-    held: &[usize],
-) -> Result<Planned, PlanFault>
-    requires held { held.now ≡ holdings_of plan.opening }
-    requires few { length held.now ≤ MAX_BOOKIES }
-    ensures racks { IfOk result (λ p.
-        p.fewer.items ≡ model.fewer_among racks.now before.now plan.state.parts.ledgers) }
-    ensures told { IfOk result (λ p.
-        p.plan ≡ record plan { lines = plan.lines ++ map model.racks_line p.fewer.items }) }
-    ensures sum { IfOk result (λ p. IsSum p.plan p.summary) }
-{
-    let mut plan = plan;
-    let fewer = fewer_racks(alloc, racks, before, plan.state())?;
-    tell(alloc, &mut plan, &fewer)?;
-    let summary = summary_of(alloc, held, &plan)?;
+    let (fewer, summary) = play_and_tell(alloc, &mut plan, lost, allowed, read_only, racks)?;
+    let _checked = plan.text();
     Ok(Planned {
         plan,
         summary,
         fewer,
     })
+}
+
+/// Plays a plan that has no line yet to its end, and tells in comments of the fragments of which a write set stands in fewer
+/// racks. Returns these, and what the plan comes to.
+fn play_and_tell(
+    alloc: Global,
+    plan: &mut Plan,
+    lost: &BookieSet,
+    allowed: &BookieSet,
+    read_only: &BookieSet,
+    racks: &Racks,
+) -> Result<(Vec<FewerRacks>, Summary), PlanFault>
+    requires begins { plan.old.state ≡ plan.old.opening }
+    ensures racks { IfOk result (λ told.
+        told.0.items ≡ model.fewer_racks racks.now plan.old.state plan.new.state) }
+    ensures played { IfOk result (λ told. (p : Draft)
+        × IsPlayed plan.old (set.contains lost.now) (may_work (allowed.now, read_only.now)) p
+        × (plan.new ≡ record p { lines = p.lines ++ map model.racks_line told.0.items })) }
+    ensures sum { IfOk result (λ told. IsSum plan.new told.1) }
+{
+    let held = holdings_of(alloc, plan.state())?;
+    let before = metadata_of(alloc, plan.state())?;
+    play(alloc, plan, lost, allowed, read_only, racks)?;
+    told(alloc, plan, racks, &before, &held)
+}
+
+/// Tells in comments of the fragments of which a write set stands in fewer racks. Returns these, and what the plan comes to.
+fn told(
+    alloc: Global,
+    plan: &mut Plan,
+    racks: &Racks,
+    before: &[LedgerMeta],
+    held: &[usize],
+) -> Result<(Vec<FewerRacks>, Summary), PlanFault>
+    requires held { held.now ≡ holdings_of plan.old.opening }
+    requires few { length held.now ≤ MAX_BOOKIES }
+    ensures racks { IfOk result (λ told.
+        told.0.items ≡ model.fewer_among racks.now before.now plan.new.state.parts.ledgers) }
+    ensures told { IfOk result (λ told.
+        plan.new ≡ record plan.old { lines = plan.old.lines ++ map model.racks_line told.0.items }) }
+    ensures sum { IfOk result (λ told. IsSum plan.new told.1) }
+{
+    let fewer = fewer_racks(alloc, racks, before, plan.state())?;
+    tell(alloc, plan, &fewer)?;
+    let summary = summary_of(alloc, held, plan)?;
+    Ok((fewer, summary))
 }
 
 /// Loses these bookies, plays AutoRecovery to its end, and names what is left.

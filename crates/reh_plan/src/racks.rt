@@ -1,5 +1,5 @@
 // In which racks bookies stand.
-ghost use Rattle.std.specs.Prelude.{◌≡◌, ℕ, ◌<◌, ◌≤◌, length, map, min, nat_lt, count_by, position, take, unwrap_or, is_some};
+ghost use Rattle.std.specs.Prelude.{◌≡◌, ℕ, ◌<◌, ◌≤◌, length, map, min, nat_le, nat_lt, count_by, position, take, unwrap_or, is_some};
 ghost use Rattle.std.specs.Prelude.{IfOk, IsTrue, if◌then◌else◌};
 ghost use Rattle.std.specs.Prelude.{slice_get, slice_index};
 ghost use Rattle.std.specs.List.{filter, list_all, list_any, reduce};
@@ -158,7 +158,12 @@ fn least_of(names: &[Option<&str>], least: usize) -> usize
 fn is_any_known(names: &[Option<&str>]) -> bool
     ensures { result ≡ list_any (λ name. is_some name) names.now }
 {
-    names.iter().any(|name| name.is_some())
+    for name in names {
+        if name.is_some() {
+            return true;
+        }
+    }
+    false
 }
 
 /// Of each bookie the number of the first that stands in its rack.
@@ -168,10 +173,11 @@ fn numbers_of(alloc: Global, names: &[Option<&str>]) -> Result<Vec<u16>, AllocEr
         unwrap_or (position (λ other. model.is_in_rack rack.now (option_map (λ n. n.now) other)) names.now) MAX_BOOKIES)
         name MAX_BOOKIES) names.now) }
 {
-    names
-        .iter()
-        .map(|name| rack_number(names, name))
-        .collect(alloc)
+    let mut numbers = Vec::new(alloc);
+    for name in names {
+        numbers.push(rack_number(names, name))?;
+    }
+    Ok(numbers)
 }
 
 /// The number of a rack, if it is known.
@@ -203,7 +209,12 @@ fn number_of(names: &[Option<&str>], rack: &str) -> u16
 fn first_in(names: &[Option<&str>], rack: &str) -> Option<usize>
     ensures { result ≡ position (λ other. model.is_in_rack rack.now (option_map (λ n. n.now) other)) names.now }
 {
-    names.iter().position(|other| is_in_rack(rack, other))
+    for (place, other) in names.iter().enumerate() {
+        if is_in_rack(rack, other) {
+            return Some(place);
+        }
+    }
+    None
 }
 
 /// Whether a bookie with that rack, if it is known, stands in this one.
@@ -249,10 +260,23 @@ fn least_fewer(
         result ≡ reduce min (map (λ entry. model.least_racks (racks entry))
         (filter (λ entry. model.may_be_fewer least (racks_before entry) (racks entry)) (stripe.range 0 after.now.size))) }
 {
-    (0..after.size())
-        .filter(|entry| is_fewer(old, before, new, after, least, *entry))
-        .map(|entry| racks_at(new, after, entry))
-        .min()
+    let mut fewest: Option<usize> = None;
+    for entry in 0..after.size() {
+        if is_fewer(old, before, new, after, least, entry) {
+            fewest = Some(lesser(fewest, racks_at(new, after, entry)));
+        }
+    }
+    fewest
+}
+
+/// The lesser of two numbers, of which the first may be missing.
+fn lesser(first: Option<usize>, second: usize) -> usize
+    ensures { result ≡ option_map_or (λ first. min first second) first second }
+{
+    match first {
+        Some(first) => first.min(second),
+        None => second,
+    }
 }
 
 /// Whether the write set of an entry may stand in fewer racks than before, and stands in fewer than are asked for.
@@ -289,7 +313,12 @@ fn may_be_fewer(before: &[u16], after: &[u16], least: usize) -> bool
 fn are_among(others: &[u16], racks: &[u16]) -> bool
     ensures { result ≡ list_all (model.is_among others.now) racks.now }
 {
-    racks.iter().all(|rack| others.contains(rack))
+    for rack in racks {
+        if !others.contains(rack) {
+            return false;
+        }
+    }
+    true
 }
 
 /// How many write sets stand in fewer racks than are asked for, by the racks of the members.
@@ -303,9 +332,13 @@ fn count_lacking(racks: &RackNumbers, metadata: &LedgerMeta, least: usize) -> us
     if wanted == 0 {
         return 0;
     }
-    (0..metadata.size())
-        .filter(|entry| racks_at(racks, metadata, *entry) < wanted)
-        .count()
+    let mut count = 0;
+    for entry in 0..metadata.size() {
+        if racks_at(racks, metadata, entry) < wanted {
+            count += 1;
+        }
+    }
+    count
 }
 
 /// In how many racks the write set of an entry stands at least, by the racks of the members.
@@ -361,5 +394,19 @@ fn most_racks(racks: &[u16]) -> usize
     requires { length racks.now ≤ MAX_ENSEMBLE_SIZE }
     ensures { result ≡ model.most_racks racks.now }
 {
-    count_racks(racks) + racks.iter().filter(|rack| **rack >= NO_RACK).count()
+    count_racks(racks) + count_unknown(racks)
+}
+
+/// How many racks aren't known.
+fn count_unknown(racks: &[u16]) -> usize
+    ensures unknown { result ≡ count_by (nat_le MAX_BOOKIES) racks.now }
+    ensures few { result ≤ length racks.now }
+{
+    let mut count = 0;
+    for rack in racks {
+        if *rack >= NO_RACK {
+            count += 1;
+        }
+    }
+    count
 }

@@ -232,10 +232,12 @@ impl Repair {
 
 /// The index of the fragment's first member that isn't registered.
 fn first_missing(state: &State, fragment: &Fragment) -> Option<usize> {
-    fragment
-        .ensemble
-        .iter()
-        .position(|member| !state.is_up(*member))
+    for (index, member) in fragment.ensemble.iter().enumerate() {
+        if !state.is_up(*member) {
+            return Some(index);
+        }
+    }
+    None
 }
 
 /// Adds the places of a fragment's missing members, if its entries are known.

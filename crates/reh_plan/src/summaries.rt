@@ -138,10 +138,13 @@ pub(crate) fn summary_of(alloc: Global, held: &[usize], plan: &Plan) -> Result<S
 fn places_of(events: &[Event], bookie: BookieIx) -> usize
     ensures { result ≡ model.places_of events.now bookie }
 {
-    events
-        .iter()
-        .filter(|event| is_place_of(event, bookie))
-        .count()
+    let mut count = 0;
+    for event in events {
+        if is_place_of(event, bookie) {
+            count += 1;
+        }
+    }
+    count
 }
 
 /// Whether the bookie takes a place by the event.
@@ -165,11 +168,13 @@ pub(crate) fn is_left(state: &State, ledger: &Ledger) -> bool
 fn count_left(state: &State) -> usize
     ensures { result ≡ model.left_of state.now }
 {
-    state
-        .ledgers()
-        .iter()
-        .filter(|ledger| is_left(state, ledger))
-        .count()
+    let mut count = 0;
+    for ledger in state.ledgers() {
+        if is_left(state, ledger) {
+            count += 1;
+        }
+    }
+    count
 }
 
 /// How many entries can't be read, of all fragments that have a stop.

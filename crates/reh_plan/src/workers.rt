@@ -40,7 +40,7 @@ struct Place<'a> {
 }
 
 /// A bookie that can take a place. Of two candidates the lesser comes first, by the fields in their order.
-#[derive(Clone, Copy, PartialEq, Eq, PartialOrd, Ord)]
+#[derive(Clone, Copy, PartialEq, PartialOrd)]
 struct Candidate {
     /// How many write sets would stand in fewer racks than are asked for.
     lacking: usize,

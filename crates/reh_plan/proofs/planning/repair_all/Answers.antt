@@ -1,5 +1,5 @@
 -- What the steps come to.
-use Rattle.std.proofs.Common.{◌≡◌, ◌∙◌, ℕ, Bool, subst}
+use Rattle.std.proofs.Common.{ℕ, Bool, subst}
 use Rattle.reh_types.specs.Sets.{Set, numbers}
 use Rattle.reh_plan.specs.Ends.{Ends}
 use Rattle.reh_plan.specs.Plans.{Draft, IsRepaired, WorksAndNames}

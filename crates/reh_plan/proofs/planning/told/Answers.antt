@@ -1,9 +1,9 @@
 -- The comments change nothing else.
 use Rattle.std.proofs.Common.{◌∙◌, ◌++◌, List, ap, map, sym}
-use Rattle.reh_model.specs.Cluster.{Cluster}
 use Rattle.reh_plan.specs.Plans.{Draft}
 use Rattle.reh_plan.specs.Racks.{fewer_among, racks_line}
 use Rattle.reh_plan.specs.Summaries.{holdings_of}
+use Rattle.reh_model.specs.Cluster.{Cluster}
 use Rattle.reh_plan.specs.declared.fewer.FewerRacks.{FewerRacks}
 use Rattle.reh_plan.proofs.planning.told.Goals as goal
 
@@ -14,10 +14,11 @@ summary_of-requires-clause-held c =
 pub returns-clause-racks : goal.returns-clause-racks
 returns-clause-racks c =
     c.in_ok-fewer.ensures
-    ∙ ap (λ (s : Cluster). fewer_among c.args.racks.now c.args.before.now s.parts.ledgers) c.state.ensures
+    ∙ ap (λ (s : Cluster). fewer_among c.args.racks.now c.args.before.now s.parts.ledgers)
+    (c.state.ensures ∙ sym (ap (λ (d : Draft). d.state) c.in_ok-tell.ensures))
 
 pub returns-clause-told : goal.returns-clause-told
 returns-clause-told c =
     c.in_ok-tell.ensures
-    ∙ ap (λ (found : List FewerRacks). record c.args.plan { lines = c.args.plan.lines ++ map racks_line found })
+    ∙ ap (λ (found : List FewerRacks). record c.args.plan.now { lines = c.args.plan.now.lines ++ map racks_line found })
     c.deref.ensures.value

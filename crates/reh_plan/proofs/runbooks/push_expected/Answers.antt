@@ -3,7 +3,6 @@ use Rattle.std.proofs.Common.{◌≡◌, ◌∙◌, List, ℕ, Bool, true, false
 use Rattle.std.specs.Prelude.{codes}
 use Rattle.reh_commands.specs.Answers.{asked}
 use Rattle.reh_commands.specs.Texts.{text_of}
-use Rattle.reh_plan.specs.Runbooks.{expected_lines}
 use Rattle.reh_plan.proofs.runbooks.push_expected.Goals as goal
 use Rattle.reh_plan.proofs.runbooks.push_expected.Goals.{then-has_answer+in_ok-push_line, else-has_answer}
 

@@ -1,0 +1,9 @@
+-- It does of those that are passed.
+use Rattle.std.proofs.Common.{◌≡◌, true}
+use Rattle.std.specs.List.{list_all, range_with_len}
+use Rattle.reh_cut.specs.Cuts.{shows_content_at}
+use Rattle.reh_cut.proofs.checks.show_contents.Given as goal
+
+abbrev pub invariant-loop-number : goal.invariant-loop-number
+invariant-loop-number l =
+    list_all (shows_content_at l.head l.assume l.line l.names l.holdings) (range_with_len 0 l.number) ≡ true

@@ -1,0 +1,9 @@
+-- Those that are passed have one.
+use Rattle.std.proofs.Common.{◌≡◌, take, true}
+use Rattle.std.specs.List.{list_all, list_any}
+use Rattle.reh_cut.specs.Chosen.{has_id}
+use Rattle.reh_cut.proofs.chosen.ChosenLedgers.first_missing.Given as goal
+
+abbrev pub invariant-loop-id : goal.invariant-loop-id
+invariant-loop-id l =
+    list_all (λ id. list_any (has_id id) l.self.ledgers.items) (take l.id-index l.id-items) ≡ true
