@@ -266,7 +266,10 @@ fn read_parts(alloc: Global, picture: &Value) -> Result<PictureParts, LocatedFau
         p.names p.lost_at.items p.ticks.grace p.ticks.delay p.listed.items p.holdings.items) }
     ensures ids { IfOk result (λ p. p.ids.keys ≡ ids_of (view picture.now)) }
 {
-    let ticks = read_ticks_at(picture)?;
+    let ticks = match read_ticks(picture) {
+        Ok(ticks) => ticks,
+        Err(fault) => return Err(LocatedFault::new(fault, Place::Picture)),
+    };
     let (names, lost_at) = read_bookies(alloc, picture)?;
     match read_lists(alloc, &names, picture) {
         Ok((ledgers, holdings)) => {
@@ -281,19 +284,6 @@ fn read_parts(alloc: Global, picture: &Value) -> Result<PictureParts, LocatedFau
             })
         }
         Err(fault) => Err(fault),
-    }
-}
-
-/// The grace and the delay of a picture, in ticks, or a fault with its place.
-fn read_ticks_at(picture: &Value) -> Result<Ticks, LocatedFault>
-    ensures fault { FailsAt result (fault_at Place.Picture (head_fault (view picture.now))) }
-    ensures grace { IfOk result
-        (λ ticks. ticks.grace ≡ number_of (view picture.now) Field.Grace) }
-    ensures delay { IfOk result (λ ticks. ticks.delay ≡ delay_of (view picture.now)) }
-{
-    match read_ticks(picture) {
-        Ok(ticks) => Ok(ticks),
-        Err(fault) => Err(LocatedFault::new(fault, Place::Picture)),
     }
 }
 
