@@ -58,8 +58,7 @@ pub fn check_picture(alloc: Global, bytes: &[u8]) -> Result<State, LocatedFault>
         → located_picture_of bytes.now ≡ Err (located.fault, located.place)) }
 {
     let picture = read_json(alloc, bytes)?;
-    let state = read_cluster(alloc, &picture)?;
-    Ok(state)
+    read_cluster(alloc, &picture)
 }
 
 /// The JSON value of a picture's bytes.
@@ -193,8 +192,7 @@ fn reaching(
         × (ledgers.items ≡ map (ledger_of ends) listed.items)) }
 {
     let greatest = greatest_ends(alloc, holdings)?;
-    let ledgers = with_words(alloc, listed, &greatest)?;
-    Ok(ledgers)
+    with_words(alloc, listed, &greatest)
 }
 
 /// How many words of entries so many bookies take, each as many for a ledger as it has.
