@@ -170,20 +170,22 @@ fn read_pair(
     Ok((bookie, LedgerId(id)))
 }
 
-/// The holding of this number; its bookie and ledger join the pairs. After an `Err` they may be there.
-fn read_holding(
+/// Adds the holding of this number; its bookie and ledger join the pairs. After an `Err` they may be there.
+fn add_content(
     alloc: Global,
     names: &Names,
     ids: &IndexSet<u64>,
     pairs: &mut IndexSet<(u8, u64)>,
+    holdings: &mut Vec<Holding>,
     number: usize,
     content: &Value,
-) -> Result<Holding, LocatedFault>
+) -> Result<(), LocatedFault>
     ensures fault { FailsAt result
         (content_fault names.now ids.now.keys number pairs.old.keys (view content.now)) }
     ensures pairs { OnOk result
         (pairs.new.keys ≡ pairs.old.keys ++ pair_of names.now (view content.now) ∷ []) }
-    ensures holding { IfOk result (λ h. h ≡ holding_in names.now (view content.now)) }
+    ensures holdings { OnOk result
+        (holdings.new.items ≡ holdings.old.items ++ holding_in names.now (view content.now) ∷ []) }
 {
     let here = Place::Content(number);
     let (bookie, ledger) = match read_pair(alloc, names, ids, pairs, content) {
@@ -192,12 +194,13 @@ fn read_holding(
     };
     let entries = list_at(content, Field::Entries, here)?;
     let ranges = read_ranges(alloc, number, entries)?;
-    Ok(Holding {
+    holdings.push(Holding {
         bookie,
         ledger,
         is_assumed: mark(content, Field::Assumed),
         ranges,
-    })
+    })?;
+    Ok(())
 }
 
 /// What the bookies of a picture hold, as ranges.
@@ -233,7 +236,7 @@ fn read_each_content(
     let mut pairs = IndexSet::new(alloc);
     let mut holdings = Vec::new(alloc);
     for (i, value) in values.iter().enumerate() {
-        holdings.push(read_holding(alloc, names, ids, &mut pairs, i, value)?)?;
+        add_content(alloc, names, ids, &mut pairs, &mut holdings, i, value)?;
     }
     Ok(holdings)
 }
@@ -276,7 +279,10 @@ fn note_end(
         (Some (option_map_or (λ end. max end last) (get nat_cmp ends.old q) last))
         (get nat_cmp ends.old q)) }
 {
-    let greatest = ends.get(&ledger).copied().map_or(last, |end| end.max(last));
+    let greatest = match ends.get(&ledger) {
+        Some(end) => last.max(*end),
+        None => last,
+    };
     ends.insert(ledger, greatest)?;
     Ok(())
 }

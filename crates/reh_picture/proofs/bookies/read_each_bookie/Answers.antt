@@ -1,5 +1,5 @@
 -- One bookie more is read, with its name and its registration.
-use Rattle.std.proofs.Common.{ℕ, List, Option, map, length, take_all, sym, ap, ◌∙◌, arith}
+use Rattle.std.proofs.Common.{ℕ, List, map, length, take_all, sym, ap, ◌∙◌, arith}
 use Rattle.std.proofs.lemmas.List.{length-map}
 use Rattle.serde_json.specs.View.{view}
 use Rattle.serde_json.specs.declared.value.Value.{Value}
