@@ -36,14 +36,24 @@ fn marked_value(
     })) }
 {
     let mut fields = Map::new(alloc);
-    put(&mut fields, alloc, "name", Value::try_from_str(alloc, name)?)?;
+    put(
+        &mut fields,
+        alloc,
+        "name",
+        Value::try_from_str(alloc, name)?,
+    )?;
     put(&mut fields, alloc, "up", Value::from(up))?;
     put(&mut fields, alloc, "readOnly", Value::from(is_read_only))?;
     put(&mut fields, alloc, "empty", Value::from(is_empty))?;
     let Some(rack) = rack else {
         return Ok(Value::Object(fields));
     };
-    put(&mut fields, alloc, "rack", Value::try_from_str(alloc, rack)?)?;
+    put(
+        &mut fields,
+        alloc,
+        "rack",
+        Value::try_from_str(alloc, rack)?,
+    )?;
     Ok(Value::Object(fields))
 }
 
@@ -70,7 +80,14 @@ fn bookie_value_at(
     match marks.get(bookie.0 as usize) {
         Some(marks) => {
             let is_empty = stays_empty(marks, count);
-            marked_value(alloc, name, up, marks.is_read_only(), is_empty, marks.rack())
+            marked_value(
+                alloc,
+                name,
+                up,
+                marks.is_read_only(),
+                is_empty,
+                marks.rack(),
+            )
         }
         None => marked_value(alloc, name, up, false, false, None),
     }

@@ -105,12 +105,37 @@ fn metadata_value(
     put(&mut fields, alloc, "fragments", Value::Array(fragments))?;
     let state = Value::try_from_str(alloc, state_name(metadata.state()))?;
     put(&mut fields, alloc, "state", state)?;
-    put(&mut fields, alloc, "lastEntryId", last_value(metadata.state()))?;
+    put(
+        &mut fields,
+        alloc,
+        "lastEntryId",
+        last_value(metadata.state()),
+    )?;
     put(&mut fields, alloc, "id", Value::from(id.0))?;
-    put(&mut fields, alloc, "ensembleSize", Value::from(metadata.size()))?;
-    put(&mut fields, alloc, "writeQuorumSize", Value::from(metadata.write_quorum()))?;
-    put(&mut fields, alloc, "ackQuorumSize", Value::from(metadata.ack_quorum()))?;
-    put(&mut fields, alloc, "version", Value::from(metadata.version()))?;
+    put(
+        &mut fields,
+        alloc,
+        "ensembleSize",
+        Value::from(metadata.size()),
+    )?;
+    put(
+        &mut fields,
+        alloc,
+        "writeQuorumSize",
+        Value::from(metadata.write_quorum()),
+    )?;
+    put(
+        &mut fields,
+        alloc,
+        "ackQuorumSize",
+        Value::from(metadata.ack_quorum()),
+    )?;
+    put(
+        &mut fields,
+        alloc,
+        "version",
+        Value::from(metadata.version()),
+    )?;
     Ok(Value::Object(fields))
 }
 
