@@ -221,16 +221,7 @@ fn play_on_by<C: Counter, V: Surveyor, P: Printer<C>, R: TextIn, W: TextOut>(
         surveyor,
         printer,
     };
-    let mut script = script;
-    match answer_reads(
-        &tools,
-        counter,
-        seat,
-        &mut hand,
-        &mut script,
-        reader,
-        writer,
-    ) {
+    match answer_reads(&tools, counter, seat, &mut hand, script, reader, writer) {
         Ok(()) => {
             give_back(counter, seat, hand, None);
             Ok(())
@@ -249,26 +240,26 @@ fn answer_reads<C: Counter, V: Surveyor, P: Printer<C>, R: TextIn, W: TextOut>(
     counter: &mut C,
     seat: &mut Seat,
     hand: &mut Hand,
-    script: &mut Vec<u8>,
+    script: Vec<u8>,
     reader: &mut R,
     writer: &mut W,
 ) -> Result<(), Stopped>
     requires may { C.may counter.old seat.old }
     requires surveys { V.surveys tools.now.surveyor.now }
-    requires few { length script.old.items ≤ MAX_SCRIPT_BYTES }
+    requires few { length script.items ≤ MAX_SCRIPT_BYTES }
     requires reads { R.has_failed reader.old ≡ false }
     requires writes { W.has_failed writer.old ≡ false }
     ensures may { C.may counter.new seat.new }
     ensures ok { OnOk result (PlaysTo (setting_by C.goes C.scene P.prints tools.now.names.now) (Ok tt)
-        (R.has_failed reader.new) (prepend_known script.old.items (R.remaining reader.old)) (R.remaining reader.new)
+        (R.has_failed reader.new) (prepend_known script.items (R.remaining reader.old)) (R.remaining reader.new)
         (player counter.old seat.old hand.old) (player counter.new seat.new hand.new)
         (W.contents writer.old) (W.contents writer.new)) }
     ensures err { IfErr result (λ s. PlaysTo (setting_by C.goes C.scene P.prints tools.now.names.now) (Err s.fault)
-        (R.has_failed reader.new) (prepend_known script.old.items (R.remaining reader.old)) (R.remaining reader.new)
+        (R.has_failed reader.new) (prepend_known script.items (R.remaining reader.old)) (R.remaining reader.new)
         (player counter.old seat.old hand.old) (with_ticket counter.new seat.new hand.new s.ticket)
         (W.contents writer.old) (W.contents writer.new)) }
     ensures prompt { (reader.new ≡ reader.old) ⊎ GoesOut (setting_by C.goes C.scene P.prints tools.now.names.now)
-        (prepend_known script.old.items (R.remaining reader.old)) (R.before reader.new)
+        (prepend_known script.items (R.remaining reader.old)) (R.before reader.new)
         (player counter.old seat.old hand.old)
         (W.contents writer.old) (W.seen writer.new) }
     ensures ended { OnOk result (IsAtEnd (R.remaining reader.new)) }
@@ -278,15 +269,16 @@ fn answer_reads<C: Counter, V: Surveyor, P: Printer<C>, R: TextIn, W: TextOut>(
         (λ s. W.has_failed writer.new ≡ is_write_fault (Err s.fault)) }
     ensures calls { R.calls reader.new ≤ R.calls reader.old + (MAX_SCRIPT_BYTES + 1) }
 {
+    let mut script = script;
     let mut done = 0;
     let mut number = 0;
-    let mut read = Progress::Lines(whole_lines(script).len());
+    let mut read = Progress::Lines(whole_lines(&script).len());
     while let Progress::Lines(end) = read {
         let lines = &script[done..end];
         number = answer_lines(tools, counter, seat, hand, number, lines, writer)?;
         done = end;
         writer.flush()?;
-        read = read_on(reader, script)?;
+        read = read_on(reader, &mut script)?;
     }
     match read {
         Progress::Lines(_) | Progress::End => {}

@@ -18,7 +18,7 @@ loop-read-init g c = record {
   may = c.requires.may;
   at = is_at_start (setting_by g.C.Counter.goes g.C.Counter.scene g.P.Printer.prints c.args.tools.now.names.now) [] _ _;
   whole = refl;
-  stands = stands_first c.args.script.now.items c.whole_lines.result.now _ _
+  stands = stands_first c.args.script.items c.whole_lines.result.now _ _
       (rw c.deref.ensures.value at c.whole_lines.ensures) c.requires.reads;
   out = inl refl;
   few = c.requires.few;
@@ -114,7 +114,7 @@ pub returns-in-Failed-clause-err : goal.returns-in-Failed-clause-err
 returns-in-Failed-clause-err g c =
     let place = setting_by g.C.Counter.goes g.C.Counter.scene g.P.Printer.prints c.args.tools.now.names.now in
     let ends = subst (λ (p : Progress). Stands p c.loop-read.done c.loop-read.script.items
-    (prepend_known c.args.script.now.items (g.R.TextIn.remaining c.args.reader.now)) (g.R.TextIn.remaining c.loop-read.reader)
+    (prepend_known c.args.script.items (g.R.TextIn.remaining c.args.reader.now)) (g.R.TextIn.remaining c.loop-read.reader)
     (g.R.TextIn.has_failed c.loop-read.reader)) c.in-Failed.is c.loop-read.invariant.stands in
     rw c.of.ensures (holds_none place _ _ _ _ _ _ _ _ _ _ (ends_failed place c.loop-read.script.items _ _ _ _ _ _ _ _
     ends.1 c.loop-read.invariant.few ends.2
@@ -124,7 +124,7 @@ pub returns-in-TooLong-clause-err : goal.returns-in-TooLong-clause-err
 returns-in-TooLong-clause-err g c =
     let place = setting_by g.C.Counter.goes g.C.Counter.scene g.P.Printer.prints c.args.tools.now.names.now in
     let ends = subst (λ (p : Progress). Stands p c.loop-read.done c.loop-read.script.items
-    (prepend_known c.args.script.now.items (g.R.TextIn.remaining c.args.reader.now)) (g.R.TextIn.remaining c.loop-read.reader)
+    (prepend_known c.args.script.items (g.R.TextIn.remaining c.args.reader.now)) (g.R.TextIn.remaining c.loop-read.reader)
     (g.R.TextIn.has_failed c.loop-read.reader)) c.in-TooLong.is c.loop-read.invariant.stands in
     rw c.of-in-TooLong.ensures (holds_none place _ _ _ _ _ _ _ _ _ _ (ends_long place c.loop-read.script.items ends.0 _ _ _ _
     _ _ _ _ ends.2 ends.3 ends.4
