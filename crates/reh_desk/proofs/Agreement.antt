@@ -1,5 +1,5 @@
 -- On seats that agree below a number.
-use Rattle.std.proofs.Common.{ℕ, ◌≤◌, ◌<◌, List, [], ◌∷◌, arith}
+use Rattle.std.proofs.Common.{ℕ, ◌≤◌, List, [], ◌∷◌, arith}
 use Rattle.reh_types.specs.declared.calls.Line.{Line}
 use Rattle.reh_desk.specs.Seats.{SeatView}
 use Rattle.reh_desk.specs.Desks.{AllAgree, AgreeBelow}

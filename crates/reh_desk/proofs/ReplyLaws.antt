@@ -1,12 +1,11 @@
 -- The derived `==` of refusals and of replies tells whether they are equal.
-use Rattle.std.proofs.Common.{◌≡◌, ℕ, Bool, true, false, refl, sym, ap, subst, nat_eq, true≢false}
+use Rattle.std.proofs.Common.{◌≡◌, ℕ, Bool, true, refl, sym, ap, subst, nat_eq, true≢false}
 use Rattle.std.specs.Prelude.{◌↔◌, IsTrue}
 use Rattle.reh_types.specs.declared.refusals.Refusal.{Refusal}
 use Rattle.reh_types.specs.declared.refusals.Refusal.TheVariants.{NoBookie, NoLedger, AlreadyDown, AlreadyUp, NothingToPublish, NoTask, Locked, NotOwner, StillUnder, NoLocks, NotOpen, NotNeeded, GraceSet, GraceRuns, NoGrace, BadTick, ClockEnd, NoFragment, NoIndex, MemberUp, TargetDown, TargetIsMember, NoEndpoint, Stale, NoSource, MissingEntry, Undecided, TooFew, NotRecovering, FragmentsFull, EntryEnd, VersionEnd, NothingToUndo, NothingToRedo, Full, SourceGone, NotOut, TapeFull, HandFull, HandEmpty, NoMemory, Disabled, AlreadyDisabled, AlreadyEnabled}
 use Rattle.reh_types.specs.declared.moves.Reply.{Reply}
 use Rattle.reh_types.specs.declared.moves.Reply.TheVariants.{Done, Clock, Issued, Discarded, Refused}
 use Rattle.reh_types.specs.contracts.refusals.RefusalPartialEq.TheImpl as refusals
-use Rattle.reh_types.specs.contracts.refusals.RefusalEq.TheImpl.Laws as refusal_laws
 use Rattle.reh_types.specs.contracts.moves.ReplyPartialEq.TheImpl as replies
 use Rattle.reh_types.specs.contracts.moves.ReplyEq.TheImpl.Laws as reply_laws
 use Rattle.std.specs.Cmp.{unsigned_Decides}

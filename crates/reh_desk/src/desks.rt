@@ -4,7 +4,7 @@ ghost use Rattle.reh_desk.specs.Desks.{AreNew, AreSeats, IsClosed};
 ghost use Rattle.reh_desk.specs.Closings.{IsUnsettled};
 ghost use Rattle.reh_desk.specs.Seats.{new_seat};
 
-use crate::books::Book;
+use crate::books::{Book, close};
 use crate::seats::Seat;
 use crate::settling::{Unsettled, are_seats};
 use reh_session::Session;
@@ -97,16 +97,21 @@ impl Desk {
         ensures ok { IfOk result (λ desk. desk ≡ record { opening = session; seats = seats }) }
         ensures err { IfErr result (λ e. e.0 ≡ session) }
     {
-        let opening = match session.clone_in() {
-            Ok(opening) => opening,
+        let copy = match session.clone_in() {
+            Ok(copy) => copy,
             Err(want) => return Err((session, want)),
         };
-        let book = Book::of(session)?;
-        Ok(Desk {
-            book: Mutex::new(book),
-            opening,
-            seats,
-        })
+        match Book::of(session) {
+            Ok(book) => Ok(Desk {
+                book: Mutex::new(book),
+                opening: copy,
+                seats,
+            }),
+            Err(back) => {
+                close(copy);
+                Err(back)
+            }
+        }
     }
 
     /// Closes a desk, once all its seats are back. It takes no memory. Where it doesn't close, desk and seats are
@@ -135,6 +140,7 @@ impl Desk {
         let book = book.into_inner();
         match book.settle(&opening, &seats) {
             Ok(()) => {
+                close(opening);
                 let (session, tape) = book.into_parts();
                 Ok(Closed { session, tape })
             }

@@ -373,14 +373,6 @@ pub ends_early : (desk : DeskView) (outcomes : List (Result Outcome PlayFault)) 
     → Appends old new (transcripts_of outcomes) → Ends desk outcomes (Err fault) old new
 ends_early desk outcomes reason fault old new first is written = inl (inl (reason, first, is), written)
 
--- where there is no memory for the seats
-pub ends_wanting : (desk : DeskView) (outcomes : List (Result Outcome PlayFault))
-    (result : Result (Unit {0}) DrillFault) (old new : Option (List ℕ)) → first_fault outcomes ≡ None
-    → Appends old new (transcripts_of outcomes) → IsErrAnd result (λ e. e ≡ NoMemory)
-    → Ends desk outcomes result old new
-ends_wanting desk outcomes (Ok done) old new fine written is = absurd is
-ends_wanting desk outcomes (Err e) old new fine written is = inl (inr (fine, inr is), written)
-
 -- as its desk is closed
 pub ends_closing : (desk : DeskView) (outcomes : List (Result Outcome PlayFault)) (seats : List SeatView)
     (result : Result (Unit {0}) DrillFault) (old mid new : Option (List ℕ)) → first_fault outcomes ≡ None

@@ -44,9 +44,20 @@ pub fn drill_over<R: Threads + Wait + Sync, G: Gate + Sync, W: TextOut>(
     ensures write { W.has_failed writer.new ≡ is_lost result }
 {
     let Room { desk, seats, names } = open_room(alloc, picture, scripts.len() as u32)?;
-    let outcomes = play_scripts(rt, alloc, gate, &desk, &names, seats, scripts)?;
-    end_drill(alloc, desk, outcomes, writer)
+    match play_scripts(rt, alloc, gate, &desk, &names, seats, scripts) {
+        Ok(outcomes) => end_drill(alloc, desk, outcomes, writer),
+        Err(want) => {
+            leave(desk);
+            Err(DrillFault::from(want))
+        }
+    }
 }
+
+/// Gives back the memory of a desk. Where it would be dropped, each way out would have a proof of that of its own.
+fn leave(_desk: Desk) {}
+
+/// Gives back the memory of what a desk handed out when it closed, for the same reason.
+fn give_up(_closed: Closed) {}
 
 /// Writes what the operators of a desk printed. Where each came to its script's end, it closes the desk and writes its
 /// text too.
@@ -62,12 +73,21 @@ fn end_drill<W: TextOut>(
     ensures ends { Ends desk outcomes.items result (W.contents writer.old) (W.contents writer.new) }
     ensures write { W.has_failed writer.new ≡ is_lost result }
 {
-    write_transcripts(writer, &outcomes, 1)?;
+    if let Err(lost) = write_transcripts(writer, &outcomes, 1) {
+        leave(desk);
+        return Err(DrillFault::from(lost));
+    }
     if let Some(fault) = first_fault(&outcomes) {
+        leave(desk);
         return Err(DrillFault::from(fault));
     }
-    let seats = seats_of(alloc, outcomes)?;
-    close_desk(alloc, desk, seats, writer)
+    match seats_of(alloc, outcomes) {
+        Ok(seats) => close_desk(alloc, desk, seats, writer),
+        Err(want) => {
+            leave(desk);
+            Err(DrillFault::from(want))
+        }
+    }
 }
 
 /// Closes a desk, and writes its text.
@@ -83,7 +103,9 @@ fn close_desk<W: TextOut>(
 {
     match desk.close(seats) {
         Ok(closed) => {
-            let text = closing_text(alloc, closed)?;
+            let text = closing_text(alloc, &closed);
+            give_up(closed);
+            let text = text?;
             write_text(writer, text.as_bytes())?;
             Ok(())
         }
@@ -95,7 +117,13 @@ fn close_desk<W: TextOut>(
 fn cause_of(fault: CloseFault) -> CloseCause
     ensures { result ≡ fault.cause }
 {
-    fault.cause
+    let CloseFault {
+        cause,
+        desk,
+        seats: _,
+    } = fault;
+    leave(desk);
+    cause
 }
 
 /// Writes the transcripts of operators, of whom the first has this number.
@@ -172,9 +200,9 @@ fn seats_of(
 }
 
 /// What is printed of a closed desk: how many lines its tape has, and the report of its session's state.
-fn closing_text(alloc: Global, closed: Closed) -> Result<String, AllocError>
+fn closing_text(alloc: Global, closed: &Closed) -> Result<String, AllocError>
     ensures { IfOk result (λ text. string_bytes text
-        ≡ end_text (length closed.tape.items) (state_of closed.session)) }
+        ≡ end_text (length closed.now.tape.items) (state_of closed.now.session)) }
 {
     let report = report_text(alloc, closed.session.state())?;
     format!(in alloc; "tape {}\n{report}", closed.tape.len())

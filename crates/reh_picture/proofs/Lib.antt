@@ -6,7 +6,6 @@ pub mod ContentsLemmas
 pub mod Greatest
 pub mod Rows
 pub mod PicturesLemmas
-pub mod Results
 mod Examples
 pub mod CountsLemmas
 pub mod MarksLemmas

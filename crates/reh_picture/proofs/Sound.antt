@@ -299,16 +299,6 @@ metadata_good names ledger d none =
       fragments = each;
     }
 
--- metadata whose fields and fragments have no fault, and which breaks no rule
-pub metadata_none : (names : List (List ℕ)) (ledger : ℕ) (d : Data)
-    → fault_at (place.Ledger ledger) (before_fragments d) ≡ None
-    → fragments_fault names ledger (list_of d field.Fragments) ≡ None → meta.fault_of (pictured_metadata names d) ≡ None
-    → metadata_fault names ledger d ≡ None
-unfolding metadata_fault
-metadata_none names ledger d fields fragments rules = λ i.
-    option_or (fields i) (option_or (fragments i)
-    (option_or (fault_at (place.Ledger ledger) (option_map (broken_rule (number_of d field.Id)) (rules i))) None))
-
 -- words that reach a greatest entry which there can be
 words_to-low : (greatest : Option ℕ) → ForSome greatest (λ entry. entry < ENTRY_END)
     → ENTRIES_IN_WORD * words_to greatest ≤ ENTRY_END

@@ -2,15 +2,15 @@
 ghost use Rattle.std.specs.Prelude.{◌≡◌, ◌<◌, ◌≤◌, [], ◌∷◌, ◌++◌, length, map, None, Some, if◌then◌else◌, IfOk, OnOk};
 ghost use Rattle.serde_json.specs.View.{view};
 ghost use Rattle.reh_types.specs.declared.limits.TheConstants.{MAX_BOOKIES};
-ghost use Rattle.reh_fields.specs.Faults.{FailsWith};
 ghost use Rattle.reh_fields.specs.Members.{text_of, list_of};
 ghost use Rattle.reh_picture.specs.Places.{FailsAt, fault_at};
 ghost use Rattle.reh_picture.specs.Bookies.{bookie_fault, each_bookie_fault, bookies_fault, names_in, registration_in};
 ghost use Rattle.reh_picture.specs.Bookies.{registrations_in};
 
+use crate::members::list_of_picture;
 use crate::places::{LocatedFault, Place};
 use reh_cluster::Names;
-use reh_fields::members::{flag, list_within};
+use reh_fields::members::flag;
 use reh_fields::names::read_name;
 use reh_fields::{Field, PictureFault};
 use reh_types::MAX_BOOKIES;
@@ -29,9 +29,7 @@ pub(crate) fn read_bookies(
         (λ r. r.1.items ≡ registrations_in (list_of (view picture.now) Field.Bookies)) }
     ensures some { IfOk result (λ r. 0 < length r.0) }
 {
-    let bookies = list_within(picture, Field::Bookies, 1, MAX_BOOKIES).map_err(
-        |fault| LocatedFault::new(fault, Place::Picture),
-    )?;
+    let bookies = list_of_picture(picture, Field::Bookies, 1, MAX_BOOKIES)?;
     read_each_bookie(alloc, bookies)
 }
 
@@ -51,7 +49,7 @@ fn read_each_bookie(
     let mut lost_at = Vec::with_capacity(alloc, bookies.len())?;
     let mut names = Names::new(alloc);
     for (i, bookie) in bookies.iter().enumerate() {
-        add_bookie_at(alloc, &mut names, &mut lost_at, i, bookie)?;
+        add_bookie(alloc, &mut names, &mut lost_at, i, bookie)?;
     }
     Ok((names, lost_at))
 }
@@ -64,7 +62,7 @@ fn registration_of(registered: bool) -> Option<u64>
 }
 
 /// Adds the name and the registration of the bookie of this number. After an `Err` the names may have its name.
-fn add_bookie_at(
+fn add_bookie(
     alloc: Global,
     names: &mut Names,
     lost_at: &mut Vec<Option<u64>>,
@@ -79,28 +77,11 @@ fn add_bookie_at(
     ensures registered { OnOk result
         (lost_at.new.items ≡ lost_at.old.items ++ registration_in (view bookie.now) ∷ []) }
 {
-    match add_bookie(alloc, names, lost_at, bookie) {
-        Ok(()) => Ok(()),
+    if let Err(fault) = read_name(alloc, names, bookie) {
+        return Err(LocatedFault::new(fault, Place::Bookie(number)));
+    }
+    match flag(bookie, Field::Up) {
+        Ok(is_up) => Ok(lost_at.push(registration_of(is_up))?),
         Err(fault) => Err(LocatedFault::new(fault, Place::Bookie(number))),
     }
-}
-
-/// The same without a place.
-fn add_bookie(
-    alloc: Global,
-    names: &mut Names,
-    lost_at: &mut Vec<Option<u64>>,
-    bookie: &Value,
-) -> Result<(), PictureFault>
-    requires { length names.old < MAX_BOOKIES }
-    ensures fault { FailsWith result (bookie_fault names.old (view bookie.now)) }
-    ensures named { OnOk result
-        (names.new ≡ names.old ++ text_of (view bookie.now) Field.Name ∷ []) }
-    ensures registered { OnOk result
-        (lost_at.new.items ≡ lost_at.old.items ++ registration_in (view bookie.now) ∷ []) }
-{
-    read_name(alloc, names, bookie)?;
-    let is_up = flag(bookie, Field::Up)?;
-    lost_at.push(registration_of(is_up))?;
-    Ok(())
 }

@@ -2,7 +2,7 @@
 ghost use Rattle.std.specs.Prelude.{◌≡◌, ◌≤◌, ◌<◌, ◌+◌, ◌*◌, length, [], ◌∷◌, ◌++◌, ℕ, Some, map, fold, max, cond};
 ghost use Rattle.std.specs.Prelude.{nat_eq, IfOk, OnOk, All};
 ghost use Rattle.std.specs.List.{IsDistinct};
-ghost use Rattle.std.specs.Option.{option_map_or};
+ghost use Rattle.std.specs.Option.{ok_or, option_map_or};
 ghost use Rattle.std.specs.BTreeMap.{get};
 ghost use Rattle.std.specs.Ordering.{nat_cmp};
 ghost use Rattle.std.specs.Result.{result_err};
@@ -10,6 +10,7 @@ ghost use Rattle.serde_json.specs.View.{view};
 ghost use Rattle.reh_types.specs.declared.limits.TheConstants.{ENTRIES_IN_WORD, ENTRY_END, MAX_LEDGERS};
 ghost use Rattle.reh_types.specs.Sets as set;
 ghost use Rattle.reh_fields.specs.Faults.{FailsWith};
+ghost use Rattle.reh_fields.specs.declared.faults.PictureFault.TheVariants.{WrongKind};
 ghost use Rattle.reh_fields.specs.Members.{list_of};
 ghost use Rattle.reh_picture.specs.Places.{FailsAt, fault_at};
 ghost use Rattle.reh_picture.specs.Contents.{two_numbers as two_numbers_in, ends_in, ends_of, range_fault};
@@ -19,10 +20,11 @@ ghost use Rattle.reh_picture.specs.Contents.{IsGreatest, HasEnds, FitsIn};
 ghost use Rattle.reh_model.specs.Contents.{Contents};
 ghost use Rattle.reh_cluster.specs.Parts.{HasRows};
 
+use crate::members::list_at;
 use crate::places::{LocatedFault, Place};
 use indexmap::IndexSet;
 use reh_cluster::{Ledger, Names};
-use reh_fields::members::{list, mark, number, text};
+use reh_fields::members::{mark, number, text};
 use reh_fields::names::known_bookie;
 use reh_fields::{FaultName, Field, LedgerFlaw, PictureFault, Repeated};
 use reh_held::Held;
@@ -31,17 +33,6 @@ use serde_json::Value;
 use std::alloc::{AllocError, Global};
 use std::collections::BTreeMap;
 use std::marker::Model;
-
-/// The first and the last entry of a range, as the picture has them.
-fn read_ends(range: &Value) -> Result<(u64, u64), PictureFault>
-    ensures { result ≡ ends_in (view range.now) }
-{
-    let ends = match range.as_array() {
-        Some(list) => two_numbers(list),
-        None => None,
-    };
-    ends.ok_or(PictureFault::WrongKind(Field::Entries))
-}
 
 /// The numbers of a list that has two and nothing else.
 fn two_numbers(list: &[Value]) -> Option<(u64, u64)>
@@ -53,27 +44,29 @@ fn two_numbers(list: &[Value]) -> Option<(u64, u64)>
     }
 }
 
-/// A range of entries that begins at the least entry or after it.
-fn read_range(least: u64, range: &Value) -> Result<(u32, u32), PictureFault>
-    ensures fault { result_err result ≡ range_fault least (view range.now) }
-    ensures ends { IfOk result (λ ends. ends ≡ ends_of (view range.now)) }
+/// The first and the last entry of a range, as the picture has them.
+fn ends_of_range(range: &Value) -> Option<(u64, u64)>
+    ensures { ok_or result (WrongKind Field.Entries) ≡ ends_in (view range.now) }
 {
-    let (first, last) = read_ends(range)?;
-    if first < least || last < first || last > MAX_ENTRY_ID {
-        return Err(PictureFault::Limit(Field::Entries));
+    match range.as_array() {
+        Some(list) => two_numbers(list),
+        None => None,
     }
-    Ok((first as u32, last as u32))
 }
 
-/// The range at this place.
-fn read_range_at(least: u64, here: Place, range: &Value) -> Result<(u32, u32), LocatedFault>
+/// The range of entries at this place, which begins at the least entry or after it.
+fn read_range(least: u64, here: Place, range: &Value) -> Result<(u32, u32), LocatedFault>
     ensures fault { FailsAt result (fault_at here (range_fault least (view range.now))) }
     ensures ends { IfOk result (λ ends. ends ≡ ends_of (view range.now)) }
 {
-    match read_range(least, range) {
-        Ok(ends) => Ok(ends),
-        Err(fault) => Err(LocatedFault::new(fault, here)),
+    let Some((first, last)) = ends_of_range(range) else {
+        let fault = PictureFault::WrongKind(Field::Entries);
+        return Err(LocatedFault::new(fault, here));
+    };
+    if first < least || last < first || last > MAX_ENTRY_ID {
+        return Err(LocatedFault::new(PictureFault::Limit(Field::Entries), here));
     }
+    Ok((first as u32, last as u32))
 }
 
 /// The ranges of entries of the content of this number, each past those before it.
@@ -89,7 +82,7 @@ fn read_ranges(
     let mut ranges = Vec::new(alloc);
     let mut least = 0;
     for (i, value) in values.iter().enumerate() {
-        let (first, last) = read_range_at(least, Place::Range { content, range: i }, value)?;
+        let (first, last) = read_range(least, Place::Range { content, range: i }, value)?;
         ranges.push((first, last))?;
         least = last as u64 + 1;
     }
@@ -177,33 +170,37 @@ fn read_pair(
     Ok((bookie, LedgerId(id)))
 }
 
-/// The holding of this number; its bookie and ledger join the pairs. After an `Err` they may be there.
-fn read_holding(
+/// Adds the holding of this number; its bookie and ledger join the pairs. After an `Err` they may be there.
+fn add_content(
     alloc: Global,
     names: &Names,
     ids: &IndexSet<u64>,
     pairs: &mut IndexSet<(u8, u64)>,
+    holdings: &mut Vec<Holding>,
     number: usize,
     content: &Value,
-) -> Result<Holding, LocatedFault>
+) -> Result<(), LocatedFault>
     ensures fault { FailsAt result
         (content_fault names.now ids.now.keys number pairs.old.keys (view content.now)) }
     ensures pairs { OnOk result
         (pairs.new.keys ≡ pairs.old.keys ++ pair_of names.now (view content.now) ∷ []) }
-    ensures holding { IfOk result (λ h. h ≡ holding_in names.now (view content.now)) }
+    ensures holdings { OnOk result
+        (holdings.new.items ≡ holdings.old.items ++ holding_in names.now (view content.now) ∷ []) }
 {
     let here = Place::Content(number);
-    let (bookie, ledger) = read_pair(alloc, names, ids, pairs, content).map_err(
-        |fault| LocatedFault::new(fault, here),
-    )?;
-    let entries = list(content, Field::Entries).map_err(|fault| LocatedFault::new(fault, here))?;
+    let (bookie, ledger) = match read_pair(alloc, names, ids, pairs, content) {
+        Ok(pair) => pair,
+        Err(fault) => return Err(LocatedFault::new(fault, here)),
+    };
+    let entries = list_at(content, Field::Entries, here)?;
     let ranges = read_ranges(alloc, number, entries)?;
-    Ok(Holding {
+    holdings.push(Holding {
         bookie,
         ledger,
         is_assumed: mark(content, Field::Assumed),
         ranges,
-    })
+    })?;
+    Ok(())
 }
 
 /// What the bookies of a picture hold, as ranges.
@@ -219,10 +216,7 @@ pub(crate) fn read_contents(
         (λ holdings. holdings.items
         ≡ map (holding_in names.now) (list_of (view picture.now) Field.Contents)) }
 {
-    let contents = list(picture, Field::Contents).map_err(|fault| LocatedFault::new(
-        fault,
-        Place::Picture,
-    ))?;
+    let contents = list_at(picture, Field::Contents, Place::Picture)?;
     read_each_content(alloc, names, ids, contents)
 }
 
@@ -242,7 +236,7 @@ fn read_each_content(
     let mut pairs = IndexSet::new(alloc);
     let mut holdings = Vec::new(alloc);
     for (i, value) in values.iter().enumerate() {
-        holdings.push(read_holding(alloc, names, ids, &mut pairs, i, value)?)?;
+        add_content(alloc, names, ids, &mut pairs, &mut holdings, i, value)?;
     }
     Ok(holdings)
 }
@@ -285,7 +279,10 @@ fn note_end(
         (Some (option_map_or (λ end. max end last) (get nat_cmp ends.old q) last))
         (get nat_cmp ends.old q)) }
 {
-    let greatest = ends.get(&ledger).copied().map_or(last, |end| end.max(last));
+    let greatest = match ends.get(&ledger) {
+        Some(end) => last.max(*end),
+        None => last,
+    };
     ends.insert(ledger, greatest)?;
     Ok(())
 }

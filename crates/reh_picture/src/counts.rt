@@ -38,13 +38,18 @@ impl Counts {
         ensures { result ≡ counts_of state.now }
     {
         let ledgers = state.ledgers();
+        let InStates {
+            open,
+            in_recovery,
+            closed,
+        } = count_states(ledgers);
         Counts {
             bookies: state.names().len(),
             up: count_up(state),
             ledgers: ledgers.len(),
-            open: count_open(ledgers),
-            in_recovery: count_in_recovery(ledgers),
-            closed: count_closed(ledgers),
+            open,
+            in_recovery,
+            closed,
             fragments: count_fragments(ledgers),
             entries: count_entries(state),
             words: words_in_all(state.names().len(), ledgers),
@@ -113,47 +118,34 @@ fn count_fragments(ledgers: &[Ledger]) -> usize
     fragments
 }
 
-/// How many ledgers are OPEN.
-fn count_open(ledgers: &[Ledger]) -> usize
-    ensures { result ≡ count_by (λ g. meta.is_open g.metadata.state) ledgers.now }
-{
-    ledgers.iter().filter(|ledger| is_open(ledger)).count()
+/// How many of some ledgers are in each state.
+struct InStates {
+    open: usize,
+    in_recovery: usize,
+    closed: usize,
 }
 
-/// Whether a ledger is OPEN.
-fn is_open(ledger: &Ledger) -> bool
-    ensures { result ≡ meta.is_open ledger.now.metadata.state }
+/// How many ledgers are in each state.
+fn count_states(ledgers: &[Ledger]) -> InStates
+    requires { length ledgers.now ≤ MAX_LEDGERS }
+    ensures is_open { result.open ≡ count_by (λ g. meta.is_open g.metadata.state) ledgers.now }
+    ensures in_recovery { result.in_recovery
+        ≡ count_by (λ g. meta.is_in_recovery g.metadata.state) ledgers.now }
+    ensures closed { result.closed ≡ count_by (λ g. is_closed_state g.metadata.state) ledgers.now }
 {
-    matches!(ledger.metadata().state(), LedgerState::Open)
-}
-
-/// How many ledgers are IN_RECOVERY.
-fn count_in_recovery(ledgers: &[Ledger]) -> usize
-    ensures { result ≡ count_by (λ g. meta.is_in_recovery g.metadata.state) ledgers.now }
-{
-    ledgers
-        .iter()
-        .filter(|ledger| is_in_recovery(ledger))
-        .count()
-}
-
-/// Whether a ledger is IN_RECOVERY.
-fn is_in_recovery(ledger: &Ledger) -> bool
-    ensures { result ≡ meta.is_in_recovery ledger.now.metadata.state }
-{
-    matches!(ledger.metadata().state(), LedgerState::InRecovery)
-}
-
-/// How many ledgers are CLOSED.
-fn count_closed(ledgers: &[Ledger]) -> usize
-    ensures { result ≡ count_by (λ g. is_closed_state g.metadata.state) ledgers.now }
-{
-    ledgers.iter().filter(|ledger| is_closed(ledger)).count()
-}
-
-/// Whether a ledger is CLOSED.
-fn is_closed(ledger: &Ledger) -> bool
-    ensures { result ≡ is_closed_state ledger.now.metadata.state }
-{
-    matches!(ledger.metadata().state(), LedgerState::Closed { .. })
+    let mut open = 0;
+    let mut in_recovery = 0;
+    let mut closed = 0;
+    for ledger in ledgers {
+        match ledger.metadata().state() {
+            LedgerState::Open => open += 1,
+            LedgerState::InRecovery => in_recovery += 1,
+            LedgerState::Closed { .. } => closed += 1,
+        }
+    }
+    InStates {
+        open,
+        in_recovery,
+        closed,
+    }
 }

@@ -18,6 +18,7 @@ ghost use Rattle.reh_picture.specs.Ledgers.{pictured_metadata, id_fault, ledger_
 ghost use Rattle.reh_picture.specs.Ledgers.{listed_in, ledger_of, ids_in, broken_rule};
 ghost use Rattle.reh_picture.specs.Contents.{words_to as words_to_greatest};
 
+use crate::members::list_of_picture;
 use crate::places::{LocatedFault, Place};
 use indexmap::IndexSet;
 use reh_cluster::{Ledger, Names};
@@ -34,20 +35,8 @@ use std::alloc::{AllocError, Global};
 use std::collections::BTreeMap;
 use std::marker::Model;
 
-/// A member of an ensemble.
-fn read_member(alloc: Global, names: &Names, member: &Value) -> Result<BookieIx, PictureFault>
-    ensures fault { FailsWith result (member_fault names.now (view member.now)) }
-    ensures bookie { IfOk result
-        (λ bookie. bookie ≡ bookie_in names.now (member_name (view member.now))) }
-{
-    let name = member
-        .as_str()
-        .ok_or(PictureFault::WrongKind(Field::Ensemble))?;
-    known_bookie(alloc, names, name)
-}
-
-/// The member at this place.
-fn read_member_at(
+/// The member of an ensemble at this place.
+fn read_member(
     alloc: Global,
     names: &Names,
     here: Place,
@@ -57,7 +46,11 @@ fn read_member_at(
     ensures bookie { IfOk result
         (λ bookie. bookie ≡ bookie_in names.now (member_name (view member.now))) }
 {
-    match read_member(alloc, names, member) {
+    let Some(name) = member.as_str() else {
+        let fault = PictureFault::WrongKind(Field::Ensemble);
+        return Err(LocatedFault::new(fault, here));
+    };
+    match known_bookie(alloc, names, name) {
         Ok(bookie) => Ok(bookie),
         Err(fault) => Err(LocatedFault::new(fault, here)),
     }
@@ -84,7 +77,7 @@ fn read_ensemble(
             fragment,
             member: i,
         };
-        ensemble.push(read_member_at(alloc, names, here, member)?)?;
+        ensemble.push(read_member(alloc, names, here, member)?)?;
     }
     Ok(ensemble)
 }
@@ -121,9 +114,10 @@ fn read_fragment(
         ledger,
         fragment: number,
     };
-    let (first, members) = fragment_fields(fragment).map_err(|fault| LocatedFault::new(
-        fault, here,
-    ))?;
+    let (first, members) = match fragment_fields(fragment) {
+        Ok(fields) => fields,
+        Err(fault) => return Err(LocatedFault::new(fault, here)),
+    };
     let ensemble = read_ensemble(alloc, names, ledger, number, members)?;
     Ok(Fragment { first, ensemble })
 }
@@ -268,7 +262,10 @@ fn read_metadata(
         sizes,
         version,
         fragments,
-    } = metadata_fields(ledger).map_err(|fault| LocatedFault::new(fault, here))?;
+    } = match metadata_fields(ledger) {
+        Ok(fields) => fields,
+        Err(fault) => return Err(LocatedFault::new(fault, here)),
+    };
     let fragments = read_fragments(alloc, names, number, fragments)?;
     match LedgerMeta::try_new(alloc, sizes, state, version, &fragments) {
         Ok(metadata) => Ok(metadata),
@@ -350,9 +347,7 @@ pub(crate) fn read_ledgers(
         ledgers.listed.items
         ≡ map (listed_in names.now) (list_of (view picture.now) Field.Ledgers)) }
 {
-    let ledgers = list_within(picture, Field::Ledgers, 0, MAX_LEDGERS).map_err(
-        |fault| LocatedFault::new(fault, Place::Picture),
-    )?;
+    let ledgers = list_of_picture(picture, Field::Ledgers, 0, MAX_LEDGERS)?;
     read_each_ledger(alloc, names, ledgers)
 }
 
@@ -390,10 +385,10 @@ fn add_ledger(
         (ledgers.new.listed.items
         ≡ ledgers.old.listed.items ++ listed_in names.now (view ledger.now) ∷ []) }
 {
-    let id = read_id(&mut ledgers.ids, ledger).map_err(|fault| LocatedFault::new(
-        fault,
-        Place::Ledger(number),
-    ))?;
+    let id = match read_id(&mut ledgers.ids, ledger) {
+        Ok(id) => id,
+        Err(fault) => return Err(LocatedFault::new(fault, Place::Ledger(number))),
+    };
     let metadata = read_metadata(alloc, names, number, id, ledger)?;
     ledgers.listed.push(ListedLedger { id, metadata })?;
     Ok(())

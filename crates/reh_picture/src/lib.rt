@@ -8,6 +8,7 @@ mod laws;
 mod ledgers;
 mod listings;
 mod marks;
+mod members;
 mod pictures;
 mod places;
 

@@ -26,8 +26,7 @@ pub fn list_picture(alloc: Global, bytes: &[u8]) -> Result<Listed, LocatedFault>
     ensures fault { FailsAt result (located_listing bytes.now) }
 {
     let picture = read_json(alloc, bytes)?;
-    let listed = list_value(alloc, &picture)?;
-    Ok(listed)
+    list_value(alloc, &picture)
 }
 
 /// What a picture's fields list, and their marks.
@@ -36,6 +35,11 @@ fn list_value(alloc: Global, picture: &Value) -> Result<Listed, LocatedFault>
     ensures fault { FailsAt result (listing_fault (view picture.now)) }
 {
     let listing = read_listing(alloc, picture)?;
-    let marks = read_marks(alloc, picture)?;
-    Ok(Listed { listing, marks })
+    match read_marks(alloc, picture) {
+        Ok(marks) => Ok(Listed { listing, marks }),
+        Err(fault) => {
+            listing.close();
+            Err(fault)
+        }
+    }
 }

@@ -6,11 +6,12 @@ ghost use Rattle.serde_json.specs.View.{view};
 ghost use Rattle.reh_fields.specs.Names.{is_name as is_rack_name};
 ghost use Rattle.reh_fields.specs.Faults.{FailsWith};
 ghost use Rattle.reh_picture.specs.Marks as model;
-ghost use Rattle.reh_fields.specs.Members.{flag_if_there as flag_if_there_in, list_in, list_of};
+ghost use Rattle.reh_fields.specs.Members.{flag_if_there as flag_if_there_in, list_of};
 ghost use Rattle.reh_picture.specs.Places.{FailsAt, fault_at};
 
+use crate::members::list_at;
 use crate::places::{LocatedFault, Place};
-use reh_fields::members::{flag_if_there, list};
+use reh_fields::members::flag_if_there;
 use reh_fields::names::is_name;
 use reh_fields::{Field, PictureFault};
 use serde_json::Value;
@@ -72,7 +73,9 @@ fn read_rack(alloc: Global, bookie: &Value) -> Result<Option<String>, PictureFau
     let Some(value) = bookie.get(Field::Rack.name()) else {
         return Ok(None);
     };
-    let rack = value.as_str().ok_or(PictureFault::WrongKind(Field::Rack))?;
+    let Some(rack) = value.as_str() else {
+        return Err(PictureFault::WrongKind(Field::Rack));
+    };
     if !is_name(rack.as_bytes()) {
         return Err(PictureFault::Limit(Field::Rack));
     }
@@ -95,23 +98,8 @@ fn read_bookie_marks(alloc: Global, bookie: &Value) -> Result<BookieMarks, Pictu
     })
 }
 
-/// Adds the marks of one bookie more.
-fn add_bookie(
-    alloc: Global,
-    marks: &mut Vec<BookieMarks>,
-    bookie: &Value,
-) -> Result<(), PictureFault>
-    ensures fault { FailsWith result (model.bookie_marks_fault (view bookie.now)) }
-    ensures marks { OnOk result
-        (marks.new.items ≡ marks.old.items ++ model.bookie_marks (view bookie.now) ∷ []) }
-{
-    let one = read_bookie_marks(alloc, bookie)?;
-    marks.push(one)?;
-    Ok(())
-}
-
 /// Adds the marks of the bookie of this number.
-fn add_bookie_at(
+fn add_bookie(
     alloc: Global,
     marks: &mut Vec<BookieMarks>,
     number: usize,
@@ -122,8 +110,8 @@ fn add_bookie_at(
     ensures marks { OnOk result
         (marks.new.items ≡ marks.old.items ++ model.bookie_marks (view bookie.now) ∷ []) }
 {
-    match add_bookie(alloc, marks, bookie) {
-        Ok(()) => Ok(()),
+    match read_bookie_marks(alloc, bookie) {
+        Ok(one) => Ok(marks.push(one)?),
         Err(fault) => Err(LocatedFault::new(fault, Place::Bookie(number))),
     }
 }
@@ -137,7 +125,7 @@ fn read_each_bookie(alloc: Global, bookies: &[Value]) -> Result<Vec<BookieMarks>
 {
     let mut marks = Vec::new(alloc);
     for (i, bookie) in bookies.iter().enumerate() {
-        add_bookie_at(alloc, &mut marks, i, bookie)?;
+        add_bookie(alloc, &mut marks, i, bookie)?;
     }
     Ok(marks)
 }
@@ -164,27 +152,15 @@ fn check_each_content(contents: &[Value]) -> Result<(), LocatedFault>
     Ok(())
 }
 
-/// A list of a picture.
-fn list_at(picture: &Value, field: Field) -> Result<&[Value], LocatedFault>
-    ensures fault { FailsAt result
-        (fault_at Place.Picture (result_err (list_in (view picture.now) field))) }
-    ensures list { IfOk result (λ list. list_of (view picture.now) field ≡ map view list.now) }
-{
-    match list(picture, field) {
-        Ok(list) => Ok(list),
-        Err(fault) => Err(LocatedFault::new(fault, Place::Picture)),
-    }
-}
-
 /// The marks of a picture's bookies, once those of its contents have no fault either.
 pub(crate) fn read_marks(alloc: Global, picture: &Value) -> Result<Vec<BookieMarks>, LocatedFault>
     ensures fault { FailsAt result (model.marks_fault (view picture.now)) }
     ensures marks { IfOk result (λ marks. marks.items
         ≡ map model.bookie_marks (list_of (view picture.now) Field.Bookies)) }
 {
-    let bookies = list_at(picture, Field::Bookies)?;
+    let bookies = list_at(picture, Field::Bookies, Place::Picture)?;
     let marks = read_each_bookie(alloc, bookies)?;
-    let contents = list_at(picture, Field::Contents)?;
+    let contents = list_at(picture, Field::Contents, Place::Picture)?;
     check_each_content(contents)?;
     Ok(marks)
 }

@@ -58,8 +58,7 @@ pub fn check_picture(alloc: Global, bytes: &[u8]) -> Result<State, LocatedFault>
         → located_picture_of bytes.now ≡ Err (located.fault, located.place)) }
 {
     let picture = read_json(alloc, bytes)?;
-    let state = read_cluster(alloc, &picture)?;
-    Ok(state)
+    read_cluster(alloc, &picture)
 }
 
 /// The JSON value of a picture's bytes.
@@ -193,8 +192,7 @@ fn reaching(
         × (ledgers.items ≡ map (ledger_of ends) listed.items)) }
 {
     let greatest = greatest_ends(alloc, holdings)?;
-    let ledgers = with_words(alloc, listed, &greatest)?;
-    Ok(ledgers)
+    with_words(alloc, listed, &greatest)
 }
 
 /// How many words of entries so many bookies take, each as many for a ledger as it has.
@@ -266,7 +264,10 @@ fn read_parts(alloc: Global, picture: &Value) -> Result<PictureParts, LocatedFau
         p.names p.lost_at.items p.ticks.grace p.ticks.delay p.listed.items p.holdings.items) }
     ensures ids { IfOk result (λ p. p.ids.keys ≡ ids_of (view picture.now)) }
 {
-    let ticks = read_ticks_at(picture)?;
+    let ticks = match read_ticks(picture) {
+        Ok(ticks) => ticks,
+        Err(fault) => return Err(LocatedFault::new(fault, Place::Picture)),
+    };
     let (names, lost_at) = read_bookies(alloc, picture)?;
     match read_lists(alloc, &names, picture) {
         Ok((ledgers, holdings)) => {
@@ -281,19 +282,6 @@ fn read_parts(alloc: Global, picture: &Value) -> Result<PictureParts, LocatedFau
             })
         }
         Err(fault) => Err(fault),
-    }
-}
-
-/// The grace and the delay of a picture, in ticks, or a fault with its place.
-fn read_ticks_at(picture: &Value) -> Result<Ticks, LocatedFault>
-    ensures fault { FailsAt result (fault_at Place.Picture (head_fault (view picture.now))) }
-    ensures grace { IfOk result
-        (λ ticks. ticks.grace ≡ number_of (view picture.now) Field.Grace) }
-    ensures delay { IfOk result (λ ticks. ticks.delay ≡ delay_of (view picture.now)) }
-{
-    match read_ticks(picture) {
-        Ok(ticks) => Ok(ticks),
-        Err(fault) => Err(LocatedFault::new(fault, Place::Picture)),
     }
 }
 

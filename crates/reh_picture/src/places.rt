@@ -65,7 +65,7 @@ impl fmt::Display for Place {
 
     fn fmt<W: fmt::Write>(&self, f: &mut fmt::Formatter<W>) -> fmt::Result {
         match self {
-            Place::Picture => write!(f, "picture"),
+            Place::Picture => f.write_str("picture"),
             Place::Bookie(bookie) => write!(f, "bookies[{bookie}]"),
             Place::Ledger(ledger) => write!(f, "ledgers[{ledger}]"),
             Place::Fragment { ledger, fragment } => {
@@ -101,9 +101,9 @@ impl fmt::Display for Path {
     fn fmt<W: fmt::Write>(&self, f: &mut fmt::Formatter<W>) -> fmt::Result {
         let Path { place, field } = *self;
         if field.name() == place.element().name() {
-            write!(f, "{place}")
+            fmt::Display::fmt(&place, f)
         } else if matches!(place, Place::Picture) {
-            write!(f, "{field}")
+            f.write_str(field.name())
         } else {
             write!(f, "{place}.{field}")
         }

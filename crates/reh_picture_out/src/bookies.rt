@@ -1,13 +1,13 @@
 // The bookies of a picture, as JSON.
 ghost use Rattle.std.specs.Prelude.{◌≡◌, ◌&&◌, nat_eq, map, IfOk};
 ghost use Rattle.serde_json.specs.View.{view};
-ghost use Rattle.reh_picture_out.specs.Marks.{no_marks};
+ghost use Rattle.std.specs.Option.{option_map};
 ghost use Rattle.reh_picture_out.specs.Written.{name_at, bookie_data, bookie_data_at, bookies_data};
 
 use reh_cluster::{Names, State};
 use reh_picture::BookieMarks;
 use reh_types::BookieIx;
-use serde_json::{Value, json};
+use serde_json::{Map, Value, put};
 use std::alloc::{AllocError, Global};
 
 /// The name of a bookie, no letter where there is no such bookie.
@@ -20,42 +20,41 @@ pub(crate) fn name_of(names: &Names, bookie: BookieIx) -> &str
     }
 }
 
-/// A bookie with its marks, but for whether it came back without its disk, which is told.
+/// A bookie with these marks.
 fn marked_value(
-    alloc: Global,
-    name: &str,
-    up: bool,
-    marks: &BookieMarks,
-    is_empty: bool,
-) -> Result<Value, AllocError>
-    ensures { IfOk result
-        (λ v. view v ≡ bookie_data name.now up (record marks.now { is_empty = is_empty })) }
-{
-    let is_read_only = marks.is_read_only();
-    match marks.rack() {
-        Some(rack) => json!(in alloc; {
-            "name": name,
-            "up": up,
-            "readOnly": is_read_only,
-            "empty": is_empty,
-            "rack": rack
-        }),
-        None => unracked_value(alloc, name, up, is_read_only, is_empty),
-    }
-}
-
-/// A bookie without a rack.
-fn unracked_value(
     alloc: Global,
     name: &str,
     up: bool,
     is_read_only: bool,
     is_empty: bool,
+    rack: Option<&str>,
 ) -> Result<Value, AllocError>
-    ensures { IfOk result (λ v. view v
-        ≡ bookie_data name.now up (record no_marks { is_read_only = is_read_only; is_empty = is_empty })) }
+    ensures { IfOk result (λ v. view v ≡ bookie_data name.now up (record {
+      is_read_only = is_read_only;
+      is_empty = is_empty;
+      rack = option_map (λ rack. rack.now) rack.entry;
+    })) }
 {
-    json!(in alloc; {"name": name, "up": up, "readOnly": is_read_only, "empty": is_empty})
+    let mut fields = Map::new(alloc);
+    put(
+        &mut fields,
+        alloc,
+        "name",
+        Value::try_from_str(alloc, name)?,
+    )?;
+    put(&mut fields, alloc, "up", Value::from(up))?;
+    put(&mut fields, alloc, "readOnly", Value::from(is_read_only))?;
+    put(&mut fields, alloc, "empty", Value::from(is_empty))?;
+    let Some(rack) = rack else {
+        return Ok(Value::Object(fields));
+    };
+    put(
+        &mut fields,
+        alloc,
+        "rack",
+        Value::try_from_str(alloc, rack)?,
+    )?;
+    Ok(Value::Object(fields))
 }
 
 /// Whether a bookie that came back without its disk, or not, is marked so once it holds so many entries.
@@ -81,13 +80,16 @@ fn bookie_value_at(
     match marks.get(bookie.0 as usize) {
         Some(marks) => {
             let is_empty = stays_empty(marks, count);
-            let value = marked_value(alloc, name, up, marks, is_empty)?;
-            Ok(value)
+            marked_value(
+                alloc,
+                name,
+                up,
+                marks.is_read_only(),
+                is_empty,
+                marks.rack(),
+            )
         }
-        None => {
-            let value = unracked_value(alloc, name, up, false, false)?;
-            Ok(value)
-        }
+        None => marked_value(alloc, name, up, false, false, None),
     }
 }
 

@@ -65,8 +65,7 @@ fn held_ranges(
         → is_in ranges.items e ≡ has state.now.parts.held bookie ledger.now.id e) }
 {
     let end = ENTRIES_IN_WORD as u32 * ledger.words() as u32;
-    let ranges = ranges_of(alloc, state.row(bookie, ledger.id()), end)?;
-    Ok(ranges)
+    ranges_of(alloc, state.row(bookie, ledger.id()), end)
 }
 
 /// Adds what a bookie holds of a ledger, if it holds an entry of it or it was told what it holds, and gives how many

@@ -9,7 +9,7 @@ use crate::bookies::name_of;
 use reh_cluster::{Ledger, Names};
 use reh_meta::{Fragment, LedgerMeta};
 use reh_types::{BookieIx, LedgerId, LedgerState};
-use serde_json::{Value, json};
+use serde_json::{Map, Value, json, put};
 use std::alloc::{AllocError, Global};
 
 /// The names of an ensemble's members.
@@ -101,16 +101,42 @@ fn metadata_value(
 ) -> Result<Value, AllocError>
     ensures { IfOk result (λ v. view v ≡ metadata_data id metadata.now (items_view fragments.items)) }
 {
-    json!(in alloc; {
-        "fragments": fragments,
-        "id": id.0,
-        "state": state_name(metadata.state()),
-        "lastEntryId": last_value(metadata.state()),
-        "ensembleSize": metadata.size(),
-        "writeQuorumSize": metadata.write_quorum(),
-        "ackQuorumSize": metadata.ack_quorum(),
-        "version": metadata.version()
-    })
+    let mut fields = Map::new(alloc);
+    put(&mut fields, alloc, "fragments", Value::Array(fragments))?;
+    let state = Value::try_from_str(alloc, state_name(metadata.state()))?;
+    put(&mut fields, alloc, "state", state)?;
+    put(
+        &mut fields,
+        alloc,
+        "lastEntryId",
+        last_value(metadata.state()),
+    )?;
+    put(&mut fields, alloc, "id", Value::from(id.0))?;
+    put(
+        &mut fields,
+        alloc,
+        "ensembleSize",
+        Value::from(metadata.size()),
+    )?;
+    put(
+        &mut fields,
+        alloc,
+        "writeQuorumSize",
+        Value::from(metadata.write_quorum()),
+    )?;
+    put(
+        &mut fields,
+        alloc,
+        "ackQuorumSize",
+        Value::from(metadata.ack_quorum()),
+    )?;
+    put(
+        &mut fields,
+        alloc,
+        "version",
+        Value::from(metadata.version()),
+    )?;
+    Ok(Value::Object(fields))
 }
 
 /// The ledgers.

@@ -12,7 +12,7 @@ use crate::contents::content_values;
 use crate::ledgers::ledger_values;
 use reh_cluster::State;
 use reh_picture::{Listed, PictureFault, list_picture};
-use serde_json::{Value, json};
+use serde_json::{Map, Value, put};
 use std::alloc::{AllocError, Global};
 
 /// The text of a picture that shows the state, as far as a picture can: `kept_of` says what is kept. It has format 1,
@@ -77,51 +77,16 @@ fn written_value(
     ensures { IfOk result (λ v. view v ≡ written_data delay grace
         (map view bookies.items) (map view ledgers.items) (map view contents.items)) }
 {
+    let mut fields = Map::new(alloc);
+    put(&mut fields, alloc, "bookies", Value::Array(bookies))?;
+    put(&mut fields, alloc, "ledgers", Value::Array(ledgers))?;
+    put(&mut fields, alloc, "contents", Value::Array(contents))?;
+    put(&mut fields, alloc, "grace", Value::from(grace))?;
     if delay == 0 {
-        first_value(alloc, grace, bookies, ledgers, contents)
-    } else {
-        delayed_value(alloc, delay, grace, bookies, ledgers, contents)
+        put(&mut fields, alloc, "format", Value::from(1u64))?;
+        return Ok(Value::Object(fields));
     }
-}
-
-/// A picture of format 1.
-fn first_value(
-    alloc: Global,
-    grace: u64,
-    bookies: Vec<Value>,
-    ledgers: Vec<Value>,
-    contents: Vec<Value>,
-) -> Result<Value, AllocError>
-    ensures { IfOk result (λ v. view v ≡ first_data grace
-        (map view bookies.items) (map view ledgers.items) (map view contents.items)) }
-{
-    json!(in alloc; {
-        "bookies": bookies,
-        "ledgers": ledgers,
-        "contents": contents,
-        "format": 1u64,
-        "grace": grace
-    })
-}
-
-/// A picture of format 2.
-fn delayed_value(
-    alloc: Global,
-    delay: u64,
-    grace: u64,
-    bookies: Vec<Value>,
-    ledgers: Vec<Value>,
-    contents: Vec<Value>,
-) -> Result<Value, AllocError>
-    ensures { IfOk result (λ v. view v ≡ delayed_data delay grace
-        (map view bookies.items) (map view ledgers.items) (map view contents.items)) }
-{
-    json!(in alloc; {
-        "bookies": bookies,
-        "ledgers": ledgers,
-        "contents": contents,
-        "format": 2u64,
-        "grace": grace,
-        "lostDelayTicks": delay
-    })
+    put(&mut fields, alloc, "format", Value::from(2u64))?;
+    put(&mut fields, alloc, "lostDelayTicks", Value::from(delay))?;
+    Ok(Value::Object(fields))
 }

@@ -35,7 +35,12 @@ pub(crate) fn ranges_of(
 fn is_clear(words: &[u64]) -> bool
     ensures { IsTrue result → EachIndex words.now (λ k. slice_index words.now k ≡ 0) }
 {
-    words.iter().all(|word| *word == 0)
+    for word in words {
+        if *word != 0 {
+            return false;
+        }
+    }
+    true
 }
 
 /// Passes an entry, which is in the row or isn't: adds the range that is open, if it ends before the entry, and gives

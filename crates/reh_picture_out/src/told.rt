@@ -21,12 +21,22 @@ pub(crate) fn lacks_content(
 fn is_told(told: &[Holding], bookie: BookieIx, ledger: LedgerId) -> bool
     ensures { result ≡ model.is_told told.now bookie ledger }
 {
-    told.iter().any(|holding| holding.bookie() == bookie && holding.ledger() == ledger)
+    for holding in told {
+        if holding.bookie() == bookie && holding.ledger() == ledger {
+            return true;
+        }
+    }
+    false
 }
 
 /// Whether some content of the ledger is assumed.
 pub(crate) fn is_assumed(told: &[Holding], ledger: LedgerId) -> bool
     ensures { result ≡ model.has_assumed told.now ledger }
 {
-    told.iter().any(|holding| holding.is_assumed() && holding.ledger() == ledger)
+    for holding in told {
+        if holding.is_assumed() && holding.ledger() == ledger {
+            return true;
+        }
+    }
+    false
 }

@@ -23,31 +23,30 @@ impl Unshown {
     pub fn of(state: &State) -> Unshown
         ensures { IsUnshown state.now result }
     {
+        let (tasks, locks) = count_tasks(state.ledgers());
         Unshown {
-            tasks: count_tasks(state.ledgers()),
-            locks: count_locks(state.ledgers()),
+            tasks,
+            locks,
             clock: state.clock(),
             is_disabled: !state.is_enabled(),
         }
     }
 }
 
-/// How many ledgers have a task.
-fn count_tasks(ledgers: &[Ledger]) -> usize
-    ensures { result ≡ count_by (λ g. is_some g.task) ledgers.now }
+/// How many ledgers have a task, and how many have a lock.
+fn count_tasks(ledgers: &[Ledger]) -> (usize, usize)
+    ensures tasks { result.0 ≡ count_by (λ g. is_some g.task) ledgers.now }
+    ensures locks { result.1 ≡ count_by (λ g. is_some g.lock) ledgers.now }
 {
-    ledgers
-        .iter()
-        .filter(|ledger| ledger.task().is_some())
-        .count()
-}
-
-/// How many ledgers have a lock.
-fn count_locks(ledgers: &[Ledger]) -> usize
-    ensures { result ≡ count_by (λ g. is_some g.lock) ledgers.now }
-{
-    ledgers
-        .iter()
-        .filter(|ledger| ledger.lock().is_some())
-        .count()
+    let mut tasks = 0;
+    let mut locks = 0;
+    for ledger in ledgers {
+        if ledger.task().is_some() {
+            tasks += 1;
+        }
+        if ledger.lock().is_some() {
+            locks += 1;
+        }
+    }
+    (tasks, locks)
 }

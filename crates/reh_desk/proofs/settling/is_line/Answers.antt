@@ -1,4 +1,4 @@
-use Rattle.std.proofs.Common.{◌≡◌, sym, ap}
+use Rattle.std.proofs.Common.{sym, ap}
 use Rattle.reh_types.specs.declared.calls.OwnLine.{OwnLine}
 use Rattle.reh_desk.proofs.settling.is_line.Goals as goal
 

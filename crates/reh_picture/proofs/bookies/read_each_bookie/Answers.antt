@@ -1,5 +1,5 @@
 -- One bookie more is read, with its name and its registration.
-use Rattle.std.proofs.Common.{ℕ, List, Option, map, length, take_all, sym, ap, ◌∙◌, arith}
+use Rattle.std.proofs.Common.{ℕ, List, map, length, take_all, sym, ap, ◌∙◌, arith}
 use Rattle.std.proofs.lemmas.List.{length-map}
 use Rattle.serde_json.specs.View.{view}
 use Rattle.serde_json.specs.declared.value.Value.{Value}
@@ -15,27 +15,27 @@ use Rattle.reh_picture.proofs.bookies.read_each_bookie.Goals as goal
 pub loop-i-init : goal.loop-i-init
 loop-i-init c = rw (c.new-names.ensures, c.in_ok-lost_at.ensures.items) (HasRead-none c.args.bookies.now)
 
-pub add_bookie_at-requires : goal.add_bookie_at-requires
-add_bookie_at-requires c = omega (arith, c.loop-i.invariant.count, c.loop-i-test.true, c.requires)
+pub add_bookie-requires : goal.add_bookie-requires
+add_bookie-requires c = omega (arith, c.loop-i.invariant.count, c.loop-i-test.true, c.requires)
 
 pub loop-i-preserved : goal.loop-i-preserved
 loop-i-preserved c =
-    let read = c.in_ok-add_bookie_at.ensures in
+    let read = c.in_ok-add_bookie.ensures in
     HasRead-next c.args.bookies.now c.loop-i.i c.loop-i.names c.loop-i.lost_at.items
     c.index-bookies-i.result c.loop-i.invariant c.loop-i-test.true c.index-bookies-i.is _ _ read.fault read.named
     read.registered
 
-pub returns-in_err-add_bookie_at-clause-fault : goal.returns-in_err-add_bookie_at-clause-fault
+pub returns-in_err-add_bookie-clause-fault : goal.returns-in_err-add_bookie-clause-fault
 unfolding each_bookie_fault
-returns-in_err-add_bookie_at-clause-fault c =
+returns-in_err-add_bookie-clause-fault c =
     let i = c.loop-i.i in
     let bookie = c.index-bookies-i.result in
     let read = c.loop-i.invariant in
     IsLeft-fails judge c.args.bookies.now i bookie c.loop-i-test.true c.index-bookies-i.is read.left
-    c.from_residual-in_err-add_bookie_at.result c.in_err-add_bookie_at.field-0.0
-    c.from_residual-in_err-add_bookie_at.ensures.1
+    c.from_residual-in_err-add_bookie.result c.in_err-add_bookie.field-0.0
+    c.from_residual-in_err-add_bookie.ensures.1
     (λ known. ap (λ names. fault_at (place.Bookie i) (bookie_fault names (view bookie))) (sym read.names_are)
-    ∙ c.in_err-add_bookie_at.ensures.fault known)
+    ∙ c.in_err-add_bookie.ensures.fault known)
 
 pub returns-clause-count : goal.returns-clause-count
 returns-clause-count c =

@@ -14,29 +14,29 @@ loop-i-preserved c =
       made =
           HasMade-next _ _ c.args.values.now c.loop-i.i value c.loop-i-test.true c.index-values-i.is
           c.loop-i.holdings.items _ so_far.made
-          (rw (← so_far.pairs) c.in_ok-read_holding.ensures.fault)
-          (rw (← c.in_ok-read_holding.ensures.holding) c.in_ok-push.ensures.items);
+          (rw (← so_far.pairs) c.in_ok-add_content.ensures.fault)
+          c.in_ok-add_content.ensures.holdings;
       pairs =
-          c.in_ok-read_holding.ensures.pairs
+          c.in_ok-add_content.ensures.pairs
           ∙ ap (λ pairs. pairs ++ pair_of c.args.names.now (view value) ∷ []) so_far.pairs
           ∙ sym (ap (pairs_in c.args.names.now)
           (passed_to view c.args.values.now c.loop-i.i value c.loop-i-test.true c.index-values-i.is)
           ∙ map-append (pair_of c.args.names.now) (map view (take c.loop-i.i c.args.values.now)) _);
     }
 
-pub returns-in_err-read_holding-clause-fault : goal.returns-in_err-read_holding-clause-fault
+pub returns-in_err-add_content-clause-fault : goal.returns-in_err-add_content-clause-fault
 unfolding each_content_fault
-returns-in_err-read_holding-clause-fault c =
+returns-in_err-add_content-clause-fault c =
     let names = c.args.names.now in
     let ids = c.args.ids.now.keys in
     let i = c.loop-i.i in
     let value = c.index-values-i.result in
     let so_far = c.loop-i.invariant in
     IsLeft-fails (λ i before d. content_fault names ids i (pairs_in names before) d) c.args.values.now i value
-    c.loop-i-test.true c.index-values-i.is so_far.made.left c.from_residual.result c.in_err-read_holding.field-0.0
+    c.loop-i-test.true c.index-values-i.is so_far.made.left c.from_residual.result c.in_err-add_content.field-0.0
     c.from_residual.ensures.1
     (λ known. ap (λ pairs. content_fault names ids i pairs (view value)) (sym so_far.pairs)
-    ∙ c.in_err-read_holding.ensures.fault known)
+    ∙ c.in_err-add_content.ensures.fault known)
 
 pub returns-clause-fault : goal.returns-clause-fault
 unfolding each_content_fault
