@@ -59,7 +59,7 @@ impl fmt::Display for Place {
 
     fn fmt<W: fmt::Write>(&self, f: &mut fmt::Formatter<W>) -> fmt::Result {
         match self {
-            Place::Line => write!(f, "line"),
+            Place::Line => f.write_str("line"),
             Place::Bookie(bookie) => write!(f, "bookies[{bookie}]"),
             Place::Fragment(fragment) => write!(f, "fragments[{fragment}]"),
             Place::Member { fragment, member } => {
@@ -91,9 +91,9 @@ impl fmt::Display for Path {
     fn fmt<W: fmt::Write>(&self, f: &mut fmt::Formatter<W>) -> fmt::Result {
         let Path { place, field } = *self;
         if field.name() == place.element().name() {
-            write!(f, "{place}")
+            fmt::Display::fmt(&place, f)
         } else if matches!(place, Place::Line) {
-            write!(f, "{field}")
+            f.write_str(field.name())
         } else {
             write!(f, "{place}.{field}")
         }
