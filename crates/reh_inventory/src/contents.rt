@@ -257,9 +257,6 @@ pub(crate) fn read_contents(alloc: Global, ledger: &Value) -> Result<ContentList
     if !has(ledger, Field::Contents) {
         return Ok(ContentList::of(Vec::new(alloc)));
     }
-    let values = list_within(ledger, Field::Contents, 0, MAX_NAMES).map_err(|fault| LineFault::new(
-        fault,
-        Place::Line,
-    ))?;
+    let values = list_within(ledger, Field::Contents, 0, MAX_NAMES)?;
     read_each_content(alloc, values)
 }

@@ -217,7 +217,7 @@ pub(crate) fn read_head(alloc: Global, head: &Value) -> Result<Head, LineFault>
         delay,
         assumes_striped,
         bookies,
-    } = head_fields(alloc, head).map_err(|fault| LineFault::new(fault, Place::Line))?;
+    } = head_fields(alloc, head)?;
     let bookies = read_each_bookie(alloc, bookies)?;
     Ok(Head {
         taken,

@@ -321,9 +321,9 @@ pub(crate) fn read_ledger(alloc: Global, ledger: &Value) -> Result<LedgerLine, L
         version,
         length,
         fragments,
-    } = ledger_fields(ledger).map_err(|fault| LineFault::new(fault, Place::Line))?;
+    } = ledger_fields(ledger)?;
     let (fragments, next) = read_each_fragment(alloc, sizes.ensemble, fragments)?;
-    let state = read_state(ledger, next).map_err(|fault| LineFault::new(fault, Place::Line))?;
+    let state = read_state(ledger, next)?;
     let contents = read_contents(alloc, ledger)?;
     Ok(LedgerLine {
         id,

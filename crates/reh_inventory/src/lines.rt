@@ -61,7 +61,7 @@ fn read_value(alloc: Global, line: &Value) -> Result<Line, LineFault>
         return Ok(Line::Head(head));
     }
     if has(line, Field::End) {
-        let ledgers = read_end(line).map_err(|fault| LineFault::new(fault, Place::Line))?;
+        let ledgers = read_end(line)?;
         return Ok(Line::End(ledgers));
     }
     read_ledger_line(alloc, line)
@@ -92,9 +92,8 @@ fn read_ledger_line(alloc: Global, line: &Value) -> Result<Line, LineFault>
     ensures fault { FailsAt result (model.ledger_line_fault (view line.now)) }
     ensures line { IfOk result (λ read. read ≡ model.ledger_line_in (view line.now)) }
 {
-    let is_unread = read_mark(line).map_err(|fault| LineFault::new(fault, Place::Line))?;
-    if is_unread {
-        let id = read_id(line).map_err(|fault| LineFault::new(fault, Place::Line))?;
+    if read_mark(line)? {
+        let id = read_id(line)?;
         return Ok(Line::Unread(id));
     }
     let ledger = read_ledger(alloc, line)?;

@@ -248,6 +248,19 @@ impl fmt::Debug for LineFault {
     }
 }
 
+/// A fault of the line itself.
+impl From<Fault> for LineFault {
+    ghost use Rattle.std.specs.Prelude.{◌≡◌, None};
+    ghost use Rattle.reh_inventory_fields.specs.declared.places.Place.TheVariants as place;
+
+    ghost from_gives = { λ found located.
+        located ≡ record { fault = found; place = place.Line; column = None } };
+
+    fn from(fault: Fault) -> LineFault {
+        LineFault::new(fault, Place::Line)
+    }
+}
+
 impl From<AllocError> for LineFault {
     ghost use Rattle.std.specs.Prelude.{◌≡◌};
     ghost use Rattle.reh_inventory_fields.specs.declared.faults.Fault.TheVariants.{NoMemory};
