@@ -10,7 +10,7 @@ ghost use Rattle.reh_inventory.specs.Contents as model;
 use reh_census::{Range, Ranges};
 use reh_census_file::{MAX_NAMES, NameList as Names};
 use reh_inventory_fields::members::{MAX_NUMBER, flag_if_there, has, list, list_within, name};
-use reh_inventory_fields::{Fault, Field, LineFault, Name, Place};
+use reh_inventory_fields::{Fault, Field, LineFault, Name, Place, located};
 use serde_json::Value;
 use std::alloc::Global;
 use std::marker::Model;
@@ -100,7 +100,7 @@ fn read_list(
     ensures ranges { IfOk result (λ ranges. ranges ≡ model.ranges_in field (view content.now)) }
 {
     let here = Place::Content(number);
-    let values = list(content, field).map_err(|fault| LineFault::new(fault, here))?;
+    let values = located(list(content, field), here)?;
     read_ranges(alloc, number, field, values)
 }
 
@@ -205,31 +205,32 @@ fn read_told(alloc: Global, number: usize, content: &Value) -> Result<Option<Ran
     Ok(Some(ranges))
 }
 
-/// The content of this number; its bookie's name joins the names. After an `Err` it may be there.
-fn read_content(
+/// Adds the content of this number; its bookie's name joins the names. After an `Err` it may be there.
+fn add_content(
     alloc: Global,
     names: &mut Names,
     number: usize,
     content: &Value,
-) -> Result<Content, LineFault>
+    contents: &mut Vec<Content>,
+) -> Result<(), LineFault>
     requires { length names.old < MAX_NAMES }
     ensures fault { FailsAt result (model.content_fault number names.old (view content.now)) }
     ensures named { OnOk result
         (names.new ≡ names.old ++ text_of (view content.now) Field.Bookie ∷ []) }
-    ensures content { IfOk result (λ c. c ≡ model.content_in (view content.now)) }
+    ensures added { OnOk result
+        (contents.new.items ≡ contents.old.items ++ model.content_in (view content.now) ∷ []) }
 {
     let here = Place::Content(number);
-    let (bookie, is_assumed) = read_bookie(alloc, names, content).map_err(|fault| LineFault::new(
-        fault, here,
-    ))?;
+    let (bookie, is_assumed) = located(read_bookie(alloc, names, content), here)?;
     let entries = read_entries(alloc, number, content)?;
     let told = read_told(alloc, number, content)?;
-    Ok(Content {
+    contents.push(Content {
         bookie,
         entries,
         told,
         is_assumed,
-    })
+    })?;
+    Ok(())
 }
 
 /// At most 4,096 contents.
@@ -243,7 +244,7 @@ fn read_each_content(alloc: Global, values: &[Value]) -> Result<ContentList, Lin
     let mut names = Names::new(alloc);
     let mut contents = Vec::new(alloc);
     for (i, value) in values.iter().enumerate() {
-        contents.push(read_content(alloc, &mut names, i, value)?)?;
+        add_content(alloc, &mut names, i, value, &mut contents)?;
     }
     Ok(ContentList::of(contents))
 }

@@ -104,22 +104,27 @@ fn read_bookie(alloc: Global, names: &mut Names, bookie: &Value) -> Result<Booki
     })
 }
 
-/// The bookie of this number.
-fn read_bookie_at(
+/// Adds the bookie of this number. After an `Err` its name may be there.
+fn add_bookie(
     alloc: Global,
     names: &mut Names,
     number: usize,
     bookie: &Value,
-) -> Result<Bookie, LineFault>
+    read: &mut Vec<Bookie>,
+) -> Result<(), LineFault>
     requires { length names.old < MAX_NAMES }
     ensures fault { FailsAt result
         (fault_at (Place.Bookie number) (model.bookie_fault names.old (view bookie.now))) }
     ensures named { OnOk result
         (names.new ≡ names.old ++ text_of (view bookie.now) Field.Name ∷ []) }
-    ensures bookie { IfOk result (λ b. b ≡ model.bookie_in (view bookie.now)) }
+    ensures added { OnOk result
+        (read.new.items ≡ read.old.items ++ model.bookie_in (view bookie.now) ∷ []) }
 {
     match read_bookie(alloc, names, bookie) {
-        Ok(bookie) => Ok(bookie),
+        Ok(bookie) => {
+            read.push(bookie)?;
+            Ok(())
+        }
         Err(fault) => Err(LineFault::new(fault, Place::Bookie(number))),
     }
 }
@@ -134,7 +139,7 @@ fn read_each_bookie(alloc: Global, bookies: &[Value]) -> Result<BookieList, Line
     let mut names = Names::new(alloc);
     let mut read = Vec::new(alloc);
     for (i, bookie) in bookies.iter().enumerate() {
-        read.push(read_bookie_at(alloc, &mut names, i, bookie)?)?;
+        add_bookie(alloc, &mut names, i, bookie, &mut read)?;
     }
     Ok(BookieList::of(read))
 }

@@ -11,7 +11,7 @@ use reh_inventory_fields::members::{
     MAX_ENSEMBLE, MAX_NUMBER, integer, list, list_within, name_of, number_if_there, number_within,
     text,
 };
-use reh_inventory_fields::{Ensemble, Fault, Field, LineFault, Name, Place};
+use reh_inventory_fields::{Ensemble, Fault, Field, LineFault, Name, Place, located};
 use serde_json::Value;
 use std::alloc::Global;
 use std::marker::Model;
@@ -172,9 +172,7 @@ fn read_fragment(
     ensures within { IfOk result (λ f. f.first ≤ bounds.most) }
 {
     let here = Place::Fragment(number);
-    let (first, members) = fragment_fields(size, bounds, fragment).map_err(|fault| LineFault::new(
-        fault, here,
-    ))?;
+    let (first, members) = located(fragment_fields(size, bounds, fragment), here)?;
     let ensemble = read_ensemble(alloc, number, members)?;
     Ok(Fragment { first, ensemble })
 }

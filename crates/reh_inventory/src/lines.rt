@@ -35,8 +35,7 @@ pub fn read_line(alloc: Global, bytes: &[u8]) -> Result<Line, LineFault>
         → model.located_line_of bytes.now ≡ Err (located.fault, located.place)) }
 {
     let value = read_json(alloc, bytes)?;
-    let line = read_value(alloc, &value)?;
-    Ok(line)
+    read_value(alloc, &value)
 }
 
 /// The JSON value of a line's bytes.
@@ -79,20 +78,12 @@ fn read_end(line: &Value) -> Result<u64, Fault>
     number_within(line, Field::Ledgers, 0, MAX_NUMBER)
 }
 
-/// The id of a ledger, and whether it could not be read.
-fn read_mark(line: &Value) -> Result<bool, Fault>
-    ensures fault { result_err result ≡ model.mark_fault (view line.now) }
-    ensures unread { IfOk result (λ unread. unread ≡ model.is_unread (view line.now)) }
-{
-    flag_if_there(line, Field::Unread)
-}
-
 /// The line of a ledger, which may be one that could not be read.
 fn read_ledger_line(alloc: Global, line: &Value) -> Result<Line, LineFault>
     ensures fault { FailsAt result (model.ledger_line_fault (view line.now)) }
     ensures line { IfOk result (λ read. read ≡ model.ledger_line_in (view line.now)) }
 {
-    if read_mark(line)? {
+    if flag_if_there(line, Field::Unread)? {
         let id = read_id(line)?;
         return Ok(Line::Unread(id));
     }

@@ -1,5 +1,5 @@
 // Where a line's first fault is, and what was expected there.
-ghost use Rattle.std.specs.Prelude.{◌≡◌};
+ghost use Rattle.std.specs.Prelude.{◌≡◌, Ok, Err, None, MatchResult};
 ghost use Rattle.reh_inventory_fields.specs.Expected.{element_field, faulty_field, wanted_text, expected_text};
 
 use crate::faults::Fault;
@@ -123,6 +123,17 @@ impl LineFault {
             place,
             column: None,
         }
+    }
+}
+
+/// What was read at this place, or its fault with the place.
+pub fn located<T: Drop>(read: Result<T, Fault>, place: Place) -> Result<T, LineFault>
+    ensures { MatchResult read (λ value. result ≡ Ok value)
+        (λ fault. result ≡ Err (record { fault = fault; place = place; column = None })) }
+{
+    match read {
+        Ok(value) => Ok(value),
+        Err(fault) => Err(LineFault::new(fault, place)),
     }
 }
 
