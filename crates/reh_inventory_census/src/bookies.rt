@@ -64,9 +64,12 @@ fn counted(racks: &NameList, bookie: &Bookie) -> CountedBookie
 fn place_of(bookies: &[Bookie], name: &str) -> Option<usize>
     ensures { result ≡ model.place_of bookies.now name.now }
 {
-    bookies
-        .iter()
-        .position(|bookie| bookie.name.as_str() == name)
+    for (place, bookie) in bookies.iter().enumerate() {
+        if bookie.name.as_str() == name {
+            return Some(place);
+        }
+    }
+    None
 }
 
 /// The bookie of this name, as a census has it. One that the first line doesn't have isn't registered.

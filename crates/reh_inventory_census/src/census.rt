@@ -116,11 +116,11 @@ fn begun(alloc: Global, head: Head) -> Result<Inventory, InventoryFault>
 }
 
 /// How an inventory to which no more lines come was judged, if a census can say that.
-fn judged(inventory: Inventory, counter: &Counter) -> Result<Judged, CountFault>
-    ensures judged { IfOk result (λ judged. judged ≡ model.judged_by inventory counter.now.ledgers counter.now.assumed) }
+fn judged(inventory: &Inventory, counter: &Counter) -> Result<Judged, CountFault>
+    ensures judged { IfOk result (λ judged. judged ≡ model.judged_by inventory.now counter.now.ledgers counter.now.assumed) }
     ensures few { IfOk result (λ judged. not_judged judged ≤ 2 ^ 63) }
 {
-    let judged = judged_by(&inventory, counter.ledgers, counter.assumed);
+    let judged = judged_by(inventory, counter.ledgers, counter.assumed);
     if judged.unread >= MOST {
         return Err(CountFault::TooMany);
     }
@@ -237,14 +237,13 @@ impl InventoryCount {
             → model.IsCount names strict first lines self
             → model.IsCensusOf names strict first lines census) }
     {
+        let judged = judged(&self.inventory, &self.counter)?;
         let InventoryCount {
-            inventory,
             counter,
             racks,
             taken,
+            ..
         } = self;
-        let judged = judged(inventory, &counter)?;
-        let census = named_census(alloc, counter, racks, taken, judged)?;
-        Ok(census)
+        named_census(alloc, counter, racks, taken, judged)
     }
 }

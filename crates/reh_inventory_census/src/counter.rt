@@ -11,12 +11,12 @@ ghost use Rattle.reh_inventory_census.specs.Empties.{holds_though_empty};
 ghost use Rattle.reh_inventory_census.specs.Parts.{parts_of};
 ghost use Rattle.reh_inventory_census.specs.Counting.{is_held};
 
-use crate::counted::assumed_ledger;
+use crate::counted::{assumed_ledger, counted_ledger};
 use crate::counts::{Counts, held_among};
 use crate::empties::are_refilled;
-use crate::faults::{CountFault, unfit};
+use crate::faults::CountFault;
 use crate::numbers::has_named_members;
-use crate::parts::{Parts, part_of, second, split};
+use crate::parts::{Parts, second, split};
 use reh_census::Bookies;
 use reh_census_file::NameList;
 use reh_inventory::LedgerLine;
@@ -61,9 +61,7 @@ fn count_assumed(
     ensures { IfOk result (λ assumed. assumed
         ≡ count_entries (holders (bookies_of bookies.now)) (assumed_of names.now assumes_striped line.now ∷ []) is_held) }
 {
-    let ledger = assumed_ledger(alloc, names, assumes_striped, line).map_err(|fault| unfit(
-        line.id, fault,
-    ))?;
+    let ledger = assumed_ledger(alloc, names, assumes_striped, line)?;
     let entries = entries_of(alloc, bookies, &[ledger])?;
     held_among(&entries).ok_or(CountFault::TooMany)
 }
@@ -120,14 +118,13 @@ impl Counter {
         if self.is_strict {
             return Ok(0);
         }
-        let assumed = count_assumed(
+        count_assumed(
             alloc,
             &self.names,
             &self.bookies,
             self.assumes_striped,
             line,
-        )?;
-        Ok(assumed)
+        )
     }
 
     /// What is counted of a part of a ledger.
@@ -135,7 +132,7 @@ impl Counter {
         ensures { IfOk result (λ count. model.CountsParts (line.now ∷ []) (model.with_count self.now count)) }
     {
         let assumed = self.assumed_of(alloc, line)?;
-        let ledger = part_of(
+        let ledger = counted_ledger(
             alloc,
             &self.names,
             self.assumes_striped,
@@ -155,8 +152,7 @@ impl Counter {
         let Some(other) = other else { return Ok(count) };
         let second = second(alloc, first, other)?;
         let more = self.count_part(alloc, &second)?;
-        let both = count.with(more)?;
-        Ok(both)
+        count.with(more)
     }
 
     /// What is counted of a ledger.
@@ -169,8 +165,7 @@ impl Counter {
         if are_refilled(&self.names, &self.bookies, line.contents.as_slice()) {
             return Err(CountFault::HoldsThoughEmpty(line.id));
         }
-        let count = self.count_parts(alloc, line)?;
-        Ok(count)
+        self.count_parts(alloc, line)
     }
 
     /// Adds what was counted of parts. After an `Err` some of it may be there.

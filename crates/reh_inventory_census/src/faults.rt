@@ -2,7 +2,6 @@
 ghost use Rattle.std.specs.Prelude.{◌≡◌};
 ghost use Rattle.reh_inventory_census.specs.Faults as model;
 
-use crate::counted::UnfitFault;
 use crate::counts::CountsFault;
 use crate::numbers::NumberFault;
 use reh_inventory::InventoryFault;
@@ -92,15 +91,5 @@ impl From<TallyFault> for CountFault {
             TallyFault::TooMany => CountFault::TooMany,
             TallyFault::NoMemory => CountFault::NoMemory,
         }
-    }
-}
-
-/// The fault of a line with the ledger of this id.
-pub(crate) fn unfit(id: u64, fault: UnfitFault) -> CountFault
-    ensures { result ≡ model.of_unfit id fault }
-{
-    match fault {
-        UnfitFault::Unfit => CountFault::Unfit(id),
-        UnfitFault::NoMemory => CountFault::NoMemory,
     }
 }

@@ -7,9 +7,10 @@ ghost use Rattle.reh_inventory_census.specs.Numbers.{members_named};
 ghost use Rattle.reh_inventory_census.specs.Parts.{parts_of};
 
 use crate::census::read_head;
+use crate::counted::counted_ledger;
 use crate::faults::CountFault;
 use crate::numbers::has_named_members;
-use crate::parts::{Parts, part_of, second, split};
+use crate::parts::{Parts, second, split};
 use reh_census::Ledger;
 use reh_census_file::NameList;
 use reh_inventory::LedgerLine;
@@ -75,7 +76,7 @@ impl InventoryLedgers {
         ensures { IfOk result (λ ledger. ledger
             ≡ counted_of self.now.names self.now.assumes_striped self.now.is_strict part.now) }
     {
-        part_of(
+        counted_ledger(
             alloc,
             &self.names,
             self.assumes_striped,

@@ -1,12 +1,7 @@
 // The parts of a ledger, each of which is counted by itself.
 ghost use Rattle.std.specs.Prelude.{◌≡◌, ◌∷◌, [], IfOk};
-ghost use Rattle.reh_inventory_census.specs.Counted.{counted as counted_of};
 ghost use Rattle.reh_inventory_census.specs.Parts as model;
 
-use crate::counted::counted_ledger;
-use crate::faults::{CountFault, unfit};
-use reh_census::Ledger;
-use reh_census_file::NameList;
 use reh_inventory::{Fragment, FragmentList, LedgerLine, LedgerState};
 use std::alloc::{AllocError, Global};
 
@@ -78,19 +73,4 @@ fn alone(alloc: Global, fragment: Fragment) -> Result<FragmentList, AllocError>
     let mut fragments = Vec::new(alloc);
     fragments.push(fragment)?;
     Ok(FragmentList::of(fragments))
-}
-
-/// The ledger of a part, as a census counts it.
-pub(crate) fn part_of(
-    alloc: Global,
-    names: &NameList,
-    assumes_striped: bool,
-    is_strict: bool,
-    line: &LedgerLine,
-) -> Result<Ledger, CountFault>
-    ensures { IfOk result (λ ledger. ledger ≡ counted_of names.now assumes_striped is_strict line.now) }
-{
-    counted_ledger(alloc, names, assumes_striped, is_strict, line).map_err(|fault| unfit(
-        line.id, fault,
-    ))
 }
