@@ -53,9 +53,10 @@ fn taken_of(alloc: Global, head: &Head) -> Result<Option<String>, AllocError>
     }
 }
 
-/// How an inventory was judged, of which so many ledgers were counted, and so many entries rest on an assumption.
-fn judged_by(inventory: &Inventory, ledgers: u64, assumed: u64) -> Judged
-    ensures { result ≡ model.judged_by inventory.now ledgers assumed }
+/// How an inventory to which no more lines come was judged, of which so many ledgers were counted, and so many entries rest
+/// on an assumption.
+fn judged_by(inventory: Inventory, ledgers: u64, assumed: u64) -> Judged
+    ensures { result ≡ model.judged_by inventory ledgers assumed }
 {
     Judged {
         ledgers,
@@ -115,9 +116,9 @@ fn begun(alloc: Global, head: Head) -> Result<Inventory, InventoryFault>
     Ok(inventory)
 }
 
-/// How an inventory to which no more lines come was judged, if a census can say that.
-fn judged(inventory: &Inventory, counter: &Counter) -> Result<Judged, CountFault>
-    ensures judged { IfOk result (λ judged. judged ≡ model.judged_by inventory.now counter.now.ledgers counter.now.assumed) }
+/// How it was judged, if a census can say that.
+fn judged(inventory: Inventory, counter: &Counter) -> Result<Judged, CountFault>
+    ensures judged { IfOk result (λ judged. judged ≡ model.judged_by inventory counter.now.ledgers counter.now.assumed) }
     ensures few { IfOk result (λ judged. not_judged judged ≤ 2 ^ 63) }
 {
     let judged = judged_by(inventory, counter.ledgers, counter.assumed);
@@ -237,13 +238,13 @@ impl InventoryCount {
             → model.IsCount names strict first lines self
             → model.IsCensusOf names strict first lines census) }
     {
-        let judged = judged(&self.inventory, &self.counter)?;
         let InventoryCount {
+            inventory,
             counter,
             racks,
             taken,
-            ..
         } = self;
+        let judged = judged(inventory, &counter)?;
         named_census(alloc, counter, racks, taken, judged)
     }
 }
