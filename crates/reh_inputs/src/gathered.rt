@@ -114,22 +114,17 @@ fn is_other(input: &Input, strict: bool) -> bool
     }
 }
 
-/// The first census that was made otherwise, if there is one.
-fn first_other(inputs: &[Input], strict: bool) -> Option<usize>
-    ensures { result ≡ model.first_other strict inputs.now }
-{
-    inputs.iter().position(|input| is_other(input, strict))
-}
-
 /// That each census among the inputs was made with `--strict`, or each without, as is asked.
 fn check_strict(inputs: &[Input], strict: bool) -> Result<(), GatherFault>
     ensures alike { OnOk result (model.first_other strict inputs.now ≡ None) }
     ensures fault { IfErr result (IsGatherFault inputs.now strict) }
 {
-    match first_other(inputs, strict) {
-        Some(input) => Err(GatherFault::OtherStrict { input }),
-        None => Ok(()),
+    for (input, one) in inputs.iter().enumerate() {
+        if is_other(one, strict) {
+            return Err(GatherFault::OtherStrict { input });
+        }
     }
+    Ok(())
 }
 
 /// The cluster of the inputs.

@@ -150,11 +150,12 @@ fn count_held(entries: &[Counted]) -> u64
 fn is_assumed_in_picture(listed: &Listed) -> bool
     ensures { result ≡ list_any (λ h. h.is_assumed) listed.now.listing.holdings.items }
 {
-    listed
-        .listing
-        .holdings
-        .iter()
-        .any(|holding| holding.is_assumed())
+    for holding in &listed.listing.holdings {
+        if holding.is_assumed() {
+            return true;
+        }
+    }
+    false
 }
 
 /// Whether something is assumed in an input.
@@ -171,7 +172,12 @@ fn is_assumed_in(input: &Input) -> bool
 fn is_assumed_in_any(inputs: &[Input]) -> bool
     ensures { result ≡ list_any model.is_assumed_in inputs.now }
 {
-    inputs.iter().any(|input| is_assumed_in(input))
+    for input in inputs {
+        if is_assumed_in(input) {
+            return true;
+        }
+    }
+    false
 }
 
 /// How many entries rest on an assumption: some bookie that may hold copies is assumed to hold them.
