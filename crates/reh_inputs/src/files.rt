@@ -190,8 +190,7 @@ fn add_counted(
 {
     add_entries(alloc, numbers, counted.entries(), &mut counts.entries)?;
     add_tails(alloc, numbers, counted.tails(), &mut counts.tails)?;
-    add_ensembles(alloc, numbers, counted.ensembles(), &mut counts.ensembles)?;
-    Ok(())
+    add_ensembles(alloc, numbers, counted.ensembles(), &mut counts.ensembles)
 }
 
 /// Adds what a census counts.
@@ -211,8 +210,7 @@ fn add_census(
         → All (λ t. IsTail t.tail) counts.new.tails.items) }
 {
     let numbers = numbers_in(alloc, names, census.names())?;
-    add_counted(alloc, &numbers, census.census(), counts)?;
-    Ok(())
+    add_counted(alloc, &numbers, census.census(), counts)
 }
 
 /// Adds what an input counts, if it is a census file.
@@ -268,8 +266,7 @@ pub(crate) fn append_counts(counts: &mut Counts, more: Counts) -> Result<(), All
     let mut more = more;
     counts.entries.append(&mut more.entries)?;
     counts.tails.append(&mut more.tails)?;
-    counts.ensembles.append(&mut more.ensembles)?;
-    Ok(())
+    counts.ensembles.append(&mut more.ensembles)
 }
 
 /// The sum, if a census counts so much.

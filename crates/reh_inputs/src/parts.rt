@@ -219,8 +219,7 @@ fn assumed_of(
     if strict {
         return Ok(0);
     }
-    let assumed = count_assumed(alloc, bookies, names, first, inputs)?;
-    Ok(assumed)
+    count_assumed(alloc, bookies, names, first, inputs)
 }
 
 /// How inputs are read. With `strict`, what is assumed counts as untold.

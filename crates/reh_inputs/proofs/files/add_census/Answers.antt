@@ -2,4 +2,4 @@
 use Rattle.reh_inputs.proofs.files.add_census.Goals as goal
 
 pub returns-clause-well_formed : goal.returns-clause-well_formed
-returns-clause-well_formed c = c.in_ok-add_counted.ensures.well_formed
+returns-clause-well_formed c = c.add_counted.ensures.well_formed
