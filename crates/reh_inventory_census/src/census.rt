@@ -4,7 +4,6 @@ ghost use Rattle.reh_census.specs.Counting.{not_judged};
 ghost use Rattle.reh_census.specs.Ledgers.{Ledger as LedgerValue};
 ghost use Rattle.reh_census.specs.Order.{IsInOrder};
 ghost use Rattle.reh_census_file.specs.Values.{named_by};
-ghost use Rattle.reh_inventory.specs.Inventories.{added, no_lines};
 ghost use Rattle.reh_inventory.specs.Lines.{located_line_of};
 ghost use Rattle.reh_inventory_census.specs.Bookies as bookies;
 ghost use Rattle.reh_inventory_census.specs.Counting.{CountsLedgers, counts_in};
@@ -107,15 +106,6 @@ fn cluster_of(alloc: Global, names: &NameList, head: &Head) -> Result<Cluster, C
     })
 }
 
-/// An inventory of a first line alone.
-fn begun(alloc: Global, head: Head) -> Result<Inventory, InventoryFault>
-    ensures { IfOk result (λ inventory. added no_lines (Line.Head head) ≡ Ok inventory) }
-{
-    let mut inventory = Inventory::new(alloc);
-    inventory.add_line(Line::Head(head))?;
-    Ok(inventory)
-}
-
 /// How it was judged, if a census can say that.
 fn judged(inventory: Inventory, counter: &Counter) -> Result<Judged, CountFault>
     ensures judged { IfOk result (λ judged. judged ≡ model.judged_by inventory counter.now.ledgers counter.now.assumed) }
@@ -171,14 +161,13 @@ impl InventoryCount {
         let head = read_head(alloc, first_line)?;
         let cluster = cluster_of(alloc, &names, &head)?;
         let assumes_striped = head.assumes_striped;
-        let inventory = begun(alloc, head)?;
         let Cluster {
             racks,
             bookies,
             taken,
         } = cluster;
         Ok(InventoryCount {
-            inventory,
+            inventory: Inventory::of_head(alloc, head),
             counter: Counter::new(alloc, names, bookies, assumes_striped, is_strict),
             racks,
             taken,

@@ -67,21 +67,16 @@ fn count_assumed(
 }
 
 impl LedgerCount {
-    /// What was counted of these parts, and then of others.
-    fn with(self, other: LedgerCount) -> Result<LedgerCount, CountFault>
-        ensures { IfOk result (λ both. (c : CounterValue) (parts more : List LineValue)
-            → model.CountsParts parts (model.with_count c self) → model.CountsParts more (model.with_count c other)
-            → model.CountsParts (parts ++ more) (model.with_count c both)) }
+    /// Adds what was counted of further parts. After an `Err` some of it may be there.
+    fn add(&mut self, other: LedgerCount) -> Result<(), CountFault>
+        ensures { OnOk result ((c : CounterValue) (parts more : List LineValue)
+            → model.CountsParts parts (model.with_count c self.old) → model.CountsParts more (model.with_count c other)
+            → model.CountsParts (parts ++ more) (model.with_count c self.new)) }
     {
-        let LedgerCount { counts, assumed } = self;
-        let mut counts = counts;
-        let LedgerCount {
-            counts: more,
-            assumed: further,
-        } = other;
-        let assumed = sum(assumed, further)?;
-        counts.append(more)?;
-        Ok(LedgerCount { counts, assumed })
+        let LedgerCount { counts, assumed } = other;
+        self.counts.append(counts)?;
+        self.assumed = sum(self.assumed, assumed)?;
+        Ok(())
     }
 }
 
@@ -148,11 +143,12 @@ impl Counter {
         ensures { IfOk result (λ count. model.CountsParts (parts_of line) (model.with_count self.now count)) }
     {
         let Parts { first, other } = split(line);
-        let count = self.count_part(alloc, &first)?;
+        let mut count = self.count_part(alloc, &first)?;
         let Some(other) = other else { return Ok(count) };
         let second = second(alloc, first, other)?;
         let more = self.count_part(alloc, &second)?;
-        count.with(more)
+        count.add(more)?;
+        Ok(count)
     }
 
     /// What is counted of a ledger.
@@ -177,9 +173,8 @@ impl Counter {
             → model.CountsParts (parts ++ more) self.new) }
     {
         let LedgerCount { counts, assumed } = count;
-        let total = sum(self.assumed, assumed)?;
         self.counts.add(alloc, counts)?;
-        self.assumed = total;
+        self.assumed = sum(self.assumed, assumed)?;
         Ok(())
     }
 

@@ -6,7 +6,7 @@ use crate::counts::CountsFault;
 use crate::numbers::NumberFault;
 use reh_inventory::InventoryFault;
 use reh_tally::TallyFault;
-use std::alloc::AllocError;
+use std::alloc::{AllocError, AllocFailed};
 
 /// Why the next line of an inventory can't be counted with those before it.
 #[derive(Clone, Copy)]
@@ -35,6 +35,17 @@ impl From<AllocError> for CountFault {
 
     fn from(_want: AllocError) -> CountFault {
         CountFault::NoMemory
+    }
+}
+
+impl<T: Drop> From<AllocFailed<T>> for CountFault {
+    ghost use Rattle.std.specs.Prelude.{◌≡◌};
+    ghost use Rattle.reh_inventory_census.specs.declared.faults.CountFault.TheVariants.{NoMemory};
+
+    ghost from_gives = { λ _ fault. fault ≡ NoMemory };
+
+    fn from(want: AllocFailed<T>) -> CountFault {
+        CountFault::from(AllocError::from(want))
     }
 }
 

@@ -16,14 +16,6 @@ use reh_census_file::NameList;
 use reh_inventory::LedgerLine;
 use std::alloc::{AllocError, Global};
 
-/// Adds a ledger.
-fn push(ledgers: &mut Vec<Ledger>, ledger: Ledger) -> Result<(), AllocError>
-    ensures { OnOk result (ledgers.new.items ≡ ledgers.old.items ++ ledger ∷ []) }
-{
-    ledgers.push(ledger)?;
-    Ok(())
-}
-
 /// How a census counts the ledgers of an inventory: by the numbers of these names.
 #[derive(Drop)]
 pub struct InventoryLedgers {
@@ -62,26 +54,33 @@ impl InventoryLedgers {
         }
         let Parts { first, other } = split(line);
         let mut ledgers = Vec::new(alloc);
-        push(&mut ledgers, self.of_part(alloc, &first)?)?;
+        self.add_part(alloc, &first, &mut ledgers)?;
         let Some(other) = other else {
             return Ok(ledgers)
         };
         let second = second(alloc, first, other)?;
-        push(&mut ledgers, self.of_part(alloc, &second)?)?;
+        self.add_part(alloc, &second, &mut ledgers)?;
         Ok(ledgers)
     }
 
-    /// The ledger of a part.
-    fn of_part(&self, alloc: Global, part: &LedgerLine) -> Result<Ledger, CountFault>
-        ensures { IfOk result (λ ledger. ledger
-            ≡ counted_of self.now.names self.now.assumes_striped self.now.is_strict part.now) }
+    /// Adds the ledger of a part.
+    fn add_part(
+        &self,
+        alloc: Global,
+        part: &LedgerLine,
+        ledgers: &mut Vec<Ledger>,
+    ) -> Result<(), CountFault>
+        ensures { OnOk result (ledgers.new.items
+            ≡ ledgers.old.items ++ counted_of self.now.names self.now.assumes_striped self.now.is_strict part.now ∷ []) }
     {
-        counted_ledger(
+        let ledger = counted_ledger(
             alloc,
             &self.names,
             self.assumes_striped,
             self.is_strict,
             part,
-        )
+        )?;
+        ledgers.push(ledger)?;
+        Ok(())
     }
 }

@@ -1,6 +1,5 @@
 -- The parts of one ledger.
 use Rattle.std.proofs.Common.{◌≡◌, ◌∙◌, ◌∷◌, [], List, Option, ap, sym, subst}
-use Rattle.std.proofs.lemmas.Result.{IfOk-weaker}
 use Rattle.std.specs.Option.{option_map_or}
 use Rattle.reh_inventory.specs.declared.ledgers.LedgerLine.{LedgerLine}
 use Rattle.reh_inventory_census.specs.declared.parts.Other.{Other}
@@ -15,7 +14,5 @@ returns c =
     let are : both c.split-first.result ≡ first ∷ other ∷ [] =
     ap (λ (o : Option Other). first ∷ option_map_or (λ other. second first other ∷ []) o []) c.in-Some.is
     ∙ (λ i. first ∷ sym c.in_ok-second.ensures i ∷ []) in
-    IfOk-weaker c.with.result _ _
-    (λ count with.
-    subst (λ (ps : List LedgerLine). CountsParts ps (with_count c.args.self.now count)) (sym are ∙ c.split-first.ensures)
-    (with c.args.self.now (first ∷ []) (other ∷ []) c.in_ok-count.ensures c.in_ok-more.ensures)) c.with.ensures
+    subst (λ (ps : List LedgerLine). CountsParts ps (with_count c.args.self.now c.add.new.self)) (sym are ∙ c.split-first.ensures)
+    (c.in_ok-add.ensures c.args.self.now (first ∷ []) (other ∷ []) c.in_ok-count.ensures c.in_ok-more.ensures)
