@@ -16,7 +16,7 @@ use crate::counts::{Counts, held_among};
 use crate::empties::are_refilled;
 use crate::faults::CountFault;
 use crate::numbers::has_named_members;
-use crate::parts::{Parts, second, split};
+use crate::parts::{make_second, split};
 use reh_census::Bookies;
 use reh_census_file::NameList;
 use reh_inventory::LedgerLine;
@@ -139,14 +139,14 @@ impl Counter {
     }
 
     /// What is counted of the parts of a ledger.
-    fn count_parts(&self, alloc: Global, line: LedgerLine) -> Result<LedgerCount, CountFault>
-        ensures { IfOk result (λ count. model.CountsParts (parts_of line) (model.with_count self.now count)) }
+    fn count_parts(&self, alloc: Global, line: &mut LedgerLine) -> Result<LedgerCount, CountFault>
+        ensures { IfOk result (λ count. model.CountsParts (parts_of line.old) (model.with_count self.now count)) }
     {
-        let Parts { first, other } = split(line);
-        let mut count = self.count_part(alloc, &first)?;
+        let other = split(line);
+        let mut count = self.count_part(alloc, line)?;
         let Some(other) = other else { return Ok(count) };
-        let second = second(alloc, first, other)?;
-        let more = self.count_part(alloc, &second)?;
+        make_second(alloc, line, other)?;
+        let more = self.count_part(alloc, line)?;
         count.add(more)?;
         Ok(count)
     }
@@ -161,7 +161,8 @@ impl Counter {
         if are_refilled(&self.names, &self.bookies, line.contents.as_slice()) {
             return Err(CountFault::HoldsThoughEmpty(line.id));
         }
-        self.count_parts(alloc, line)
+        let mut line = line;
+        self.count_parts(alloc, &mut line)
     }
 
     /// Adds what was counted of parts. After an `Err` some of it may be there.

@@ -10,7 +10,7 @@ use crate::census::read_head;
 use crate::counted::counted_ledger;
 use crate::faults::CountFault;
 use crate::numbers::has_named_members;
-use crate::parts::{Parts, second, split};
+use crate::parts::{make_second, split};
 use reh_census::Ledger;
 use reh_census_file::NameList;
 use reh_inventory::LedgerLine;
@@ -52,14 +52,23 @@ impl InventoryLedgers {
         if !has_named_members(&self.names, &line) {
             return Err(CountFault::Unnamed);
         }
-        let Parts { first, other } = split(line);
+        let mut line = line;
+        self.of_parts(alloc, &mut line)
+    }
+
+    /// The ledgers of its parts.
+    fn of_parts(&self, alloc: Global, line: &mut LedgerLine) -> Result<Vec<Ledger>, CountFault>
+        ensures { IfOk result (λ ledgers. ledgers.items
+            ≡ map (counted_of self.now.names self.now.assumes_striped self.now.is_strict) (parts_of line.old)) }
+    {
+        let other = split(line);
         let mut ledgers = Vec::new(alloc);
-        self.add_part(alloc, &first, &mut ledgers)?;
+        self.add_part(alloc, line, &mut ledgers)?;
         let Some(other) = other else {
             return Ok(ledgers)
         };
-        let second = second(alloc, first, other)?;
-        self.add_part(alloc, &second, &mut ledgers)?;
+        make_second(alloc, line, other)?;
+        self.add_part(alloc, line, &mut ledgers)?;
         Ok(ledgers)
     }
 
