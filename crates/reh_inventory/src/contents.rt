@@ -36,30 +36,18 @@ fn two_numbers(list: &[Value]) -> Option<(u64, u64)>
     }
 }
 
-/// A range of entries that begins at the least entry or after it.
-fn read_range(field: Field, least: u64, range: &Value) -> Result<Range, Fault>
-    ensures fault { result_err result ≡ model.range_fault field least (view range.now) }
-    ensures range { IfOk result (λ r. r ≡ model.range_in field (view range.now)) }
-    ensures within { IfOk result (λ r. r.last ≤ MAX_NUMBER) }
-{
-    let (first, last) = read_ends(field, range)?;
-    if first < least || last < first || last > MAX_NUMBER {
-        return Err(Fault::Limit(field));
-    }
-    Ok(Range { first, last })
-}
-
-/// The range at this place.
-fn read_range_at(field: Field, least: u64, here: Place, range: &Value) -> Result<Range, LineFault>
+/// The range of entries at this place, which begins at the least entry or after it.
+fn read_range(field: Field, least: u64, here: Place, range: &Value) -> Result<Range, LineFault>
     ensures fault { FailsAt result
         (fault_at here (model.range_fault field least (view range.now))) }
     ensures range { IfOk result (λ r. r ≡ model.range_in field (view range.now)) }
     ensures within { IfOk result (λ r. r.last ≤ MAX_NUMBER) }
 {
-    match read_range(field, least, range) {
-        Ok(range) => Ok(range),
-        Err(fault) => Err(LineFault::new(fault, here)),
+    let (first, last) = located(read_ends(field, range), here)?;
+    if first < least || last < first || last > MAX_NUMBER {
+        return Err(LineFault::new(Fault::Limit(field), here));
     }
+    Ok(Range { first, last })
 }
 
 /// The ranges of this list of the content of this number, each past those before it.
@@ -82,7 +70,7 @@ fn read_ranges(
             list: field,
             range: i,
         };
-        let range = read_range_at(field, least, here, value)?;
+        let range = read_range(field, least, here, value)?;
         least = range.last + 1;
         ranges.push(range)?;
     }

@@ -144,6 +144,18 @@ impl Inventory {
         }
     }
 
+    /// An inventory of which the first line came, and no other.
+    pub fn of_head(alloc: Global, head: Head) -> Inventory
+        ensures { model.added model.no_lines (Line.Head head) ≡ Ok result }
+    {
+        Inventory {
+            head: Some(head),
+            ids: IndexSet::new(alloc),
+            unread: 0,
+            is_whole: false,
+        }
+    }
+
     /// The first line, if it came.
     pub fn head(&self) -> Option<&Head>
         ensures { option_map (λ head. head.now) result ≡ self.now.head }

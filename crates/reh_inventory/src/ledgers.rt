@@ -94,24 +94,15 @@ pub struct LedgerLine {
     pub contents: ContentList,
 }
 
-/// A member of an ensemble.
-fn read_member(alloc: Global, member: &Value) -> Result<Name, Fault>
-    ensures fault { FailsWith result (model.member_fault (view member.now)) }
-    ensures name { IfOk result (λ name. model.member_name (view member.now) ≡ name) }
-{
-    let name = member.as_str().ok_or(Fault::WrongKind(Field::Ensemble))?;
-    name_of(alloc, Field::Ensemble, name)
-}
-
-/// The member at this place.
-fn read_member_at(alloc: Global, here: Place, member: &Value) -> Result<Name, LineFault>
+/// The member of an ensemble at this place.
+fn read_member(alloc: Global, here: Place, member: &Value) -> Result<Name, LineFault>
     ensures fault { FailsAt result (fault_at here (model.member_fault (view member.now))) }
     ensures name { IfOk result (λ name. model.member_name (view member.now) ≡ name) }
 {
-    match read_member(alloc, member) {
-        Ok(name) => Ok(name),
-        Err(fault) => Err(LineFault::new(fault, here)),
-    }
+    let Some(name) = member.as_str() else {
+        return Err(LineFault::new(Fault::WrongKind(Field::Ensemble), here));
+    };
+    located(name_of(alloc, Field::Ensemble, name), here)
 }
 
 /// The members of the ensemble of the fragment of this number.
@@ -127,7 +118,7 @@ fn read_ensemble(alloc: Global, fragment: usize, members: &[Value]) -> Result<En
             fragment,
             member: i,
         };
-        ensemble.push(read_member_at(alloc, here, member)?)?;
+        ensemble.push(read_member(alloc, here, member)?)?;
     }
     Ok(Ensemble::of(ensemble))
 }
@@ -261,14 +252,6 @@ fn read_sizes(ledger: &Value) -> Result<Sizes, Fault>
     })
 }
 
-/// A ledger's id.
-pub(crate) fn read_id(ledger: &Value) -> Result<u64, Fault>
-    ensures fault { result_err result ≡ model.id_fault (view ledger.now) }
-    ensures id { IfOk result (λ id. number_of (view ledger.now) Field.Id ≡ id) }
-{
-    number_within(ledger, Field::Id, 0, MAX_NUMBER)
-}
-
 /// What stands in a ledger's line before its fragments, and the values of these.
 struct LedgerFields<'a> {
     id: u64,
@@ -291,7 +274,7 @@ fn ledger_fields(ledger: &Value) -> Result<LedgerFields<'_>, Fault>
     ensures fragments { IfOk result
         (λ g. list_of (view ledger.now) Field.Fragments ≡ map view g.fragments.now) }
 {
-    let id = read_id(ledger)?;
+    let id = number_within(ledger, Field::Id, 0, MAX_NUMBER)?;
     let sizes = read_sizes(ledger)?;
     let version = number_if_there(ledger, Field::Version)?;
     let length = number_if_there(ledger, Field::Length)?;

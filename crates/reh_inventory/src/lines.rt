@@ -7,7 +7,7 @@ ghost use Rattle.reh_inventory_fields.specs.Members.{number_of};
 ghost use Rattle.reh_inventory.specs.Lines as model;
 
 use crate::heads::{Head, read_head};
-use crate::ledgers::{LedgerLine, read_id, read_ledger};
+use crate::ledgers::{LedgerLine, read_ledger};
 use reh_inventory_fields::members::{MAX_NUMBER, flag, flag_if_there, has, number_within};
 use reh_inventory_fields::{Fault, Field, LineFault, Place};
 use serde_json::Value;
@@ -84,7 +84,7 @@ fn read_ledger_line(alloc: Global, line: &Value) -> Result<Line, LineFault>
     ensures line { IfOk result (λ read. read ≡ model.ledger_line_in (view line.now)) }
 {
     if flag_if_there(line, Field::Unread)? {
-        let id = read_id(line)?;
+        let id = number_within(line, Field::Id, 0, MAX_NUMBER)?;
         return Ok(Line::Unread(id));
     }
     let ledger = read_ledger(alloc, line)?;
