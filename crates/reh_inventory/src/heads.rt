@@ -173,28 +173,10 @@ fn read_held(head: &Value) -> Result<bool, Fault>
     }
 }
 
-/// What stands in the first line before its bookies, and the values of these.
-struct HeadFields<'a> {
-    taken: Option<Name>,
-    grace: u64,
-    delay: u64,
-    assumes_striped: bool,
-    bookies: &'a [Value],
-}
-
-/// The fields of the first line.
-fn head_fields(alloc: Global, head: &Value) -> Result<HeadFields<'_>, Fault>
-    ensures fault { FailsWith result (model.before_bookies (view head.now)) }
-    ensures taken { IfOk result
-        (λ h. h.taken ≡ name_if_there_in (view head.now) Field.Taken) }
-    ensures grace { IfOk result (λ h. number_of (view head.now) Field.Grace ≡ h.grace) }
-    ensures delay { IfOk result
-        (λ h. number_of (view head.now) Field.LostDelayTicks ≡ h.delay) }
-    ensures held { IfOk result
-        (λ h. h.assumes_striped ≡ model.assumes_striped (view head.now)) }
-    ensures bookies { IfOk result
-        (λ h. list_of (view head.now) Field.Bookies ≡ map view h.bookies.now) }
-    ensures within { IfOk result (λ h. length h.bookies.now ≤ MAX_NAMES) }
+/// The first line.
+pub(crate) fn read_head(alloc: Global, head: &Value) -> Result<Head, LineFault>
+    ensures fault { FailsAt result (model.head_fault (view head.now)) }
+    ensures head { IfOk result (λ h. h ≡ model.head_in (view head.now)) }
 {
     number_within(head, Field::Inventory, 1, 1)?;
     let taken = read_taken(alloc, head)?;
@@ -202,27 +184,6 @@ fn head_fields(alloc: Global, head: &Value) -> Result<HeadFields<'_>, Fault>
     let delay = number_within(head, Field::LostDelayTicks, 0, MAX_DELAY)?;
     let assumes_striped = read_held(head)?;
     let bookies = list_within(head, Field::Bookies, 1, MAX_NAMES)?;
-    Ok(HeadFields {
-        taken,
-        grace,
-        delay,
-        assumes_striped,
-        bookies,
-    })
-}
-
-/// The first line.
-pub(crate) fn read_head(alloc: Global, head: &Value) -> Result<Head, LineFault>
-    ensures fault { FailsAt result (model.head_fault (view head.now)) }
-    ensures head { IfOk result (λ h. h ≡ model.head_in (view head.now)) }
-{
-    let HeadFields {
-        taken,
-        grace,
-        delay,
-        assumes_striped,
-        bookies,
-    } = head_fields(alloc, head)?;
     let bookies = read_each_bookie(alloc, bookies)?;
     Ok(Head {
         taken,

@@ -130,24 +130,6 @@ struct Bounds {
     most: u64,
 }
 
-/// A fragment's first entry within these bounds, and the members of its ensemble of this size.
-fn fragment_fields(size: u64, bounds: Bounds, fragment: &Value) -> Result<(u64, &[Value]), Fault>
-    requires { size ≤ MAX_ENSEMBLE }
-    ensures fault { result_err result
-        ≡ model.before_members size (bounds.least, bounds.most) (view fragment.now) }
-    ensures first { IfOk result (λ r. number_of (view fragment.now) Field.FirstEntry ≡ r.0) }
-    ensures within { IfOk result (λ r. r.0 ≤ bounds.most) }
-    ensures members { IfOk result
-        (λ r. list_of (view fragment.now) Field.Ensemble ≡ map view r.1.now) }
-{
-    if !fragment.is_object() {
-        return Err(Fault::WrongKind(Field::Fragment));
-    }
-    let first = number_within(fragment, Field::FirstEntry, bounds.least, bounds.most)?;
-    let members = list_within(fragment, Field::Ensemble, size as usize, size as usize)?;
-    Ok((first, members))
-}
-
 /// The fragment of this number, with an ensemble of this size, whose first entry is within these bounds.
 fn read_fragment(
     alloc: Global,
@@ -163,7 +145,13 @@ fn read_fragment(
     ensures within { IfOk result (λ f. f.first ≤ bounds.most) }
 {
     let here = Place::Fragment(number);
-    let (first, members) = located(fragment_fields(size, bounds, fragment), here)?;
+    if !fragment.is_object() {
+        return Err(LineFault::new(Fault::WrongKind(Field::Fragment), here));
+    }
+    let first = number_within(fragment, Field::FirstEntry, bounds.least, bounds.most);
+    let first = located(first, here)?;
+    let members = list_within(fragment, Field::Ensemble, size as usize, size as usize);
+    let members = located(members, here)?;
     let ensemble = read_ensemble(alloc, number, members)?;
     Ok(Fragment { first, ensemble })
 }
@@ -252,27 +240,10 @@ fn read_sizes(ledger: &Value) -> Result<Sizes, Fault>
     })
 }
 
-/// What stands in a ledger's line before its fragments, and the values of these.
-struct LedgerFields<'a> {
-    id: u64,
-    sizes: Sizes,
-    version: Option<u64>,
-    length: Option<u64>,
-    fragments: &'a [Value],
-}
-
-/// The fields of a ledger.
-fn ledger_fields(ledger: &Value) -> Result<LedgerFields<'_>, Fault>
-    ensures fault { result_err result ≡ model.before_fragments (view ledger.now) }
-    ensures id { IfOk result (λ g. number_of (view ledger.now) Field.Id ≡ g.id) }
-    ensures sizes { IfOk result (λ g. g.sizes ≡ model.sizes_in (view ledger.now)) }
-    ensures small { IfOk result (λ g. g.sizes.ensemble ≤ MAX_ENSEMBLE) }
-    ensures version { IfOk result
-        (λ g. g.version ≡ number_if_there_in (view ledger.now) Field.Version) }
-    ensures length { IfOk result
-        (λ g. g.length ≡ number_if_there_in (view ledger.now) Field.Length) }
-    ensures fragments { IfOk result
-        (λ g. list_of (view ledger.now) Field.Fragments ≡ map view g.fragments.now) }
+/// The line of a ledger that was read.
+pub(crate) fn read_ledger(alloc: Global, ledger: &Value) -> Result<LedgerLine, LineFault>
+    ensures fault { FailsAt result (model.ledger_fault (view ledger.now)) }
+    ensures ledger { IfOk result (λ g. g ≡ model.ledger_in (view ledger.now)) }
 {
     let id = number_within(ledger, Field::Id, 0, MAX_NUMBER)?;
     let sizes = read_sizes(ledger)?;
@@ -280,29 +251,8 @@ fn ledger_fields(ledger: &Value) -> Result<LedgerFields<'_>, Fault>
     let length = number_if_there(ledger, Field::Length)?;
     let fragments = list(ledger, Field::Fragments)?;
     if fragments.is_empty() {
-        return Err(Fault::Limit(Field::Fragments));
+        return Err(LineFault::from(Fault::Limit(Field::Fragments)));
     }
-    Ok(LedgerFields {
-        id,
-        sizes,
-        version,
-        length,
-        fragments,
-    })
-}
-
-/// The line of a ledger that was read.
-pub(crate) fn read_ledger(alloc: Global, ledger: &Value) -> Result<LedgerLine, LineFault>
-    ensures fault { FailsAt result (model.ledger_fault (view ledger.now)) }
-    ensures ledger { IfOk result (λ g. g ≡ model.ledger_in (view ledger.now)) }
-{
-    let LedgerFields {
-        id,
-        sizes,
-        version,
-        length,
-        fragments,
-    } = ledger_fields(ledger)?;
     let (fragments, next) = read_each_fragment(alloc, sizes.ensemble, fragments)?;
     let state = read_state(ledger, next)?;
     let contents = read_contents(alloc, ledger)?;
