@@ -1,6 +1,5 @@
 // What the line of a ledger tells of the entries that bookies hold.
 ghost use Rattle.std.specs.Prelude.{◌≡◌, ◌<◌, ◌≤◌, [], ◌∷◌, ◌++◌, length, map, IfOk, OnOk};
-ghost use Rattle.std.specs.Result.{result_err};
 ghost use Rattle.serde_json.specs.View.{view};
 ghost use Rattle.reh_census_file.specs.declared.lists.TheConstants.{MAX_NAMES};
 ghost use Rattle.reh_inventory_fields.specs.Faults.{FailsWith, FailsAt, fault_at};

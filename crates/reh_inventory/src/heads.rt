@@ -4,7 +4,7 @@ ghost use Rattle.std.specs.Result.{result_err};
 ghost use Rattle.serde_json.specs.View.{view};
 ghost use Rattle.reh_census_file.specs.declared.lists.TheConstants.{MAX_NAMES};
 ghost use Rattle.reh_inventory_fields.specs.Faults.{FailsWith, FailsAt, fault_at};
-ghost use Rattle.reh_inventory_fields.specs.Members.{list_of, number_of, text_of, name_if_there as name_if_there_in};
+ghost use Rattle.reh_inventory_fields.specs.Members.{text_of, name_if_there as name_if_there_in};
 ghost use Rattle.reh_inventory.specs.Heads as model;
 
 use reh_census_file::{MAX_NAMES, NameList as Names};

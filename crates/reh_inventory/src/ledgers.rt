@@ -2,8 +2,7 @@
 ghost use Rattle.std.specs.Prelude.{◌≡◌, ◌<◌, ◌≤◌, ◌-◌, true, Some, slice_get, take, [], ◌∷◌, ◌++◌, length, map, IfOk, OnOk};
 ghost use Rattle.std.specs.Result.{result_err};
 ghost use Rattle.serde_json.specs.View.{view};
-ghost use Rattle.reh_inventory_fields.specs.Faults.{FailsWith, FailsAt, fault_at};
-ghost use Rattle.reh_inventory_fields.specs.Members.{list_of, number_of, number_if_there as number_if_there_in};
+ghost use Rattle.reh_inventory_fields.specs.Faults.{FailsAt, fault_at};
 ghost use Rattle.reh_inventory.specs.Ledgers as model;
 
 use crate::contents::{ContentList, read_contents};

@@ -14,7 +14,7 @@ use crate::parts::{make_second, split};
 use reh_census::Ledger;
 use reh_census_file::NameList;
 use reh_inventory::LedgerLine;
-use std::alloc::{AllocError, Global};
+use std::alloc::Global;
 
 /// How a census counts the ledgers of an inventory: by the numbers of these names.
 #[derive(Drop)]
