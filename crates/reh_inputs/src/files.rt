@@ -172,27 +172,6 @@ fn numbers_in(alloc: Global, names: &ClusterNames, named: &NameList) -> Result<V
     Ok(numbers)
 }
 
-/// Adds what a census counts, whose bookies have these numbers in the cluster.
-fn add_counted(
-    alloc: Global,
-    numbers: &[u16],
-    counted: &Census,
-    counts: &mut Counts,
-) -> Result<(), AllocError>
-    ensures entries { OnOk result (counts.new.entries.items
-        ≡ counts.old.entries.items ++ map (model.counted_by numbers.now) counted.now.entries) }
-    ensures tails { OnOk result (counts.new.tails.items
-        ≡ counts.old.tails.items ++ map (model.counted_tail_by numbers.now) counted.now.tails) }
-    ensures ensembles { OnOk result (counts.new.ensembles.items
-        ≡ counts.old.ensembles.items ++ map (model.counted_ensemble_by numbers.now) counted.now.ensembles) }
-    ensures well_formed { OnOk result (All (λ t. IsTail t.tail) counts.old.tails.items
-        → All (λ t. IsTail t.tail) counts.new.tails.items) }
-{
-    add_entries(alloc, numbers, counted.entries(), &mut counts.entries)?;
-    add_tails(alloc, numbers, counted.tails(), &mut counts.tails)?;
-    add_ensembles(alloc, numbers, counted.ensembles(), &mut counts.ensembles)
-}
-
 /// Adds what a census counts.
 fn add_census(
     alloc: Global,
@@ -210,7 +189,10 @@ fn add_census(
         → All (λ t. IsTail t.tail) counts.new.tails.items) }
 {
     let numbers = numbers_in(alloc, names, census.names())?;
-    add_counted(alloc, &numbers, census.census(), counts)
+    let counted = census.census();
+    add_entries(alloc, &numbers, counted.entries(), &mut counts.entries)?;
+    add_tails(alloc, &numbers, counted.tails(), &mut counts.tails)?;
+    add_ensembles(alloc, &numbers, counted.ensembles(), &mut counts.ensembles)
 }
 
 /// Adds what an input counts, if it is a census file.

@@ -186,25 +186,16 @@ fn add_ids_of(
     add_ids(ids, input, &more)
 }
 
-/// The ids of the pictures' ledgers.
-fn all_ids(alloc: Global, inputs: &[Input]) -> Result<IndexSet<u64>, GatherFault>
-    ensures ids { IfOk result (λ ids. ids.keys ≡ flat_map (of_picture model.ids_in) inputs.now) }
-    ensures fault { IfErr result (λ fault. (strict : Bool) → IsGatherFault inputs.now strict fault) }
-{
-    let mut ids = IndexSet::new(alloc);
-    for (input, one) in inputs.iter().enumerate() {
-        add_ids_of(alloc, &mut ids, input, one)?;
-    }
-    Ok(ids)
-}
-
 /// The ids of the pictures' ledgers, each once.
 fn each_id(alloc: Global, inputs: &[Input]) -> Result<Vec<u64>, GatherFault>
     ensures ids { IfOk result (λ ids. ids.items ≡ flat_map (of_picture model.ids_in) inputs.now) }
     ensures each_once { IfOk result (λ ids. IsDistinct nat_eq ids.items) }
     ensures fault { IfErr result (λ fault. (strict : Bool) → IsGatherFault inputs.now strict fault) }
 {
-    let ids = all_ids(alloc, inputs)?;
+    let mut ids = IndexSet::new(alloc);
+    for (input, one) in inputs.iter().enumerate() {
+        add_ids_of(alloc, &mut ids, input, one)?;
+    }
     let each = Vec::from_slice(alloc, ids.as_slice())?;
     Ok(each)
 }
