@@ -239,13 +239,12 @@ pub(crate) fn add_files(
     Ok(())
 }
 
-/// Adds counts after others.
-pub(crate) fn append_counts(counts: &mut Counts, more: Counts) -> Result<(), AllocError>
-    ensures entries { OnOk result (counts.new.entries.items ≡ counts.old.entries.items ++ more.entries.items) }
-    ensures tails { OnOk result (counts.new.tails.items ≡ counts.old.tails.items ++ more.tails.items) }
-    ensures ensembles { OnOk result (counts.new.ensembles.items ≡ counts.old.ensembles.items ++ more.ensembles.items) }
+/// Moves counts after others.
+pub(crate) fn append_counts(counts: &mut Counts, more: &mut Counts) -> Result<(), AllocError>
+    ensures entries { OnOk result (counts.new.entries.items ≡ counts.old.entries.items ++ more.old.entries.items) }
+    ensures tails { OnOk result (counts.new.tails.items ≡ counts.old.tails.items ++ more.old.tails.items) }
+    ensures ensembles { OnOk result (counts.new.ensembles.items ≡ counts.old.ensembles.items ++ more.old.ensembles.items) }
 {
-    let mut more = more;
     counts.entries.append(&mut more.entries)?;
     counts.tails.append(&mut more.tails)?;
     counts.ensembles.append(&mut more.ensembles)

@@ -286,7 +286,7 @@ fn joined(low: Part, high: Part) -> Result<Part, GatherFault>
         return Err(GatherFault::TooMany);
     };
     part.ledgers.append(&mut more.ledgers)?;
-    append_counts(&mut part.counts, more.counts)?;
+    append_counts(&mut part.counts, &mut more.counts)?;
     part.assumed = assumed;
     Ok(part)
 }
