@@ -1,12 +1,8 @@
 // The census of an inventory, line after line.
 ghost use Rattle.std.specs.Prelude.{◌≡◌, ◌≤◌, ◌^◌, ◌++◌, ◌∷◌, [], ℕ, Bool, true, List, Ok, IfOk, OnOk, map, option_map, string_bytes};
 ghost use Rattle.reh_census.specs.Counting.{not_judged};
-ghost use Rattle.reh_census.specs.Ledgers.{Ledger as LedgerValue};
-ghost use Rattle.reh_census.specs.Order.{IsInOrder};
-ghost use Rattle.reh_census_file.specs.Values.{named_by};
 ghost use Rattle.reh_inventory.specs.Lines.{located_line_of};
 ghost use Rattle.reh_inventory_census.specs.Bookies as bookies;
-ghost use Rattle.reh_inventory_census.specs.Counting.{CountsLedgers, counts_in};
 ghost use Rattle.reh_inventory_census.specs.Numbers.{bookies_named};
 ghost use Rattle.reh_inventory_census.specs.declared.census.CountedLine.{CountedLine as CountedValue};
 ghost use Rattle.reh_inventory_census.specs.Census as model;
@@ -118,35 +114,6 @@ fn judged(inventory: Inventory, counter: &Counter) -> Result<Judged, CountFault>
     Ok(judged)
 }
 
-/// The census of what was counted, with its names.
-fn named_census(
-    alloc: Global,
-    counter: Counter,
-    racks: NameList,
-    taken: Option<String>,
-    judged: Judged,
-) -> Result<NamedCensus, CountFault>
-    requires { not_judged judged ≤ 2 ^ 63 }
-    ensures named { IfOk result (λ made. made
-        ≡ named_by counter.names racks counter.bookies made.census counter.is_strict
-        (option_map string_bytes taken)) }
-    ensures counts { IfOk result (λ made. (holders : List ℕ) (ledgers : List LedgerValue)
-        → CountsLedgers holders ledgers counter.counts
-        → CountsLedgers holders ledgers (counts_in made.census)) }
-    ensures judged { IfOk result (λ made. made.census.judged ≡ judged) }
-    ensures order { IfOk result (λ made. IsInOrder made.census) }
-{
-    let Counter {
-        names,
-        bookies,
-        is_strict,
-        counts,
-        ..
-    } = counter;
-    let census = counts.into_census(alloc, judged)?;
-    Ok(NamedCensus::of(names, racks, bookies, census, is_strict, taken))
-}
-
 impl InventoryCount {
     /// Nothing counted but an inventory's first line. Bookies have the numbers of these names: all bookies of the first
     /// line, and of the lines to come. In a strict count what is assumed counts as untold.
@@ -234,6 +201,14 @@ impl InventoryCount {
             taken,
         } = self;
         let judged = judged(inventory, &counter)?;
-        named_census(alloc, counter, racks, taken, judged)
+        let Counter {
+            names,
+            bookies,
+            is_strict,
+            counts,
+            ..
+        } = counter;
+        let census = counts.into_census(alloc, judged)?;
+        Ok(NamedCensus::of(names, racks, bookies, census, is_strict, taken))
     }
 }
