@@ -12,3 +12,4 @@ pub mod FaultLaws
 pub mod JudgedLaws
 pub mod ReadingLaws
 pub mod TogetherLaws
+pub mod PlaceLaws

@@ -226,7 +226,12 @@ fn first_in(all: &[Shown], rack: &str) -> Option<u16>
 fn place_of(all: &[Shown], rack: &str) -> Option<usize>
     ensures { result ≡ position (is_in rack.now) all.now }
 {
-    all.iter().position(|other| other.is_in(rack))
+    for (place, shown) in all.iter().enumerate() {
+        if shown.is_in(rack) {
+            return Some(place);
+        }
+    }
+    None
 }
 
 /// Whether the bookie of that number is the first in its rack.

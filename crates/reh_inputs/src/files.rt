@@ -172,28 +172,6 @@ fn numbers_in(alloc: Global, names: &ClusterNames, named: &NameList) -> Result<V
     Ok(numbers)
 }
 
-/// Adds what a census counts, whose bookies have these numbers in the cluster.
-fn add_counted(
-    alloc: Global,
-    numbers: &[u16],
-    counted: &Census,
-    counts: &mut Counts,
-) -> Result<(), AllocError>
-    ensures entries { OnOk result (counts.new.entries.items
-        ≡ counts.old.entries.items ++ map (model.counted_by numbers.now) counted.now.entries) }
-    ensures tails { OnOk result (counts.new.tails.items
-        ≡ counts.old.tails.items ++ map (model.counted_tail_by numbers.now) counted.now.tails) }
-    ensures ensembles { OnOk result (counts.new.ensembles.items
-        ≡ counts.old.ensembles.items ++ map (model.counted_ensemble_by numbers.now) counted.now.ensembles) }
-    ensures well_formed { OnOk result (All (λ t. IsTail t.tail) counts.old.tails.items
-        → All (λ t. IsTail t.tail) counts.new.tails.items) }
-{
-    add_entries(alloc, numbers, counted.entries(), &mut counts.entries)?;
-    add_tails(alloc, numbers, counted.tails(), &mut counts.tails)?;
-    add_ensembles(alloc, numbers, counted.ensembles(), &mut counts.ensembles)?;
-    Ok(())
-}
-
 /// Adds what a census counts.
 fn add_census(
     alloc: Global,
@@ -211,8 +189,10 @@ fn add_census(
         → All (λ t. IsTail t.tail) counts.new.tails.items) }
 {
     let numbers = numbers_in(alloc, names, census.names())?;
-    add_counted(alloc, &numbers, census.census(), counts)?;
-    Ok(())
+    let counted = census.census();
+    add_entries(alloc, &numbers, counted.entries(), &mut counts.entries)?;
+    add_tails(alloc, &numbers, counted.tails(), &mut counts.tails)?;
+    add_ensembles(alloc, &numbers, counted.ensembles(), &mut counts.ensembles)
 }
 
 /// Adds what an input counts, if it is a census file.
@@ -259,17 +239,15 @@ pub(crate) fn add_files(
     Ok(())
 }
 
-/// Adds counts after others.
-pub(crate) fn append_counts(counts: &mut Counts, more: Counts) -> Result<(), AllocError>
-    ensures entries { OnOk result (counts.new.entries.items ≡ counts.old.entries.items ++ more.entries.items) }
-    ensures tails { OnOk result (counts.new.tails.items ≡ counts.old.tails.items ++ more.tails.items) }
-    ensures ensembles { OnOk result (counts.new.ensembles.items ≡ counts.old.ensembles.items ++ more.ensembles.items) }
+/// Moves counts after others.
+pub(crate) fn append_counts(counts: &mut Counts, more: &mut Counts) -> Result<(), AllocError>
+    ensures entries { OnOk result (counts.new.entries.items ≡ counts.old.entries.items ++ more.old.entries.items) }
+    ensures tails { OnOk result (counts.new.tails.items ≡ counts.old.tails.items ++ more.old.tails.items) }
+    ensures ensembles { OnOk result (counts.new.ensembles.items ≡ counts.old.ensembles.items ++ more.old.ensembles.items) }
 {
-    let mut more = more;
     counts.entries.append(&mut more.entries)?;
     counts.tails.append(&mut more.tails)?;
-    counts.ensembles.append(&mut more.ensembles)?;
-    Ok(())
+    counts.ensembles.append(&mut more.ensembles)
 }
 
 /// The sum, if a census counts so much.

@@ -114,22 +114,17 @@ fn is_other(input: &Input, strict: bool) -> bool
     }
 }
 
-/// The first census that was made otherwise, if there is one.
-fn first_other(inputs: &[Input], strict: bool) -> Option<usize>
-    ensures { result ≡ model.first_other strict inputs.now }
-{
-    inputs.iter().position(|input| is_other(input, strict))
-}
-
 /// That each census among the inputs was made with `--strict`, or each without, as is asked.
 fn check_strict(inputs: &[Input], strict: bool) -> Result<(), GatherFault>
     ensures alike { OnOk result (model.first_other strict inputs.now ≡ None) }
     ensures fault { IfErr result (IsGatherFault inputs.now strict) }
 {
-    match first_other(inputs, strict) {
-        Some(input) => Err(GatherFault::OtherStrict { input }),
-        None => Ok(()),
+    for (input, one) in inputs.iter().enumerate() {
+        if is_other(one, strict) {
+            return Err(GatherFault::OtherStrict { input });
+        }
     }
+    Ok(())
 }
 
 /// The cluster of the inputs.
@@ -191,25 +186,16 @@ fn add_ids_of(
     add_ids(ids, input, &more)
 }
 
-/// The ids of the pictures' ledgers.
-fn all_ids(alloc: Global, inputs: &[Input]) -> Result<IndexSet<u64>, GatherFault>
-    ensures ids { IfOk result (λ ids. ids.keys ≡ flat_map (of_picture model.ids_in) inputs.now) }
-    ensures fault { IfErr result (λ fault. (strict : Bool) → IsGatherFault inputs.now strict fault) }
-{
-    let mut ids = IndexSet::new(alloc);
-    for (input, one) in inputs.iter().enumerate() {
-        add_ids_of(alloc, &mut ids, input, one)?;
-    }
-    Ok(ids)
-}
-
 /// The ids of the pictures' ledgers, each once.
 fn each_id(alloc: Global, inputs: &[Input]) -> Result<Vec<u64>, GatherFault>
     ensures ids { IfOk result (λ ids. ids.items ≡ flat_map (of_picture model.ids_in) inputs.now) }
     ensures each_once { IfOk result (λ ids. IsDistinct nat_eq ids.items) }
     ensures fault { IfErr result (λ fault. (strict : Bool) → IsGatherFault inputs.now strict fault) }
 {
-    let ids = all_ids(alloc, inputs)?;
+    let mut ids = IndexSet::new(alloc);
+    for (input, one) in inputs.iter().enumerate() {
+        add_ids_of(alloc, &mut ids, input, one)?;
+    }
     let each = Vec::from_slice(alloc, ids.as_slice())?;
     Ok(each)
 }

@@ -150,11 +150,12 @@ fn count_held(entries: &[Counted]) -> u64
 fn is_assumed_in_picture(listed: &Listed) -> bool
     ensures { result ≡ list_any (λ h. h.is_assumed) listed.now.listing.holdings.items }
 {
-    listed
-        .listing
-        .holdings
-        .iter()
-        .any(|holding| holding.is_assumed())
+    for holding in &listed.listing.holdings {
+        if holding.is_assumed() {
+            return true;
+        }
+    }
+    false
 }
 
 /// Whether something is assumed in an input.
@@ -171,7 +172,12 @@ fn is_assumed_in(input: &Input) -> bool
 fn is_assumed_in_any(inputs: &[Input]) -> bool
     ensures { result ≡ list_any model.is_assumed_in inputs.now }
 {
-    inputs.iter().any(|input| is_assumed_in(input))
+    for input in inputs {
+        if is_assumed_in(input) {
+            return true;
+        }
+    }
+    false
 }
 
 /// How many entries rest on an assumption: some bookie that may hold copies is assumed to hold them.
@@ -213,8 +219,7 @@ fn assumed_of(
     if strict {
         return Ok(0);
     }
-    let assumed = count_assumed(alloc, bookies, names, first, inputs)?;
-    Ok(assumed)
+    count_assumed(alloc, bookies, names, first, inputs)
 }
 
 /// How inputs are read. With `strict`, what is assumed counts as untold.
@@ -281,7 +286,7 @@ fn joined(low: Part, high: Part) -> Result<Part, GatherFault>
         return Err(GatherFault::TooMany);
     };
     part.ledgers.append(&mut more.ledgers)?;
-    append_counts(&mut part.counts, more.counts)?;
+    append_counts(&mut part.counts, &mut more.counts)?;
     part.assumed = assumed;
     Ok(part)
 }

@@ -108,10 +108,7 @@ fn rack_in(alloc: Global, racks: &NameList, rack: Option<u16>) -> Result<Option<
         ≡ option_and_then (λ rack. slice_get racks.now rack) rack) }
 {
     match rack {
-        Some(rack) => {
-            let copy = rack_of(alloc, racks.name(rack))?;
-            Ok(copy)
-        }
+        Some(rack) => rack_of(alloc, racks.name(rack)),
         None => Ok(None),
     }
 }

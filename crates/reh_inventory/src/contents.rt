@@ -1,6 +1,5 @@
 // What the line of a ledger tells of the entries that bookies hold.
 ghost use Rattle.std.specs.Prelude.{◌≡◌, ◌<◌, ◌≤◌, [], ◌∷◌, ◌++◌, length, map, IfOk, OnOk};
-ghost use Rattle.std.specs.Result.{result_err};
 ghost use Rattle.serde_json.specs.View.{view};
 ghost use Rattle.reh_census_file.specs.declared.lists.TheConstants.{MAX_NAMES};
 ghost use Rattle.reh_inventory_fields.specs.Faults.{FailsWith, FailsAt, fault_at};
@@ -10,7 +9,7 @@ ghost use Rattle.reh_inventory.specs.Contents as model;
 use reh_census::{Range, Ranges};
 use reh_census_file::{MAX_NAMES, NameList as Names};
 use reh_inventory_fields::members::{MAX_NUMBER, flag_if_there, has, list, list_within, name};
-use reh_inventory_fields::{Fault, Field, LineFault, Name, Place};
+use reh_inventory_fields::{Fault, Field, LineFault, Name, Place, located};
 use serde_json::Value;
 use std::alloc::Global;
 use std::marker::Model;
@@ -36,30 +35,18 @@ fn two_numbers(list: &[Value]) -> Option<(u64, u64)>
     }
 }
 
-/// A range of entries that begins at the least entry or after it.
-fn read_range(field: Field, least: u64, range: &Value) -> Result<Range, Fault>
-    ensures fault { result_err result ≡ model.range_fault field least (view range.now) }
-    ensures range { IfOk result (λ r. r ≡ model.range_in field (view range.now)) }
-    ensures within { IfOk result (λ r. r.last ≤ MAX_NUMBER) }
-{
-    let (first, last) = read_ends(field, range)?;
-    if first < least || last < first || last > MAX_NUMBER {
-        return Err(Fault::Limit(field));
-    }
-    Ok(Range { first, last })
-}
-
-/// The range at this place.
-fn read_range_at(field: Field, least: u64, here: Place, range: &Value) -> Result<Range, LineFault>
+/// The range of entries at this place, which begins at the least entry or after it.
+fn read_range(field: Field, least: u64, here: Place, range: &Value) -> Result<Range, LineFault>
     ensures fault { FailsAt result
         (fault_at here (model.range_fault field least (view range.now))) }
     ensures range { IfOk result (λ r. r ≡ model.range_in field (view range.now)) }
     ensures within { IfOk result (λ r. r.last ≤ MAX_NUMBER) }
 {
-    match read_range(field, least, range) {
-        Ok(range) => Ok(range),
-        Err(fault) => Err(LineFault::new(fault, here)),
+    let (first, last) = located(read_ends(field, range), here)?;
+    if first < least || last < first || last > MAX_NUMBER {
+        return Err(LineFault::new(Fault::Limit(field), here));
     }
+    Ok(Range { first, last })
 }
 
 /// The ranges of this list of the content of this number, each past those before it.
@@ -82,7 +69,7 @@ fn read_ranges(
             list: field,
             range: i,
         };
-        let range = read_range_at(field, least, here, value)?;
+        let range = read_range(field, least, here, value)?;
         least = range.last + 1;
         ranges.push(range)?;
     }
@@ -100,7 +87,7 @@ fn read_list(
     ensures ranges { IfOk result (λ ranges. ranges ≡ model.ranges_in field (view content.now)) }
 {
     let here = Place::Content(number);
-    let values = list(content, field).map_err(|fault| LineFault::new(fault, here))?;
+    let values = located(list(content, field), here)?;
     read_ranges(alloc, number, field, values)
 }
 
@@ -205,31 +192,32 @@ fn read_told(alloc: Global, number: usize, content: &Value) -> Result<Option<Ran
     Ok(Some(ranges))
 }
 
-/// The content of this number; its bookie's name joins the names. After an `Err` it may be there.
-fn read_content(
+/// Adds the content of this number; its bookie's name joins the names. After an `Err` it may be there.
+fn add_content(
     alloc: Global,
     names: &mut Names,
     number: usize,
     content: &Value,
-) -> Result<Content, LineFault>
+    contents: &mut Vec<Content>,
+) -> Result<(), LineFault>
     requires { length names.old < MAX_NAMES }
     ensures fault { FailsAt result (model.content_fault number names.old (view content.now)) }
     ensures named { OnOk result
         (names.new ≡ names.old ++ text_of (view content.now) Field.Bookie ∷ []) }
-    ensures content { IfOk result (λ c. c ≡ model.content_in (view content.now)) }
+    ensures added { OnOk result
+        (contents.new.items ≡ contents.old.items ++ model.content_in (view content.now) ∷ []) }
 {
     let here = Place::Content(number);
-    let (bookie, is_assumed) = read_bookie(alloc, names, content).map_err(|fault| LineFault::new(
-        fault, here,
-    ))?;
+    let (bookie, is_assumed) = located(read_bookie(alloc, names, content), here)?;
     let entries = read_entries(alloc, number, content)?;
     let told = read_told(alloc, number, content)?;
-    Ok(Content {
+    contents.push(Content {
         bookie,
         entries,
         told,
         is_assumed,
-    })
+    })?;
+    Ok(())
 }
 
 /// At most 4,096 contents.
@@ -243,7 +231,7 @@ fn read_each_content(alloc: Global, values: &[Value]) -> Result<ContentList, Lin
     let mut names = Names::new(alloc);
     let mut contents = Vec::new(alloc);
     for (i, value) in values.iter().enumerate() {
-        contents.push(read_content(alloc, &mut names, i, value)?)?;
+        add_content(alloc, &mut names, i, value, &mut contents)?;
     }
     Ok(ContentList::of(contents))
 }
@@ -257,9 +245,6 @@ pub(crate) fn read_contents(alloc: Global, ledger: &Value) -> Result<ContentList
     if !has(ledger, Field::Contents) {
         return Ok(ContentList::of(Vec::new(alloc)));
     }
-    let values = list_within(ledger, Field::Contents, 0, MAX_NAMES).map_err(|fault| LineFault::new(
-        fault,
-        Place::Line,
-    ))?;
+    let values = list_within(ledger, Field::Contents, 0, MAX_NAMES)?;
     read_each_content(alloc, values)
 }

@@ -4,7 +4,7 @@ ghost use Rattle.std.specs.Result.{result_err};
 ghost use Rattle.serde_json.specs.View.{view};
 ghost use Rattle.reh_census_file.specs.declared.lists.TheConstants.{MAX_NAMES};
 ghost use Rattle.reh_inventory_fields.specs.Faults.{FailsWith, FailsAt, fault_at};
-ghost use Rattle.reh_inventory_fields.specs.Members.{list_of, number_of, text_of, name_if_there as name_if_there_in};
+ghost use Rattle.reh_inventory_fields.specs.Members.{text_of, name_if_there as name_if_there_in};
 ghost use Rattle.reh_inventory.specs.Heads as model;
 
 use reh_census_file::{MAX_NAMES, NameList as Names};
@@ -104,22 +104,27 @@ fn read_bookie(alloc: Global, names: &mut Names, bookie: &Value) -> Result<Booki
     })
 }
 
-/// The bookie of this number.
-fn read_bookie_at(
+/// Adds the bookie of this number. After an `Err` its name may be there.
+fn add_bookie(
     alloc: Global,
     names: &mut Names,
     number: usize,
     bookie: &Value,
-) -> Result<Bookie, LineFault>
+    read: &mut Vec<Bookie>,
+) -> Result<(), LineFault>
     requires { length names.old < MAX_NAMES }
     ensures fault { FailsAt result
         (fault_at (Place.Bookie number) (model.bookie_fault names.old (view bookie.now))) }
     ensures named { OnOk result
         (names.new ≡ names.old ++ text_of (view bookie.now) Field.Name ∷ []) }
-    ensures bookie { IfOk result (λ b. b ≡ model.bookie_in (view bookie.now)) }
+    ensures added { OnOk result
+        (read.new.items ≡ read.old.items ++ model.bookie_in (view bookie.now) ∷ []) }
 {
     match read_bookie(alloc, names, bookie) {
-        Ok(bookie) => Ok(bookie),
+        Ok(bookie) => {
+            read.push(bookie)?;
+            Ok(())
+        }
         Err(fault) => Err(LineFault::new(fault, Place::Bookie(number))),
     }
 }
@@ -134,7 +139,7 @@ fn read_each_bookie(alloc: Global, bookies: &[Value]) -> Result<BookieList, Line
     let mut names = Names::new(alloc);
     let mut read = Vec::new(alloc);
     for (i, bookie) in bookies.iter().enumerate() {
-        read.push(read_bookie_at(alloc, &mut names, i, bookie)?)?;
+        add_bookie(alloc, &mut names, i, bookie, &mut read)?;
     }
     Ok(BookieList::of(read))
 }
@@ -168,28 +173,10 @@ fn read_held(head: &Value) -> Result<bool, Fault>
     }
 }
 
-/// What stands in the first line before its bookies, and the values of these.
-struct HeadFields<'a> {
-    taken: Option<Name>,
-    grace: u64,
-    delay: u64,
-    assumes_striped: bool,
-    bookies: &'a [Value],
-}
-
-/// The fields of the first line.
-fn head_fields(alloc: Global, head: &Value) -> Result<HeadFields<'_>, Fault>
-    ensures fault { FailsWith result (model.before_bookies (view head.now)) }
-    ensures taken { IfOk result
-        (λ h. h.taken ≡ name_if_there_in (view head.now) Field.Taken) }
-    ensures grace { IfOk result (λ h. number_of (view head.now) Field.Grace ≡ h.grace) }
-    ensures delay { IfOk result
-        (λ h. number_of (view head.now) Field.LostDelayTicks ≡ h.delay) }
-    ensures held { IfOk result
-        (λ h. h.assumes_striped ≡ model.assumes_striped (view head.now)) }
-    ensures bookies { IfOk result
-        (λ h. list_of (view head.now) Field.Bookies ≡ map view h.bookies.now) }
-    ensures within { IfOk result (λ h. length h.bookies.now ≤ MAX_NAMES) }
+/// The first line.
+pub(crate) fn read_head(alloc: Global, head: &Value) -> Result<Head, LineFault>
+    ensures fault { FailsAt result (model.head_fault (view head.now)) }
+    ensures head { IfOk result (λ h. h ≡ model.head_in (view head.now)) }
 {
     number_within(head, Field::Inventory, 1, 1)?;
     let taken = read_taken(alloc, head)?;
@@ -197,27 +184,6 @@ fn head_fields(alloc: Global, head: &Value) -> Result<HeadFields<'_>, Fault>
     let delay = number_within(head, Field::LostDelayTicks, 0, MAX_DELAY)?;
     let assumes_striped = read_held(head)?;
     let bookies = list_within(head, Field::Bookies, 1, MAX_NAMES)?;
-    Ok(HeadFields {
-        taken,
-        grace,
-        delay,
-        assumes_striped,
-        bookies,
-    })
-}
-
-/// The first line.
-pub(crate) fn read_head(alloc: Global, head: &Value) -> Result<Head, LineFault>
-    ensures fault { FailsAt result (model.head_fault (view head.now)) }
-    ensures head { IfOk result (λ h. h ≡ model.head_in (view head.now)) }
-{
-    let HeadFields {
-        taken,
-        grace,
-        delay,
-        assumes_striped,
-        bookies,
-    } = head_fields(alloc, head).map_err(|fault| LineFault::new(fault, Place::Line))?;
     let bookies = read_each_bookie(alloc, bookies)?;
     Ok(Head {
         taken,

@@ -40,13 +40,14 @@ impl fmt::Display for InventoryFault {
 
     fn fmt<W: fmt::Write>(&self, f: &mut fmt::Formatter<W>) -> fmt::Result {
         match self {
-            InventoryFault::Line(fault) => write!(f, "{fault}"),
-            InventoryFault::NoHead => write!(f, "expected a first line, with the field inventory"),
-            InventoryFault::SecondHead => write!(
-                f,
-                "expected no second line with the field inventory"
-            ),
-            InventoryFault::AfterEnd => write!(f, "expected no line after the last one"),
+            InventoryFault::Line(fault) => fmt::Display::fmt(fault, f),
+            InventoryFault::NoHead => {
+                f.write_str("expected a first line, with the field inventory")
+            },
+            InventoryFault::SecondHead => {
+                f.write_str("expected no second line with the field inventory")
+            },
+            InventoryFault::AfterEnd => f.write_str("expected no line after the last one"),
             InventoryFault::Twice(id) => {
                 write!(
                     f,
@@ -59,7 +60,7 @@ impl fmt::Display for InventoryFault {
                     "ledgers: expected {ledgers}, the number of lines of ledgers"
                 )
             }
-            InventoryFault::NoMemory => write!(f, "expected more memory"),
+            InventoryFault::NoMemory => f.write_str("expected more memory"),
         }
     }
 }
@@ -137,6 +138,18 @@ impl Inventory {
     {
         Inventory {
             head: None,
+            ids: IndexSet::new(alloc),
+            unread: 0,
+            is_whole: false,
+        }
+    }
+
+    /// An inventory of which the first line came, and no other.
+    pub fn of_head(alloc: Global, head: Head) -> Inventory
+        ensures { model.added model.no_lines (Line.Head head) ≡ Ok result }
+    {
+        Inventory {
+            head: Some(head),
             ids: IndexSet::new(alloc),
             unread: 0,
             is_whole: false,

@@ -2,8 +2,7 @@
 ghost use Rattle.std.specs.Prelude.{◌≡◌, ◌<◌, ◌≤◌, ◌-◌, true, Some, slice_get, take, [], ◌∷◌, ◌++◌, length, map, IfOk, OnOk};
 ghost use Rattle.std.specs.Result.{result_err};
 ghost use Rattle.serde_json.specs.View.{view};
-ghost use Rattle.reh_inventory_fields.specs.Faults.{FailsWith, FailsAt, fault_at};
-ghost use Rattle.reh_inventory_fields.specs.Members.{list_of, number_of, number_if_there as number_if_there_in};
+ghost use Rattle.reh_inventory_fields.specs.Faults.{FailsAt, fault_at};
 ghost use Rattle.reh_inventory.specs.Ledgers as model;
 
 use crate::contents::{ContentList, read_contents};
@@ -11,7 +10,7 @@ use reh_inventory_fields::members::{
     MAX_ENSEMBLE, MAX_NUMBER, integer, list, list_within, name_of, number_if_there, number_within,
     text,
 };
-use reh_inventory_fields::{Ensemble, Fault, Field, LineFault, Name, Place};
+use reh_inventory_fields::{Ensemble, Fault, Field, LineFault, Name, Place, located};
 use serde_json::Value;
 use std::alloc::Global;
 use std::marker::Model;
@@ -94,24 +93,15 @@ pub struct LedgerLine {
     pub contents: ContentList,
 }
 
-/// A member of an ensemble.
-fn read_member(alloc: Global, member: &Value) -> Result<Name, Fault>
-    ensures fault { FailsWith result (model.member_fault (view member.now)) }
-    ensures name { IfOk result (λ name. model.member_name (view member.now) ≡ name) }
-{
-    let name = member.as_str().ok_or(Fault::WrongKind(Field::Ensemble))?;
-    name_of(alloc, Field::Ensemble, name)
-}
-
-/// The member at this place.
-fn read_member_at(alloc: Global, here: Place, member: &Value) -> Result<Name, LineFault>
+/// The member of an ensemble at this place.
+fn read_member(alloc: Global, here: Place, member: &Value) -> Result<Name, LineFault>
     ensures fault { FailsAt result (fault_at here (model.member_fault (view member.now))) }
     ensures name { IfOk result (λ name. model.member_name (view member.now) ≡ name) }
 {
-    match read_member(alloc, member) {
-        Ok(name) => Ok(name),
-        Err(fault) => Err(LineFault::new(fault, here)),
-    }
+    let Some(name) = member.as_str() else {
+        return Err(LineFault::new(Fault::WrongKind(Field::Ensemble), here));
+    };
+    located(name_of(alloc, Field::Ensemble, name), here)
 }
 
 /// The members of the ensemble of the fragment of this number.
@@ -127,7 +117,7 @@ fn read_ensemble(alloc: Global, fragment: usize, members: &[Value]) -> Result<En
             fragment,
             member: i,
         };
-        ensemble.push(read_member_at(alloc, here, member)?)?;
+        ensemble.push(read_member(alloc, here, member)?)?;
     }
     Ok(Ensemble::of(ensemble))
 }
@@ -137,24 +127,6 @@ fn read_ensemble(alloc: Global, fragment: usize, members: &[Value]) -> Result<En
 struct Bounds {
     least: u64,
     most: u64,
-}
-
-/// A fragment's first entry within these bounds, and the members of its ensemble of this size.
-fn fragment_fields(size: u64, bounds: Bounds, fragment: &Value) -> Result<(u64, &[Value]), Fault>
-    requires { size ≤ MAX_ENSEMBLE }
-    ensures fault { result_err result
-        ≡ model.before_members size (bounds.least, bounds.most) (view fragment.now) }
-    ensures first { IfOk result (λ r. number_of (view fragment.now) Field.FirstEntry ≡ r.0) }
-    ensures within { IfOk result (λ r. r.0 ≤ bounds.most) }
-    ensures members { IfOk result
-        (λ r. list_of (view fragment.now) Field.Ensemble ≡ map view r.1.now) }
-{
-    if !fragment.is_object() {
-        return Err(Fault::WrongKind(Field::Fragment));
-    }
-    let first = number_within(fragment, Field::FirstEntry, bounds.least, bounds.most)?;
-    let members = list_within(fragment, Field::Ensemble, size as usize, size as usize)?;
-    Ok((first, members))
 }
 
 /// The fragment of this number, with an ensemble of this size, whose first entry is within these bounds.
@@ -172,9 +144,13 @@ fn read_fragment(
     ensures within { IfOk result (λ f. f.first ≤ bounds.most) }
 {
     let here = Place::Fragment(number);
-    let (first, members) = fragment_fields(size, bounds, fragment).map_err(|fault| LineFault::new(
-        fault, here,
-    ))?;
+    if !fragment.is_object() {
+        return Err(LineFault::new(Fault::WrongKind(Field::Fragment), here));
+    }
+    let first = number_within(fragment, Field::FirstEntry, bounds.least, bounds.most);
+    let first = located(first, here)?;
+    let members = list_within(fragment, Field::Ensemble, size as usize, size as usize);
+    let members = located(members, here)?;
     let ensemble = read_ensemble(alloc, number, members)?;
     Ok(Fragment { first, ensemble })
 }
@@ -263,67 +239,21 @@ fn read_sizes(ledger: &Value) -> Result<Sizes, Fault>
     })
 }
 
-/// A ledger's id.
-pub(crate) fn read_id(ledger: &Value) -> Result<u64, Fault>
-    ensures fault { result_err result ≡ model.id_fault (view ledger.now) }
-    ensures id { IfOk result (λ id. number_of (view ledger.now) Field.Id ≡ id) }
-{
-    number_within(ledger, Field::Id, 0, MAX_NUMBER)
-}
-
-/// What stands in a ledger's line before its fragments, and the values of these.
-struct LedgerFields<'a> {
-    id: u64,
-    sizes: Sizes,
-    version: Option<u64>,
-    length: Option<u64>,
-    fragments: &'a [Value],
-}
-
-/// The fields of a ledger.
-fn ledger_fields(ledger: &Value) -> Result<LedgerFields<'_>, Fault>
-    ensures fault { result_err result ≡ model.before_fragments (view ledger.now) }
-    ensures id { IfOk result (λ g. number_of (view ledger.now) Field.Id ≡ g.id) }
-    ensures sizes { IfOk result (λ g. g.sizes ≡ model.sizes_in (view ledger.now)) }
-    ensures small { IfOk result (λ g. g.sizes.ensemble ≤ MAX_ENSEMBLE) }
-    ensures version { IfOk result
-        (λ g. g.version ≡ number_if_there_in (view ledger.now) Field.Version) }
-    ensures length { IfOk result
-        (λ g. g.length ≡ number_if_there_in (view ledger.now) Field.Length) }
-    ensures fragments { IfOk result
-        (λ g. list_of (view ledger.now) Field.Fragments ≡ map view g.fragments.now) }
-{
-    let id = read_id(ledger)?;
-    let sizes = read_sizes(ledger)?;
-    let version = number_if_there(ledger, Field::Version)?;
-    let length = number_if_there(ledger, Field::Length)?;
-    let fragments = list(ledger, Field::Fragments)?;
-    if fragments.is_empty() {
-        return Err(Fault::Limit(Field::Fragments));
-    }
-    Ok(LedgerFields {
-        id,
-        sizes,
-        version,
-        length,
-        fragments,
-    })
-}
-
 /// The line of a ledger that was read.
 pub(crate) fn read_ledger(alloc: Global, ledger: &Value) -> Result<LedgerLine, LineFault>
     ensures fault { FailsAt result (model.ledger_fault (view ledger.now)) }
     ensures ledger { IfOk result (λ g. g ≡ model.ledger_in (view ledger.now)) }
 {
-    let LedgerFields {
-        id,
-        sizes,
-        version,
-        length,
-        fragments,
-    } = ledger_fields(ledger).map_err(|fault| LineFault::new(fault, Place::Line))?;
+    let id = number_within(ledger, Field::Id, 0, MAX_NUMBER)?;
+    let sizes = read_sizes(ledger)?;
+    let version = number_if_there(ledger, Field::Version)?;
+    let length = number_if_there(ledger, Field::Length)?;
+    let fragments = list(ledger, Field::Fragments)?;
+    if fragments.is_empty() {
+        return Err(LineFault::from(Fault::Limit(Field::Fragments)));
+    }
     let (fragments, next) = read_each_fragment(alloc, sizes.ensemble, fragments)?;
-    let state = read_state(ledger, next).map_err(|fault| LineFault::new(fault, Place::Line))?;
+    let state = read_state(ledger, next)?;
     let contents = read_contents(alloc, ledger)?;
     Ok(LedgerLine {
         id,

@@ -7,7 +7,7 @@ ghost use Rattle.reh_inventory_fields.specs.Members.{number_of};
 ghost use Rattle.reh_inventory.specs.Lines as model;
 
 use crate::heads::{Head, read_head};
-use crate::ledgers::{LedgerLine, read_id, read_ledger};
+use crate::ledgers::{LedgerLine, read_ledger};
 use reh_inventory_fields::members::{MAX_NUMBER, flag, flag_if_there, has, number_within};
 use reh_inventory_fields::{Fault, Field, LineFault, Place};
 use serde_json::Value;
@@ -35,8 +35,7 @@ pub fn read_line(alloc: Global, bytes: &[u8]) -> Result<Line, LineFault>
         → model.located_line_of bytes.now ≡ Err (located.fault, located.place)) }
 {
     let value = read_json(alloc, bytes)?;
-    let line = read_value(alloc, &value)?;
-    Ok(line)
+    read_value(alloc, &value)
 }
 
 /// The JSON value of a line's bytes.
@@ -61,7 +60,7 @@ fn read_value(alloc: Global, line: &Value) -> Result<Line, LineFault>
         return Ok(Line::Head(head));
     }
     if has(line, Field::End) {
-        let ledgers = read_end(line).map_err(|fault| LineFault::new(fault, Place::Line))?;
+        let ledgers = read_end(line)?;
         return Ok(Line::End(ledgers));
     }
     read_ledger_line(alloc, line)
@@ -79,22 +78,13 @@ fn read_end(line: &Value) -> Result<u64, Fault>
     number_within(line, Field::Ledgers, 0, MAX_NUMBER)
 }
 
-/// The id of a ledger, and whether it could not be read.
-fn read_mark(line: &Value) -> Result<bool, Fault>
-    ensures fault { result_err result ≡ model.mark_fault (view line.now) }
-    ensures unread { IfOk result (λ unread. unread ≡ model.is_unread (view line.now)) }
-{
-    flag_if_there(line, Field::Unread)
-}
-
 /// The line of a ledger, which may be one that could not be read.
 fn read_ledger_line(alloc: Global, line: &Value) -> Result<Line, LineFault>
     ensures fault { FailsAt result (model.ledger_line_fault (view line.now)) }
     ensures line { IfOk result (λ read. read ≡ model.ledger_line_in (view line.now)) }
 {
-    let is_unread = read_mark(line).map_err(|fault| LineFault::new(fault, Place::Line))?;
-    if is_unread {
-        let id = read_id(line).map_err(|fault| LineFault::new(fault, Place::Line))?;
+    if flag_if_there(line, Field::Unread)? {
+        let id = number_within(line, Field::Id, 0, MAX_NUMBER)?;
         return Ok(Line::Unread(id));
     }
     let ledger = read_ledger(alloc, line)?;

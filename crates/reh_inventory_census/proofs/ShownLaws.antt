@@ -16,7 +16,7 @@ use Rattle.reh_census.specs.Ledgers.{Ledger, IsLedger, is_within, told_in}
 use Rattle.reh_inventory.specs.declared.contents.Content.{Content}
 use Rattle.reh_inventory.specs.declared.contents.Entries.{Entries}
 use Rattle.reh_inventory.specs.declared.contents.Entries.TheVariants.{Holds, Lacks}
-use Rattle.reh_inventory_census.specs.declared.counted.UnfitFault.{UnfitFault}
+use Rattle.reh_inventory_census.specs.declared.faults.CountFault.{CountFault}
 use Rattle.reh_inventory_census.specs.declared.counted.Reading.{Reading}
 use Rattle.reh_inventory.specs.declared.ledgers.Fragment.{Fragment}
 use Rattle.reh_inventory.specs.declared.ledgers.LedgerLine.{LedgerLine}
@@ -352,7 +352,7 @@ made-of-line names assumes strict line reading contents rest read told others = 
     ((others ∙ ap (rest_of assumes) read) i)
 
 -- the ledger of a call's result, where no bookie is told partly
-pub shows_result : (names : List (List ℕ)) (assumes strict : Bool) (line : LedgerLine) (r : Result Ledger UnfitFault)
+pub shows_result : (names : List (List ℕ)) (assumes strict : Bool) (line : LedgerLine) (r : Result Ledger CountFault)
     → IfOk r (λ g. g ≡ counted names assumes strict line) → IfOk r (λ g. IsLedger g)
     → IfOk r (λ g. is_told_partly assumes (reading_of strict line) line ≡ false → Shows names assumes strict line g)
 shows_result names assumes strict line (Ok g) made sound = λ whole.
@@ -380,7 +380,7 @@ says-by names assumes strict line sound = record {
 }
 
 -- the ledger of a call's result, where bookies that are told partly count as untold
-pub says_result : (names : List (List ℕ)) (assumes strict : Bool) (line : LedgerLine) (r : Result Ledger UnfitFault)
+pub says_result : (names : List (List ℕ)) (assumes strict : Bool) (line : LedgerLine) (r : Result Ledger CountFault)
     → IfOk r (λ g. g ≡ counted names assumes strict line) → IfOk r (λ g. IsLedger g)
     → IfOk r (λ g. SaysNoMore names assumes strict line g)
 says_result names assumes strict line (Ok g) made sound =

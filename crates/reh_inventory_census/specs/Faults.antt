@@ -1,13 +1,10 @@
 -- Faults, as faults of a count.
-use Rattle.std.specs.Prelude.{ℕ}
 use Rattle.reh_inventory.specs.declared.inventories.InventoryFault.{InventoryFault}
 use Rattle.reh_inventory.specs.declared.inventories.InventoryFault.TheVariants as line
-use Rattle.reh_inventory_census.specs.declared.counted.UnfitFault.{UnfitFault}
-use Rattle.reh_inventory_census.specs.declared.counted.UnfitFault.TheVariants as unfit
 use Rattle.reh_inventory_census.specs.declared.counts.CountsFault.{CountsFault}
 use Rattle.reh_inventory_census.specs.declared.counts.CountsFault.TheVariants as counts
 use Rattle.reh_inventory_census.specs.declared.faults.CountFault.{CountFault}
-use Rattle.reh_inventory_census.specs.declared.faults.CountFault.TheVariants.{Line, NoMemory, TooMany, TooManyBookies, Unfit}
+use Rattle.reh_inventory_census.specs.declared.faults.CountFault.TheVariants.{Line, NoMemory, TooMany, TooManyBookies}
 use Rattle.reh_inventory_census.specs.declared.numbers.NumberFault.{NumberFault}
 use Rattle.reh_inventory_census.specs.declared.numbers.NumberFault.TheVariants as number
 use Rattle.reh_inventory_fields.specs.declared.faults.Fault.{Fault}
@@ -36,7 +33,3 @@ of_line other = Line other
 abbrev pub of_own : Fault → LineFault → CountFault
 of_own fault.NoMemory located = NoMemory
 of_own other located = Line (line.Line located)
-
-abbrev pub of_unfit : ℕ → UnfitFault → CountFault
-of_unfit id unfit.Unfit = Unfit id
-of_unfit id unfit.NoMemory = NoMemory

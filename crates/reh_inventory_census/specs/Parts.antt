@@ -3,11 +3,10 @@
 -- one alone.
 use Rattle.std.specs.Prelude.{Bool, ◌&&◌, ◌-◌, nat_lt, List, [], ◌∷◌, length, take, drop, if◌then◌else◌}
 use Rattle.std.specs.List.{flat_map}
-use Rattle.std.specs.Option.{is_none, option_map_or}
+use Rattle.std.specs.Option.{is_none}
 use Rattle.reh_inventory.specs.declared.ledgers.LedgerLine.{LedgerLine}
 use Rattle.reh_inventory.specs.declared.ledgers.LedgerState.TheVariants.{Closed}
 use Rattle.reh_inventory_census.specs.declared.parts.Other.{Other}
-use Rattle.reh_inventory_census.specs.declared.parts.Parts.{Parts}
 use Rattle.reh_inventory_census.specs.Counted.{end_of, last_first}
 
 -- whether it is counted in two parts: it isn't closed, and has several fragments
@@ -29,10 +28,6 @@ parts_of g = if has_parts g then stopped_part g ∷ last_part g ∷ [] else g �
 abbrev pub parts_in : List LedgerLine → List LedgerLine
 parts_in lines = flat_map parts_of lines
 
--- two parts, of which the second is made of the first
-
+-- the second part, made of the first
 abbrev pub second : LedgerLine → Other → LedgerLine
 second first other = record first { state = other.state; fragments = other.last ∷ [] }
-
-abbrev pub both : Parts → List LedgerLine
-both parts = parts.first ∷ option_map_or (λ other. second parts.first other ∷ []) parts.other []

@@ -60,27 +60,16 @@ fn counted(racks: &NameList, bookie: &Bookie) -> CountedBookie
     }
 }
 
-/// Where the bookie of this name stands in the first line.
-fn place_of(bookies: &[Bookie], name: &str) -> Option<usize>
-    ensures { result ≡ model.place_of bookies.now name.now }
-{
-    bookies
-        .iter()
-        .position(|bookie| bookie.name.as_str() == name)
-}
-
 /// The bookie of this name, as a census has it. One that the first line doesn't have isn't registered.
 fn bookie_of(racks: &NameList, bookies: &[Bookie], name: &str) -> CountedBookie
     ensures { result ≡ model.bookie_of racks.now bookies.now name.now }
 {
-    let found = match place_of(bookies, name) {
-        Some(place) => bookies.get(place),
-        None => None,
-    };
-    match found {
-        Some(bookie) => counted(racks, bookie),
-        None => UNREGISTERED,
+    for bookie in bookies {
+        if bookie.name.as_str() == name {
+            return counted(racks, bookie);
+        }
     }
+    UNREGISTERED
 }
 
 /// The bookie of the name of that number, as a census has it.

@@ -1,13 +1,8 @@
 // The census of an inventory, line after line.
 ghost use Rattle.std.specs.Prelude.{◌≡◌, ◌≤◌, ◌^◌, ◌++◌, ◌∷◌, [], ℕ, Bool, true, List, Ok, IfOk, OnOk, map, option_map, string_bytes};
 ghost use Rattle.reh_census.specs.Counting.{not_judged};
-ghost use Rattle.reh_census.specs.Ledgers.{Ledger as LedgerValue};
-ghost use Rattle.reh_census.specs.Order.{IsInOrder};
-ghost use Rattle.reh_census_file.specs.Values.{named_by};
-ghost use Rattle.reh_inventory.specs.Inventories.{added, no_lines};
 ghost use Rattle.reh_inventory.specs.Lines.{located_line_of};
 ghost use Rattle.reh_inventory_census.specs.Bookies as bookies;
-ghost use Rattle.reh_inventory_census.specs.Counting.{CountsLedgers, counts_in};
 ghost use Rattle.reh_inventory_census.specs.Numbers.{bookies_named};
 ghost use Rattle.reh_inventory_census.specs.declared.census.CountedLine.{CountedLine as CountedValue};
 ghost use Rattle.reh_inventory_census.specs.Census as model;
@@ -53,9 +48,10 @@ fn taken_of(alloc: Global, head: &Head) -> Result<Option<String>, AllocError>
     }
 }
 
-/// How an inventory was judged, of which so many ledgers were counted, and so many entries rest on an assumption.
-fn judged_by(inventory: &Inventory, ledgers: u64, assumed: u64) -> Judged
-    ensures { result ≡ model.judged_by inventory.now ledgers assumed }
+/// How an inventory to which no more lines come was judged, of which so many ledgers were counted, and so many entries rest
+/// on an assumption.
+fn judged_by(inventory: Inventory, ledgers: u64, assumed: u64) -> Judged
+    ensures { result ≡ model.judged_by inventory ledgers assumed }
 {
     Judged {
         ledgers,
@@ -106,54 +102,16 @@ fn cluster_of(alloc: Global, names: &NameList, head: &Head) -> Result<Cluster, C
     })
 }
 
-/// An inventory of a first line alone.
-fn begun(alloc: Global, head: Head) -> Result<Inventory, InventoryFault>
-    ensures { IfOk result (λ inventory. added no_lines (Line.Head head) ≡ Ok inventory) }
-{
-    let mut inventory = Inventory::new(alloc);
-    inventory.add_line(Line::Head(head))?;
-    Ok(inventory)
-}
-
-/// How an inventory to which no more lines come was judged, if a census can say that.
+/// How it was judged, if a census can say that.
 fn judged(inventory: Inventory, counter: &Counter) -> Result<Judged, CountFault>
     ensures judged { IfOk result (λ judged. judged ≡ model.judged_by inventory counter.now.ledgers counter.now.assumed) }
     ensures few { IfOk result (λ judged. not_judged judged ≤ 2 ^ 63) }
 {
-    let judged = judged_by(&inventory, counter.ledgers, counter.assumed);
+    let judged = judged_by(inventory, counter.ledgers, counter.assumed);
     if judged.unread >= MOST {
         return Err(CountFault::TooMany);
     }
     Ok(judged)
-}
-
-/// The census of what was counted, with its names.
-fn named_census(
-    alloc: Global,
-    counter: Counter,
-    racks: NameList,
-    taken: Option<String>,
-    judged: Judged,
-) -> Result<NamedCensus, CountFault>
-    requires { not_judged judged ≤ 2 ^ 63 }
-    ensures named { IfOk result (λ made. made
-        ≡ named_by counter.names racks counter.bookies made.census counter.is_strict
-        (option_map string_bytes taken)) }
-    ensures counts { IfOk result (λ made. (holders : List ℕ) (ledgers : List LedgerValue)
-        → CountsLedgers holders ledgers counter.counts
-        → CountsLedgers holders ledgers (counts_in made.census)) }
-    ensures judged { IfOk result (λ made. made.census.judged ≡ judged) }
-    ensures order { IfOk result (λ made. IsInOrder made.census) }
-{
-    let Counter {
-        names,
-        bookies,
-        is_strict,
-        counts,
-        ..
-    } = counter;
-    let census = counts.into_census(alloc, judged)?;
-    Ok(NamedCensus::of(names, racks, bookies, census, is_strict, taken))
 }
 
 impl InventoryCount {
@@ -170,14 +128,13 @@ impl InventoryCount {
         let head = read_head(alloc, first_line)?;
         let cluster = cluster_of(alloc, &names, &head)?;
         let assumes_striped = head.assumes_striped;
-        let inventory = begun(alloc, head)?;
         let Cluster {
             racks,
             bookies,
             taken,
         } = cluster;
         Ok(InventoryCount {
-            inventory,
+            inventory: Inventory::of_head(alloc, head),
             counter: Counter::new(alloc, names, bookies, assumes_striped, is_strict),
             racks,
             taken,
@@ -244,7 +201,14 @@ impl InventoryCount {
             taken,
         } = self;
         let judged = judged(inventory, &counter)?;
-        let census = named_census(alloc, counter, racks, taken, judged)?;
-        Ok(census)
+        let Counter {
+            names,
+            bookies,
+            is_strict,
+            counts,
+            ..
+        } = counter;
+        let census = counts.into_census(alloc, judged)?;
+        Ok(NamedCensus::of(names, racks, bookies, census, is_strict, taken))
     }
 }

@@ -1,11 +1,12 @@
 // The ledger of a line, as a census counts it.
-ghost use Rattle.std.specs.Prelude.{◌≡◌, ◌<◌, false, None, Some, fold, length, map, IfErr, IfOk};
+ghost use Rattle.std.specs.Prelude.{◌≡◌, ◌≢◌, ◌<◌, false, None, Some, fold, length, map, IfErr, IfOk};
 ghost use Rattle.std.specs.List.{list_any};
 ghost use Rattle.reh_census.specs.Ledgers.{IsLedger};
 ghost use Rattle.reh_census.specs.Striping.{range};
 ghost use Rattle.reh_inventory_census.specs.Counted as model;
 ghost use Rattle.reh_inventory_census.specs.Shown.{SaysNoMore, Shows};
 
+use crate::faults::CountFault;
 use reh_census::{
     Content as CountedContent, Fragment as CountedFragment, Ledger, LedgerState as State, Names,
     Range, Ranges, Told,
@@ -14,26 +15,6 @@ use reh_census_file::NameList;
 use reh_inventory::{Content, Entries, Fragment, LedgerLine, LedgerState, Sizes};
 use reh_inventory_fields::{MAX_NUMBER, Name};
 use std::alloc::{AllocError, Global};
-
-/// Why a census can't count the ledger of a line.
-#[derive(Clone, Copy)]
-pub(crate) enum UnfitFault {
-    /// A bookie stands twice in an ensemble, or two members of it have no number.
-    Unfit,
-    /// There is no memory.
-    NoMemory,
-}
-
-impl From<AllocError> for UnfitFault {
-    ghost use Rattle.std.specs.Prelude.{◌≡◌};
-    ghost use Rattle.reh_inventory_census.specs.declared.counted.UnfitFault.TheVariants.{NoMemory};
-
-    ghost from_gives = { λ _ fault. fault ≡ NoMemory };
-
-    fn from(_want: AllocError) -> UnfitFault {
-        UnfitFault::NoMemory
-    }
-}
 
 /// How what is told of a ledger is read.
 #[derive(Clone, Copy)]
@@ -52,7 +33,12 @@ struct Reading {
 fn covers(ranges: &[Range], end: u64) -> bool
     ensures { result ≡ list_any (model.covers end) ranges.now }
 {
-    ranges.iter().any(|range| range.first == 0 && end.saturating_sub(1) <= range.last)
+    for range in ranges {
+        if range.first == 0 && end.saturating_sub(1) <= range.last {
+            return true;
+        }
+    }
+    false
 }
 
 /// Whether the content speaks of some entries that are counted, and not of others.
@@ -300,12 +286,12 @@ fn make_ledger(
     line: &LedgerLine,
     contents: Vec<CountedContent>,
     rest: Told,
-) -> Result<Ledger, UnfitFault>
+) -> Result<Ledger, CountFault>
     ensures ledger { IfOk result
         (λ ledger. ledger ≡ model.ledger_with names.now reading line.now contents.items rest) }
     ensures sound { IfOk result IsLedger }
-    ensures unfit { IfErr result (λ fault. fault ≡ UnfitFault.Unfit
-        → ¬ IsLedger (model.ledger_with names.now reading line.now contents.items rest)) }
+    ensures unfit { IfErr result (λ fault. fault ≢ CountFault.NoMemory → (fault ≡ CountFault.Unfit line.now.id)
+        × ¬ IsLedger (model.ledger_with names.now reading line.now contents.items rest)) }
 {
     let fragments = fragments_of(alloc, names, reading.end, line)?;
     let Sizes {
@@ -322,7 +308,7 @@ fn make_ledger(
         contents,
         rest,
     )
-    .ok_or(UnfitFault::Unfit)
+    .ok_or(CountFault::Unfit(line.id))
 }
 
 /// The ledger of a line, as a census counts it, where bookies have the numbers of their names. In a strict reading what is
@@ -337,15 +323,15 @@ pub(crate) fn counted_ledger(
     assumes_striped: bool,
     is_strict: bool,
     line: &LedgerLine,
-) -> Result<Ledger, UnfitFault>
+) -> Result<Ledger, CountFault>
     ensures ledger { IfOk result
         (λ ledger. ledger ≡ model.counted names.now assumes_striped is_strict line.now) }
     ensures says { IfOk result (SaysNoMore names.now assumes_striped is_strict line.now) }
     ensures shows { IfOk result (λ ledger.
         model.is_told_partly assumes_striped (model.reading_of is_strict line.now) line.now ≡ false
         → Shows names.now assumes_striped is_strict line.now ledger) }
-    ensures unfit { IfErr result (λ fault. fault ≡ UnfitFault.Unfit
-        → ¬ IsLedger (model.counted names.now assumes_striped is_strict line.now)) }
+    ensures unfit { IfErr result (λ fault. fault ≢ CountFault.NoMemory → (fault ≡ CountFault.Unfit line.now.id)
+        × ¬ IsLedger (model.counted names.now assumes_striped is_strict line.now)) }
 {
     let reading = reading_of(is_strict, line);
     let contents = contents_of(alloc, names, reading, line.contents.as_slice())?;
@@ -394,11 +380,11 @@ pub(crate) fn assumed_ledger(
     names: &NameList,
     assumes_striped: bool,
     line: &LedgerLine,
-) -> Result<Ledger, UnfitFault>
+) -> Result<Ledger, CountFault>
     ensures ledger { IfOk result
         (λ ledger. ledger ≡ model.assumed names.now assumes_striped line.now) }
-    ensures unfit { IfErr result (λ fault. fault ≡ UnfitFault.Unfit
-        → ¬ IsLedger (model.assumed names.now assumes_striped line.now)) }
+    ensures unfit { IfErr result (λ fault. fault ≢ CountFault.NoMemory → (fault ≡ CountFault.Unfit line.now.id)
+        × ¬ IsLedger (model.assumed names.now assumes_striped line.now)) }
 {
     let reading = reading_of(false, line);
     let contents = assumed_contents(alloc, names, reading, line.contents.as_slice())?;

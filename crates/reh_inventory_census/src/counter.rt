@@ -11,12 +11,12 @@ ghost use Rattle.reh_inventory_census.specs.Empties.{holds_though_empty};
 ghost use Rattle.reh_inventory_census.specs.Parts.{parts_of};
 ghost use Rattle.reh_inventory_census.specs.Counting.{is_held};
 
-use crate::counted::assumed_ledger;
+use crate::counted::{assumed_ledger, counted_ledger};
 use crate::counts::{Counts, held_among};
 use crate::empties::are_refilled;
-use crate::faults::{CountFault, unfit};
+use crate::faults::CountFault;
 use crate::numbers::has_named_members;
-use crate::parts::{Parts, part_of, second, split};
+use crate::parts::{make_second, split};
 use reh_census::Bookies;
 use reh_census_file::NameList;
 use reh_inventory::LedgerLine;
@@ -61,29 +61,22 @@ fn count_assumed(
     ensures { IfOk result (λ assumed. assumed
         ≡ count_entries (holders (bookies_of bookies.now)) (assumed_of names.now assumes_striped line.now ∷ []) is_held) }
 {
-    let ledger = assumed_ledger(alloc, names, assumes_striped, line).map_err(|fault| unfit(
-        line.id, fault,
-    ))?;
+    let ledger = assumed_ledger(alloc, names, assumes_striped, line)?;
     let entries = entries_of(alloc, bookies, &[ledger])?;
     held_among(&entries).ok_or(CountFault::TooMany)
 }
 
 impl LedgerCount {
-    /// What was counted of these parts, and then of others.
-    fn with(self, other: LedgerCount) -> Result<LedgerCount, CountFault>
-        ensures { IfOk result (λ both. (c : CounterValue) (parts more : List LineValue)
-            → model.CountsParts parts (model.with_count c self) → model.CountsParts more (model.with_count c other)
-            → model.CountsParts (parts ++ more) (model.with_count c both)) }
+    /// Adds what was counted of further parts. After an `Err` some of it may be there.
+    fn add(&mut self, other: LedgerCount) -> Result<(), CountFault>
+        ensures { OnOk result ((c : CounterValue) (parts more : List LineValue)
+            → model.CountsParts parts (model.with_count c self.old) → model.CountsParts more (model.with_count c other)
+            → model.CountsParts (parts ++ more) (model.with_count c self.new)) }
     {
-        let LedgerCount { counts, assumed } = self;
-        let mut counts = counts;
-        let LedgerCount {
-            counts: more,
-            assumed: further,
-        } = other;
-        let assumed = sum(assumed, further)?;
-        counts.append(more)?;
-        Ok(LedgerCount { counts, assumed })
+        let LedgerCount { counts, assumed } = other;
+        self.counts.append(counts)?;
+        self.assumed = sum(self.assumed, assumed)?;
+        Ok(())
     }
 }
 
@@ -120,14 +113,13 @@ impl Counter {
         if self.is_strict {
             return Ok(0);
         }
-        let assumed = count_assumed(
+        count_assumed(
             alloc,
             &self.names,
             &self.bookies,
             self.assumes_striped,
             line,
-        )?;
-        Ok(assumed)
+        )
     }
 
     /// What is counted of a part of a ledger.
@@ -135,7 +127,7 @@ impl Counter {
         ensures { IfOk result (λ count. model.CountsParts (line.now ∷ []) (model.with_count self.now count)) }
     {
         let assumed = self.assumed_of(alloc, line)?;
-        let ledger = part_of(
+        let ledger = counted_ledger(
             alloc,
             &self.names,
             self.assumes_striped,
@@ -147,16 +139,16 @@ impl Counter {
     }
 
     /// What is counted of the parts of a ledger.
-    fn count_parts(&self, alloc: Global, line: LedgerLine) -> Result<LedgerCount, CountFault>
-        ensures { IfOk result (λ count. model.CountsParts (parts_of line) (model.with_count self.now count)) }
+    fn count_parts(&self, alloc: Global, line: &mut LedgerLine) -> Result<LedgerCount, CountFault>
+        ensures { IfOk result (λ count. model.CountsParts (parts_of line.old) (model.with_count self.now count)) }
     {
-        let Parts { first, other } = split(line);
-        let count = self.count_part(alloc, &first)?;
+        let other = split(line);
+        let mut count = self.count_part(alloc, line)?;
         let Some(other) = other else { return Ok(count) };
-        let second = second(alloc, first, other)?;
-        let more = self.count_part(alloc, &second)?;
-        let both = count.with(more)?;
-        Ok(both)
+        make_second(alloc, line, other)?;
+        let more = self.count_part(alloc, line)?;
+        count.add(more)?;
+        Ok(count)
     }
 
     /// What is counted of a ledger.
@@ -169,8 +161,8 @@ impl Counter {
         if are_refilled(&self.names, &self.bookies, line.contents.as_slice()) {
             return Err(CountFault::HoldsThoughEmpty(line.id));
         }
-        let count = self.count_parts(alloc, line)?;
-        Ok(count)
+        let mut line = line;
+        self.count_parts(alloc, &mut line)
     }
 
     /// Adds what was counted of parts. After an `Err` some of it may be there.
@@ -182,9 +174,8 @@ impl Counter {
             → model.CountsParts (parts ++ more) self.new) }
     {
         let LedgerCount { counts, assumed } = count;
-        let total = sum(self.assumed, assumed)?;
         self.counts.add(alloc, counts)?;
-        self.assumed = total;
+        self.assumed = sum(self.assumed, assumed)?;
         Ok(())
     }
 

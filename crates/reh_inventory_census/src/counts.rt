@@ -154,8 +154,7 @@ impl Counts {
             → model.CountsLedgers holders (ledgers ++ more) self.new) }
     {
         self.append(other)?;
-        self.join_if_long(alloc)?;
-        Ok(())
+        self.join_if_long(alloc)
     }
 
     /// Adds what is counted of further ledgers, as the last lines. After an `Err` a part of it may be there.
@@ -167,8 +166,7 @@ impl Counts {
         let mut other = other;
         self.entries.append(&mut other.entries)?;
         self.tails.append(&mut other.tails)?;
-        self.ensembles.append(&mut other.ensembles)?;
-        Ok(())
+        self.ensembles.append(&mut other.ensembles)
     }
 
     /// Joins equal lines, if there are many. After an `Err` some may be gone.
@@ -219,7 +217,6 @@ impl Counts {
         ensures order { IfOk result (λ census. IsInOrder census) }
         ensures judged { IfOk result (λ census. census.judged ≡ judged) }
     {
-        let census = census_of_counts(alloc, self.entries, self.tails, self.ensembles, judged)?;
-        Ok(census)
+        census_of_counts(alloc, self.entries, self.tails, self.ensembles, judged)
     }
 }

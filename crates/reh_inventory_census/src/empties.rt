@@ -29,7 +29,10 @@ fn holds_though_empty(names: &NameList, bookies: &Bookies, content: &Content) ->
 pub(crate) fn are_refilled(names: &NameList, bookies: &Bookies, contents: &[Content]) -> bool
     ensures { result ≡ list_any (model.holds_though_empty names.now bookies.now) contents.now }
 {
-    contents
-        .iter()
-        .any(|content| holds_though_empty(names, bookies, content))
+    for content in contents {
+        if holds_though_empty(names, bookies, content) {
+            return true;
+        }
+    }
+    false
 }

@@ -2,12 +2,11 @@
 ghost use Rattle.std.specs.Prelude.{◌≡◌};
 ghost use Rattle.reh_inventory_census.specs.Faults as model;
 
-use crate::counted::UnfitFault;
 use crate::counts::CountsFault;
 use crate::numbers::NumberFault;
 use reh_inventory::InventoryFault;
 use reh_tally::TallyFault;
-use std::alloc::AllocError;
+use std::alloc::{AllocError, AllocFailed};
 
 /// Why the next line of an inventory can't be counted with those before it.
 #[derive(Clone, Copy)]
@@ -36,6 +35,17 @@ impl From<AllocError> for CountFault {
 
     fn from(_want: AllocError) -> CountFault {
         CountFault::NoMemory
+    }
+}
+
+impl<T: Drop> From<AllocFailed<T>> for CountFault {
+    ghost use Rattle.std.specs.Prelude.{◌≡◌};
+    ghost use Rattle.reh_inventory_census.specs.declared.faults.CountFault.TheVariants.{NoMemory};
+
+    ghost from_gives = { λ _ fault. fault ≡ NoMemory };
+
+    fn from(want: AllocFailed<T>) -> CountFault {
+        CountFault::from(AllocError::from(want))
     }
 }
 
@@ -92,15 +102,5 @@ impl From<TallyFault> for CountFault {
             TallyFault::TooMany => CountFault::TooMany,
             TallyFault::NoMemory => CountFault::NoMemory,
         }
-    }
-}
-
-/// The fault of a line with the ledger of this id.
-pub(crate) fn unfit(id: u64, fault: UnfitFault) -> CountFault
-    ensures { result ≡ model.of_unfit id fault }
-{
-    match fault {
-        UnfitFault::Unfit => CountFault::Unfit(id),
-        UnfitFault::NoMemory => CountFault::NoMemory,
     }
 }

@@ -7,21 +7,14 @@ ghost use Rattle.reh_inventory_census.specs.Numbers.{members_named};
 ghost use Rattle.reh_inventory_census.specs.Parts.{parts_of};
 
 use crate::census::read_head;
+use crate::counted::counted_ledger;
 use crate::faults::CountFault;
 use crate::numbers::has_named_members;
-use crate::parts::{Parts, part_of, second, split};
+use crate::parts::{make_second, split};
 use reh_census::Ledger;
 use reh_census_file::NameList;
 use reh_inventory::LedgerLine;
-use std::alloc::{AllocError, Global};
-
-/// Adds a ledger.
-fn push(ledgers: &mut Vec<Ledger>, ledger: Ledger) -> Result<(), AllocError>
-    ensures { OnOk result (ledgers.new.items ≡ ledgers.old.items ++ ledger ∷ []) }
-{
-    ledgers.push(ledger)?;
-    Ok(())
-}
+use std::alloc::Global;
 
 /// How a census counts the ledgers of an inventory: by the numbers of these names.
 #[derive(Drop)]
@@ -59,28 +52,44 @@ impl InventoryLedgers {
         if !has_named_members(&self.names, &line) {
             return Err(CountFault::Unnamed);
         }
-        let Parts { first, other } = split(line);
+        let mut line = line;
+        self.of_parts(alloc, &mut line)
+    }
+
+    /// The ledgers of its parts.
+    fn of_parts(&self, alloc: Global, line: &mut LedgerLine) -> Result<Vec<Ledger>, CountFault>
+        ensures { IfOk result (λ ledgers. ledgers.items
+            ≡ map (counted_of self.now.names self.now.assumes_striped self.now.is_strict) (parts_of line.old)) }
+    {
+        let other = split(line);
         let mut ledgers = Vec::new(alloc);
-        push(&mut ledgers, self.of_part(alloc, &first)?)?;
+        self.add_part(alloc, line, &mut ledgers)?;
         let Some(other) = other else {
             return Ok(ledgers)
         };
-        let second = second(alloc, first, other)?;
-        push(&mut ledgers, self.of_part(alloc, &second)?)?;
+        make_second(alloc, line, other)?;
+        self.add_part(alloc, line, &mut ledgers)?;
         Ok(ledgers)
     }
 
-    /// The ledger of a part.
-    fn of_part(&self, alloc: Global, part: &LedgerLine) -> Result<Ledger, CountFault>
-        ensures { IfOk result (λ ledger. ledger
-            ≡ counted_of self.now.names self.now.assumes_striped self.now.is_strict part.now) }
+    /// Adds the ledger of a part.
+    fn add_part(
+        &self,
+        alloc: Global,
+        part: &LedgerLine,
+        ledgers: &mut Vec<Ledger>,
+    ) -> Result<(), CountFault>
+        ensures { OnOk result (ledgers.new.items
+            ≡ ledgers.old.items ++ counted_of self.now.names self.now.assumes_striped self.now.is_strict part.now ∷ []) }
     {
-        part_of(
+        let ledger = counted_ledger(
             alloc,
             &self.names,
             self.assumes_striped,
             self.is_strict,
             part,
-        )
+        )?;
+        ledgers.push(ledger)?;
+        Ok(())
     }
 }

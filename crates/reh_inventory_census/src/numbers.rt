@@ -42,28 +42,36 @@ fn is_named(names: &NameList, name: &Name) -> bool
 pub(crate) fn are_named(names: &NameList, bookies: &[Bookie]) -> bool
     ensures { result ≡ model.bookies_named names.now bookies.now }
 {
-    bookies.iter().all(|bookie| is_named(names, &bookie.name))
+    for bookie in bookies {
+        if !is_named(names, &bookie.name) {
+            return false;
+        }
+    }
+    true
 }
 
 /// Whether each member of a fragment's ensemble has one.
 fn has_named_ensemble(names: &NameList, fragment: &Fragment) -> bool
     ensures { result ≡ model.ensemble_named names.now fragment.now }
 {
-    fragment
-        .ensemble
-        .as_slice()
-        .iter()
-        .all(|name| is_named(names, name))
+    for name in fragment.ensemble.as_slice() {
+        if !is_named(names, name) {
+            return false;
+        }
+    }
+    true
 }
 
 /// Whether each member of the ledger's ensembles has one.
 pub(crate) fn has_named_members(names: &NameList, line: &LedgerLine) -> bool
     ensures { result ≡ model.members_named names.now line.now }
 {
-    line.fragments
-        .as_slice()
-        .iter()
-        .all(|fragment| has_named_ensemble(names, fragment))
+    for fragment in line.fragments.as_slice() {
+        if !has_named_ensemble(names, fragment) {
+            return false;
+        }
+    }
+    true
 }
 
 /// Gives a bookie the next number, if it has none.

@@ -1,21 +1,10 @@
 // The parts of a ledger, each of which is counted by itself.
-ghost use Rattle.std.specs.Prelude.{◌≡◌, ◌∷◌, [], IfOk};
-ghost use Rattle.reh_inventory_census.specs.Counted.{counted as counted_of};
+ghost use Rattle.std.specs.Prelude.{◌≡◌, ◌∷◌, [], IfOk, OnOk};
+ghost use Rattle.std.specs.Option.{option_map_or};
 ghost use Rattle.reh_inventory_census.specs.Parts as model;
 
-use crate::counted::counted_ledger;
-use crate::faults::{CountFault, unfit};
-use reh_census::Ledger;
-use reh_census_file::NameList;
 use reh_inventory::{Fragment, FragmentList, LedgerLine, LedgerState};
 use std::alloc::{AllocError, Global};
-
-/// The part of a ledger that is counted first, and what the other one has, if there is one.
-#[derive(Drop)]
-pub(crate) struct Parts {
-    pub(crate) first: LedgerLine,
-    pub(crate) other: Option<Other>,
-}
 
 /// The state of a ledger that isn't closed, and its last fragment.
 #[derive(Drop)]
@@ -34,41 +23,32 @@ fn has_parts(line: &LedgerLine) -> bool
     }
 }
 
-/// The parts of a ledger, of which the second shares what is told with the first.
-pub(crate) fn split(line: LedgerLine) -> Parts
-    ensures { model.both result ≡ model.parts_of line }
+/// Leaves of a ledger the part that is counted first, and hands back what the second one has, if there is one: what is told
+/// they share.
+pub(crate) fn split(line: &mut LedgerLine) -> Option<Other>
+    ensures { line.new ∷ option_map_or (λ other. model.second line.new other ∷ []) result [] ≡ model.parts_of line.old }
 {
-    if !has_parts(&line) {
-        return Parts {
-            first: line,
-            other: None,
-        };
+    if !has_parts(line) {
+        return None;
     }
-    let mut first = line;
-    let state = first.state;
-    let Some(last) = first.fragments.pop() else {
-        return Parts { first, other: None }
-    };
-    first.state = LedgerState::Closed { end: last.first };
-    Parts {
-        first,
-        other: Some(Other { state, last }),
-    }
+    let last = line.fragments.pop()?;
+    let state = line.state;
+    line.state = LedgerState::Closed { end: last.first };
+    Some(Other { state, last })
 }
 
-/// The second part, after the first.
-pub(crate) fn second(
+/// Makes the second part of the first. After an `Err` it may be neither.
+pub(crate) fn make_second(
     alloc: Global,
-    first: LedgerLine,
+    line: &mut LedgerLine,
     other: Other,
-) -> Result<LedgerLine, AllocError>
-    ensures { IfOk result (λ second. second ≡ model.second first other) }
+) -> Result<(), AllocError>
+    ensures { OnOk result (line.new ≡ model.second line.old other) }
 {
     let Other { state, last } = other;
-    let mut second = first;
-    second.state = state;
-    second.fragments = alone(alloc, last)?;
-    Ok(second)
+    line.state = state;
+    line.fragments = alone(alloc, last)?;
+    Ok(())
 }
 
 /// A list of this fragment alone.
@@ -78,19 +58,4 @@ fn alone(alloc: Global, fragment: Fragment) -> Result<FragmentList, AllocError>
     let mut fragments = Vec::new(alloc);
     fragments.push(fragment)?;
     Ok(FragmentList::of(fragments))
-}
-
-/// The ledger of a part, as a census counts it.
-pub(crate) fn part_of(
-    alloc: Global,
-    names: &NameList,
-    assumes_striped: bool,
-    is_strict: bool,
-    line: &LedgerLine,
-) -> Result<Ledger, CountFault>
-    ensures { IfOk result (λ ledger. ledger ≡ counted_of names.now assumes_striped is_strict line.now) }
-{
-    counted_ledger(alloc, names, assumes_striped, is_strict, line).map_err(|fault| unfit(
-        line.id, fault,
-    ))
 }

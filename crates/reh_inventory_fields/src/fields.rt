@@ -129,6 +129,6 @@ impl fmt::Display for Field {
     ghost output = { λ field. Some (field_name field) };
 
     fn fmt<W: fmt::Write>(&self, f: &mut fmt::Formatter<W>) -> fmt::Result {
-        write!(f, "{}", self.name())
+        f.write_str(self.name())
     }
 }

@@ -11,4 +11,4 @@ pub use faults::Fault;
 pub use fields::Field;
 pub use members::{MAX_ENSEMBLE, MAX_NUMBER};
 pub use names::{Ensemble, Name};
-pub use places::{LineFault, Place};
+pub use places::{LineFault, Place, located};

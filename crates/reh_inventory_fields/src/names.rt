@@ -42,7 +42,7 @@ impl fmt::Display for Name {
     ghost output = { λ name. Some name };
 
     fn fmt<W: fmt::Write>(&self, f: &mut fmt::Formatter<W>) -> fmt::Result {
-        write!(f, "{}", self.text)
+        f.write_str(self.as_str())
     }
 }
 

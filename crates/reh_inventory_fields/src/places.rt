@@ -1,5 +1,5 @@
 // Where a line's first fault is, and what was expected there.
-ghost use Rattle.std.specs.Prelude.{◌≡◌};
+ghost use Rattle.std.specs.Prelude.{◌≡◌, Ok, Err, None, MatchResult};
 ghost use Rattle.reh_inventory_fields.specs.Expected.{element_field, faulty_field, wanted_text, expected_text};
 
 use crate::faults::Fault;
@@ -59,7 +59,7 @@ impl fmt::Display for Place {
 
     fn fmt<W: fmt::Write>(&self, f: &mut fmt::Formatter<W>) -> fmt::Result {
         match self {
-            Place::Line => write!(f, "line"),
+            Place::Line => f.write_str("line"),
             Place::Bookie(bookie) => write!(f, "bookies[{bookie}]"),
             Place::Fragment(fragment) => write!(f, "fragments[{fragment}]"),
             Place::Member { fragment, member } => {
@@ -91,9 +91,9 @@ impl fmt::Display for Path {
     fn fmt<W: fmt::Write>(&self, f: &mut fmt::Formatter<W>) -> fmt::Result {
         let Path { place, field } = *self;
         if field.name() == place.element().name() {
-            write!(f, "{place}")
+            fmt::Display::fmt(&place, f)
         } else if matches!(place, Place::Line) {
-            write!(f, "{field}")
+            f.write_str(field.name())
         } else {
             write!(f, "{place}.{field}")
         }
@@ -123,6 +123,17 @@ impl LineFault {
             place,
             column: None,
         }
+    }
+}
+
+/// What was read at this place, or its fault with the place.
+pub fn located<T: Drop>(read: Result<T, Fault>, place: Place) -> Result<T, LineFault>
+    ensures { MatchResult read (λ value. result ≡ Ok value)
+        (λ fault. result ≡ Err (record { fault = fault; place = place; column = None })) }
+{
+    match read {
+        Ok(value) => Ok(value),
+        Err(fault) => Err(LineFault::new(fault, place)),
     }
 }
 
@@ -245,6 +256,19 @@ impl fmt::Display for LineFault {
 impl fmt::Debug for LineFault {
     fn fmt<W: fmt::Write>(&self, f: &mut fmt::Formatter<W>) -> fmt::Result {
         fmt::Display::fmt(self, f)
+    }
+}
+
+/// A fault of the line itself.
+impl From<Fault> for LineFault {
+    ghost use Rattle.std.specs.Prelude.{◌≡◌, None};
+    ghost use Rattle.reh_inventory_fields.specs.declared.places.Place.TheVariants as place;
+
+    ghost from_gives = { λ found located.
+        located ≡ record { fault = found; place = place.Line; column = None } };
+
+    fn from(fault: Fault) -> LineFault {
+        LineFault::new(fault, Place::Line)
     }
 }
 

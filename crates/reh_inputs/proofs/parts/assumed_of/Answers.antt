@@ -1,8 +1,7 @@
 -- The fault is so for either question.
-use Rattle.reh_inputs.proofs.FaultLaws.{passed_on}
+use Rattle.std.proofs.lemmas.Result.{IfErr-weaker}
 use Rattle.reh_inputs.proofs.parts.assumed_of.Goals as goal
 
-pub returns-in_err-assumed-clause-fault : goal.returns-in_err-assumed-clause-fault
-returns-in_err-assumed-clause-fault c =
-    passed_on _ _ c.from_residual.result c.in_err-assumed.field-0.0 c.from_residual.ensures.1
-    (c.in_err-assumed.ensures.fault c.args.strict)
+pub returns-clause-fault : goal.returns-clause-fault
+returns-clause-fault c =
+    IfErr-weaker c.count_assumed.result _ _ (λ fault is. is c.args.strict) c.count_assumed.ensures.fault

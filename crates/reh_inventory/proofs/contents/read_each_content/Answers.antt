@@ -14,12 +14,12 @@ pub loop-i-preserved : goal.loop-i-preserved
 loop-i-preserved c =
     let so_far = c.loop-i.invariant in
     let value = c.index-values-i.result in
-    let more = c.in_ok-read_content.ensures in record {
+    let more = c.in_ok-add_content.ensures in record {
       made =
           HasMade-next _ _ c.args.values.now c.loop-i.i value c.loop-i-test.true c.index-values-i.is
           c.loop-i.contents.items _ so_far.made
           (rw (← so_far.names) more.fault)
-          (rw (← more.content) c.in_ok-push.ensures.items);
+          more.added;
       names = more.named ∙ ap (λ ns. ns ++ text_of (view value) field.Bookie ∷ []) so_far.names
           ∙ sym (ap bookies_in (passed_to view c.args.values.now c.loop-i.i value c.loop-i-test.true c.index-values-i.is)
           ∙ map-append (λ d. text_of d field.Bookie) (map view (take c.loop-i.i c.args.values.now)) _);
@@ -32,15 +32,15 @@ loop-i-preserved c =
           );
     }
 
-pub returns-in_err-read_content-clause-fault : goal.returns-in_err-read_content-clause-fault
+pub returns-in_err-add_content-clause-fault : goal.returns-in_err-add_content-clause-fault
 unfolding each_content_fault
-returns-in_err-read_content-clause-fault c =
+returns-in_err-add_content-clause-fault c =
     let so_far = c.loop-i.invariant in
-    let found = c.in_err-read_content.field-0.0 in
+    let found = c.in_err-add_content.field-0.0 in
     let first : found.fault ≢ NoMemory → each_content_fault (map view c.args.values.now) ≡ Some (found.fault, found.place) =
     λ enough.
     next-faulty _ _ c.args.values.now c.loop-i.i _ so_far.made c.index-values-i.result c.loop-i-test.true
-    c.index-values-i.is _ (rw (← so_far.names) (c.in_err-read_content.ensures.fault enough)) in
+    c.index-values-i.is _ (rw (← so_far.names) (c.in_err-add_content.ensures.fault enough)) in
     search (rules, first)
 
 pub returns : goal.returns

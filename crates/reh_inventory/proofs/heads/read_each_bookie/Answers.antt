@@ -14,12 +14,12 @@ pub loop-i-preserved : goal.loop-i-preserved
 loop-i-preserved c =
     let so_far = c.loop-i.invariant in
     let value = c.index-bookies-i.result in
-    let more = c.in_ok-read_bookie_at.ensures in record {
+    let more = c.in_ok-add_bookie.ensures in record {
       made =
           HasMade-next _ _ c.args.bookies.now c.loop-i.i value c.loop-i-test.true c.index-bookies-i.is
           c.loop-i.read.items _ so_far.made
           (rw (← so_far.names) more.fault)
-          (rw (← more.bookie) c.in_ok-push.ensures.items);
+          more.added;
       names = more.named ∙ ap (λ ns. ns ++ text_of (view value) field.Name ∷ []) so_far.names
           ∙ sym (ap names_in (passed_to view c.args.bookies.now c.loop-i.i value c.loop-i-test.true c.index-bookies-i.is)
           ∙ map-append (λ d. text_of d field.Name) (map view (take c.loop-i.i c.args.bookies.now)) _);
@@ -32,15 +32,15 @@ loop-i-preserved c =
           );
     }
 
-pub returns-in_err-read_bookie_at-clause-fault : goal.returns-in_err-read_bookie_at-clause-fault
+pub returns-in_err-add_bookie-clause-fault : goal.returns-in_err-add_bookie-clause-fault
 unfolding each_bookie_fault
-returns-in_err-read_bookie_at-clause-fault c =
+returns-in_err-add_bookie-clause-fault c =
     let so_far = c.loop-i.invariant in
-    let found = c.in_err-read_bookie_at.field-0.0 in
+    let found = c.in_err-add_bookie.field-0.0 in
     let first : found.fault ≢ NoMemory → each_bookie_fault (map view c.args.bookies.now) ≡ Some (found.fault, found.place) =
     λ enough.
     next-faulty _ _ c.args.bookies.now c.loop-i.i _ so_far.made c.index-bookies-i.result c.loop-i-test.true
-    c.index-bookies-i.is _ (rw (← so_far.names) (c.in_err-read_bookie_at.ensures.fault enough)) in
+    c.index-bookies-i.is _ (rw (← so_far.names) (c.in_err-add_bookie.ensures.fault enough)) in
     search (rules, first)
 
 pub returns : goal.returns

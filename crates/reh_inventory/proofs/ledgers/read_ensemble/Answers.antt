@@ -10,18 +10,18 @@ use Rattle.reh_inventory.proofs.ledgers.read_ensemble.Goals as goal
 pub loop-i-preserved : goal.loop-i-preserved
 loop-i-preserved c =
     HasMade-next _ _ c.args.members.now c.loop-i.i c.index-members-i.result c.loop-i-test.true c.index-members-i.is
-    c.loop-i.ensemble.items _ c.loop-i.invariant c.in_ok-read_member_at.ensures.fault
-    (rw c.in_ok-read_member_at.ensures.name c.in_ok-push.ensures.items)
+    c.loop-i.ensemble.items _ c.loop-i.invariant c.in_ok-read_member.ensures.fault
+    (rw c.in_ok-read_member.ensures.name c.in_ok-push.ensures.items)
 
-pub returns-in_err-read_member_at-clause-fault : goal.returns-in_err-read_member_at-clause-fault
+pub returns-in_err-read_member-clause-fault : goal.returns-in_err-read_member-clause-fault
 unfolding members_fault
-returns-in_err-read_member_at-clause-fault c =
+returns-in_err-read_member-clause-fault c =
     let so_far = c.loop-i.invariant in
-    let found = c.in_err-read_member_at.field-0.0 in
+    let found = c.in_err-read_member.field-0.0 in
     let first : found.fault ≢ NoMemory → members_fault c.args.fragment (map view c.args.members.now) ≡ Some (found.fault, found.place) =
     λ enough.
     next-faulty _ _ c.args.members.now c.loop-i.i _ so_far c.index-members-i.result c.loop-i-test.true
-    c.index-members-i.is _ (c.in_err-read_member_at.ensures.fault enough) in
+    c.index-members-i.is _ (c.in_err-read_member.ensures.fault enough) in
     search (rules, first)
 
 pub returns : goal.returns

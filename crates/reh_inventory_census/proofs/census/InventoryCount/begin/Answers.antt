@@ -10,12 +10,12 @@ returns c =
     let counter = c.new.ensures in
     begun c.args.names c.args.is_strict c.args.first_line.now head
     (record {
-      inventory = c.in_ok-inventory.inventory;
+      inventory = c.of_head.result;
       counter = c.new.result;
       racks = c.in_ok-cluster.cluster.racks;
       taken = c.in_ok-cluster.cluster.taken;
     })
-    c.in_ok-head.ensures c.in_ok-inventory.ensures
+    c.in_ok-head.ensures c.of_head.ensures
     (record {
       names_are = counter.names;
       named = cluster.named;
