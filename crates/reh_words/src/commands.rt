@@ -1,6 +1,5 @@
 // The commands of the command line and their arguments, as tables, and the parser that is made of them.
 use crate::helps;
-use crate::styles::with_style;
 use crate::tasks::MAX_FILES;
 use clap::{Arg, ArgAction, Command, value_parser};
 use reh_crew::{MAX_OPERATORS, MAX_WORKERS};
@@ -384,24 +383,8 @@ static INPUTS: [ArgRow; 5] = [
 /// How an answer is printed.
 const FORMATS: &[&str] = &["text", "json"];
 
-/// What `--version` says; a picture has the number of its format in itself.
-const VERSION: &str = "1.0.0";
-
-const ABOUT: &str =
-    "Rehearses Apache BookKeeper AutoRecovery on a picture of a cluster, and not on the cluster.";
-
-/// The command line: no word, `run PICTURE SCRIPT --changes --json --workers N --picture-out FILE`,
-/// `talk PICTURE --changes --json`, `check PICTURE SCRIPT`, `drill PICTURE SCRIPT..`, `ok-to-stop --lose BOOKIE,.. FILE..`,
-/// `waves FILE..`, `risk FILE..`, `census FILE..`, `cut --ledgers ID,.. --window K INVENTORY`,
-/// `plan --lose BOOKIE,.. --to BOOKIE,.. --min-racks R --expect --summary PICTURE`, or `help TOPIC`.
-pub(crate) fn command<'a>(alloc: Global, ways: &'a str) -> Result<Command<'a>, AllocError> {
-    let commands = subcommands(alloc)?;
-    let program = with_style(alloc, program(alloc, ways))?;
-    program.subcommands(commands)
-}
-
 /// The program's commands, as help lists them.
-fn subcommands<'a>(alloc: Global) -> Result<Vec<Command<'a>>, AllocError> {
+pub(crate) fn subcommands<'a>(alloc: Global) -> Result<Vec<Command<'a>>, AllocError> {
     let mut commands = Vec::new(alloc);
     add_plays(alloc, &mut commands)?;
     add_questions(alloc, &mut commands)?;
@@ -436,15 +419,6 @@ fn add_command<'a>(
     let command = subcommand_of(alloc, row)?;
     commands.push(command)?;
     Ok(())
-}
-
-/// The program, without commands.
-fn program<'a>(alloc: Global, ways: &'a str) -> Command<'a> {
-    Command::new(alloc, "rehearse")
-        .version(VERSION)
-        .about(ABOUT)
-        .after_help(ways)
-        .disable_help_subcommand(true)
 }
 
 /// The command of this row.

@@ -3,12 +3,12 @@ ghost use Rattle.std.specs.Prelude.{◌<◌, ◌≤◌, vec_len};
 ghost use Rattle.reh_crew.specs.declared.threads.TheConstants.{MAX_WORKERS};
 ghost use Rattle.reh_words.specs.declared.tasks.TheConstants.{MAX_FILES};
 
-use crate::commands::command;
+use crate::commands::subcommands;
 use crate::helps;
 use crate::pictures::asked_task;
-use crate::styles::{Style, asked_style};
-use clap::Error;
+use crate::styles::{Style, asked_style, with_style};
 use clap::error::ErrorKind;
+use clap::{Command, Error};
 use reh_census::Question;
 use reh_commands::Verb;
 use reh_help::{Topic, topic_named};
@@ -205,6 +205,12 @@ pub struct PlanWords<'a> {
     pub expects: bool,
 }
 
+/// What `--version` says; a picture has the number of its format in itself.
+const VERSION: &str = "1.0.0";
+
+const ABOUT: &str =
+    "Rehearses Apache BookKeeper AutoRecovery on a picture of a cluster, and not on the cluster.";
+
 /// What these words ask for, the program's own name first; or `clap`'s text of what is wrong with them, or of help.
 /// `None` is for words that the parser lets through though they lack what their command needs. There are none.
 pub fn request_of<'a>(alloc: Global, words: &'a [String]) -> Result<Option<Request<'a>>, Error> {
@@ -281,4 +287,23 @@ fn all_ways(alloc: Global) -> Result<String, AllocError> {
         write!(ways, "  {command:<43}{summary}\n")?;
     }
     Ok(ways)
+}
+
+/// The command line: no word, `run PICTURE SCRIPT --changes --json --workers N --picture-out FILE`,
+/// `talk PICTURE --changes --json`, `check PICTURE SCRIPT`, `drill PICTURE SCRIPT..`, `ok-to-stop --lose BOOKIE,.. FILE..`,
+/// `waves FILE..`, `risk FILE..`, `census FILE..`, `cut --ledgers ID,.. --window K INVENTORY`,
+/// `plan --lose BOOKIE,.. --to BOOKIE,.. --min-racks R --expect --summary PICTURE`, or `help TOPIC`.
+fn command<'a>(alloc: Global, ways: &'a str) -> Result<Command<'a>, AllocError> {
+    let commands = subcommands(alloc)?;
+    let program = with_style(alloc, program(alloc, ways))?;
+    program.subcommands(commands)
+}
+
+/// The program, without commands.
+fn program<'a>(alloc: Global, ways: &'a str) -> Command<'a> {
+    Command::new(alloc, "rehearse")
+        .version(VERSION)
+        .about(ABOUT)
+        .after_help(ways)
+        .disable_help_subcommand(true)
 }
