@@ -119,14 +119,16 @@ fn asked_drill<'a>(alloc: Global, given: &ArgMatches<'a>) -> Result<Option<Task<
 fn asked_plan<'a>(alloc: Global, given: &ArgMatches<'a>) -> Result<Option<Task<'a>>, AllocError>
     ensures { IfOk result (λ task. IfSome task (model.IsAskedOfPicture (codes "plan") given.now)) }
 {
+    let lost = words_of(alloc, given, "lose")?;
+    let allowed = words_of(alloc, given, "to")?;
     let Some(picture) = given.get_str("PICTURE") else {
         return Ok(None);
     };
     Ok(Some(Task::Plan(PlanWords {
         picture,
         after: given.get_str("after"),
-        lost: words_of(alloc, given, "lose")?,
-        allowed: words_of(alloc, given, "to")?,
+        lost,
+        allowed,
         min_racks: number_of(given, "min-racks").unwrap_or(MIN_RACKS) as usize,
         only_sums: is_given(given, "summary"),
         as_json: is_json(given),
