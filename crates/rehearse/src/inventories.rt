@@ -45,10 +45,15 @@ fn check_read(
 ) -> Result<String, RunFault> {
     let mut inventory = Inventory::new(alloc);
     add_read(alloc, path, reader, line, &mut inventory)?;
+    whole_text(alloc, path, &inventory)
+}
+
+/// How much there is in an inventory, if its last line is there.
+fn whole_text(alloc: Global, path: &str, inventory: &Inventory) -> Result<String, RunFault> {
     if !inventory.is_whole() {
-        return Err(cut(alloc, path, &inventory));
+        return Err(cut(alloc, path, inventory));
     }
-    Ok(counts_text(alloc, &inventory)?)
+    Ok(counts_text(alloc, inventory)?)
 }
 
 /// Adds all lines that this reads, of the first of which this was read.
