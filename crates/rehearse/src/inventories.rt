@@ -275,7 +275,9 @@ fn number_lines(
 {
     let mut number = first;
     for line in lines {
-        number_one(names, line).map_err(|fault| uncounted(alloc, path, number, &fault))?;
+        if let Err(fault) = number_one(names, line) {
+            return Err(uncounted(alloc, path, number, &fault));
+        }
         number = number.saturating_add(1);
     }
     Ok(())
