@@ -1,5 +1,5 @@
 // What the arguments that are given ask for, and what they ask of a picture.
-ghost use Rattle.std.specs.Prelude.{◌≡◌, map, IfOk, IfSome};
+ghost use Rattle.std.specs.Prelude.{◌≡◌, codes, IfOk, IfSome};
 ghost use Rattle.reh_words.specs.Asked as model;
 
 use crate::questions::{asked_of_files, asked_prints, is_given, is_json, number_of, words_of};
@@ -41,14 +41,8 @@ fn asked_of_picture<'a>(
         "check" => Ok(asked_check(given)),
         "talk" => Ok(asked_talk(given)),
         "run" => Ok(asked_run(given)),
-        "drill" => match asked_drill(alloc, given)? {
-            Some(files) => Ok(Some(Task::Drill(files))),
-            None => Ok(None),
-        },
-        "plan" => match asked_plan(alloc, given)? {
-            Some(words) => Ok(Some(Task::Plan(words))),
-            None => Ok(None),
-        },
+        "drill" => asked_drill(alloc, given),
+        "plan" => asked_plan(alloc, given),
         _ => Ok(None),
     }
 }
@@ -109,34 +103,28 @@ fn asked_crew(given: &ArgMatches<'_>) -> Option<Crew>
 }
 
 /// What these matches of `drill` ask for.
-fn asked_drill<'a>(
-    alloc: Global,
-    given: &ArgMatches<'a>,
-) -> Result<Option<DrillFiles<'a>>, AllocError>
-    ensures { IfOk result (λ files. IfSome files (model.IsDrill given.now)) }
+fn asked_drill<'a>(alloc: Global, given: &ArgMatches<'a>) -> Result<Option<Task<'a>>, AllocError>
+    ensures { IfOk result (λ task. IfSome task (model.IsAskedOfPicture (codes "drill") given.now)) }
 {
     let scripts = words_of(alloc, given, "SCRIPT")?;
     match given.get_str("PICTURE") {
         Some(picture) if !scripts.is_empty() && scripts.len() <= MAX_OPERATORS => {
-            Ok(Some(DrillFiles { picture, scripts }))
+            Ok(Some(Task::Drill(DrillFiles { picture, scripts })))
         }
         _ => Ok(None),
     }
 }
 
 /// What these matches of `plan` ask for.
-fn asked_plan<'a>(
-    alloc: Global,
-    given: &ArgMatches<'a>,
-) -> Result<Option<PlanWords<'a>>, AllocError>
-    ensures { IfOk result (λ words. IfSome words (model.IsPlan given.now)) }
+fn asked_plan<'a>(alloc: Global, given: &ArgMatches<'a>) -> Result<Option<Task<'a>>, AllocError>
+    ensures { IfOk result (λ task. IfSome task (model.IsAskedOfPicture (codes "plan") given.now)) }
 {
     let lost = words_of(alloc, given, "lose")?;
     let allowed = words_of(alloc, given, "to")?;
     let Some(picture) = given.get_str("PICTURE") else {
         return Ok(None);
     };
-    Ok(Some(PlanWords {
+    Ok(Some(Task::Plan(PlanWords {
         picture,
         after: given.get_str("after"),
         lost,
@@ -145,5 +133,5 @@ fn asked_plan<'a>(
         only_sums: is_given(given, "summary"),
         as_json: is_json(given),
         expects: is_given(given, "expect"),
-    }))
+    })))
 }

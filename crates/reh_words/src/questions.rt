@@ -1,5 +1,5 @@
 // What the arguments that are given ask of a cluster's files.
-ghost use Rattle.std.specs.Prelude.{◌≡◌, map, IfOk, IfSome};
+ghost use Rattle.std.specs.Prelude.{◌≡◌, codes, map, IfOk, IfSome};
 ghost use Rattle.reh_words.specs.Asked as model;
 
 use crate::tasks::{
@@ -18,82 +18,86 @@ pub(crate) fn asked_of_files<'a>(
 ) -> Result<Option<Task<'a>>, AllocError>
     ensures { IfOk result (λ task. IfSome task (model.IsAsked command.now given.now)) }
 {
-    let task = match command {
-        "ok-to-stop" => Task::Stop(asked_stop(alloc, given)?),
-        "waves" => Task::Waves(asked_waves(alloc, given)?),
-        "risk" => Task::Risk(asked_risk(alloc, given)?),
-        "census" => Task::Census(asked_census(alloc, given)?),
-        "cut" => match asked_cut(alloc, given)? {
-            Some(words) => Task::Cut(words),
-            None => return Ok(None),
-        },
-        _ => return Ok(None),
-    };
-    Ok(Some(task))
+    match command {
+        "ok-to-stop" => asked_stop(alloc, given),
+        "waves" => asked_waves(alloc, given),
+        "risk" => asked_risk(alloc, given),
+        "census" => asked_census(alloc, given),
+        "cut" => asked_cut(alloc, given),
+        _ => Ok(None),
+    }
 }
 
 /// What these matches of `ok-to-stop` ask for.
-fn asked_stop<'a>(alloc: Global, given: &ArgMatches<'a>) -> Result<StopWords<'a>, AllocError>
-    ensures { IfOk result (λ stop. model.IsStop given.now stop) }
+fn asked_stop<'a>(alloc: Global, given: &ArgMatches<'a>) -> Result<Option<Task<'a>>, AllocError>
+    ensures { IfOk result (λ task. IfSome task (model.IsAsked (codes "ok-to-stop") given.now)) }
 {
-    Ok(StopWords {
+    Ok(Some(Task::Stop(StopWords {
         inputs: asked_inputs(alloc, given)?,
         bookies: words_of(alloc, given, "lose")?,
         racks: words_of(alloc, given, "lose-rack")?,
         question: asked_question(given),
         as_json: is_json(given),
-    })
+    })))
 }
 
 /// What these matches of `waves` ask for.
-fn asked_waves<'a>(alloc: Global, given: &ArgMatches<'a>) -> Result<WaveWords<'a>, AllocError>
-    ensures { IfOk result (λ words. model.IsWaves given.now words) }
+fn asked_waves<'a>(alloc: Global, given: &ArgMatches<'a>) -> Result<Option<Task<'a>>, AllocError>
+    ensures { IfOk result (λ task. IfSome task (model.IsAsked (codes "waves") given.now)) }
 {
-    Ok(WaveWords {
+    Ok(Some(Task::Waves(WaveWords {
         inputs: asked_inputs(alloc, given)?,
         question: asked_question(given),
         by_rack: is_given(given, "racks"),
         as_json: is_json(given),
-    })
+    })))
 }
 
 /// What these matches of `risk` ask for.
-fn asked_risk<'a>(alloc: Global, given: &ArgMatches<'a>) -> Result<RiskWords<'a>, AllocError>
-    ensures { IfOk result (λ words. model.IsRisk given.now words) }
+fn asked_risk<'a>(alloc: Global, given: &ArgMatches<'a>) -> Result<Option<Task<'a>>, AllocError>
+    ensures { IfOk result (λ task. IfSome task (model.IsAsked (codes "risk") given.now)) }
 {
-    Ok(RiskWords {
+    Ok(Some(Task::Risk(RiskWords {
         inputs: asked_inputs(alloc, given)?,
         question: asked_question(given),
         with_pairs: is_given(given, "pairs"),
         as_json: is_json(given),
-    })
+    })))
 }
 
 /// What these matches of `census` ask for.
-fn asked_census<'a>(alloc: Global, given: &ArgMatches<'a>) -> Result<CensusWords<'a>, AllocError>
-    ensures { IfOk result (λ words. model.IsCensus given.now words) }
+fn asked_census<'a>(alloc: Global, given: &ArgMatches<'a>) -> Result<Option<Task<'a>>, AllocError>
+    ensures { IfOk result (λ task. IfSome task (model.IsAsked (codes "census") given.now)) }
 {
-    Ok(CensusWords {
+    Ok(Some(Task::Census(CensusWords {
         inputs: asked_inputs(alloc, given)?,
         as_json: is_json(given),
-    })
+    })))
 }
 
 /// What these matches of `cut` ask for. The parser lets no word for a ledger's id through but a number.
-fn asked_cut<'a>(alloc: Global, given: &ArgMatches<'a>) -> Result<Option<CutWords<'a>>, AllocError>
-    ensures { IfOk result (λ words. IfSome words (model.IsCut given.now)) }
+fn asked_cut<'a>(alloc: Global, given: &ArgMatches<'a>) -> Result<Option<Task<'a>>, AllocError>
+    ensures { IfOk result (λ task. IfSome task (model.IsAsked (codes "cut") given.now)) }
 {
-    let words = words_of(alloc, given, "ledgers")?;
-    match (given.get_str("INVENTORY"), ids_of(alloc, &words)?) {
-        (Some(inventory), Some(ledgers)) => Ok(Some(CutWords {
+    let ledgers = asked_ledgers(alloc, given)?;
+    match (given.get_str("INVENTORY"), ledgers) {
+        (Some(inventory), Some(ledgers)) => Ok(Some(Task::Cut(CutWords {
             inventory,
             ledgers,
             assume_held: is_given(given, "assume-held"),
             assume_empty: is_given(given, "assume-empty"),
             window: number_of(given, "window"),
-        })),
+        }))),
         _ => Ok(None),
     }
+}
+
+/// The ids of the ledgers that `cut` cuts, unless one is no number.
+fn asked_ledgers(alloc: Global, given: &ArgMatches<'_>) -> Result<Option<Vec<u64>>, AllocError>
+    ensures { IfOk result (λ ids. IfSome ids (λ ids. ids.items ≡ map model.id_of (model.words_of given.now (codes "ledgers")))) }
+{
+    let words = words_of(alloc, given, "ledgers")?;
+    ids_of(alloc, &words)
 }
 
 /// The id that a word says, unless it is no number.

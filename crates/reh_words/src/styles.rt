@@ -2,9 +2,9 @@
 ghost use Rattle.std.specs.Prelude.{◌≡◌, option_map};
 ghost use Rattle.reh_words.specs.Styles as model;
 
-use clap::{Arg, ArgAction, ArgMatches, Command, Error};
+use clap::{Arg, ArgAction, ArgMatches, Command};
 use reh_colors::Color;
-use std::alloc::Global;
+use std::alloc::{AllocError, Global};
 
 /// How the program shows what it says: with `quiet`, standard error has nothing but faults.
 #[derive(Clone, Copy)]
@@ -20,23 +20,35 @@ const LAST: usize = 900;
 const COLORS: &[&str] = &["auto", "always", "never"];
 
 /// The command with the arguments for how it shows what it says, which each of its subcommands has too.
-pub(crate) fn with_style<'a>(alloc: Global, command: Command<'a>) -> Result<Command<'a>, Error> {
-    let quiet = Arg::new(alloc, "quiet")
-        .long("quiet")
+pub(crate) fn with_style<'a>(
+    alloc: Global,
+    command: Command<'a>,
+) -> Result<Command<'a>, AllocError> {
+    command.arg(quiet_arg(alloc))?.arg(color_arg(alloc))
+}
+
+/// The flag for as little as possible on standard error.
+fn quiet_arg<'a>(alloc: Global) -> Arg<'a> {
+    global_arg(alloc, "quiet", LAST)
         .short('q')
         .action(ArgAction::SetTrue)
-        .global(true)
-        .display_order(LAST)
-        .help("Nothing but faults on standard error: no progress, no prompt");
-    let color = Arg::new(alloc, "color")
-        .long("color")
+        .help("Nothing but faults on standard error: no progress, no prompt")
+}
+
+/// The argument for when colours are shown.
+fn color_arg<'a>(alloc: Global) -> Arg<'a> {
+    global_arg(alloc, "color", LAST + 1)
         .value_name("WHEN")
         .value_parser(COLORS)
+        .help("Refusals and verdicts in colour; by default auto: on a terminal")
+}
+
+/// An argument of each command, at this place in help.
+fn global_arg<'a>(alloc: Global, name: &'a str, place: usize) -> Arg<'a> {
+    Arg::new(alloc, name)
+        .long(name)
         .global(true)
-        .display_order(LAST + 1)
-        .help("Refusals and verdicts in colour; by default auto: on a terminal");
-    let command = command.arg(quiet)?.arg(color)?;
-    Ok(command)
+        .display_order(place)
 }
 
 /// How these matches ask for it.

@@ -9,7 +9,7 @@ use reh_script::{FromRead, StreamFault, TextIn};
 use reh_types::{MAX_PICTURE_BYTES, MAX_SCRIPT_BYTES};
 use std::alloc::{AllocError, Global};
 use std::fs::File;
-use std::io::{Read, Seek, Write};
+use std::io::{ErrorKind, Read, Seek, Write};
 use std::{fs, io};
 
 /// A file that is opened at its first read, so that what is read before it is judged before it.
@@ -92,7 +92,10 @@ impl TextIn for LateFile<'_> {
 /// The file of this path, or standard input, if that is `-`; or that it can't be opened, and the system's reason.
 pub(crate) fn open_file(rt: &HostRuntime, path: &str) -> Result<File, RunFault> {
     let place = if path == "-" { "/dev/stdin" } else { path };
-    fs::open(rt, place).map_err(|error| unread(rt.alloc(), "open", path, error))
+    match fs::open(rt, place) {
+        Ok(file) => Ok(file),
+        Err(error) => Err(unread(rt.alloc(), "open", path, error)),
+    }
 }
 
 /// Reads on in a file, up to so many bytes more; or says that it can't be read, and the system's reason.
@@ -104,9 +107,10 @@ pub(crate) fn read_on(
     bytes: &mut Vec<u8>,
 ) -> Result<File, RunFault> {
     let mut part = file.take(most);
-    part.read_to_end(bytes)
-        .map_err(|error| unread(rt.alloc(), "read", path, error))?;
-    Ok(part.into_inner())
+    match part.read_to_end(bytes) {
+        Ok(_) => Ok(part.into_inner()),
+        Err(error) => Err(unread(rt.alloc(), "read", path, error)),
+    }
 }
 
 /// How many bytes of a picture are read: a byte more than one may have.
@@ -166,9 +170,10 @@ fn rewound(
     if file.rewind().is_ok() {
         return Ok(InputBytes::Inventory(file));
     }
-    file.read_to_end(&mut bytes)
-        .map_err(|error| unread(rt.alloc(), "read", path, error))?;
-    Ok(InputBytes::Stream(bytes))
+    match file.read_to_end(&mut bytes) {
+        Ok(_) => Ok(InputBytes::Stream(bytes)),
+        Err(error) => Err(unread(rt.alloc(), "read", path, error)),
+    }
 }
 
 /// The bytes of a script's file, and of a longer one a byte more than a script may have.
@@ -186,8 +191,8 @@ pub(crate) fn read_script(rt: &HostRuntime, path: &str) -> Result<Vec<u8>, RunFa
 
 /// That a file can't be opened or read, or out of memory.
 pub(crate) fn unread(alloc: Global, failed: &str, path: &str, error: io::Error) -> RunFault {
-    match RunFault::from(error) {
-        RunFault::NoMemory => RunFault::NoMemory,
+    match error.kind() {
+        ErrorKind::OutOfMemory => RunFault::from(error),
         _ => match unread_text(alloc, failed, path, error) {
             Ok(text) => RunFault::Unread(text),
             Err(want) => RunFault::from(want),
@@ -197,8 +202,8 @@ pub(crate) fn unread(alloc: Global, failed: &str, path: &str, error: io::Error) 
 
 /// That a file can't be written, or out of memory.
 pub(crate) fn unwritten(alloc: Global, path: &str, error: io::Error) -> RunFault {
-    match RunFault::from(error) {
-        RunFault::NoMemory => RunFault::NoMemory,
+    match error.kind() {
+        ErrorKind::OutOfMemory => RunFault::from(error),
         _ => match unread_text(alloc, "write", path, error) {
             Ok(text) => RunFault::Unwritten(text),
             Err(want) => RunFault::from(want),
@@ -249,8 +254,9 @@ fn push_script(scripts: &mut Vec<Vec<u8>>, script: Vec<u8>) -> Result<(), AllocE
 /// Writes bytes to standard output.
 pub(crate) fn write_out(rt: &HostRuntime, bytes: &[u8]) -> Result<(), RunFault> {
     let mut writer = io::writer(rt);
-    match writer.write_all(bytes).and_then(|()| writer.flush()) {
-        Ok(()) => Ok(()),
-        Err(_) => Err(RunFault::WriteFault),
+    if writer.write_all(bytes).is_ok() && writer.flush().is_ok() {
+        Ok(())
+    } else {
+        Err(RunFault::WriteFault)
     }
 }

@@ -31,36 +31,50 @@ pub(crate) fn check_inventory(
     start: Vec<u8>,
 ) -> Result<String, RunFault> {
     let alloc = rt.alloc();
-    let inventory = read_inventory(alloc, path, file, start)?;
-    if !inventory.is_whole() {
-        return Err(cut(alloc, path, &inventory));
-    }
-    Ok(counts_text(alloc, &inventory)?)
+    let mut line = start;
+    let mut reader = reader_of(alloc, path, file)?;
+    check_read(alloc, path, &mut reader, &mut line)
 }
 
-/// The inventory in a file of whose first line this was read.
-fn read_inventory(
+/// The same of an inventory that this reads, of whose first line this was read.
+fn check_read(
     alloc: Global,
     path: &str,
-    file: File,
-    start: Vec<u8>,
-) -> Result<Inventory, RunFault> {
-    let mut reader = BufReader::new(alloc, file).map_err(|error| unread(
-        alloc, "read", path, error,
-    ))?;
+    reader: &mut BufReader<File>,
+    line: &mut Vec<u8>,
+) -> Result<String, RunFault> {
     let mut inventory = Inventory::new(alloc);
-    let mut line = start;
+    add_read(alloc, path, reader, line, &mut inventory)?;
+    whole_text(alloc, path, &inventory)
+}
+
+/// How much there is in an inventory, if its last line is there.
+fn whole_text(alloc: Global, path: &str, inventory: &Inventory) -> Result<String, RunFault> {
+    if !inventory.is_whole() {
+        return Err(cut(alloc, path, inventory));
+    }
+    Ok(counts_text(alloc, inventory)?)
+}
+
+/// Adds all lines that this reads, of the first of which this was read.
+fn add_read(
+    alloc: Global,
+    path: &str,
+    reader: &mut BufReader<File>,
+    line: &mut Vec<u8>,
+    inventory: &mut Inventory,
+) -> Result<(), RunFault> {
     for number in 1..u64::MAX {
-        read_line(alloc, path, &mut reader, &mut line)?;
+        read_line(alloc, path, reader, line)?;
         if line.is_empty() {
             break;
         }
-        match inventory.add(alloc, &line) {
+        match inventory.add(alloc, line) {
             Ok(_) => line.clear(),
             Err(fault) => return Err(refused(alloc, path, number, fault)),
         }
     }
-    Ok(inventory)
+    Ok(())
 }
 
 /// Reads the rest of a line of which some bytes may be there. A line that is too long is a fault.
@@ -163,9 +177,10 @@ fn from_start(
     reader: BufReader<File>,
 ) -> Result<BufReader<File>, RunFault> {
     let mut file = reader.into_inner();
-    file.rewind()
-        .map_err(|error| unread(alloc, "read", path, error))?;
-    reader_of(alloc, path, file)
+    match file.rewind() {
+        Ok(()) => reader_of(alloc, path, file),
+        Err(error) => Err(unread(alloc, "read", path, error)),
+    }
 }
 
 /// The census of the inventory of these bytes.
@@ -189,7 +204,10 @@ pub(crate) fn reader_of<R: Read + Drop>(
     path: &str,
     inner: R,
 ) -> Result<BufReader<R>, RunFault> {
-    BufReader::new(alloc, inner).map_err(|error| unread(alloc, "read", path, error))
+    match BufReader::new(alloc, inner) {
+        Ok(reader) => Ok(reader),
+        Err(error) => Err(unread(alloc, "read", path, error)),
+    }
 }
 
 /// The names of the bookies that an inventory has, in their order.
@@ -257,7 +275,9 @@ fn number_lines(
 {
     let mut number = first;
     for line in lines {
-        number_one(names, line).map_err(|fault| uncounted(alloc, path, number, &fault))?;
+        if let Err(fault) = number_one(names, line) {
+            return Err(uncounted(alloc, path, number, &fault));
+        }
         number = number.saturating_add(1);
     }
     Ok(())
