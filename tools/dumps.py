@@ -8,6 +8,7 @@ import io
 import json
 import re
 from functools import lru_cache
+from itertools import chain
 from typing import Any, Callable, Dict, FrozenSet, Iterable, Iterator, List, NamedTuple, NoReturn, Optional
 from typing import Pattern, Set, Tuple
 
@@ -506,7 +507,7 @@ def part_word(word: str) -> Tuple[str, str]:
     return before, file
 
 
-def entries_indexed(lines: List[Line], named: Optional[int]) -> Dict[int, Entries]:
+def entries_indexed(lines: Iterable[Line], named: Optional[int]) -> Dict[int, Entries]:
     """Returns the entries by ledger of what `ledger` printed of an index. A heading or a word names the ledger."""
     entries: Dict[int, Set[int]] = {} if named is None else {named: set()}
     ledger = named
@@ -525,7 +526,7 @@ def entries_indexed(lines: List[Line], named: Optional[int]) -> Dict[int, Entrie
     return {ledger: Entries(frozenset(held), None) for ledger, held in entries.items()}
 
 
-def entries_read(lines: List[Line], named: Optional[int]) -> Dict[int, Entries]:
+def entries_read(lines: Iterable[Line], named: Optional[int]) -> Dict[int, Entries]:
     """Returns the entries by ledger that `readledger` could read from one bookie, and those that it asked for.
 
     A line of an entry that isn't there doesn't name its ledger. It is the dump's one, or nothing is told of it.
@@ -555,7 +556,7 @@ def ledger_in(text: str, named: Optional[int], line: Line) -> int:
 
 
 def read_holdings(
-    word: str, data: Pattern[str], entries_of: Callable[[List[Line], Optional[int]], Dict[int, Entries]], passed: Passed
+    word: str, data: Pattern[str], entries_of: Callable[[Iterable[Line], Optional[int]], Dict[int, Entries]], passed: Passed
 ) -> List[Holding]:
     """Returns what the bookie of a word `BOOKIE=FILE` or `BOOKIE/LEDGER=FILE` holds, by a dump of this form.
 
@@ -564,11 +565,12 @@ def read_holdings(
     before, file = part_word(word)
     bookie, slash, number = before.partition("/")
     named = number_in(number, f"the ledger of `{before}=`", "the command line") if slash else None
-    lines = list(data_lines(open_dump(file), data, passed))
-    entries = entries_of(lines, named) if lines else {}
-    place = lines[0].place if lines else f"{file}:1"
-    if named is not None and not lines:
-        return [Holding(bookie, named, frozenset(), frozenset(), place)]
+    lines = data_lines(open_dump(file), data, passed)
+    first = next(lines, None)
+    if first is None and named is not None:
+        return [Holding(bookie, named, frozenset(), frozenset(), f"{file}:1")]
+    entries = {} if first is None else entries_of(chain([first], lines), named)
+    place = f"{file}:1" if first is None else first.place
     if not entries:
         raise Fault(f"{place}: no entry of any ledger stands here: name the ledger, as BOOKIE/LEDGER=FILE")
     return [Holding(bookie, ledger, held, asked, place) for ledger, (held, asked) in entries.items()]

@@ -360,7 +360,7 @@ def against(cluster: Cluster, question: Question, counted: Counted, verdict: str
     return [(number, -weight if rule in ("readable", "kept", "disks") else 0) for weight, number in worst]
 
 
-def notes_of(cluster: Cluster, question: Question, counted: Counted) -> List[str]:
+def notes_of(cluster: Cluster, question: Question, counted: Counted, taken: Optional[str]) -> List[str]:
     up = {name for name in question.stopped if cluster.bookies[name].is_up}
     notes = [f"{name} is not registered" for name in sorted(question.stopped - up)]
     nowhere = sum(count for alike in counted.values() for entry, count in alike if not entry.known and not entry.untold)
@@ -370,8 +370,9 @@ def notes_of(cluster: Cluster, question: Question, counted: Counted) -> List[str
         notes.append("writers pause until they have changed their ensembles")
     counted = [ledger for ledger in cluster.ledgers if ledger.state != "CLOSED" or ledger.last >= 0]
     if len(up & writable(cluster)) >= min((ledger.ack for ledger in counted), default=1):
+        time = "" if taken is None else f" ({taken})"
         notes.append(
-            "a ledger created since the input was taken may have all its copies on these bookies: "
+            f"a ledger created since the input was taken{time} may have all its copies on these bookies: "
             "make them read-only, take a new input, ask again"
         )
     return notes + unasked_notes(cluster, question)
@@ -396,9 +397,11 @@ def unasked_notes(cluster: Cluster, question: Question) -> List[str]:
     return notes
 
 
-def answer_of(cluster: Cluster, question: Question, counted: Optional[Counted] = None) -> Dict[str, object]:
+def answer_of(
+    cluster: Cluster, question: Question, counted: Optional[Counted] = None, taken: Optional[str] = None
+) -> Dict[str, object]:
     """The answer as JSON shows it; of what speaks against a stop, the ledgers and entries alone. Who counts the entries
-    otherwise than one by one gives what was counted."""
+    otherwise than one by one gives what was counted; who knows when the oldest input was taken, that time."""
     counted = counted_of(cluster, question) if counted is None else counted
     numbers = whole_numbers(cluster, question, counted)
     verdict, rule, named = verdict_of(numbers)
@@ -423,11 +426,11 @@ def answer_of(cluster: Cluster, question: Question, counted: Optional[Counted] =
             "unread": 0,
             "missing": 0,
             "announced": None,
-            "taken": None,
+            "taken": taken,
         },
         "copies": {"now": [now[number] for number in columns], "without": [without[number] for number in columns]},
         "against": against(cluster, question, counted, verdict, rule),
-        "notes": notes_of(cluster, question, counted),
+        "notes": notes_of(cluster, question, counted, taken),
     }
 
 

@@ -1,5 +1,5 @@
 -- Tokens that are added one after the other.
-use Rattle.std.proofs.Common.{◌≡◌, ◌∙◌, ◌+◌, ◌<◌, ◌≤◌, ◌++◌, ◌∷◌, [], ℕ, List, refl, ap, sym, subst, length, take, get_or, map, append_assoc, Ok, Err, Option, Some, OnOk, arith, option_and_then, string_bytes, String, Global}
+use Rattle.std.proofs.Common.{◌≡◌, ◌∙◌, ◌+◌, ◌<◌, ◌≤◌, ◌++◌, ◌∷◌, [], ℕ, List, refl, ap, sym, subst, length, take, get_or, map, append_assoc, Ok, Err, Option, None, Some, OnOk, arith, option_and_then, string_bytes, String, Global}
 use Rattle.std.specs.Prelude.{flat_map, codes}
 use Rattle.std.proofs.lemmas.Grind.{flat_map-append}
 use Rattle.std.proofs.lemmas.List.{append-nil, take_more}
@@ -13,7 +13,7 @@ use Rattle.reh_census.specs.declared.answers.Answer.{Answer}
 use Rattle.reh_census.specs.declared.answers.Answer.TheVariants.{Yes, No, Unknown, UnknownDisks, NotJudged}
 use Rattle.reh_answer.specs.declared.against.Against.{Against}
 use Rattle.reh_answer.specs.declared.facts.Facts.{Facts}
-use Rattle.reh_answer.specs.Objects.{Adds, against_json, answer_json, answer_tokens, count_of, items_of, list_json, member_tokens, number_json, rule_json, verdict_word}
+use Rattle.reh_answer.specs.Objects.{Adds, against_json, answer_json, answer_tokens, count_of, items_of, list_json, member_tokens, number_json, rule_json, text_or_null, verdict_word}
 use Rattle.reh_answer.specs.Texts.{notes_of}
 use Rattle.reh_answer.proofs.TextLaws.{Done}
 
@@ -117,16 +117,21 @@ rule-depth (Unknown rule count) = refl
 rule-depth (UnknownDisks count) = refl
 rule-depth (NotJudged count) = refl
 
-answer-depth : (facts : Facts) (names : List (List ℕ)) (against : List Against) (further : List (List ℕ))
-    → depth (answer_json facts names against further) ≤ 128
-answer-depth facts names against further =
+pub text-depth : (text : Option (List ℕ)) → depth (text_or_null text) ≡ 0
+text-depth None = refl
+text-depth (Some text) = refl
+
+answer-depth : (facts : Facts) (names : List (List ℕ)) (against : List Against) (taken : Option (List ℕ)) (further : List (List ℕ))
+    → depth (answer_json facts names against taken further) ≤ 128
+answer-depth facts names against taken further =
     omega (
       arith,
       rule-depth facts.answer,
+      text-depth taken,
       items-depth number_json 0 (λ n. omega arith) facts.copies_now,
       items-depth number_json 0 (λ n. omega arith) facts.copies_without,
       items-depth against_json 1 (λ a. omega arith) against,
-      items-depth string 0 (λ t. omega arith) (notes_of facts names ++ further),
+      items-depth string 0 (λ t. omega arith) (notes_of facts names taken ++ further),
     )
 
 -- what a reader of JSON reads of a value's tokens
@@ -139,8 +144,8 @@ reads value_of line shallow is =
     (value-json_tokens value_of max_depth [] shallow)
 
 -- and of the answer's
-pub line-reads : (facts : Facts) (names : List (List ℕ)) (against : List Against) (further : List (List ℕ)) (line : List ℕ)
-    → tokens line ≡ json_tokens (answer_json facts names against further)
-    → document line ≡ Some (answer_json facts names against further)
-line-reads facts names against further line is =
-    reads (answer_json facts names against further) line (answer-depth facts names against further) is
+pub line-reads : (facts : Facts) (names : List (List ℕ)) (against : List Against) (taken : Option (List ℕ)) (further : List (List ℕ)) (line : List ℕ)
+    → tokens line ≡ json_tokens (answer_json facts names against taken further)
+    → document line ≡ Some (answer_json facts names against taken further)
+line-reads facts names against taken further line is =
+    reads (answer_json facts names against taken further) line (answer-depth facts names against taken further) is

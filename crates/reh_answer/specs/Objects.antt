@@ -1,5 +1,5 @@
 -- What is said of a stop, as JSON.
-use Rattle.std.specs.Prelude.{◌≡◌, ℕ, List, [], ◌∷◌, ◌++◌, map, string_bytes, codes, Some}
+use Rattle.std.specs.Prelude.{◌≡◌, ℕ, List, [], ◌∷◌, ◌++◌, map, string_bytes, codes, Option, None, Some}
 use Rattle.std.specs.Fmt.{decimal}
 use Rattle.json.specs.Json.{Json, null, number, string, array, object, Items, no_items, item, no_members, member, document}
 use Rattle.json.specs.Print.{print}
@@ -25,6 +25,10 @@ items_of (value ∷ values) = item value (items_of values)
 
 abbrev pub list_json : List Json → Json
 list_json values = array (items_of values)
+
+abbrev pub text_or_null : Option (List ℕ) → Json
+text_or_null None = null
+text_or_null (Some text) = string text
 
 -- The answer
 
@@ -76,9 +80,9 @@ rules_json numbers =
     (member (codes "disks") (number_json numbers.disks) no_members)))))
     )
 
--- how many ledgers were announced, and when the input was taken, isn't known
-abbrev pub judged_json : Facts → Json
-judged_json facts =
+-- how many ledgers were announced isn't known; when the oldest input was taken is, if each tells its time
+abbrev pub judged_json : Facts → Option (List ℕ) → Json
+judged_json facts taken =
     object (
     member (codes "ledgers") (number_json facts.judged.ledgers)
     (member (codes "entries") (number_json facts.entries)
@@ -87,7 +91,7 @@ judged_json facts =
     (member (codes "unread") (number_json facts.judged.unread)
     (member (codes "missing") (number_json facts.judged.missing)
     (member (codes "announced") null
-    (member (codes "taken") null no_members)))))))
+    (member (codes "taken") (text_or_null taken) no_members)))))))
     )
 
 abbrev pub copies_with : List ℕ → List ℕ → Json
@@ -113,29 +117,29 @@ against_json against = against_with against.ledger against.entries (string_bytes
 -- All of it
 
 -- further notes come after those that apply
-abbrev pub answer_with : Facts → List (List ℕ) → List Against → List (List ℕ) → Json
-answer_with facts notes against further =
+abbrev pub answer_with : Facts → List (List ℕ) → List Against → Option (List ℕ) → List (List ℕ) → Json
+answer_with facts notes against taken further =
     object (
     member (codes "verdict") (string (verdict_word facts.answer))
     (member (codes "rule") (rule_json facts.answer)
     (member (codes "count") (number_json (count_of facts.answer))
     (member (codes "rules") (rules_json facts.numbers)
-    (member (codes "judged") (judged_json facts)
+    (member (codes "judged") (judged_json facts taken)
     (member (codes "copies") (copies_json facts)
     (member (codes "against") (list_json (map against_json against))
     (member (codes "notes") (list_json (map string (notes ++ further))) no_members)))))))
     )
 
 -- the bookies have these names, by number
-abbrev pub answer_json : Facts → List (List ℕ) → List Against → List (List ℕ) → Json
-answer_json facts names against further = answer_with facts (notes_of facts names) against further
+abbrev pub answer_json : Facts → List (List ℕ) → List Against → Option (List ℕ) → List (List ℕ) → Json
+answer_json facts names against taken further = answer_with facts (notes_of facts names taken) against taken further
 
 -- a value on one line
 abbrev pub line_of : Json → List ℕ
 line_of value = print (json_tokens value) ++ codes "\n"
 
-abbrev pub json_of : Facts → List (List ℕ) → List Against → List (List ℕ) → List ℕ
-json_of facts names against further = line_of (answer_json facts names against further)
+abbrev pub json_of : Facts → List (List ℕ) → List Against → Option (List ℕ) → List (List ℕ) → List ℕ
+json_of facts names against taken further = line_of (answer_json facts names against taken further)
 
 -- the text is a line that a reader of JSON reads as this value
 pub record IsLineOf (value : Json) (text : List ℕ) : Type 0 where

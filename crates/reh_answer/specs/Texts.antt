@@ -1,5 +1,5 @@
 -- What is printed of a stop. Each line ends with its LF.
-use Rattle.std.specs.Prelude.{ℕ, ◌+◌, ◌-◌, Bool, ◌&&◌, ◌==◌, nat_lt, if◌then◌else◌, List, [], ◌∷◌, ◌++◌, map}
+use Rattle.std.specs.Prelude.{ℕ, ◌+◌, ◌-◌, Bool, ◌&&◌, ◌==◌, nat_lt, if◌then◌else◌, List, [], ◌∷◌, ◌++◌, map, Option, None, Some}
 use Rattle.std.specs.Prelude.{flat_map, length, replicate, slice_get, unwrap_or, string_bytes, codes}
 use Rattle.std.specs.Fmt.{decimal}
 use Rattle.reh_census.specs.declared.answers.Answer.{Answer}
@@ -127,9 +127,16 @@ unreadable_note number = amount number Entry ++ codes " can't be read already, w
 abbrev pub pause_note : List ℕ
 pause_note = codes "writers pause until they have changed their ensembles"
 
-abbrev pub new_ledger_note : List ℕ
-new_ledger_note =
-    codes "a ledger created since the input was taken may have all its copies on these bookies: make them read-only, take a new input, ask again"
+-- when the oldest input was taken, if each tells its time
+abbrev pub time_words : Option (List ℕ) → List ℕ
+time_words None = []
+time_words (Some time) = codes " (" ++ (time ++ codes ")")
+
+abbrev pub new_ledger_note : Option (List ℕ) → List ℕ
+new_ledger_note taken =
+    codes "a ledger created since the input was taken"
+    ++ (time_words taken
+    ++ codes " may have all its copies on these bookies: make them read-only, take a new input, ask again")
 
 abbrev pub racks_note : List ℕ
 racks_note = codes "--min-racks asks nothing here: no ledger is open, and --ensemble is not given"
@@ -152,12 +159,13 @@ unasked_notes unasked =
     ++ (note_if unasked.racks_now racks_now_note
     ++ (note_if unasked.ensemble_now ensemble_now_note ++ note_if unasked.writers writers_note))
 
-abbrev pub notes_of : Facts → List (List ℕ) → List (List ℕ)
-notes_of facts names =
+-- those that apply, where the bookies have these names, and the oldest input was taken then
+abbrev pub notes_of : Facts → List (List ℕ) → Option (List ℕ) → List (List ℕ)
+notes_of facts names taken =
     map (λ b. name_of names b ++ codes " is not registered") facts.unregistered
     ++ (note_if (nat_lt 0 facts.unreadable) (unreadable_note facts.unreadable)
     ++ (note_if facts.writers_pause pause_note
-    ++ (note_if facts.may_hold_a_new_ledger new_ledger_note ++ unasked_notes facts.unasked)))
+    ++ (note_if facts.may_hold_a_new_ledger (new_ledger_note taken) ++ unasked_notes facts.unasked)))
 
 abbrev pub note_line : List ℕ → List ℕ
 note_line note = codes "note: " ++ (note ++ codes "\n")
@@ -250,14 +258,14 @@ verdict_line facts question =
 -- All lines
 
 -- what was judged, the copies, the rules, what is unknown, what speaks against the stop, notes, and the verdict
-abbrev pub text_of : Facts → Question → List (List ℕ) → List Against → List (List ℕ) → List ℕ
-text_of facts question names against further =
+abbrev pub text_of : Facts → Question → List (List ℕ) → List Against → Option (List ℕ) → List (List ℕ) → List ℕ
+text_of facts question names against taken further =
     judged_line facts
     ++ (table_text facts
     ++ (rules_line facts.numbers question.for_good
     ++ (unknown_line facts
     ++ (flat_map against_line against
-    ++ (flat_map note_line (notes_of facts names) ++ (flat_map note_line further ++ verdict_line facts question))))))
+    ++ (flat_map note_line (notes_of facts names taken) ++ (flat_map note_line further ++ verdict_line facts question))))))
 
 -- the exit status
 abbrev pub status_number : Answer → ℕ

@@ -22,7 +22,7 @@ pub use against::Against;
 pub use counts::{count_entries, count_unknown};
 pub use facts::{Facts, facts_of};
 pub use laws::keep_1_allows_it;
-pub use members::{add_null, add_number, add_text};
+pub use members::{add_null, add_number, add_text, add_text_or_null};
 pub use notes::notes_of;
 pub use objects::{json_of, text_in};
 pub use tables::Counts;

@@ -1,5 +1,5 @@
 // Members of JSON objects.
-ghost use Rattle.std.specs.Prelude.{◌≡◌, OnOk, codes};
+ghost use Rattle.std.specs.Prelude.{◌≡◌, OnOk, codes, option_copied};
 ghost use Rattle.json.specs.Json.{null, string};
 ghost use Rattle.reh_answer.specs.Objects as objects;
 
@@ -30,6 +30,21 @@ pub fn add_null(json: &mut Writer<Global>, name: &str) -> Result<(), AllocError>
 {
     json.key(name)?;
     json.null()
+}
+
+/// Adds a text under a name, or nothing where there is none.
+pub fn add_text_or_null(
+    json: &mut Writer<Global>,
+    name: &str,
+    text: Option<&str>,
+) -> Result<(), AllocError>
+    ensures { OnOk result (objects.Adds (objects.member_tokens name.now
+        (objects.text_or_null (option_copied text.entry))) json.old json.new) }
+{
+    match text {
+        Some(text) => add_text(json, name, text),
+        None => add_null(json, name),
+    }
 }
 
 /// Adds how often a rule is broken.

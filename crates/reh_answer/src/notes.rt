@@ -1,5 +1,5 @@
 // Notes.
-ghost use Rattle.std.specs.Prelude.{◌≡◌, ◌++◌, IfOk, OnOk, codes, flat_map, map, nat_lt, string_bytes};
+ghost use Rattle.std.specs.Prelude.{◌≡◌, ◌++◌, IfOk, OnOk, codes, flat_map, map, nat_lt, option_copied, string_bytes};
 ghost use Rattle.reh_answer.specs.Texts as texts;
 
 use crate::facts::Facts;
@@ -58,6 +58,38 @@ fn note_if(
     Ok(())
 }
 
+/// The note on ledgers that were created since the input was taken, with that time, if it is told.
+fn new_ledger_note(alloc: Global, taken: Option<&str>) -> Result<String, AllocError>
+    ensures { IfOk result (λ note. string_bytes note ≡ texts.new_ledger_note (option_copied taken.entry)) }
+{
+    match taken {
+        Some(time) => format!(in alloc;
+            "a ledger created since the input was taken ({time}) may have all its copies on these bookies: make them read-only, take a new input, ask again"
+        ),
+        None => String::from_str(
+            alloc,
+            "a ledger created since the input was taken may have all its copies on these bookies: make them read-only, take a new input, ask again",
+        ),
+    }
+}
+
+/// Adds that note, if it applies.
+fn push_new_ledger(
+    alloc: Global,
+    notes: &mut Vec<String>,
+    applies: bool,
+    taken: Option<&str>,
+) -> Result<(), AllocError>
+    ensures { OnOk result (map string_bytes notes.new.items
+        ≡ map string_bytes notes.old.items ++ texts.note_if applies (texts.new_ledger_note (option_copied taken.entry))) }
+{
+    if !applies {
+        return Ok(());
+    }
+    notes.push(new_ledger_note(alloc, taken)?)?;
+    Ok(())
+}
+
 /// Adds the notes on words that ask nothing.
 fn push_unasked(alloc: Global, notes: &mut Vec<String>, unasked: Unasked) -> Result<(), AllocError>
     ensures { OnOk result (map string_bytes notes.new.items
@@ -89,10 +121,16 @@ fn push_unasked(alloc: Global, notes: &mut Vec<String>, unasked: Unasked) -> Res
     )
 }
 
-/// The notes that apply, where the bookies have these names, by number.
-pub fn notes_of(alloc: Global, facts: &Facts, names: &[String]) -> Result<Vec<String>, AllocError>
+/// The notes that apply, where the bookies have these names, by number, and the oldest input was taken then, if each tells
+/// its time.
+pub fn notes_of(
+    alloc: Global,
+    facts: &Facts,
+    names: &[String],
+    taken: Option<&str>,
+) -> Result<Vec<String>, AllocError>
     ensures { IfOk result (λ notes. map string_bytes notes.items
-        ≡ texts.notes_of facts.now (map string_bytes names.now)) }
+        ≡ texts.notes_of facts.now (map string_bytes names.now) (option_copied taken.entry)) }
 {
     let mut notes = Vec::new(alloc);
     for bookie in facts.unregistered.as_slice() {
@@ -105,12 +143,7 @@ pub fn notes_of(alloc: Global, facts: &Facts, names: &[String]) -> Result<Vec<St
         facts.writers_pause,
         "writers pause until they have changed their ensembles",
     )?;
-    note_if(
-        alloc,
-        &mut notes,
-        facts.may_hold_a_new_ledger,
-        "a ledger created since the input was taken may have all its copies on these bookies: make them read-only, take a new input, ask again",
-    )?;
+    push_new_ledger(alloc, &mut notes, facts.may_hold_a_new_ledger, taken)?;
     push_unasked(alloc, &mut notes, facts.unasked)?;
     Ok(notes)
 }

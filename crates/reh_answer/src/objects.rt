@@ -1,5 +1,5 @@
 // What is said of a stop, as JSON.
-ghost use Rattle.std.specs.Prelude.{◌≡◌, ◌++◌, [], IfOk, OnOk, codes, flat_map, map, string_bytes};
+ghost use Rattle.std.specs.Prelude.{◌≡◌, ◌++◌, [], IfOk, OnOk, codes, flat_map, map, option_copied, string_bytes};
 ghost use Rattle.json.specs.Json.{string};
 ghost use Rattle.json.specs.Lex.{tokens};
 ghost use Rattle.json.specs.Print.{print};
@@ -8,7 +8,7 @@ ghost use Rattle.reh_answer.specs.Objects as objects;
 
 use crate::against::Against;
 use crate::facts::Facts;
-use crate::members::{add_answer, add_broken, add_null, add_number, add_text};
+use crate::members::{add_answer, add_broken, add_null, add_number, add_text, add_text_or_null};
 use crate::notes::notes_of;
 use json::Writer;
 use reh_census::Numbers;
@@ -29,9 +29,14 @@ fn add_rules(json: &mut Writer<Global>, numbers: &Numbers) -> Result<(), AllocEr
     json.end_object()
 }
 
-/// Adds what was judged.
-fn add_judged(json: &mut Writer<Global>, facts: &Facts) -> Result<(), AllocError>
-    ensures { OnOk result (objects.Adds (objects.member_tokens (codes "judged") (objects.judged_json facts.now)) json.old json.new) }
+/// Adds what was judged, and when the oldest input was taken.
+fn add_judged(
+    json: &mut Writer<Global>,
+    facts: &Facts,
+    taken: Option<&str>,
+) -> Result<(), AllocError>
+    ensures { OnOk result (objects.Adds (objects.member_tokens (codes "judged")
+        (objects.judged_json facts.now (option_copied taken.entry))) json.old json.new) }
 {
     json.key("judged")?;
     json.begin_object()?;
@@ -42,7 +47,7 @@ fn add_judged(json: &mut Writer<Global>, facts: &Facts) -> Result<(), AllocError
     add_number(json, "unread", facts.judged.unread)?;
     add_number(json, "missing", facts.judged.missing)?;
     add_null(json, "announced")?;
-    add_null(json, "taken")?;
+    add_text_or_null(json, "taken", taken)?;
     json.end_object()
 }
 
@@ -146,15 +151,16 @@ fn add_all(
     facts: &Facts,
     notes: &[String],
     against: &[Against],
+    taken: Option<&str>,
     further: &[String],
 ) -> Result<(), AllocError>
     ensures { OnOk result (objects.Adds (json_tokens (objects.answer_with facts.now (map string_bytes notes.now)
-        against.now (map string_bytes further.now))) json.old json.new) }
+        against.now (option_copied taken.entry) (map string_bytes further.now))) json.old json.new) }
 {
     json.begin_object()?;
     add_answer(json, &facts.answer)?;
     add_rules(json, &facts.numbers)?;
-    add_judged(json, facts)?;
+    add_judged(json, facts, taken)?;
     add_copies(json, facts)?;
     add_against(json, against)?;
     add_notes(json, notes, further)?;
@@ -173,24 +179,25 @@ pub fn text_in(json: Writer<Global>) -> Result<String, AllocError>
     }
 }
 
-/// What is said of a stop, as JSON: one object, on one line. The bookies have these names, by number; further notes stand
-/// after those that apply.
+/// What is said of a stop, as JSON: one object, on one line. The bookies have these names, by number; the oldest input was
+/// taken then, if each tells its time; further notes stand after those that apply.
 pub fn json_of(
     alloc: Global,
     facts: &Facts,
     names: &[String],
     against: &[Against],
+    taken: Option<&str>,
     further: &[String],
 ) -> Result<String, AllocError>
     ensures text { IfOk result (λ text. string_bytes text ≡ objects.json_of facts.now (map string_bytes names.now)
-        against.now (map string_bytes further.now)) }
+        against.now (option_copied taken.entry) (map string_bytes further.now)) }
     ensures reads_back { IfOk result (λ text. objects.IsLineOf (objects.answer_json facts.now
         (map string_bytes names.now)
-        against.now (map string_bytes further.now)) (string_bytes text)) }
+        against.now (option_copied taken.entry) (map string_bytes further.now)) (string_bytes text)) }
 {
-    let notes = notes_of(alloc, facts, names)?;
+    let notes = notes_of(alloc, facts, names, taken)?;
     let mut json = Writer::new(Vec::new(alloc));
-    add_all(&mut json, facts, &notes, against, further)?;
+    add_all(&mut json, facts, &notes, against, taken, further)?;
     let mut text = text_in(json)?;
     text.push_str("\n")?;
     Ok(text)

@@ -1,5 +1,5 @@
 // All lines of an answer.
-ghost use Rattle.std.specs.Prelude.{◌≡◌, ◌++◌, IfOk, OnOk, map, string_bytes};
+ghost use Rattle.std.specs.Prelude.{◌≡◌, ◌++◌, IfOk, OnOk, map, option_copied, string_bytes};
 ghost use Rattle.reh_answer.specs.Texts as texts;
 
 use crate::against::{Against, push_against};
@@ -12,7 +12,8 @@ use reh_census::Question;
 use std::alloc::{AllocError, Global};
 
 /// Adds what is said of a stop: what was judged, the copies, the rules, what is unknown, the ledgers that speak against
-/// it, the notes that apply and further ones, and the verdict. The bookies have these names, by number.
+/// it, the notes that apply and further ones, and the verdict. The bookies have these names, by number, and the oldest
+/// input was taken then, if each tells its time.
 pub fn push_text(
     alloc: Global,
     text: &mut String,
@@ -20,12 +21,13 @@ pub fn push_text(
     question: &Question,
     names: &[String],
     against: &[Against],
+    taken: Option<&str>,
     further: &[String],
 ) -> Result<(), AllocError>
     ensures { OnOk result (string_bytes text.new ≡ string_bytes text.old ++ texts.text_of facts.now question.now
-        (map string_bytes names.now) against.now (map string_bytes further.now)) }
+        (map string_bytes names.now) against.now (option_copied taken.entry) (map string_bytes further.now)) }
 {
-    let notes = notes_of(alloc, facts, names)?;
+    let notes = notes_of(alloc, facts, names, taken)?;
     push_judged(text, facts)?;
     push_table(text, facts)?;
     push_rules(text, &facts.numbers, question.for_good)?;
@@ -43,12 +45,15 @@ pub fn text_of(
     question: &Question,
     names: &[String],
     against: &[Against],
+    taken: Option<&str>,
     further: &[String],
 ) -> Result<String, AllocError>
     ensures { IfOk result (λ text. string_bytes text ≡ texts.text_of facts.now question.now
-        (map string_bytes names.now) against.now (map string_bytes further.now)) }
+        (map string_bytes names.now) against.now (option_copied taken.entry) (map string_bytes further.now)) }
 {
     let mut text = String::new(alloc);
-    push_text(alloc, &mut text, facts, question, names, against, further)?;
+    push_text(
+        alloc, &mut text, facts, question, names, against, taken, further,
+    )?;
     Ok(text)
 }

@@ -10,8 +10,8 @@ use Rattle.reh_census.specs.declared.censuses.CountedTail.{CountedTail}
 use Rattle.reh_census.specs.declared.classes.Counted.{Counted}
 use Rattle.reh_census_file.specs.Values.{NamedCensus}
 use Rattle.reh_answer.specs.Objects.{member_tokens}
-use Rattle.reh_answer.proofs.ObjectLaws.{items-depth}
-use Rattle.reh_census_json.specs.Objects.{bookies_json, census_value, class_json, ensemble_json, ensembles_json, entries_json, judged_json, name_json, named_json, names_json, rack_json, tail_json, tails_json, taken_json}
+use Rattle.reh_answer.proofs.ObjectLaws.{items-depth, text-depth}
+use Rattle.reh_census_json.specs.Objects.{bookies_json, census_value, class_json, ensemble_json, ensembles_json, entries_json, judged_json, name_json, named_json, names_json, rack_json, tail_json, tails_json}
 
 names-depth : (names : List (List ℕ)) (numbers : List ℕ) → depth (names_json names numbers) ≤ 1
 names-depth names numbers = omega (arith, items-depth (name_json names) 0 (λ n. omega arith) numbers)
@@ -19,10 +19,6 @@ names-depth names numbers = omega (arith, items-depth (name_json names) 0 (λ n.
 rack-depth : (racks : List (List ℕ)) (rack : Option ℕ) → depth (rack_json racks rack) ≡ 0
 rack-depth racks None = refl
 rack-depth racks (Some rack) = refl
-
-taken-depth : (taken : Option (List ℕ)) → depth (taken_json taken) ≡ 0
-taken-depth None = refl
-taken-depth (Some time) = refl
 
 named-depth : (racks : List (List ℕ)) (named : List ℕ × Bookie) → depth (named_json racks named) ≤ 1
 named-depth racks named = omega (arith, rack-depth racks named.1.rack)
@@ -40,7 +36,7 @@ pub census-depth : (c : NamedCensus) → depth (census_value c) ≤ 128
 census-depth c =
     omega (
       arith,
-      taken-depth c.taken,
+      text-depth c.taken,
       items-depth (named_json c.racks) 1 (named-depth c.racks) (zip c.names c.bookies),
       items-depth (class_json c.names) 2 (class-depth c.names) c.census.entries,
       items-depth (tail_json c.names) 2 (tail-depth c.names) c.census.tails,

@@ -8,7 +8,7 @@ use Rattle.reh_census.specs.declared.censuses.CountedTail.{CountedTail}
 use Rattle.reh_census.specs.declared.censuses.Judged.{Judged}
 use Rattle.reh_census.specs.declared.classes.Counted.{Counted}
 use Rattle.reh_census.specs.Counting.{count_in}
-use Rattle.reh_answer.specs.Objects.{line_of, list_json, number_json}
+use Rattle.reh_answer.specs.Objects.{line_of, list_json, number_json, text_or_null}
 use Rattle.reh_census_file.specs.Texts.{name_of}
 use Rattle.reh_census_file.specs.Values.{NamedCensus}
 
@@ -43,10 +43,6 @@ bookies_json c = list_json (map (named_json c.racks) (zip c.names c.bookies))
 
 -- What was counted
 
-abbrev pub taken_json : Option (List ℕ) → Json
-taken_json None = null
-taken_json (Some time) = string time
-
 -- how many entries there are, and of how many of them some bookie is untold; how many ledgers were announced isn't known
 abbrev pub judged_with : Judged → ℕ → ℕ → Option (List ℕ) → Json
 judged_with judged entries unknown taken =
@@ -58,7 +54,7 @@ judged_with judged entries unknown taken =
     (member (codes "unread") (number_json judged.unread)
     (member (codes "missing") (number_json judged.missing)
     (member (codes "announced") null
-    (member (codes "taken") (taken_json taken) no_members)))))))
+    (member (codes "taken") (text_or_null taken) no_members)))))))
     )
 
 abbrev pub judged_json : NamedCensus → Json

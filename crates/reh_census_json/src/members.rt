@@ -9,7 +9,7 @@ ghost use Rattle.reh_census_json.specs.Objects as model;
 use json::Writer;
 use reh_answer::{add_null, add_text};
 use reh_census::Names;
-use reh_census_file::{NameList, NamedCensus};
+use reh_census_file::NameList;
 use std::alloc::{AllocError, Global};
 
 /// The name of this number, or an empty one where no name has it.
@@ -41,16 +41,6 @@ pub(crate) fn add_rack(
     match rack {
         Some(number) => add_text(json, "rack", name_of(racks, number)),
         None => add_null(json, "rack"),
-    }
-}
-
-/// Adds when the oldest input was taken, if that is known, or null.
-pub(crate) fn add_taken(json: &mut Writer<Global>, census: &NamedCensus) -> Result<(), AllocError>
-    ensures { OnOk result (Adds (member_tokens (codes "taken") (model.taken_json census.now.taken)) json.old json.new) }
-{
-    match census.taken() {
-        Some(time) => add_text(json, "taken", time),
-        None => add_null(json, "taken"),
     }
 }
 

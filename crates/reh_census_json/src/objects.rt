@@ -5,9 +5,11 @@ ghost use Rattle.json.specs.Tree.{json_tokens};
 ghost use Rattle.reh_answer.specs.Objects.{Adds, IsLineOf, member_tokens};
 ghost use Rattle.reh_census_json.specs.Objects as model;
 
-use crate::members::{add_flag, add_names, add_rack, add_state, add_taken};
+use crate::members::{add_flag, add_names, add_rack, add_state};
 use json::Writer;
-use reh_answer::{add_null, add_number, add_text, count_entries, count_unknown, text_in};
+use reh_answer::{
+    add_null, add_number, add_text, add_text_or_null, count_entries, count_unknown, text_in,
+};
 use reh_census::{Bookie, Bookies, Counted, CountedEnsemble, CountedTail};
 use reh_census_file::{NameList, NamedCensus};
 use std::alloc::{AllocError, Global};
@@ -28,7 +30,7 @@ fn add_judged(json: &mut Writer<Global>, census: &NamedCensus) -> Result<(), All
     add_number(json, "unread", judged.unread)?;
     add_number(json, "missing", judged.missing)?;
     add_null(json, "announced")?;
-    add_taken(json, census)?;
+    add_text_or_null(json, "taken", census.taken())?;
     json.end_object()
 }
 

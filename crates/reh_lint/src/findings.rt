@@ -4,23 +4,23 @@ ghost use Rattle.std.specs.Option.{option_map_or};
 ghost use Rattle.reh_lint.specs.Ledgers.{ids_of, missing_ledger};
 ghost use Rattle.reh_lint.specs.Lints as model;
 ghost use Rattle.reh_lint.specs.Unknown as unknown;
-ghost use Rattle.reh_near.specs.Near.{near_ids_text, told};
+ghost use Rattle.reh_near.specs.Near.{near_ids_text, nearest_ids, told};
 
 use crate::ledgers::{ledger_ids, missing_ledger};
 use crate::names::{bookie_names, verb_names};
 use crate::unknown::{line_words, unknown_command, unknown_name};
 use reh_cluster::State;
 use reh_commands::{Command, LineFault};
-use reh_near::{Near, near_ids, near_to};
+use reh_near::{Near, near_ids, near_to, nearest_ids};
 use std::alloc::{AllocError, Global};
 
 /// The state of a picture, and the names and ids that a word of a script may be near.
 #[derive(Drop)]
-pub(crate) struct Known<'a> {
+pub struct Known<'a> {
     pub state: &'a State,
-    pub bookies: Vec<&'a str>,
-    pub verbs: Vec<&'a str>,
-    pub ids: Vec<u64>,
+    bookies: Vec<&'a str>,
+    verbs: Vec<&'a str>,
+    ids: Vec<u64>,
     ghost is_bookies: { map (λ name. name.now) bookies.items ≡ state.now.names },
     ghost is_verbs: { map (λ name. name.now) verbs.items ≡ model.verb_names },
     ghost is_ids: { ids.items ≡ ids_of state.now },
@@ -28,7 +28,7 @@ pub(crate) struct Known<'a> {
 
 impl<'a> Known<'a> {
     /// Those of this state.
-    pub(crate) fn new(alloc: Global, state: &'a State) -> Result<Known<'a>, AllocError>
+    pub fn new(alloc: Global, state: &'a State) -> Result<Known<'a>, AllocError>
         ensures { IfOk result (λ known. known.state.now ≡ state.now) }
     {
         Ok(Known {
@@ -40,7 +40,7 @@ impl<'a> Known<'a> {
     }
 
     /// What is near the unknown word of a line with this fault.
-    fn near(&self, alloc: Global, line: &[u8], fault: LineFault) -> Result<Near<'a>, AllocError>
+    pub fn near(&self, alloc: Global, line: &[u8], fault: LineFault) -> Result<Near<'a>, AllocError>
         ensures { IfOk result (λ near. told near ≡ model.near_it self.now.state.now.names line.now fault) }
     {
         match fault {
@@ -70,6 +70,13 @@ impl<'a> Known<'a> {
             &self.bookies,
             unknown_name(self.state.names(), &words),
         )
+    }
+
+    /// The ids that are near this one, which is none of them, in digits.
+    pub fn near_ids(&self, alloc: Global, id: u64) -> Result<Vec<String>, AllocError>
+        ensures { IfOk result (λ near. map string_bytes near.items ≡ nearest_ids (ids_of self.now.state.now) id) }
+    {
+        nearest_ids(alloc, &self.ids, id)
     }
 
     /// What is said of the ids that are near this one.

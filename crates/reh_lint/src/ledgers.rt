@@ -19,7 +19,7 @@ pub(crate) fn ledger_ids(alloc: Global, state: &State) -> Result<Vec<u64>, Alloc
 }
 
 /// The ledger that a command names, if there is no ledger of that id.
-pub(crate) fn missing_ledger(state: &State, command: &Command) -> Option<LedgerId>
+pub fn missing_ledger(state: &State, command: &Command) -> Option<LedgerId>
     ensures { result ≡ model.missing_ledger state.now command.now }
 {
     let id = named_ledger(command)?;

@@ -8,5 +8,7 @@ mod lints;
 mod names;
 mod unknown;
 
+pub use findings::Known;
 pub use laws::missing_ledgers_are_refused;
-pub use lints::{Linted, lint};
+pub use ledgers::missing_ledger;
+pub use lints::{Linted, answered, lint};

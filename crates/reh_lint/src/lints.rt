@@ -40,7 +40,7 @@ pub fn lint(alloc: Global, state: &State, path: &str, script: &[u8]) -> Result<L
 }
 
 /// The text of a script whose lines are answered.
-fn answered(script: &[u8]) -> &[u8]
+pub fn answered(script: &[u8]) -> &[u8]
     ensures { lines_of result.now ≡ answered_lines false script.now }
 {
     if script.len() > MAX_SCRIPT_BYTES {

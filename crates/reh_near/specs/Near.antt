@@ -79,3 +79,11 @@ id_text (told_nearest ids) = nearest_text ids
 
 abbrev pub near_ids_text : List ℕ → ℕ → List ℕ
 near_ids_text ids id = id_text (near_to (map decimal ids) (decimal id))
+
+-- the same ids, in digits
+abbrev pub told_ids : Told → List (List ℕ)
+told_ids (told_full id) = id ∷ []
+told_ids (told_nearest ids) = ids
+
+abbrev pub nearest_ids : List ℕ → ℕ → List (List ℕ)
+nearest_ids ids id = told_ids (near_to (map decimal ids) (decimal id))

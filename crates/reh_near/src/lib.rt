@@ -5,5 +5,5 @@ mod distances;
 mod ids;
 mod near;
 
-pub use ids::near_ids;
+pub use ids::{near_ids, nearest_ids};
 pub use near::{MAX_BYTES, Near, near_to};

@@ -1,19 +1,20 @@
 -- What is printed of a line as JSON, and how such a run ends.
-use Rattle.std.proofs.Common.{◌≡◌, ◌⊎◌, ℕ, Bool, List, [], ◌++◌, length, drop, inl, inr, Option, None, Some, Result, Ok, Err}
+use Rattle.std.proofs.Common.{◌≡◌, ℕ, List, [], ◌++◌, length, drop, inl, inr, Option, None, Some, Result, Ok, Err}
 use Rattle.std.proofs.Common.{refl, sym, ap, ◌∙◌, subst}
 use Rattle.std.proofs.lemmas.List.{drop_at}
 use Rattle.std.specs.Prelude.{OnOk, codes}
 use Rattle.json.specs.Json.{Json}
 use Rattle.reh_model.specs.Cluster.{Cluster}
-use Rattle.reh_model.specs.Places.{Change, IsDelta}
+use Rattle.reh_model.specs.Places.{Change}
 use Rattle.reh_model.specs.Session.{replay}
 use Rattle.reh_desk.specs.Kept.{Kept, Called}
 use Rattle.reh_commands.specs.Answers.{asked}
 use Rattle.reh_play.specs.declared.answers.LineAnswer.{LineAnswer}
 use Rattle.reh_play.specs.Turns.{PrintsLine}
 use Rattle.reh_run_json.specs.Lines.{IsLineAdded, line_json, line_text}
-use Rattle.reh_script.specs.AsJson.{command_in, lines_as_json}
+use Rattle.reh_script.specs.AsJson.{command_in, lines_as_json, IsTold}
 use Rattle.reh_script.specs.Changes.{shown_at, state_in, IsMadeBy}
+use Rattle.reh_script.specs.declared.faults.PipeFault.{PipeFault}
 use Rattle.reh_script.proofs.ChangeLaws.{state_is}
 
 -- what was added is that line
@@ -54,3 +55,13 @@ tells_object (Ok ok) names b n line answer s command r old new leads made asks p
             reads)),
       ),
     )
+
+-- what holds where the play ends well holds where it still does after its last object
+pub told_well : (holds : Type 0) (text : Option (List ℕ)) (end result : Result (Unit {0}) PipeFault)
+    (old new : Option (List ℕ)) → IsTold text end result old new → OnOk end holds → OnOk result holds
+told_well holds None end result old new (same, keeps) well =
+    subst (λ (r : Result (Unit {0}) PipeFault). OnOk r holds) (sym same) well
+told_well holds (Some text) end result old new (inl (same, grown)) well =
+    subst (λ (r : Result (Unit {0}) PipeFault). OnOk r holds) (sym same) well
+told_well holds (Some text) end result old new (inr (lost, part)) well =
+    subst (λ (r : Result (Unit {0}) PipeFault). OnOk r holds) (sym lost) tt

@@ -5,7 +5,7 @@ use Rattle.std.proofs.Common.{length-append}
 use Rattle.std.proofs.lemmas.List.{take-append-drop, length-take-le}
 use Rattle.std.proofs.lemmas.Bool.Decides.{nat_tests}
 use Rattle.std.proofs.KnownBytes.{Consumes-trans, Consumes-all, Keeps-refl}
-use Rattle.std.specs.Prelude.{IsErrAnd}
+use Rattle.std.specs.Prelude.{IsErrAnd, OnOk}
 use Rattle.std.specs.Io.KnownBytes.{Consumes, IsAtEnd, prepend_known}
 use mathlib.Core.List.{append_assoc}
 use Rattle.reh_types.specs.declared.limits.TheConstants.{MAX_PICTURE_BYTES}
@@ -26,7 +26,7 @@ use Rattle.reh_lines.specs.declared.heads.Head.{Head}
 use Rattle.reh_lines.specs.declared.heads.Head.TheVariants.{Ended, Whole, TooLong, Failed}
 use Rattle.reh_lines.specs.declared.heads.Percent.{Percent}
 use Rattle.reh_script.specs.declared.faults.PipeFault.{PipeFault}
-use Rattle.reh_script.specs.declared.faults.PipeFault.TheVariants.{Play}
+use Rattle.reh_script.specs.declared.faults.PipeFault.TheVariants.{Picture, Play}
 use Rattle.reh_play.specs.declared.faults.PlayFault.TheVariants.{NoMemory, ReadFault}
 use Rattle.reh_lines.proofs.EndedLaws.{has_lf, ended_none}
 use Rattle.reh_lines.proofs.HeadLaws.{has_none, stays_long, lines_untold}
@@ -310,6 +310,39 @@ pipes_alone head input left_old left_new failed result held (inl is) reads ends 
 pipes_alone head input left_old left_new failed result held (inr is) reads ends =
     let read = subst (λ (h : Head). ReadsHead h input left_old left_new failed) is reads in
     pipes_long input left_old left_new failed result held read.0 read.1 read.2 read.3 ends
+
+-- it was read to its end, where the pipe ends well
+ends_refused : (fault : PictureFault) (result : Result (Unit {0}) PipeFault) (held : Option (List ℕ)) (holds : Type 0)
+    → IsPiped false (Err (Picture fault)) result held held → OnOk result holds
+ends_refused fault result held holds (inl (refused, keeps)) =
+    subst (λ (r : Result (Unit {0}) PipeFault). OnOk r holds) (sym refused) tt
+ends_refused fault result held holds (inr (want, keeps)) =
+    subst (λ (r : Result (Unit {0}) PipeFault). OnOk r holds) (sym want) tt
+
+ends_long : (input : List ℕ) (result : Result (Unit {0}) PipeFault) (held : Option (List ℕ)) (holds : Type 0)
+    → IsUntold input → MAX_PICTURE_BYTES + 4 ≤ length input → IsPiped false (rehearsal_of false input) result held held
+    → OnOk result holds
+ends_long input result held holds untold long ends =
+    let more : MAX_PICTURE_BYTES < length (cut_of input).picture =
+    subst (λ (t : List ℕ). MAX_PICTURE_BYTES < length (cut_of t).picture) (append-nil input)
+    (long_picture input [] untold long) in
+    ends_refused picture_fault.TooLong result held holds
+    (subst (λ (r : Result Rehearsal PipeFault). IsPiped false r result held held) (too_long input more) ends)
+
+holds_anyhow : (holds : Type 0) (result : Result (Unit {0}) PipeFault) → holds → OnOk result holds
+holds_anyhow holds (Ok x) so = so
+holds_anyhow holds (Err fault) so = tt
+
+pub alone_ended : (head : Head) (input : List ℕ) (left_old left_new : Option (List ℕ)) (failed : Bool)
+    (result : Result (Unit {0}) PipeFault) (held : Option (List ℕ)) → (head ≡ Whole) ⊎ (head ≡ TooLong)
+    → ReadsHead head input left_old left_new failed → IsPiped false (rehearsal_of false input) result held held
+    → OnOk result (IsAtEnd left_new)
+alone_ended head input left_old left_new failed result held (inl is) reads ends =
+    let read = subst (λ (h : Head). ReadsHead h input left_old left_new failed) is reads in
+    holds_anyhow (IsAtEnd left_new) result read.3
+alone_ended head input left_old left_new failed result held (inr is) reads ends =
+    let read = subst (λ (h : Head). ReadsHead h input left_old left_new failed) is reads in
+    ends_long input result held (IsAtEnd left_new) read.2 read.3 ends
 
 pub pipes_unread : (head : Head) (input : List ℕ) (left_old left_new : Option (List ℕ)) (failed : Bool)
     (held : Option (List ℕ)) → head ≡ Failed → ReadsHead head input left_old left_new failed

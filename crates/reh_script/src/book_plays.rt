@@ -1,6 +1,6 @@
 // Plays by a seat of a book that it has for itself.
 ghost use Rattle.std.specs.Prelude.{◌≡◌, ◌⊎◌, ◌+◌, ◌≤◌, [], false, length, OnOk};
-ghost use Rattle.std.specs.Io.KnownBytes.{prepend_known};
+ghost use Rattle.std.specs.Io.KnownBytes.{IsAtEnd, prepend_known};
 ghost use Rattle.reh_script.specs.BookPlays.{Transcribes, at_book};
 ghost use Rattle.reh_play.specs.Players.{seated};
 ghost use Rattle.reh_play.specs.Plays.{Plays, GoesOut, is_write_fault};
@@ -41,6 +41,7 @@ pub fn play_book<V: Surveyor, R: TextIn, W: TextOut>(
     ensures prompt { (reader.new ≡ reader.old) ⊎ GoesOut (at_book names.now)
         (R.remaining reader.old) (R.before reader.new) (seated book.old seat.old)
         (W.contents writer.old) (W.seen writer.new) }
+    ensures ended { OnOk result (IsAtEnd (R.remaining reader.new)) }
     ensures seen { OnOk result (W.seen writer.new ≡ W.contents writer.new) }
     ensures write { W.has_failed writer.new ≡ is_write_fault result }
     ensures calls { R.calls reader.new ≤ R.calls reader.old + (MAX_SCRIPT_BYTES + 1) }

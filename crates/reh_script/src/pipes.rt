@@ -1,6 +1,6 @@
 // From the bytes of the input to the bytes of the transcript.
 ghost use Rattle.std.specs.Prelude.{◌≡◌, ◌⊎◌, ◌+◌, ◌≤◌, ◌<◌, [], false, take, drop, length, List, ℕ, Option, OnOk};
-ghost use Rattle.std.specs.Io.KnownBytes.{prepend_known};
+ghost use Rattle.std.specs.Io.KnownBytes.{IsAtEnd, prepend_known};
 ghost use Rattle.reh_picture.specs.Pictures.{picture_of};
 ghost use Rattle.reh_lines.specs.Lines.{cut_of};
 ghost use Rattle.reh_script.specs.Pipes.{rehearsal_of, IsPiped, Pipes, PlaysBehind, GoesOutBehind, AnswersGoOut};
@@ -39,6 +39,7 @@ pub fn pipe<V: Surveyor, R: TextIn, W: TextOut>(
         (W.contents writer.old) (W.contents writer.new) }
     ensures prompt { (reader.new ≡ reader.old) ⊎ AnswersGoOut (R.remaining reader.old) (R.before reader.new)
         (W.contents writer.old) (W.seen writer.new) }
+    ensures ended { OnOk result (IsAtEnd (R.remaining reader.new)) }
     ensures seen { OnOk result ((writer.new ≡ writer.old) ⊎ (W.seen writer.new ≡ W.contents writer.new)) }
     ensures write { W.has_failed writer.new ≡ loses_output result }
     ensures calls { R.calls reader.new ≤ R.calls reader.old + MAX_READS }
@@ -83,6 +84,7 @@ fn play_behind<V: Surveyor, R: TextIn, W: TextOut>(
     ensures prompt { (reader.new ≡ reader.old) ⊎ GoesOutBehind (picture_of (take percent.picture input.items))
         (prepend_known (drop percent.script input.items) (R.remaining reader.old)) (R.before reader.new)
         (W.contents writer.old) (W.seen writer.new) }
+    ensures ended { OnOk result (IsAtEnd (R.remaining reader.new)) }
     ensures seen { OnOk result (W.seen writer.new ≡ W.contents writer.new) }
     ensures write { W.has_failed writer.new ≡ loses_output result }
     ensures calls { R.calls reader.new ≤ R.calls reader.old + (MAX_SCRIPT_BYTES + 1) }

@@ -1,5 +1,5 @@
 -- What is said by a verdict.
-use Rattle.std.proofs.Common.{◌≡◌, ◌∙◌, ap, refl, sym, subst, ℕ, Bool, List, string_bytes, if◌then◌else◌}
+use Rattle.std.proofs.Common.{◌≡◌, ◌∙◌, ap, refl, sym, subst, ℕ, Bool, List, Option, string_bytes, if◌then◌else◌}
 use Rattle.reh_census.specs.declared.answers.Answer.{Answer}
 use Rattle.reh_census.specs.declared.questions.Question.{Question}
 use Rattle.reh_census.specs.Bookies.{Bookies, bookies_of, is_flagged}
@@ -32,14 +32,14 @@ says-same names names' ids ids' ledgers ledgers' bookies bookies' question quest
     (subst (λ (x : Answer). SaysAgainst names ids ledgers bookies question (is_flagged stopped) x against) a says))))))
 
 -- a text by a verdict
-pub said-by : (g : Gathered) (asked : Asked) (verdict : Verdict) (against : List Against) (further : List (List ℕ)) (said : Said)
-    (ids : List ℕ) (ledgers : List (List Ledger)) → IsJudged g asked verdict
+pub said-by : (g : Gathered) (asked : Asked) (verdict : Verdict) (against : List Against) (taken : Option (List ℕ))
+    (further : List (List ℕ)) (said : Said) (ids : List ℕ) (ledgers : List (List Ledger)) → IsJudged g asked verdict
     → SaysAgainst g.cluster.names ids ledgers (bookies_of g.bookies) asked.question (is_flagged verdict.stopped)
     verdict.facts.answer against
-    → string_bytes said.text ≡ text_by asked verdict.facts g.cluster.names against further
+    → string_bytes said.text ≡ text_by asked verdict.facts g.cluster.names against taken further
     → said.status ≡ status_number verdict.facts.answer
-    → IsAnsweredBy ids ledgers further g asked said
-said-by g asked verdict against further said ids ledgers judged says text status =
+    → IsAnsweredBy ids ledgers taken further g asked said
+said-by g asked verdict against taken further said ids ledgers judged says text status =
     let named : Asked = judged.named in
     let flags : List Bool = stopped_by g.cluster named in
     let question : asked.question ≡ named.question = sym judged.by_names.question in
@@ -58,8 +58,8 @@ said-by g asked verdict against further said ids ledgers judged says text status
             refl refl refl refl question judged.stopped (ap (λ (f : Facts). f.answer) facts) says;
         text = text
             ∙ (λ i.
-            if as_json i then json_of (facts i) g.cluster.names against further
-            else text_of (facts i) (question i) g.cluster.names against further);
+            if as_json i then json_of (facts i) g.cluster.names against taken further
+            else text_of (facts i) (question i) g.cluster.names against taken further);
         status = status ∙ ap (λ (f : Facts). status_number f.answer) facts;
       };
       ledgers = subst (λ (f : Facts). AreOfLedgers g named f) facts judged.ledgers;

@@ -29,17 +29,19 @@ facts_of g asked flags =
     facts_on (counting_in g.census) (most_copies g.census.entries) (bookies_of g.bookies) asked.question g.census.judged
     (is_flagged flags)
 
-abbrev pub text_by : Asked → Facts → List (List ℕ) → List Against → List (List ℕ) → List ℕ
-text_by asked facts names against further =
-    if asked.as_json then json_of facts names against further else text_of facts asked.question names against further
+abbrev pub text_by : Asked → Facts → List (List ℕ) → List Against → Option (List ℕ) → List (List ℕ) → List ℕ
+text_by asked facts names against taken further =
+    if asked.as_json then json_of facts names against taken further
+    else text_of facts asked.question names against taken further
 
--- the text and the status say the facts, which of these ledgers speak against the stop, and these further notes
-pub record IsSaid (ids : List ℕ) (ledgers : List (List Ledger)) (further : List (List ℕ)) (g : Gathered) (asked : Asked)
-    (flags : List Bool) (said : Said) : Type 0 where
+-- the text and the status say the facts, which of these ledgers speak against the stop, when the oldest input was taken, if
+-- each tells its time, and these further notes
+pub record IsSaid (ids : List ℕ) (ledgers : List (List Ledger)) (taken : Option (List ℕ)) (further : List (List ℕ))
+    (g : Gathered) (asked : Asked) (flags : List Bool) (said : Said) : Type 0 where
   pub against : List Against
   pub says : SaysAgainst g.cluster.names ids ledgers (bookies_of g.bookies) asked.question
       (is_flagged flags) (facts_of g asked flags).answer against
-  pub text : string_bytes said.text ≡ text_by asked (facts_of g asked flags) g.cluster.names against further
+  pub text : string_bytes said.text ≡ text_by asked (facts_of g asked flags) g.cluster.names against taken further
   pub status : said.status ≡ status_number (facts_of g asked flags).answer
 
 -- the bookies that are asked of, as flags
@@ -108,16 +110,16 @@ pub record IsByNames (cluster : Cluster) (asked named : Asked) : Type 0 where
 abbrev pub has_words : Asked → Bool
 has_words asked = nat_lt 0 (length asked.bookies.now) || nat_lt 0 (length asked.racks.now)
 
--- what is said of the bookies that the words name, of which each is clear and known, with these further notes; these ledgers,
--- each in its parts, may speak against the stop
-pub record IsAnsweredBy (ids : List ℕ) (among : List (List Ledger)) (further : List (List ℕ)) (g : Gathered) (asked : Asked)
-    (said : Said) : Type 0 where
+-- what is said of the bookies that the words name, of which each is clear and known, with this time and these further
+-- notes; these ledgers, each in its parts, may speak against the stop
+pub record IsAnsweredBy (ids : List ℕ) (among : List (List Ledger)) (taken : Option (List ℕ)) (further : List (List ℕ))
+    (g : Gathered) (asked : Asked) (said : Said) : Type 0 where
   pub some : has_words asked ≡ true
   pub clear : AreClear g.cluster.names asked.bookies.now
   pub named : Asked
   pub by_names : IsByNames g.cluster asked named
   pub are_named : AreNamed g.cluster named
-  pub says : IsSaid ids among further g named (stopped_by g.cluster named) said
+  pub says : IsSaid ids among taken further g named (stopped_by g.cluster named) said
   pub ledgers : AreOfLedgers g named (facts_of g named (stopped_by g.cluster named))
 
 -- the facts of a stop of the bookies that the words name, of which each is clear and known

@@ -1,5 +1,5 @@
 // Whether bookies may be stopped.
-ghost use Rattle.std.specs.Prelude.{◌≡◌, ℕ, List, map, string_bytes, IfErr, IfOk, OnOk};
+ghost use Rattle.std.specs.Prelude.{◌≡◌, ℕ, List, map, option_copied, string_bytes, IfErr, IfOk, OnOk};
 ghost use Rattle.reh_census.specs.Bookies.{bookies_of as census_bookies, is_flagged};
 ghost use Rattle.reh_census.specs.Ledgers.{Ledger as LedgerValue};
 ghost use Rattle.reh_against.specs.Weighed.{WeighsBy};
@@ -79,23 +79,32 @@ fn check_names<'a>(cluster: &Cluster, asked: &Asked<'_, 'a>) -> Result<(), StopF
     Ok(())
 }
 
-/// The facts as text, or as JSON, with further notes.
+/// The facts as text, or as JSON, with further notes. The oldest input was taken then, if each tells its time.
 fn text_by(
     alloc: Global,
     asked: &Asked<'_, '_>,
     facts: &Facts,
     names: &[String],
     against: &[Against],
+    taken: Option<&str>,
     further: &[String],
 ) -> Result<String, AllocError>
     ensures { IfOk result (λ text. string_bytes text ≡ model.text_by asked.now facts.now (map string_bytes names.now)
-        against.now (map string_bytes further.now)) }
+        against.now (option_copied taken.entry) (map string_bytes further.now)) }
 {
     if asked.as_json {
-        let text = json_of(alloc, facts, names, against, further)?;
+        let text = json_of(alloc, facts, names, against, taken, further)?;
         return Ok(text);
     }
-    let text = text_of(alloc, facts, &asked.question, names, against, further)?;
+    let text = text_of(
+        alloc,
+        facts,
+        &asked.question,
+        names,
+        against,
+        taken,
+        further,
+    )?;
     Ok(text)
 }
 
@@ -176,44 +185,48 @@ pub fn stop_of<'v>(
     }
 }
 
-/// What is said of a stop, against which these ledgers speak, with further notes. The bookies have these names.
+/// What is said of a stop, against which these ledgers speak, with further notes. The bookies have these names, and the
+/// oldest input was taken then, if each tells its time.
 fn say_stop(
     alloc: Global,
     asked: &Asked<'_, '_>,
     verdict: &Verdict,
     names: &[String],
     against: &[Against],
+    taken: Option<&str>,
     further: &[String],
 ) -> Result<Said, AllocError>
     ensures { IfOk result (λ said. (g : GatheredValue) (ids : List ℕ) (ledgers : List (List LedgerValue))
         → map string_bytes names.now ≡ g.cluster.names → model.IsJudged g asked.now verdict.now
         → SaysAgainst g.cluster.names ids ledgers (census_bookies g.bookies) asked.now.question
         (is_flagged verdict.now.stopped) verdict.now.facts.answer against.now
-        → model.IsAnsweredBy ids ledgers (map string_bytes further.now) g asked.now said) }
+        → model.IsAnsweredBy ids ledgers (option_copied taken.entry) (map string_bytes further.now) g asked.now said) }
 {
     let Verdict { facts, .. } = verdict;
-    let text = text_by(alloc, asked, facts, names, against, further)?;
+    let text = text_by(alloc, asked, facts, names, against, taken, further)?;
     Ok(Said {
         text,
         status: status_of(&facts.answer),
     })
 }
 
-/// What is said of a stop, against which the worst of the ledgers that were weighed speak, with further notes.
+/// What is said of a stop, against which the worst of the ledgers that were weighed speak, with further notes. The oldest
+/// input was taken then, if each tells its time.
 pub fn say_weighed(
     alloc: Global,
     asked: &Asked<'_, '_>,
     verdict: &Verdict,
     stop: &Stop<'_>,
     worst: &Worst,
+    taken: Option<&str>,
     further: &[String],
 ) -> Result<Said, AllocError>
     ensures { IfOk result (λ said. (g : GatheredValue) (ids : List ℕ) (ledgers : List (List LedgerValue))
         → model.IsJudged g asked.now verdict.now → model.IsAbout g asked.now verdict.now stop.now
         → WeighsBy stop.now ids ledgers worst.now
-        → model.IsAnsweredBy ids ledgers (map string_bytes further.now) g asked.now said) }
+        → model.IsAnsweredBy ids ledgers (option_copied taken.entry) (map string_bytes further.now) g asked.now said) }
 {
     let against = worst.say(alloc, stop)?;
-    let said = say_stop(alloc, asked, verdict, stop.names, &against, further)?;
+    let said = say_stop(alloc, asked, verdict, stop.names, &against, taken, further)?;
     Ok(said)
 }

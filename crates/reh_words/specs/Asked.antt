@@ -19,7 +19,6 @@ use Rattle.reh_words.specs.declared.tasks.CutWords.{CutWords}
 use Rattle.reh_words.specs.declared.tasks.DrillFiles.{DrillFiles}
 use Rattle.reh_words.specs.declared.tasks.Inputs.{Inputs}
 use Rattle.reh_words.specs.declared.tasks.PlanWords.{PlanWords}
-use Rattle.reh_words.specs.declared.tasks.PlayOut.{PlayOut}
 use Rattle.reh_words.specs.declared.tasks.PlayWords.TheVariants as play
 use Rattle.reh_words.specs.declared.tasks.Prints.{Prints}
 use Rattle.reh_words.specs.declared.tasks.Prints.TheVariants.{Answers, Changes, Json}
@@ -145,9 +144,10 @@ IsAsked command given other = ⊥
 
 -- what `check` is asked: of the picture, or of a script on it
 abbrev pub IsCheck : ArgMatches → Task → Type 0
-IsCheck given (task.Check picture script) =
+IsCheck given (task.Check picture script as_json) =
     (word_of given (codes "PICTURE") ≡ Some picture.now)
     × (option_map (λ file. file.now) script ≡ word_of given (codes "SCRIPT"))
+    × (as_json ≡ is_json given)
 IsCheck given other = ⊥
 
 -- what `talk` is asked

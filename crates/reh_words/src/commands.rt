@@ -109,6 +109,7 @@ static CHECK: CommandRow = CommandRow {
     about: "Says how much a picture or an inventory shows, or where it is wrong",
     after: helps::CHECK,
     args: &[
+        FORMAT,
         PICTURE,
         ArgRow {
             name: "SCRIPT",
@@ -308,6 +309,13 @@ const AFTER: ArgRow = ArgRow {
     help: "A script that is played first, on the one picture; each command has to be accepted",
 };
 
+/// How an answer is printed.
+const FORMAT: ArgRow = ArgRow {
+    name: "format",
+    takes: Takes::OneOf("FORMAT", FORMATS),
+    help: "How the answer is printed; by default text",
+};
+
 /// What a stop may break.
 static QUESTION: [ArgRow; 7] = [
     ArgRow {
@@ -357,11 +365,7 @@ const KEEPS: &[&str] = &[
 
 /// The files of a cluster, how they are read, and the form of the answer.
 static INPUTS: [ArgRow; 5] = [
-    ArgRow {
-        name: "format",
-        takes: Takes::OneOf("FORMAT", FORMATS),
-        help: "How the answer is printed; by default text",
-    },
+    FORMAT,
     AFTER,
     ArgRow {
         name: "strict",

@@ -5,11 +5,13 @@ mod commands;
 mod helps;
 mod pictures;
 mod questions;
+mod requests;
 mod styles;
 mod tasks;
 
+pub use requests::{Request, request_of};
 pub use styles::Style;
 pub use tasks::{
     CensusWords, Crew, CutWords, DrillFiles, HelpTopic, Inputs, MAX_FILES, PlanWords, PlayOut,
-    PlayWords, Prints, Request, RiskWords, StopWords, Task, WaveWords, request_of,
+    PlayWords, Prints, RiskWords, StopWords, Task, WaveWords,
 };

@@ -53,7 +53,12 @@ fn asked_check<'a>(given: &ArgMatches<'a>) -> Option<Task<'a>>
 {
     let picture = given.get_str("PICTURE")?;
     let script = given.get_str("SCRIPT");
-    Some(Task::Check { picture, script })
+    let as_json = is_json(given);
+    Some(Task::Check {
+        picture,
+        script,
+        as_json,
+    })
 }
 
 /// What these matches of `talk` ask for.

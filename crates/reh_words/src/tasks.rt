@@ -3,24 +3,9 @@ ghost use Rattle.std.specs.Prelude.{◌<◌, ◌≤◌, vec_len};
 ghost use Rattle.reh_crew.specs.declared.threads.TheConstants.{MAX_WORKERS};
 ghost use Rattle.reh_words.specs.declared.tasks.TheConstants.{MAX_FILES};
 
-use crate::commands::subcommands;
-use crate::helps;
-use crate::pictures::asked_task;
-use crate::styles::{Style, asked_style, with_style};
-use clap::error::ErrorKind;
-use clap::{Command, Error};
 use reh_census::Question;
 use reh_commands::Verb;
-use reh_help::{Topic, topic_named};
-use std::alloc::{AllocError, Global};
-use std::convert::AsStr;
-
-/// What the program is asked, and how it is to show what it says.
-#[derive(Drop)]
-pub struct Request<'a> {
-    pub task: Task<'a>,
-    pub style: Style,
-}
+use reh_help::Topic;
 
 /// What the program is asked to do.
 #[derive(Drop)]
@@ -29,10 +14,11 @@ pub enum Task<'a> {
     Play(PlayWords<'a>),
     /// Plays a script on a picture, and writes a picture of the end.
     PlayOut(PlayOut<'a>),
-    /// Checks the picture in a file, or a script on it.
+    /// Checks the picture in a file, or a script on it, and prints what is found as text or as JSON.
     Check {
         picture: &'a str,
         script: Option<&'a str>,
+        as_json: bool,
     },
     /// Plays scripts on a picture, each by an operator of its own.
     Drill(DrillFiles<'a>),
@@ -203,107 +189,4 @@ pub struct PlanWords<'a> {
     pub as_json: bool,
     /// Whether the script says what each command is expected to be answered.
     pub expects: bool,
-}
-
-/// What `--version` says; a picture has the number of its format in itself.
-const VERSION: &str = "1.0.0";
-
-const ABOUT: &str =
-    "Rehearses Apache BookKeeper AutoRecovery on a picture of a cluster, and not on the cluster.";
-
-/// What these words ask for, the program's own name first; or `clap`'s text of what is wrong with them, or of help.
-/// `None` is for words that the parser lets through though they lack what their command needs. There are none.
-pub fn request_of<'a>(alloc: Global, words: &'a [String]) -> Result<Option<Request<'a>>, Error> {
-    match command(alloc, helps::PROGRAM)?.try_get_matches_from(words) {
-        Ok(matches) => {
-            let style = asked_style(&matches);
-            let task = match matches.subcommand() {
-                Some(("help", given)) => asked_help(alloc, given.get_str("TOPIC"))?,
-                _ => asked_task(alloc, &matches)?,
-            };
-            match task {
-                Some(task) => Ok(Some(Request { task, style })),
-                None => Ok(None),
-            }
-        }
-        Err(error) => {
-            if error.kind() == ErrorKind::DisplayHelp {
-                show_help(alloc, words)?;
-            }
-            Err(error)
-        }
-    }
-}
-
-/// The help that is asked for. That of the program and of a command comes as an error, as by `--help`.
-fn asked_help<'a>(alloc: Global, topic: Option<&'a str>) -> Result<Option<Task<'a>>, Error> {
-    let topic = match topic {
-        None => {
-            show_help(alloc, &["rehearse", "--help"])?;
-            return Ok(None);
-        }
-        Some("script") => HelpTopic::Script,
-        Some("refusals") => HelpTopic::Refusals,
-        Some(word) => topic_of(alloc, word)?,
-    };
-    Ok(Some(Task::Help(topic)))
-}
-
-/// The help on a word: on the refusal that it names, or the command of a script.
-fn topic_of<'a>(alloc: Global, word: &'a str) -> Result<HelpTopic<'a>, Error> {
-    if let Some(topic) = topic_named(word) {
-        return Ok(HelpTopic::Refusal(topic));
-    }
-    for verb in Verb::all() {
-        if verb.name() == word {
-            return Ok(HelpTopic::Command(verb));
-        }
-    }
-    show_command(alloc, word)?;
-    Ok(HelpTopic::Unknown(word))
-}
-
-/// Help, as an error, for a word that is a command.
-fn show_command(alloc: Global, word: &str) -> Result<(), Error> {
-    match command(alloc, helps::PROGRAM)?.find_subcommand(word) {
-        Some(_) => show_help(alloc, &["rehearse", word, "--help"]),
-        None => Ok(()),
-    }
-}
-
-/// Help, as an error, for words that ask for it. It has the list of commands, which is made here alone.
-fn show_help<S: AsStr>(alloc: Global, words: &[S]) -> Result<(), Error> {
-    let ways = all_ways(alloc)?;
-    command(alloc, ways.as_str())?.try_get_matches_from(words)?;
-    Ok(())
-}
-
-/// The ways to call the program, with the commands of a script: each with its words, and what it does.
-fn all_ways(alloc: Global) -> Result<String, AllocError> {
-    let mut ways = format!(in alloc; "{}\nThe commands of a script:\n\n", helps::PROGRAM)?;
-    for verb in Verb::all() {
-        let command = format!(in alloc; "{verb}")?;
-        let summary = verb.summary();
-        write!(ways, "  {command:<43}{summary}\n")?;
-    }
-    Ok(ways)
-}
-
-/// The command line: no word, `run PICTURE SCRIPT --changes --json --workers N --picture-out FILE`,
-/// `talk PICTURE --changes --json`, `check PICTURE SCRIPT`, `drill PICTURE SCRIPT..`, `ok-to-stop --lose BOOKIE,.. FILE..`,
-/// `waves FILE..`, `risk FILE..`, `census FILE..`, `cut --ledgers ID,.. --window K INVENTORY`,
-/// `plan --lose BOOKIE,.. --to BOOKIE,.. --min-racks R --expect --summary PICTURE`, or `help TOPIC`.
-fn command<'a>(alloc: Global, ways: &'a str) -> Result<Command<'a>, AllocError> {
-    let commands = subcommands(alloc)?;
-    let program = with_style(alloc, program(alloc, ways))?;
-    program.subcommands(commands)
-}
-
-/// The program, without commands.
-fn program<'a>(alloc: Global, ways: &'a str) -> Command<'a> {
-    Command::new(alloc, "rehearse")
-        .version(VERSION)
-        .about(ABOUT)
-        .after_help(ways)
-        .disable_help_subcommand(true)
 }

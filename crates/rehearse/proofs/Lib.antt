@@ -1,2 +1,3 @@
 pub mod AgainstLaws
 pub mod InventoryLaws
+pub mod NameLaws

@@ -1,5 +1,5 @@
 -- The ledgers that speak against a stop, of pictures and of inventories that are read once more.
-use Rattle.std.specs.Prelude.{ℕ, Bool, true, false, ◌&&◌, List, [], ◌∷◌, ◌++◌, codes, map, if◌then◌else◌}
+use Rattle.std.specs.Prelude.{ℕ, Bool, true, false, ◌&&◌, List, [], ◌∷◌, ◌++◌, codes, map, option_map, string_bytes, if◌then◌else◌}
 use Rattle.std.specs.List.{flat_map, list_any}
 use Rattle.reh_against.specs.declared.stops.Stop.{Stop}
 use Rattle.reh_against.specs.declared.worst.Worst.{Worst}
@@ -51,7 +51,8 @@ pub record IsUnderWay (stop : Stop) (names : List (List ℕ)) (strict : Bool) (i
   pub weighing : IsWeighing stop names strict ids ledgers first lines again worst
 
 -- What is said of a stop by these files: where a ledger may speak against it, each inventory that can be was read once
--- more, and had the same ledgers. Of these and of those of pictures the worst are named.
+-- more, and had the same ledgers. Of these and of those of pictures the worst are named. The time that is told is that of
+-- the files.
 pub record SaysOf (files : GatheredFiles) (strict : Bool) (asked : Asked) (said : Said) : Type 0 where
   pub verdict : Verdict
   pub judged : IsJudged files.gathered asked verdict
@@ -60,4 +61,5 @@ pub record SaysOf (files : GatheredFiles) (strict : Bool) (asked : Asked) (said 
       (map (is_read_again (has_against verdict.facts.answer)) files.kinds.items) files.ids.items weighed
   pub answered : IsAnsweredBy (files.gathered.ids.items ++ flat_map ids_in weighed)
       (map alone files.gathered.ledgers.items ++ flat_map ledgers_in weighed)
+      (option_map string_bytes files.taken)
       (notes_of (has_against verdict.facts.answer) files.kinds.items) files.gathered asked said

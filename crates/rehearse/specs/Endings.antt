@@ -1,5 +1,5 @@
 -- How a run ends. Where no fault ends it, its status is 0, or that of what was answered.
-use Rattle.std.specs.Prelude.{◌≡◌, ◌⊎◌, ℕ, List, Some, String, Result, Ok, Err}
+use Rattle.std.specs.Prelude.{◌≡◌, ◌⊎◌, ℕ, Some, String, Result, Ok, Err}
 use Rattle.std.specs.declared.alloc.Global.{Global}
 use Rattle.reh_stop.specs.declared.stops.Said.{Said}
 use Rattle.reh_words.specs.declared.tasks.CensusWords.{CensusWords}
@@ -37,7 +37,7 @@ Answers (task.Waves words) status = EndsWaves words × (status ≡ 0)
 Answers (task.Risk words) status = EndsRisk words × (status ≡ 0)
 Answers (task.Census words) status = EndsCensus words × (status ≡ 0)
 Answers (task.Plan words) status = IsStatus words status
-Answers (task.Check picture (Some script)) status = IsChecked status
+Answers (task.Check picture (Some script) as_json) status = IsChecked status
 Answers other status = status ≡ 0
 
 -- the status of a run that ends well is 0

@@ -1,8 +1,10 @@
 -- What is said of words that misname bookies or racks.
-use Rattle.std.specs.Prelude.{◌≡◌, ℕ, List, [], ◌++◌, Result, Ok, Err, String, codes, slice_get, string_bytes}
+use Rattle.std.specs.Prelude.{◌≡◌, ℕ, List, [], ◌∷◌, ◌++◌, Result, Ok, Err, String, codes, length, slice_get, string_bytes}
 use Rattle.std.specs.Borrow.{Bor}
+use Rattle.std.specs.Fmt.{decimal}
 use Rattle.std.specs.Option.{option_map_or}
 use Rattle.std.specs.declared.alloc.Global.{Global}
+use Rattle.reh_near.specs.Near.{Told, told_nearest, near_to, near_text}
 use Rattle.reh_stop.specs.declared.stops.StopFault.{StopFault}
 use Rattle.reh_stop.specs.declared.stops.StopFault.TheVariants as stop
 use Rattle.rehearse.specs.declared.faults.RunFault.{RunFault}
@@ -28,6 +30,27 @@ TellsText (Err want) run = run ≡ NoMemory
 -- the word of this number
 abbrev pub word_at : List (Bor (List ℕ)) → ℕ → List ℕ
 word_at words number = option_map_or (λ word. word.now) (slice_get words number) []
+
+-- how many names there are, and the first
+abbrev pub count_text : List (List ℕ) → List ℕ
+count_text [] = []
+count_text (first ∷ more) =
+    codes ": there are " ++ (decimal (length (first ∷ more)) ++ (codes ", such as '" ++ (first ++ codes "'")))
+
+-- what is told of the names that there are: those that are near, or how many there are
+abbrev pub told_text : List (List ℕ) → Told → List ℕ
+told_text names (told_nearest []) = count_text names
+told_text names told = near_text told
+
+-- what stands after a name that is none of them
+abbrev pub known_text : List (List ℕ) → List ℕ → List ℕ
+known_text names name = told_text names (near_to names name)
+
+abbrev pub unknown_text : List ℕ → List (List ℕ) → List ℕ → List ℕ
+unknown_text path names name = path ++ (codes " has no bookie '" ++ (name ++ (codes "'" ++ known_text names name)))
+
+abbrev pub unknown_to_all_text : List (List ℕ) → List ℕ → List ℕ
+unknown_to_all_text names name = codes "no input has a bookie '" ++ (name ++ (codes "'" ++ known_text names name))
 
 abbrev pub nobody_text : List ℕ
 nobody_text = codes "no bookie is named: give --lose or --lose-rack"

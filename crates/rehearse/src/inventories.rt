@@ -1,5 +1,6 @@
 // Inventories, read line by line: one that is checked, and one whose ledgers are counted.
-ghost use Rattle.std.specs.Prelude.{◌∷◌, [], All, Bool, IfOk, OnOk};
+ghost use Rattle.std.specs.Prelude.{◌≡◌, ◌∷◌, [], All, Bool, IfOk, OnOk, string_bytes};
+ghost use Rattle.rehearse.specs.Checks.{inventory_text};
 ghost use Rattle.rehearse.specs.Inventories as model;
 
 use crate::batches::{
@@ -9,6 +10,7 @@ use crate::faults::RunFault;
 use crate::files::unread;
 use crate::inputs::unfit;
 use reh_census_file::{NameList, NamedCensus};
+use reh_check_json::{InventoryCounts, inventory_json};
 use reh_inventory::{Inventory, InventoryFault};
 use reh_inventory_census::{CountFault, InventoryCount, in_order, number_line};
 use std::alloc::{AllocError, Global};
@@ -29,11 +31,12 @@ pub(crate) fn check_inventory(
     path: &str,
     file: File,
     start: Vec<u8>,
+    as_json: bool,
 ) -> Result<String, RunFault> {
     let alloc = rt.alloc();
     let mut line = start;
     let mut reader = reader_of(alloc, path, file)?;
-    check_read(alloc, path, &mut reader, &mut line)
+    check_read(alloc, path, &mut reader, &mut line, as_json)
 }
 
 /// The same of an inventory that this reads, of whose first line this was read.
@@ -42,18 +45,24 @@ fn check_read(
     path: &str,
     reader: &mut BufReader<File>,
     line: &mut Vec<u8>,
+    as_json: bool,
 ) -> Result<String, RunFault> {
     let mut inventory = Inventory::new(alloc);
     add_read(alloc, path, reader, line, &mut inventory)?;
-    whole_text(alloc, path, &inventory)
+    whole_text(alloc, path, &inventory, as_json)
 }
 
 /// How much there is in an inventory, if its last line is there.
-fn whole_text(alloc: Global, path: &str, inventory: &Inventory) -> Result<String, RunFault> {
+fn whole_text(
+    alloc: Global,
+    path: &str,
+    inventory: &Inventory,
+    as_json: bool,
+) -> Result<String, RunFault> {
     if !inventory.is_whole() {
         return Err(cut(alloc, path, inventory));
     }
-    Ok(counts_text(alloc, inventory)?)
+    Ok(inventory_said(alloc, inventory, as_json)?)
 }
 
 /// Adds all lines that this reads, of the first of which this was read.
@@ -121,21 +130,15 @@ fn cut(alloc: Global, path: &str, inventory: &Inventory) -> RunFault {
     }
 }
 
-/// How much there is in a whole inventory.
-fn counts_text(alloc: Global, inventory: &Inventory) -> Result<String, AllocError> {
-    let (mut bookies, mut registered) = (0, 0);
-    if let Some(head) = inventory.head() {
-        bookies = head.bookies.as_slice().len();
-        registered = head
-            .bookies
-            .as_slice()
-            .iter()
-            .filter(|bookie| bookie.is_up)
-            .count();
+/// How much there is in a whole inventory, as text or as JSON.
+fn inventory_said(alloc: Global, inventory: &Inventory, as_json: bool) -> Result<String, AllocError>
+    ensures { IfOk result (λ text. string_bytes text ≡ inventory_text as_json inventory.now) }
+{
+    let counts = InventoryCounts::of(inventory);
+    if as_json {
+        return inventory_json(alloc, &counts);
     }
-    let ledgers = inventory.ledgers();
-    let unread = inventory.unread();
-    format!(in alloc; "ok\nbookies {bookies} up {registered}\nledgers {ledgers} unread {unread}\n")
+    format!(in alloc; "ok\n{counts}\n")
 }
 
 /// The census of an inventory, and the ids of its ledgers.

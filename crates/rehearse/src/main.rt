@@ -99,11 +99,13 @@ fn answer<R: Threads + Wait + Sync + Copy + Send + 'static>(
         Task::Check {
             picture,
             script: None,
-        } => well(check_file(rt, picture)),
+            as_json,
+        } => well(check_file(rt, picture, as_json)),
         Task::Check {
             picture,
             script: Some(script),
-        } => check_script(rt, picture, script),
+            as_json,
+        } => check_script(rt, picture, script, as_json),
         Task::Drill(files) => well(drill(rt, threads, looks, files)),
         Task::Stop(stop) => stop_over(rt, threads, looks, &stop),
         Task::Waves(words) => well(waves_over(rt, threads, looks, &words)),

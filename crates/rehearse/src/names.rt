@@ -1,5 +1,7 @@
 // Bookies and racks that words of the command line name.
-ghost use Rattle.std.specs.Prelude.{◌≡◌};
+ghost use Rattle.std.specs.Prelude.{◌≡◌, ◌<◌, ◌++◌, ◌∷◌, [], map, slice_get, string_bytes, IfOk, OnOk};
+ghost use Rattle.std.specs.Option.{option_map_or};
+ghost use Rattle.reh_types.specs.declared.limits.TheConstants.{MAX_BOOKIES};
 ghost use Rattle.rehearse.specs.Names as model;
 
 use crate::faults::RunFault;
@@ -16,43 +18,78 @@ pub(crate) fn unknown(
     names: &Names,
     words: &[&str],
     number: usize,
-) -> RunFault {
+) -> RunFault
+    ensures { model.IsMisnamed (model.unknown_text path.now names.now (model.word_at words.now number)) result }
+{
     misnamed(unknown_text(alloc, path, names, name_at(words, number)))
 }
 
 /// The text of that.
-fn unknown_text(
-    alloc: Global,
-    path: &str,
-    names: &Names,
-    name: &str,
-) -> Result<String, AllocError> {
-    let mut known = Vec::new(alloc);
-    for number in 0..names.len() {
-        if let Some(other) = names.name(BookieIx(number as u8)) {
-            known.push(other)?;
-        }
-    }
+fn unknown_text(alloc: Global, path: &str, names: &Names, name: &str) -> Result<String, AllocError>
+    ensures { IfOk result (λ text. string_bytes text ≡ model.unknown_text path.now names.now name.now) }
+{
+    let known = bookie_names(alloc, names)?;
     let told = known_text(alloc, &known, name)?;
     format!(in alloc; "{path} has no bookie '{name}'{told}")
 }
 
-/// What is told of the names that there are, behind one that there is not: those near it; else how many there are, and the
+/// The names of bookies, in picture order.
+fn bookie_names<'a>(alloc: Global, names: &'a Names) -> Result<Vec<&'a str>, AllocError>
+    ensures { IfOk result (λ list. map (λ name. name.now) list.items ≡ names.now) }
+{
+    let mut list = Vec::new(alloc);
+    for number in 0..names.len() {
+        push_numbered(&mut list, names, number)?;
+    }
+    Ok(list)
+}
+
+/// Adds the name of this number as the last, if there is one.
+fn push_numbered<'a>(
+    list: &mut Vec<&'a str>,
+    names: &'a Names,
+    number: usize,
+) -> Result<(), AllocError>
+    requires { number < MAX_BOOKIES }
+    ensures { OnOk result (map (λ name. name.now) list.new.items ≡ map (λ name. name.now) list.old.items
+        ++ option_map_or (λ name. name ∷ []) (slice_get names.now number) []) }
+{
+    if let Some(name) = names.name(BookieIx(number as u8)) {
+        list.push(name)?;
+    }
+    Ok(())
+}
+
+/// What is told of the names that there are, after one that there is not: those near it; else how many there are, and the
 /// first.
-fn known_text(alloc: Global, known: &[&str], name: &str) -> Result<String, AllocError> {
-    let near = near_to(alloc, known, name.as_bytes())?;
-    match (near, known) {
-        (Near::Nothing, [first, ..]) => {
+fn known_text(alloc: Global, known: &[&str], name: &str) -> Result<String, AllocError>
+    ensures { IfOk result (λ text. string_bytes text
+        ≡ model.known_text (map (λ name. name.now) known.now) name.now) }
+{
+    match near_to(alloc, known, name.as_bytes())? {
+        Near::Nothing => count_text(alloc, known),
+        near => format!(in alloc; "{near}"),
+    }
+}
+
+/// How many names there are, and the first, if there is one.
+#[tactic(auto, using(crate::proofs::NameLaws::count_of_some, crate::proofs::NameLaws::count_of_none))]
+fn count_text(alloc: Global, known: &[&str]) -> Result<String, AllocError>
+    ensures { IfOk result (λ text. string_bytes text ≡ model.count_text (map (λ name. name.now) known.now)) }
+{
+    match known.first() {
+        Some(first) => {
             let count = known.len();
             format!(in alloc; ": there are {count}, such as '{first}'")
         }
-        _ => format!(in alloc; "{near}"),
+        None => Ok(String::new(alloc)),
     }
 }
 
 /// That the name is no bookie's of any input, and what is near; or out of memory.
 pub(crate) fn unknown_to_all(alloc: Global, names: &ClusterNames, name: &str) -> RunFault
-    ensures { model.IsOfNames result }
+    ensures text { model.IsMisnamed (model.unknown_to_all_text names.now name.now) result }
+    ensures names { model.IsOfNames result }
 {
     misnamed(unknown_to_all_text(alloc, names, name))
 }
@@ -62,13 +99,23 @@ fn unknown_to_all_text(
     alloc: Global,
     names: &ClusterNames,
     name: &str,
-) -> Result<String, AllocError> {
-    let mut known = Vec::new(alloc);
-    for other in names.as_slice() {
-        known.push(other.as_str())?;
-    }
+) -> Result<String, AllocError>
+    ensures { IfOk result (λ text. string_bytes text ≡ model.unknown_to_all_text names.now name.now) }
+{
+    let known = texts_of(alloc, names.as_slice())?;
     let told = known_text(alloc, &known, name)?;
     format!(in alloc; "no input has a bookie '{name}'{told}")
+}
+
+/// The texts of these names.
+fn texts_of<'a>(alloc: Global, names: &'a [String]) -> Result<Vec<&'a str>, AllocError>
+    ensures { IfOk result (λ list. map (λ name. name.now) list.items ≡ map string_bytes names.now) }
+{
+    let mut list = Vec::new(alloc);
+    for name in names {
+        list.push(name.as_str())?;
+    }
+    Ok(list)
 }
 
 /// That the name is no bookie's rack, and what is near; or out of memory.

@@ -1,5 +1,5 @@
 // Whether bookies may be stopped, judged from files.
-ghost use Rattle.std.specs.Prelude.{◌≡◌, IfOk};
+ghost use Rattle.std.specs.Prelude.{◌≡◌, IfOk, option_copied, option_map, string_bytes};
 ghost use Rattle.reh_stop.specs.Stops.{IsJudged};
 ghost use Rattle.rehearse.specs.Against.{SaysOf};
 ghost use Rattle.rehearse.specs.Endings.{EndsStop};
@@ -74,6 +74,16 @@ fn judged(alloc: Global, gathered: &Gathered, asked: &Asked<'_, '_>) -> Result<V
     }
 }
 
+/// The time, if there is one.
+fn time_of(taken: &Option<String>) -> Option<&str>
+    ensures { option_copied result ≡ option_map string_bytes taken.now }
+{
+    match taken {
+        Some(time) => Some(time.as_str()),
+        None => None,
+    }
+}
+
 /// What is said of the stop, by what the files show together.
 fn say(
     rt: &HostRuntime,
@@ -89,7 +99,7 @@ fn say(
         gathered,
         ids: kept,
         kinds,
-        taken: _,
+        taken,
     } = files;
     let verdict = judged(alloc, &gathered, asked)?;
     let Gathered {
@@ -109,7 +119,8 @@ fn say(
     let is_any = has_against(verdict.answer());
     weigh_files(rt, &inputs.files, is_any, &kinds, &kept, &by, &mut worst)?;
     let notes = notes_of(alloc, is_any, &kinds)?;
-    let said = say_weighed(alloc, asked, &verdict, &about, &worst, &notes)?;
+    let time = time_of(&taken);
+    let said = say_weighed(alloc, asked, &verdict, &about, &worst, time, &notes)?;
     Ok(said)
 }
 

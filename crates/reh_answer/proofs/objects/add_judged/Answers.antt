@@ -12,5 +12,5 @@ returns c =
     (then c.end_object.result c.add_number-4.new.json c.add_number-5.new.json c.end_object.new.self _ _ c.in_ok-add_number-5.ensures
     (then c.end_object.result c.add_number-5.new.json c.add_number-6.new.json c.end_object.new.self _ _ c.in_ok-add_number-6.ensures
     (then c.end_object.result c.add_number-6.new.json c.add_null.new.json c.end_object.new.self _ _ c.in_ok-add_null.ensures
-    (then c.end_object.result c.add_null.new.json c.add_null-2.new.json c.end_object.new.self _ _ c.in_ok-add_null-2.ensures
-    (last c.end_object.result c.add_null-2.new.json c.end_object.new.self _ c.end_object.ensures))))))))))
+    (then c.end_object.result c.add_null.new.json c.add_text_or_null.new.json c.end_object.new.self _ _ c.in_ok-add_text_or_null.ensures
+    (last c.end_object.result c.add_text_or_null.new.json c.end_object.new.self _ c.end_object.ensures))))))))))

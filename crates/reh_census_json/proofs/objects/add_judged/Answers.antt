@@ -16,7 +16,7 @@ returns c =
     (c.entries-entries.ensures.entries ∙ ap (λ (census : Census). census.entries) c.census-counted.ensures)) i)
     ((c.count_unknown.ensures ∙ ap (λ (entries : List Counted). count_in entries (λ class. nat_lt 0 (length class.untold)))
     (c.entries-entries.ensures.entries ∙ ap (λ (census : Census). census.entries) c.census-counted.ensures)) i)
-    c.args.census.now.taken))
+    (c.taken.ensures i)))
     (then c.end_object.result c.args.json.now c.key.new.self c.end_object.new.self _ _ (one c.args.json.now c.key.new.self _ c.in_ok-key.ensures.ok c.in_ok-key.ensures.room.0)
     (then c.end_object.result c.key.new.self c.begin_object.new.self c.end_object.new.self _ _ (one c.key.new.self c.begin_object.new.self _ c.in_ok-begin_object.ensures.ok c.in_ok-begin_object.ensures.room.0)
     (then c.end_object.result c.begin_object.new.self c.add_number.new.json c.end_object.new.self _ _ c.in_ok-add_number.ensures
@@ -26,5 +26,5 @@ returns c =
     (then c.end_object.result c.add_number-4.new.json c.add_number-5.new.json c.end_object.new.self _ _ c.in_ok-add_number-5.ensures
     (then c.end_object.result c.add_number-5.new.json c.add_number-6.new.json c.end_object.new.self _ _ c.in_ok-add_number-6.ensures
     (then c.end_object.result c.add_number-6.new.json c.add_null.new.json c.end_object.new.self _ _ c.in_ok-add_null.ensures
-    (then c.end_object.result c.add_null.new.json c.add_taken.new.json c.end_object.new.self _ _ c.in_ok-add_taken.ensures
-    (last c.end_object.result c.add_taken.new.json c.end_object.new.self _ c.end_object.ensures)))))))))))
+    (then c.end_object.result c.add_null.new.json c.add_text_or_null.new.json c.end_object.new.self _ _ c.in_ok-add_text_or_null.ensures
+    (last c.end_object.result c.add_text_or_null.new.json c.end_object.new.self _ c.end_object.ensures)))))))))))

@@ -1,5 +1,5 @@
 use Rattle.reh_script.proofs.Piped.{pipes_none, pipes_ended, pipes_alone, pipes_unread, alone_has_none}
-use Rattle.reh_script.proofs.Piped.{out_of_head, out_ended}
+use Rattle.reh_script.proofs.Piped.{alone_ended, out_of_head, out_ended}
 use Rattle.reh_script.proofs.pipes.pipe.Goals as goal
 
 pub returns-in_err-percent-clause-pipes : goal.returns-in_err-percent-clause-pipes
@@ -32,6 +32,13 @@ returns-in-Whole-clause-pipes g c =
 
 pub returns-in-Whole-clause-prompt : goal.returns-in-Whole-clause-prompt
 returns-in-Whole-clause-prompt g c = out_of_head _ _ _ _ _ c.read_head.ensures.until
+
+pub returns-in-Whole-clause-ended : goal.returns-in-Whole-clause-ended
+returns-in-Whole-clause-ended g c =
+    alone_ended c.in_ok-percent.field-0 c.read_head.new.input.items (g.R.TextIn.remaining c.args.reader.now)
+    (g.R.TextIn.remaining c.read_head.new.reader) (g.R.TextIn.has_failed c.read_head.new.reader) c.open_whole.result
+    (g.W.TextOut.contents c.args.writer.now) c.in-Whole.is c.in_ok-percent.ensures.head
+    (rw c.deref.ensures.value at (c.open_whole.ensures.piped (g.W.TextOut.contents c.args.writer.now)))
 
 pub returns-in-Failed-clause-pipes : goal.returns-in-Failed-clause-pipes
 returns-in-Failed-clause-pipes g c =

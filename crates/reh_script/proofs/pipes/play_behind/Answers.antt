@@ -25,5 +25,8 @@ returns-clause-prompt g c =
     behind_out _ c.in_ok-rehearsal.rehearsal _ _ _ _ _ (rw (c.deref.ensures.value, same) at c.in_ok-rehearsal.ensures)
     (rw c.in_ok-script.ensures.tail at c.play_on-end.ensures.prompt)
 
+pub returns-clause-ended : goal.returns-clause-ended
+returns-clause-ended g c = piped_well _ c.play_on-end.result _ c.pipe_end.ensures.end c.play_on-end.ensures.ended
+
 pub returns-clause-seen : goal.returns-clause-seen
 returns-clause-seen g c = piped_well _ c.play_on-end.result _ c.pipe_end.ensures.end c.play_on-end.ensures.seen

@@ -26,5 +26,8 @@ returns-clause-prompt g c =
     prints_out g.N.Printer.prints _ _ _ _ _ _ _ _ c.in_ok-rehearsal.rehearsal c.in_ok-rehearsal.ensures.opens
     c.play_by-end.ensures.prompt
 
+pub returns-clause-ended : goal.returns-clause-ended
+returns-clause-ended g c = piped_well _ c.play_by-end.result _ c.pipe_end.ensures.end c.play_by-end.ensures.ended
+
 pub returns-clause-seen : goal.returns-clause-seen
 returns-clause-seen g c = piped_well _ c.play_by-end.result _ c.pipe_end.ensures.end c.play_by-end.ensures.seen

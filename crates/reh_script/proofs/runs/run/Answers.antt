@@ -22,5 +22,8 @@ pub returns-clause-prompt : goal.returns-clause-prompt
 returns-clause-prompt g c =
     runs_out _ _ _ _ _ _ _ _ c.in_ok-rehearsal.rehearsal c.in_ok-rehearsal.ensures.opens c.play_book-end.ensures.prompt
 
+pub returns-clause-ended : goal.returns-clause-ended
+returns-clause-ended g c = piped_well _ c.play_book-end.result _ c.pipe_end.ensures.end c.play_book-end.ensures.ended
+
 pub returns-clause-seen : goal.returns-clause-seen
 returns-clause-seen g c = piped_well _ c.play_book-end.result _ c.pipe_end.ensures.end c.play_book-end.ensures.seen

@@ -1,5 +1,5 @@
 -- The worst of the pictures' ledgers and of those of inventories speak against it.
-use Rattle.std.proofs.Common.{◌≡◌, ◌∙◌, ◌++◌, Bool, ap, map, string_bytes, List, String, ℕ}
+use Rattle.std.proofs.Common.{◌≡◌, ◌∙◌, ◌++◌, Bool, ap, map, option_copied, option_map, string_bytes, List, String, ℕ}
 use Rattle.std.specs.List.{flat_map}
 use Rattle.std.specs.declared.alloc.Global.{Global}
 use Rattle.reh_against.specs.Worst.{alone}
@@ -32,9 +32,10 @@ returns c =
           (λ i. map (is_read_again (reads i)) (c.deref-3.ensures.value i)) c.deref-4.ensures.value all.are;
       answered =
           answered-same (c.deref.result.now ++ flat_map ids_in all.files) (g.ids.items ++ flat_map ids_in all.files)
-          (ledgers ++ flat_map ledgers_in all.files) (map string_bytes c.deref-6.result.now)
+          (ledgers ++ flat_map ledgers_in all.files) (option_copied c.time_of-time.result)
+          (option_map string_bytes c.args.files.taken) (map string_bytes c.deref-6.result.now)
           (notes_of (has_against c.in_ok-verdict.verdict.facts.answer) kinds) g c.args.asked.now c.in_ok-said.said
-          (ap (λ (ids : List ℕ). ids ++ flat_map ids_in all.files) c.deref.ensures.value)
+          (ap (λ (ids : List ℕ). ids ++ flat_map ids_in all.files) c.deref.ensures.value) c.time_of-time.ensures
           (ap (λ (notes : List (String Global)). map string_bytes notes) c.deref-6.ensures.value
           ∙ c.in_ok-notes.ensures
           ∙ (λ i. notes_of (reads i) (c.deref-5.ensures.value i)))

@@ -1,0 +1,2 @@
+mod DepthLaws
+mod TokenLaws

@@ -1,0 +1,10 @@
+-- The tokens, one part after another.
+use Rattle.reh_answer.proofs.ObjectLaws.{last, one, then}
+use Rattle.reh_check_json.proofs.objects.add_picture.Goals as goal
+
+pub returns : goal.returns
+returns c =
+    then c.end_object.result c.args.json.now c.begin_object.new.self c.end_object.new.self _ _ (one c.args.json.now c.begin_object.new.self _ c.in_ok-begin_object.ensures.ok c.in_ok-begin_object.ensures.room.0)
+    (then c.end_object.result c.begin_object.new.self c.add_counts.new.json c.end_object.new.self _ _ c.in_ok-add_counts.ensures
+    (then c.end_object.result c.add_counts.new.json c.add_null.new.json c.end_object.new.self _ _ c.in_ok-add_null.ensures
+    (last c.end_object.result c.add_null.new.json c.end_object.new.self _ c.end_object.ensures)))

@@ -1,0 +1,3 @@
+pub mod Inventories
+pub mod Objects
+pub mod Scripts
