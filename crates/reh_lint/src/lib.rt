@@ -12,3 +12,4 @@ pub use findings::Known;
 pub use laws::missing_ledgers_are_refused;
 pub use ledgers::missing_ledger;
 pub use lints::{Linted, answered, lint};
+pub use names::bookie_names;

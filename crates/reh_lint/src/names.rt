@@ -10,7 +10,11 @@ use reh_types::BookieIx;
 use std::alloc::{AllocError, Global};
 
 /// The names of bookies, in picture order.
-pub(crate) fn bookie_names<'a>(alloc: Global, names: &'a Names) -> Result<Vec<&'a str>, AllocError>
+///
+/// # Errors
+///
+/// Out of memory.
+pub fn bookie_names<'a>(alloc: Global, names: &'a Names) -> Result<Vec<&'a str>, AllocError>
     ensures { IfOk result (λ list. map (λ name. name.now) list.items ≡ names.now) }
 {
     let mut list = Vec::new(alloc);

@@ -1,18 +1,10 @@
 -- What is told of the names that there are.
-use Rattle.std.proofs.Common.{◌≡◌, ◌<◌, ℕ, zero, suc, List, [], ◌∷◌, ◌++◌, length, map, refl, ap, sym, ◌∙◌, arith, get_or, None, Some}
+use Rattle.std.proofs.Common.{◌≡◌, ℕ, suc, List, [], ◌∷◌, ◌++◌, length, map, refl, ap, sym, ◌∙◌, None, Some}
 use Rattle.std.specs.Prelude.{slice_get, codes}
 use Rattle.std.specs.Borrow.{Bor}
 use Rattle.std.specs.Fmt.{decimal}
 use Rattle.std.proofs.lemmas.List.{length-map}
-use Rattle.std.specs.Option.{option_map_or}
 use Rattle.rehearse.specs.Names.{count_text}
-
--- the name of a number
-pub at_place : (names : List (List ℕ)) (k : ℕ) (d : List ℕ) → k < length names
-    → option_map_or (λ name. name ∷ []) (slice_get names k) [] ≡ get_or names k d ∷ []
-at_place [] k d within = absurd (omega arith)
-at_place (x ∷ xs) zero d within = refl
-at_place (x ∷ xs) (suc k) d within = at_place xs k d (omega arith)
 
 -- how many there are
 text_of_count : ℕ → List ℕ → List ℕ

@@ -1,5 +1,6 @@
 -- The ledgers that speak against a stop, of pictures and of inventories that are read once more.
-use Rattle.std.specs.Prelude.{ℕ, Bool, true, false, ◌&&◌, List, [], ◌∷◌, ◌++◌, codes, map, option_map, string_bytes, if◌then◌else◌}
+use Rattle.std.specs.Prelude.{ℕ, Bool, true, false, ◌&&◌, List, [], ◌∷◌, ◌++◌, codes, map, option_map, string_bytes, zip, if◌then◌else◌}
+use Rattle.std.specs.Borrow.{Bor}
 use Rattle.std.specs.List.{flat_map, list_any}
 use Rattle.reh_against.specs.declared.stops.Stop.{Stop}
 use Rattle.reh_against.specs.declared.worst.Worst.{Worst}
@@ -29,19 +30,39 @@ has_against (NotJudged count) = false
 -- whether a file is read once more, if any is: an inventory, if it can be
 abbrev pub is_read_again : Bool → FileKind → Bool
 is_read_again is_any kind.Other = false
-is_read_again is_any kind.Inventory = is_any
-is_read_again is_any kind.Stream = false
+is_read_again is_any (kind.Inventory cut) = is_any
+is_read_again is_any (kind.Stream cut) = false
 
 abbrev pub is_stream : FileKind → Bool
 is_stream kind.Other = false
-is_stream kind.Inventory = false
-is_stream kind.Stream = true
+is_stream (kind.Inventory cut) = false
+is_stream (kind.Stream cut) = true
 
--- a note where some inventory would be, and can't
-abbrev pub notes_of : Bool → List FileKind → List (List ℕ)
-notes_of is_any kinds =
-    if is_any && list_any is_stream kinds
-    then codes "no ledger is named of an inventory that can be read only once, as from a pipe" ∷ [] else []
+-- whether a file is an inventory whose last line isn't there
+abbrev pub is_cut : FileKind → Bool
+is_cut kind.Other = false
+is_cut (kind.Inventory cut) = cut
+is_cut (kind.Stream cut) = cut
+
+-- a note on such a file
+abbrev pub cut_text : List ℕ → List ℕ
+cut_text path =
+    codes "inventory " ++ (path ++ codes " has no last line: the file was cut, and ledgers may be missing")
+
+abbrev pub cut_note : List ℕ → FileKind → List (List ℕ)
+cut_note path kind = if is_cut kind then cut_text path ∷ [] else []
+
+-- one on each of these files that is one
+abbrev pub cut_notes : List (Bor (List ℕ)) → List FileKind → List (List ℕ)
+cut_notes files kinds = flat_map (λ pair. cut_note pair.0.now pair.1) (zip files kinds)
+
+-- a note where some inventory would be read once more, and can't
+abbrev pub stream_text : List ℕ
+stream_text = codes "no ledger is named of an inventory that can be read only once, as from a pipe"
+
+abbrev pub notes_of : Bool → List (Bor (List ℕ)) → List FileKind → List (List ℕ)
+notes_of is_any files kinds =
+    cut_notes files kinds ++ (if is_any && list_any is_stream kinds then stream_text ∷ [] else [])
 
 -- some lines of an inventory were read once more, and their ledgers weighed
 pub record IsUnderWay (stop : Stop) (names : List (List ℕ)) (strict : Bool) (ids : List ℕ) (ledgers : List (List Ledger))
@@ -52,8 +73,8 @@ pub record IsUnderWay (stop : Stop) (names : List (List ℕ)) (strict : Bool) (i
 
 -- What is said of a stop by these files: where a ledger may speak against it, each inventory that can be was read once
 -- more, and had the same ledgers. Of these and of those of pictures the worst are named. The time that is told is that of
--- the files.
-pub record SaysOf (files : GatheredFiles) (strict : Bool) (asked : Asked) (said : Said) : Type 0 where
+-- the files. An inventory without its last line has a note, by its path.
+pub record SaysOf (files : GatheredFiles) (paths : List (Bor (List ℕ))) (strict : Bool) (asked : Asked) (said : Said) : Type 0 where
   pub verdict : Verdict
   pub judged : IsJudged files.gathered asked verdict
   pub weighed : List Weighed
@@ -62,4 +83,4 @@ pub record SaysOf (files : GatheredFiles) (strict : Bool) (asked : Asked) (said 
   pub answered : IsAnsweredBy (files.gathered.ids.items ++ flat_map ids_in weighed)
       (map alone files.gathered.ledgers.items ++ flat_map ledgers_in weighed)
       (option_map string_bytes files.taken)
-      (notes_of (has_against verdict.facts.answer) files.kinds.items) files.gathered asked said
+      (notes_of (has_against verdict.facts.answer) paths files.kinds.items) files.gathered asked said

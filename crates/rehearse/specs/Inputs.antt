@@ -27,7 +27,7 @@ use Rattle.reh_words.specs.declared.tasks.Inputs.{Inputs}
 use Rattle.reh_words.specs.declared.tasks.RiskWords.{RiskWords}
 use Rattle.reh_words.specs.declared.tasks.StopWords.{StopWords}
 use Rattle.reh_words.specs.declared.tasks.WaveWords.{WaveWords}
-use Rattle.rehearse.specs.Against.{SaysOf}
+use Rattle.rehearse.specs.Against.{SaysOf, is_cut}
 use Rattle.rehearse.specs.Inventories.{IsOfLines}
 use Rattle.rehearse.specs.declared.faults.RunFault.{RunFault}
 use Rattle.rehearse.specs.declared.inputs.FileInput.{FileInput}
@@ -41,8 +41,8 @@ use Rattle.rehearse.specs.declared.faults.RunFault.TheVariants.{NoMemory, Unfit}
 -- whether a file is an inventory
 abbrev pub is_inventory : FileKind → Bool
 is_inventory kind.Other = false
-is_inventory kind.Inventory = true
-is_inventory kind.Stream = true
+is_inventory (kind.Inventory cut) = true
+is_inventory (kind.Stream cut) = true
 
 -- it is what some bytes show, with the ids of its ledgers
 pub record IsOfBytes (file : FileInput) : Type 0 where
@@ -51,13 +51,14 @@ pub record IsOfBytes (file : FileInput) : Type 0 where
   pub ids : file.ids.items ≡ of_picture ids_in file.input
   pub kind_is : is_inventory file.kind ≡ false
 
--- it is the census of some lines of an inventory, with the ids of their ledgers
+-- it is the census of some lines of an inventory, with the ids of their ledgers, and whether the last line isn't there
 pub record IsOfInventory (file : FileInput) : Type 0 where
   pub counted : CountedInventory
   pub of_lines : IsOfLines counted
   pub input : file.input ≡ Census counted.census
   pub ids : file.ids ≡ counted.ids
   pub kind_is : is_inventory file.kind ≡ true
+  pub cut : is_cut file.kind ≡ counted.is_cut
 
 abbrev pub IsOfFile : FileInput → Type 0
 IsOfFile file = IsOfBytes file ⊎ IsOfInventory file
@@ -117,7 +118,7 @@ pub record SaysStop (words : StopWords) (said : Said) : Type 0 where
   pub same_racks : asked.racks.now ≡ words.racks.items
   pub same_question : asked.question ≡ words.question
   pub same_form : asked.as_json ≡ words.as_json
-  pub says : SaysOf files words.inputs.strict asked said
+  pub says : SaysOf files words.inputs.files.items words.inputs.strict asked said
 
 -- what is said of rounds
 abbrev pub waves_asked : WaveWords → AskedWaves

@@ -1,5 +1,5 @@
 -- What was counted of the lines of an inventory.
-use Rattle.std.specs.Prelude.{◌≡◌, ℕ, Bool, List, ◌∷◌, ◌++◌, Ok, IfOk, map}
+use Rattle.std.specs.Prelude.{◌≡◌, ℕ, Bool, not, List, ◌∷◌, ◌++◌, Ok, IfOk, map}
 use Rattle.std.specs.Option.{IsSomeAnd}
 use Rattle.reh_inventory.specs.declared.lines.Line.{Line}
 use Rattle.reh_inventory.specs.Inventories.{Inventory, inventory_of}
@@ -45,7 +45,7 @@ pub record CountsMore (one other : InventoryCount) : Type 0 where
   pub added : List (List ℕ)
   pub goes_on : GoesOn added one other
 
--- it is the census of some lines, and these are the ids of their ledgers
+-- it is the census of some lines, these are the ids of their ledgers, and so it is told whether the last line isn't there
 pub record IsOfLines (inventory : CountedInventory) : Type 0 where
   pub strict : Bool
   pub names : List (List ℕ)
@@ -55,3 +55,4 @@ pub record IsOfLines (inventory : CountedInventory) : Type 0 where
   pub said : Inventory
   pub is_read : inventory_of (first ∷ lines) ≡ Ok said
   pub ids : inventory.ids.items ≡ said.ids
+  pub cut : inventory.is_cut ≡ not said.is_whole

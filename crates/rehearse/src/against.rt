@@ -1,5 +1,5 @@
 // The ledgers of inventories that speak against a stop: their files are read once more.
-ghost use Rattle.std.specs.Prelude.{◌≡◌, ℕ, Bool, [], IfOk, List, OnOk, length, map, string_bytes};
+ghost use Rattle.std.specs.Prelude.{◌≡◌, ◌++◌, ◌∷◌, ℕ, Bool, [], IfOk, List, OnOk, length, map, string_bytes};
 ghost use Rattle.std.specs.List.{list_any};
 ghost use Rattle.reh_against.specs.Weighed.{WeighsBy};
 ghost use Rattle.reh_against.specs.Worst.{alone};
@@ -44,8 +44,8 @@ fn is_read_again(is_any: bool, kind: FileKind) -> bool
     ensures { result ≡ model.is_read_again is_any kind }
 {
     match kind {
-        FileKind::Inventory => is_any,
-        FileKind::Other | FileKind::Stream => false,
+        FileKind::Inventory { is_cut: _ } => is_any,
+        FileKind::Other | FileKind::Stream { is_cut: _ } => false,
     }
 }
 
@@ -54,8 +54,18 @@ fn is_stream(kind: FileKind) -> bool
     ensures { result ≡ model.is_stream kind }
 {
     match kind {
-        FileKind::Stream => true,
-        FileKind::Other | FileKind::Inventory => false,
+        FileKind::Stream { is_cut: _ } => true,
+        FileKind::Other | FileKind::Inventory { is_cut: _ } => false,
+    }
+}
+
+/// Whether a file is an inventory whose last line isn't there.
+fn is_cut(kind: FileKind) -> bool
+    ensures { result ≡ model.is_cut kind }
+{
+    match kind {
+        FileKind::Inventory { is_cut } | FileKind::Stream { is_cut } => is_cut,
+        FileKind::Other => false,
     }
 }
 
@@ -66,21 +76,66 @@ fn has_stream(kinds: &[FileKind]) -> bool
     kinds.iter().any(|kind| is_stream(*kind))
 }
 
-/// What else is to be noted of files of which some are read once more, if any is.
+/// What else is to be noted of these files, of which some are read once more, if any is.
 pub(crate) fn notes_of(
     alloc: Global,
     is_any: bool,
+    files: &[&str],
     kinds: &[FileKind],
 ) -> Result<Vec<String>, AllocError>
-    ensures { IfOk result (λ notes. map string_bytes notes.items ≡ model.notes_of is_any kinds.now) }
+    ensures { IfOk result (λ notes. map string_bytes notes.items ≡ model.notes_of is_any files.now kinds.now) }
 {
-    let mut notes = Vec::new(alloc);
-    if !is_any || !has_stream(kinds) {
-        return Ok(notes);
+    let mut notes = cut_notes(alloc, files, kinds)?;
+    if is_any && has_stream(kinds) {
+        push_stream(alloc, &mut notes)?;
     }
+    Ok(notes)
+}
+
+/// Adds the note on inventories that can be read only once.
+fn push_stream(alloc: Global, notes: &mut Vec<String>) -> Result<(), AllocError>
+    ensures { OnOk result (map string_bytes notes.new.items
+        ≡ map string_bytes notes.old.items ++ model.stream_text ∷ []) }
+{
     let note = "no ledger is named of an inventory that can be read only once, as from a pipe";
     notes.push(String::from_str(alloc, note)?)?;
+    Ok(())
+}
+
+/// A note on each of these files that is an inventory whose last line isn't there.
+fn cut_notes(alloc: Global, files: &[&str], kinds: &[FileKind]) -> Result<Vec<String>, AllocError>
+    ensures { IfOk result (λ notes. map string_bytes notes.items ≡ model.cut_notes files.now kinds.now) }
+{
+    let mut notes = Vec::new(alloc);
+    for (path, kind) in files.iter().zip(kinds) {
+        push_cut(alloc, &mut notes, *path, *kind)?;
+    }
     Ok(notes)
+}
+
+/// Adds the note on a file, if it is one of those.
+fn push_cut(
+    alloc: Global,
+    notes: &mut Vec<String>,
+    path: &str,
+    kind: FileKind,
+) -> Result<(), AllocError>
+    ensures { OnOk result (map string_bytes notes.new.items
+        ≡ map string_bytes notes.old.items ++ model.cut_note path.now kind) }
+{
+    if is_cut(kind) {
+        notes.push(cut_text(alloc, path)?)?;
+    }
+    Ok(())
+}
+
+/// That an inventory's last line isn't there.
+fn cut_text(alloc: Global, path: &str) -> Result<String, AllocError>
+    ensures { IfOk result (λ text. string_bytes text ≡ model.cut_text path.now) }
+{
+    format!(in alloc;
+        "inventory {path} has no last line: the file was cut, and ledgers may be missing"
+    )
 }
 
 /// Weighs the ledgers of the inventories among these files that can be read once more, if any is to be.

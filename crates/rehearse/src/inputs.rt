@@ -5,6 +5,7 @@ ghost use Rattle.std.specs.Option.{option_map};
 ghost use Rattle.reh_inputs.specs.Gathered.{Gathers};
 ghost use Rattle.reh_inputs.specs.Inputs.{IsRead};
 ghost use Rattle.reh_inputs.specs.Named.{taken_of as model_taken};
+ghost use Rattle.rehearse.specs.Against.{is_cut};
 ghost use Rattle.rehearse.specs.Endings.{EndsCensus};
 ghost use Rattle.rehearse.specs.Inputs as model;
 ghost use Rattle.rehearse.specs.Inventories.{IsOfLines};
@@ -169,9 +170,15 @@ pub(crate) enum FileKind {
     /// A picture or a census.
     Other,
     /// An inventory that can be read again.
-    Inventory,
+    Inventory {
+        /// Whether its last line isn't there.
+        is_cut: bool,
+    },
     /// An inventory that can be read only once, as from a pipe.
-    Stream,
+    Stream {
+        /// Whether its last line isn't there.
+        is_cut: bool,
+    },
 }
 
 /// What a file shows, the ids of its ledgers, of which a census file tells none, and what it is.
@@ -380,7 +387,8 @@ fn read_inventory<R: thread::Threads + Sync>(
     ensures { IfOk result model.IsOfFile }
 {
     let counted = count_inventory(threads, source, file, strict)?;
-    Ok(of_inventory(counted, FileKind::Inventory))
+    let is_cut = counted.is_cut;
+    Ok(of_inventory(counted, FileKind::Inventory { is_cut }))
 }
 
 /// What the bytes of an inventory show.
@@ -393,7 +401,8 @@ fn read_stream<R: thread::Threads + Sync>(
     ensures { IfOk result model.IsOfFile }
 {
     let counted = count_bytes(threads, source, bytes, strict)?;
-    Ok(of_inventory(counted, FileKind::Stream))
+    let is_cut = counted.is_cut;
+    Ok(of_inventory(counted, FileKind::Stream { is_cut }))
 }
 
 /// What the bytes of a picture or of a census show.
@@ -423,6 +432,7 @@ fn no_input(alloc: Global, path: &str, bytes: &[u8], fault: InputFault) -> RunFa
 fn of_inventory(counted: CountedInventory, kind: FileKind) -> FileInput
     requires lines { IsOfLines counted }
     requires kind { model.is_inventory kind ≡ true }
+    requires cut { is_cut kind ≡ counted.is_cut }
     ensures { model.IsOfFile result }
 {
     FileInput {

@@ -141,11 +141,12 @@ fn inventory_said(alloc: Global, inventory: &Inventory, as_json: bool) -> Result
     format!(in alloc; "ok\n{counts}\n")
 }
 
-/// The census of an inventory, and the ids of its ledgers.
+/// The census of an inventory, the ids of its ledgers, and whether its last line isn't there.
 #[derive(Drop)]
 pub(crate) struct CountedInventory {
     pub(crate) census: NamedCensus,
     pub(crate) ids: Vec<u64>,
+    pub(crate) is_cut: bool,
 }
 
 /// Which inventory is counted, and by how many workers its lines are read and counted.
@@ -346,13 +347,18 @@ fn add_lines(
     Ok(())
 }
 
-/// The census of what was counted, and the ids of its ledgers.
+/// The census of what was counted, the ids of its ledgers, and whether the last line isn't there.
 fn finish(alloc: Global, path: &str, count: InventoryCount) -> Result<CountedInventory, RunFault>
     ensures { IfOk result (λ counted. (strict : Bool) → model.IsCounting strict count → model.IsOfLines counted) }
 {
     let ids = Vec::from_slice(alloc, count.inventory().ids())?;
+    let is_cut = !count.inventory().is_whole();
     match count.finish(alloc) {
-        Ok(census) => Ok(CountedInventory { census, ids }),
+        Ok(census) => Ok(CountedInventory {
+            census,
+            ids,
+            is_cut,
+        }),
         Err(fault) => Err(uncounted(alloc, path, 1, &fault)),
     }
 }

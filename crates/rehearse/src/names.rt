@@ -1,14 +1,12 @@
 // Bookies and racks that words of the command line name.
-ghost use Rattle.std.specs.Prelude.{◌≡◌, ◌<◌, ◌++◌, ◌∷◌, [], map, slice_get, string_bytes, IfOk, OnOk};
-ghost use Rattle.std.specs.Option.{option_map_or};
-ghost use Rattle.reh_types.specs.declared.limits.TheConstants.{MAX_BOOKIES};
+ghost use Rattle.std.specs.Prelude.{◌≡◌, map, string_bytes, IfOk};
 ghost use Rattle.rehearse.specs.Names as model;
 
 use crate::faults::RunFault;
 use reh_cluster::Names;
 use reh_inputs::{Cluster, ClusterNames};
+use reh_lint::bookie_names;
 use reh_near::{Near, near_to};
-use reh_types::BookieIx;
 use std::alloc::{AllocError, Global};
 
 /// That the word of this number names no bookie of the picture in a file, and what is near; or out of memory.
@@ -31,33 +29,6 @@ fn unknown_text(alloc: Global, path: &str, names: &Names, name: &str) -> Result<
     let known = bookie_names(alloc, names)?;
     let told = known_text(alloc, &known, name)?;
     format!(in alloc; "{path} has no bookie '{name}'{told}")
-}
-
-/// The names of bookies, in picture order.
-fn bookie_names<'a>(alloc: Global, names: &'a Names) -> Result<Vec<&'a str>, AllocError>
-    ensures { IfOk result (λ list. map (λ name. name.now) list.items ≡ names.now) }
-{
-    let mut list = Vec::new(alloc);
-    for number in 0..names.len() {
-        push_numbered(&mut list, names, number)?;
-    }
-    Ok(list)
-}
-
-/// Adds the name of this number as the last, if there is one.
-fn push_numbered<'a>(
-    list: &mut Vec<&'a str>,
-    names: &'a Names,
-    number: usize,
-) -> Result<(), AllocError>
-    requires { number < MAX_BOOKIES }
-    ensures { OnOk result (map (λ name. name.now) list.new.items ≡ map (λ name. name.now) list.old.items
-        ++ option_map_or (λ name. name ∷ []) (slice_get names.now number) []) }
-{
-    if let Some(name) = names.name(BookieIx(number as u8)) {
-        list.push(name)?;
-    }
-    Ok(())
 }
 
 /// What is told of the names that there are, after one that there is not: those near it; else how many there are, and the

@@ -92,7 +92,7 @@ fn say(
     asked: &Asked<'_, '_>,
 ) -> Result<Said, RunFault>
     requires { AreGathered inputs.now files }
-    ensures { IfOk result (SaysOf files inputs.now.strict asked.now) }
+    ensures { IfOk result (SaysOf files inputs.now.files.items inputs.now.strict asked.now) }
 {
     let alloc = rt.alloc();
     let GatheredFiles {
@@ -118,7 +118,7 @@ fn say(
     };
     let is_any = has_against(verdict.answer());
     weigh_files(rt, &inputs.files, is_any, &kinds, &kept, &by, &mut worst)?;
-    let notes = notes_of(alloc, is_any, &kinds)?;
+    let notes = notes_of(alloc, is_any, &inputs.files, &kinds)?;
     let time = time_of(&taken);
     let said = say_weighed(alloc, asked, &verdict, &about, &worst, time, &notes)?;
     Ok(said)

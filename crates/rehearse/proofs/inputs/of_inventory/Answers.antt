@@ -10,4 +10,5 @@ returns g =
       input = refl;
       ids = refl;
       kind_is = g.requires.kind;
+      cut = g.requires.cut;
     })

@@ -1,5 +1,5 @@
 -- The census of the lines that were counted, and the ids of their ledgers.
-use Rattle.std.proofs.Common.{◌∙◌, ap}
+use Rattle.std.proofs.Common.{◌∙◌, ap, not}
 use Rattle.reh_inventory.specs.Inventories.{Inventory}
 use Rattle.rehearse.proofs.inventories.finish.Goals as goal
 
@@ -16,4 +16,5 @@ returns-in-Ok c = λ strict was. record {
       c.in_ok-ids.ensures.items
       ∙ c.ids.ensures
       ∙ ap (λ (inventory : Inventory). inventory.ids) c.inventory.ensures;
+  cut = ap not (c.is_whole-is_cut.ensures ∙ ap (λ (inventory : Inventory). inventory.is_whole) c.inventory-2.ensures);
 }

@@ -33,12 +33,12 @@ returns c =
       answered =
           answered-same (c.deref.result.now ++ flat_map ids_in all.files) (g.ids.items ++ flat_map ids_in all.files)
           (ledgers ++ flat_map ledgers_in all.files) (option_copied c.time_of-time.result)
-          (option_map string_bytes c.args.files.taken) (map string_bytes c.deref-6.result.now)
-          (notes_of (has_against c.in_ok-verdict.verdict.facts.answer) kinds) g c.args.asked.now c.in_ok-said.said
+          (option_map string_bytes c.args.files.taken) (map string_bytes c.deref-7.result.now)
+          (notes_of (has_against c.in_ok-verdict.verdict.facts.answer) c.args.inputs.now.files.items kinds) g c.args.asked.now c.in_ok-said.said
           (ap (λ (ids : List ℕ). ids ++ flat_map ids_in all.files) c.deref.ensures.value) c.time_of-time.ensures
-          (ap (λ (notes : List (String Global)). map string_bytes notes) c.deref-6.ensures.value
+          (ap (λ (notes : List (String Global)). map string_bytes notes) c.deref-7.ensures.value
           ∙ c.in_ok-notes.ensures
-          ∙ (λ i. notes_of (reads i) (c.deref-5.ensures.value i)))
+          ∙ (λ i. notes_of (reads i) (c.deref-5.ensures.value i) (c.deref-6.ensures.value i)))
           (c.in_ok-said.ensures g (c.deref.result.now ++ flat_map ids_in all.files) (ledgers ++ flat_map ledgers_in all.files)
           c.in_ok-verdict.ensures
           (record {
