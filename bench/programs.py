@@ -143,7 +143,8 @@ TALLIES = Program(
         ("ENTRIES: u64 = 65536;", "ENTRIES: u64 = 64;"),
     ],
 )
-PROGRAMS = [DESKS, EVENTS, LOADS, QUESTIONS, TALLIES]
+JSON = Program("json", "serde_json anyhow")
+PROGRAMS = [DESKS, EVENTS, JSON, LOADS, QUESTIONS, TALLIES]
 
 
 def run(words: List[str], text: str) -> str:
