@@ -6,7 +6,8 @@ use Rattle.std.proofs.lemmas.List.Elements.{All-weaker}
 use Rattle.std.proofs.lemmas.List.Folds.{list_any_none}
 use Rattle.reh_model.specs.Cluster.{Cluster, Ledger}
 use Rattle.reh_model.specs.Metadata.{is_in_recovery}
-use Rattle.reh_plan.specs.Ends.{AllFilled, AreAmong, IsDone, IsUnrecoverable, flag_at, is_needless}
+use Rattle.reh_plan.specs.Ends.{AllFilled, AreAmong, IsDone, IsSettled, flag_at, is_needless}
+use Rattle.reh_plan.specs.Workers.{Rules}
 
 -- a flag more, that is set only where a test says so
 more : (flags : List Bool) (flag : Bool) (test : ℕ → Bool) → ((k : ℕ) → IsTrue (flag_at flags k) → IsTrue (test k))
@@ -33,22 +34,21 @@ among-more ledgers others place g within is among last =
     (more flags (flag_of g) (flag_at others) among (λ set. subst (λ n. IsTrue (flag_at others n)) (sym long) (last set)))
 
 -- nothing is left of a ledger that the bookies that may work could do
-pub record IsFinished (may : ℕ → Bool) (s : Cluster) (g : Ledger) : Type 0 where
-  pub filled : AllFilled may s g
-  pub recovered : IsUnrecoverable may s g
+pub record IsFinished (rules : Rules) (s : Cluster) (g : Ledger) : Type 0 where
+  pub filled : AllFilled rules.may s g
+  pub settled : IsSettled rules s g
   pub unlocked : is_some g.lock ≡ false
   pub needed : is_needless s g ≡ false
 
 -- and so of any
-pub all_done : (may : ℕ → Bool) (s : Cluster) → All (IsFinished may s) s.parts.ledgers → IsDone may s
-all_done may s all = record {
-  complete = All-weaker (IsFinished may s) (AllFilled may s) (λ g finished. finished.filled) s.parts.ledgers all;
-  recovered =
-      All-weaker (IsFinished may s) (IsUnrecoverable may s) (λ g finished. finished.recovered) s.parts.ledgers all;
+pub all_done : (rules : Rules) (s : Cluster) → All (IsFinished rules s) s.parts.ledgers → IsDone rules s
+all_done rules s all = record {
+  complete = All-weaker (IsFinished rules s) (AllFilled rules.may s) (λ g finished. finished.filled) s.parts.ledgers all;
+  settled = All-weaker (IsFinished rules s) (IsSettled rules s) (λ g finished. finished.settled) s.parts.ledgers all;
   unlocked =
       list_any_none (λ g. is_some g.lock) s.parts.ledgers
-      (All-weaker (IsFinished may s) (λ g. is_some g.lock ≡ false) (λ g finished. finished.unlocked) s.parts.ledgers all);
+      (All-weaker (IsFinished rules s) (λ g. is_some g.lock ≡ false) (λ g finished. finished.unlocked) s.parts.ledgers all);
   needed =
       list_any_none (is_needless s) s.parts.ledgers
-      (All-weaker (IsFinished may s) (λ g. is_needless s g ≡ false) (λ g finished. finished.needed) s.parts.ledgers all);
+      (All-weaker (IsFinished rules s) (λ g. is_needless s g ≡ false) (λ g finished. finished.needed) s.parts.ledgers all);
 }

@@ -3,6 +3,7 @@ pub mod PlanLaws
 pub mod DraftLaws
 pub mod NamedLaws
 pub mod ReplyLaws
+pub mod RollLaws
 pub mod PlannedLaws
 pub mod NamesLaws
 pub mod FilledLaws

@@ -34,6 +34,7 @@ use Rattle.reh_commands.specs.declared.commands.LineFault.{LineFault}
 use Rattle.reh_lines.proofs.Parts.{lines_behind}
 use Rattle.reh_plan.specs.Plans.{has_lf, event_asked, IsEventOrNone, Asks, Draft, IsMade, IsWithout, Loses, Works}
 use Rattle.reh_plan.specs.Plans.{GoesOnBy, is_all_asked, is_nobodys, is_work_by, loss_of, losses_of}
+use Rattle.reh_plan.specs.Workers.{Rules}
 
 -- a text that an LF ends
 some_lf : (xs : List ℕ) → has_lf (xs ++ 10 ∷ []) ≡ true
@@ -146,20 +147,21 @@ state_after m s event is none =
 -- Registrations
 
 -- work leaves them
-pub lost_at-after : (may : ℕ → Bool) (s : Cluster) (event : Event) → is_work_by may event ≡ true
+pub lost_at-after : (rules : Rules) (s : Cluster) (event : Event) → is_work_by rules event ≡ true
     → (after s event).parts.lost_at ≡ s.parts.lost_at
-lost_at-after may s Audit e = refl
-lost_at-after may s Enable e = refl
-lost_at-after may s (Tick n) e = refl
-lost_at-after may s (Release w l) e = refl
-lost_at-after may s (Finish w l) e = refl
-lost_at-after may s (Acquire w l) e = refl
-lost_at-after may s (Grace w l) e = refl
-lost_at-after may s (Fence w l) e = refl
-lost_at-after may s (Seal w l) e = refl
-lost_at-after may s (Copy w l f i v) e = refl
-lost_at-after may s (Swap w l f i v) e = refl
-lost_at-after may s other e = absurd (true≢false (sym e))
+lost_at-after rules s Audit e = refl
+lost_at-after rules s Enable e = refl
+lost_at-after rules s (Tick n) e = refl
+lost_at-after rules s (Release w l) e = refl
+lost_at-after rules s (Finish w l) e = refl
+lost_at-after rules s (Acquire w l) e = refl
+lost_at-after rules s (Grace w l) e = refl
+lost_at-after rules s (Fence w l) e = refl
+lost_at-after rules s (Seal w l) e = refl
+lost_at-after rules s (Roll l i b) e = refl
+lost_at-after rules s (Copy w l f i v) e = refl
+lost_at-after rules s (Swap w l f i v) e = refl
+lost_at-after rules s other e = absurd (true≢false (sym e))
 
 put_down : (t : ℕ) (o : Option (Option ℕ)) → option_map_or is_none (option_map (λ (_ : Option ℕ). Some t) o) false ≡ false
 put_down t None = refl
@@ -172,6 +174,9 @@ and_false false = refl
 and_true : (a : Bool) → (a && true) ≡ a
 and_true true = refl
 and_true false = refl
+
+pub both_true : (a b : Bool) → a ≡ true → b ≡ true → (a && b) ≡ true
+both_true a b first second = ap (λ t. t && b) first ∙ second
 
 pub first_true : (a b : Bool) → (a && b) ≡ true → a ≡ true
 first_true true b both = refl
@@ -277,15 +282,15 @@ IsWithout-works s t u is_lost first same b =
 -- Plans
 
 -- no work yet
-works_nothing : (may : ℕ → Bool) (events : List Event) → GoesOnBy may events events
-works_nothing may events = ([], sym (append-nil events), refl)
+works_nothing : (rules : Rules) (events : List Event) → GoesOnBy rules events events
+works_nothing rules events = ([], sym (append-nil events), refl)
 
 -- and work after work
-works_behind : (may : ℕ → Bool) (a b c : List Event) → GoesOnBy may a b → GoesOnBy may b c → GoesOnBy may a c
-works_behind may a b c first then = (
+works_behind : (rules : Rules) (a b c : List Event) → GoesOnBy rules a b → GoesOnBy rules b c → GoesOnBy rules a c
+works_behind rules a b c first then = (
   first.0 ++ then.0,
   then.1 ∙ ap (λ (es : List Event). es ++ then.0) first.1 ∙ append_assoc a first.0 then.0,
-  list_all-append (is_work_by may) first.0 then.0 ∙ ap (λ t. t && list_all (is_work_by may) then.0) first.2 ∙ then.2,
+  list_all-append (is_work_by rules) first.0 then.0 ∙ ap (λ t. t && list_all (is_work_by rules) then.0) first.2 ∙ then.2,
 )
 
 -- the line of an event
@@ -299,47 +304,47 @@ made_commands d n event made =
     ∙ and_true (is_all_asked d)
 
 -- a plan that has gone on by work, and then does so again
-pub works_on : (may : ℕ → Bool) (d n p : Draft) → Works may n p → Works may d n → Works may d p
-works_on may d n p then first = record {
+pub works_on : (rules : Rules) (d n p : Draft) → Works rules n p → Works rules d n → Works rules d p
+works_on rules d n p then first = record {
   opening = then.opening ∙ first.opening;
   lost_at = then.lost_at ∙ first.lost_at;
-  work = works_behind may d.events n.events p.events first.work then.work;
+  work = works_behind rules d.events n.events p.events first.work then.work;
   commands = then.commands ∙ first.commands;
 }
 
-pub works_none : (may : ℕ → Bool) (d : Draft) → Works may d d
-works_none may d = record { opening = refl; lost_at = refl; work = works_nothing may d.events; commands = refl }
+pub works_none : (rules : Rules) (d : Draft) → Works rules d d
+works_none rules d = record { opening = refl; lost_at = refl; work = works_nothing rules d.events; commands = refl }
 
 -- and then stays
-pub works_same : (may : ℕ → Bool) (d n p : Draft) → p ≡ n → Works may d n → Works may d p
-works_same may d n p same first = subst (λ (x : Draft). Works may d x) (sym same) first
+pub works_same : (rules : Rules) (d n p : Draft) → p ≡ n → Works rules d n → Works rules d p
+works_same rules d n p same first = subst (λ (x : Draft). Works rules d x) (sym same) first
 
 -- and then makes an event that is work
-pub works_made : (may : ℕ → Bool) (d n p : Draft) (event : Event) → IsMade n event p
-    → is_work_by may event ≡ true → Works may d n → Works may d p
-works_made may d n p event made by first =
-    let then : Works may n p = record {
+pub works_made : (rules : Rules) (d n p : Draft) (event : Event) → IsMade n event p
+    → is_work_by rules event ≡ true → Works rules d n → Works rules d p
+works_made rules d n p event made by first =
+    let then : Works rules n p = record {
       opening = made.opening;
-      lost_at = ap (λ (c : Cluster). c.parts.lost_at) made.state ∙ lost_at-after may n.state event by;
+      lost_at = ap (λ (c : Cluster). c.parts.lost_at) made.state ∙ lost_at-after rules n.state event by;
       work = (event ∷ [], made.events, ap (λ t. t && true) by);
       commands = made_commands n p event made;
     } in
-    works_on may d n p then first
+    works_on rules d n p then first
 
 -- if it is accepted
-pub works_done : {A B : Type 0} (may : ℕ → Bool) (d n p : Draft) (event : Event) (r : Result A B)
-    → OnOk r (IsMade n event p) → OnErr r (p ≡ n) → is_work_by may event ≡ true
-    → Works may d n → Works may d p
-works_done may d n p event (Ok done) made same by first = works_made may d n p event made by first
-works_done may d n p event (Err stop) made same by first = works_same may d n p same first
+pub works_done : {A B : Type 0} (rules : Rules) (d n p : Draft) (event : Event) (r : Result A B)
+    → OnOk r (IsMade n event p) → OnErr r (p ≡ n) → is_work_by rules event ≡ true
+    → Works rules d n → Works rules d p
+works_done rules d n p event (Ok done) made same by first = works_made rules d n p event made by first
+works_done rules d n p event (Err stop) made same by first = works_same rules d n p same first
 
 -- or an event of no bookie
-pub works_alone : (may : ℕ → Bool) (d n p : Draft) (event : Event) → IsMade n event p → is_nobodys event ≡ true
-    → Works may d n → Works may d p
-works_alone may d n p Audit made nobodys = works_made may d n p Audit made refl
-works_alone may d n p (Tick ticks) made nobodys = works_made may d n p (Tick ticks) made refl
-works_alone may d n p Enable made nobodys = works_made may d n p Enable made refl
-works_alone may d n p other made nobodys = cc
+pub works_alone : (rules : Rules) (d n p : Draft) (event : Event) → IsMade n event p → is_nobodys event ≡ true
+    → Works rules d n → Works rules d p
+works_alone rules d n p Audit made nobodys = works_made rules d n p Audit made refl
+works_alone rules d n p (Tick ticks) made nobodys = works_made rules d n p (Tick ticks) made refl
+works_alone rules d n p Enable made nobodys = works_made rules d n p Enable made refl
+works_alone rules d n p other made nobodys = cc
 
 -- plans that lose bookies
 pub loses_made : (d n : Draft) (bookie : ℕ) → is_up d.state bookie ≡ true → IsMade d (Lose bookie) n

@@ -1,5 +1,5 @@
 -- What all of a plan's steps come to.
-use Rattle.std.proofs.Common.{◌≡◌, ◌∙◌, List, [], ◌++◌, ℕ, Bool, length, map, true, None, is_some, sym, ap, subst, true≢false}
+use Rattle.std.proofs.Common.{◌≡◌, ◌∙◌, List, [], ◌++◌, ℕ, length, map, true, None, is_some, sym, ap, subst, true≢false}
 use Rattle.std.proofs.lemmas.List.Elements.{All-weaker}
 use Rattle.std.proofs.lemmas.List.Sums.{AllPass-from_list_all}
 use Rattle.reh_types.specs.declared.moves.Event.{Event}
@@ -10,6 +10,7 @@ use Rattle.reh_commands.specs.Answers.{asked}
 use Rattle.reh_plan.specs.Ends.{Ends, IsHarmless}
 use Rattle.reh_plan.specs.Plans.{AllNamed, Draft, GoesOnBy, IsWithout, IsLeftLine, IsNaming, IsPlayed, Loses, OnlyLeft, Works, is_all_asked, losses_of}
 use Rattle.reh_plan.specs.Racks.{lines_before, racks_line}
+use Rattle.reh_plan.specs.Workers.{Rules}
 use Rattle.reh_plan.specs.declared.fewer.FewerRacks.{FewerRacks}
 use Rattle.reh_plan.proofs.FewerLaws.{before-told}
 use Rattle.reh_plan.proofs.NamedLaws.{named_on}
@@ -18,10 +19,10 @@ use Rattle.reh_plan.proofs.PlanLaws.{IsWithout-works}
 abbrev pub empty_draft : Cluster → Draft
 empty_draft s = record { opening = s; state = s; events = []; lines = [] }
 
-pub record IsPlanned (s : Cluster) (lost : Set numbers) (may : ℕ → Bool) (n : Draft) : Type 0 where
+pub record IsPlanned (s : Cluster) (lost : Set numbers) (rules : Rules) (n : Draft) : Type 0 where
   pub opening : n.opening ≡ s
   pub without : IsWithout s (set.contains lost) n.state
-  pub order : GoesOnBy may (losses_of s (set.contains lost) (length s.names)) n.events
+  pub order : GoesOnBy rules (losses_of s (set.contains lost) (length s.names)) n.events
   pub only : OnlyLeft s.names n.state n.lines
 
 -- a plan without a comment
@@ -33,9 +34,9 @@ only_commands d all =
     d.lines (AllPass-from_list_all (λ line. is_some (asked d.opening.names line)) d.lines all)
 
 -- bookies are lost, work is done, and what is left is named
-planned : (s : Cluster) (lost : Set numbers) (may : ℕ → Bool) (l w n : Draft) → Loses (empty_draft s) (set.contains lost) (losses_of s (set.contains lost) (length s.names)) l
-    → Works may l w → IsNaming w n → IsPlanned s lost may n
-planned s lost may l w n first then last =
+planned : (s : Cluster) (lost : Set numbers) (rules : Rules) (l w n : Draft) → Loses (empty_draft s) (set.contains lost) (losses_of s (set.contains lost) (length s.names)) l
+    → Works rules l w → IsNaming w n → IsPlanned s lost rules n
+planned s lost rules l w n first then last =
     let opening : w.opening ≡ s = then.opening ∙ first.opening in
     let all : is_all_asked w ≡ true = then.commands ∙ first.commands in
     record {
@@ -54,37 +55,37 @@ planned s lost may l w n first then last =
     }
 
 -- so a plan that begins without a line
-pub planned-alone : (s : Cluster) (lost : Set numbers) (may : ℕ → Bool) (d n : Draft) → d ≡ empty_draft s
-    → IsPlayed d (set.contains lost) may n → IsPlanned s lost may n
-planned-alone s lost may d n begun played =
-    planned s lost may played.lost played.repaired.works.worked n
+pub planned-alone : (s : Cluster) (lost : Set numbers) (rules : Rules) (d n : Draft) → d ≡ empty_draft s
+    → IsPlayed d (set.contains lost) rules n → IsPlanned s lost rules n
+planned-alone s lost rules d n begun played =
+    planned s lost rules played.lost played.repaired.works.worked n
     (subst (λ (b : Draft). Loses b (set.contains lost) (losses_of b.state (set.contains lost) (length b.state.names)) played.lost)
     begun played.loses)
     played.repaired.works.works played.repaired.works.naming
 
 -- what such a plan comes to, with comments on these fragments at its end
-pub record IsTold (s : Cluster) (lost : Set numbers) (may : ℕ → Bool) (fewer : List FewerRacks) (n : Draft) : Type 0 where
+pub record IsTold (s : Cluster) (lost : Set numbers) (rules : Rules) (fewer : List FewerRacks) (n : Draft) : Type 0 where
   pub opening : n.opening ≡ s
   pub without : IsWithout s (set.contains lost) n.state
-  pub order : GoesOnBy may (losses_of s (set.contains lost) (length s.names)) n.events
+  pub order : GoesOnBy rules (losses_of s (set.contains lost) (length s.names)) n.events
   pub named : AllNamed n.state n.lines n.state.parts.ledgers
   pub told : n.lines ≡ lines_before fewer n.lines ++ map racks_line fewer
   pub only : OnlyLeft s.names n.state (lines_before fewer n.lines)
-  pub ends : Ends may n.state (lines_before fewer n.lines)
+  pub ends : Ends rules n.state (lines_before fewer n.lines)
   pub harmless : IsHarmless s n.state
 
-pub told-alone : (s : Cluster) (lost : Set numbers) (may : ℕ → Bool) (d p n : Draft) (fewer : List FewerRacks) → d ≡ empty_draft s
-    → IsPlayed d (set.contains lost) may p → n ≡ record p { lines = p.lines ++ map racks_line fewer } → IsTold s lost may fewer n
-told-alone s lost may d p n fewer begun played told =
-    let done : IsPlanned s lost may p = planned-alone s lost may d p begun played in
+pub told-alone : (s : Cluster) (lost : Set numbers) (rules : Rules) (d p n : Draft) (fewer : List FewerRacks) → d ≡ empty_draft s
+    → IsPlayed d (set.contains lost) rules p → n ≡ record p { lines = p.lines ++ map racks_line fewer } → IsTold s lost rules fewer n
+told-alone s lost rules d p n fewer begun played told =
+    let done : IsPlanned s lost rules p = planned-alone s lost rules d p begun played in
     let before : lines_before fewer (p.lines ++ map racks_line fewer) ≡ p.lines = before-told fewer p.lines in
-    subst (IsTold s lost may fewer) (sym told) record {
+    subst (IsTold s lost rules fewer) (sym told) record {
       opening = done.opening;
       without = done.without;
       order = done.order;
       named = named_on p.state p.lines (map racks_line fewer) p.state.parts.ledgers played.repaired.works.naming.named;
       told = ap (λ (lines : List (List ℕ)). lines ++ map racks_line fewer) (sym before);
       only = subst (OnlyLeft s.names p.state) (sym before) done.only;
-      ends = subst (Ends may p.state) (sym before) played.repaired.ends;
+      ends = subst (Ends rules p.state) (sym before) played.repaired.ends;
       harmless = subst (λ (x : Draft). IsHarmless x.state p.state) begun played.harmless;
     }

@@ -1,9 +1,10 @@
 -- What a plan must not leave, where its script has room.
-use Rattle.std.specs.Prelude.{◌≡◌, ◌≢◌, ◌⊎◌, ℕ, ◌+◌, ◌≤◌, Bool, false, ◌&&◌, IsTrue, All, List, [], ◌∷◌, length, map, is_none, is_some, slice_get}
+use Rattle.std.specs.Prelude.{◌≡◌, ◌≢◌, ◌⊎◌, ℕ, ◌+◌, ◌≤◌, Bool, false, ◌&&◌, IsTrue, IsFalse, All, List, [], ◌∷◌, length, map, is_none, is_some, slice_get}
 use Rattle.std.specs.Prelude.{Option, None, Some}
 use Rattle.std.specs.List.{list_any}
 use Rattle.std.specs.Option.{option_map_or}
 use Rattle.reh_types.specs.declared.limits.TheConstants.{MAX_SCRIPT_BYTES}
+use Rattle.reh_types.specs.declared.moves.Event.TheVariants.{Roll}
 use Rattle.reh_types.specs.declared.names.LedgerState.{LedgerState}
 use Rattle.reh_types.specs.declared.names.LedgerState.TheVariants.{Open, InRecovery, Closed}
 use Rattle.reh_types.specs.declared.refusals.Refusal.{Refusal}
@@ -11,11 +12,12 @@ use Rattle.reh_types.specs.declared.refusals.Refusal.TheVariants.{NotRecovering}
 use Rattle.reh_model.specs.Audit.{first_under}
 use Rattle.reh_model.specs.Checks.{first_reason}
 use Rattle.reh_model.specs.Cluster.{Cluster, Ledger}
-use Rattle.reh_model.specs.Metadata.{is_in_recovery, last_fragment}
+use Rattle.reh_model.specs.Metadata.{is_in_recovery, is_open, last_fragment}
 use Rattle.reh_model.specs.Refusals.{no_place, no_source, not_needed, target_down, target_is_member}
 use Rattle.reh_model.specs.Refusals.{too_few, undecided, version_end}
-use Rattle.reh_model.specs.Step.{fenced_ledger}
+use Rattle.reh_model.specs.Step.{fenced_ledger, refusal_of}
 use Rattle.reh_lines.specs.Lines.{lines_of}
+use Rattle.reh_plan.specs.Workers.{Rules}
 use Rattle.reh_plan.specs.declared.plans.TheConstants.{COMMAND_ROOM}
 
 -- why the bookie can't take a place of the ledger, if it had the ledger's lock: it can't take that place, some entry can't be
@@ -53,9 +55,18 @@ recovery_refusal s b g =
 abbrev pub IsUnrecoverable : (ℕ → Bool) → Cluster → Ledger → Type 0
 IsUnrecoverable may s g = (b : ℕ) → IsTrue (may b) → recovery_refusal s b g ≢ None
 
--- nor any ledger
-abbrev pub IsRecovered : (ℕ → Bool) → Cluster → Type 0
-IsRecovered may s = All (IsUnrecoverable may s) s.parts.ledgers
+-- whether a ledger has a writer that changes its ensemble itself: it is open, and writers do so
+abbrev pub has_writer : Rules → Ledger → Bool
+has_writer rules g = rules.writers_roll && is_open g.metadata.state
+
+-- no bookie that may work can be put by its writer in the place of a missing member
+abbrev pub IsRolled : (ℕ → Bool) → Cluster → Ledger → Type 0
+IsRolled may s g = (b i : ℕ) → IsTrue (may b) → refusal_of s (Roll g.id i b) ≢ None
+
+-- nothing is left to do for the ledger's last ensemble: by its writer, if it has one, or else by a recovery
+pub record IsSettled (rules : Rules) (s : Cluster) (g : Ledger) : Type 0 where
+  pub rolled : IsTrue (has_writer rules g) → IsRolled rules.may s g
+  pub recovered : IsFalse (has_writer rules g) → IsUnrecoverable rules.may s g
 
 -- no task is locked
 abbrev pub IsUnlocked : Cluster → Type 0
@@ -92,12 +103,12 @@ pub record IsFull (lines : List (List ℕ)) : Type 0 where
   pub many : MAX_SCRIPT_BYTES ≤ length text + COMMAND_ROOM
 
 -- nothing is left that the bookies that may work could do
-pub record IsDone (may : ℕ → Bool) (s : Cluster) : Type 0 where
-  pub complete : IsComplete may s
-  pub recovered : IsRecovered may s
+pub record IsDone (rules : Rules) (s : Cluster) : Type 0 where
+  pub complete : IsComplete rules.may s
+  pub settled : All (IsSettled rules s) s.parts.ledgers
   pub unlocked : IsUnlocked s
   pub needed : IsNeeded s
 
 -- in t, the last state, nothing of that is left, unless the script is full
-abbrev pub Ends : (ℕ → Bool) → Cluster → List (List ℕ) → Type 0
-Ends may t lines = IsFull lines ⊎ IsDone may t
+abbrev pub Ends : Rules → Cluster → List (List ℕ) → Type 0
+Ends rules t lines = IsFull lines ⊎ IsDone rules t

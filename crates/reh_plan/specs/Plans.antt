@@ -20,6 +20,7 @@ use Rattle.reh_commands.specs.declared.commands.Command.{Command}
 use Rattle.reh_commands.specs.declared.commands.Command.TheVariants.{Make}
 use Rattle.reh_commands.specs.declared.commands.LineFault.{LineFault}
 use Rattle.reh_plan.specs.Ends.{Ends, IsHarmless}
+use Rattle.reh_plan.specs.Workers.{Rules}
 use Rattle.reh_plan.specs.declared.plans.Attempt.{Attempt}
 use Rattle.reh_plan.specs.declared.plans.Attempt.TheVariants.{Made, Refused, Unwritten}
 
@@ -91,27 +92,28 @@ loss_of s bookie = if is_up s bookie then Lose bookie ∷ [] else []
 abbrev pub losses_of : Cluster → (ℕ → Bool) → ℕ → List Event
 losses_of s is_lost n = flat_map (loss_of s) (filter is_lost (range_with_len 0 n))
 
--- whether an event is AutoRecovery's, by bookies that may work: no bookie is lost or joins, no writer changes an
--- ensemble, and who locks a task, recovers a ledger, copies or takes a place is one of them; whoever has a lock may give
--- it back, or end the task
-abbrev pub is_work_by : (ℕ → Bool) → Event → Bool
-is_work_by may Audit = true
-is_work_by may Enable = true
-is_work_by may (Tick ticks) = true
-is_work_by may (Release worker ledger) = true
-is_work_by may (Finish worker ledger) = true
-is_work_by may (Acquire worker ledger) = may worker
-is_work_by may (Grace worker ledger) = may worker
-is_work_by may (Fence worker ledger) = may worker
-is_work_by may (Seal worker ledger) = may worker
-is_work_by may (Copy worker ledger fragment index version) = may worker
-is_work_by may (Swap worker ledger fragment index version) = may worker
-is_work_by may other = false
+-- whether an event is AutoRecovery's, by bookies that may work: no bookie is lost or joins, and who locks a task, recovers a
+-- ledger, copies or takes a place is one of them; whoever has a lock may give it back, or end the task. A writer puts such a
+-- bookie into its ensemble only where writers do so, and then no ledger is fenced
+abbrev pub is_work_by : Rules → Event → Bool
+is_work_by rules Audit = true
+is_work_by rules Enable = true
+is_work_by rules (Tick ticks) = true
+is_work_by rules (Release worker ledger) = true
+is_work_by rules (Finish worker ledger) = true
+is_work_by rules (Acquire worker ledger) = rules.may worker
+is_work_by rules (Grace worker ledger) = rules.may worker && not rules.writers_roll
+is_work_by rules (Fence worker ledger) = rules.may worker && not rules.writers_roll
+is_work_by rules (Seal worker ledger) = rules.may worker
+is_work_by rules (Roll ledger index bookie) = rules.may bookie && rules.writers_roll
+is_work_by rules (Copy worker ledger fragment index version) = rules.may worker
+is_work_by rules (Swap worker ledger fragment index version) = rules.may worker
+is_work_by rules other = false
 
 -- after these events there is nothing but such work
-abbrev pub GoesOnBy : (ℕ → Bool) → List Event → List Event → Type 0
-GoesOnBy may before events =
-    (work : List Event) × (events ≡ before ++ work) × (list_all (is_work_by may) work ≡ true)
+abbrev pub GoesOnBy : Rules → List Event → List Event → Type 0
+GoesOnBy rules before events =
+    (work : List Event) × (events ≡ before ++ work) × (list_all (is_work_by rules) work ≡ true)
 
 -- whether an event has none but such bookies copy or take a place
 abbrev pub is_filled_by : (ℕ → Bool) → Event → Bool
@@ -132,10 +134,10 @@ abbrev pub is_all_asked : Draft → Bool
 is_all_asked d = list_all (λ line. is_some (asked d.opening.names line)) d.lines
 
 -- the plan goes on from d to n by commands alone: work of bookies that may do it, by which no registration changes
-pub record Works (may : ℕ → Bool) (d n : Draft) : Type 0 where
+pub record Works (rules : Rules) (d n : Draft) : Type 0 where
   pub opening : n.opening ≡ d.opening
   pub lost_at : n.state.parts.lost_at ≡ d.state.parts.lost_at
-  pub work : GoesOnBy may d.events n.events
+  pub work : GoesOnBy rules d.events n.events
   pub commands : is_all_asked n ≡ is_all_asked d
 
 -- the plan goes on from d to n by the commands of these losses alone, by which the bookies are lost
@@ -185,20 +187,20 @@ pub record IsNaming (d n : Draft) : Type 0 where
   pub only : OnlyLeft d.opening.names d.state d.lines → OnlyLeft n.opening.names n.state n.lines
 
 -- the plan goes on from d to n by such work, and then by comments on what is left
-pub record WorksAndNames (may : ℕ → Bool) (d n : Draft) : Type 0 where
+pub record WorksAndNames (rules : Rules) (d n : Draft) : Type 0 where
   pub worked : Draft
-  pub works : Works may d worked
+  pub works : Works rules d worked
   pub naming : IsNaming worked n
 
 -- and in the end nothing is left that could be done, where the script has room
-pub record IsRepaired (may : ℕ → Bool) (d n : Draft) : Type 0 where
-  pub works : WorksAndNames may d n
-  pub ends : Ends may n.state n.lines
+pub record IsRepaired (rules : Rules) (d n : Draft) : Type 0 where
+  pub works : WorksAndNames rules d n
+  pub ends : Ends rules n.state n.lines
 
 -- the plan goes on from d to n by the losses of these bookies, by AutoRecovery's work, and by comments on what is left; and no
 -- ledger was fenced and not recovered
-pub record IsPlayed (d : Draft) (is_lost : ℕ → Bool) (may : ℕ → Bool) (n : Draft) : Type 0 where
+pub record IsPlayed (d : Draft) (is_lost : ℕ → Bool) (rules : Rules) (n : Draft) : Type 0 where
   pub lost : Draft
   pub loses : Loses d is_lost (losses_of d.state is_lost (length d.state.names)) lost
-  pub repaired : IsRepaired may lost n
+  pub repaired : IsRepaired rules lost n
   pub harmless : IsHarmless d.state n.state

@@ -77,12 +77,16 @@ abbrev pub fewest_after : Racks → Metadata → Fragment → Metadata → Fragm
 fewest_after r m before n after =
     reduce min (map (racks_at r n after) (filter (is_fewer r m before n after) (range 0 n.size)))
 
+-- the fragment of that number; past the last one, the last one, from whose ensemble a writer goes on
+abbrev pub fragment_before : Metadata → ℕ → Option Fragment
+fragment_before m f = slice_get m.fragments (min f (length m.fragments - 1))
+
 -- the same of the fragment of that number, in the metadata before and after
 abbrev pub fewest_racks : Racks → Metadata → Metadata → ℕ → Option ℕ
 fewest_racks r m n f =
     option_map_or
     (λ before. option_map_or (λ after. fewest_after r m before n after) (slice_get n.fragments f) None)
-    (slice_get m.fragments f) None
+    (fragment_before m f) None
 
 -- how many write sets of the fragment stand in fewer racks than are asked for, with that bookie at the index
 abbrev pub lacking : Racks → Metadata → Fragment → ℕ → ℕ → ℕ

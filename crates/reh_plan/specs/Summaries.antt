@@ -4,7 +4,7 @@ use Rattle.std.specs.Prelude.{unwrap_or, codes, if◌then◌else◌}
 use Rattle.std.specs.List.{range_with_len}
 use Rattle.std.specs.Fmt.{decimal}
 use Rattle.reh_types.specs.declared.moves.Event.{Event}
-use Rattle.reh_types.specs.declared.moves.Event.TheVariants.{Swap}
+use Rattle.reh_types.specs.declared.moves.Event.TheVariants.{Roll, Swap}
 use Rattle.reh_model.specs.Contents.{count_held}
 use Rattle.reh_model.specs.Cluster.{Cluster}
 use Rattle.reh_model.specs.Survey.{survey}
@@ -16,6 +16,7 @@ use Rattle.reh_plan.specs.declared.summaries.Summary.{Summary}
 -- whether the bookie takes a place by the event
 abbrev pub is_place_of : ℕ → Event → Bool
 is_place_of bookie (Swap worker ledger fragment index version) = worker == bookie
+is_place_of bookie (Roll ledger index taker) = taker == bookie
 is_place_of bookie other = false
 
 -- how many places the bookie takes by these events

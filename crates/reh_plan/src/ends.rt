@@ -1,13 +1,14 @@
 // What a plan must not leave, where its script has room.
 ghost use Rattle.std.specs.Prelude.{◌≡◌, ◌≢◌, ℕ, false, IfOk, IfSome, IsFalse, IsTrue, None, OnOk, is_none, is_some};
+ghost use Rattle.reh_model.specs.Metadata as meta;
 ghost use Rattle.reh_model.specs.Metadata.{is_in_recovery};
 ghost use Rattle.reh_model.specs.Refusals.{no_place};
 ghost use Rattle.reh_plan.specs.Ends as model;
-ghost use Rattle.reh_plan.specs.Workers.{may_work};
 
 use crate::faults::PlanFault;
 use crate::plans::Plan;
 use crate::recoveries::can_recover;
+use crate::rolls::can_roll;
 use crate::workers::Workers;
 use reh_audit::under_of;
 use reh_cluster::{Ledger, State};
@@ -49,7 +50,7 @@ fn taker(
     fragment: usize,
     index: usize,
 ) -> Option<BookieIx>
-    ensures none { (b : ℕ) → result ≡ None → IsTrue (may_work workers.now b)
+    ensures none { (b : ℕ) → result ≡ None → IsTrue (workers.now.may b)
         → no_place state.now b ledger.now fragment index ≢ None }
     ensures some { IfSome result (λ b. no_place state.now b ledger.now fragment index ≡ None) }
 {
@@ -87,7 +88,7 @@ fn can_fill(
     fragment: usize,
     index: usize,
 ) -> bool
-    ensures { IsFalse result → model.IsFilled (may_work workers.now) state.now ledger.now fragment index }
+    ensures { IsFalse result → model.IsFilled workers.now.may state.now ledger.now fragment index }
 {
     match taker(state, workers, ledger, fragment, index) {
         Some(worker) => is_fill_accepted(state, ledger, &aim_at(worker, ledger, fragment, index)),
@@ -97,7 +98,7 @@ fn can_fill(
 
 /// The same of some place of a fragment.
 fn can_fill_fragment(state: &State, workers: &Workers, ledger: &Ledger, fragment: usize) -> bool
-    ensures { IsFalse result → (i : ℕ) → model.IsFilled (may_work workers.now) state.now ledger.now fragment i }
+    ensures { IsFalse result → (i : ℕ) → model.IsFilled workers.now.may state.now ledger.now fragment i }
 {
     for index in 0..ledger.metadata().size() as usize {
         if can_fill(state, workers, ledger, fragment, index) {
@@ -109,7 +110,7 @@ fn can_fill_fragment(state: &State, workers: &Workers, ledger: &Ledger, fragment
 
 /// The same of some place of a ledger.
 fn can_fill_ledger(state: &State, workers: &Workers, ledger: &Ledger) -> bool
-    ensures { IsFalse result → model.AllFilled (may_work workers.now) state.now ledger.now }
+    ensures { IsFalse result → model.AllFilled workers.now.may state.now ledger.now }
 {
     for fragment in 0..ledger.metadata().fragments().len() {
         if can_fill_fragment(state, workers, ledger, fragment) {
@@ -181,22 +182,52 @@ pub(crate) fn check_harmless(state: &State, recovering: &[bool]) -> Result<(), P
     }
 }
 
-/// Whether a ledger has a place that could be filled, could be recovered, is locked, or has a needless task.
+/// Whether something could be done for the ledger's last ensemble: by its writer, if it has one, or else by a recovery.
+fn can_settle(state: &State, workers: &Workers, ledger: &Ledger) -> bool
+    ensures { IsFalse result → model.IsSettled workers.now state.now ledger.now }
+{
+    if has_writer(workers, ledger) {
+        can_roll(state, workers, ledger.id())
+    } else {
+        can_recover(state, workers, ledger)
+    }
+}
+
+/// Whether the ledger has a writer that changes its ensemble itself.
+fn has_writer(workers: &Workers, ledger: &Ledger) -> bool
+    ensures { result ≡ model.has_writer workers.now ledger.now }
+{
+    workers.do_writers_roll() && is_open(ledger)
+}
+
+/// Whether a ledger is open.
+fn is_open(ledger: &Ledger) -> bool
+    ensures { result ≡ meta.is_open ledger.now.metadata.state }
+{
+    match ledger.metadata().state() {
+        LedgerState::Open => true,
+        LedgerState::InRecovery => false,
+        LedgerState::Closed { end: _ } => false,
+    }
+}
+
+/// Whether a ledger has a place that could be filled, could be given another ensemble or recovered, is locked, or has a
+/// needless task.
 fn is_unfinished(state: &State, workers: &Workers, ledger: &Ledger) -> bool
-    ensures filled { IsFalse result → model.AllFilled (may_work workers.now) state.now ledger.now }
-    ensures recovered { IsFalse result → model.IsUnrecoverable (may_work workers.now) state.now ledger.now }
+    ensures filled { IsFalse result → model.AllFilled workers.now.may state.now ledger.now }
+    ensures settled { IsFalse result → model.IsSettled workers.now state.now ledger.now }
     ensures unlocked { IsFalse result → is_some ledger.now.lock ≡ false }
     ensures needed { IsFalse result → model.is_needless state.now ledger.now ≡ false }
 {
     can_fill_ledger(state, workers, ledger)
-        || can_recover(state, workers, ledger)
+        || can_settle(state, workers, ledger)
         || ledger.lock().is_some()
         || is_needless(state, ledger)
 }
 
 /// Whether some ledger is unfinished.
 fn has_unfinished(state: &State, workers: &Workers) -> bool
-    ensures { IsFalse result → model.IsDone (may_work workers.now) state.now }
+    ensures { IsFalse result → model.IsDone workers.now state.now }
 {
     for ledger in state.ledgers() {
         if is_unfinished(state, workers, ledger) {
@@ -206,10 +237,10 @@ fn has_unfinished(state: &State, workers: &Workers) -> bool
     false
 }
 
-/// Checks that a plan leaves no place that could be filled, no ledger that could be recovered, no lock and no needless task,
-/// where its script has room.
+/// Checks that a plan leaves no place that could be filled, no ledger that could be given another ensemble or recovered, no
+/// lock and no needless task, where its script has room.
 pub(crate) fn check_end(plan: &Plan, workers: &Workers) -> Result<(), PlanFault>
-    ensures { OnOk result (model.Ends (may_work workers.now) plan.now.state plan.now.lines) }
+    ensures { OnOk result (model.Ends workers.now plan.now.state plan.now.lines) }
 {
     if !plan.is_full() && has_unfinished(plan.state(), workers) {
         return Err(PlanFault::Unfinished);

@@ -11,6 +11,7 @@ mod plans;
 mod racks;
 mod recoveries;
 mod repairs;
+mod rolls;
 mod runbooks;
 mod summaries;
 mod workers;

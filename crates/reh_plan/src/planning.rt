@@ -12,7 +12,7 @@ ghost use Rattle.reh_plan.specs.Ends.{Ends, IsHarmless};
 ghost use Rattle.reh_plan.specs.Plans.{is_filled_by};
 ghost use Rattle.reh_plan.specs.Summaries.{IsSum, holdings_of};
 ghost use Rattle.reh_plan.specs.Racks as model;
-ghost use Rattle.reh_plan.specs.Workers.{can_work, may_work};
+ghost use Rattle.reh_plan.specs.Workers.{Rules, can_work, rules_of};
 
 use crate::ends::{check_end, check_harmless, recovering_in};
 use crate::faults::{PlanFault, Reason, first_reason};
@@ -65,6 +65,7 @@ pub fn plan(
     allowed: &BookieSet,
     read_only: &BookieSet,
     racks: &Racks,
+    writers_roll: bool,
 ) -> Result<Planned, PlanFault>
     ensures opening { IfOk result (λ p. p.plan.opening ≡ state) }
     ensures asks { IfOk result (λ p. Asks state.names p.plan.lines p.plan.events) }
@@ -73,23 +74,31 @@ pub fn plan(
         transcript state.names 0 (starting (new_book (opened_session state))) 1 p.plan.lines
         ≡ ok_answers state.names 1 p.plan.lines) }
     ensures lost { IfOk result (λ p. IsWithout state (set.contains lost.now) p.plan.state) }
-    ensures order { IfOk result (λ p. GoesOnBy (may_work (allowed.now, read_only.now))
+    ensures order { IfOk result (λ p. GoesOnBy (rules_of allowed.now read_only.now writers_roll)
         (losses_of state (set.contains lost.now) (length state.names)) p.plan.events) }
     ensures filled { IfOk result (λ p. list_all
-        (is_filled_by (can_work (may_work (allowed.now, read_only.now)) p.plan.state)) p.plan.events ≡ true) }
+        (is_filled_by (can_work (rules_of allowed.now read_only.now writers_roll).may p.plan.state)) p.plan.events ≡ true) }
     ensures named { IfOk result (λ p. AllNamed p.plan.state p.plan.lines p.plan.state.parts.ledgers) }
     ensures racks { IfOk result (λ p. p.fewer.items ≡ model.fewer_racks racks.now state p.plan.state) }
     ensures told { IfOk result (λ p.
         p.plan.lines ≡ model.lines_before p.fewer.items p.plan.lines ++ map model.racks_line p.fewer.items) }
     ensures only { IfOk result (λ p.
         OnlyLeft state.names p.plan.state (model.lines_before p.fewer.items p.plan.lines)) }
-    ensures ends { IfOk result (λ p. Ends (may_work (allowed.now, read_only.now)) p.plan.state
+    ensures ends { IfOk result (λ p. Ends (rules_of allowed.now read_only.now writers_roll) p.plan.state
         (model.lines_before p.fewer.items p.plan.lines)) }
     ensures harmless { IfOk result (λ p. IsHarmless state p.plan.state) }
     ensures sum { IfOk result (λ p. IsSum p.plan p.summary) }
 {
     let mut plan = Plan::begin(alloc, state)?;
-    let (fewer, summary) = play_and_tell(alloc, &mut plan, lost, allowed, read_only, racks)?;
+    let (fewer, summary) = play_and_tell(
+        alloc,
+        &mut plan,
+        lost,
+        allowed,
+        read_only,
+        racks,
+        writers_roll,
+    )?;
     let _checked = plan.text();
     Ok(Planned {
         plan,
@@ -107,18 +116,19 @@ fn play_and_tell(
     allowed: &BookieSet,
     read_only: &BookieSet,
     racks: &Racks,
+    writers_roll: bool,
 ) -> Result<(Vec<FewerRacks>, Summary), PlanFault>
     requires begins { plan.old.state ≡ plan.old.opening }
     ensures racks { IfOk result (λ told.
         told.0.items ≡ model.fewer_racks racks.now plan.old.state plan.new.state) }
     ensures played { IfOk result (λ told. (p : Draft)
-        × IsPlayed plan.old (set.contains lost.now) (may_work (allowed.now, read_only.now)) p
+        × IsPlayed plan.old (set.contains lost.now) (rules_of allowed.now read_only.now writers_roll) p
         × (plan.new ≡ record p { lines = p.lines ++ map model.racks_line told.0.items })) }
     ensures sum { IfOk result (λ told. IsSum plan.new told.1) }
 {
     let held = holdings_of(alloc, plan.state())?;
     let before = metadata_of(alloc, plan.state())?;
-    play(alloc, plan, lost, allowed, read_only, racks)?;
+    play(alloc, plan, lost, allowed, read_only, racks, writers_roll)?;
     told(alloc, plan, racks, &before, &held)
 }
 
@@ -152,13 +162,14 @@ fn play(
     allowed: &BookieSet,
     read_only: &BookieSet,
     racks: &Racks,
+    writers_roll: bool,
 ) -> Result<(), PlanFault>
     ensures { OnOk result
-        (IsPlayed plan.old (set.contains lost.now) (may_work (allowed.now, read_only.now)) plan.new) }
+        (IsPlayed plan.old (set.contains lost.now) (rules_of allowed.now read_only.now writers_roll) plan.new) }
 {
     let recovering = recovering_in(alloc, plan.state())?;
     lose_all(plan, lost)?;
-    repair_all(alloc, plan, allowed, read_only, racks)?;
+    repair_all(alloc, plan, allowed, read_only, racks, writers_roll)?;
     check_harmless(plan.state(), &recovering)?;
     Ok(())
 }
@@ -170,11 +181,13 @@ fn repair_all(
     allowed: &BookieSet,
     read_only: &BookieSet,
     racks: &Racks,
+    writers_roll: bool,
 ) -> Result<(), PlanFault>
-    ensures { OnOk result (IsRepaired (may_work (allowed.now, read_only.now)) plan.old plan.new) }
+    ensures { OnOk result (IsRepaired (rules_of allowed.now read_only.now writers_roll) plan.old plan.new) }
 {
+    let mut workers = Workers::of(alloc, plan.state(), allowed, read_only, racks, writers_roll)?;
+    roll_all(plan, &mut workers)?;
     publish(plan)?;
-    let mut workers = Workers::of(alloc, plan.state(), allowed, read_only, racks)?;
     grant_all(plan, &workers)?;
     work_and_name(alloc, plan, &mut workers)?;
     check_end(plan, &workers)?;
@@ -183,7 +196,7 @@ fn repair_all(
 
 /// Does what can be done for each ledger with a task, and names what is left.
 fn work_and_name(alloc: Global, plan: &mut Plan, workers: &mut Workers) -> Result<(), PlanFault>
-    ensures names { OnOk result (WorksAndNames (may_work workers.old) plan.old plan.new) }
+    ensures names { OnOk result (WorksAndNames workers.old plan.old plan.new) }
     ensures workers { workers.new ≡ workers.old }
 {
     let reasons = work_all(alloc, plan, workers)?;
@@ -208,7 +221,7 @@ fn lose_all(plan: &mut Plan, lost: &BookieSet) -> Result<(), PlanFault>
 
 /// Has the auditor publish what is missing, once the delay for lost bookies is over. Where nothing is, nothing happens.
 fn publish(plan: &mut Plan) -> Result<(), PlanFault>
-    ensures { (may : ℕ → Bool) → Works may plan.old plan.new }
+    ensures { (rules : Rules) → Works rules plan.old plan.new }
 {
     plan.wait(ticks_to_publish(plan.state()))?;
     if !plan.state().is_enabled() {
@@ -231,12 +244,35 @@ fn ticks_to_publish(state: &State) -> u64 {
     ticks
 }
 
-/// Grants a grace to the writers of all open ledgers that need another bookie, and waits until it is over.
-fn grant_all(plan: &mut Plan, workers: &Workers) -> Result<(), PlanFault>
-    ensures { Works (may_work workers.now) plan.old plan.new }
+/// Has the writers of all open ledgers put other bookies in the place of missing members, where writers do so.
+fn roll_all(plan: &mut Plan, workers: &mut Workers) -> Result<(), PlanFault>
+    ensures works { Works workers.old plan.old plan.new }
+    ensures workers { workers.new ≡ workers.old }
 {
     // The check of this loop has to meet the types of what stops a step by their names.
     let _stop: Option<(Reason, Refusal, Event)> = None;
+    if !workers.do_writers_roll() {
+        return Ok(());
+    }
+    for place in 0..plan.state().ledgers().len() {
+        if let Some(repair) = repair_at(plan.state(), place) {
+            let rolled = repair.roll(plan, workers);
+            first_reason(None, rolled)?;
+        }
+    }
+    Ok(())
+}
+
+/// Grants a grace to the writers of all open ledgers that need another bookie, and waits until it is over. Where writers put
+/// other bookies into their ensembles themselves, nothing happens.
+fn grant_all(plan: &mut Plan, workers: &Workers) -> Result<(), PlanFault>
+    ensures { Works workers.now plan.old plan.new }
+{
+    // The check of this loop has to meet the types of what stops a step by their names.
+    let _stop: Option<(Reason, Refusal, Event)> = None;
+    if workers.do_writers_roll() {
+        return Ok(());
+    }
     for place in 0..plan.state().ledgers().len() {
         if let Some(repair) = repair_at(plan.state(), place) {
             let granted = repair.grant(plan, workers);
@@ -265,7 +301,7 @@ fn work_all(
     plan: &mut Plan,
     workers: &mut Workers,
 ) -> Result<Vec<Option<Reason>>, PlanFault>
-    ensures works { Works (may_work workers.old) plan.old plan.new }
+    ensures works { Works workers.old plan.old plan.new }
     ensures workers { workers.new ≡ workers.old }
 {
     // The check of this loop has to meet the types of what stops a step by their names.
@@ -294,7 +330,7 @@ fn work_at(
     workers: &mut Workers,
     place: usize,
 ) -> Result<Option<Reason>, PlanFault>
-    ensures works { Works (may_work workers.old) plan.old plan.new }
+    ensures works { Works workers.old plan.old plan.new }
     ensures workers { workers.new ≡ workers.old }
 {
     let Some(repair) = repair_at(plan.state(), place) else {

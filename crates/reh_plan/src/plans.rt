@@ -1,6 +1,6 @@
 // A plan as it grows: a script beside the session on which its commands are made.
 ghost use Rattle.std.specs.Prelude.{◌≡◌, ◌==◌, ◌+◌, ◌≤◌, ◌∷◌, ◌++◌, [], true, false, not, length, IfOk, OnOk, OnErr, MatchResult, None, Some, Ok};
-ghost use Rattle.std.specs.Prelude.{ℕ, Bool, IsTrue};
+ghost use Rattle.std.specs.Prelude.{IsTrue};
 ghost use Rattle.reh_types.specs.declared.limits.TheConstants.{MAX_SCRIPT_BYTES};
 ghost use Rattle.reh_model.specs.Book.{new_book};
 ghost use Rattle.reh_model.specs.Session.{replay, opened_session};
@@ -12,6 +12,7 @@ ghost use Rattle.reh_transcript.specs.Transcript.{starting, transcript};
 ghost use Rattle.reh_plan.specs.Replies.{ok_answers};
 ghost use Rattle.reh_plan.specs.Ends.{IsFull};
 ghost use Rattle.reh_plan.specs.Plans.{Asks, IsMade, Makes, Works, Loses, is_nobodys, has_lf, loss_of, IsLeaving};
+ghost use Rattle.reh_plan.specs.Workers.{Rules};
 
 use crate::faults::{PlanFault, Reason, StepFault};
 use reh_cluster::{Names, State};
@@ -150,7 +151,7 @@ impl Plan {
 
     /// Waits so many ticks, if any.
     pub(crate) fn wait(&mut self, ticks: u64) -> Result<(), PlanFault>
-        ensures { (may : ℕ → Bool) → Works may self.old self.new }
+        ensures { (rules : Rules) → Works rules self.old self.new }
     {
         if ticks == 0 {
             return Ok(());
@@ -161,7 +162,7 @@ impl Plan {
     /// Makes an event of no bookie and writes its command, where that can be done.
     pub(crate) fn attempt(&mut self, event: &Event) -> Result<(), PlanFault>
         requires { is_nobodys event.now ≡ true }
-        ensures { (may : ℕ → Bool) → Works may self.old self.new }
+        ensures { (rules : Rules) → Works rules self.old self.new }
     {
         match self.work(event) {
             Err(StepFault::Fault(fault)) => Err(fault),

@@ -64,7 +64,7 @@ impl Racks {
     }
 
     /// Of the write sets of a fragment that may stand in fewer racks than before, and stand in fewer than are asked for, the
-    /// least number of racks, if there are any.
+    /// least number of racks, if there are any. A new fragment is compared with the last one before.
     pub(crate) fn fewest(
         &self,
         before: &LedgerMeta,
@@ -73,7 +73,7 @@ impl Racks {
     ) -> Option<usize>
         ensures { result ≡ model.fewest_racks self.now before.now after.now fragment }
     {
-        let old = before.fragments().get(fragment)?;
+        let old = fragment_before(before, fragment)?;
         let new = after.fragments().get(fragment)?;
         if have_same_copies(before, old, after, new) {
             return None;
@@ -228,6 +228,14 @@ fn is_in_rack(rack: &str, other: &Option<&str>) -> bool
 }
 
 // Racks of write sets
+
+/// The fragment of that number; past the last one, the last one, from whose ensemble a writer goes on.
+fn fragment_before(metadata: &LedgerMeta, fragment: usize) -> Option<&Fragment>
+    ensures { result ≡ model.fragment_before metadata.now fragment }
+{
+    let last = metadata.fragments().len().saturating_sub(1);
+    metadata.fragments().get(fragment.min(last))
+}
 
 /// Whether the fragment has the same members as before, in metadata of the same sizes, so that each entry has the same
 /// copies.

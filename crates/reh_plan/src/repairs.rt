@@ -1,15 +1,16 @@
 // What is done for one ledger, as AutoRecovery does it: its lock, the recovery of an open one, and the places of missing
 // members.
-ghost use Rattle.std.specs.Prelude.{◌≡◌, ℕ, Bool, IfOk, IfSome, true};
+ghost use Rattle.std.specs.Prelude.{◌≡◌, IfOk, IfSome, false, true};
 ghost use Rattle.reh_plan.specs.Plans.{Works};
-ghost use Rattle.reh_plan.specs.Workers.{can_work, may_work};
+ghost use Rattle.reh_plan.specs.Workers.{Rules, can_work};
 
 use crate::faults::{PlanFault, Reason, StepFault, first_reason};
 use crate::plans::Plan;
 use crate::workers::{Workers, owner_of};
 use reh_cluster::{Ledger, State};
 use reh_meta::Fragment;
-use reh_types::{BookieIx, Event, LedgerId, LedgerState, Refusal};
+use reh_scan::{last_fragment, next_entry};
+use reh_types::{BookieIx, Event, LedgerId, LedgerState, MAX_ENSEMBLE_SIZE, Refusal};
 use std::alloc::{AllocError, Global};
 
 /// A ledger to be repaired, by its place in the picture, and its id.
@@ -56,6 +57,27 @@ impl Repair {
         Some((unclosed, last, index))
     }
 
+    /// The place at the index of the last ensemble, if the ledger is open and the member there isn't registered; with about as
+    /// many entries as that member has of the last fragment.
+    fn gap_to_roll(&self, state: &State, index: usize) -> Option<Gap> {
+        let ledger = self.ledger_in(state)?;
+        let metadata = ledger.metadata();
+        let last = last_fragment(ledger);
+        let member = last.ensemble.get(index)?;
+        if metadata.state() != LedgerState::Open || state.is_up(*member) {
+            return None;
+        }
+        Some(Gap {
+            fragment: metadata.fragments().len().checked_sub(1)?,
+            index,
+            entries: share(
+                next_entry(state, ledger).saturating_sub(last.first),
+                metadata.write_quorum(),
+                metadata.size(),
+            ),
+        })
+    }
+
     /// The places of missing members.
     fn gaps(&self, alloc: Global, state: &State) -> Result<Vec<Gap>, AllocError> {
         let mut gaps = Vec::new(alloc);
@@ -91,8 +113,8 @@ impl Repair {
         fragment: usize,
         index: usize,
     ) -> Result<BookieIx, StepFault>
-        ensures works { Works (may_work workers.now) plan.old plan.new }
-        ensures worker { IfOk result (λ worker. may_work workers.now worker ≡ true) }
+        ensures works { Works workers.now plan.old plan.new }
+        ensures worker { IfOk result (λ worker. workers.now.may worker ≡ true) }
     {
         let Some(worker) = self.worker(plan.state(), workers, fragment, index) else {
             let fragment = fragment as u64;
@@ -119,14 +141,15 @@ impl Repair {
         fragment: usize,
         index: usize,
     ) -> Option<BookieIx>
-        ensures { IfSome result (λ worker. can_work (may_work workers.now) state.now worker ≡ true) }
+        ensures { IfSome result (λ worker. can_work workers.now.may state.now worker ≡ true) }
     {
         workers.choose(state, self.ledger_in(state)?, fragment, index)
     }
 
     /// Grants the writer of an open ledger its grace, if it needs another bookie.
     pub(crate) fn grant(&self, plan: &mut Plan, workers: &Workers) -> Result<(), StepFault>
-        ensures { Works (may_work workers.now) plan.old plan.new }
+        requires { workers.now.writers_roll ≡ false }
+        ensures { Works workers.now plan.old plan.new }
     {
         // The check of this function has to meet the types of what stops a step by their names.
         let _stop: Option<(Reason, Refusal)> = None;
@@ -141,28 +164,102 @@ impl Repair {
         plan.work(&Event::Grace { worker, ledger })
     }
 
-    /// Recovers a ledger that isn't closed, if some member of its last ensemble isn't registered. An open one is fenced only
+    /// Does what can be done for a ledger that isn't closed, if some member of its last ensemble isn't registered: its writer
+    /// puts others into the ensemble, where writers do so, or else it is recovered.
+    fn settle(&self, plan: &mut Plan, workers: &mut Workers) -> Result<(), StepFault>
+        ensures works { Works workers.old plan.old plan.new }
+        ensures workers { workers.new ≡ workers.old }
+    {
+        match self.unclosed(plan.state()) {
+            None => Ok(()),
+            Some((LedgerState::Open, last, index)) => {
+                if workers.do_writers_roll() {
+                    self.roll(plan, workers)
+                } else {
+                    self.recover(plan, workers, last, index)
+                }
+            }
+            Some((_, last, index)) => self.seal(plan, workers, last, index),
+        }
+    }
+
+    /// Recovers an open ledger, for which the member at the index of its last fragment isn't registered. It is fenced only
     /// where its recovery is accepted then.
-    fn close(&self, plan: &mut Plan, workers: &Workers) -> Result<(), StepFault>
-        ensures { Works (may_work workers.now) plan.old plan.new }
+    fn recover(
+        &self,
+        plan: &mut Plan,
+        workers: &Workers,
+        last: usize,
+        index: usize,
+    ) -> Result<(), StepFault>
+        requires { workers.now.writers_roll ≡ false }
+        ensures { Works workers.now plan.old plan.new }
     {
         // The check of this function has to meet the types of what stops a step by their names.
         let _stop: Option<(Reason, Refusal)> = None;
-        let Some((state, last, index)) = self.unclosed(plan.state()) else {
-            return Ok(());
-        };
         let worker = self.lock(plan, workers, last, index)?;
         let ledger = self.ledger;
-        if state == LedgerState::Open {
-            plan.check_recovery(worker, ledger)?;
-            plan.work(&Event::Fence { worker, ledger })?;
-        }
+        plan.check_recovery(worker, ledger)?;
+        plan.work(&Event::Fence { worker, ledger })?;
         plan.work(&Event::Seal { worker, ledger })
+    }
+
+    /// Closes a ledger that was fenced.
+    fn seal(
+        &self,
+        plan: &mut Plan,
+        workers: &Workers,
+        last: usize,
+        index: usize,
+    ) -> Result<(), StepFault>
+        ensures { Works workers.now plan.old plan.new }
+    {
+        // The check of this function has to meet the types of what stops a step by their names.
+        let _stop: Option<(Reason, Refusal)> = None;
+        let worker = self.lock(plan, workers, last, index)?;
+        let ledger = self.ledger;
+        plan.work(&Event::Seal { worker, ledger })
+    }
+
+    /// Has the writer of an open ledger put other bookies in the place of the last ensemble's missing members.
+    pub(crate) fn roll(&self, plan: &mut Plan, workers: &mut Workers) -> Result<(), StepFault>
+        requires { workers.old.writers_roll ≡ true }
+        ensures works { Works workers.old plan.old plan.new }
+        ensures workers { workers.new ≡ workers.old }
+    {
+        // The check of this loop has to meet the types of what stops a step by their names.
+        let _stop: Option<(Reason, Refusal)> = None;
+        for index in 0..MAX_ENSEMBLE_SIZE as usize {
+            self.roll_at(plan, workers, index)?;
+        }
+        Ok(())
+    }
+
+    /// Has the writer put another bookie at the index of the last ensemble, if the ledger is open and that member isn't
+    /// registered.
+    fn roll_at(&self, plan: &mut Plan, workers: &mut Workers, index: usize) -> Result<(), StepFault>
+        requires { workers.old.writers_roll ≡ true }
+        ensures works { Works workers.old plan.old plan.new }
+        ensures workers { workers.new ≡ workers.old }
+    {
+        let Some(gap) = self.gap_to_roll(plan.state(), index) else {
+            return Ok(());
+        };
+        let Some(bookie) = self.worker(plan.state(), workers, gap.fragment, index) else {
+            let fragment = gap.fragment as u64;
+            return Err(StepFault::Left(Reason::NoWorker { fragment }));
+        };
+        workers.add(bookie, gap.entries);
+        plan.work(&Event::Roll {
+            ledger: self.ledger,
+            index: index as u64,
+            bookie,
+        })
     }
 
     /// Has a worker copy the entries of a missing member's place, and take it.
     fn fill(&self, plan: &mut Plan, workers: &mut Workers, gap: &Gap) -> Result<(), StepFault>
-        ensures works { Works (may_work workers.old) plan.old plan.new }
+        ensures works { Works workers.old plan.old plan.new }
         ensures workers { workers.new ≡ workers.old }
     {
         // The check of this function has to meet the types of what stops a step by their names.
@@ -196,13 +293,13 @@ impl Repair {
         plan: &mut Plan,
         workers: &mut Workers,
     ) -> Result<Option<Reason>, PlanFault>
-        ensures works { Works (may_work workers.old) plan.old plan.new }
+        ensures works { Works workers.old plan.old plan.new }
         ensures workers { workers.new ≡ workers.old }
     {
         // The check of this loop has to meet the types of what stops a step by their names.
         let _stop: Option<(Reason, Refusal, Event)> = None;
-        let closed = self.close(plan, workers);
-        let mut left = first_reason(None, closed)?;
+        let settled = self.settle(plan, workers);
+        let mut left = first_reason(None, settled)?;
         let gaps = self.gaps(alloc, plan.state())?;
         for gap in &gaps {
             let filled = self.fill(plan, workers, gap);
@@ -214,7 +311,7 @@ impl Repair {
 
     /// Ends the task, if that can be done, or else gives the lock back.
     fn end(&self, plan: &mut Plan) -> Result<(), StepFault>
-        ensures { (may : ℕ → Bool) → Works may plan.old plan.new }
+        ensures { (rules : Rules) → Works rules plan.old plan.new }
     {
         let Some(worker) = self.owner(plan.state()) else {
             return Ok(());

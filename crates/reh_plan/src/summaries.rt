@@ -153,6 +153,7 @@ fn is_place_of(event: &Event, bookie: BookieIx) -> bool
 {
     match event {
         Event::Swap { worker, .. } => *worker == bookie,
+        Event::Roll { bookie: taker, .. } => *taker == bookie,
         _ => false,
     }
 }

@@ -1,7 +1,7 @@
 // Who takes the places of missing members.
 ghost use Rattle.std.specs.Prelude.{◌≡◌, true, not, ◌&&◌, IfOk, IfSome};
 ghost use Rattle.reh_types.specs.Sets as set;
-ghost use Rattle.reh_plan.specs.Workers.{can_work, may_work};
+ghost use Rattle.reh_plan.specs.Workers.{can_work, rules_of};
 
 use crate::racks::Racks;
 use reh_cluster::{Ledger, State};
@@ -10,8 +10,8 @@ use reh_types::{BookieIx, BookieSet, MAX_BOOKIES};
 use std::alloc::{AllocError, Global};
 use std::marker::Model;
 
-/// The bookies that may take places, which are those that are allowed to and can be written to, and how much each bookie
-/// holds. Contracts see both sets.
+/// The bookies that may take places, which are those that are allowed to and can be written to, whether writers put them into
+/// their ensembles, and how much each bookie holds. Contracts see the rules.
 #[derive(Drop)]
 pub(crate) struct Workers {
     allowed: BookieSet,
@@ -20,14 +20,15 @@ pub(crate) struct Workers {
     /// copied since.
     loads: Vec<u64>,
     racks: Racks,
+    writers_roll: bool,
 }
 
 impl Model for Workers {
-    ghost use Rattle.reh_types.specs.Sets.{Set, numbers};
+    ghost use Rattle.reh_plan.specs.Workers.{Rules, rules_of};
 
-    ghost Value = { Set numbers × Set numbers };
+    ghost Value = { Rules };
 
-    ghost view = { λ workers. (workers.allowed, workers.read_only) };
+    ghost view = { λ workers. rules_of workers.allowed workers.read_only workers.writers_roll };
 }
 
 /// The place of a missing member, and who has the lock of its ledger.
@@ -62,15 +63,17 @@ impl Candidate {
 }
 
 impl Workers {
-    /// With what the bookies hold now. Only those that are allowed take places, and none that is read-only.
+    /// With what the bookies hold now. Only those that are allowed take places, and none that is read-only. Writers put them
+    /// into their ensembles only if `writers_roll` is set.
     pub(crate) fn of(
         alloc: Global,
         state: &State,
         allowed: &BookieSet,
         read_only: &BookieSet,
         racks: &Racks,
+        writers_roll: bool,
     ) -> Result<Workers, AllocError>
-        ensures { IfOk result (λ workers. workers ≡ (allowed.now, read_only.now)) }
+        ensures { IfOk result (λ workers. workers ≡ rules_of allowed.now read_only.now writers_roll) }
     {
         let mut loads = Vec::new(alloc);
         for number in 0..MAX_BOOKIES as u8 {
@@ -81,6 +84,7 @@ impl Workers {
             read_only: read_only.copied(),
             loads,
             racks: racks.clone_in()?,
+            writers_roll,
         })
     }
 
@@ -94,7 +98,7 @@ impl Workers {
         fragment: usize,
         index: usize,
     ) -> Option<BookieIx>
-        ensures { IfSome result (λ worker. can_work (may_work self.now) state.now worker ≡ true) }
+        ensures { IfSome result (λ worker. can_work self.now.may state.now worker ≡ true) }
     {
         let members = members_of(ledger.metadata().fragments().get(fragment)?);
         let owner = owner_of(ledger);
@@ -115,7 +119,7 @@ impl Workers {
 
     /// Of the bookies that can join these members, the first candidate for the place.
     fn first_candidate(&self, state: &State, place: &Place, members: &BookieSet) -> Option<BookieIx>
-        ensures { IfSome result (λ worker. can_work (may_work self.now) state.now worker ≡ true) }
+        ensures { IfSome result (λ worker. can_work self.now.may state.now worker ≡ true) }
     {
         let all_members = all_members_of(place.metadata);
         let mut first: Option<Candidate> = None;
@@ -160,16 +164,23 @@ impl Workers {
 
     /// Whether the bookie may take places, is registered, and is none of these members.
     fn can_join(&self, state: &State, worker: BookieIx, members: &BookieSet) -> bool
-        ensures { result ≡ (can_work (may_work self.now) state.now worker && not (set.contains members.now worker)) }
+        ensures { result ≡ (can_work self.now.may state.now worker && not (set.contains members.now worker)) }
     {
         self.is_able(worker) && state.is_up(worker) && !members.contains(worker)
     }
 
     /// Whether the bookie may take places.
     pub(crate) fn is_able(&self, worker: BookieIx) -> bool
-        ensures { result ≡ may_work self.now worker }
+        ensures { result ≡ self.now.may worker }
     {
         self.allowed.contains(worker) && !self.read_only.contains(worker)
+    }
+
+    /// Whether writers put such bookies into their ensembles.
+    pub(crate) fn do_writers_roll(&self) -> bool
+        ensures { result ≡ self.now.writers_roll }
+    {
+        self.writers_roll
     }
 
     /// Notes that the bookie holds so many entries more.

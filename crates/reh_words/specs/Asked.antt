@@ -192,6 +192,7 @@ pub record IsPlan (given : ArgMatches) (words : PlanWords) : Type 0 where
   pub number : Option ℕ
   pub is_number : IsNumber given (codes "min-racks") number
   pub in_racks : words.min_racks ≡ unwrap_or number 2
+  pub writers : IsFlag given (codes "writers-roll") words.writers_roll
   pub is_sum : IsFlag given (codes "summary") words.only_sums
   pub prints : words.as_json ≡ is_json given
   pub expects : IsFlag given (codes "expect") words.expects

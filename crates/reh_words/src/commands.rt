@@ -247,6 +247,11 @@ static PLAN: CommandRow = CommandRow {
             takes: Takes::Number("RACKS", MAX_ENSEMBLE_SIZE as i64),
             help: "In how many racks each entry's copies are to be; by default 2",
         },
+        ArgRow {
+            name: "writers-roll",
+            takes: Takes::Nothing,
+            help: "Writers are up: they change their ensembles, and no ledger is fenced",
+        },
         AFTER,
         ArgRow {
             name: "expect",

@@ -135,6 +135,7 @@ fn asked_plan<'a>(alloc: Global, given: &ArgMatches<'a>) -> Result<Option<Task<'
         lost,
         allowed,
         min_racks: number_of(given, "min-racks").unwrap_or(MIN_RACKS) as usize,
+        writers_roll: is_given(given, "writers-roll"),
         only_sums: is_given(given, "summary"),
         as_json: is_json(given),
         expects: is_given(given, "expect"),

@@ -184,6 +184,8 @@ pub struct PlanWords<'a> {
     pub allowed: Vec<&'a str>,
     /// In how many racks the copies of an entry are to stand.
     pub min_racks: usize,
+    /// Whether writers put other bookies into their ensembles themselves, so that no ledger is fenced.
+    pub writers_roll: bool,
     pub only_sums: bool,
     /// Whether only what it comes to is to be printed, as JSON.
     pub as_json: bool,

@@ -20,7 +20,7 @@ use Rattle.reh_plan.specs.Plans.{GoesOnBy, IsWithout, losses_of}
 use Rattle.reh_plan.specs.Racks.{Racks, fewer_racks, racks_named}
 use Rattle.reh_plan.specs.Runbooks.{runbook_lines}
 use Rattle.reh_plan.specs.Summaries.{IsSum, is_whole, summary_text}
-use Rattle.reh_plan.specs.Workers.{may_work}
+use Rattle.reh_plan.specs.Workers.{rules_of}
 use Rattle.reh_plan.specs.declared.planning.Planned.{Planned}
 use Rattle.reh_words.specs.declared.tasks.PlanWords.{PlanWords}
 use Rattle.rehearse.specs.Inputs.{IsAfterSome}
@@ -47,13 +47,15 @@ pub record IsAsked (bytes : List ℕ) (names : List (List ℕ)) (words : PlanWor
   pub allowed : AreAllowed names words.allowed.items asked.allowed
   pub read_only : (b : ℕ) → set.contains asked.read_only b ≡ is_read_only listed.marks.items b
   pub racks : asked.racks ≡ racks_of listed.marks.items words.min_racks
+  pub writers : asked.writers_roll ≡ words.writers_roll
 
--- a plan for a cluster, without the lost bookies, by those that may work and aren't read-only
+-- a plan for a cluster, without the lost bookies, by those that may work and aren't read-only; where writers change their
+-- ensembles themselves, by them too, and without a fence
 pub record IsPlan (state : Cluster) (asked : Asked) (p : Planned) : Type 0 where
   pub opening : p.plan.opening ≡ state
   pub accepted : replay state p.plan.events ≡ Some p.plan.state
   pub without : IsWithout state (set.contains asked.lost) p.plan.state
-  pub order : GoesOnBy (may_work (asked.allowed, asked.read_only))
+  pub order : GoesOnBy (rules_of asked.allowed asked.read_only asked.writers_roll)
       (losses_of state (set.contains asked.lost) (length state.names)) p.plan.events
   pub racks : p.fewer.items ≡ fewer_racks asked.racks state p.plan.state
   pub sum : IsSum p.plan p.summary

@@ -142,13 +142,15 @@ fn plan_of(alloc: Global, bytes: &[u8], words: &PlanWords<'_>) -> Result<Planned
     }
 }
 
-/// Which bookies are lost, who may work, who is read-only, and in which racks bookies stand.
+/// Which bookies are lost, who may work, who is read-only, in which racks bookies stand, and whether writers change their
+/// ensembles.
 #[derive(Drop)]
 struct Asked {
     lost: BookieSet,
     allowed: BookieSet,
     read_only: BookieSet,
     racks: Racks,
+    writers_roll: bool,
 }
 
 /// What is asked of the picture of these bytes, whose bookies have these names.
@@ -167,6 +169,7 @@ fn asked_of(
         allowed: allowed_of(alloc, words.picture, names, &words.allowed)?,
         read_only: read_only_of(&marks),
         racks,
+        writers_roll: words.writers_roll,
     })
 }
 
@@ -179,8 +182,9 @@ fn plan_by(alloc: Global, state: State, asked: &Asked) -> Result<Planned, RunFau
         allowed,
         read_only,
         racks,
+        writers_roll,
     } = asked;
-    match plan(alloc, state, lost, allowed, read_only, racks) {
+    match plan(alloc, state, lost, allowed, read_only, racks, *writers_roll) {
         Ok(planned) => Ok(planned),
         Err(fault) => Err(unplanned(alloc, fault)),
     }

@@ -1,9 +1,8 @@
 -- A wait at the end.
-use Rattle.reh_plan.specs.Workers.{may_work}
 use Rattle.reh_plan.proofs.PlanLaws.{works_on}
 use Rattle.reh_plan.proofs.planning.grant_all.Goals as goal
 
 pub returns : goal.returns
 returns c =
-    works_on (may_work c.args.workers.now) c.args.plan.now c.loop-place.plan c.wait.new.self (c.wait.ensures (may_work c.args.workers.now))
+    works_on c.args.workers.now c.args.plan.now c.loop-place.plan c.wait.new.self (c.wait.ensures c.args.workers.now)
     c.loop-place.invariant

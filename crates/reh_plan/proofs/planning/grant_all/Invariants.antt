@@ -1,7 +1,6 @@
 -- The plan goes on by work alone.
 use Rattle.reh_plan.specs.Plans.{Works}
-use Rattle.reh_plan.specs.Workers.{may_work}
 use Rattle.reh_plan.proofs.planning.grant_all.Given as goal
 
 abbrev pub invariant-loop-place : goal.invariant-loop-place
-invariant-loop-place l = Works (may_work l.workers) l.fn.plan l.plan
+invariant-loop-place l = Works l.workers l.fn.plan l.plan

@@ -1,5 +1,5 @@
 -- What the steps come to, with the comments at the end.
-use Rattle.std.proofs.Common.{◌≡◌, ◌∙◌, List, ℕ, Bool, Some, length, ap, subst}
+use Rattle.std.proofs.Common.{◌≡◌, ◌∙◌, List, Some, length, ap, subst}
 use Rattle.reh_types.specs.Sets as set
 use Rattle.reh_model.specs.Book.{new_book}
 use Rattle.reh_model.specs.Cluster.{Cluster}
@@ -9,7 +9,7 @@ use Rattle.reh_plan.specs.Plans.{Asks, Draft}
 use Rattle.reh_plan.specs.Racks.{fewer_racks}
 use Rattle.reh_plan.specs.Replies.{ok_answers}
 use Rattle.reh_plan.specs.declared.fewer.FewerRacks.{FewerRacks}
-use Rattle.reh_plan.specs.Workers.{may_work}
+use Rattle.reh_plan.specs.Workers.{Rules, rules_of}
 use Rattle.reh_plan.proofs.FilledLaws.{filled_by}
 use Rattle.reh_plan.proofs.PlannedLaws.{IsTold, told-alone}
 use Rattle.reh_plan.proofs.planning.plan.Goals as goal
@@ -17,11 +17,11 @@ use Rattle.reh_plan.proofs.planning.plan.Goals as goal
 pub returns : goal.returns
 returns c =
     let s : Cluster = c.args.state in
-    let may : ℕ → Bool = may_work (c.args.allowed.now, c.args.read_only.now) in
+    let rules : Rules = rules_of c.args.allowed.now c.args.read_only.now c.args.writers_roll in
     let n : Draft = c.play_and_tell.new.plan in
     let fewer : List FewerRacks = c.in_ok-fewer.fewer.items in
-    let told : IsTold s c.args.lost.now may fewer n =
-    told-alone s c.args.lost.now may c.in_ok-plan.plan c.in_ok-fewer.ensures.played.0 n fewer c.in_ok-plan.ensures
+    let told : IsTold s c.args.lost.now rules fewer n =
+    told-alone s c.args.lost.now rules c.in_ok-plan.plan c.in_ok-fewer.ensures.played.0 n fewer c.in_ok-plan.ensures
     c.in_ok-fewer.ensures.played.1 c.in_ok-fewer.ensures.played.2 in
     let accepted : replay s n.events ≡ Some n.state =
     subst (λ (o : Cluster). replay o n.events ≡ Some n.state) told.opening c.text-checked.ensures.accepted in
@@ -37,7 +37,7 @@ returns c =
       lost = told.without;
       order = told.order;
       filled =
-          filled_by may s n.state (set.contains c.args.lost.now) (length s.names) n.events told.order accepted;
+          filled_by rules s n.state (set.contains c.args.lost.now) (length s.names) n.events told.order accepted;
       named = told.named;
       racks =
           c.in_ok-fewer.ensures.racks

@@ -1,21 +1,20 @@
 -- The plan goes on at each ledger, and the workers stay.
 use Rattle.std.proofs.Common.{◌∙◌, refl, subst}
 use Rattle.reh_plan.specs.Plans.{Works}
-use Rattle.reh_plan.specs.Workers.{may_work}
 use Rattle.reh_plan.proofs.PlanLaws.{works_none, works_on}
 use Rattle.reh_plan.proofs.planning.work_all.Goals as goal
 
 pub loop-place-init : goal.loop-place-init
 loop-place-init c = record {
-  works = works_none (may_work c.args.workers.now) c.args.plan.now;
+  works = works_none c.args.workers.now c.args.plan.now;
   workers = refl;
 }
 
 pub loop-place-preserved : goal.loop-place-preserved
 loop-place-preserved c = record {
   works =
-      works_on (may_work c.args.workers.now) c.args.plan.now c.loop-place.plan c.work_at.new.plan
-      (subst (λ workers. Works (may_work workers) c.loop-place.plan c.work_at.new.plan) c.loop-place.invariant.workers
+      works_on c.args.workers.now c.args.plan.now c.loop-place.plan c.work_at.new.plan
+      (subst (λ workers. Works workers c.loop-place.plan c.work_at.new.plan) c.loop-place.invariant.workers
       c.work_at.ensures.works)
       c.loop-place.invariant.works;
   workers = c.work_at.ensures.workers ∙ c.loop-place.invariant.workers;

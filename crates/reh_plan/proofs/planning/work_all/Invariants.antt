@@ -1,11 +1,10 @@
 -- The plan goes on by work alone.
 use Rattle.std.proofs.Common.{◌≡◌}
 use Rattle.reh_plan.specs.Plans.{Works}
-use Rattle.reh_plan.specs.Workers.{may_work}
 use Rattle.reh_plan.proofs.planning.work_all.Given as goal
 
 abbrev pub invariant-loop-place : goal.invariant-loop-place
 invariant-loop-place l = record {
-  works : Works (may_work l.fn.workers) l.fn.plan l.plan;
+  works : Works l.fn.workers l.fn.plan l.plan;
   workers : l.workers ≡ l.fn.workers;
 }

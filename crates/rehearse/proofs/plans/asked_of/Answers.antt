@@ -1,5 +1,5 @@
 -- What the picture lists, and the words name.
-use Rattle.std.proofs.Common.{◌∙◌, ap, subst, List, ℕ}
+use Rattle.std.proofs.Common.{◌∙◌, ap, refl, subst, List, ℕ}
 use Rattle.std.specs.Borrow.{Bor}
 use Rattle.reh_picture.specs.Marks.{BookieMarks}
 use Rattle.reh_plan.specs.Named.{AreNamed}
@@ -20,4 +20,5 @@ returns c =
           c.read_only_of.ensures b ∙ ap (λ (marks : List BookieMarks). is_read_only marks b) c.deref-4.ensures.value;
       racks = c.in_ok-racks.ensures
           ∙ ap (λ (marks : List BookieMarks). racks_of marks c.args.words.now.min_racks) c.deref.ensures.value;
+      writers = refl;
     }

@@ -1,9 +1,8 @@
 -- The task's end is work too.
-use Rattle.reh_plan.specs.Workers.{may_work}
 use Rattle.reh_plan.proofs.PlanLaws.{works_on}
 use Rattle.reh_plan.proofs.repairs.Repair.work.Goals as goal
 
 pub returns-clause-works : goal.returns-clause-works
 returns-clause-works c =
-    works_on (may_work c.args.workers.now) c.args.plan.now c.loop-gap.plan c.end-ended.new.plan
-    (c.end-ended.ensures (may_work c.args.workers.now)) c.loop-gap.invariant.works
+    works_on c.args.workers.now c.args.plan.now c.loop-gap.plan c.end-ended.new.plan
+    (c.end-ended.ensures c.args.workers.now) c.loop-gap.invariant.works

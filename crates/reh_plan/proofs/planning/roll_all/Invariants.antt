@@ -1,0 +1,10 @@
+-- The plan goes on by work alone.
+use Rattle.std.proofs.Common.{◌≡◌}
+use Rattle.reh_plan.specs.Plans.{Works}
+use Rattle.reh_plan.proofs.planning.roll_all.Given as goal
+
+abbrev pub invariant-loop-place : goal.invariant-loop-place
+invariant-loop-place l = record {
+  works : Works l.fn.workers l.fn.plan l.plan;
+  workers : l.workers ≡ l.fn.workers;
+}
