@@ -7,7 +7,7 @@ use Rattle.std.proofs.lemmas.List.Folds.{list_any_none}
 use Rattle.reh_model.specs.Cluster.{Cluster, Ledger}
 use Rattle.reh_model.specs.Metadata.{is_in_recovery}
 use Rattle.reh_plan.specs.Ends.{AllFilled, AreAmong, IsDone, IsSettled, flag_at, is_needless}
-use Rattle.reh_plan.specs.Workers.{Rules}
+use Rattle.reh_plan.specs.Workers.{Rules, may_work}
 
 -- a flag more, that is set only where a test says so
 more : (flags : List Bool) (flag : Bool) (test : ℕ → Bool) → ((k : ℕ) → IsTrue (flag_at flags k) → IsTrue (test k))
@@ -35,7 +35,7 @@ among-more ledgers others place g within is among last =
 
 -- nothing is left of a ledger that the bookies that may work could do
 pub record IsFinished (rules : Rules) (s : Cluster) (g : Ledger) : Type 0 where
-  pub filled : AllFilled rules.may s g
+  pub filled : AllFilled (may_work rules) s g
   pub settled : IsSettled rules s g
   pub unlocked : is_some g.lock ≡ false
   pub needed : is_needless s g ≡ false
@@ -43,7 +43,7 @@ pub record IsFinished (rules : Rules) (s : Cluster) (g : Ledger) : Type 0 where
 -- and so of any
 pub all_done : (rules : Rules) (s : Cluster) → All (IsFinished rules s) s.parts.ledgers → IsDone rules s
 all_done rules s all = record {
-  complete = All-weaker (IsFinished rules s) (AllFilled rules.may s) (λ g finished. finished.filled) s.parts.ledgers all;
+  complete = All-weaker (IsFinished rules s) (AllFilled (may_work rules) s) (λ g finished. finished.filled) s.parts.ledgers all;
   settled = All-weaker (IsFinished rules s) (IsSettled rules s) (λ g finished. finished.settled) s.parts.ledgers all;
   unlocked =
       list_any_none (λ g. is_some g.lock) s.parts.ledgers

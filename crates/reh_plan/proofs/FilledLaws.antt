@@ -19,7 +19,7 @@ use Rattle.reh_model.proofs.AcceptedLaws.{accepted_ledger, not_not, with_fragmen
 use Rattle.reh_model.proofs.CheckLaws.{check-none, reason_if-none}
 use Rattle.reh_model.proofs.SessionLaws.{replay_first}
 use Rattle.reh_plan.specs.Plans.{GoesOnBy, is_filled_by, is_work_by, loss_of, losses_of}
-use Rattle.reh_plan.specs.Workers.{Rules, can_work}
+use Rattle.reh_plan.specs.Workers.{Rules, can_work, may_work}
 use Rattle.reh_plan.proofs.PlanLaws.{both_true, first_true, lost_at-after}
 
 second_true : (a b : Bool) → (a && b) ≡ true → b ≡ true
@@ -65,22 +65,22 @@ up_replay rules (event ∷ events) s t by is b =
     ∙ up_after rules s event (first_true _ _ by) b
 
 filled_one : (rules : Rules) (s t : Cluster) (event : Event) → refusal_of s event ≡ None → is_work_by rules event ≡ true
-    → ((b : ℕ) → is_up t b ≡ is_up s b) → is_filled_by (can_work rules.may t) event ≡ true
+    → ((b : ℕ) → is_up t b ≡ is_up s b) → is_filled_by (can_work (may_work rules) t) event ≡ true
 filled_one rules s t (Copy w l f i v) none by same =
-    both_true (rules.may w) (is_up t w) by (same w ∙ place_up s w l f i v (λ g. no_source s g f i ∷ []) none)
+    both_true (may_work rules w) (is_up t w) by (same w ∙ place_up s w l f i v (λ g. no_source s g f i ∷ []) none)
 filled_one rules s t (Swap w l f i v) none by same =
-    both_true (rules.may w) (is_up t w) by
+    both_true (may_work rules w) (is_up t w) by
     (same w ∙ place_up s w l f i v (λ g. missing_entry s w g f i ∷ version_end g ∷ []) none)
 filled_one rules s t (Roll l i b) none by same =
-    both_true (rules.may b) (is_up t b) (first_true _ _ by) (same b ∙ roller_up s l i b none)
+    both_true (may_work rules b) (is_up t b) (first_true _ _ by) (same b ∙ roller_up s l i b none)
 filled_one rules s t other none by same = refl
 
 filled_work : (rules : Rules) (events : List Event) (s t : Cluster) → list_all (is_work_by rules) events ≡ true
-    → replay s events ≡ Some t → list_all (is_filled_by (can_work rules.may t)) events ≡ true
+    → replay s events ≡ Some t → list_all (is_filled_by (can_work (may_work rules) t)) events ≡ true
 filled_work rules [] s t by is = refl
 filled_work rules (event ∷ events) s t by is =
     let first = replay_first s event events (ap is_some is) in
-    ap (λ x. x && list_all (is_filled_by (can_work rules.may t)) events)
+    ap (λ x. x && list_all (is_filled_by (can_work (may_work rules) t)) events)
     (filled_one rules s t event first.0 (first_true _ _ by) (up_replay rules (event ∷ events) s t by is))
     ∙ filled_work rules events (after s event) t (second_true _ _ by) (sym first.1 ∙ is)
 
@@ -97,7 +97,7 @@ all_losses s (b ∷ bookies) =
 
 filled_behind : (rules : Rules) (losses work : List Event) (s t : Cluster) → list_all is_loss losses ≡ true
     → list_all (is_work_by rules) work ≡ true → replay s (losses ++ work) ≡ Some t
-    → list_all (is_filled_by (can_work rules.may t)) (losses ++ work) ≡ true
+    → list_all (is_filled_by (can_work (may_work rules) t)) (losses ++ work) ≡ true
 filled_behind rules [] work s t lost by is = filled_work rules work s t by is
 filled_behind rules (Lose b ∷ losses) work s t lost by is =
     let first = replay_first s (Lose b) (losses ++ work) (ap is_some is) in
@@ -107,9 +107,9 @@ filled_behind rules (other ∷ losses) work s t lost by is = cc
 -- so in a plan that goes on by work after its losses
 pub filled_by : (rules : Rules) (s t : Cluster) (is_lost : ℕ → Bool) (n : ℕ) (events : List Event)
     → GoesOnBy rules (losses_of s is_lost n) events → replay s events ≡ Some t
-    → list_all (is_filled_by (can_work rules.may t)) events ≡ true
+    → list_all (is_filled_by (can_work (may_work rules) t)) events ≡ true
 filled_by rules s t is_lost n events order is =
     let losses : List Event = losses_of s is_lost n in
-    subst (λ (es : List Event). list_all (is_filled_by (can_work rules.may t)) es ≡ true) (sym order.1)
+    subst (λ (es : List Event). list_all (is_filled_by (can_work (may_work rules) t)) es ≡ true) (sym order.1)
     (filled_behind rules losses order.0 s t (all_losses s (filter is_lost (range_with_len 0 n))) order.2
     (ap (replay s) (sym order.1) ∙ is))

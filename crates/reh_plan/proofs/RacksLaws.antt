@@ -19,7 +19,7 @@ use Rattle.reh_model.specs.Striping.{index_at, range, write_set}
 use Rattle.reh_scan.proofs.ReadingLaws.{write_set_within}
 use Rattle.reh_stripe.proofs.WordLaws.{range-append}
 use Rattle.reh_types.specs.Same.{tells_numbers}
-use Rattle.reh_plan.specs.Racks.{Racks, is_among, is_in_rack, rack_number, rack_of, least_racks, most_racks, may_be_fewer, racks_of, racks_at, fewest_after, fewest_racks, lacking}
+use Rattle.reh_plan.specs.Racks.{Racks, is_among, is_in_rack, rack_number, rack_of, least_racks, most_racks, may_be_fewer, racks_of, racks_at, fewest_after, fewest_racks, fragment_before, lacking}
 
 -- Names of racks
 
@@ -230,7 +230,7 @@ whole_at m f fragment rules there =
     (rules.ensembles f fragment within)).whole
 
 -- of a fragment that is there before and after, the least number of racks
-pub fewest_at : (r : Racks) (m n : Metadata) (f : ℕ) (before after : Fragment) → slice_get m.fragments f ≡ Some before
+pub fewest_at : (r : Racks) (m n : Metadata) (f : ℕ) (before after : Fragment) → fragment_before m f ≡ Some before
     → slice_get n.fragments f ≡ Some after → fewest_racks r m n f ≡ fewest_after r m before n after
 fewest_at r m n f before after old new = λ i.
     option_map_or (λ (b : Fragment). option_map_or (λ (a : Fragment). fewest_after r m b n a) (new i) None) (old i) None

@@ -17,7 +17,7 @@ use Rattle.reh_model.specs.Refusals.{no_place, no_source, not_needed, target_dow
 use Rattle.reh_model.specs.Refusals.{too_few, undecided, version_end}
 use Rattle.reh_model.specs.Step.{fenced_ledger, refusal_of}
 use Rattle.reh_lines.specs.Lines.{lines_of}
-use Rattle.reh_plan.specs.Workers.{Rules}
+use Rattle.reh_plan.specs.Workers.{Rules, may_work}
 use Rattle.reh_plan.specs.declared.plans.TheConstants.{COMMAND_ROOM}
 
 -- why the bookie can't take a place of the ledger, if it had the ledger's lock: it can't take that place, some entry can't be
@@ -65,8 +65,8 @@ IsRolled may s g = (b i : ℕ) → IsTrue (may b) → refusal_of s (Roll g.id i 
 
 -- nothing is left to do for the ledger's last ensemble: by its writer, if it has one, or else by a recovery
 pub record IsSettled (rules : Rules) (s : Cluster) (g : Ledger) : Type 0 where
-  pub rolled : IsTrue (has_writer rules g) → IsRolled rules.may s g
-  pub recovered : IsFalse (has_writer rules g) → IsUnrecoverable rules.may s g
+  pub rolled : IsTrue (has_writer rules g) → IsRolled (may_work rules) s g
+  pub recovered : IsFalse (has_writer rules g) → IsUnrecoverable (may_work rules) s g
 
 -- no task is locked
 abbrev pub IsUnlocked : Cluster → Type 0
@@ -104,7 +104,7 @@ pub record IsFull (lines : List (List ℕ)) : Type 0 where
 
 -- nothing is left that the bookies that may work could do
 pub record IsDone (rules : Rules) (s : Cluster) : Type 0 where
-  pub complete : IsComplete rules.may s
+  pub complete : IsComplete (may_work rules) s
   pub settled : All (IsSettled rules s) s.parts.ledgers
   pub unlocked : IsUnlocked s
   pub needed : IsNeeded s

@@ -20,7 +20,7 @@ use Rattle.reh_commands.specs.declared.commands.Command.{Command}
 use Rattle.reh_commands.specs.declared.commands.Command.TheVariants.{Make}
 use Rattle.reh_commands.specs.declared.commands.LineFault.{LineFault}
 use Rattle.reh_plan.specs.Ends.{Ends, IsHarmless}
-use Rattle.reh_plan.specs.Workers.{Rules}
+use Rattle.reh_plan.specs.Workers.{Rules, may_work}
 use Rattle.reh_plan.specs.declared.plans.Attempt.{Attempt}
 use Rattle.reh_plan.specs.declared.plans.Attempt.TheVariants.{Made, Refused, Unwritten}
 
@@ -101,13 +101,13 @@ is_work_by rules Enable = true
 is_work_by rules (Tick ticks) = true
 is_work_by rules (Release worker ledger) = true
 is_work_by rules (Finish worker ledger) = true
-is_work_by rules (Acquire worker ledger) = rules.may worker
-is_work_by rules (Grace worker ledger) = rules.may worker && not rules.writers_roll
-is_work_by rules (Fence worker ledger) = rules.may worker && not rules.writers_roll
-is_work_by rules (Seal worker ledger) = rules.may worker
-is_work_by rules (Roll ledger index bookie) = rules.may bookie && rules.writers_roll
-is_work_by rules (Copy worker ledger fragment index version) = rules.may worker
-is_work_by rules (Swap worker ledger fragment index version) = rules.may worker
+is_work_by rules (Acquire worker ledger) = may_work rules worker
+is_work_by rules (Grace worker ledger) = may_work rules worker && not rules.writers_roll
+is_work_by rules (Fence worker ledger) = may_work rules worker && not rules.writers_roll
+is_work_by rules (Seal worker ledger) = may_work rules worker
+is_work_by rules (Roll ledger index bookie) = may_work rules bookie && rules.writers_roll
+is_work_by rules (Copy worker ledger fragment index version) = may_work rules worker
+is_work_by rules (Swap worker ledger fragment index version) = may_work rules worker
 is_work_by rules other = false
 
 -- after these events there is nothing but such work

@@ -4,18 +4,20 @@ use Rattle.reh_types.specs.Sets as set
 use Rattle.reh_types.specs.Sets.{Set, numbers}
 use Rattle.reh_model.specs.Cluster.{Cluster, is_up}
 
--- which bookies may do AutoRecovery's work; and whether the writers of open ledgers change ensembles themselves, so that nobody
--- fences their ledgers
+-- which bookies are allowed to do AutoRecovery's work, and which are read-only; and whether the writers of open ledgers change
+-- ensembles themselves, so that nobody fences their ledgers
 pub record Rules : Type 0 where
-  pub may : ℕ → Bool
+  pub allowed : Set numbers
+  pub read_only : Set numbers
   pub writers_roll : Bool
 
--- those may that are allowed to, and aren't read-only
-abbrev pub rules_of : Set numbers → Set numbers → Bool → Rules
-rules_of allowed read_only writers_roll = record {
-  may = λ bookie. set.contains allowed bookie && not (set.contains read_only bookie);
-  writers_roll = writers_roll;
-}
+abbrev pub rules_by : Set numbers → Set numbers → Bool → Rules
+rules_by allowed read_only writers_roll =
+    record { allowed = allowed; read_only = read_only; writers_roll = writers_roll }
+
+-- whether a bookie may do that work
+abbrev pub may_work : Rules → ℕ → Bool
+may_work rules bookie = set.contains rules.allowed bookie && not (set.contains rules.read_only bookie)
 
 -- whether the bookie may do that work, and is registered
 abbrev pub can_work : (ℕ → Bool) → Cluster → ℕ → Bool

@@ -4,6 +4,7 @@ ghost use Rattle.reh_model.specs.Metadata as meta;
 ghost use Rattle.reh_model.specs.Metadata.{is_in_recovery};
 ghost use Rattle.reh_model.specs.Refusals.{no_place};
 ghost use Rattle.reh_plan.specs.Ends as model;
+ghost use Rattle.reh_plan.specs.Workers.{may_work};
 
 use crate::faults::PlanFault;
 use crate::plans::Plan;
@@ -50,7 +51,7 @@ fn taker(
     fragment: usize,
     index: usize,
 ) -> Option<BookieIx>
-    ensures none { (b : ℕ) → result ≡ None → IsTrue (workers.now.may b)
+    ensures none { (b : ℕ) → result ≡ None → IsTrue (may_work workers.now b)
         → no_place state.now b ledger.now fragment index ≢ None }
     ensures some { IfSome result (λ b. no_place state.now b ledger.now fragment index ≡ None) }
 {
@@ -88,7 +89,7 @@ fn can_fill(
     fragment: usize,
     index: usize,
 ) -> bool
-    ensures { IsFalse result → model.IsFilled workers.now.may state.now ledger.now fragment index }
+    ensures { IsFalse result → model.IsFilled (may_work workers.now) state.now ledger.now fragment index }
 {
     match taker(state, workers, ledger, fragment, index) {
         Some(worker) => is_fill_accepted(state, ledger, &aim_at(worker, ledger, fragment, index)),
@@ -98,7 +99,7 @@ fn can_fill(
 
 /// The same of some place of a fragment.
 fn can_fill_fragment(state: &State, workers: &Workers, ledger: &Ledger, fragment: usize) -> bool
-    ensures { IsFalse result → (i : ℕ) → model.IsFilled workers.now.may state.now ledger.now fragment i }
+    ensures { IsFalse result → (i : ℕ) → model.IsFilled (may_work workers.now) state.now ledger.now fragment i }
 {
     for index in 0..ledger.metadata().size() as usize {
         if can_fill(state, workers, ledger, fragment, index) {
@@ -110,7 +111,7 @@ fn can_fill_fragment(state: &State, workers: &Workers, ledger: &Ledger, fragment
 
 /// The same of some place of a ledger.
 fn can_fill_ledger(state: &State, workers: &Workers, ledger: &Ledger) -> bool
-    ensures { IsFalse result → model.AllFilled workers.now.may state.now ledger.now }
+    ensures { IsFalse result → model.AllFilled (may_work workers.now) state.now ledger.now }
 {
     for fragment in 0..ledger.metadata().fragments().len() {
         if can_fill_fragment(state, workers, ledger, fragment) {
@@ -214,7 +215,7 @@ fn is_open(ledger: &Ledger) -> bool
 /// Whether a ledger has a place that could be filled, could be given another ensemble or recovered, is locked, or has a
 /// needless task.
 fn is_unfinished(state: &State, workers: &Workers, ledger: &Ledger) -> bool
-    ensures filled { IsFalse result → model.AllFilled workers.now.may state.now ledger.now }
+    ensures filled { IsFalse result → model.AllFilled (may_work workers.now) state.now ledger.now }
     ensures settled { IsFalse result → model.IsSettled workers.now state.now ledger.now }
     ensures unlocked { IsFalse result → is_some ledger.now.lock ≡ false }
     ensures needed { IsFalse result → model.is_needless state.now ledger.now ≡ false }

@@ -12,7 +12,7 @@ ghost use Rattle.reh_plan.specs.Ends.{Ends, IsHarmless};
 ghost use Rattle.reh_plan.specs.Plans.{is_filled_by};
 ghost use Rattle.reh_plan.specs.Summaries.{IsSum, holdings_of};
 ghost use Rattle.reh_plan.specs.Racks as model;
-ghost use Rattle.reh_plan.specs.Workers.{Rules, can_work, rules_of};
+ghost use Rattle.reh_plan.specs.Workers.{Rules, can_work, may_work, rules_by};
 
 use crate::ends::{check_end, check_harmless, recovering_in};
 use crate::faults::{PlanFault, Reason, first_reason};
@@ -74,17 +74,17 @@ pub fn plan(
         transcript state.names 0 (starting (new_book (opened_session state))) 1 p.plan.lines
         ≡ ok_answers state.names 1 p.plan.lines) }
     ensures lost { IfOk result (λ p. IsWithout state (set.contains lost.now) p.plan.state) }
-    ensures order { IfOk result (λ p. GoesOnBy (rules_of allowed.now read_only.now writers_roll)
+    ensures order { IfOk result (λ p. GoesOnBy (rules_by allowed.now read_only.now writers_roll)
         (losses_of state (set.contains lost.now) (length state.names)) p.plan.events) }
     ensures filled { IfOk result (λ p. list_all
-        (is_filled_by (can_work (rules_of allowed.now read_only.now writers_roll).may p.plan.state)) p.plan.events ≡ true) }
+        (is_filled_by (can_work (may_work (rules_by allowed.now read_only.now writers_roll)) p.plan.state)) p.plan.events ≡ true) }
     ensures named { IfOk result (λ p. AllNamed p.plan.state p.plan.lines p.plan.state.parts.ledgers) }
     ensures racks { IfOk result (λ p. p.fewer.items ≡ model.fewer_racks racks.now state p.plan.state) }
     ensures told { IfOk result (λ p.
         p.plan.lines ≡ model.lines_before p.fewer.items p.plan.lines ++ map model.racks_line p.fewer.items) }
     ensures only { IfOk result (λ p.
         OnlyLeft state.names p.plan.state (model.lines_before p.fewer.items p.plan.lines)) }
-    ensures ends { IfOk result (λ p. Ends (rules_of allowed.now read_only.now writers_roll) p.plan.state
+    ensures ends { IfOk result (λ p. Ends (rules_by allowed.now read_only.now writers_roll) p.plan.state
         (model.lines_before p.fewer.items p.plan.lines)) }
     ensures harmless { IfOk result (λ p. IsHarmless state p.plan.state) }
     ensures sum { IfOk result (λ p. IsSum p.plan p.summary) }
@@ -122,7 +122,7 @@ fn play_and_tell(
     ensures racks { IfOk result (λ told.
         told.0.items ≡ model.fewer_racks racks.now plan.old.state plan.new.state) }
     ensures played { IfOk result (λ told. (p : Draft)
-        × IsPlayed plan.old (set.contains lost.now) (rules_of allowed.now read_only.now writers_roll) p
+        × IsPlayed plan.old (set.contains lost.now) (rules_by allowed.now read_only.now writers_roll) p
         × (plan.new ≡ record p { lines = p.lines ++ map model.racks_line told.0.items })) }
     ensures sum { IfOk result (λ told. IsSum plan.new told.1) }
 {
@@ -165,7 +165,7 @@ fn play(
     writers_roll: bool,
 ) -> Result<(), PlanFault>
     ensures { OnOk result
-        (IsPlayed plan.old (set.contains lost.now) (rules_of allowed.now read_only.now writers_roll) plan.new) }
+        (IsPlayed plan.old (set.contains lost.now) (rules_by allowed.now read_only.now writers_roll) plan.new) }
 {
     let recovering = recovering_in(alloc, plan.state())?;
     lose_all(plan, lost)?;
@@ -183,7 +183,7 @@ fn repair_all(
     racks: &Racks,
     writers_roll: bool,
 ) -> Result<(), PlanFault>
-    ensures { OnOk result (IsRepaired (rules_of allowed.now read_only.now writers_roll) plan.old plan.new) }
+    ensures { OnOk result (IsRepaired (rules_by allowed.now read_only.now writers_roll) plan.old plan.new) }
 {
     let mut workers = Workers::of(alloc, plan.state(), allowed, read_only, racks, writers_roll)?;
     roll_all(plan, &mut workers)?;

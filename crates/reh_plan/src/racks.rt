@@ -1,5 +1,5 @@
 // In which racks bookies stand.
-ghost use Rattle.std.specs.Prelude.{◌≡◌, ℕ, ◌<◌, ◌≤◌, length, map, min, nat_le, nat_lt, count_by, position, take, unwrap_or, is_some};
+ghost use Rattle.std.specs.Prelude.{◌≡◌, ℕ, ◌<◌, ◌≤◌, ◌-◌, length, map, min, nat_le, nat_lt, count_by, position, take, unwrap_or, is_some};
 ghost use Rattle.std.specs.Prelude.{IfOk, IsTrue, if◌then◌else◌};
 ghost use Rattle.std.specs.Prelude.{slice_get, slice_index};
 ghost use Rattle.std.specs.List.{filter, list_all, list_any, reduce};
@@ -73,7 +73,8 @@ impl Racks {
     ) -> Option<usize>
         ensures { result ≡ model.fewest_racks self.now before.now after.now fragment }
     {
-        let old = fragment_before(before, fragment)?;
+        let number = number_before(before, fragment);
+        let old = before.fragments().get(number)?;
         let new = after.fragments().get(fragment)?;
         if have_same_copies(before, old, after, new) {
             return None;
@@ -229,12 +230,12 @@ fn is_in_rack(rack: &str, other: &Option<&str>) -> bool
 
 // Racks of write sets
 
-/// The fragment of that number; past the last one, the last one, from whose ensemble a writer goes on.
-fn fragment_before(metadata: &LedgerMeta, fragment: usize) -> Option<&Fragment>
-    ensures { result ≡ model.fragment_before metadata.now fragment }
+/// The number of the fragment with which that one is compared: its own, or past the last one before that of the last one, from
+/// whose ensemble a writer goes on.
+fn number_before(metadata: &LedgerMeta, fragment: usize) -> usize
+    ensures { result ≡ min fragment (length metadata.now.fragments - 1) }
 {
-    let last = metadata.fragments().len().saturating_sub(1);
-    metadata.fragments().get(fragment.min(last))
+    fragment.min(metadata.fragments().len().saturating_sub(1))
 }
 
 /// Whether the fragment has the same members as before, in metadata of the same sizes, so that each entry has the same

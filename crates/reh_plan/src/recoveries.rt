@@ -6,6 +6,7 @@ ghost use Rattle.reh_model.specs.Metadata as meta;
 ghost use Rattle.reh_model.specs.Recovery as recovery;
 ghost use Rattle.reh_model.specs.Refusals.{not_needed, target_down, target_is_member, too_few, undecided};
 ghost use Rattle.reh_plan.specs.Ends as model;
+ghost use Rattle.reh_plan.specs.Workers.{may_work};
 
 use crate::workers::Workers;
 use reh_audit::is_under;
@@ -17,14 +18,14 @@ use reh_types::{BookieIx, ENTRY_END, LedgerState, MAX_VERSION};
 
 /// Whether some bookie that may work could recover the ledger, if it had the ledger's lock and the grace were over.
 pub(crate) fn can_recover(state: &State, workers: &Workers, ledger: &Ledger) -> bool
-    ensures { IsFalse result → model.IsUnrecoverable workers.now.may state.now ledger.now }
+    ensures { IsFalse result → model.IsUnrecoverable (may_work workers.now) state.now ledger.now }
 {
     is_recoverable(state, ledger) && has_substitute(state, workers, last_fragment(ledger))
 }
 
 /// Whether some bookie that may work could take the place of a member of the fragment.
 fn has_substitute(state: &State, workers: &Workers, fragment: &Fragment) -> bool
-    ensures { IsFalse result → (b : ℕ) → IsTrue (workers.now.may b)
+    ensures { IsFalse result → (b : ℕ) → IsTrue (may_work workers.now b)
         → first_reason (target_down state.now b ∷ target_is_member fragment.now b ∷ []) ≢ None }
 {
     for number in 0..state.names().len() as u8 {

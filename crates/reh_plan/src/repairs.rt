@@ -2,7 +2,7 @@
 // members.
 ghost use Rattle.std.specs.Prelude.{◌≡◌, IfOk, IfSome, false, true};
 ghost use Rattle.reh_plan.specs.Plans.{Works};
-ghost use Rattle.reh_plan.specs.Workers.{Rules, can_work};
+ghost use Rattle.reh_plan.specs.Workers.{Rules, can_work, may_work};
 
 use crate::faults::{PlanFault, Reason, StepFault, first_reason};
 use crate::plans::Plan;
@@ -114,7 +114,7 @@ impl Repair {
         index: usize,
     ) -> Result<BookieIx, StepFault>
         ensures works { Works workers.now plan.old plan.new }
-        ensures worker { IfOk result (λ worker. workers.now.may worker ≡ true) }
+        ensures worker { IfOk result (λ worker. may_work workers.now worker ≡ true) }
     {
         let Some(worker) = self.worker(plan.state(), workers, fragment, index) else {
             let fragment = fragment as u64;
@@ -141,7 +141,7 @@ impl Repair {
         fragment: usize,
         index: usize,
     ) -> Option<BookieIx>
-        ensures { IfSome result (λ worker. can_work workers.now.may state.now worker ≡ true) }
+        ensures { IfSome result (λ worker. can_work (may_work workers.now) state.now worker ≡ true) }
     {
         workers.choose(state, self.ledger_in(state)?, fragment, index)
     }
@@ -228,7 +228,7 @@ impl Repair {
         ensures workers { workers.new ≡ workers.old }
     {
         // The check of this loop has to meet the types of what stops a step by their names.
-        let _stop: Option<(Reason, Refusal)> = None;
+        let _stop: Option<(Reason, Refusal, Event)> = None;
         for index in 0..MAX_ENSEMBLE_SIZE as usize {
             self.roll_at(plan, workers, index)?;
         }

@@ -1,7 +1,7 @@
 // Who takes the places of missing members.
 ghost use Rattle.std.specs.Prelude.{◌≡◌, true, not, ◌&&◌, IfOk, IfSome};
 ghost use Rattle.reh_types.specs.Sets as set;
-ghost use Rattle.reh_plan.specs.Workers.{can_work, rules_of};
+ghost use Rattle.reh_plan.specs.Workers.{can_work, may_work, rules_by};
 
 use crate::racks::Racks;
 use reh_cluster::{Ledger, State};
@@ -24,11 +24,11 @@ pub(crate) struct Workers {
 }
 
 impl Model for Workers {
-    ghost use Rattle.reh_plan.specs.Workers.{Rules, rules_of};
+    ghost use Rattle.reh_plan.specs.Workers.{Rules, rules_by};
 
     ghost Value = { Rules };
 
-    ghost view = { λ workers. rules_of workers.allowed workers.read_only workers.writers_roll };
+    ghost view = { λ workers. rules_by workers.allowed workers.read_only workers.writers_roll };
 }
 
 /// The place of a missing member, and who has the lock of its ledger.
@@ -73,7 +73,7 @@ impl Workers {
         racks: &Racks,
         writers_roll: bool,
     ) -> Result<Workers, AllocError>
-        ensures { IfOk result (λ workers. workers ≡ rules_of allowed.now read_only.now writers_roll) }
+        ensures { IfOk result (λ workers. workers ≡ rules_by allowed.now read_only.now writers_roll) }
     {
         let mut loads = Vec::new(alloc);
         for number in 0..MAX_BOOKIES as u8 {
@@ -98,7 +98,7 @@ impl Workers {
         fragment: usize,
         index: usize,
     ) -> Option<BookieIx>
-        ensures { IfSome result (λ worker. can_work self.now.may state.now worker ≡ true) }
+        ensures { IfSome result (λ worker. can_work (may_work self.now) state.now worker ≡ true) }
     {
         let members = members_of(ledger.metadata().fragments().get(fragment)?);
         let owner = owner_of(ledger);
@@ -119,7 +119,7 @@ impl Workers {
 
     /// Of the bookies that can join these members, the first candidate for the place.
     fn first_candidate(&self, state: &State, place: &Place, members: &BookieSet) -> Option<BookieIx>
-        ensures { IfSome result (λ worker. can_work self.now.may state.now worker ≡ true) }
+        ensures { IfSome result (λ worker. can_work (may_work self.now) state.now worker ≡ true) }
     {
         let all_members = all_members_of(place.metadata);
         let mut first: Option<Candidate> = None;
@@ -164,14 +164,14 @@ impl Workers {
 
     /// Whether the bookie may take places, is registered, and is none of these members.
     fn can_join(&self, state: &State, worker: BookieIx, members: &BookieSet) -> bool
-        ensures { result ≡ (can_work self.now.may state.now worker && not (set.contains members.now worker)) }
+        ensures { result ≡ (can_work (may_work self.now) state.now worker && not (set.contains members.now worker)) }
     {
         self.is_able(worker) && state.is_up(worker) && !members.contains(worker)
     }
 
     /// Whether the bookie may take places.
     pub(crate) fn is_able(&self, worker: BookieIx) -> bool
-        ensures { result ≡ self.now.may worker }
+        ensures { result ≡ may_work self.now worker }
     {
         self.allowed.contains(worker) && !self.read_only.contains(worker)
     }

@@ -20,7 +20,7 @@ use Rattle.reh_plan.specs.Plans.{GoesOnBy, IsWithout, losses_of}
 use Rattle.reh_plan.specs.Racks.{Racks, fewer_racks, racks_named}
 use Rattle.reh_plan.specs.Runbooks.{runbook_lines}
 use Rattle.reh_plan.specs.Summaries.{IsSum, is_whole, summary_text}
-use Rattle.reh_plan.specs.Workers.{rules_of}
+use Rattle.reh_plan.specs.Workers.{rules_by}
 use Rattle.reh_plan.specs.declared.planning.Planned.{Planned}
 use Rattle.reh_words.specs.declared.tasks.PlanWords.{PlanWords}
 use Rattle.rehearse.specs.Inputs.{IsAfterSome}
@@ -55,7 +55,7 @@ pub record IsPlan (state : Cluster) (asked : Asked) (p : Planned) : Type 0 where
   pub opening : p.plan.opening ≡ state
   pub accepted : replay state p.plan.events ≡ Some p.plan.state
   pub without : IsWithout state (set.contains asked.lost) p.plan.state
-  pub order : GoesOnBy (rules_of asked.allowed asked.read_only asked.writers_roll)
+  pub order : GoesOnBy (rules_by asked.allowed asked.read_only asked.writers_roll)
       (losses_of state (set.contains asked.lost) (length state.names)) p.plan.events
   pub racks : p.fewer.items ≡ fewer_racks asked.racks state p.plan.state
   pub sum : IsSum p.plan p.summary

@@ -9,7 +9,7 @@ use Rattle.reh_plan.specs.Plans.{Asks, Draft}
 use Rattle.reh_plan.specs.Racks.{fewer_racks}
 use Rattle.reh_plan.specs.Replies.{ok_answers}
 use Rattle.reh_plan.specs.declared.fewer.FewerRacks.{FewerRacks}
-use Rattle.reh_plan.specs.Workers.{Rules, rules_of}
+use Rattle.reh_plan.specs.Workers.{Rules, rules_by}
 use Rattle.reh_plan.proofs.FilledLaws.{filled_by}
 use Rattle.reh_plan.proofs.PlannedLaws.{IsTold, told-alone}
 use Rattle.reh_plan.proofs.planning.plan.Goals as goal
@@ -17,7 +17,7 @@ use Rattle.reh_plan.proofs.planning.plan.Goals as goal
 pub returns : goal.returns
 returns c =
     let s : Cluster = c.args.state in
-    let rules : Rules = rules_of c.args.allowed.now c.args.read_only.now c.args.writers_roll in
+    let rules : Rules = rules_by c.args.allowed.now c.args.read_only.now c.args.writers_roll in
     let n : Draft = c.play_and_tell.new.plan in
     let fewer : List FewerRacks = c.in_ok-fewer.fewer.items in
     let told : IsTold s c.args.lost.now rules fewer n =

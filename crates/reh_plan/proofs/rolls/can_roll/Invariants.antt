@@ -3,8 +3,9 @@ use Rattle.std.proofs.Common.{◌≢◌, ◌<◌, ℕ, None}
 use Rattle.std.specs.Prelude.{IsTrue}
 use Rattle.reh_types.specs.declared.moves.Event.TheVariants.{Roll}
 use Rattle.reh_model.specs.Step.{refusal_of}
+use Rattle.reh_plan.specs.Workers.{may_work}
 use Rattle.reh_plan.proofs.rolls.can_roll.Given as goal
 
 abbrev pub invariant-loop-index : goal.invariant-loop-index
 invariant-loop-index l =
-    (b i : ℕ) → i < l.index → IsTrue (l.workers.may b) → refusal_of l.state (Roll l.ledger i b) ≢ None
+    (b i : ℕ) → i < l.index → IsTrue (may_work l.workers b) → refusal_of l.state (Roll l.ledger i b) ≢ None
