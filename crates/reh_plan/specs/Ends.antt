@@ -59,7 +59,7 @@ IsUnrecoverable may s g = (b : ℕ) → IsTrue (may b) → recovery_refusal s b 
 abbrev pub has_writer : Rules → Ledger → Bool
 has_writer rules g = rules.writers_roll && is_open g.metadata.state
 
--- no bookie that may work can be put by its writer in the place of a missing member
+-- the ledger's writer can put no bookie that may work in the place of a missing member
 abbrev pub IsRolled : (ℕ → Bool) → Cluster → Ledger → Type 0
 IsRolled may s g = (b i : ℕ) → IsTrue (may b) → refusal_of s (Roll g.id i b) ≢ None
 

@@ -1,4 +1,4 @@
--- Who may do a plan's work, and whether writers live.
+-- Who may do a plan's work, and whether writers do some of it.
 use Rattle.std.specs.Prelude.{ℕ, Bool, not, ◌&&◌}
 use Rattle.reh_types.specs.Sets as set
 use Rattle.reh_types.specs.Sets.{Set, numbers}
