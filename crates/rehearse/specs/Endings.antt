@@ -1,6 +1,5 @@
 -- How a run ends. Where no fault ends it, its status is 0, or that of what was answered.
-use Rattle.std.specs.Prelude.{◌≡◌, ◌⊎◌, ℕ, Some, String, Result, Ok, Err}
-use Rattle.std.specs.declared.alloc.Global.{Global}
+use Rattle.std.specs.Prelude.{◌≡◌, ◌⊎◌, ℕ, Some, Result, Ok, Err}
 use Rattle.reh_stop.specs.declared.stops.Said.{Said}
 use Rattle.reh_words.specs.declared.tasks.CensusWords.{CensusWords}
 use Rattle.reh_words.specs.declared.tasks.RiskWords.{RiskWords}
@@ -13,6 +12,7 @@ use Rattle.rehearse.specs.Faults.{status_number}
 use Rattle.rehearse.specs.Inputs.{SaysCensus, SaysRisk, SaysStop, SaysWaves}
 use Rattle.rehearse.specs.Plans.{IsStatus}
 use Rattle.rehearse.specs.declared.faults.RunFault.{RunFault}
+use Rattle.rehearse.specs.declared.noted.Noted.{Noted}
 
 -- of a stop the status of the answer by all files: 0 for yes, 8 for no, and 9 for unknown
 pub record EndsStop (words : StopWords) (status : ℕ) : Type 0 where
@@ -22,13 +22,13 @@ pub record EndsStop (words : StopWords) (status : ℕ) : Type 0 where
 
 -- there is an answer of rounds, of the next losses, or of a census, by all files
 abbrev pub EndsWaves : WaveWords → Type 0
-EndsWaves words = (text : String Global) × SaysWaves words text
+EndsWaves words = (noted : Noted) × SaysWaves words noted
 
 abbrev pub EndsRisk : RiskWords → Type 0
-EndsRisk words = (text : String Global) × SaysRisk words text
+EndsRisk words = (noted : Noted) × SaysRisk words noted
 
 abbrev pub EndsCensus : CensusWords → Type 0
-EndsCensus words = (text : String Global) × SaysCensus words text
+EndsCensus words = (noted : Noted) × SaysCensus words noted
 
 -- what is asked was answered, and that is the status; of tasks that ask no question it is 0
 abbrev pub Answers : Task → ℕ → Type 0

@@ -27,7 +27,7 @@ use Rattle.reh_words.specs.declared.tasks.Inputs.{Inputs}
 use Rattle.reh_words.specs.declared.tasks.RiskWords.{RiskWords}
 use Rattle.reh_words.specs.declared.tasks.StopWords.{StopWords}
 use Rattle.reh_words.specs.declared.tasks.WaveWords.{WaveWords}
-use Rattle.rehearse.specs.Against.{SaysOf, is_cut}
+use Rattle.rehearse.specs.Against.{SaysOf, cut_notes, is_cut}
 use Rattle.rehearse.specs.Inventories.{IsOfLines}
 use Rattle.rehearse.specs.declared.faults.RunFault.{RunFault}
 use Rattle.rehearse.specs.declared.inputs.FileInput.{FileInput}
@@ -36,6 +36,7 @@ use Rattle.rehearse.specs.declared.inputs.FileKind.TheVariants as kind
 use Rattle.rehearse.specs.declared.inputs.GatheredFiles.{GatheredFiles}
 use Rattle.rehearse.specs.declared.inputs.Parted.{Parted}
 use Rattle.rehearse.specs.declared.inventories.CountedInventory.{CountedInventory}
+use Rattle.rehearse.specs.declared.noted.Noted.{Noted}
 use Rattle.rehearse.specs.declared.faults.RunFault.TheVariants.{NoMemory, Unfit}
 
 -- whether a file is an inventory
@@ -120,33 +121,40 @@ pub record SaysStop (words : StopWords) (said : Said) : Type 0 where
   pub same_form : asked.as_json ≡ words.as_json
   pub says : SaysOf files words.inputs.files.items words.inputs.strict asked said
 
+-- the notes of an answer name each of these files that is an inventory whose last line isn't there, and no other
+abbrev pub AreNotes : Inputs → GatheredFiles → Noted → Type 0
+AreNotes words files noted = map string_bytes noted.notes.items ≡ cut_notes words.files.items files.kinds.items
+
 -- what is said of rounds
 abbrev pub waves_asked : WaveWords → AskedWaves
 waves_asked words = record { question = words.question; by_rack = words.by_rack; as_json = words.as_json }
 
-pub record SaysWaves (words : WaveWords) (text : String Global) : Type 0 where
-  pub gathered : Gathered
-  pub of_files : IsOfFiles words.inputs gathered
-  pub says : SaysRounds gathered (waves_asked words) text
+pub record SaysWaves (words : WaveWords) (noted : Noted) : Type 0 where
+  pub files : GatheredFiles
+  pub are_gathered : AreGathered words.inputs files
+  pub says : SaysRounds files.gathered (waves_asked words) noted.text
+  pub notes : AreNotes words.inputs files noted
 
 -- and of the next losses
 abbrev pub risk_asked : RiskWords → AskedRisk
 risk_asked words = record { question = words.question; with_pairs = words.with_pairs; as_json = words.as_json }
 
-pub record SaysRisk (words : RiskWords) (text : String Global) : Type 0 where
-  pub gathered : Gathered
-  pub of_files : IsOfFiles words.inputs gathered
-  pub says : SaysCost gathered (risk_asked words) text
+pub record SaysRisk (words : RiskWords) (noted : Noted) : Type 0 where
+  pub files : GatheredFiles
+  pub are_gathered : AreGathered words.inputs files
+  pub says : SaysCost files.gathered (risk_asked words) noted.text
+  pub notes : AreNotes words.inputs files noted
 
 -- and of a census, as JSON or as text
 abbrev pub census_by : Bool → NamedCensus → List ℕ
 census_by as_json census = if as_json then json_of census else text_of census
 
-pub record SaysCensus (words : CensusWords) (text : String Global) : Type 0 where
+pub record SaysCensus (words : CensusWords) (noted : Noted) : Type 0 where
   pub files : GatheredFiles
   pub are_gathered : AreGathered words.inputs files
-  pub says : string_bytes text
+  pub says : string_bytes noted.text
       ≡ census_by words.as_json (named_of files.gathered words.inputs.strict (option_map string_bytes files.taken))
+  pub notes : AreNotes words.inputs files noted
 
 -- Inputs that can't be judged together
 

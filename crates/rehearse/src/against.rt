@@ -103,7 +103,11 @@ fn push_stream(alloc: Global, notes: &mut Vec<String>) -> Result<(), AllocError>
 }
 
 /// A note on each of these files that is an inventory whose last line isn't there.
-fn cut_notes(alloc: Global, files: &[&str], kinds: &[FileKind]) -> Result<Vec<String>, AllocError>
+pub(crate) fn cut_notes(
+    alloc: Global,
+    files: &[&str],
+    kinds: &[FileKind],
+) -> Result<Vec<String>, AllocError>
     ensures { IfOk result (λ notes. map string_bytes notes.items ≡ model.cut_notes files.now kinds.now) }
 {
     let mut notes = Vec::new(alloc);

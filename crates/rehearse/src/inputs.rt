@@ -12,11 +12,12 @@ ghost use Rattle.rehearse.specs.Inventories.{IsOfLines};
 
 use crate::afters::text_after;
 use crate::faults::RunFault;
-use crate::files::{InputBytes, read_input_file, write_out};
+use crate::files::{InputBytes, read_input_file};
 use crate::inventories::{CountedInventory, Source, count_bytes, count_inventory};
 use crate::looks::Looks;
 use crate::mistaken::headless;
 use crate::names::misnamed;
+use crate::noted::{Noted, with_notes, write_noted};
 use crate::progress::{Progress, Teller};
 use reh_census_file::{CensusFault, NamedCensus, census_text};
 use reh_census_json::census_json;
@@ -114,10 +115,10 @@ pub(crate) fn census_over<R: thread::Threads + Wait + Sync + Copy + Send + 'stat
     ensures { OnOk result (EndsCensus words.now) }
 {
     let teller = Teller::begin(rt, threads, looks, words.inputs.files.len());
-    let text = census_of(rt, threads, words, &teller.progress);
+    let noted = census_of(rt, threads, words, &teller.progress);
     teller.end(threads);
-    let text = text?;
-    write_out(rt, text.as_bytes())?;
+    let noted = noted?;
+    write_noted(rt, looks, &noted)?;
     Ok(())
 }
 
@@ -127,19 +128,20 @@ fn census_of<R: thread::Threads + Wait + Sync>(
     threads: &R,
     words: &CensusWords<'_>,
     progress: &Progress,
-) -> Result<String, RunFault>
-    ensures { IfOk result (λ text. model.SaysCensus words.now text) }
+) -> Result<Noted, RunFault>
+    ensures { IfOk result (λ noted. model.SaysCensus words.now noted) }
 {
     let files = gather_files(rt, threads, &words.inputs, progress)?;
     let GatheredFiles {
         gathered,
         taken,
         ids: _,
-        kinds: _,
+        kinds,
     } = files;
     let census = named_of(rt.alloc(), gathered, words.inputs.strict, taken)?;
     let text = say_census(rt.alloc(), &census, words.as_json)?;
-    Ok(text)
+    let noted = with_notes(rt.alloc(), text, &words.inputs.files, &kinds)?;
+    Ok(noted)
 }
 
 /// The census as text, or as JSON.

@@ -21,6 +21,7 @@ mod inventories;
 mod looks;
 mod mistaken;
 mod names;
+mod noted;
 mod outs;
 mod plans;
 mod progress;

@@ -94,6 +94,23 @@ fn say(
     requires { AreGathered inputs.now files }
     ensures { IfOk result (SaysOf files inputs.now.files.items inputs.now.strict asked.now) }
 {
+    let verdict = judged(rt.alloc(), &files.gathered, asked)?;
+    let said = say_judged(rt, inputs, files, asked, &verdict)?;
+    Ok(said)
+}
+
+/// What is said of the stop, which was judged so.
+fn say_judged(
+    rt: &HostRuntime,
+    inputs: &Inputs<'_>,
+    files: GatheredFiles,
+    asked: &Asked<'_, '_>,
+    verdict: &Verdict,
+) -> Result<Said, RunFault>
+    requires gathered { AreGathered inputs.now files }
+    requires judged { IsJudged files.gathered asked.now verdict.now }
+    ensures { IfOk result (SaysOf files inputs.now.files.items inputs.now.strict asked.now) }
+{
     let alloc = rt.alloc();
     let GatheredFiles {
         gathered,
@@ -101,7 +118,6 @@ fn say(
         kinds,
         taken,
     } = files;
-    let verdict = judged(alloc, &gathered, asked)?;
     let Gathered {
         cluster,
         bookies,
@@ -109,7 +125,7 @@ fn say(
         ledgers,
         ..
     } = gathered;
-    let about = stop_of(&cluster, &bookies, asked, &verdict);
+    let about = stop_of(&cluster, &bookies, asked, verdict);
     let mut worst = weigh(alloc, &ids, ledgers, &about)?;
     let by = WeighedBy {
         names: cluster.names(),
@@ -120,7 +136,7 @@ fn say(
     weigh_files(rt, &inputs.files, is_any, &kinds, &kept, &by, &mut worst)?;
     let notes = notes_of(alloc, is_any, &inputs.files, &kinds)?;
     let time = time_of(&taken);
-    let said = say_weighed(alloc, asked, &verdict, &about, &worst, time, &notes)?;
+    let said = say_weighed(alloc, asked, verdict, &about, &worst, time, &notes)?;
     Ok(said)
 }
 

@@ -4,9 +4,9 @@ ghost use Rattle.rehearse.specs.Endings.{EndsRisk, EndsWaves};
 ghost use Rattle.rehearse.specs.Inputs.{SaysRisk, SaysWaves};
 
 use crate::faults::RunFault;
-use crate::files::write_out;
 use crate::inputs::{gather_files, unfit};
 use crate::looks::Looks;
+use crate::noted::{Noted, with_notes, write_noted};
 use crate::progress::{Progress, Teller};
 use reh_stop::{AskedRisk, AskedWaves, RoundFault, answer_risk, answer_waves};
 use reh_words::{RiskWords, WaveWords};
@@ -24,10 +24,10 @@ pub(crate) fn waves_over<R: thread::Threads + Wait + Sync + Copy + Send + 'stati
     ensures { OnOk result (EndsWaves words.now) }
 {
     let teller = Teller::begin(rt, threads, looks, words.inputs.files.len());
-    let text = waves_of(rt, threads, words, &teller.progress);
+    let noted = waves_of(rt, threads, words, &teller.progress);
     teller.end(threads);
-    let text = text?;
-    write_out(rt, text.as_bytes())?;
+    let noted = noted?;
+    write_noted(rt, looks, &noted)?;
     Ok(())
 }
 
@@ -37,8 +37,8 @@ fn waves_of<R: thread::Threads + Wait + Sync>(
     threads: &R,
     words: &WaveWords<'_>,
     progress: &Progress,
-) -> Result<String, RunFault>
-    ensures { IfOk result (λ text. SaysWaves words.now text) }
+) -> Result<Noted, RunFault>
+    ensures { IfOk result (λ noted. SaysWaves words.now noted) }
 {
     let files = gather_files(rt, threads, &words.inputs, progress)?;
     let asked = AskedWaves {
@@ -47,7 +47,10 @@ fn waves_of<R: thread::Threads + Wait + Sync>(
         as_json: words.as_json,
     };
     match answer_waves(rt.alloc(), &files.gathered, &asked) {
-        Ok(text) => Ok(text),
+        Ok(text) => {
+            let noted = with_notes(rt.alloc(), text, &words.inputs.files, &files.kinds)?;
+            Ok(noted)
+        }
         Err(fault) => Err(fault_of(rt.alloc(), fault)),
     }
 }
@@ -62,10 +65,10 @@ pub(crate) fn risk_over<R: thread::Threads + Wait + Sync + Copy + Send + 'static
     ensures { OnOk result (EndsRisk words.now) }
 {
     let teller = Teller::begin(rt, threads, looks, words.inputs.files.len());
-    let text = risk_of(rt, threads, words, &teller.progress);
+    let noted = risk_of(rt, threads, words, &teller.progress);
     teller.end(threads);
-    let text = text?;
-    write_out(rt, text.as_bytes())?;
+    let noted = noted?;
+    write_noted(rt, looks, &noted)?;
     Ok(())
 }
 
@@ -75,8 +78,8 @@ fn risk_of<R: thread::Threads + Wait + Sync>(
     threads: &R,
     words: &RiskWords<'_>,
     progress: &Progress,
-) -> Result<String, RunFault>
-    ensures { IfOk result (λ text. SaysRisk words.now text) }
+) -> Result<Noted, RunFault>
+    ensures { IfOk result (λ noted. SaysRisk words.now noted) }
 {
     let files = gather_files(rt, threads, &words.inputs, progress)?;
     let asked = AskedRisk {
@@ -85,7 +88,10 @@ fn risk_of<R: thread::Threads + Wait + Sync>(
         as_json: words.as_json,
     };
     match answer_risk(rt.alloc(), &files.gathered, &asked) {
-        Ok(text) => Ok(text),
+        Ok(text) => {
+            let noted = with_notes(rt.alloc(), text, &words.inputs.files, &files.kinds)?;
+            Ok(noted)
+        }
         Err(fault) => Err(fault_of(rt.alloc(), fault)),
     }
 }

@@ -1,13 +1,19 @@
 -- The words are asked of what the files show together, of which each bookie is shown.
+use Rattle.std.proofs.Common.{◌∙◌, subst, sym}
+use Rattle.reh_stop.specs.Rounds.{SaysCost}
+use Rattle.rehearse.specs.Against.{cut_notes}
+use Rattle.rehearse.specs.Inputs.{risk_asked}
 use Rattle.reh_stop.proofs.GatheredLaws.{each_shown}
 use Rattle.rehearse.proofs.waves.risk_of.Goals as goal
 
 pub answer_risk-requires : goal.answer_risk-requires
 answer_risk-requires g c = each_shown _ _ _ c.in_ok-files.ensures.of_files.gathers
 
-pub returns-in-Ok : goal.returns-in-Ok
-returns-in-Ok g c = record {
-  gathered = c.in_ok-files.files.gathered;
-  of_files = c.in_ok-files.ensures.of_files;
-  says = c.in-Ok.ensures.said;
+pub returns : goal.returns
+returns g c = record {
+  files = c.in_ok-files.files;
+  are_gathered = c.in_ok-files.ensures;
+  says = subst (SaysCost c.in_ok-files.files.gathered (risk_asked c.args.words.now)) (sym c.in_ok-noted.ensures.text)
+      c.in-Ok.ensures.said;
+  notes = c.in_ok-noted.ensures.notes ∙ (λ i. cut_notes (c.deref.ensures.value i) (c.deref-2.ensures.value i));
 }
