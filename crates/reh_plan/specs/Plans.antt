@@ -115,7 +115,7 @@ abbrev pub GoesOnBy : Rules → List Event → List Event → Type 0
 GoesOnBy rules before events =
     (work : List Event) × (events ≡ before ++ work) × (list_all (is_work_by rules) work ≡ true)
 
--- whether an event has none but such bookies copy or take a place
+-- whether only such bookies copy or take a place by the event
 abbrev pub is_filled_by : (ℕ → Bool) → Event → Bool
 is_filled_by can (Copy worker ledger fragment index version) = can worker
 is_filled_by can (Swap worker ledger fragment index version) = can worker

@@ -77,7 +77,7 @@ abbrev pub fewest_after : Racks → Metadata → Fragment → Metadata → Fragm
 fewest_after r m before n after =
     reduce min (map (racks_at r n after) (filter (is_fewer r m before n after) (range 0 n.size)))
 
--- the fragment of that number; past the last one, the last one, from whose ensemble a writer goes on
+-- the fragment with which one of that number is compared: its own; of a new one the last, from whose ensemble its writer went on
 abbrev pub fragment_before : Metadata → ℕ → Option Fragment
 fragment_before m f = slice_get m.fragments (min f (length m.fragments - 1))
 

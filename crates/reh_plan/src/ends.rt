@@ -183,7 +183,8 @@ pub(crate) fn check_harmless(state: &State, recovering: &[bool]) -> Result<(), P
     }
 }
 
-/// Whether something could be done for the ledger's last ensemble: by its writer, if it has one, or else by a recovery.
+/// Whether a bookie that may work could be put into the ledger's last ensemble by its writer, if it has one; or else could
+/// recover it.
 fn can_settle(state: &State, workers: &Workers, ledger: &Ledger) -> bool
     ensures { IsFalse result → model.IsSettled workers.now state.now ledger.now }
 {
@@ -212,8 +213,8 @@ fn is_open(ledger: &Ledger) -> bool
     }
 }
 
-/// Whether a ledger has a place that could be filled, could be given another ensemble or recovered, is locked, or has a
-/// needless task.
+/// Whether a ledger has a place that could be filled, could be recovered, or given a bookie by its writer, each by one that may
+/// work, is locked, or has a needless task.
 fn is_unfinished(state: &State, workers: &Workers, ledger: &Ledger) -> bool
     ensures filled { IsFalse result → model.AllFilled (may_work workers.now) state.now ledger.now }
     ensures settled { IsFalse result → model.IsSettled workers.now state.now ledger.now }
@@ -238,8 +239,8 @@ fn has_unfinished(state: &State, workers: &Workers) -> bool
     false
 }
 
-/// Checks that a plan leaves no place that could be filled, no ledger that could be given another ensemble or recovered, no
-/// lock and no needless task, where its script has room.
+/// Checks that a plan leaves no place that could be filled, no ledger that could be recovered, or given a bookie by its writer,
+/// each by one that may work, no lock and no needless task, where its script has room.
 pub(crate) fn check_end(plan: &Plan, workers: &Workers) -> Result<(), PlanFault>
     ensures { OnOk result (model.Ends workers.now plan.now.state plan.now.lines) }
 {

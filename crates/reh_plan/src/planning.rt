@@ -39,23 +39,23 @@ pub struct Planned {
 /// The plan for a cluster of which these bookies are lost, where only the allowed bookies work, but for those that are
 /// read-only; and what it comes to.
 ///
-/// The bookies are lost, the auditor publishes, once the delay for lost bookies is over, and AutoRecovery is played to
-/// its end: of each ledger with a task a worker takes the places of missing members. It is one with which the fewest write
-/// sets lack racks; of those the one that has the ledger's lock, else one in no ensemble of the ledger, and then the one
-/// that holds least. An open ledger that needs its writer is fenced after the grace and recovered first. With `writers_roll`
-/// writers are up: before the auditor publishes, each puts such a bookie in the place of a missing member of its last
-/// ensemble, and no ledger is fenced. Where AutoRecovery is disabled, the plan enables it.
+/// The bookies are lost, the auditor publishes, once the delay for lost bookies is over, and AutoRecovery is played to its
+/// end: of each ledger with a task a worker takes the places of missing members. It is one with which the fewest write sets
+/// lack racks; of those the one that has the ledger's lock, else one in no ensemble of the ledger, and then the one that
+/// holds least. An open ledger that needs its writer is fenced after the grace and recovered first. With `writers_roll`
+/// writers are writing: before the auditor publishes, each puts such a bookie in the place of each missing member of its
+/// last ensemble, where that is accepted, and no ledger is fenced. Where AutoRecovery is disabled, the plan enables it.
 ///
 /// Each line of the script is a comment or asks for an event (`asks`), and played on this state each of these events is
 /// accepted (`accepted`): each line that has an answer is answered `ok` (`replies`). First those of the lost bookies that
 /// are registered are lost, and after that there is nothing but AutoRecovery's work, by which no registration changes, and
 /// in which none but allowed bookies that aren't read-only lock tasks, recover ledgers, copy or take places; writers take
-/// part exactly with `writers_roll`, and then no ledger gets a grace or is fenced (`order`). Each bookie that copies entries
-/// or takes a place is registered, too (`filled`). In the end the lost bookies aren't registered, and all others are as they
+/// part only with `writers_roll`, and then no ledger gets a grace or is fenced (`order`). Each bookie that copies entries or
+/// takes a place is registered, too (`filled`). In the end the lost bookies aren't registered, and all others are as they
 /// were (`lost`). Each ledger that has a task then, or a member that isn't registered, is named in a comment (`named`), and
 /// no other is (`only`). The comment's reason is the first that was met for that ledger, which no clause says. Where the
-/// script has room, no place is left in the end that could be filled, no ledger that could be recovered, or given another
-/// ensemble by its writer, no lock, and no task where nothing is missing (`ends`); and no ledger was fenced and left
+/// script has room, no place is left in the end that could be filled, no ledger that could be recovered, or given a bookie
+/// that may work by its writer, no lock, and no task where nothing is missing (`ends`); and no ledger was fenced and left
 /// (`harmless`). At the end of the script a comment tells of each fragment of which a write set comes to stand in fewer
 /// racks than before, and than are asked for (`racks` and `told`); `only` and `ends` speak of the lines before these. The
 /// summary tells for each bookie how many places it takes and how many entries it holds more in the end, how many ledgers

@@ -230,8 +230,8 @@ fn is_in_rack(rack: &str, other: &Option<&str>) -> bool
 
 // Racks of write sets
 
-/// The number of the fragment with which that one is compared: its own, or past the last one before that of the last one, from
-/// whose ensemble a writer goes on.
+/// The number of the fragment before the plan with which that one is compared: its own; or, of a new fragment, that of the last
+/// one, from whose ensemble its writer went on.
 fn number_before(metadata: &LedgerMeta, fragment: usize) -> usize
     ensures { result ≡ min fragment (length metadata.now.fragments - 1) }
 {
