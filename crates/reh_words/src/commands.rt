@@ -250,7 +250,7 @@ static PLAN: CommandRow = CommandRow {
         ArgRow {
             name: "writers-roll",
             takes: Takes::Nothing,
-            help: "Writers are up: they change their ensembles, and no ledger is fenced",
+            help: "As if each writer were writing: it changes its ensemble, and isn't fenced off",
         },
         AFTER,
         ArgRow {
