@@ -1,11 +1,11 @@
 // The files of a cluster, read by several workers, what they show together, and their census.
-ghost use Rattle.std.specs.Prelude.{◌≡◌, ◌<◌, ◌++◌, ◌∷◌, [], true, All, List, vec_len, length, nat_eq, ℕ, IfOk, OnOk, string_bytes};
+ghost use Rattle.std.specs.Prelude.{◌≡◌, ◌<◌, ◌++◌, ◌∷◌, [], true, All, List, vec_len, length, map, nat_eq, ℕ, IfOk, OnOk, string_bytes};
 ghost use Rattle.std.specs.List.{flat_map, IsDistinct};
 ghost use Rattle.std.specs.Option.{option_map};
 ghost use Rattle.reh_inputs.specs.Gathered.{Gathers};
 ghost use Rattle.reh_inputs.specs.Inputs.{IsRead};
-ghost use Rattle.reh_inputs.specs.Named.{taken_of as model_taken};
-ghost use Rattle.rehearse.specs.Against.{is_cut};
+ghost use Rattle.reh_inputs.specs.Named.{named_of as model_named, taken_of as model_taken};
+ghost use Rattle.rehearse.specs.Against.{cut_notes, is_cut};
 ghost use Rattle.rehearse.specs.Endings.{EndsCensus};
 ghost use Rattle.rehearse.specs.Inputs as model;
 ghost use Rattle.rehearse.specs.Inventories.{IsOfLines};
@@ -138,10 +138,26 @@ fn census_of<R: thread::Threads + Wait + Sync>(
         ids: _,
         kinds,
     } = files;
-    let census = named_of(rt.alloc(), gathered, words.inputs.strict, taken)?;
-    let text = say_census(rt.alloc(), &census, words.as_json)?;
-    let noted = with_notes(rt.alloc(), text, &words.inputs.files, &kinds)?;
+    let noted = say_gathered(rt.alloc(), words, gathered, taken, &kinds)?;
     Ok(noted)
+}
+
+/// The census of what files of these kinds show, the oldest of which was taken then, if each tells its time.
+fn say_gathered(
+    alloc: Global,
+    words: &CensusWords<'_>,
+    gathered: Gathered,
+    taken: Option<String>,
+    kinds: &[FileKind],
+) -> Result<Noted, AllocError>
+    ensures said { IfOk result (λ noted. string_bytes noted.text
+        ≡ model.census_by words.now.as_json (model_named gathered words.now.inputs.strict (option_map string_bytes taken))) }
+    ensures notes { IfOk result (λ noted.
+        map string_bytes noted.notes.items ≡ cut_notes words.now.inputs.files.items kinds.now) }
+{
+    let census = named_of(alloc, gathered, words.inputs.strict, taken)?;
+    let text = say_census(alloc, &census, words.as_json)?;
+    with_notes(alloc, text, &words.inputs.files, kinds)
 }
 
 /// The census as text, or as JSON.

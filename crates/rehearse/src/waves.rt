@@ -1,10 +1,10 @@
 // Rounds of bookies that may be stopped together, and what the next losses cost, judged from files.
 ghost use Rattle.std.specs.Prelude.{IfOk, OnOk};
 ghost use Rattle.rehearse.specs.Endings.{EndsRisk, EndsWaves};
-ghost use Rattle.rehearse.specs.Inputs.{SaysRisk, SaysWaves};
+ghost use Rattle.rehearse.specs.Inputs.{AreGathered, SaysRisk, SaysWaves};
 
 use crate::faults::RunFault;
-use crate::inputs::{gather_files, unfit};
+use crate::inputs::{GatheredFiles, gather_files, unfit};
 use crate::looks::Looks;
 use crate::noted::{Noted, with_notes, write_noted};
 use crate::progress::{Progress, Teller};
@@ -41,17 +41,26 @@ fn waves_of<R: thread::Threads + Wait + Sync>(
     ensures { IfOk result (λ noted. SaysWaves words.now noted) }
 {
     let files = gather_files(rt, threads, &words.inputs, progress)?;
+    let noted = waves_by(rt.alloc(), words, &files)?;
+    Ok(noted)
+}
+
+/// What is said of rounds, by what these files show.
+fn waves_by(alloc: Global, words: &WaveWords<'_>, files: &GatheredFiles) -> Result<Noted, RunFault>
+    requires { AreGathered words.now.inputs files.now }
+    ensures { IfOk result (SaysWaves words.now) }
+{
     let asked = AskedWaves {
         question: words.question,
         by_rack: words.by_rack,
         as_json: words.as_json,
     };
-    match answer_waves(rt.alloc(), &files.gathered, &asked) {
+    match answer_waves(alloc, &files.gathered, &asked) {
         Ok(text) => {
-            let noted = with_notes(rt.alloc(), text, &words.inputs.files, &files.kinds)?;
+            let noted = with_notes(alloc, text, &words.inputs.files, &files.kinds)?;
             Ok(noted)
         }
-        Err(fault) => Err(fault_of(rt.alloc(), fault)),
+        Err(fault) => Err(fault_of(alloc, fault)),
     }
 }
 
@@ -82,17 +91,26 @@ fn risk_of<R: thread::Threads + Wait + Sync>(
     ensures { IfOk result (λ noted. SaysRisk words.now noted) }
 {
     let files = gather_files(rt, threads, &words.inputs, progress)?;
+    let noted = risk_by(rt.alloc(), words, &files)?;
+    Ok(noted)
+}
+
+/// What is said of the next losses, by what these files show.
+fn risk_by(alloc: Global, words: &RiskWords<'_>, files: &GatheredFiles) -> Result<Noted, RunFault>
+    requires { AreGathered words.now.inputs files.now }
+    ensures { IfOk result (SaysRisk words.now) }
+{
     let asked = AskedRisk {
         question: words.question,
         with_pairs: words.with_pairs,
         as_json: words.as_json,
     };
-    match answer_risk(rt.alloc(), &files.gathered, &asked) {
+    match answer_risk(alloc, &files.gathered, &asked) {
         Ok(text) => {
-            let noted = with_notes(rt.alloc(), text, &words.inputs.files, &files.kinds)?;
+            let noted = with_notes(alloc, text, &words.inputs.files, &files.kinds)?;
             Ok(noted)
         }
-        Err(fault) => Err(fault_of(rt.alloc(), fault)),
+        Err(fault) => Err(fault_of(alloc, fault)),
     }
 }
 
