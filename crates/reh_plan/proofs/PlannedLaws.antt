@@ -8,6 +8,7 @@ use Rattle.reh_types.specs.Sets.{Set, numbers}
 use Rattle.reh_model.specs.Cluster.{Cluster}
 use Rattle.reh_commands.specs.Answers.{asked}
 use Rattle.reh_plan.specs.Ends.{Ends, IsHarmless}
+use Rattle.reh_plan.specs.Needed.{AreNeeded}
 use Rattle.reh_plan.specs.Plans.{AllNamed, Draft, GoesOnBy, IsWithout, IsLeftLine, IsNaming, IsPlayed, Loses, OnlyLeft, Works, is_all_asked, losses_of}
 use Rattle.reh_plan.specs.Racks.{lines_before, racks_line}
 use Rattle.reh_plan.specs.Workers.{Rules}
@@ -73,6 +74,7 @@ pub record IsTold (s : Cluster) (lost : Set numbers) (rules : Rules) (fewer : Li
   pub only : OnlyLeft s.names n.state (lines_before fewer n.lines)
   pub ends : Ends rules n.state (lines_before fewer n.lines)
   pub harmless : IsHarmless s n.state
+  pub needed : AreNeeded (lines_before fewer n.lines) n.events
 
 pub told-alone : (s : Cluster) (lost : Set numbers) (rules : Rules) (d p n : Draft) (fewer : List FewerRacks) → d ≡ empty_draft s
     → IsPlayed d (set.contains lost) rules p → n ≡ record p { lines = p.lines ++ map racks_line fewer } → IsTold s lost rules fewer n
@@ -88,4 +90,5 @@ told-alone s lost rules d p n fewer begun played told =
       only = subst (OnlyLeft s.names p.state) (sym before) done.only;
       ends = subst (Ends rules p.state) (sym before) played.repaired.ends;
       harmless = subst (λ (x : Draft). IsHarmless x.state p.state) begun played.harmless;
+      needed = subst (λ (lines : List (List ℕ)). AreNeeded lines p.events) (sym before) played.repaired.needed;
     }

@@ -20,6 +20,7 @@ use Rattle.reh_commands.specs.declared.commands.Command.{Command}
 use Rattle.reh_commands.specs.declared.commands.Command.TheVariants.{Make}
 use Rattle.reh_commands.specs.declared.commands.LineFault.{LineFault}
 use Rattle.reh_plan.specs.Ends.{Ends, IsHarmless}
+use Rattle.reh_plan.specs.Needed.{AreNeeded}
 use Rattle.reh_plan.specs.Workers.{Rules, may_work}
 use Rattle.reh_plan.specs.declared.plans.Attempt.{Attempt}
 use Rattle.reh_plan.specs.declared.plans.Attempt.TheVariants.{Made, Refused, Unwritten}
@@ -196,6 +197,7 @@ pub record WorksAndNames (rules : Rules) (d n : Draft) : Type 0 where
 pub record IsRepaired (rules : Rules) (d n : Draft) : Type 0 where
   pub works : WorksAndNames rules d n
   pub ends : Ends rules n.state n.lines
+  pub needed : AreNeeded n.lines n.events
 
 -- the plan goes on from d to n by the losses of these bookies, by AutoRecovery's work, and by comments on what is left; and no
 -- ledger was fenced and not recovered

@@ -4,9 +4,11 @@ ghost use Rattle.reh_model.specs.Metadata as meta;
 ghost use Rattle.reh_model.specs.Metadata.{is_in_recovery};
 ghost use Rattle.reh_model.specs.Refusals.{no_place};
 ghost use Rattle.reh_plan.specs.Ends as model;
+ghost use Rattle.reh_plan.specs.Needed.{AreNeeded};
 ghost use Rattle.reh_plan.specs.Workers.{may_work};
 
 use crate::faults::PlanFault;
+use crate::needed::are_used;
 use crate::plans::Plan;
 use crate::recoveries::can_recover;
 use crate::rolls::can_roll;
@@ -245,6 +247,16 @@ pub(crate) fn check_end(plan: &Plan, workers: &Workers) -> Result<(), PlanFault>
     ensures { OnOk result (model.Ends workers.now plan.now.state plan.now.lines) }
 {
     if !plan.is_full() && has_unfinished(plan.state(), workers) {
+        return Err(PlanFault::Unfinished);
+    }
+    Ok(())
+}
+
+/// Checks that what each command of a plan does is used, where its script has room.
+pub(crate) fn check_needed(plan: &Plan) -> Result<(), PlanFault>
+    ensures { OnOk result (AreNeeded plan.now.lines plan.now.events) }
+{
+    if !plan.is_full() && !are_used(plan.events()) {
         return Err(PlanFault::Unfinished);
     }
     Ok(())

@@ -5,6 +5,7 @@ mod ends;
 mod faults;
 mod fewer;
 mod named;
+mod needed;
 mod objects;
 mod planning;
 mod plans;

@@ -9,12 +9,13 @@ ghost use Rattle.reh_plan.specs.Replies.{ok_answers};
 ghost use Rattle.reh_types.specs.Sets as set;
 ghost use Rattle.reh_plan.specs.Plans.{Asks, Draft, Works, Loses, GoesOnBy, IsWithout, AllNamed, OnlyLeft, IsNaming, IsPlayed, IsRepaired, WorksAndNames, losses_of};
 ghost use Rattle.reh_plan.specs.Ends.{Ends, IsHarmless};
+ghost use Rattle.reh_plan.specs.Needed.{AreNeeded};
 ghost use Rattle.reh_plan.specs.Plans.{is_filled_by};
 ghost use Rattle.reh_plan.specs.Summaries.{IsSum, holdings_of};
 ghost use Rattle.reh_plan.specs.Racks as model;
 ghost use Rattle.reh_plan.specs.Workers.{Rules, can_work, may_work, rules_by};
 
-use crate::ends::{check_end, check_harmless, recovering_in};
+use crate::ends::{check_end, check_harmless, check_needed, recovering_in};
 use crate::faults::{PlanFault, Reason, first_reason};
 use crate::fewer::{FewerRacks, fewer_racks, metadata_of, tell};
 use crate::plans::Plan;
@@ -55,7 +56,8 @@ pub struct Planned {
 /// were (`lost`). Each ledger that has a task then, or a member that isn't registered, is named in a comment (`named`), and
 /// no other is (`only`). The comment's reason is the first that was met for that ledger, which no clause says. Where the
 /// script has room, no place is left in the end that could be filled, no ledger that could be recovered, or given a bookie
-/// that may work by its writer, no lock, and no task where nothing is missing (`ends`); and no ledger was fenced and left
+/// that may work by its writer, no lock, and no task where nothing is missing (`ends`), and what each command does is used:
+/// a lock, a fence and a copy by the next command, and a grace by a fence (`needed`); and no ledger was fenced and left
 /// (`harmless`). At the end of the script a comment tells of each fragment of which a write set comes to stand in fewer
 /// racks than before, and than are asked for (`racks` and `told`); `only` and `ends` speak of the lines before these. The
 /// summary tells for each bookie how many places it takes and how many entries it holds more in the end, how many ledgers
@@ -89,6 +91,8 @@ pub fn plan(
     ensures ends { IfOk result (λ p. Ends (rules_by allowed.now read_only.now writers_roll) p.plan.state
         (model.lines_before p.fewer.items p.plan.lines)) }
     ensures harmless { IfOk result (λ p. IsHarmless state p.plan.state) }
+    ensures needed { IfOk result (λ p.
+        AreNeeded (model.lines_before p.fewer.items p.plan.lines) p.plan.events) }
     ensures sum { IfOk result (λ p. IsSum p.plan p.summary) }
 {
     let mut plan = Plan::begin(alloc, state)?;
@@ -193,6 +197,7 @@ fn repair_all(
     grant_all(plan, &workers)?;
     work_and_name(alloc, plan, &mut workers)?;
     check_end(plan, &workers)?;
+    check_needed(plan)?;
     Ok(())
 }
 

@@ -35,9 +35,9 @@ pub(crate) enum Attempt {
 
 /// An event that is refused, and why.
 #[derive(Clone, Copy)]
-struct Refused {
-    event: Event,
-    refusal: Refusal,
+pub(crate) struct Refused {
+    pub(crate) event: Event,
+    pub(crate) refusal: Refusal,
 }
 
 impl From<Refused> for StepFault {
@@ -200,46 +200,16 @@ impl Plan {
         }
     }
 
-    /// Whether the recovery of an open ledger would be accepted after a fence by the same worker, and both have room: what a
-    /// further command has holds both, since names have at most 300 bytes. It is tried and taken back, so nothing changes.
-    pub(crate) fn check_recovery(
-        &mut self,
-        worker: BookieIx,
-        ledger: LedgerId,
-    ) -> Result<(), StepFault>
+    /// Whether these events would be accepted, one after another, where there is room for a further command; otherwise why the
+    /// first that isn't is left. They are tried and taken back, so nothing changes.
+    pub(crate) fn check_all(&mut self, events: &[Event]) -> Result<(), StepFault>
         ensures { self.new ≡ self.old }
     {
         if self.is_full() {
             return Err(StepFault::Left(Reason::NoRoom));
         }
-        let fence = Event::Fence { worker, ledger };
-        let seal = Event::Seal { worker, ledger };
-        self.try_both(&fence, &seal)?;
+        try_all(&mut self.session, events)?;
         Ok(())
-    }
-
-    /// Makes two events and undoes them, or says which one is refused.
-    fn try_both(&mut self, first: &Event, second: &Event) -> Result<(), Refused>
-        ensures { self.new ≡ self.old }
-    {
-        if let Err(refusal) = self.session.act(first) {
-            return Err(Refused {
-                event: *first,
-                refusal,
-            });
-        }
-        let done = self.session.act(second);
-        if done.is_ok() {
-            let _undone = self.session.undo();
-        }
-        let _undone = self.session.undo();
-        match done {
-            Ok(()) => Ok(()),
-            Err(refusal) => Err(Refused {
-                event: *second,
-                refusal,
-            }),
-        }
     }
 
     /// Whether there is no room for a further command, beside the comments on the ledgers that are left.
@@ -269,6 +239,25 @@ impl Plan {
         push_line(&mut self.text, line)?;
         Ok(())
     }
+}
+
+/// Makes these events and undoes them, or says which one is refused.
+fn try_all(session: &mut Session, events: &[Event]) -> Result<(), Refused>
+    ensures opening { session.new.opening ≡ session.old.opening }
+    ensures done { session.new.done ≡ session.old.done }
+{
+    let [event, rest @ ..] = events else {
+        return Ok(());
+    };
+    if let Err(refusal) = session.act(event) {
+        return Err(Refused {
+            event: *event,
+            refusal,
+        });
+    }
+    let tried = try_all(session, rest);
+    let _undone = session.undo();
+    tried
 }
 
 /// Whether a script of so many bytes has room for a line, and for so many bytes after it.

@@ -5,12 +5,14 @@ ghost use Rattle.reh_plan.specs.Plans.{Works};
 ghost use Rattle.reh_plan.specs.Workers.{Rules, can_work, may_work};
 
 use crate::faults::{PlanFault, Reason, StepFault, first_reason};
-use crate::plans::Plan;
+use crate::plans::{Plan, Refused};
 use crate::workers::{Workers, owner_of};
 use reh_cluster::{Ledger, State};
 use reh_meta::Fragment;
-use reh_scan::{last_fragment, next_entry};
-use reh_types::{BookieIx, Event, LedgerId, LedgerState, MAX_ENSEMBLE_SIZE, Refusal};
+use reh_scan::{check_place, first_unreadable, last_fragment, next_entry};
+use reh_types::{
+    Aim, BookieIx, CLOCK_END, Event, LedgerId, LedgerState, MAX_ENSEMBLE_SIZE, MAX_VERSION, Refusal,
+};
 use std::alloc::{AllocError, Global};
 
 /// A ledger to be repaired, by its place in the picture, and its id.
@@ -103,34 +105,118 @@ impl Repair {
         }
     }
 
-    // What is done
+    // What is tried first
 
-    /// Locks the task by the worker that is to take the place at the index of the fragment.
-    fn lock(
+    /// Whether an open ledger that nobody has locked could be recovered, if the worker locked its task, granted a grace and
+    /// waited for its end; otherwise why not.
+    fn check_grant(&self, plan: &mut Plan, worker: BookieIx) -> Result<(), StepFault>
+        ensures { plan.new ≡ plan.old }
+    {
+        if self.owner(plan.state()).is_some() {
+            return Ok(());
+        }
+        let ledger = self.ledger;
+        let acquire = Event::Acquire { worker, ledger };
+        let grace = Event::Grace { worker, ledger };
+        let fence = Event::Fence { worker, ledger };
+        let seal = Event::Seal { worker, ledger };
+        let ticks = plan.state().grace();
+        if ticks == 0 || CLOCK_END.saturating_sub(plan.state().clock()) < ticks {
+            return plan.check_all(&[acquire, grace, fence, seal]);
+        }
+        plan.check_all(&[acquire, grace, Event::Tick { ticks }, fence, seal])
+    }
+
+    /// Whether the event would be accepted, if the worker locked the task, and nobody has locked it; otherwise why not.
+    fn check_locked(
         &self,
         plan: &mut Plan,
-        workers: &Workers,
-        fragment: usize,
-        index: usize,
-    ) -> Result<BookieIx, StepFault>
-        ensures works { Works workers.now plan.old plan.new }
-        ensures worker { IfOk result (λ worker. may_work workers.now worker ≡ true) }
+        worker: BookieIx,
+        event: &Event,
+    ) -> Result<(), StepFault>
+        ensures { plan.new ≡ plan.old }
     {
-        let Some(worker) = self.worker(plan.state(), workers, fragment, index) else {
-            let fragment = fragment as u64;
-            return Err(StepFault::Left(Reason::NoWorker { fragment }));
+        if self.owner(plan.state()).is_some() {
+            return Ok(());
+        }
+        let ledger = self.ledger;
+        plan.check_all(&[Event::Acquire { worker, ledger }, *event])
+    }
+
+    /// Whether a copy and then the swap of its place would be accepted, if their worker had the ledger's lock; otherwise why
+    /// not.
+    fn check_fill(&self, state: &State, copy: &Event, swap: &Event) -> Result<(), StepFault> {
+        let (
+            Some(ledger),
+            Event::Copy {
+                worker,
+                ledger: id,
+                fragment,
+                index,
+                version: _,
+            },
+        ) = (self.ledger_in(state), *copy)
+        else {
+            return Ok(());
         };
+        let aim = Aim {
+            worker,
+            ledger: id,
+            fragment,
+            index,
+        };
+        if let Some(refusal) = no_copy(state, ledger, &aim) {
+            return Err(StepFault::from(Refused {
+                event: *copy,
+                refusal,
+            }));
+        }
+        if ledger.metadata().version() == MAX_VERSION {
+            return Err(StepFault::from(Refused {
+                event: *swap,
+                refusal: Refusal::VersionEnd,
+            }));
+        }
+        Ok(())
+    }
+
+    // What is done
+
+    /// Locks the task by this worker. Another worker's lock is given back first.
+    fn lock(&self, plan: &mut Plan, worker: BookieIx) -> Result<(), StepFault>
+        ensures { (rules : Rules) → may_work rules worker ≡ true → Works rules plan.old plan.new }
+    {
+        // The check of this function has to meet the types of what stops a step by their names.
+        let _stop: Option<(Reason, Refusal)> = None;
         let ledger = self.ledger;
         match self.owner(plan.state()) {
-            Some(owner) if owner == worker => return Ok(worker),
+            Some(owner) if owner == worker => return Ok(()),
             Some(owner) => plan.work(&Event::Release {
                 worker: owner,
                 ledger,
             })?,
             None => {}
         }
-        plan.work(&Event::Acquire { worker, ledger })?;
-        Ok(worker)
+        plan.work(&Event::Acquire { worker, ledger })
+    }
+
+    /// The worker that is to take the place at the index of the fragment.
+    fn chosen(
+        &self,
+        state: &State,
+        workers: &Workers,
+        fragment: usize,
+        index: usize,
+    ) -> Result<BookieIx, StepFault>
+        ensures { IfOk result (λ worker. may_work workers.now worker ≡ true) }
+    {
+        match self.worker(state, workers, fragment, index) {
+            Some(worker) => Ok(worker),
+            None => {
+                let fragment = fragment as u64;
+                Err(StepFault::Left(Reason::NoWorker { fragment }))
+            }
+        }
     }
 
     /// Who takes the place at the index of the fragment.
@@ -146,7 +232,7 @@ impl Repair {
         workers.choose(state, self.ledger_in(state)?, fragment, index)
     }
 
-    /// Grants the writer of an open ledger its grace, if it needs another bookie.
+    /// Grants the writer of an open ledger its grace, if it needs another bookie, and its recovery will be accepted.
     pub(crate) fn grant(&self, plan: &mut Plan, workers: &Workers) -> Result<(), StepFault>
         requires { workers.now.writers_roll ≡ false }
         ensures { Works workers.now plan.old plan.new }
@@ -159,7 +245,9 @@ impl Repair {
         let Some((LedgerState::Open, last, index)) = self.unclosed(plan.state()) else {
             return Ok(());
         };
-        let worker = self.lock(plan, workers, last, index)?;
+        let worker = self.chosen(plan.state(), workers, last, index)?;
+        self.check_grant(plan, worker)?;
+        self.lock(plan, worker)?;
         let ledger = self.ledger;
         plan.work(&Event::Grace { worker, ledger })
     }
@@ -197,14 +285,18 @@ impl Repair {
     {
         // The check of this function has to meet the types of what stops a step by their names.
         let _stop: Option<(Reason, Refusal)> = None;
-        let worker = self.lock(plan, workers, last, index)?;
+        let worker = self.chosen(plan.state(), workers, last, index)?;
+        self.check_grant(plan, worker)?;
+        self.lock(plan, worker)?;
         let ledger = self.ledger;
-        plan.check_recovery(worker, ledger)?;
-        plan.work(&Event::Fence { worker, ledger })?;
-        plan.work(&Event::Seal { worker, ledger })
+        let fence = Event::Fence { worker, ledger };
+        let seal = Event::Seal { worker, ledger };
+        plan.check_all(&[fence, seal])?;
+        plan.work(&fence)?;
+        plan.work(&seal)
     }
 
-    /// Closes a ledger that was fenced.
+    /// Closes a ledger that was fenced, where that is accepted.
     fn seal(
         &self,
         plan: &mut Plan,
@@ -216,9 +308,12 @@ impl Repair {
     {
         // The check of this function has to meet the types of what stops a step by their names.
         let _stop: Option<(Reason, Refusal)> = None;
-        let worker = self.lock(plan, workers, last, index)?;
+        let worker = self.chosen(plan.state(), workers, last, index)?;
         let ledger = self.ledger;
-        plan.work(&Event::Seal { worker, ledger })
+        let seal = Event::Seal { worker, ledger };
+        self.check_locked(plan, worker, &seal)?;
+        self.lock(plan, worker)?;
+        plan.work(&seal)
     }
 
     /// Has the writer of an open ledger put other bookies in the place of the last ensemble's missing members.
@@ -242,13 +337,12 @@ impl Repair {
         ensures works { Works workers.old plan.old plan.new }
         ensures workers { workers.new ≡ workers.old }
     {
+        // The check of this function has to meet the types of what stops a step by their names.
+        let _stop: Option<(Reason, Refusal)> = None;
         let Some(gap) = self.gap_to_roll(plan.state(), index) else {
             return Ok(());
         };
-        let Some(bookie) = self.worker(plan.state(), workers, gap.fragment, index) else {
-            let fragment = gap.fragment as u64;
-            return Err(StepFault::Left(Reason::NoWorker { fragment }));
-        };
+        let bookie = self.chosen(plan.state(), workers, gap.fragment, index)?;
         workers.add(bookie, gap.entries);
         plan.work(&Event::Roll {
             ledger: self.ledger,
@@ -257,33 +351,37 @@ impl Repair {
         })
     }
 
-    /// Has a worker copy the entries of a missing member's place, and take it.
+    /// Has a worker copy the entries of a missing member's place, and take it, where both are accepted.
     fn fill(&self, plan: &mut Plan, workers: &mut Workers, gap: &Gap) -> Result<(), StepFault>
         ensures works { Works workers.old plan.old plan.new }
         ensures workers { workers.new ≡ workers.old }
     {
         // The check of this function has to meet the types of what stops a step by their names.
         let _stop: Option<(Reason, Refusal)> = None;
-        let worker = self.lock(plan, workers, gap.fragment, gap.index)?;
+        let worker = self.chosen(plan.state(), workers, gap.fragment, gap.index)?;
         let version = self.version(plan.state());
         let ledger = self.ledger;
         let fragment = gap.fragment as u64;
         let index = gap.index as u64;
-        plan.work(&Event::Copy {
+        let copy = Event::Copy {
             worker,
             ledger,
             fragment,
             index,
             version,
-        })?;
+        };
+        let swap = Event::Swap {
+            worker,
+            ledger,
+            fragment,
+            index,
+            version,
+        };
+        self.check_fill(plan.state(), &copy, &swap)?;
+        self.lock(plan, worker)?;
+        plan.work(&copy)?;
         workers.add(worker, gap.entries);
-        plan.work(&Event::Swap {
-            worker,
-            ledger,
-            fragment,
-            index,
-            version,
-        })
+        plan.work(&swap)
     }
 
     /// Does all that can be done for the ledger, and says why something is left, if it is.
@@ -324,6 +422,17 @@ impl Repair {
             }
             ended => ended,
         }
+    }
+}
+
+/// Why the worker of the aim couldn't copy the entries of its place, if it had the ledger's lock.
+fn no_copy(state: &State, ledger: &Ledger, aim: &Aim) -> Option<Refusal> {
+    match check_place(state, ledger, aim) {
+        Ok((fragment, entries)) => match first_unreadable(state, ledger, fragment, entries) {
+            Some(entry) => Some(Refusal::NoSource(entry as u64)),
+            None => None,
+        },
+        Err(refusal) => Some(refusal),
     }
 }
 

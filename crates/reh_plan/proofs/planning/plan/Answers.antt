@@ -46,5 +46,6 @@ returns c =
       only = told.only;
       ends = told.ends;
       harmless = told.harmless;
+      needed = told.needed;
       sum = c.in_ok-fewer.ensures.sum;
     }

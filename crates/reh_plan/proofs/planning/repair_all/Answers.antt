@@ -29,4 +29,5 @@ returns c =
       ends =
           subst (λ (x : Rules). Ends x n.state n.lines) same
           (subst (λ (x : Rules). Ends x n.state n.lines) c.in_ok-work_and_name.ensures.workers c.in_ok-check_end.ensures);
+      needed = c.in_ok-check_needed.ensures;
     }

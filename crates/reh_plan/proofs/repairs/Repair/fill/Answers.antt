@@ -8,8 +8,8 @@ pub returns-clause-works : goal.returns-clause-works
 returns-clause-works c =
     let rules : Rules = c.args.workers.now in
     let d : Draft = c.args.plan.now in
+    let may = c.in_ok-worker.ensures in
     let copied : Works rules d c.work.new.self =
-    works_done rules d c.lock.new.plan c.work.new.self _ c.work.result c.work.ensures.ok c.work.ensures.err
-    c.in_ok-worker.ensures.worker c.lock.ensures.works in
-    works_done rules d c.work.new.self c.work-2.new.self _ c.work-2.result c.work-2.ensures.ok c.work-2.ensures.err
-    c.in_ok-worker.ensures.worker copied
+    works_done rules d c.lock.new.plan c.work.new.self _ c.work.result c.work.ensures.ok c.work.ensures.err may
+    (c.lock.ensures rules may) in
+    works_done rules d c.work.new.self c.work-2.new.self _ c.work-2.result c.work-2.ensures.ok c.work-2.ensures.err may copied

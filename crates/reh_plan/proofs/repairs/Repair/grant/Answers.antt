@@ -1,9 +1,17 @@
--- The worker has the lock.
+-- The worker has the lock, after what is tried is taken back.
 use Rattle.std.proofs.Common.{ap, not}
-use Rattle.reh_plan.proofs.PlanLaws.{both_true, works_done}
+use Rattle.reh_plan.specs.Plans.{Draft, Works}
+use Rattle.reh_plan.specs.Workers.{Rules}
+use Rattle.reh_plan.proofs.PlanLaws.{both_true, works_done, works_none, works_on, works_same}
 use Rattle.reh_plan.proofs.repairs.Repair.grant.Goals as goal
 
 pub returns : goal.returns
 returns c =
-    works_done c.args.workers.now c.args.plan.now c.lock.new.plan c.work.new.self _ c.work.result c.work.ensures.ok
-    c.work.ensures.err (both_true _ _ c.in_ok-worker.ensures.worker (ap not c.requires)) c.lock.ensures.works
+    let rules : Rules = c.args.workers.now in
+    let d : Draft = c.args.plan.now in
+    let may = c.in_ok-worker.ensures in
+    let tried : Works rules d c.check_grant.new.plan =
+    works_same rules d d c.check_grant.new.plan c.check_grant.ensures (works_none rules d) in
+    works_done rules d c.lock.new.plan c.work.new.self _ c.work.result c.work.ensures.ok c.work.ensures.err
+    (both_true _ _ may (ap not c.requires))
+    (works_on rules d c.check_grant.new.plan c.lock.new.plan (c.lock.ensures rules may) tried)
