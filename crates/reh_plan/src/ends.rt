@@ -252,7 +252,7 @@ pub(crate) fn check_end(plan: &Plan, workers: &Workers) -> Result<(), PlanFault>
     Ok(())
 }
 
-/// Checks that what each command of a plan does is used, where its script has room.
+/// Checks that no lock, fence, copy or grace of a plan is in vain, where its script has room.
 pub(crate) fn check_needed(plan: &Plan) -> Result<(), PlanFault>
     ensures { OnOk result (AreNeeded plan.now.lines plan.now.events) }
 {

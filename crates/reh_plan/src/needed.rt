@@ -1,4 +1,4 @@
-// Whether a plan has only commands that are needed.
+// Whether no lock, fence, copy or grace of a plan is in vain.
 ghost use Rattle.std.specs.Prelude.{◌≡◌};
 ghost use Rattle.std.specs.List.{list_any};
 ghost use Rattle.reh_plan.specs.Needed as model;

@@ -56,8 +56,8 @@ pub struct Planned {
 /// were (`lost`). Each ledger that has a task then, or a member that isn't registered, is named in a comment (`named`), and
 /// no other is (`only`). The comment's reason is the first that was met for that ledger, which no clause says. Where the
 /// script has room, no place is left in the end that could be filled, no ledger that could be recovered, or given a bookie
-/// that may work by its writer, no lock, and no task where nothing is missing (`ends`), and what each command does is used:
-/// a lock, a fence and a copy by the next command, and a grace by a fence (`needed`); and no ledger was fenced and left
+/// that may work by its writer, no lock, and no task where nothing is missing (`ends`), and no lock, fence, copy or grace is
+/// in vain: the next command uses the first three, and a fence uses the grace (`needed`); and no ledger was fenced and left
 /// (`harmless`). At the end of the script a comment tells of each fragment of which a write set comes to stand in fewer
 /// racks than before, and than are asked for (`racks` and `told`); `only` and `ends` speak of the lines before these. The
 /// summary tells for each bookie how many places it takes and how many entries it holds more in the end, how many ledgers
