@@ -1,12 +1,15 @@
 -- Ledgers that are named in comments, one after another.
-use Rattle.std.proofs.Common.{◌≡◌, ℕ, ◌+◌, ◌<◌, ◌≤◌, true, false, None, List, [], ◌∷◌, ◌++◌, length, take, get_or, refl, sym, ap, ◌∙◌, subst, arith, true≢false, length-append}
+use Rattle.std.proofs.Common.{◌≡◌, ℕ, ◌+◌, ◌<◌, ◌≤◌, Bool, true, false, None, List, [], ◌∷◌, ◌++◌, length, take, get_or, refl, sym, ap, ◌∙◌, subst, arith, true≢false, length-append}
 use Rattle.std.specs.Prelude.{All, Any, IsTrue}
 use Rattle.std.proofs.lemmas.List.{take_more, take_all, get_or_append_left}
 use Rattle.std.proofs.lemmas.List.Elements.{All-push}
 use Rattle.std.proofs.lemmas.List.Quantifiers.{Any-push}
 use Rattle.reh_model.specs.Cluster.{Cluster, Ledger}
 use Rattle.reh_commands.specs.Answers.{asked}
-use Rattle.reh_plan.specs.Plans.{Draft, is_left, left_line, IsNamed, IsLeaving, IsLeftLine, AllNamed, OnlyLeft}
+use Rattle.reh_plan.specs.Plans.{Draft, is_left, left_line, IsNamed, IsLeaving, IsLeftLine, AllLeft, AllNamed}
+use Rattle.reh_plan.specs.Reasons.{IsReason, reason_text}
+use Rattle.reh_plan.specs.Workers.{Rules}
+use Rattle.reh_plan.specs.declared.reasons.Reason.{Reason}
 
 Any-more : {X : Type 0} (P : X → Type 0) (xs ys : List X) → Any P xs → Any P (xs ++ ys)
 Any-more P xs ys some =
@@ -24,25 +27,26 @@ next_named s lines ledgers k g within is named one =
     (All-push P (take k ledgers) g named one)
 
 -- and its comment is one on a ledger that is left
-pub only_left : (names : List (List ℕ)) (d n : Draft) (k : ℕ) (g : Ledger) → IsLeaving d g.id n
+pub only_left : (rules : Rules) (full : Bool) (names : List (List ℕ)) (d n : Draft) (k : ℕ) (g : Ledger) (reason : Reason)
+    → IsLeaving d g.id reason n → IsReason rules full d.state g reason
     → is_left d.state g ≡ true → k < length d.state.parts.ledgers → g ≡ get_or d.state.parts.ledgers k g
-    → OnlyLeft names d.state d.lines → OnlyLeft names n.state n.lines
-only_left names d n k g leaving left within is only =
-    let line : List ℕ = left_line g.id leaving.0 in
-    subst (λ (x : Draft). OnlyLeft names x.state x.lines) (sym leaving.1)
-    (All-push (λ line. asked names line ≡ None → IsLeftLine d.state d.state.parts.ledgers line) d.lines line only
-    (λ _. (k, g, within, sym is, (left, (leaving.0, refl)))))
+    → AllLeft rules full names d.state d.lines → AllLeft rules full names n.state n.lines
+only_left rules full names d n k g reason leaving why left within is only =
+    let line : List ℕ = left_line g.id (reason_text reason) in
+    subst (λ (x : Draft). AllLeft rules full names x.state x.lines) (sym leaving)
+    (All-push (λ line. asked names line ≡ None → IsLeftLine rules full d.state d.state.parts.ledgers line) d.lines line only
+    (λ _. (k, g, within, sym is, (left, (reason, (why, refl))))))
 
 -- a ledger that is left is named
-pub named_left : (d n : Draft) (k : ℕ) (g : Ledger) → IsLeaving d g.id n → k < length d.state.parts.ledgers
+pub named_left : (d n : Draft) (k : ℕ) (g : Ledger) (reason : Reason) → IsLeaving d g.id reason n → k < length d.state.parts.ledgers
     → g ≡ get_or d.state.parts.ledgers k g → AllNamed d.state d.lines (take k d.state.parts.ledgers)
     → AllNamed n.state n.lines (take (k + 1) n.state.parts.ledgers)
-named_left d n k g leaving within is named =
-    let line : List ℕ = left_line g.id leaving.0 in
-    subst (λ (x : Draft). AllNamed x.state x.lines (take (k + 1) x.state.parts.ledgers)) (sym leaving.1)
+named_left d n k g reason leaving within is named =
+    let line : List ℕ = left_line g.id (reason_text reason) in
+    subst (λ (x : Draft). AllNamed x.state x.lines (take (k + 1) x.state.parts.ledgers)) (sym leaving)
     (next_named d.state (d.lines ++ line ∷ []) d.state.parts.ledgers k g within is
     (named_on d.state d.lines (line ∷ []) (take k d.state.parts.ledgers) named)
-    (λ _. Any-push _ d.lines line (leaving.0, refl)))
+    (λ _. Any-push _ d.lines line (reason_text reason, refl)))
 
 -- and one that isn't need not be
 pub named_else : (d : Draft) (k : ℕ) (g : Ledger) → is_left d.state g ≡ false → k < length d.state.parts.ledgers

@@ -44,12 +44,15 @@ not_closable Open g = first_reason (version_end g ∷ version_end (fenced_ledger
 not_closable InRecovery g = version_end g
 not_closable (Closed end) g = Some NotRecovering
 
+-- why the ledger can't be closed, once it is fenced: too few members answer, or it is closed already or has no next version
+abbrev pub seal_refusal : Cluster → Ledger → Option Refusal
+seal_refusal s g = first_reason (too_few s g ∷ undecided s g ∷ not_closable g.metadata.state g ∷ [])
+
 -- why the bookie can't recover the ledger, if it had the ledger's lock and the grace were over: it can't take a place of the
--- last ensemble, or that misses no member, or the fence of an open ledger would be refused, or the seal
+-- last ensemble, or that misses no member, or the ledger can't be fenced, if it is open, and then closed
 abbrev pub recovery_refusal : Cluster → ℕ → Ledger → Option Refusal
 recovery_refusal s b g =
-    first_reason (target_down s b ∷ target_is_member (last_fragment g.metadata) b ∷ not_needed s g
-    ∷ not_closable g.metadata.state g ∷ too_few s g ∷ undecided s g ∷ [])
+    first_reason (target_down s b ∷ target_is_member (last_fragment g.metadata) b ∷ not_needed s g ∷ seal_refusal s g ∷ [])
 
 -- no bookie that may work can recover the ledger
 abbrev pub IsUnrecoverable : (ℕ → Bool) → Cluster → Ledger → Type 0

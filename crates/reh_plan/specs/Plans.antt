@@ -19,11 +19,11 @@ use Rattle.reh_lines.specs.Lines.{lines_of, ended}
 use Rattle.reh_commands.specs.declared.commands.Command.{Command}
 use Rattle.reh_commands.specs.declared.commands.Command.TheVariants.{Make}
 use Rattle.reh_commands.specs.declared.commands.LineFault.{LineFault}
-use Rattle.reh_plan.specs.Ends.{Ends, IsHarmless}
+use Rattle.reh_plan.specs.Ends.{Ends, IsFull, IsHarmless}
 use Rattle.reh_plan.specs.Needed.{AreNeeded}
+use Rattle.reh_plan.specs.Reasons.{IsReason, reason_text}
 use Rattle.reh_plan.specs.Workers.{Rules, may_work}
-use Rattle.reh_plan.specs.declared.plans.Attempt.{Attempt}
-use Rattle.reh_plan.specs.declared.plans.Attempt.TheVariants.{Made, Refused, Unwritten}
+use Rattle.reh_plan.specs.declared.reasons.Reason.{Reason}
 
 -- Scripts of events
 
@@ -74,12 +74,6 @@ pub record IsMade (d : Draft) (event : Event) (n : Draft) : Type 0 where
   pub events : n.events ≡ d.events ++ event ∷ []
   pub lines : (line : List ℕ) × (asked d.opening.names line ≡ Some (Ok (Make (Do event))))
       × (n.lines ≡ d.lines ++ line ∷ [])
-
--- what becomes of a plan that is to make an event: it does so, or stays as it is
-abbrev pub Makes : Draft → Event → Attempt → Draft → Type 0
-Makes d event Made n = IsMade d event n
-Makes d event (Refused refusal) n = n ≡ d
-Makes d event Unwritten n = n ≡ d
 
 -- in t the bookies that are lost aren't registered, and all others are as in s
 abbrev pub IsWithout : Cluster → (ℕ → Bool) → Cluster → Type 0
@@ -162,36 +156,46 @@ left_line ledger why = codes "# ledger " ++ (decimal ledger ++ (codes " is left:
 abbrev pub IsNamed : List (List ℕ) → ℕ → Type 0
 IsNamed lines ledger = Any (λ line. (why : List ℕ) × (line ≡ left_line ledger why)) lines
 
--- the plan goes on by such a comment
-abbrev pub IsLeaving : Draft → ℕ → Draft → Type 0
-IsLeaving d ledger n =
-    (why : List ℕ) × (n ≡ record d { lines = d.lines ++ left_line ledger why ∷ [] })
+-- the plan goes on by such a comment, with that reason
+abbrev pub IsLeaving : Draft → ℕ → Reason → Draft → Type 0
+IsLeaving d ledger reason n = n ≡ record d { lines = d.lines ++ left_line ledger (reason_text reason) ∷ [] }
 
 -- each of these ledgers with which something is left is named in a comment
 abbrev pub AllNamed : Cluster → List (List ℕ) → List Ledger → Type 0
 AllNamed s lines ledgers = All (λ g. IsTrue (is_left s g) → IsNamed lines g.id) ledgers
 
--- the line is such a comment on one of these ledgers
-abbrev pub IsLeftLine : Cluster → List Ledger → List ℕ → Type 0
-IsLeftLine s ledgers line = Any (λ g. IsTrue (is_left s g) × ((why : List ℕ) × (line ≡ left_line g.id why))) ledgers
+-- the line is such a comment on one of these ledgers, and its reason is one
+abbrev pub IsLeftLine : Rules → Bool → Cluster → List Ledger → List ℕ → Type 0
+IsLeftLine rules full s ledgers line =
+    Any (λ g. IsTrue (is_left s g)
+    × ((reason : Reason) × IsReason rules full s g reason × (line ≡ left_line g.id (reason_text reason)))) ledgers
 
--- each line without an answer is a comment on a ledger with which something is left
-abbrev pub OnlyLeft : List (List ℕ) → Cluster → List (List ℕ) → Type 0
-OnlyLeft names s lines = All (λ line. asked names line ≡ None → IsLeftLine s s.parts.ledgers line) lines
+-- each line without an answer is a comment on a ledger with which something is left, and why
+abbrev pub AllLeft : Rules → Bool → List (List ℕ) → Cluster → List (List ℕ) → Type 0
+AllLeft rules full names s lines =
+    All (λ line. asked names line ≡ None → IsLeftLine rules full s s.parts.ledgers line) lines
 
--- the plan goes on from d to n by comments alone: they name each ledger with which something is left, and no other
-pub record IsNaming (d n : Draft) : Type 0 where
+-- each line without an answer is one of those, and says that there is no room only where the script is full
+pub record OnlyLeft (rules : Rules) (names : List (List ℕ)) (s : Cluster) (lines : List (List ℕ)) : Type 0 where
+  pub full : Bool
+  pub is_full : IsTrue full → IsFull lines
+  pub left : AllLeft rules full names s lines
+
+-- the plan goes on from d to n by comments alone: they name each ledger with which something is left, and why, and no other
+pub record IsNaming (rules : Rules) (full : Bool) (d n : Draft) : Type 0 where
   pub opening : n.opening ≡ d.opening
   pub state : n.state ≡ d.state
   pub events : n.events ≡ d.events
   pub named : AllNamed n.state n.lines n.state.parts.ledgers
-  pub only : OnlyLeft d.opening.names d.state d.lines → OnlyLeft n.opening.names n.state n.lines
+  pub only : AllLeft rules full d.opening.names d.state d.lines → AllLeft rules full n.opening.names n.state n.lines
 
 -- the plan goes on from d to n by such work, and then by comments on what is left
 pub record WorksAndNames (rules : Rules) (d n : Draft) : Type 0 where
   pub worked : Draft
   pub works : Works rules d worked
-  pub naming : IsNaming worked n
+  pub full : Bool
+  pub is_full : IsTrue full → IsFull n.lines
+  pub naming : IsNaming rules full worked n
 
 -- and in the end nothing is left that could be done, where the script has room
 pub record IsRepaired (rules : Rules) (d n : Draft) : Type 0 where

@@ -20,7 +20,7 @@ use reh_types::{Aim, BookieIx, LedgerState, MAX_VERSION};
 use std::alloc::{AllocError, Global};
 
 /// Whether the worker of the aim could take its place, if it had the ledger's lock.
-fn is_fill_accepted(state: &State, ledger: &Ledger, aim: &Aim) -> bool
+pub(crate) fn is_fill_accepted(state: &State, ledger: &Ledger, aim: &Aim) -> bool
     ensures { result ≡ is_none (model.fill_refusal state.now aim.now.worker ledger.now aim.now.fragment aim.now.index) }
 {
     match check_place(state, ledger, aim) {
@@ -72,7 +72,7 @@ fn taker(
 }
 
 /// That place, for a worker.
-fn aim_at(worker: BookieIx, ledger: &Ledger, fragment: usize, index: usize) -> Aim
+pub(crate) fn aim_at(worker: BookieIx, ledger: &Ledger, fragment: usize, index: usize) -> Aim
     ensures { result ≡ record { worker = worker; ledger = ledger.now.id; fragment = fragment; index = index } }
 {
     Aim {
@@ -142,7 +142,7 @@ pub(crate) fn recovering_in(alloc: Global, state: &State) -> Result<Vec<bool>, A
 }
 
 /// Whether a ledger is in recovery.
-fn is_recovering(ledger: &Ledger) -> bool
+pub(crate) fn is_recovering(ledger: &Ledger) -> bool
     ensures { result ≡ is_in_recovery ledger.now.metadata.state }
 {
     match ledger.metadata().state() {
@@ -198,14 +198,14 @@ fn can_settle(state: &State, workers: &Workers, ledger: &Ledger) -> bool
 }
 
 /// Whether the ledger has a writer that changes its ensemble itself.
-fn has_writer(workers: &Workers, ledger: &Ledger) -> bool
+pub(crate) fn has_writer(workers: &Workers, ledger: &Ledger) -> bool
     ensures { result ≡ model.has_writer workers.now ledger.now }
 {
     workers.do_writers_roll() && is_open(ledger)
 }
 
 /// Whether a ledger is open.
-fn is_open(ledger: &Ledger) -> bool
+pub(crate) fn is_open(ledger: &Ledger) -> bool
     ensures { result ≡ meta.is_open ledger.now.metadata.state }
 {
     match ledger.metadata().state() {
@@ -247,6 +247,16 @@ pub(crate) fn check_end(plan: &Plan, workers: &Workers) -> Result<(), PlanFault>
     ensures { OnOk result (model.Ends workers.now plan.now.state plan.now.lines) }
 {
     if !plan.is_full() && has_unfinished(plan.state(), workers) {
+        return Err(PlanFault::Unfinished);
+    }
+    Ok(())
+}
+
+/// Checks that a script that had no room for a further command has none.
+pub(crate) fn check_full(plan: &Plan, full: bool) -> Result<(), PlanFault>
+    ensures { OnOk result (IsTrue full → model.IsFull plan.now.lines) }
+{
+    if full && !plan.is_full() {
         return Err(PlanFault::Unfinished);
     }
     Ok(())

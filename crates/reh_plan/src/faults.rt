@@ -1,6 +1,5 @@
-// Why there is no plan, and why something of a plan is not done.
-use reh_commands::Verb;
-use reh_types::{Event, Refusal};
+// Why there is no plan, and what keeps a step of it from being made.
+use reh_types::Refusal;
 use std::alloc::AllocError;
 use std::error::Error;
 use std::fmt;
@@ -43,53 +42,11 @@ impl From<AllocError> for PlanFault {
     }
 }
 
-/// Why something is left to do for a ledger.
-#[derive(Clone, Copy)]
-pub enum Reason {
-    /// No bookie that may take places is registered and outside of the ensemble of this fragment.
-    NoWorker { fragment: u64 },
-    /// This event is refused.
-    Refused { event: Event, refusal: Refusal },
-    /// The script has no room for a further command.
-    NoRoom,
-    /// The ledger has no task.
-    NoTask,
-}
-
-impl fmt::Display for Reason {
-    fn fmt<W: fmt::Write>(&self, f: &mut fmt::Formatter<W>) -> fmt::Result {
-        match self {
-            Reason::NoWorker { fragment } => write!(f, "fragment {fragment}: no worker"),
-            Reason::Refused { event, refusal } => {
-                let verb = Verb::of_event(event).name();
-                match event {
-                    Event::Copy {
-                        fragment,
-                        index,
-                        ..
-                    }
-                    | Event::Swap {
-                        fragment,
-                        index,
-                        ..
-                    } => write!(
-                        f,
-                        "fragment {fragment} index {index}: {verb} refused {refusal}"
-                    ),
-                    _ => write!(f, "{verb} refused {refusal}"),
-                }
-            }
-            Reason::NoRoom => f.write_str("no room in the script"),
-            Reason::NoTask => f.write_str("no task"),
-        }
-    }
-}
-
 /// Why a step of a plan is not made: something is left then, or there is no plan.
 #[derive(Clone, Copy)]
 pub(crate) enum StepFault {
-    /// Something is left for this reason.
-    Left(Reason),
+    /// No worker can make it, its event is refused, or the script has no room for its line.
+    Left,
     /// There is no plan.
     Fault(PlanFault),
 }
@@ -100,17 +57,25 @@ impl From<PlanFault> for StepFault {
     }
 }
 
-/// The first reason why something is left, after one step more.
-pub(crate) fn first_reason(
-    left: Option<Reason>,
-    step: Result<(), StepFault>,
-) -> Result<Option<Reason>, PlanFault> {
+impl From<AllocError> for StepFault {
+    fn from(want: AllocError) -> StepFault {
+        StepFault::Fault(PlanFault::from(want))
+    }
+}
+
+impl From<Refusal> for StepFault {
+    fn from(refusal: Refusal) -> StepFault {
+        match refusal {
+            Refusal::NoMemory => StepFault::Fault(PlanFault::NoMemory),
+            _ => StepFault::Left,
+        }
+    }
+}
+
+/// Goes on after a step, whether it was made or is left.
+pub(crate) fn go_on(step: Result<(), StepFault>) -> Result<(), PlanFault> {
     match step {
-        Ok(()) => Ok(left),
         Err(StepFault::Fault(fault)) => Err(fault),
-        Err(StepFault::Left(reason)) => match left {
-            Some(first) => Ok(Some(first)),
-            None => Ok(Some(reason)),
-        },
+        Ok(()) | Err(StepFault::Left) => Ok(()),
     }
 }

@@ -10,6 +10,7 @@ mod objects;
 mod planning;
 mod plans;
 mod racks;
+mod reasons;
 mod recoveries;
 mod repairs;
 mod rolls;

@@ -15,18 +15,19 @@ ghost use Rattle.reh_plan.specs.Summaries.{IsSum, holdings_of};
 ghost use Rattle.reh_plan.specs.Racks as model;
 ghost use Rattle.reh_plan.specs.Workers.{Rules, can_work, may_work, rules_by};
 
-use crate::ends::{check_end, check_harmless, check_needed, recovering_in};
-use crate::faults::{PlanFault, Reason, first_reason};
+use crate::ends::{check_end, check_full, check_harmless, check_needed, recovering_in};
+use crate::faults::{PlanFault, go_on};
 use crate::fewer::{FewerRacks, fewer_racks, metadata_of, tell};
 use crate::plans::Plan;
 use crate::racks::Racks;
+use crate::reasons::reason_for;
 use crate::repairs::Repair;
 use crate::summaries::{Summary, holdings_of, is_left, summary_of};
 use crate::workers::Workers;
 use reh_cluster::State;
 use reh_meta::LedgerMeta;
-use reh_types::{BookieIx, BookieSet, Event, MAX_BOOKIES, Refusal};
-use std::alloc::{AllocError, Global};
+use reh_types::{BookieIx, BookieSet, Event, MAX_BOOKIES};
+use std::alloc::Global;
 
 /// A plan, and what it comes to.
 #[derive(Drop)]
@@ -54,8 +55,8 @@ pub struct Planned {
 /// part only with `writers_roll`, and then no ledger gets a grace or is fenced (`order`). Each bookie that copies entries or
 /// takes a place is registered, too (`filled`). In the end the lost bookies aren't registered, and all others are as they
 /// were (`lost`). Each ledger that has a task then, or a member that isn't registered, is named in a comment (`named`), and
-/// no other is (`only`). The comment's reason is the first that was met for that ledger, which no clause says. Where the
-/// script has room, no place is left in the end that could be filled, no ledger that could be recovered, or given a bookie
+/// no other is, and for a reason that is so in the end; that there is no room only where the script has none (`only`). Where
+/// the script has room, no place is left in the end that could be filled, no ledger that could be recovered, or given a bookie
 /// that may work by its writer, no lock, and no task where nothing is missing (`ends`), and no lock, fence, copy or grace is
 /// in vain: the next command uses the first three, and a fence uses the grace (`needed`); and no ledger was fenced and left
 /// (`harmless`). At the end of the script a comment tells of each fragment of which a write set comes to stand in fewer
@@ -87,7 +88,8 @@ pub fn plan(
     ensures told { IfOk result (λ p.
         p.plan.lines ≡ model.lines_before p.fewer.items p.plan.lines ++ map model.racks_line p.fewer.items) }
     ensures only { IfOk result (λ p.
-        OnlyLeft state.names p.plan.state (model.lines_before p.fewer.items p.plan.lines)) }
+        OnlyLeft (rules_by allowed.now read_only.now writers_roll) state.names p.plan.state
+        (model.lines_before p.fewer.items p.plan.lines)) }
     ensures ends { IfOk result (λ p. Ends (rules_by allowed.now read_only.now writers_roll) p.plan.state
         (model.lines_before p.fewer.items p.plan.lines)) }
     ensures harmless { IfOk result (λ p. IsHarmless state p.plan.state) }
@@ -206,8 +208,10 @@ fn work_and_name(alloc: Global, plan: &mut Plan, workers: &mut Workers) -> Resul
     ensures names { OnOk result (WorksAndNames workers.old plan.old plan.new) }
     ensures workers { workers.new ≡ workers.old }
 {
-    let reasons = work_all(alloc, plan, workers)?;
-    leave_all(plan, &reasons)?;
+    work_all(alloc, plan, workers)?;
+    let full = plan.is_full();
+    leave_all(plan, workers, full)?;
+    check_full(plan, full)?;
     Ok(())
 }
 
@@ -256,15 +260,13 @@ fn roll_all(plan: &mut Plan, workers: &mut Workers) -> Result<(), PlanFault>
     ensures works { Works workers.old plan.old plan.new }
     ensures workers { workers.new ≡ workers.old }
 {
-    // The check of this loop has to meet the types of what stops a step by their names.
-    let _stop: Option<(Reason, Refusal, Event)> = None;
     if !workers.do_writers_roll() {
         return Ok(());
     }
     for place in 0..plan.state().ledgers().len() {
         if let Some(repair) = repair_at(plan.state(), place) {
             let rolled = repair.roll(plan, workers);
-            first_reason(None, rolled)?;
+            go_on(rolled)?;
         }
     }
     Ok(())
@@ -275,15 +277,13 @@ fn roll_all(plan: &mut Plan, workers: &mut Workers) -> Result<(), PlanFault>
 fn grant_all(plan: &mut Plan, workers: &Workers) -> Result<(), PlanFault>
     ensures { Works workers.now plan.old plan.new }
 {
-    // The check of this loop has to meet the types of what stops a step by their names.
-    let _stop: Option<(Reason, Refusal, Event)> = None;
     if workers.do_writers_roll() {
         return Ok(());
     }
     for place in 0..plan.state().ledgers().len() {
         if let Some(repair) = repair_at(plan.state(), place) {
             let granted = repair.grant(plan, workers);
-            first_reason(None, granted)?;
+            go_on(granted)?;
         }
     }
     plan.wait(ticks_to_fence(plan.state()))
@@ -302,49 +302,32 @@ fn ticks_to_fence(state: &State) -> u64 {
     ticks
 }
 
-/// Does what can be done for each ledger with a task, in picture order, and says of each ledger why something is left.
-fn work_all(
-    alloc: Global,
-    plan: &mut Plan,
-    workers: &mut Workers,
-) -> Result<Vec<Option<Reason>>, PlanFault>
+/// Does what can be done for each ledger with a task, in picture order.
+fn work_all(alloc: Global, plan: &mut Plan, workers: &mut Workers) -> Result<(), PlanFault>
     ensures works { Works workers.old plan.old plan.new }
     ensures workers { workers.new ≡ workers.old }
 {
-    // The check of this loop has to meet the types of what stops a step by their names.
-    let _stop: Option<(Reason, Refusal, Event)> = None;
-    let count = plan.state().ledgers().len();
-    let mut reasons = Vec::with_capacity(alloc, count)?;
-    for place in 0..count {
-        let left = work_at(alloc, plan, workers, place)?;
-        push_reason(&mut reasons, left)?;
+    for place in 0..plan.state().ledgers().len() {
+        work_at(alloc, plan, workers, place)?;
     }
-    Ok(reasons)
-}
-
-/// Adds why something is left for a ledger, if it is.
-fn push_reason(reasons: &mut Vec<Option<Reason>>, left: Option<Reason>) -> Result<(), AllocError> {
-    // The check of this call has to meet the types of a reason by their names.
-    let _reason: Option<(Reason, Refusal, Event)> = None;
-    reasons.push(left)?;
     Ok(())
 }
 
-/// Does what can be done for the ledger at a place of the picture, if it has a task, and says why something is left.
+/// Does what can be done for the ledger at a place of the picture, if it has a task.
 fn work_at(
     alloc: Global,
     plan: &mut Plan,
     workers: &mut Workers,
     place: usize,
-) -> Result<Option<Reason>, PlanFault>
+) -> Result<(), PlanFault>
     ensures works { Works workers.old plan.old plan.new }
     ensures workers { workers.new ≡ workers.old }
 {
     let Some(repair) = repair_at(plan.state(), place) else {
-        return Ok(None);
+        return Ok(());
     };
     if !repair.has_task(plan.state()) {
-        return Ok(None);
+        return Ok(());
     }
     repair.work(alloc, plan, workers)
 }
@@ -358,25 +341,18 @@ fn repair_at(state: &State, place: usize) -> Option<Repair> {
     })
 }
 
-/// Names in a comment each ledger that has a task, or a member that isn't registered, with the reason that there is for
-/// it.
-fn leave_all(plan: &mut Plan, reasons: &[Option<Reason>]) -> Result<(), PlanFault>
-    ensures { OnOk result (IsNaming plan.old plan.new) }
+/// Names in a comment each ledger that has a task, or a member that isn't registered, and why, where the script is full or has
+/// room.
+fn leave_all(plan: &mut Plan, workers: &Workers, full: bool) -> Result<(), PlanFault>
+    ensures { OnOk result (IsNaming workers.now full plan.old plan.new) }
 {
     for place in 0..plan.state().ledgers().len() {
         let ledger = &plan.state().ledgers()[place];
         if is_left(plan.state(), ledger) {
+            let reason = reason_for(plan.state(), workers, ledger, full)?;
             let id = ledger.id();
-            plan.leave(id, reason_at(reasons, place))?;
+            plan.leave(id, &reason)?;
         }
     }
     Ok(())
-}
-
-/// The reason for a ledger; without one the ledger has no task.
-fn reason_at(reasons: &[Option<Reason>], place: usize) -> Reason {
-    match reasons.get(place) {
-        Some(Some(reason)) => *reason,
-        _ => Reason::NoTask,
-    }
 }

@@ -1,5 +1,5 @@
 // A plan as it grows: a script beside the session on which its commands are made.
-ghost use Rattle.std.specs.Prelude.{◌≡◌, ◌==◌, ◌+◌, ◌≤◌, ◌∷◌, ◌++◌, [], true, false, not, length, IfOk, OnOk, OnErr, MatchResult, None, Some, Ok};
+ghost use Rattle.std.specs.Prelude.{◌≡◌, ◌==◌, ◌+◌, ◌≤◌, ◌∷◌, ◌++◌, [], true, false, not, length, IfOk, OnOk, OnErr, None, Some, Ok};
 ghost use Rattle.std.specs.Prelude.{IsTrue};
 ghost use Rattle.reh_types.specs.declared.limits.TheConstants.{MAX_SCRIPT_BYTES};
 ghost use Rattle.reh_model.specs.Book.{new_book};
@@ -11,44 +11,17 @@ ghost use Rattle.reh_lines.specs.Lines.{lines_of};
 ghost use Rattle.reh_transcript.specs.Transcript.{starting, transcript};
 ghost use Rattle.reh_plan.specs.Replies.{ok_answers};
 ghost use Rattle.reh_plan.specs.Ends.{IsFull};
-ghost use Rattle.reh_plan.specs.Plans.{Asks, IsMade, Makes, Works, Loses, is_nobodys, has_lf, loss_of, IsLeaving};
+ghost use Rattle.reh_plan.specs.Plans.{Asks, IsMade, Works, Loses, is_nobodys, has_lf, loss_of, IsLeaving};
 ghost use Rattle.reh_plan.specs.Workers.{Rules};
 
-use crate::faults::{PlanFault, Reason, StepFault};
+use crate::faults::{PlanFault, StepFault, go_on};
+use crate::reasons::Reason;
 use reh_cluster::{Names, State};
 use reh_commands::{Command, command_text, parse_line};
 use reh_session::Session;
 use reh_types::{BookieIx, Event, LedgerId, MAX_LEDGERS, MAX_SCRIPT_BYTES, Move, Refusal};
 use std::alloc::{AllocError, Global};
 use std::marker::Model;
-
-/// What became of an event that a plan was to make.
-#[derive(Clone, Copy)]
-pub(crate) enum Attempt {
-    /// It was made, and its command is the plan's last line.
-    Made,
-    /// It was refused.
-    Refused(Refusal),
-    /// It has no line, or the script has no room for its line.
-    Unwritten,
-}
-
-/// An event that is refused, and why.
-#[derive(Clone, Copy)]
-pub(crate) struct Refused {
-    pub(crate) event: Event,
-    pub(crate) refusal: Refusal,
-}
-
-impl From<Refused> for StepFault {
-    fn from(refused: Refused) -> StepFault {
-        let event = refused.event;
-        match refused.refusal {
-            Refusal::NoMemory => StepFault::Fault(PlanFault::NoMemory),
-            refusal => StepFault::Left(Reason::Refused { event, refusal }),
-        }
-    }
-}
 
 /// How many bytes of a script are kept free for the comments on the ledgers that are left.
 const COMMENT_BYTES: usize = 128 * MAX_LEDGERS;
@@ -123,29 +96,13 @@ impl Plan {
     pub(crate) fn lose(&mut self, bookie: BookieIx) -> Result<(), PlanFault>
         ensures { OnOk result (Loses self.old (λ b. bookie == b) (loss_of self.old.state bookie) self.new) }
     {
-        // The check of this function has to meet the type of a refusal by its name.
-        let _refusal: Option<Refusal> = None;
         if !self.state().is_up(bookie) {
             return Ok(());
         }
-        match self.make(&Event::Lose { bookie })? {
-            Attempt::Made => Ok(()),
-            _ => Err(PlanFault::NoRoom),
-        }
-    }
-
-    /// Makes an event and writes its command, or says why nothing changes.
-    pub(crate) fn work(&mut self, event: &Event) -> Result<(), StepFault>
-        ensures ok { OnOk result (IsMade self.old event.now self.new) }
-        ensures err { OnErr result (self.new ≡ self.old) }
-    {
-        match self.make(event)? {
-            Attempt::Made => Ok(()),
-            Attempt::Refused(refusal) => Err(StepFault::Left(Reason::Refused {
-                event: *event,
-                refusal,
-            })),
-            Attempt::Unwritten => Err(StepFault::Left(Reason::NoRoom)),
+        match self.work(&Event::Lose { bookie }) {
+            Ok(()) => Ok(()),
+            Err(StepFault::Left) => Err(PlanFault::NoRoom),
+            Err(StepFault::Fault(fault)) => Err(fault),
         }
     }
 
@@ -164,49 +121,43 @@ impl Plan {
         requires { is_nobodys event.now ≡ true }
         ensures { (rules : Rules) → Works rules self.old self.new }
     {
-        match self.work(event) {
-            Err(StepFault::Fault(fault)) => Err(fault),
-            Err(StepFault::Left(_)) => Ok(()),
-            Ok(()) => Ok(()),
-        }
+        let attempted = self.work(event);
+        go_on(attempted)
     }
 
     /// Makes an event and writes its command. Where the event is refused, or has no line, or there is no room for its line,
     /// nothing changes.
-    fn make(&mut self, event: &Event) -> Result<Attempt, PlanFault>
-        ensures { MatchResult result
-            (λ outcome. Makes self.old event.now outcome self.new) (λ _. self.new ≡ self.old) }
+    pub(crate) fn work(&mut self, event: &Event) -> Result<(), StepFault>
+        ensures ok { OnOk result (IsMade self.old event.now self.new) }
+        ensures err { OnErr result (self.new ≡ self.old) }
     {
         let alloc = self.session.allocator();
         let command = Command::Make(Move::Do(*event));
         let Some(written) = command_text(alloc, self.session.state().names(), &command)? else {
-            return Ok(Attempt::Unwritten);
+            return Err(StepFault::Left);
         };
         let line = written.as_bytes();
         let length = self.text.len();
         if !has_room(length, line, COMMENT_BYTES) {
-            return Ok(Attempt::Unwritten);
+            return Err(StepFault::Left);
         }
         push_line(&mut self.text, line)?;
         match self.session.act(event) {
-            Ok(()) => Ok(Attempt::Made),
+            Ok(()) => Ok(()),
             Err(refusal) => {
                 self.text.truncate(length);
-                match refusal {
-                    Refusal::NoMemory => Err(PlanFault::NoMemory),
-                    refusal => Ok(Attempt::Refused(refusal)),
-                }
+                Err(StepFault::from(refusal))
             }
         }
     }
 
-    /// Whether these events would be accepted, one after another, where there is room for a further command; otherwise why the
-    /// first that isn't is left. They are tried and taken back, so nothing changes.
+    /// Whether these events would be accepted, one after another, and there is room for a further command. They are tried and
+    /// taken back, so nothing changes.
     pub(crate) fn check_all(&mut self, events: &[Event]) -> Result<(), StepFault>
         ensures { self.new ≡ self.old }
     {
         if self.is_full() {
-            return Err(StepFault::Left(Reason::NoRoom));
+            return Err(StepFault::Left);
         }
         try_all(&mut self.session, events)?;
         Ok(())
@@ -220,12 +171,12 @@ impl Plan {
     }
 
     /// Writes the comment that a ledger is left, and why.
-    pub(crate) fn leave(&mut self, ledger: LedgerId, reason: Reason) -> Result<(), PlanFault>
-        ensures { OnOk result (IsLeaving self.old ledger self.new) }
+    pub(crate) fn leave(&mut self, ledger: LedgerId, reason: &Reason) -> Result<(), PlanFault>
+        ensures { OnOk result (IsLeaving self.old ledger reason.now self.new) }
     {
         let alloc = self.session.allocator();
-        let why = format!(in alloc; "{reason}")?;
-        let line = format!(in alloc; "# ledger {} is left: {}", ledger.0, why.as_str())?;
+        let id = ledger.0;
+        let line = format!(in alloc; "# ledger {id} is left: {reason}")?;
         self.remark(line.as_bytes())
     }
 
@@ -241,20 +192,15 @@ impl Plan {
     }
 }
 
-/// Makes these events and undoes them, or says which one is refused.
-fn try_all(session: &mut Session, events: &[Event]) -> Result<(), Refused>
+/// Makes these events and undoes them, or says why one is refused.
+fn try_all(session: &mut Session, events: &[Event]) -> Result<(), Refusal>
     ensures opening { session.new.opening ≡ session.old.opening }
     ensures done { session.new.done ≡ session.old.done }
 {
     let [event, rest @ ..] = events else {
         return Ok(());
     };
-    if let Err(refusal) = session.act(event) {
-        return Err(Refused {
-            event: *event,
-            refusal,
-        });
-    }
+    session.act(event)?;
     let tried = try_all(session, rest);
     let _undone = session.undo();
     tried

@@ -1,6 +1,6 @@
 // Whether a ledger that isn't closed could be recovered: what a fence and a seal ask, but for the lock and the grace. Where a
 // recovery ends, and whether it is answered, is decided here as a seal decides it, whose own function isn't public.
-ghost use Rattle.std.specs.Prelude.{◌≡◌, ◌≢◌, ◌&&◌, [], ◌∷◌, ℕ, None, length, is_none, IsFalse, IsTrue};
+ghost use Rattle.std.specs.Prelude.{◌≡◌, ◌≢◌, [], ◌∷◌, ℕ, None, length, is_none, IsFalse, IsTrue};
 ghost use Rattle.reh_model.specs.Checks.{first_reason};
 ghost use Rattle.reh_model.specs.Metadata as meta;
 ghost use Rattle.reh_model.specs.Recovery as recovery;
@@ -14,7 +14,7 @@ use reh_cluster::{Ledger, State};
 use reh_meta::Fragment;
 use reh_scan::{first_unreadable, last_fragment};
 use reh_stripe::{Striped, write_set};
-use reh_types::{BookieIx, ENTRY_END, LedgerState, MAX_VERSION};
+use reh_types::{BookieIx, ENTRY_END, LedgerState, MAX_VERSION, Refusal};
 
 /// Whether some bookie that may work could recover the ledger, if it had the ledger's lock and the grace were over.
 pub(crate) fn can_recover(state: &State, workers: &Workers, ledger: &Ledger) -> bool
@@ -24,7 +24,7 @@ pub(crate) fn can_recover(state: &State, workers: &Workers, ledger: &Ledger) -> 
 }
 
 /// Whether some bookie that may work could take the place of a member of the fragment.
-fn has_substitute(state: &State, workers: &Workers, fragment: &Fragment) -> bool
+pub(crate) fn has_substitute(state: &State, workers: &Workers, fragment: &Fragment) -> bool
     ensures { IsFalse result → (b : ℕ) → IsTrue (may_work workers.now b)
         → first_reason (target_down state.now b ∷ target_is_member fragment.now b ∷ []) ≢ None }
 {
@@ -47,29 +47,43 @@ fn is_substitute(state: &State, fragment: &Fragment, bookie: BookieIx) -> bool
 
 /// Whether the last ensemble misses a member, and the ledger could be fenced, if it is open, and then closed.
 fn is_recoverable(state: &State, ledger: &Ledger) -> bool
-    ensures { result ≡ is_none (first_reason (not_needed state.now ledger.now
-        ∷ model.not_closable ledger.now.metadata.state ledger.now ∷ too_few state.now ledger.now ∷ undecided state.now ledger.now ∷ [])) }
+    ensures { result ≡ is_none (first_reason (not_needed state.now ledger.now ∷ model.seal_refusal state.now ledger.now ∷ [])) }
 {
-    is_under(state, last_fragment(ledger)) && is_closable(ledger) && is_answered(state, ledger)
+    is_under(state, last_fragment(ledger)) && seal_refusal(state, ledger).is_none()
 }
 
-/// Whether the ledger isn't closed, and has a next version for a fence, if it is open, and for a seal.
-fn is_closable(ledger: &Ledger) -> bool
-    ensures { result ≡ is_none (model.not_closable ledger.now.metadata.state ledger.now) }
+/// Why the ledger can't be closed, once it is fenced, if it can't.
+pub(crate) fn seal_refusal(state: &State, ledger: &Ledger) -> Option<Refusal>
+    ensures { result ≡ model.seal_refusal state.now ledger.now }
 {
-    let _well_formed_metadata = ledger.metadata().size();
-    let version = ledger.metadata().version();
-    match ledger.metadata().state() {
-        LedgerState::Open => version != MAX_VERSION && version + 1 != MAX_VERSION,
-        LedgerState::InRecovery => version != MAX_VERSION,
-        LedgerState::Closed { end: _ } => false,
+    match unanswered(state, ledger) {
+        None => not_closable(ledger),
+        refusal => refusal,
     }
 }
 
-/// Whether enough registered members answer a recovery: an ack quorum of each entry that it passes, and of the one where it
-/// ends so many that the others are no ack quorum.
-fn is_answered(state: &State, ledger: &Ledger) -> bool
-    ensures { result ≡ is_none (first_reason (too_few state.now ledger.now ∷ undecided state.now ledger.now ∷ [])) }
+/// That the ledger is closed, or has no next version for a fence, if it is open, and for a seal, if it is so.
+fn not_closable(ledger: &Ledger) -> Option<Refusal>
+    ensures { result ≡ model.not_closable ledger.now.metadata.state ledger.now }
+{
+    let _well_formed_metadata = ledger.metadata().size();
+    let version = ledger.metadata().version();
+    let has_next = match ledger.metadata().state() {
+        LedgerState::Open => version != MAX_VERSION && version + 1 != MAX_VERSION,
+        LedgerState::InRecovery => version != MAX_VERSION,
+        LedgerState::Closed { end: _ } => return Some(Refusal::NotRecovering),
+    };
+    if has_next {
+        None
+    } else {
+        Some(Refusal::VersionEnd)
+    }
+}
+
+/// That too few registered members answer a recovery, if it is so: fewer than an ack quorum of an entry that it passes, or, of
+/// the one where it ends, so few that the others may be an ack quorum.
+fn unanswered(state: &State, ledger: &Ledger) -> Option<Refusal>
+    ensures { result ≡ first_reason (too_few state.now ledger.now ∷ undecided state.now ledger.now ∷ []) }
 {
     let metadata = ledger.metadata();
     let last = last_fragment(ledger);
@@ -77,14 +91,14 @@ fn is_answered(state: &State, ledger: &Ledger) -> bool
     // as many entries as the ensemble has members: from there on write sets repeat
     for entry in last.first..end.min(last.first + metadata.size()) {
         if count_up(state, ledger, last, entry) < metadata.ack_quorum() {
-            return false;
+            return Some(Refusal::TooFew(entry as u64));
         }
     }
     let decisive = metadata.write_quorum() - metadata.ack_quorum() + 1;
     if count_up(state, ledger, last, end) < decisive {
-        return false;
+        return Some(Refusal::Undecided(end as u64));
     }
-    true
+    None
 }
 
 /// The first entry of the ledger's last fragment that can't be read.

@@ -4,15 +4,14 @@ ghost use Rattle.std.specs.Prelude.{◌≡◌, IfOk, IfSome, false, true};
 ghost use Rattle.reh_plan.specs.Plans.{Works};
 ghost use Rattle.reh_plan.specs.Workers.{Rules, can_work, may_work};
 
-use crate::faults::{PlanFault, Reason, StepFault, first_reason};
-use crate::plans::{Plan, Refused};
+use crate::ends::{aim_at, is_fill_accepted};
+use crate::faults::{PlanFault, StepFault, go_on};
+use crate::plans::Plan;
+use crate::reasons::first_missing;
 use crate::workers::{Workers, owner_of};
 use reh_cluster::{Ledger, State};
-use reh_meta::Fragment;
-use reh_scan::{check_place, first_unreadable, last_fragment, next_entry};
-use reh_types::{
-    Aim, BookieIx, CLOCK_END, Event, LedgerId, LedgerState, MAX_ENSEMBLE_SIZE, MAX_VERSION, Refusal,
-};
+use reh_scan::{last_fragment, next_entry};
+use reh_types::{BookieIx, CLOCK_END, Event, LedgerId, LedgerState, MAX_ENSEMBLE_SIZE};
 use std::alloc::{AllocError, Global};
 
 /// A ledger to be repaired, by its place in the picture, and its id.
@@ -108,7 +107,7 @@ impl Repair {
     // What is tried first
 
     /// Whether an open ledger that nobody has locked could be recovered, if the worker locked its task, granted a grace and
-    /// waited for its end; otherwise why not.
+    /// waited for its end.
     fn check_grant(&self, plan: &mut Plan, worker: BookieIx) -> Result<(), StepFault>
         ensures { plan.new ≡ plan.old }
     {
@@ -127,7 +126,7 @@ impl Repair {
         plan.check_all(&[acquire, grace, Event::Tick { ticks }, fence, seal])
     }
 
-    /// Whether the event would be accepted, if the worker locked the task, and nobody has locked it; otherwise why not.
+    /// Whether the event would be accepted, if the worker locked the task, and nobody has locked it.
     fn check_locked(
         &self,
         plan: &mut Plan,
@@ -143,41 +142,17 @@ impl Repair {
         plan.check_all(&[Event::Acquire { worker, ledger }, *event])
     }
 
-    /// Whether a copy and then the swap of its place would be accepted, if their worker had the ledger's lock; otherwise why
-    /// not.
-    fn check_fill(&self, state: &State, copy: &Event, swap: &Event) -> Result<(), StepFault> {
-        let (
-            Some(ledger),
-            Event::Copy {
-                worker,
-                ledger: id,
-                fragment,
-                index,
-                version: _,
-            },
-        ) = (self.ledger_in(state), *copy)
-        else {
+    /// Whether the worker could take the place, if it had the ledger's lock.
+    fn check_fill(&self, state: &State, worker: BookieIx, gap: &Gap) -> Result<(), StepFault> {
+        let Some(ledger) = self.ledger_in(state) else {
             return Ok(());
         };
-        let aim = Aim {
-            worker,
-            ledger: id,
-            fragment,
-            index,
-        };
-        if let Some(refusal) = no_copy(state, ledger, &aim) {
-            return Err(StepFault::from(Refused {
-                event: *copy,
-                refusal,
-            }));
+        let aim = aim_at(worker, ledger, gap.fragment, gap.index);
+        if is_fill_accepted(state, ledger, &aim) {
+            Ok(())
+        } else {
+            Err(StepFault::Left)
         }
-        if ledger.metadata().version() == MAX_VERSION {
-            return Err(StepFault::from(Refused {
-                event: *swap,
-                refusal: Refusal::VersionEnd,
-            }));
-        }
-        Ok(())
     }
 
     // What is done
@@ -186,8 +161,6 @@ impl Repair {
     fn lock(&self, plan: &mut Plan, worker: BookieIx) -> Result<(), StepFault>
         ensures { (rules : Rules) → may_work rules worker ≡ true → Works rules plan.old plan.new }
     {
-        // The check of this function has to meet the types of what stops a step by their names.
-        let _stop: Option<(Reason, Refusal)> = None;
         let ledger = self.ledger;
         match self.owner(plan.state()) {
             Some(owner) if owner == worker => return Ok(()),
@@ -212,10 +185,7 @@ impl Repair {
     {
         match self.worker(state, workers, fragment, index) {
             Some(worker) => Ok(worker),
-            None => {
-                let fragment = fragment as u64;
-                Err(StepFault::Left(Reason::NoWorker { fragment }))
-            }
+            None => Err(StepFault::Left),
         }
     }
 
@@ -237,8 +207,6 @@ impl Repair {
         requires { workers.now.writers_roll ≡ false }
         ensures { Works workers.now plan.old plan.new }
     {
-        // The check of this function has to meet the types of what stops a step by their names.
-        let _stop: Option<(Reason, Refusal)> = None;
         if !self.has_task(plan.state()) {
             return Ok(());
         }
@@ -283,8 +251,6 @@ impl Repair {
         requires { workers.now.writers_roll ≡ false }
         ensures { Works workers.now plan.old plan.new }
     {
-        // The check of this function has to meet the types of what stops a step by their names.
-        let _stop: Option<(Reason, Refusal)> = None;
         let worker = self.chosen(plan.state(), workers, last, index)?;
         self.check_grant(plan, worker)?;
         self.lock(plan, worker)?;
@@ -306,8 +272,6 @@ impl Repair {
     ) -> Result<(), StepFault>
         ensures { Works workers.now plan.old plan.new }
     {
-        // The check of this function has to meet the types of what stops a step by their names.
-        let _stop: Option<(Reason, Refusal)> = None;
         let worker = self.chosen(plan.state(), workers, last, index)?;
         let ledger = self.ledger;
         let seal = Event::Seal { worker, ledger };
@@ -322,8 +286,6 @@ impl Repair {
         ensures works { Works workers.old plan.old plan.new }
         ensures workers { workers.new ≡ workers.old }
     {
-        // The check of this loop has to meet the types of what stops a step by their names.
-        let _stop: Option<(Reason, Refusal, Event)> = None;
         for index in 0..MAX_ENSEMBLE_SIZE as usize {
             self.roll_at(plan, workers, index)?;
         }
@@ -337,8 +299,6 @@ impl Repair {
         ensures works { Works workers.old plan.old plan.new }
         ensures workers { workers.new ≡ workers.old }
     {
-        // The check of this function has to meet the types of what stops a step by their names.
-        let _stop: Option<(Reason, Refusal)> = None;
         let Some(gap) = self.gap_to_roll(plan.state(), index) else {
             return Ok(());
         };
@@ -356,9 +316,8 @@ impl Repair {
         ensures works { Works workers.old plan.old plan.new }
         ensures workers { workers.new ≡ workers.old }
     {
-        // The check of this function has to meet the types of what stops a step by their names.
-        let _stop: Option<(Reason, Refusal)> = None;
         let worker = self.chosen(plan.state(), workers, gap.fragment, gap.index)?;
+        self.check_fill(plan.state(), worker, gap)?;
         let version = self.version(plan.state());
         let ledger = self.ledger;
         let fragment = gap.fragment as u64;
@@ -377,34 +336,31 @@ impl Repair {
             index,
             version,
         };
-        self.check_fill(plan.state(), &copy, &swap)?;
         self.lock(plan, worker)?;
         plan.work(&copy)?;
         workers.add(worker, gap.entries);
         plan.work(&swap)
     }
 
-    /// Does all that can be done for the ledger, and says why something is left, if it is.
+    /// Does all that can be done for the ledger.
     pub(crate) fn work(
         &self,
         alloc: Global,
         plan: &mut Plan,
         workers: &mut Workers,
-    ) -> Result<Option<Reason>, PlanFault>
+    ) -> Result<(), PlanFault>
         ensures works { Works workers.old plan.old plan.new }
         ensures workers { workers.new ≡ workers.old }
     {
-        // The check of this loop has to meet the types of what stops a step by their names.
-        let _stop: Option<(Reason, Refusal, Event)> = None;
         let settled = self.settle(plan, workers);
-        let mut left = first_reason(None, settled)?;
+        go_on(settled)?;
         let gaps = self.gaps(alloc, plan.state())?;
         for gap in &gaps {
             let filled = self.fill(plan, workers, gap);
-            left = first_reason(left, filled)?;
+            go_on(filled)?;
         }
         let ended = self.end(plan);
-        first_reason(left, ended)
+        go_on(ended)
     }
 
     /// Ends the task, if that can be done, or else gives the lock back.
@@ -416,34 +372,10 @@ impl Repair {
         };
         let ledger = self.ledger;
         match plan.work(&Event::Finish { worker, ledger }) {
-            Err(StepFault::Left(reason)) => {
-                plan.work(&Event::Release { worker, ledger })?;
-                Err(StepFault::Left(reason))
-            }
+            Err(StepFault::Left) => plan.work(&Event::Release { worker, ledger }),
             ended => ended,
         }
     }
-}
-
-/// Why the worker of the aim couldn't copy the entries of its place, if it had the ledger's lock.
-fn no_copy(state: &State, ledger: &Ledger, aim: &Aim) -> Option<Refusal> {
-    match check_place(state, ledger, aim) {
-        Ok((fragment, entries)) => match first_unreadable(state, ledger, fragment, entries) {
-            Some(entry) => Some(Refusal::NoSource(entry as u64)),
-            None => None,
-        },
-        Err(refusal) => Some(refusal),
-    }
-}
-
-/// The index of the fragment's first member that isn't registered.
-fn first_missing(state: &State, fragment: &Fragment) -> Option<usize> {
-    for (index, member) in fragment.ensemble.iter().enumerate() {
-        if !state.is_up(*member) {
-            return Some(index);
-        }
-    }
-    None
 }
 
 /// Adds the places of a fragment's missing members, if its entries are known.

@@ -1,10 +1,13 @@
 -- Each ledger that is left is named in its turn.
-use Rattle.std.proofs.Common.{◌≡◌, ℕ, ◌+◌, ◌<◌, length, take, get_or, sym, ap, ◌∙◌, subst, arith, List, true, false}
+use Rattle.std.proofs.Common.{◌≡◌, ℕ, ◌+◌, ◌<◌, length, take, get_or, sym, ap, ◌∙◌, subst, arith, Bool, List, true, false}
 use Rattle.reh_model.specs.Cluster.{Cluster, Ledger}
-use Rattle.reh_plan.specs.Plans.{Draft, IsLeaving, AllNamed, OnlyLeft, is_left}
+use Rattle.reh_plan.specs.Plans.{Draft, IsLeaving, AllLeft, AllNamed, is_left}
+use Rattle.reh_plan.specs.Reasons.{IsReason}
+use Rattle.reh_plan.specs.Workers.{Rules}
+use Rattle.reh_plan.specs.declared.reasons.Reason.{Reason}
 use Rattle.reh_plan.proofs.NamedLaws.{named_left, named_else, named_whole, only_left}
 use Rattle.reh_plan.proofs.planning.leave_all.Goals as goal
-use Rattle.reh_plan.proofs.planning.leave_all.Goals.{then-is_left+in_ok-leave, else-is_left}
+use Rattle.reh_plan.proofs.planning.leave_all.Goals.{then-is_left+in_ok-reason+in_ok-leave, else-is_left}
 
 pub loop-place-preserved : goal.loop-place-preserved
 loop-place-preserved c =
@@ -17,10 +20,15 @@ loop-place-preserved c =
     subst (λ (gs : List Ledger). g ≡ get_or gs k g) list c.index-ledgers-place.is in
     let within : k < length d.state.parts.ledgers = omega (arith, c.loop-place-test.true, c.loop-place.invariant.count) in
     elim c.if-is_left.branch [
-      | then-is_left+in_ok-leave w ↦
-          let leaving : IsLeaving d g.id w.leave.new.self =
-          subst (λ (l : ℕ). IsLeaving d l w.leave.new.self) w.id-id.ensures w.in_ok-leave.ensures in
-          let same = w.plan-is ∙ leaving.1 in
+      | then-is_left+in_ok-reason+in_ok-leave w ↦
+          let rules : Rules = c.args.workers.now in
+          let full : Bool = c.args.full in
+          let reason : Reason = w.in_ok-reason.reason in
+          let leaving : IsLeaving d g.id reason w.leave.new.self =
+          subst (λ (l : ℕ). IsLeaving d l reason w.leave.new.self) w.id-id.ensures w.in_ok-leave.ensures in
+          let why : IsReason rules full d.state g reason =
+          subst (λ (s : Cluster). IsReason rules full s g reason) w.state-in-loop-place-3.ensures w.in_ok-reason.ensures in
+          let same = w.plan-is ∙ leaving in
           let left : is_left d.state g ≡ true =
           ap (λ (s : Cluster). is_left s g) (sym c.state-in-loop-place-2.ensures) ∙ sym c.is_left.ensures ∙ w.if-is_left.true in
           record {
@@ -29,14 +37,14 @@ loop-place-preserved c =
             count = c.loop-place.invariant.count ∙ ap (λ (x : Draft). length x.state.parts.ledgers) (sym same);
             events = ap (λ (x : Draft). x.events) same ∙ c.loop-place.invariant.events;
             only = λ only.
-                subst (λ (x : Draft). OnlyLeft x.opening.names x.state x.lines) (sym w.plan-is)
-                (subst (λ (s : Cluster). OnlyLeft s.names w.leave.new.self.state w.leave.new.self.lines)
-                (sym (ap (λ (x : Draft). x.opening) leaving.1))
-                (only_left d.opening.names d w.leave.new.self k g leaving left within is
+                subst (λ (x : Draft). AllLeft rules full x.opening.names x.state x.lines) (sym w.plan-is)
+                (subst (λ (s : Cluster). AllLeft rules full s.names w.leave.new.self.state w.leave.new.self.lines)
+                (sym (ap (λ (x : Draft). x.opening) leaving))
+                (only_left rules full d.opening.names d w.leave.new.self k g reason leaving why left within is
                 (c.loop-place.invariant.only only)));
             named =
                 subst (λ (x : Draft). AllNamed x.state x.lines (take (k + 1) x.state.parts.ledgers)) (sym w.plan-is)
-                (named_left d w.leave.new.self k g leaving within is c.loop-place.invariant.named);
+                (named_left d w.leave.new.self k g reason leaving within is c.loop-place.invariant.named);
           }
       | else-is_left w ↦
           let fine : is_left d.state g ≡ false =
@@ -47,7 +55,7 @@ loop-place-preserved c =
             count = c.loop-place.invariant.count ∙ ap (λ (x : Draft). length x.state.parts.ledgers) (sym w.plan-is);
             events = ap (λ (x : Draft). x.events) w.plan-is ∙ c.loop-place.invariant.events;
             only = λ only.
-                subst (λ (x : Draft). OnlyLeft x.opening.names x.state x.lines) (sym w.plan-is)
+                subst (λ (x : Draft). AllLeft c.args.workers.now c.args.full x.opening.names x.state x.lines) (sym w.plan-is)
                 (c.loop-place.invariant.only only);
             named =
                 subst (λ (x : Draft). AllNamed x.state x.lines (take (k + 1) x.state.parts.ledgers)) (sym w.plan-is)

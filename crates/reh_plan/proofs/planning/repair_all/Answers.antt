@@ -24,6 +24,8 @@ returns c =
         works =
             works_on rules d g named.worked named.works
             (works_on rules d p g granted (works_on rules d r p (c.publish.ensures rules) c.roll_all.ensures.works));
+        full = named.full;
+        is_full = named.is_full;
         naming = named.naming;
       };
       ends =

@@ -4,14 +4,14 @@ use Rattle.reh_plan.specs.Plans.{Works}
 use Rattle.reh_plan.specs.Workers.{Rules}
 use Rattle.reh_plan.proofs.PlanLaws.{works_on, works_same}
 use Rattle.reh_plan.proofs.planning.roll_all.Goals as goal
-use Rattle.reh_plan.proofs.planning.roll_all.Goals.{in-Some+in_ok-first_reason, in_default}
+use Rattle.reh_plan.proofs.planning.roll_all.Goals.{in-Some+in_ok-go_on, in_default}
 
 pub loop-place-preserved : goal.loop-place-preserved
 loop-place-preserved c =
     let rules : Rules = c.args.workers.now in
     let same = c.loop-place.invariant.workers in
     elim c.match-repair_at.branch [
-      | in-Some+in_ok-first_reason w ↦ record {
+      | in-Some+in_ok-go_on w ↦ record {
         works =
             works_same rules c.args.plan.now w.roll-rolled.new.plan c.match-repair_at.plan w.plan-is
             (works_on rules c.args.plan.now c.loop-place.plan w.roll-rolled.new.plan

@@ -5,7 +5,7 @@ use Rattle.reh_commands.specs.declared.commands.Command.{Command}
 use Rattle.reh_commands.specs.Answers.{asked}
 use Rattle.reh_plan.specs.Plans.{has_lf}
 use Rattle.reh_plan.proofs.DraftLaws.{IsDraft-event, made_by}
-use Rattle.reh_plan.proofs.plans.Plan.make.Goals as goal
+use Rattle.reh_plan.proofs.plans.Plan.work.Goals as goal
 
 -- what is read back, with the names of the state and the bytes of the text
 asks_for : (names others : List (List ℕ)) (line text : List ℕ) (command : Command) → others ≡ names → line ≡ text
@@ -24,8 +24,8 @@ invariant_of-self-in-Ok c =
     (asks_for c.state.result.now.names c.names.result.now c.as_bytes-line.result.now _ _ c.names.ensures.names c.as_bytes-line.ensures.value read)
     c.in_ok-push_line.ensures.ok c.in-Ok.ensures.answers
 
-pub returns-in-Ok : goal.returns-in-Ok
-returns-in-Ok c =
+pub returns-in-Ok-clause-ok : goal.returns-in-Ok-clause-ok
+returns-in-Ok-clause-ok c =
     let read = rw c.in-Some.is at c.in_ok-written.ensures.read in
     let one_line = rw c.in-Some.is at c.in_ok-written.ensures.one_line in
     made_by c.self.inside.session c.act.new.self c.state.result.now c.args.self.now c.self.inside.text.items

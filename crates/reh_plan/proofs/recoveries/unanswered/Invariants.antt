@@ -2,7 +2,7 @@
 use Rattle.std.proofs.Common.{◌<◌, ◌≤◌, ℕ, length}
 use Rattle.reh_model.specs.Metadata.{last_fragment}
 use Rattle.reh_model.specs.Recovery.{up_writes}
-use Rattle.reh_plan.proofs.recoveries.is_answered.Given as goal
+use Rattle.reh_plan.proofs.recoveries.unanswered.Given as goal
 
 abbrev pub invariant-loop-entry : goal.invariant-loop-entry
 invariant-loop-entry l =

@@ -1,12 +1,11 @@
 -- The first entry with too few members refuses the recovery, or its end where too few members say that they lack the entry.
 use Rattle.std.proofs.Common.{◌≡◌, ◌∙◌, ◌<◌, ◌≤◌, ◌+◌, ◌-◌, ap, sym, subst, arith, ℕ, length, inl, inr}
-use Rattle.std.specs.Prelude.{is_none}
 use Rattle.std.proofs.lemmas.Bool.{cases_lt}
 use Rattle.reh_model.specs.Metadata.{Fragment, Metadata, IsMetadata, last_fragment}
 use Rattle.reh_model.specs.Cluster.{Cluster, Ledger}
 use Rattle.reh_model.specs.Recovery.{up_writes, recovered_end}
 use Rattle.reh_step.proofs.WalkLaws.{all_enough, decided_at_end, stops_before_end, undecided_at_end}
-use Rattle.reh_plan.proofs.recoveries.is_answered.Goals as goal
+use Rattle.reh_plan.proofs.recoveries.unanswered.Goals as goal
 
 -- an ensemble has a member
 some_size : (m : Metadata) → IsMetadata m → 1 ≤ m.size
@@ -23,7 +22,7 @@ returns-then-count_up-ack_quorum c =
     ap (λ (x : Fragment). x.first) (sym c.last_fragment-last.ensures.last) ∙ sym (ap (λ (x : Fragment). x.first) c.last.view_is) in
     let lacks : length (up_writes s g e) < g.metadata.ack_quorum =
     omega (arith, c.count_up.ensures, acks, c.if-count_up-ack_quorum.true) in
-    sym (ap is_none (stops_before_end s g e (omega (arith, first)) (omega (arith, c.recovered_end-end.ensures)) c.loop-entry.invariant lacks))
+    sym (stops_before_end s g e (omega (arith, first)) (omega (arith, c.recovered_end-end.ensures)) c.loop-entry.invariant lacks)
 
 pub loop-entry-preserved : goal.loop-entry-preserved
 loop-entry-preserved c =
@@ -61,7 +60,7 @@ returns-then-count_up-decisive c =
     ap (λ (m : Metadata). m.write_quorum) (sym c.metadata-metadata.ensures) ∙ sym c.write_quorum.ensures in
     let lacks : length (up_writes s g (recovered_end s g)) < g.metadata.write_quorum - g.metadata.ack_quorum + 1 =
     omega (arith, counted, acks, writes, c.if-count_up-decisive.true) in
-    sym (ap is_none (undecided_at_end s g enough lacks))
+    sym (undecided_at_end s g enough lacks)
 
 pub returns : goal.returns
 returns c =
@@ -83,4 +82,4 @@ returns c =
     ap (λ (m : Metadata). m.write_quorum) (sym c.metadata-metadata.ensures) ∙ sym c.write_quorum.ensures in
     let reaches : g.metadata.write_quorum - g.metadata.ack_quorum + 1 ≤ length (up_writes s g (recovered_end s g)) =
     omega (arith, counted, acks, writes, c.if-count_up-decisive.false) in
-    sym (ap is_none (decided_at_end s g enough reaches))
+    sym (decided_at_end s g enough reaches)

@@ -1,0 +1,94 @@
+-- Why something is left for a ledger in the end, and how a comment says it.
+use Rattle.std.specs.Prelude.{◌≡◌, ◌≢◌, ◌×◌, ℕ, Bool, true, false, not, ◌&&◌, ◌||◌, IsTrue, List, [], ◌∷◌, ◌++◌, codes, slice_get}
+use Rattle.std.specs.Prelude.{Option, None, Some, is_none}
+use Rattle.std.specs.Fmt.{decimal}
+use Rattle.std.specs.Option.{option_map_or}
+use Rattle.reh_types.specs.Texts.{refusal_text}
+use Rattle.reh_types.specs.declared.moves.Event.TheVariants.{Roll as RollEvent}
+use Rattle.reh_types.specs.declared.refusals.Refusal.{Refusal}
+use Rattle.reh_types.specs.declared.refusals.Refusal.TheVariants.{VersionEnd}
+use Rattle.reh_model.specs.Audit.{is_needed, is_under}
+use Rattle.reh_model.specs.Checks.{first_reason}
+use Rattle.reh_model.specs.Cluster.{Cluster, Ledger, is_up}
+use Rattle.reh_model.specs.Metadata.{Fragment, is_in_recovery, is_open, last_fragment}
+use Rattle.reh_model.specs.Refusals.{member_up, no_index, no_source, target_down, target_is_member, version_end}
+use Rattle.reh_model.specs.Step.{refusal_of}
+use Rattle.reh_plan.specs.Ends.{has_writer, seal_refusal}
+use Rattle.reh_plan.specs.Workers.{Rules, may_work}
+use Rattle.reh_plan.specs.declared.reasons.Reason.{Reason}
+use Rattle.reh_plan.specs.declared.reasons.Reason.TheVariants.{NoTask, NoWorker, Place, Roll, Seal, NoRoom}
+
+-- When a reason is one
+
+-- a member of the fragment isn't registered, and each bookie that may work isn't either, or is a member
+pub record LacksWorker (rules : Rules) (s : Cluster) (fragment : Fragment) : Type 0 where
+  pub under : is_under s fragment ≡ true
+  pub none : (b : ℕ) → IsTrue (may_work rules b) → first_reason (target_down s b ∷ target_is_member fragment b ∷ []) ≢ None
+
+-- whether the member at that index of the fragment isn't registered
+abbrev pub is_missing_at : Cluster → Ledger → ℕ → ℕ → Bool
+is_missing_at s g f i =
+    option_map_or (λ fragment. option_map_or (λ member. not (is_up s member)) (slice_get fragment.ensemble i) false)
+    (slice_get g.metadata.fragments f) false
+
+-- why no bookie can take that place: some entry can't be copied, or there is no next version
+abbrev pub place_refusal : Cluster → Ledger → ℕ → ℕ → Option Refusal
+place_refusal s g f i = first_reason (no_source s g f i ∷ version_end g ∷ [])
+
+-- a member is missing there, and no bookie can take its place
+pub record IsUnfilled (s : Cluster) (g : Ledger) (f i : ℕ) (refusal : Refusal) : Type 0 where
+  pub missing : is_missing_at s g f i ≡ true
+  pub refused : place_refusal s g f i ≡ Some refusal
+
+-- whether the ledger isn't closed, and its last ensemble misses a member
+abbrev pub is_unsettled : Cluster → Ledger → Bool
+is_unsettled s g = (is_open g.metadata.state || is_in_recovery g.metadata.state) && is_needed s g
+
+-- such a ledger has no writer that changes its ensemble, and can't be closed
+pub record IsUnsealed (rules : Rules) (s : Cluster) (g : Ledger) (refusal : Refusal) : Type 0 where
+  pub alone : has_writer rules g ≡ false
+  pub unsettled : is_unsettled s g ≡ true
+  pub refused : seal_refusal s g ≡ Some refusal
+
+-- why the ledger's writer can't put the bookie at that index of its ensemble
+abbrev pub roll_refusal : Cluster → Ledger → ℕ → ℕ → Option Refusal
+roll_refusal s g i b = refusal_of s (RollEvent g.id i b)
+
+-- a bookie that may work can come to that index of the last ensemble, but that its writer's change is refused so
+pub record IsUnrolled (rules : Rules) (s : Cluster) (g : Ledger) (refusal : Refusal) : Type 0 where
+  pub index : ℕ
+  pub bookie : ℕ
+  pub writer : has_writer rules g ≡ true
+  pub may : IsTrue (may_work rules bookie)
+  pub place :
+      first_reason (no_index g index ∷ member_up s (last_fragment g.metadata) index ∷ target_down s bookie
+      ∷ target_is_member (last_fragment g.metadata) bookie ∷ [])
+      ≡ None
+  pub refused : roll_refusal s g index bookie ≡ Some refusal
+
+-- that is why something is left for the ledger in s, the last state; that there is no room is so only where the script is full
+abbrev pub IsReason : Rules → Bool → Cluster → Ledger → Reason → Type 0
+IsReason rules full s g NoTask = is_none g.task ≡ true
+IsReason rules full s g (NoWorker f) =
+    (fragment : Fragment) × (slice_get g.metadata.fragments f ≡ Some fragment) × LacksWorker rules s fragment
+IsReason rules full s g (Place f i refusal) = IsUnfilled s g f i refusal
+IsReason rules full s g (Roll refusal) = IsUnrolled rules s g refusal
+IsReason rules full s g (Seal refusal) = IsUnsealed rules s g refusal
+IsReason rules full s g NoRoom = full ≡ true
+
+-- Texts
+
+-- the verb of the command that is refused so, of those by which a place is filled
+abbrev pub place_verb : Refusal → List ℕ
+place_verb VersionEnd = codes "swap"
+place_verb other = codes "copy"
+
+abbrev pub reason_text : Reason → List ℕ
+reason_text NoTask = codes "no task"
+reason_text (NoWorker f) = codes "fragment " ++ (decimal f ++ codes ": no worker")
+reason_text (Place f i refusal) =
+    codes "fragment " ++ (decimal f ++ (codes " index " ++ (decimal i ++ (codes ": " ++ (place_verb refusal
+    ++ (codes " refused " ++ refusal_text refusal))))))
+reason_text (Roll refusal) = codes "roll refused " ++ refusal_text refusal
+reason_text (Seal refusal) = codes "seal refused " ++ refusal_text refusal
+reason_text NoRoom = codes "no room in the script"

@@ -1,0 +1,290 @@
+// Why something is left for a ledger in the end.
+ghost use Rattle.std.specs.Prelude.{◌≡◌, Bool, IfOk, IfSome, Some, length, slice_get};
+ghost use Rattle.reh_model.specs.Metadata.{stripe_of};
+ghost use Rattle.reh_plan.specs.Reasons as model;
+
+use crate::ends::{has_writer, is_open, is_recovering};
+use crate::faults::PlanFault;
+use crate::recoveries::{has_substitute, seal_refusal};
+use crate::workers::Workers;
+use reh_audit::is_under;
+use reh_cluster::{Ledger, State};
+use reh_meta::Fragment;
+use reh_scan::{check_member, first_unreadable, last_fragment};
+use reh_step::check_event;
+use reh_stripe::Striped;
+use reh_types::{BookieIx, Event, MAX_VERSION, Refusal};
+use std::fmt;
+
+/// Why something is left to do for a ledger.
+#[derive(Clone, Copy)]
+pub(crate) enum Reason {
+    /// The ledger has no task.
+    NoTask,
+    /// No bookie that may take places is registered and outside of the ensemble of this fragment.
+    NoWorker {
+        fragment: u64,
+    },
+    /// A place can't be filled: its entries can't be copied, or its swap is refused.
+    Place {
+        fragment: u64,
+        index: u64,
+        refusal: Refusal,
+    },
+    /// Its writer can't put another bookie into its ensemble.
+    Roll {
+        refusal: Refusal,
+    },
+    /// It can't be closed.
+    Seal {
+        refusal: Refusal,
+    },
+    /// The script has no room for a further command.
+    NoRoom,
+}
+
+impl fmt::Display for Reason {
+    ghost use Rattle.std.specs.Prelude.{Some};
+    ghost use Rattle.reh_plan.specs.Reasons.{reason_text};
+
+    ghost output = { λ reason. Some (reason_text reason) };
+
+    fn fmt<W: fmt::Write>(&self, f: &mut fmt::Formatter<W>) -> fmt::Result {
+        match self {
+            Reason::NoTask => f.write_str("no task"),
+            Reason::NoWorker { fragment } => write!(f, "fragment {fragment}: no worker"),
+            Reason::Place {
+                fragment,
+                index,
+                refusal,
+            } => {
+                let verb = place_verb(refusal);
+                write!(
+                    f,
+                    "fragment {fragment} index {index}: {verb} refused {refusal}"
+                )
+            }
+            Reason::Roll { refusal } => write!(f, "roll refused {refusal}"),
+            Reason::Seal { refusal } => write!(f, "seal refused {refusal}"),
+            Reason::NoRoom => f.write_str("no room in the script"),
+        }
+    }
+}
+
+/// The verb of the command that is refused so, of those by which a place is filled.
+fn place_verb(refusal: &Refusal) -> &'static str
+    ensures { result.now ≡ model.place_verb refusal.now }
+{
+    match refusal {
+        Refusal::VersionEnd => "swap",
+        _ => "copy",
+    }
+}
+
+/// Why something is left for the ledger in the end, where the script is full or has room.
+pub(crate) fn reason_for(
+    state: &State,
+    workers: &Workers,
+    ledger: &Ledger,
+    full: bool,
+) -> Result<Reason, PlanFault>
+    ensures { IfOk result (model.IsReason workers.now full state.now ledger.now) }
+{
+    if ledger.task().is_none() {
+        return Ok(Reason::NoTask);
+    }
+    if let Some(reason) = unsettled(state, workers, ledger) {
+        return Ok(reason);
+    }
+    if let Some(reason) = unfilled(state, workers, ledger) {
+        return Ok(reason);
+    }
+    if full {
+        Ok(Reason::NoRoom)
+    } else {
+        Err(PlanFault::Unfinished)
+    }
+}
+
+/// Why the last ensemble of a ledger that isn't closed still misses a member, if it does.
+fn unsettled(state: &State, workers: &Workers, ledger: &Ledger) -> Option<Reason>
+    ensures { (full : Bool) → IfSome result (model.IsReason workers.now full state.now ledger.now) }
+{
+    if !is_unsettled(state, ledger) {
+        return None;
+    }
+    let refused = if has_writer(workers, ledger) {
+        unrolled(state, workers, ledger)
+    } else {
+        unsealed(state, workers, ledger)
+    };
+    if refused.is_some() {
+        return refused;
+    }
+    let last = ledger.metadata().fragments().len().checked_sub(1)?;
+    without_worker(state, workers, ledger, last)
+}
+
+/// Whether the ledger isn't closed, and its last ensemble misses a member.
+fn is_unsettled(state: &State, ledger: &Ledger) -> bool
+    ensures { result ≡ model.is_unsettled state.now ledger.now }
+{
+    (is_open(ledger) || is_recovering(ledger)) && is_under(state, last_fragment(ledger))
+}
+
+/// That no bookie can take a missing member's place in the fragment, if it is so.
+fn without_worker(
+    state: &State,
+    workers: &Workers,
+    ledger: &Ledger,
+    number: usize,
+) -> Option<Reason>
+    ensures { (full : Bool) → IfSome result (model.IsReason workers.now full state.now ledger.now) }
+{
+    let fragment = ledger.metadata().fragments().get(number)?;
+    if is_under(state, fragment) && !has_substitute(state, workers, fragment) {
+        return Some(Reason::NoWorker {
+            fragment: number as u64,
+        });
+    }
+    None
+}
+
+/// Why an open ledger's writer can't put a bookie in the place of the first missing member, if it is so.
+fn unrolled(state: &State, workers: &Workers, ledger: &Ledger) -> Option<Reason>
+    ensures { (full : Bool) → IfSome result (model.IsReason workers.now full state.now ledger.now) }
+{
+    if !has_writer(workers, ledger) {
+        return None;
+    }
+    let last = last_fragment(ledger);
+    let index = first_missing(state, last)? as u64;
+    for number in 0..state.names().len() as u8 {
+        let bookie = BookieIx(number);
+        if workers.is_able(bookie) && check_member(state, ledger, last, index, bookie).is_ok() {
+            let refusal = roll_refusal(state, ledger, index, bookie)?;
+            return Some(Reason::Roll { refusal });
+        }
+    }
+    None
+}
+
+/// Why the ledger's writer can't put the bookie at that index, if it can't.
+fn roll_refusal(state: &State, ledger: &Ledger, index: u64, bookie: BookieIx) -> Option<Refusal>
+    ensures { result ≡ model.roll_refusal state.now ledger.now index bookie }
+{
+    let roll = Event::Roll {
+        ledger: ledger.id(),
+        index,
+        bookie,
+    };
+    match check_event(state, &roll) {
+        Ok(()) => None,
+        Err(refusal) => Some(refusal),
+    }
+}
+
+/// The index of the fragment's first member that isn't registered.
+pub(crate) fn first_missing(state: &State, fragment: &Fragment) -> Option<usize> {
+    for (index, member) in fragment.ensemble.iter().enumerate() {
+        if !state.is_up(*member) {
+            return Some(index);
+        }
+    }
+    None
+}
+
+/// Why a ledger that isn't closed and has no writer can't be closed, if it can't.
+fn unsealed(state: &State, workers: &Workers, ledger: &Ledger) -> Option<Reason>
+    ensures { (full : Bool) → IfSome result (model.IsReason workers.now full state.now ledger.now) }
+{
+    if has_writer(workers, ledger) || !is_unsettled(state, ledger) {
+        return None;
+    }
+    let refusal = seal_refusal(state, ledger)?;
+    Some(Reason::Seal { refusal })
+}
+
+/// Why some place of the ledger isn't filled, if it is so.
+fn unfilled(state: &State, workers: &Workers, ledger: &Ledger) -> Option<Reason>
+    ensures { (full : Bool) → IfSome result (model.IsReason workers.now full state.now ledger.now) }
+{
+    for number in 0..ledger.metadata().fragments().len() {
+        if let Some(reason) = unfilled_fragment(state, workers, ledger, number) {
+            return Some(reason);
+        }
+    }
+    None
+}
+
+/// Why some place of the fragment isn't filled, if it is so: an entry that can't be copied comes before a bookie that isn't
+/// there.
+fn unfilled_fragment(
+    state: &State,
+    workers: &Workers,
+    ledger: &Ledger,
+    number: usize,
+) -> Option<Reason>
+    ensures { (full : Bool) → IfSome result (model.IsReason workers.now full state.now ledger.now) }
+{
+    for index in 0..ledger.metadata().size() {
+        if is_missing_at(state, ledger, number, index as usize)
+            && let Some(refusal) = place_refusal(state, ledger, number, index)
+        {
+            return Some(Reason::Place {
+                fragment: number as u64,
+                index: index as u64,
+                refusal,
+            });
+        }
+    }
+    without_worker(state, workers, ledger, number)
+}
+
+/// Whether the member at that index of a fragment isn't registered.
+fn is_missing_at(state: &State, ledger: &Ledger, number: usize, index: usize) -> bool
+    ensures { result ≡ model.is_missing_at state.now ledger.now number index }
+{
+    match ledger.metadata().fragments().get(number) {
+        Some(fragment) => match fragment.ensemble.get(index) {
+            Some(member) => !state.is_up(*member),
+            None => false,
+        },
+        None => false,
+    }
+}
+
+/// Why no bookie can take that place, if its entries are known and it is so.
+fn place_refusal(state: &State, ledger: &Ledger, number: usize, index: u32) -> Option<Refusal>
+    ensures { IfSome result (λ refusal. model.place_refusal state.now ledger.now number index ≡ Some refusal) }
+{
+    let (fragment, entries) = stripe_at(ledger, number, index)?;
+    match first_unreadable(state, ledger, fragment, entries) {
+        Some(entry) => Some(Refusal::NoSource(entry as u64)),
+        None if ledger.metadata().version() == MAX_VERSION => Some(Refusal::VersionEnd),
+        None => None,
+    }
+}
+
+/// A fragment, and the entries that it stripes onto the index, if it has a stop.
+fn stripe_at<'a>(ledger: &'a Ledger, number: usize, index: u32) -> Option<(&'a Fragment, Striped)>
+    ensures { IfSome result (λ place. (slice_get ledger.now.metadata.fragments number ≡ Some place.0.now)
+        × (length place.0.now.ensemble ≡ ledger.now.metadata.size)
+        × (place.1 ≡ stripe_of ledger.now.metadata number index)) }
+{
+    let metadata = ledger.metadata();
+    let Some(fragment) = metadata.fragments().get(number) else {
+        return None;
+    };
+    let Some(stop) = metadata.end_of(number) else {
+        return None;
+    };
+    let stripe = Striped::new(
+        fragment.first,
+        stop,
+        index,
+        metadata.size(),
+        metadata.write_quorum(),
+    );
+    Some((fragment, stripe))
+}
