@@ -319,6 +319,10 @@ works_none rules d = record { opening = refl; lost_at = refl; work = works_nothi
 pub works_same : (rules : Rules) (d n p : Draft) → p ≡ n → Works rules d n → Works rules d p
 works_same rules d n p same first = subst (λ (x : Draft). Works rules d x) (sym same) first
 
+-- what is tried is taken back
+pub works_tried : (rules : Rules) (d n : Draft) → n ≡ d → Works rules d n
+works_tried rules d n same = works_same rules d d n same (works_none rules d)
+
 -- and then makes an event that is work
 pub works_made : (rules : Rules) (d n p : Draft) (event : Event) → IsMade n event p
     → is_work_by rules event ≡ true → Works rules d n → Works rules d p

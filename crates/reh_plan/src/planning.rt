@@ -16,7 +16,7 @@ ghost use Rattle.reh_plan.specs.Racks as model;
 ghost use Rattle.reh_plan.specs.Workers.{Rules, can_work, may_work, rules_by};
 
 use crate::ends::{check_end, check_full, check_harmless, check_needed, recovering_in};
-use crate::faults::{PlanFault, go_on};
+use crate::faults::{PlanFault, StepFault, go_on};
 use crate::fewer::{FewerRacks, fewer_racks, metadata_of, tell};
 use crate::plans::Plan;
 use crate::racks::Racks;
@@ -230,15 +230,61 @@ fn lose_all(plan: &mut Plan, lost: &BookieSet) -> Result<(), PlanFault>
     Ok(())
 }
 
-/// Has the auditor publish what is missing, once the delay for lost bookies is over. Where nothing is, nothing happens.
+/// Has the auditor publish what is missing, once the delay for lost bookies is over. Where it finds nothing, AutoRecovery is
+/// enabled if there is a task.
 fn publish(plan: &mut Plan) -> Result<(), PlanFault>
     ensures { (rules : Rules) → Works rules plan.old plan.new }
 {
-    plan.wait(ticks_to_publish(plan.state()))?;
-    if !plan.state().is_enabled() {
-        plan.attempt(&Event::Enable)?;
+    let ticks = ticks_to_publish(plan.state());
+    let has_news = would_publish(plan, ticks)?;
+    if has_news {
+        plan.wait(ticks)?;
     }
-    plan.attempt(&Event::Audit)
+    if has_news || has_task(plan.state()) {
+        enable(plan)?;
+    }
+    if has_news {
+        plan.attempt(&Event::Audit)?;
+    }
+    Ok(())
+}
+
+/// Whether the auditor would find something to publish, after so many ticks and once AutoRecovery is enabled.
+fn would_publish(plan: &mut Plan, ticks: u64) -> Result<bool, PlanFault>
+    ensures { plan.new ≡ plan.old }
+{
+    let tick = Event::Tick { ticks };
+    let audited = match (ticks == 0, plan.state().is_enabled()) {
+        (true, true) => plan.check_all(&[Event::Audit]),
+        (true, false) => plan.check_all(&[Event::Enable, Event::Audit]),
+        (false, true) => plan.check_all(&[tick, Event::Audit]),
+        (false, false) => plan.check_all(&[tick, Event::Enable, Event::Audit]),
+    };
+    match audited {
+        Ok(()) => Ok(true),
+        Err(StepFault::Left) => Ok(false),
+        Err(StepFault::Fault(fault)) => Err(fault),
+    }
+}
+
+/// Enables AutoRecovery, if it is disabled.
+fn enable(plan: &mut Plan) -> Result<(), PlanFault>
+    ensures { (rules : Rules) → Works rules plan.old plan.new }
+{
+    if plan.state().is_enabled() {
+        return Ok(());
+    }
+    plan.attempt(&Event::Enable)
+}
+
+/// Whether some ledger has a task.
+fn has_task(state: &State) -> bool {
+    for ledger in state.ledgers() {
+        if ledger.task().is_some() {
+            return true;
+        }
+    }
+    false
 }
 
 /// In how many ticks the delay of each bookie that isn't registered is over.

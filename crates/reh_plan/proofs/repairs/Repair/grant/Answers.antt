@@ -2,7 +2,7 @@
 use Rattle.std.proofs.Common.{ap, not}
 use Rattle.reh_plan.specs.Plans.{Draft, Works}
 use Rattle.reh_plan.specs.Workers.{Rules}
-use Rattle.reh_plan.proofs.PlanLaws.{both_true, works_done, works_none, works_on, works_same}
+use Rattle.reh_plan.proofs.PlanLaws.{both_true, works_done, works_on, works_tried}
 use Rattle.reh_plan.proofs.repairs.Repair.grant.Goals as goal
 
 pub returns : goal.returns
@@ -11,7 +11,7 @@ returns c =
     let d : Draft = c.args.plan.now in
     let may = c.in_ok-worker.ensures in
     let tried : Works rules d c.check_grant.new.plan =
-    works_same rules d d c.check_grant.new.plan c.check_grant.ensures (works_none rules d) in
+    works_tried rules d c.check_grant.new.plan c.check_grant.ensures in
     works_done rules d c.lock.new.plan c.work.new.self _ c.work.result c.work.ensures.ok c.work.ensures.err
     (both_true _ _ may (ap not c.requires))
     (works_on rules d c.check_grant.new.plan c.lock.new.plan (c.lock.ensures rules may) tried)
