@@ -35,7 +35,7 @@ only_left rules full names d n k g reason leaving why left within is only =
     let line : List ℕ = left_line g.id (reason_text reason) in
     subst (λ (x : Draft). AllLeft rules full names x.state x.lines) (sym leaving)
     (All-push (λ line. asked names line ≡ None → IsLeftLine rules full d.state d.state.parts.ledgers line) d.lines line only
-    (λ _. (k, g, within, sym is, (left, (reason, (why, refl))))))
+    (λ _. (k, g, within, sym is, (left, (reason, why, refl)))))
 
 -- a ledger that is left is named
 pub named_left : (d n : Draft) (k : ℕ) (g : Ledger) (reason : Reason) → IsLeaving d g.id reason n → k < length d.state.parts.ledgers

@@ -350,6 +350,12 @@ works_alone rules d n p (Tick ticks) made nobodys = works_made rules d n p (Tick
 works_alone rules d n p Enable made nobodys = works_made rules d n p Enable made refl
 works_alone rules d n p other made nobodys = cc
 
+-- if it is accepted
+pub works_attempted : {A B : Type 0} (rules : Rules) (d n : Draft) (event : Event) (r : Result A B)
+    → OnOk r (IsMade d event n) → OnErr r (n ≡ d) → is_nobodys event ≡ true → Works rules d n
+works_attempted rules d n event (Ok done) made same nobodys = works_alone rules d d n event made nobodys (works_none rules d)
+works_attempted rules d n event (Err stop) made same nobodys = works_tried rules d n same
+
 -- plans that lose bookies
 pub loses_made : (d n : Draft) (bookie : ℕ) → is_up d.state bookie ≡ true → IsMade d (Lose bookie) n
     → Loses d (λ b. bookie == b) (loss_of d.state bookie) n

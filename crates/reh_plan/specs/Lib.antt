@@ -7,4 +7,5 @@ pub mod Named
 pub mod Summaries
 pub mod Runbooks
 pub mod Racks
+pub mod Reasons
 pub mod Objects

@@ -26,7 +26,7 @@ use crate::summaries::{Summary, holdings_of, is_left, summary_of};
 use crate::workers::Workers;
 use reh_cluster::State;
 use reh_meta::LedgerMeta;
-use reh_types::{BookieIx, BookieSet, Event, MAX_BOOKIES};
+use reh_types::{BookieIx, BookieSet, Event, MAX_BOOKIES, Refusal};
 use std::alloc::Global;
 
 /// A plan, and what it comes to.
@@ -236,17 +236,22 @@ fn publish(plan: &mut Plan) -> Result<(), PlanFault>
     ensures { (rules : Rules) → Works rules plan.old plan.new }
 {
     let ticks = ticks_to_publish(plan.state());
-    let has_news = would_publish(plan, ticks)?;
-    if has_news {
-        plan.wait(ticks)?;
+    if would_publish(plan, ticks)? {
+        audit(plan, ticks)
+    } else if has_task(plan.state()) {
+        enable(plan)
+    } else {
+        Ok(())
     }
-    if has_news || has_task(plan.state()) {
-        enable(plan)?;
-    }
-    if has_news {
-        plan.attempt(&Event::Audit)?;
-    }
-    Ok(())
+}
+
+/// Waits so many ticks, enables AutoRecovery, and has the auditor publish.
+fn audit(plan: &mut Plan, ticks: u64) -> Result<(), PlanFault>
+    ensures { (rules : Rules) → Works rules plan.old plan.new }
+{
+    plan.wait(ticks)?;
+    enable(plan)?;
+    plan.attempt(&Event::Audit)
 }
 
 /// Whether the auditor would find something to publish, after so many ticks and once AutoRecovery is enabled.
@@ -392,6 +397,8 @@ fn repair_at(state: &State, place: usize) -> Option<Repair> {
 fn leave_all(plan: &mut Plan, workers: &Workers, full: bool) -> Result<(), PlanFault>
     ensures { OnOk result (IsNaming workers.now full plan.old plan.new) }
 {
+    // The check of this loop has to meet the type of a refusal by its name.
+    let _refusal: Option<Refusal> = None;
     for place in 0..plan.state().ledgers().len() {
         let ledger = &plan.state().ledgers()[place];
         if is_left(plan.state(), ledger) {

@@ -27,7 +27,7 @@ loop-place-preserved c =
           let leaving : IsLeaving d g.id reason w.leave.new.self =
           subst (λ (l : ℕ). IsLeaving d l reason w.leave.new.self) w.id-id.ensures w.in_ok-leave.ensures in
           let why : IsReason rules full d.state g reason =
-          subst (λ (s : Cluster). IsReason rules full s g reason) w.state-in-loop-place-3.ensures w.in_ok-reason.ensures in
+          subst (λ (s : Cluster). IsReason rules full s g reason) w.state-then-is_left.ensures w.in_ok-reason.ensures in
           let same = w.plan-is ∙ leaving in
           let left : is_left d.state g ≡ true =
           ap (λ (s : Cluster). is_left s g) (sym c.state-in-loop-place-2.ensures) ∙ sym c.is_left.ensures ∙ w.if-is_left.true in

@@ -1,5 +1,6 @@
 -- The first entry with too few members refuses the recovery, or its end where too few members say that they lack the entry.
-use Rattle.std.proofs.Common.{◌≡◌, ◌∙◌, ◌<◌, ◌≤◌, ◌+◌, ◌-◌, ap, sym, subst, arith, ℕ, length, inl, inr}
+use Rattle.std.proofs.Common.{◌≡◌, ◌∙◌, ◌<◌, ◌≤◌, ◌+◌, ◌-◌, ap, sym, subst, arith, ℕ, length, inl, inr, Some}
+use Rattle.reh_types.specs.declared.refusals.Refusal.TheVariants.{Undecided}
 use Rattle.std.proofs.lemmas.Bool.{cases_lt}
 use Rattle.reh_model.specs.Metadata.{Fragment, Metadata, IsMetadata, last_fragment}
 use Rattle.reh_model.specs.Cluster.{Cluster, Ledger}
@@ -60,7 +61,7 @@ returns-then-count_up-decisive c =
     ap (λ (m : Metadata). m.write_quorum) (sym c.metadata-metadata.ensures) ∙ sym c.write_quorum.ensures in
     let lacks : length (up_writes s g (recovered_end s g)) < g.metadata.write_quorum - g.metadata.ack_quorum + 1 =
     omega (arith, counted, acks, writes, c.if-count_up-decisive.true) in
-    sym (undecided_at_end s g enough lacks)
+    ap (λ (e : ℕ). Some (Undecided e)) c.recovered_end-end.ensures ∙ sym (undecided_at_end s g enough lacks)
 
 pub returns : goal.returns
 returns c =

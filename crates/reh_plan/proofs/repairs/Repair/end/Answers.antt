@@ -3,7 +3,7 @@ use Rattle.std.proofs.Common.{refl}
 use Rattle.reh_plan.proofs.PlanLaws.{works_done, works_none}
 use Rattle.reh_plan.proofs.repairs.Repair.end.Goals as goal
 
-pub returns-in_default : goal.returns-in_default
-returns-in_default c = λ rules.
+pub returns-in_default-work-2 : goal.returns-in_default-work-2
+returns-in_default-work-2 c = λ rules.
     works_done rules c.args.plan.now c.args.plan.now c.work.new.self _ c.work.result c.work.ensures.ok c.work.ensures.err refl
     (works_none rules c.args.plan.now)
