@@ -12,8 +12,8 @@ pub enum PlanFault {
     /// What it has to say at least, the bookies that are lost and the ledgers that are left, finds no room in a script.
     NoRoom,
     /// It would leave a place that could be filled, a ledger that could be recovered or given a bookie by its writer, a lock, a
-    /// task where nothing is missing, or a ledger that it fenced and didn't recover; or it would have a command that nothing
-    /// needs. No picture is known for which that is so.
+    /// task where nothing is missing, a ledger that it fenced and didn't recover, or one without a reason; or it would have a
+    /// command that nothing needs. No picture is known for which that is so.
     Unfinished,
 }
 
