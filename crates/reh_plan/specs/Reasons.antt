@@ -1,6 +1,6 @@
 -- Why something is left for a ledger in the end, and how a comment says it.
 use Rattle.std.specs.Prelude.{◌≡◌, ◌≢◌, ℕ, Bool, true, false, not, ◌&&◌, ◌||◌, IsTrue, List, [], ◌∷◌, ◌++◌, codes, slice_get}
-use Rattle.std.specs.Prelude.{Option, None, Some, is_none}
+use Rattle.std.specs.Prelude.{Option, None, Some, is_none, is_some}
 use Rattle.std.specs.Fmt.{decimal}
 use Rattle.std.specs.Option.{option_map_or}
 use Rattle.reh_types.specs.Texts.{refusal_text}
@@ -10,7 +10,7 @@ use Rattle.reh_types.specs.declared.refusals.Refusal.TheVariants.{VersionEnd}
 use Rattle.reh_model.specs.Audit.{is_needed, is_under}
 use Rattle.reh_model.specs.Checks.{first_reason}
 use Rattle.reh_model.specs.Cluster.{Cluster, Ledger, is_up}
-use Rattle.reh_model.specs.Metadata.{Fragment, is_in_recovery, is_open, last_fragment}
+use Rattle.reh_model.specs.Metadata.{Fragment, is_in_recovery, is_open, last_fragment, stop_of}
 use Rattle.reh_model.specs.Refusals.{member_up, no_index, no_source, target_down, target_is_member, version_end}
 use Rattle.reh_model.specs.Step.{refusal_of}
 use Rattle.reh_plan.specs.Ends.{has_writer, seal_refusal}
@@ -35,9 +35,10 @@ is_missing_at s g f i =
 abbrev pub place_refusal : Cluster → Ledger → ℕ → ℕ → Option Refusal
 place_refusal s g f i = first_reason (no_source s g f i ∷ version_end g ∷ [])
 
--- a member is missing there, and no bookie can take its place
+-- a member is missing there, in a fragment whose entries are known, and no bookie can take its place
 pub record IsUnfilled (s : Cluster) (g : Ledger) (f i : ℕ) (refusal : Refusal) : Type 0 where
   pub missing : is_missing_at s g f i ≡ true
+  pub known : is_some (stop_of g.metadata f) ≡ true
   pub refused : place_refusal s g f i ≡ Some refusal
 
 -- whether the ledger isn't closed, and its last ensemble misses a member
@@ -66,9 +67,10 @@ pub record IsUnrolled (rules : Rules) (s : Cluster) (g : Ledger) (refusal : Refu
       ≡ None
   pub refused : roll_refusal s g index bookie ≡ Some refusal
 
--- that is why something is left for the ledger in s, the last state; that there is no room is so only where the script is full
+-- that is why something is left for the ledger in s, the last state; that there is no room only where the script is full, and
+-- that there is no task only where it has room
 abbrev pub IsReason : Rules → Bool → Cluster → Ledger → Reason → Type 0
-IsReason rules full s g NoTask = is_none g.task ≡ true
+IsReason rules full s g NoTask = (is_none g.task ≡ true) × (full ≡ false)
 IsReason rules full s g (NoWorker f) =
     (fragment : Fragment) × (slice_get g.metadata.fragments f ≡ Some fragment) × LacksWorker rules s fragment
 IsReason rules full s g (Place f i refusal) = IsUnfilled s g f i refusal

@@ -1,4 +1,8 @@
 // Why there is no plan, and what keeps a step of it from being made.
+ghost use Rattle.std.specs.Prelude.{◌≡◌, Err};
+ghost use Rattle.reh_plan.specs.declared.faults.PlanFault.{PlanFault};
+ghost use Rattle.reh_plan.specs.declared.faults.StepFault.TheVariants as StepFault;
+
 use reh_types::Refusal;
 use std::alloc::AllocError;
 use std::error::Error;
@@ -73,7 +77,9 @@ impl From<Refusal> for StepFault {
 }
 
 /// Goes on after a step, whether it was made or is left.
-pub(crate) fn go_on(step: Result<(), StepFault>) -> Result<(), PlanFault> {
+pub(crate) fn go_on(step: Result<(), StepFault>) -> Result<(), PlanFault>
+    ensures { (fault : PlanFault) → step ≡ Err (StepFault.Fault fault) → result ≡ Err fault }
+{
     match step {
         Err(StepFault::Fault(fault)) => Err(fault),
         Ok(()) | Err(StepFault::Left) => Ok(()),

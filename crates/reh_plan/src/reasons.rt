@@ -1,6 +1,8 @@
 // Why something is left for a ledger in the end.
-ghost use Rattle.std.specs.Prelude.{◌≡◌, Bool, IfOk, IfSome, Some, length, slice_get};
-ghost use Rattle.reh_model.specs.Metadata.{stripe_of};
+ghost use Rattle.std.specs.Prelude.{◌≡◌, Bool, true, IfOk, IfSome, IsTrue, Some, is_some, length, slice_get};
+ghost use Rattle.reh_model.specs.Metadata.{stop_of, stripe_of};
+ghost use Rattle.reh_plan.specs.Workers.{Rules};
+ghost use Rattle.reh_plan.specs.declared.reasons.Reason.TheVariants.{NoWorker};
 ghost use Rattle.reh_plan.specs.Reasons as model;
 
 use crate::ends::{has_writer, is_open, is_recovering};
@@ -81,7 +83,8 @@ fn place_verb(refusal: &Refusal) -> &'static str
     }
 }
 
-/// Why something is left for the ledger in the end, where the script is full or has room.
+/// Why something is left for the ledger in the end, where the script is full or has room. What another bookie wouldn't mend
+/// comes before a worker that is missing.
 pub(crate) fn reason_for(
     state: &State,
     workers: &Workers,
@@ -90,13 +93,16 @@ pub(crate) fn reason_for(
 ) -> Result<Reason, PlanFault>
     ensures { IfOk result (model.IsReason workers.now full state.now ledger.now) }
 {
-    if ledger.task().is_none() {
+    if ledger.task().is_none() && !full {
         return Ok(Reason::NoTask);
+    }
+    if let Some(reason) = unfilled(state, ledger) {
+        return Ok(reason);
     }
     if let Some(reason) = unsettled(state, workers, ledger) {
         return Ok(reason);
     }
-    if let Some(reason) = unfilled(state, workers, ledger) {
+    if let Some(reason) = without_worker(state, workers, ledger) {
         return Ok(reason);
     }
     if full {
@@ -106,23 +112,15 @@ pub(crate) fn reason_for(
     }
 }
 
-/// Why the last ensemble of a ledger that isn't closed still misses a member, if it does.
+/// Why the last ensemble of a ledger that isn't closed still misses a member, if it does, whoever works.
 fn unsettled(state: &State, workers: &Workers, ledger: &Ledger) -> Option<Reason>
     ensures { (full : Bool) → IfSome result (model.IsReason workers.now full state.now ledger.now) }
 {
-    if !is_unsettled(state, ledger) {
-        return None;
-    }
-    let refused = if has_writer(workers, ledger) {
+    if has_writer(workers, ledger) {
         unrolled(state, workers, ledger)
     } else {
         unsealed(state, workers, ledger)
-    };
-    if refused.is_some() {
-        return refused;
     }
-    let last = ledger.metadata().fragments().len().checked_sub(1)?;
-    without_worker(state, workers, ledger, last)
 }
 
 /// Whether the ledger isn't closed, and its last ensemble misses a member.
@@ -132,22 +130,28 @@ fn is_unsettled(state: &State, ledger: &Ledger) -> bool
     (is_open(ledger) || is_recovering(ledger)) && is_under(state, last_fragment(ledger))
 }
 
-/// That no bookie can take a missing member's place in the fragment, if it is so.
-fn without_worker(
-    state: &State,
-    workers: &Workers,
-    ledger: &Ledger,
-    number: usize,
-) -> Option<Reason>
+/// That no bookie can take a missing member's place in some fragment, if it is so.
+fn without_worker(state: &State, workers: &Workers, ledger: &Ledger) -> Option<Reason>
     ensures { (full : Bool) → IfSome result (model.IsReason workers.now full state.now ledger.now) }
 {
-    let fragment = ledger.metadata().fragments().get(number)?;
-    if is_under(state, fragment) && !has_substitute(state, workers, fragment) {
-        return Some(Reason::NoWorker {
-            fragment: number as u64,
-        });
+    for number in 0..ledger.metadata().fragments().len() {
+        if lacks_worker(state, workers, ledger, number) {
+            return Some(Reason::NoWorker {
+                fragment: number as u64,
+            });
+        }
     }
     None
+}
+
+/// Whether no bookie can take a missing member's place in that fragment.
+fn lacks_worker(state: &State, workers: &Workers, ledger: &Ledger, number: usize) -> bool
+    ensures { (full : Bool) → IsTrue result → model.IsReason workers.now full state.now ledger.now (NoWorker number) }
+{
+    match ledger.metadata().fragments().get(number) {
+        Some(fragment) => { is_under(state, fragment) && !has_substitute(state, workers, fragment) }
+        None => false,
+    }
 }
 
 /// Why an open ledger's writer can't put a bookie in the place of the first missing member, if it is so.
@@ -205,27 +209,21 @@ fn unsealed(state: &State, workers: &Workers, ledger: &Ledger) -> Option<Reason>
     Some(Reason::Seal { refusal })
 }
 
-/// Why some place of the ledger isn't filled, if it is so.
-fn unfilled(state: &State, workers: &Workers, ledger: &Ledger) -> Option<Reason>
-    ensures { (full : Bool) → IfSome result (model.IsReason workers.now full state.now ledger.now) }
+/// Why some place of the ledger can't be filled, whoever works, if it is so.
+fn unfilled(state: &State, ledger: &Ledger) -> Option<Reason>
+    ensures { (rules : Rules) (full : Bool) → IfSome result (model.IsReason rules full state.now ledger.now) }
 {
     for number in 0..ledger.metadata().fragments().len() {
-        if let Some(reason) = unfilled_fragment(state, workers, ledger, number) {
+        if let Some(reason) = unfilled_fragment(state, ledger, number) {
             return Some(reason);
         }
     }
     None
 }
 
-/// Why some place of the fragment isn't filled, if it is so: an entry that can't be copied comes before a bookie that isn't
-/// there.
-fn unfilled_fragment(
-    state: &State,
-    workers: &Workers,
-    ledger: &Ledger,
-    number: usize,
-) -> Option<Reason>
-    ensures { (full : Bool) → IfSome result (model.IsReason workers.now full state.now ledger.now) }
+/// The same of some place of a fragment.
+fn unfilled_fragment(state: &State, ledger: &Ledger, number: usize) -> Option<Reason>
+    ensures { (rules : Rules) (full : Bool) → IfSome result (model.IsReason rules full state.now ledger.now) }
 {
     for index in 0..ledger.metadata().size() {
         if is_missing_at(state, ledger, number, index as usize)
@@ -238,7 +236,7 @@ fn unfilled_fragment(
             });
         }
     }
-    without_worker(state, workers, ledger, number)
+    None
 }
 
 /// Whether the member at that index of a fragment isn't registered.
@@ -256,7 +254,8 @@ fn is_missing_at(state: &State, ledger: &Ledger, number: usize, index: usize) ->
 
 /// Why no bookie can take that place, if its entries are known and it is so.
 fn place_refusal(state: &State, ledger: &Ledger, number: usize, index: u32) -> Option<Refusal>
-    ensures { IfSome result (λ refusal. model.place_refusal state.now ledger.now number index ≡ Some refusal) }
+    ensures known { IfSome result (λ _. is_some (stop_of ledger.now.metadata number) ≡ true) }
+    ensures refused { IfSome result (λ refusal. model.place_refusal state.now ledger.now number index ≡ Some refusal) }
 {
     let (fragment, entries) = stripe_at(ledger, number, index)?;
     match first_unreadable(state, ledger, fragment, entries) {
@@ -270,7 +269,8 @@ fn place_refusal(state: &State, ledger: &Ledger, number: usize, index: u32) -> O
 fn stripe_at<'a>(ledger: &'a Ledger, number: usize, index: u32) -> Option<(&'a Fragment, Striped)>
     ensures { IfSome result (λ place. (slice_get ledger.now.metadata.fragments number ≡ Some place.0.now)
         × (length place.0.now.ensemble ≡ ledger.now.metadata.size)
-        × (place.1 ≡ stripe_of ledger.now.metadata number index)) }
+        × (place.1 ≡ stripe_of ledger.now.metadata number index)
+        × (is_some (stop_of ledger.now.metadata number) ≡ true)) }
 {
     let metadata = ledger.metadata();
     let Some(fragment) = metadata.fragments().get(number) else {

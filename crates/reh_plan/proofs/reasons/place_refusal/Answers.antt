@@ -25,8 +25,8 @@ lacks_source s g f i e fragment entries there striped found =
     (sym striped)
     ∙ ap (λ (o : Option ℕ). first_reason (option_map (λ e. NoSource e) o ∷ [])) found
 
-pub returns-in-Some : goal.returns-in-Some
-returns-in-Some c =
+pub returns-in-Some-clause-refused : goal.returns-in-Some-clause-refused
+returns-in-Some-clause-refused c =
     let s : Cluster = c.args.state.now in
     let g : Ledger = c.args.ledger.now in
     ap (λ (o : Option Refusal). first_reason (o ∷ version_end g ∷ []))
