@@ -12,3 +12,4 @@ pub mod EndLaws
 pub mod RacksLaws
 pub mod ObjectLaws
 pub mod FewerLaws
+pub mod ReasonLaws

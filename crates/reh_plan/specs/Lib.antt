@@ -2,6 +2,7 @@ pub mod Plans
 pub mod Replies
 pub mod Workers
 pub mod Ends
+pub mod Faults
 pub mod Needed
 pub mod Named
 pub mod Summaries

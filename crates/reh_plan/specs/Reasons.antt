@@ -1,5 +1,5 @@
 -- Why something is left for a ledger in the end, and how a comment says it.
-use Rattle.std.specs.Prelude.{◌≡◌, ◌≢◌, ℕ, Bool, true, false, not, ◌&&◌, ◌||◌, IsTrue, List, [], ◌∷◌, ◌++◌, codes, slice_get}
+use Rattle.std.specs.Prelude.{◌≡◌, ◌≢◌, ℕ, Bool, true, false, not, ◌&&◌, ◌||◌, IsTrue, List, [], ◌∷◌, ◌++◌, codes, nat_lt, slice_get, if◌then◌else◌}
 use Rattle.std.specs.Prelude.{Option, None, Some, is_none, is_some}
 use Rattle.std.specs.Fmt.{decimal}
 use Rattle.std.specs.Option.{option_map_or}
@@ -25,58 +25,66 @@ pub record LacksWorker (rules : Rules) (s : Cluster) (fragment : Fragment) : Typ
   pub under : is_under s fragment ≡ true
   pub none : (b : ℕ) → IsTrue (may_work rules b) → first_reason (target_down s b ∷ target_is_member fragment b ∷ []) ≢ None
 
--- whether the member at that index of the fragment isn't registered
+-- the same of the fragment of that number
+abbrev pub LacksWorkerAt : Rules → Cluster → Ledger → ℕ → Type 0
+LacksWorkerAt rules s g f =
+    (fragment : Fragment) × (slice_get g.metadata.fragments f ≡ Some fragment) × LacksWorker rules s fragment
+
+-- whether the fragment has a member at that index, and that isn't registered
 abbrev pub is_missing_at : Cluster → Ledger → ℕ → ℕ → Bool
 is_missing_at s g f i =
-    option_map_or (λ fragment. option_map_or (λ member. not (is_up s member)) (slice_get fragment.ensemble i) false)
+    nat_lt i g.metadata.size
+    && option_map_or (λ fragment. option_map_or (λ member. not (is_up s member)) (slice_get fragment.ensemble i) false)
     (slice_get g.metadata.fragments f) false
 
 -- why no bookie can take that place: some entry can't be copied, or there is no next version
 abbrev pub place_refusal : Cluster → Ledger → ℕ → ℕ → Option Refusal
 place_refusal s g f i = first_reason (no_source s g f i ∷ version_end g ∷ [])
 
--- a member is missing there, in a fragment whose entries are known, and no bookie can take its place
-pub record IsUnfilled (s : Cluster) (g : Ledger) (f i : ℕ) (refusal : Refusal) : Type 0 where
-  pub missing : is_missing_at s g f i ≡ true
-  pub known : is_some (stop_of g.metadata f) ≡ true
-  pub refused : place_refusal s g f i ≡ Some refusal
+-- why no bookie can take a missing member's place, in a fragment whose entries are known
+abbrev pub unfilled_refusal : Cluster → Ledger → ℕ → ℕ → Option Refusal
+unfilled_refusal s g f i =
+    if is_missing_at s g f i && is_some (stop_of g.metadata f) then place_refusal s g f i else None
 
 -- whether the ledger isn't closed, and its last ensemble misses a member
 abbrev pub is_unsettled : Cluster → Ledger → Bool
 is_unsettled s g = (is_open g.metadata.state || is_in_recovery g.metadata.state) && is_needed s g
 
--- such a ledger has no writer that changes its ensemble, and can't be closed
-pub record IsUnsealed (rules : Rules) (s : Cluster) (g : Ledger) (refusal : Refusal) : Type 0 where
-  pub alone : has_writer rules g ≡ false
-  pub unsettled : is_unsettled s g ≡ true
-  pub refused : seal_refusal s g ≡ Some refusal
+-- why such a ledger can't be closed, where it has no writer that changes its ensemble
+abbrev pub unsealed_refusal : Rules → Cluster → Ledger → Option Refusal
+unsealed_refusal rules s g = if not (has_writer rules g) && is_unsettled s g then seal_refusal s g else None
 
 -- why the ledger's writer can't put the bookie at that index of its ensemble
 abbrev pub roll_refusal : Cluster → Ledger → ℕ → ℕ → Option Refusal
 roll_refusal s g i b = refusal_of s (RollEvent g.id i b)
 
--- a bookie that may work can come to that index of the last ensemble, but that its writer's change is refused so
-pub record IsUnrolled (rules : Rules) (s : Cluster) (g : Ledger) (refusal : Refusal) : Type 0 where
-  pub index : ℕ
-  pub bookie : ℕ
-  pub writer : has_writer rules g ≡ true
-  pub may : IsTrue (may_work rules bookie)
-  pub place :
-      first_reason (no_index g index ∷ member_up s (last_fragment g.metadata) index ∷ target_down s bookie
-      ∷ target_is_member (last_fragment g.metadata) bookie ∷ [])
-      ≡ None
-  pub refused : roll_refusal s g index bookie ≡ Some refusal
+-- whether the bookie may work and can come to that index of the last ensemble, in the place of a missing member
+abbrev pub may_come : Rules → Cluster → Ledger → ℕ → ℕ → Bool
+may_come rules s g i b =
+    may_work rules b
+    && is_none (first_reason (no_index g i ∷ member_up s (last_fragment g.metadata) i ∷ target_down s b
+    ∷ target_is_member (last_fragment g.metadata) b ∷ []))
 
--- that is why something is left for the ledger in s, the last state; that there is no room only where the script is full, and
--- that there is no task only where it has room
+-- why the ledger's writer, if it has one that changes its ensemble, can't put such a bookie there
+abbrev pub unrolled_refusal : Rules → Cluster → Ledger → ℕ → ℕ → Option Refusal
+unrolled_refusal rules s g i b = if has_writer rules g && may_come rules s g i b then roll_refusal s g i b else None
+
+-- none of these is so, so that only room can lack
+pub record LacksRoom (rules : Rules) (s : Cluster) (g : Ledger) : Type 0 where
+  pub workers : (f : ℕ) → LacksWorkerAt rules s g f → ⊥
+  pub places : (f i : ℕ) → unfilled_refusal s g f i ≡ None
+  pub seal : unsealed_refusal rules s g ≡ None
+  pub roll : (i b : ℕ) → unrolled_refusal rules s g i b ≡ None
+
+-- that is why something is left for the ledger in s, the last state; that there is no room only where the script is full and
+-- nothing else is so, and that there is no task only where it has room
 abbrev pub IsReason : Rules → Bool → Cluster → Ledger → Reason → Type 0
 IsReason rules full s g NoTask = (is_none g.task ≡ true) × (full ≡ false)
-IsReason rules full s g (NoWorker f) =
-    (fragment : Fragment) × (slice_get g.metadata.fragments f ≡ Some fragment) × LacksWorker rules s fragment
-IsReason rules full s g (Place f i refusal) = IsUnfilled s g f i refusal
-IsReason rules full s g (Roll refusal) = IsUnrolled rules s g refusal
-IsReason rules full s g (Seal refusal) = IsUnsealed rules s g refusal
-IsReason rules full s g NoRoom = full ≡ true
+IsReason rules full s g (NoWorker f) = LacksWorkerAt rules s g f
+IsReason rules full s g (Place f i refusal) = unfilled_refusal s g f i ≡ Some refusal
+IsReason rules full s g (Roll refusal) = (i : ℕ) × (b : ℕ) × (unrolled_refusal rules s g i b ≡ Some refusal)
+IsReason rules full s g (Seal refusal) = unsealed_refusal rules s g ≡ Some refusal
+IsReason rules full s g NoRoom = (full ≡ true) × LacksRoom rules s g
 
 -- Texts
 

@@ -22,6 +22,11 @@ pub enum PlanFault {
 }
 
 impl fmt::Display for PlanFault {
+    ghost use Rattle.std.specs.Prelude.{Some};
+    ghost use Rattle.reh_plan.specs.Faults.{plan_fault_text};
+
+    ghost output = { λ fault. Some (plan_fault_text fault) };
+
     fn fmt<W: fmt::Write>(&self, f: &mut fmt::Formatter<W>) -> fmt::Result {
         f.write_str(match self {
             PlanFault::NoMemory => "no memory",

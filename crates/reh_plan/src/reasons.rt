@@ -1,8 +1,7 @@
 // Why something is left for a ledger in the end.
-ghost use Rattle.std.specs.Prelude.{◌≡◌, Bool, true, IfOk, IfSome, IsTrue, Some, is_some, length, slice_get};
+ghost use Rattle.std.specs.Prelude.{◌≡◌, ℕ, Bool, true, false, IfOk, IfSome, IsFalse, IsTrue, None, Some, is_none, is_some, length, slice_get};
 ghost use Rattle.reh_model.specs.Metadata.{stop_of, stripe_of};
 ghost use Rattle.reh_plan.specs.Workers.{Rules};
-ghost use Rattle.reh_plan.specs.declared.reasons.Reason.TheVariants.{NoWorker};
 ghost use Rattle.reh_plan.specs.Reasons as model;
 
 use crate::ends::{has_writer, is_open, is_recovering};
@@ -114,13 +113,15 @@ pub(crate) fn reason_for(
 
 /// Why the last ensemble of a ledger that isn't closed still misses a member, if it does, whoever works.
 fn unsettled(state: &State, workers: &Workers, ledger: &Ledger) -> Option<Reason>
-    ensures { (full : Bool) → IfSome result (model.IsReason workers.now full state.now ledger.now) }
+    ensures some { (full : Bool) → IfSome result (model.IsReason workers.now full state.now ledger.now) }
+    ensures seal { result ≡ None → model.unsealed_refusal workers.now state.now ledger.now ≡ None }
+    ensures roll { result ≡ None → (i b : ℕ) → model.unrolled_refusal workers.now state.now ledger.now i b ≡ None }
 {
-    if has_writer(workers, ledger) {
-        unrolled(state, workers, ledger)
-    } else {
-        unsealed(state, workers, ledger)
+    if let Some(refusal) = unrolled(state, workers, ledger) {
+        return Some(Reason::Roll { refusal });
     }
+    let refusal = unsealed(state, workers, ledger)?;
+    Some(Reason::Seal { refusal })
 }
 
 /// Whether the ledger isn't closed, and its last ensemble misses a member.
@@ -132,7 +133,8 @@ fn is_unsettled(state: &State, ledger: &Ledger) -> bool
 
 /// That no bookie can take a missing member's place in some fragment, if it is so.
 fn without_worker(state: &State, workers: &Workers, ledger: &Ledger) -> Option<Reason>
-    ensures { (full : Bool) → IfSome result (model.IsReason workers.now full state.now ledger.now) }
+    ensures some { (full : Bool) → IfSome result (model.IsReason workers.now full state.now ledger.now) }
+    ensures none { result ≡ None → (f : ℕ) → model.LacksWorkerAt workers.now state.now ledger.now f → ⊥ }
 {
     for number in 0..ledger.metadata().fragments().len() {
         if lacks_worker(state, workers, ledger, number) {
@@ -146,7 +148,8 @@ fn without_worker(state: &State, workers: &Workers, ledger: &Ledger) -> Option<R
 
 /// Whether no bookie can take a missing member's place in that fragment.
 fn lacks_worker(state: &State, workers: &Workers, ledger: &Ledger, number: usize) -> bool
-    ensures { (full : Bool) → IsTrue result → model.IsReason workers.now full state.now ledger.now (NoWorker number) }
+    ensures yes { IsTrue result → model.LacksWorkerAt workers.now state.now ledger.now number }
+    ensures no { IsFalse result → model.LacksWorkerAt workers.now state.now ledger.now number → ⊥ }
 {
     match ledger.metadata().fragments().get(number) {
         Some(fragment) => { is_under(state, fragment) && !has_substitute(state, workers, fragment) }
@@ -154,23 +157,53 @@ fn lacks_worker(state: &State, workers: &Workers, ledger: &Ledger, number: usize
     }
 }
 
-/// Why an open ledger's writer can't put a bookie in the place of the first missing member, if it is so.
-fn unrolled(state: &State, workers: &Workers, ledger: &Ledger) -> Option<Reason>
-    ensures { (full : Bool) → IfSome result (model.IsReason workers.now full state.now ledger.now) }
+/// Why an open ledger's writer can't put a bookie in the place of a missing member, if it is so.
+fn unrolled(state: &State, workers: &Workers, ledger: &Ledger) -> Option<Refusal>
+    ensures some { IfSome result (λ refusal. (i : ℕ) × (b : ℕ)
+        × (model.unrolled_refusal workers.now state.now ledger.now i b ≡ Some refusal)) }
+    ensures none { result ≡ None → (i b : ℕ) → model.unrolled_refusal workers.now state.now ledger.now i b ≡ None }
 {
-    if !has_writer(workers, ledger) {
-        return None;
-    }
-    let last = last_fragment(ledger);
-    let index = first_missing(state, last)? as u64;
-    for number in 0..state.names().len() as u8 {
-        let bookie = BookieIx(number);
-        if workers.is_able(bookie) && check_member(state, ledger, last, index, bookie).is_ok() {
-            let refusal = roll_refusal(state, ledger, index, bookie)?;
-            return Some(Reason::Roll { refusal });
+    for index in 0..ledger.metadata().size() {
+        if let Some(refusal) = unrolled_at(state, workers, ledger, index as u64) {
+            return Some(refusal);
         }
     }
     None
+}
+
+/// The same of the member at that index of the last ensemble.
+fn unrolled_at(state: &State, workers: &Workers, ledger: &Ledger, index: u64) -> Option<Refusal>
+    ensures some { IfSome result (λ refusal. (b : ℕ)
+        × (model.unrolled_refusal workers.now state.now ledger.now index b ≡ Some refusal)) }
+    ensures none { result ≡ None → (b : ℕ) → model.unrolled_refusal workers.now state.now ledger.now index b ≡ None }
+{
+    for number in 0..state.names().len() as u8 {
+        if let Some(refusal) = unrolled_by(state, workers, ledger, index, BookieIx(number)) {
+            return Some(refusal);
+        }
+    }
+    None
+}
+
+/// Why its writer can't put that bookie there, if it is so.
+fn unrolled_by(
+    state: &State,
+    workers: &Workers,
+    ledger: &Ledger,
+    index: u64,
+    bookie: BookieIx,
+) -> Option<Refusal>
+    ensures { result ≡ model.unrolled_refusal workers.now state.now ledger.now index bookie }
+{
+    let last = last_fragment(ledger);
+    if has_writer(workers, ledger)
+        && workers.is_able(bookie)
+        && check_member(state, ledger, last, index, bookie).is_ok()
+    {
+        roll_refusal(state, ledger, index, bookie)
+    } else {
+        None
+    }
 }
 
 /// Why the ledger's writer can't put the bookie at that index, if it can't.
@@ -199,19 +232,19 @@ pub(crate) fn first_missing(state: &State, fragment: &Fragment) -> Option<usize>
 }
 
 /// Why a ledger that isn't closed and has no writer can't be closed, if it can't.
-fn unsealed(state: &State, workers: &Workers, ledger: &Ledger) -> Option<Reason>
-    ensures { (full : Bool) → IfSome result (model.IsReason workers.now full state.now ledger.now) }
+fn unsealed(state: &State, workers: &Workers, ledger: &Ledger) -> Option<Refusal>
+    ensures { result ≡ model.unsealed_refusal workers.now state.now ledger.now }
 {
     if has_writer(workers, ledger) || !is_unsettled(state, ledger) {
         return None;
     }
-    let refusal = seal_refusal(state, ledger)?;
-    Some(Reason::Seal { refusal })
+    seal_refusal(state, ledger)
 }
 
 /// Why some place of the ledger can't be filled, whoever works, if it is so.
 fn unfilled(state: &State, ledger: &Ledger) -> Option<Reason>
-    ensures { (rules : Rules) (full : Bool) → IfSome result (model.IsReason rules full state.now ledger.now) }
+    ensures some { (rules : Rules) (full : Bool) → IfSome result (model.IsReason rules full state.now ledger.now) }
+    ensures none { result ≡ None → (f i : ℕ) → model.unfilled_refusal state.now ledger.now f i ≡ None }
 {
     for number in 0..ledger.metadata().fragments().len() {
         if let Some(reason) = unfilled_fragment(state, ledger, number) {
@@ -223,12 +256,11 @@ fn unfilled(state: &State, ledger: &Ledger) -> Option<Reason>
 
 /// The same of some place of a fragment.
 fn unfilled_fragment(state: &State, ledger: &Ledger, number: usize) -> Option<Reason>
-    ensures { (rules : Rules) (full : Bool) → IfSome result (model.IsReason rules full state.now ledger.now) }
+    ensures some { (rules : Rules) (full : Bool) → IfSome result (model.IsReason rules full state.now ledger.now) }
+    ensures none { result ≡ None → (i : ℕ) → model.unfilled_refusal state.now ledger.now number i ≡ None }
 {
     for index in 0..ledger.metadata().size() {
-        if is_missing_at(state, ledger, number, index as usize)
-            && let Some(refusal) = place_refusal(state, ledger, number, index)
-        {
+        if let Some(refusal) = unfilled_at(state, ledger, number, index) {
             return Some(Reason::Place {
                 fragment: number as u64,
                 index: index as u64,
@@ -239,12 +271,26 @@ fn unfilled_fragment(state: &State, ledger: &Ledger, number: usize) -> Option<Re
     None
 }
 
-/// Whether the member at that index of a fragment isn't registered.
-fn is_missing_at(state: &State, ledger: &Ledger, number: usize, index: usize) -> bool
+/// Why no bookie can take that place, if a member is missing there, its entries are known, and it is so.
+fn unfilled_at(state: &State, ledger: &Ledger, number: usize, index: u32) -> Option<Refusal>
+    ensures { result ≡ model.unfilled_refusal state.now ledger.now number index }
+{
+    if is_missing_at(state, ledger, number, index) {
+        place_refusal(state, ledger, number, index)
+    } else {
+        None
+    }
+}
+
+/// Whether the fragment has a member at that index, and that isn't registered.
+fn is_missing_at(state: &State, ledger: &Ledger, number: usize, index: u32) -> bool
     ensures { result ≡ model.is_missing_at state.now ledger.now number index }
 {
+    if index >= ledger.metadata().size() {
+        return false;
+    }
     match ledger.metadata().fragments().get(number) {
-        Some(fragment) => match fragment.ensemble.get(index) {
+        Some(fragment) => match fragment.ensemble.get(index as usize) {
             Some(member) => !state.is_up(*member),
             None => false,
         },
@@ -254,8 +300,9 @@ fn is_missing_at(state: &State, ledger: &Ledger, number: usize, index: usize) ->
 
 /// Why no bookie can take that place, if its entries are known and it is so.
 fn place_refusal(state: &State, ledger: &Ledger, number: usize, index: u32) -> Option<Refusal>
-    ensures known { IfSome result (λ _. is_some (stop_of ledger.now.metadata number) ≡ true) }
-    ensures refused { IfSome result (λ refusal. model.place_refusal state.now ledger.now number index ≡ Some refusal) }
+    ensures unknown { is_some (stop_of ledger.now.metadata number) ≡ false → result ≡ None }
+    ensures known { is_some (stop_of ledger.now.metadata number) ≡ true
+        → result ≡ model.place_refusal state.now ledger.now number index }
 {
     let (fragment, entries) = stripe_at(ledger, number, index)?;
     match first_unreadable(state, ledger, fragment, entries) {
@@ -267,10 +314,11 @@ fn place_refusal(state: &State, ledger: &Ledger, number: usize, index: u32) -> O
 
 /// A fragment, and the entries that it stripes onto the index, if it has a stop.
 fn stripe_at<'a>(ledger: &'a Ledger, number: usize, index: u32) -> Option<(&'a Fragment, Striped)>
-    ensures { IfSome result (λ place. (slice_get ledger.now.metadata.fragments number ≡ Some place.0.now)
+    ensures some { IfSome result (λ place. (slice_get ledger.now.metadata.fragments number ≡ Some place.0.now)
         × (length place.0.now.ensemble ≡ ledger.now.metadata.size)
         × (place.1 ≡ stripe_of ledger.now.metadata number index)
         × (is_some (stop_of ledger.now.metadata number) ≡ true)) }
+    ensures none { is_none result ≡ true → is_some (stop_of ledger.now.metadata number) ≡ false }
 {
     let metadata = ledger.metadata();
     let Some(fragment) = metadata.fragments().get(number) else {

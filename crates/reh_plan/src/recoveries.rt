@@ -25,7 +25,9 @@ pub(crate) fn can_recover(state: &State, workers: &Workers, ledger: &Ledger) -> 
 
 /// Whether some bookie that may work could take the place of a member of the fragment.
 pub(crate) fn has_substitute(state: &State, workers: &Workers, fragment: &Fragment) -> bool
-    ensures { IsFalse result → (b : ℕ) → IsTrue (may_work workers.now b)
+    ensures yes { IsTrue result → (b : ℕ) × IsTrue (may_work workers.now b)
+        × (first_reason (target_down state.now b ∷ target_is_member fragment.now b ∷ []) ≡ None) }
+    ensures no { IsFalse result → (b : ℕ) → IsTrue (may_work workers.now b)
         → first_reason (target_down state.now b ∷ target_is_member fragment.now b ∷ []) ≢ None }
 {
     for number in 0..state.names().len() as u8 {

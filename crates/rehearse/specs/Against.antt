@@ -1,5 +1,5 @@
 -- The ledgers that speak against a stop, of pictures and of inventories that are read once more.
-use Rattle.std.specs.Prelude.{ℕ, Bool, true, false, ◌&&◌, List, [], ◌∷◌, ◌++◌, codes, map, option_map, string_bytes, zip, if◌then◌else◌}
+use Rattle.std.specs.Prelude.{ℕ, Bool, true, false, ◌&&◌, ◌==◌, List, [], ◌∷◌, ◌++◌, codes, map, option_map, string_bytes, zip, if◌then◌else◌}
 use Rattle.std.specs.Borrow.{Bor}
 use Rattle.std.specs.List.{flat_map, list_any}
 use Rattle.reh_against.specs.declared.stops.Stop.{Stop}
@@ -60,9 +60,14 @@ cut_notes files kinds = flat_map (λ pair. cut_note pair.0.now pair.1) (zip file
 abbrev pub stream_text : List ℕ
 stream_text = codes "no ledger is named of an inventory that can be read only once, as from a pipe"
 
-abbrev pub notes_of : Bool → List (Bor (List ℕ)) → List FileKind → List (List ℕ)
-notes_of is_any files kinds =
-    cut_notes files kinds ++ (if is_any && list_any is_stream kinds then stream_text ∷ [] else [])
+-- a note where there is no ledger in these files
+abbrev pub empty_text : List ℕ
+empty_text = codes "no ledger was judged: the answer is for a cluster without ledgers"
+
+abbrev pub notes_of : ℕ → Bool → List (Bor (List ℕ)) → List FileKind → List (List ℕ)
+notes_of ledgers is_any files kinds =
+    (cut_notes files kinds ++ (if ledgers == 0 then empty_text ∷ [] else []))
+    ++ (if is_any && list_any is_stream kinds then stream_text ∷ [] else [])
 
 -- some lines of an inventory were read once more, and their ledgers weighed
 pub record IsUnderWay (stop : Stop) (names : List (List ℕ)) (strict : Bool) (ids : List ℕ) (ledgers : List (List Ledger))
@@ -83,4 +88,4 @@ pub record SaysOf (files : GatheredFiles) (paths : List (Bor (List ℕ))) (stric
   pub answered : IsAnsweredBy (files.gathered.ids.items ++ flat_map ids_in weighed)
       (map alone files.gathered.ledgers.items ++ flat_map ledgers_in weighed)
       (option_map string_bytes files.taken)
-      (notes_of (has_against verdict.facts.answer) paths files.kinds.items) files.gathered asked said
+      (notes_of files.gathered.census.judged.ledgers (has_against verdict.facts.answer) paths files.kinds.items) files.gathered asked said

@@ -14,6 +14,7 @@ use Rattle.reh_picture.specs.Listings.{Lists}
 use Rattle.reh_picture.specs.Marks.{BookieMarks}
 use Rattle.reh_picture.specs.Pictures.{located_picture_of}
 use Rattle.reh_picture.specs.declared.listings.Listed.{Listed}
+use Rattle.reh_plan.specs.Faults.{plan_fault_text}
 use Rattle.reh_plan.specs.Named.{AreNamed}
 use Rattle.reh_plan.specs.Objects.{json_of}
 use Rattle.reh_plan.specs.Plans.{GoesOnBy, IsWithout, losses_of}
@@ -21,9 +22,13 @@ use Rattle.reh_plan.specs.Racks.{Racks, fewer_racks, racks_named}
 use Rattle.reh_plan.specs.Runbooks.{runbook_lines}
 use Rattle.reh_plan.specs.Summaries.{IsSum, is_whole, summary_text}
 use Rattle.reh_plan.specs.Workers.{rules_by}
+use Rattle.reh_plan.specs.declared.faults.PlanFault.{PlanFault}
+use Rattle.reh_plan.specs.declared.faults.PlanFault.TheVariants as plan_fault
 use Rattle.reh_plan.specs.declared.planning.Planned.{Planned}
 use Rattle.reh_words.specs.declared.tasks.PlanWords.{PlanWords}
-use Rattle.rehearse.specs.Inputs.{IsAfterSome}
+use Rattle.rehearse.specs.Inputs.{IsAfterSome, IsUnfit}
+use Rattle.rehearse.specs.declared.faults.RunFault.{RunFault}
+use Rattle.rehearse.specs.declared.faults.RunFault.TheVariants as run_fault
 use Rattle.rehearse.specs.declared.plans.Asked.{Asked}
 
 -- in which racks the bookies stand, by the marks of as many as there can be
@@ -67,6 +72,12 @@ pub record IsPlanFor (bytes : List ℕ) (words : PlanWords) (p : Planned) : Type
   pub asked : Asked
   pub is_asked : IsAsked bytes state.names words asked
   pub is_plan : IsPlan state asked p
+
+-- the fault of a run that has no plan
+abbrev pub TellsUnplanned : PlanFault → RunFault → Type 0
+TellsUnplanned plan_fault.NoMemory run = run ≡ run_fault.NoMemory
+TellsUnplanned plan_fault.NoRoom run = run ≡ run_fault.TooLong
+TellsUnplanned plan_fault.Unfinished run = IsUnfit (plan_fault_text plan_fault.Unfinished) run
 
 -- What is printed
 

@@ -76,20 +76,34 @@ fn has_stream(kinds: &[FileKind]) -> bool
     kinds.iter().any(|kind| is_stream(*kind))
 }
 
-/// What else is to be noted of these files, of which some are read once more, if any is.
+/// What else is to be noted of these files, which have so many ledgers, and of which some are read once more, if any is.
 pub(crate) fn notes_of(
     alloc: Global,
+    ledgers: u64,
     is_any: bool,
     files: &[&str],
     kinds: &[FileKind],
 ) -> Result<Vec<String>, AllocError>
-    ensures { IfOk result (λ notes. map string_bytes notes.items ≡ model.notes_of is_any files.now kinds.now) }
+    ensures { IfOk result (λ notes. map string_bytes notes.items ≡ model.notes_of ledgers is_any files.now kinds.now) }
 {
     let mut notes = cut_notes(alloc, files, kinds)?;
+    if ledgers == 0 {
+        push_empty(alloc, &mut notes)?;
+    }
     if is_any && has_stream(kinds) {
         push_stream(alloc, &mut notes)?;
     }
     Ok(notes)
+}
+
+/// Adds the note that there is no ledger.
+fn push_empty(alloc: Global, notes: &mut Vec<String>) -> Result<(), AllocError>
+    ensures { OnOk result (map string_bytes notes.new.items
+        ≡ map string_bytes notes.old.items ++ model.empty_text ∷ []) }
+{
+    let note = "no ledger was judged: the answer is for a cluster without ledgers";
+    notes.push(String::from_str(alloc, note)?)?;
+    Ok(())
 }
 
 /// Adds the note on inventories that can be read only once.

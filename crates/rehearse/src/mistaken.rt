@@ -1,6 +1,5 @@
 // A file that is no picture, but an inventory, or one without its first line.
 ghost use Rattle.std.specs.Prelude.{◌≡◌, ◌&&◌, IfOk};
-ghost use Rattle.std.specs.Result.{result_ok};
 ghost use Rattle.reh_picture.specs.Pictures.{located_picture_of};
 ghost use Rattle.rehearse.specs.Mistaken as model;
 
@@ -103,7 +102,7 @@ pub(crate) fn end_on(
     picture: Option<&str>,
     run: Result<u8, RunFault>,
 ) -> Result<u8, RunFault>
-    ensures { result_ok result ≡ result_ok run }
+    ensures { model.EndsOn picture.now run result }
 {
     match run {
         Ok(status) => Ok(status),
@@ -112,7 +111,9 @@ pub(crate) fn end_on(
 }
 
 /// The fault of a rehearsal on the picture in this file.
-fn fault_on(rt: &HostRuntime, picture: Option<&str>, fault: RunFault) -> RunFault {
+fn fault_on(rt: &HostRuntime, picture: Option<&str>, fault: RunFault) -> RunFault
+    ensures { model.ExplainsOn picture.now fault result }
+{
     match picture {
         Some(path) if is_refusal(&fault) => {
             let start = start_of(rt, path);

@@ -191,7 +191,9 @@ fn plan_by(alloc: Global, state: State, asked: &Asked) -> Result<Planned, RunFau
 }
 
 /// The fault of a run that has no plan.
-fn unplanned(alloc: Global, fault: PlanFault) -> RunFault {
+fn unplanned(alloc: Global, fault: PlanFault) -> RunFault
+    ensures { model.TellsUnplanned fault result }
+{
     match fault {
         PlanFault::NoMemory => RunFault::NoMemory,
         PlanFault::NoRoom => RunFault::TooLong,

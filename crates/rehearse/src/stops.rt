@@ -123,7 +123,7 @@ fn say_judged(
         bookies,
         ids,
         ledgers,
-        ..
+        census,
     } = gathered;
     let about = stop_of(&cluster, &bookies, asked, verdict);
     let mut worst = weigh(alloc, &ids, ledgers, &about)?;
@@ -134,7 +134,8 @@ fn say_judged(
     };
     let is_any = has_against(verdict.answer());
     weigh_files(rt, &inputs.files, is_any, &kinds, &kept, &by, &mut worst)?;
-    let notes = notes_of(alloc, is_any, &inputs.files, &kinds)?;
+    let judged = census.judged().ledgers;
+    let notes = notes_of(alloc, judged, is_any, &inputs.files, &kinds)?;
     let time = time_of(&taken);
     let said = say_weighed(alloc, asked, verdict, &about, &worst, time, &notes)?;
     Ok(said)

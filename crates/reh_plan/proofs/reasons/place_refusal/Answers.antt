@@ -25,10 +25,11 @@ lacks_source s g f i e fragment entries there striped found =
     (sym striped)
     ∙ ap (λ (o : Option ℕ). first_reason (option_map (λ e. NoSource e) o ∷ [])) found
 
-pub returns-in-Some-clause-refused : goal.returns-in-Some-clause-refused
-returns-in-Some-clause-refused c =
+pub returns-in-Some-clause-known : goal.returns-in-Some-clause-known
+returns-in-Some-clause-known c =
     let s : Cluster = c.args.state.now in
     let g : Ledger = c.args.ledger.now in
+    λ known.
     ap (λ (o : Option Refusal). first_reason (o ∷ version_end g ∷ []))
-    (lacks_source s g c.args.number c.args.index c.in-Some.entry c.in_ok-fragment.fragment.now c.in_ok-fragment.entries
-    c.in_ok-fragment.ensures.0 c.in_ok-fragment.ensures.2 (sym c.first_unreadable.ensures ∙ c.in-Some.is))
+    (sym (lacks_source s g c.args.number c.args.index c.in-Some.entry c.in_ok-fragment.fragment.now c.in_ok-fragment.entries
+    c.in_ok-fragment.ensures.some.0 c.in_ok-fragment.ensures.some.2 (sym c.first_unreadable.ensures ∙ c.in-Some.is)))
