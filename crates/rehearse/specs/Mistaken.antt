@@ -1,5 +1,6 @@
 -- A file that is no picture, but an inventory.
 use Rattle.std.specs.Prelude.{◌≡◌, ℕ, Bool, true, false, ◌&&◌, List, ◌++◌, codes, eqb, Option, None, Some, Result, Ok, Err}
+use Rattle.std.specs.Borrow.{Bor}
 use Rattle.std.specs.List.{starts_with}
 use Rattle.rehearse.specs.Faults.{run_fault_text}
 use Rattle.rehearse.specs.Inputs.{IsUnfit}
@@ -30,11 +31,11 @@ Explains path false fault run = run ≡ fault
 
 -- the fault of a rehearsal on the picture in this file: only where its picture is refused may it say that the file is an
 -- inventory
-abbrev pub ExplainsOn : Option (List ℕ) → RunFault → RunFault → Type 0
+abbrev pub ExplainsOn : Option (Bor (List ℕ)) → RunFault → RunFault → Type 0
 ExplainsOn None fault run = run ≡ fault
-ExplainsOn (Some path) fault run = (begins : Bool) × Explains path (is_refusal fault && begins) fault run
+ExplainsOn (Some path) fault run = (begins : Bool) × Explains path.now (is_refusal fault && begins) fault run
 
 -- a rehearsal that ends well ends with its status, and any other with its fault
-abbrev pub EndsOn : Option (List ℕ) → Result ℕ RunFault → Result ℕ RunFault → Type 0
+abbrev pub EndsOn : Option (Bor (List ℕ)) → Result ℕ RunFault → Result ℕ RunFault → Type 0
 EndsOn picture (Ok status) end = end ≡ Ok status
 EndsOn picture (Err fault) end = (told : RunFault) × (end ≡ Err told) × ExplainsOn picture fault told

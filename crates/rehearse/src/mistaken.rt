@@ -102,7 +102,7 @@ pub(crate) fn end_on(
     picture: Option<&str>,
     run: Result<u8, RunFault>,
 ) -> Result<u8, RunFault>
-    ensures { model.EndsOn picture.now run result }
+    ensures { model.EndsOn picture.entry run result }
 {
     match run {
         Ok(status) => Ok(status),
@@ -112,7 +112,7 @@ pub(crate) fn end_on(
 
 /// The fault of a rehearsal on the picture in this file.
 fn fault_on(rt: &HostRuntime, picture: Option<&str>, fault: RunFault) -> RunFault
-    ensures { model.ExplainsOn picture.now fault result }
+    ensures { model.ExplainsOn picture.entry fault result }
 {
     match picture {
         Some(path) if is_refusal(&fault) => {
