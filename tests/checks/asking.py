@@ -375,7 +375,8 @@ def notes_of(cluster: Cluster, question: Question, counted: Counted, taken: Opti
             f"a ledger created since the input was taken{time} may have all its copies on these bookies: "
             "make them read-only, take a new input, ask again"
         )
-    return notes + unasked_notes(cluster, question)
+    empty = [] if cluster.ledgers else ["no ledger was judged: the answer is for a cluster without ledgers"]
+    return notes + unasked_notes(cluster, question) + empty
 
 
 def unasked_notes(cluster: Cluster, question: Question) -> List[str]:
