@@ -8,6 +8,7 @@ use Rattle.reh_against.specs.Worst.{alone}
 use Rattle.reh_census.specs.declared.answers.Answer.{Answer}
 use Rattle.reh_census.specs.declared.answers.Answer.TheVariants.{Yes, No, Unknown, UnknownDisks, NotJudged}
 use Rattle.reh_census.specs.Ledgers.{Ledger}
+use Rattle.reh_census.specs.declared.censuses.Judged.{Judged}
 use Rattle.reh_inventory_against.specs.declared.rereading.Rereading.{Rereading}
 use Rattle.reh_inventory_against.specs.Files.{AreWeighed, Weighed, ids_in, ledgers_in}
 use Rattle.reh_inventory_against.specs.Reread.{IsWeighing}
@@ -60,13 +61,17 @@ cut_notes files kinds = flat_map (λ pair. cut_note pair.0.now pair.1) (zip file
 abbrev pub stream_text : List ℕ
 stream_text = codes "no ledger is named of an inventory that can be read only once, as from a pipe"
 
--- a note where there is no ledger in these files
+-- whether files show no ledger, and none that could not be read or was announced alone
+abbrev pub is_empty : Judged → Bool
+is_empty judged = (judged.ledgers == 0) && ((judged.unread == 0) && (judged.missing == 0))
+
+-- a note where they show none
 abbrev pub empty_text : List ℕ
 empty_text = codes "no ledger was judged: the answer is for a cluster without ledgers"
 
-abbrev pub notes_of : ℕ → Bool → List (Bor (List ℕ)) → List FileKind → List (List ℕ)
-notes_of ledgers is_any files kinds =
-    (cut_notes files kinds ++ (if ledgers == 0 then empty_text ∷ [] else []))
+abbrev pub notes_of : Judged → Bool → List (Bor (List ℕ)) → List FileKind → List (List ℕ)
+notes_of judged is_any files kinds =
+    (cut_notes files kinds ++ (if is_empty judged then empty_text ∷ [] else []))
     ++ (if is_any && list_any is_stream kinds then stream_text ∷ [] else [])
 
 -- some lines of an inventory were read once more, and their ledgers weighed
@@ -88,4 +93,4 @@ pub record SaysOf (files : GatheredFiles) (paths : List (Bor (List ℕ))) (stric
   pub answered : IsAnsweredBy (files.gathered.ids.items ++ flat_map ids_in weighed)
       (map alone files.gathered.ledgers.items ++ flat_map ledgers_in weighed)
       (option_map string_bytes files.taken)
-      (notes_of files.gathered.census.judged.ledgers (has_against verdict.facts.answer) paths files.kinds.items) files.gathered asked said
+      (notes_of files.gathered.census.judged (has_against verdict.facts.answer) paths files.kinds.items) files.gathered asked said

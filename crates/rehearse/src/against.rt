@@ -13,7 +13,7 @@ use crate::files::open_file;
 use crate::inputs::{FileKind, too_many, unfit};
 use crate::inventories::{read_line, reader_of, uncounted};
 use reh_against::{Stop, Worst};
-use reh_census::{Answer, Ledger};
+use reh_census::{Answer, Judged, Ledger};
 use reh_inputs::{ClusterNames, names_of};
 use reh_inventory_against::Rereading;
 use reh_tally::TallyFault;
@@ -76,18 +76,25 @@ fn has_stream(kinds: &[FileKind]) -> bool
     kinds.iter().any(|kind| is_stream(*kind))
 }
 
-/// What else is to be noted of these files, which have so many ledgers, and of which some are read once more, if any is.
+/// Whether files show no ledger, and none that could not be read or was announced alone.
+fn is_empty(judged: Judged) -> bool
+    ensures { result ≡ model.is_empty judged }
+{
+    judged.ledgers == 0 && judged.unread == 0 && judged.missing == 0
+}
+
+/// What else is to be noted of these files, whose ledgers were judged so, and of which some are read once more, if any is.
 pub(crate) fn notes_of(
     alloc: Global,
-    ledgers: u64,
+    judged: Judged,
     is_any: bool,
     files: &[&str],
     kinds: &[FileKind],
 ) -> Result<Vec<String>, AllocError>
-    ensures { IfOk result (λ notes. map string_bytes notes.items ≡ model.notes_of ledgers is_any files.now kinds.now) }
+    ensures { IfOk result (λ notes. map string_bytes notes.items ≡ model.notes_of judged is_any files.now kinds.now) }
 {
     let mut notes = cut_notes(alloc, files, kinds)?;
-    if ledgers == 0 {
+    if is_empty(judged) {
         push_empty(alloc, &mut notes)?;
     }
     if is_any && has_stream(kinds) {

@@ -112,7 +112,7 @@ fn say_judged(
     ensures { IfOk result (SaysOf files inputs.now.files.items inputs.now.strict asked.now) }
 {
     let alloc = rt.alloc();
-    let counted = files.gathered.census.judged();
+    let judged = files.gathered.census.judged();
     let GatheredFiles {
         gathered,
         ids: kept,
@@ -135,7 +135,7 @@ fn say_judged(
     };
     let is_any = has_against(verdict.answer());
     weigh_files(rt, &inputs.files, is_any, &kinds, &kept, &by, &mut worst)?;
-    let notes = notes_of(alloc, counted.ledgers, is_any, &inputs.files, &kinds)?;
+    let notes = notes_of(alloc, judged, is_any, &inputs.files, &kinds)?;
     let time = time_of(&taken);
     let said = say_weighed(alloc, asked, verdict, &about, &worst, time, &notes)?;
     Ok(said)

@@ -20,7 +20,6 @@ returns c =
     let is_any : Bool = c.has_against-is_any.result in
     let reads : is_any ≡ has_against c.args.verdict.now.facts.answer =
     c.has_against-is_any.ensures ∙ ap has_against c.answer.ensures in
-    let counted : c.judged-counted.result.ledgers ≡ g.census.judged.ledgers = ap (λ j. j.ledgers) c.judged-counted.ensures in
     record {
       verdict = c.args.verdict.now;
       judged = c.requires.judged;
@@ -35,11 +34,11 @@ returns c =
           answered-same (c.deref.result.now ++ flat_map ids_in all.files) (g.ids.items ++ flat_map ids_in all.files)
           (ledgers ++ flat_map ledgers_in all.files) (option_copied c.time_of-time.result)
           (option_map string_bytes c.args.files.taken) (map string_bytes c.deref-7.result.now)
-          (notes_of g.census.judged.ledgers (has_against c.args.verdict.now.facts.answer) c.args.inputs.now.files.items kinds) g c.args.asked.now c.in_ok-said.said
+          (notes_of g.census.judged (has_against c.args.verdict.now.facts.answer) c.args.inputs.now.files.items kinds) g c.args.asked.now c.in_ok-said.said
           (ap (λ (ids : List ℕ). ids ++ flat_map ids_in all.files) c.deref.ensures.value) c.time_of-time.ensures
           (ap (λ (notes : List (String Global)). map string_bytes notes) c.deref-7.ensures.value
           ∙ c.in_ok-notes.ensures
-          ∙ (λ i. notes_of (counted i) (reads i) (c.deref-5.ensures.value i) (c.deref-6.ensures.value i)))
+          ∙ (λ i. notes_of (c.judged-judged.ensures i) (reads i) (c.deref-5.ensures.value i) (c.deref-6.ensures.value i)))
           (c.in_ok-said.ensures g (c.deref.result.now ++ flat_map ids_in all.files) (ledgers ++ flat_map ledgers_in all.files)
           c.requires.judged
           (record {
