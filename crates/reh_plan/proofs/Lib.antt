@@ -12,4 +12,5 @@ pub mod EndLaws
 pub mod RacksLaws
 pub mod ObjectLaws
 pub mod FewerLaws
+pub mod FullLaws
 pub mod ReasonLaws

@@ -1,11 +1,12 @@
 -- Ledgers that are named in comments, one after another.
-use Rattle.std.proofs.Common.{◌≡◌, ℕ, ◌+◌, ◌<◌, ◌≤◌, Bool, true, false, None, List, [], ◌∷◌, ◌++◌, length, take, get_or, refl, sym, ap, ◌∙◌, subst, arith, true≢false, length-append}
+use Rattle.std.proofs.Common.{◌≡◌, ◌⊎◌, inr, ℕ, ◌+◌, ◌<◌, ◌≤◌, Bool, true, false, None, List, [], ◌∷◌, ◌++◌, length, take, get_or, refl, sym, ap, ◌∙◌, subst, arith, true≢false, length-append}
 use Rattle.std.specs.Prelude.{All, Any, IsTrue}
 use Rattle.std.proofs.lemmas.List.{take_more, take_all, get_or_append_left}
 use Rattle.std.proofs.lemmas.List.Elements.{All-push}
 use Rattle.std.proofs.lemmas.List.Quantifiers.{Any-push}
 use Rattle.reh_model.specs.Cluster.{Cluster, Ledger}
 use Rattle.reh_commands.specs.Answers.{asked}
+use Rattle.reh_plan.specs.Ends.{full_line}
 use Rattle.reh_plan.specs.Plans.{Draft, is_left, left_line, IsNamed, IsLeaving, IsLeftLine, AllLeft, AllNamed}
 use Rattle.reh_plan.specs.Reasons.{IsReason, reason_text}
 use Rattle.reh_plan.specs.Workers.{Rules}
@@ -34,8 +35,8 @@ pub only_left : (rules : Rules) (full : Bool) (names : List (List ℕ)) (d n : D
 only_left rules full names d n k g reason leaving why left within is only =
     let line : List ℕ = left_line g.id (reason_text reason) in
     subst (λ (x : Draft). AllLeft rules full names x.state x.lines) (sym leaving)
-    (All-push (λ line. asked names line ≡ None → IsLeftLine rules full d.state d.state.parts.ledgers line) d.lines line only
-    (λ _. (k, g, within, sym is, (left, (reason, why, refl)))))
+    (All-push (λ line. asked names line ≡ None → (line ≡ full_line) ⊎ IsLeftLine rules full d.state d.state.parts.ledgers line) d.lines line only
+    (λ _. inr (k, g, within, sym is, (left, (reason, why, refl)))))
 
 -- a ledger that is left is named
 pub named_left : (d n : Draft) (k : ℕ) (g : Ledger) (reason : Reason) → IsLeaving d g.id reason n → k < length d.state.parts.ledgers

@@ -1,6 +1,7 @@
 -- How deep the object is, and what it has behind its bookies.
 use Rattle.std.proofs.Common.{◌≤◌, ◌++◌, ◌∷◌, [], ℕ, List, arith}
 use Rattle.std.specs.Prelude.{codes}
+use Rattle.json.specs.Json.{boolean}
 use Rattle.json.specs.Token.{Token, end_object}
 use Rattle.json.specs.Tree.{depth}
 use Rattle.reh_answer.specs.Objects.{member_tokens, number_json}
@@ -23,4 +24,5 @@ abbrev pub after_bookies : Summary → List FewerRacks → List Token
 after_bookies summary fewer =
     member_tokens (codes "left") (number_json summary.left)
     ++ (member_tokens (codes "lost") (number_json summary.unreadable)
-    ++ (member_tokens (codes "fewerRacks") (fewer_json fewer) ++ end_object ∷ []))
+    ++ (member_tokens (codes "fewerRacks") (fewer_json fewer)
+    ++ (member_tokens (codes "full") (boolean summary.is_full) ++ end_object ∷ [])))

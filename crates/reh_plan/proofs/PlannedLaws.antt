@@ -1,19 +1,20 @@
 -- What all of a plan's steps come to.
-use Rattle.std.proofs.Common.{◌≡◌, ◌∙◌, Bool, List, [], ◌++◌, ℕ, length, map, true, None, is_some, sym, ap, subst, true≢false}
-use Rattle.std.proofs.lemmas.List.Elements.{All-weaker}
+use Rattle.std.proofs.Common.{◌≡◌, ◌∙◌, ◌⊎◌, inl, Bool, List, [], ◌∷◌, ◌++◌, ℕ, length, map, true, false, None, is_some, sym, ap, append_assoc, refl, subst, true≢false}
+use Rattle.std.proofs.lemmas.List.Elements.{All-push, All-weaker}
 use Rattle.std.proofs.lemmas.List.Sums.{AllPass-from_list_all}
 use Rattle.reh_types.specs.declared.moves.Event.{Event}
 use Rattle.reh_types.specs.Sets as set
 use Rattle.reh_types.specs.Sets.{Set, numbers}
 use Rattle.reh_model.specs.Cluster.{Cluster}
 use Rattle.reh_commands.specs.Answers.{asked}
-use Rattle.reh_plan.specs.Ends.{Ends, IsHarmless}
-use Rattle.reh_plan.specs.Needed.{AreNeeded}
-use Rattle.reh_plan.specs.Plans.{AllLeft, AllNamed, Draft, GoesOnBy, IsWithout, IsLeftLine, IsPlayed, Loses, OnlyLeft, WorksAndNames, is_all_asked, losses_of}
+use Rattle.reh_plan.specs.Ends.{Ends, HasNoRoom, IsDone, IsFull, IsHarmless, full_line, says_full}
+use Rattle.reh_plan.specs.Needed.{AreNeeded, are_used}
+use Rattle.reh_plan.specs.Plans.{AllLeft, AllNamed, Draft, GoesOnBy, HasMore, IsWithout, IsLeftLine, IsNaming, IsPlayed, IsRepaired, Loses, OnlyLeft, Tells, is_all_asked, losses_of, with_full}
 use Rattle.reh_plan.specs.Racks.{lines_before, racks_line}
 use Rattle.reh_plan.specs.Workers.{Rules}
 use Rattle.reh_plan.specs.declared.fewer.FewerRacks.{FewerRacks}
 use Rattle.reh_plan.proofs.FewerLaws.{before-told}
+use Rattle.reh_plan.proofs.FullLaws.{commands_dont, more_same, told}
 use Rattle.reh_plan.proofs.NamedLaws.{named_on}
 use Rattle.reh_plan.proofs.PlanLaws.{IsWithout-works}
 
@@ -24,40 +25,90 @@ pub record IsPlanned (s : Cluster) (lost : Set numbers) (rules : Rules) (n : Dra
   pub opening : n.opening ≡ s
   pub without : IsWithout s (set.contains lost) n.state
   pub order : GoesOnBy rules (losses_of s (set.contains lost) (length s.names)) n.events
+  pub named : AllNamed n.state n.lines n.state.parts.ledgers
   pub only : OnlyLeft rules s.names n.state n.lines
+  pub ends : Ends rules n.state n.lines
+  pub needed : AreNeeded n.lines n.events
 
--- a plan without a comment
+-- a comment that the script is full leaves all else
+full_opening : (full : Bool) (d : Draft) → (with_full full d).opening ≡ d.opening
+full_opening true d = refl
+full_opening false d = refl
+
+full_state : (full : Bool) (d : Draft) → (with_full full d).state ≡ d.state
+full_state true d = refl
+full_state false d = refl
+
+full_events : (full : Bool) (d : Draft) → (with_full full d).events ≡ d.events
+full_events true d = refl
+full_events false d = refl
+
+-- comments leave the cluster on which the plan begins
+pub tells_opening : (rules : Rules) (d n : Draft) → Tells rules d n → n.opening ≡ d.opening
+tells_opening rules d n tells = tells.naming.opening ∙ full_opening tells.full d
+
+-- a plan without a comment, and one of which the last line may say that its script is full
 only_commands : (rules : Rules) (full : Bool) (d : Draft) → is_all_asked d ≡ true → AllLeft rules full d.opening.names d.state d.lines
 only_commands rules full d all =
     All-weaker (λ line. is_some (asked d.opening.names line) ≡ true)
-    (λ line. asked d.opening.names line ≡ None → IsLeftLine rules full d.state d.state.parts.ledgers line)
+    (λ line. asked d.opening.names line ≡ None → (line ≡ full_line) ⊎ IsLeftLine rules full d.state d.state.parts.ledgers line)
     (λ line some none. absurd (true≢false (sym some ∙ ap is_some none)))
     d.lines (AllPass-from_list_all (λ line. is_some (asked d.opening.names line)) d.lines all)
 
+only_full : (rules : Rules) (full last : Bool) (d : Draft) → is_all_asked d ≡ true
+    → AllLeft rules full (with_full last d).opening.names (with_full last d).state (with_full last d).lines
+only_full rules full true d all =
+    All-push
+    (λ line. asked d.opening.names line ≡ None → (line ≡ full_line) ⊎ IsLeftLine rules full d.state d.state.parts.ledgers line)
+    d.lines full_line (only_commands rules full d all) (λ _. inl refl)
+only_full rules full false d all = only_commands rules full d all
+
+-- where the script has no room, and its next line says so
+full_after : (d : Draft) (full : Bool) (lines : List (List ℕ)) → full ≡ true → HasNoRoom d.lines
+    → HasMore (with_full full d).lines lines → IsFull lines
+full_after d true lines _ no_room more = record {
+  before = d.lines;
+  after = more.0;
+  is = more.1 ∙ append_assoc d.lines (full_line ∷ []) more.0;
+  full = no_room;
+}
+full_after d false lines is no_room more = absurd (true≢false (sym is))
+
 -- bookies are lost, work is done, and what is left is named
 planned : (s : Cluster) (lost : Set numbers) (rules : Rules) (l n : Draft) → Loses (empty_draft s) (set.contains lost) (losses_of s (set.contains lost) (length s.names)) l
-    → WorksAndNames rules l n → IsPlanned s lost rules n
+    → IsRepaired rules l n → IsPlanned s lost rules n
 planned s lost rules l n first done =
     let w : Draft = done.worked in
-    let opening : w.opening ≡ s = done.works.opening ∙ first.opening in
+    let full : Bool = done.tells.full in
+    let naming : IsNaming rules full (with_full full w) n = done.tells.naming in
+    let opening : n.opening ≡ s = tells_opening rules w n done.tells ∙ done.works.opening ∙ first.opening in
+    let state : n.state ≡ w.state = naming.state ∙ full_state full w in
+    let events : n.events ≡ w.events = naming.events ∙ full_events full w in
     let all : is_all_asked w ≡ true = done.works.commands ∙ first.commands in
+    let said : says_full n.lines ≡ full =
+    more_same (with_full full w).lines n.lines naming.comments ∙ told w full (commands_dont w all) in
     record {
-      opening = done.naming.opening ∙ opening;
+      opening = opening;
       without =
-          subst (λ (t : Cluster). IsWithout s (set.contains lost) t) (sym done.naming.state)
+          subst (λ (t : Cluster). IsWithout s (set.contains lost) t) (sym state)
           (IsWithout-works s l.state w.state (set.contains lost) first.lost done.works.lost_at);
       order = (
         done.works.work.0,
-        done.naming.events ∙ done.works.work.1 ∙ ap (λ (events : List Event). events ++ done.works.work.0) first.events,
+        events ∙ done.works.work.1 ∙ ap (λ (events : List Event). events ++ done.works.work.0) first.events,
         done.works.work.2,
       );
+      named = naming.named;
       only = record {
-        full = done.full;
-        is_full = done.is_full;
+        full = λ says.
+            let is : full ≡ true = sym said ∙ says in
+            full_after w full n.lines is (done.tells.cut_off is) naming.comments;
         left =
-            subst (λ (o : Cluster). AllLeft rules done.full o.names n.state n.lines) (done.naming.opening ∙ opening)
-            (done.naming.only (only_commands rules done.full w all));
+            subst (λ (x : Bool). AllLeft rules x s.names n.state n.lines) (sym said)
+            (subst (λ (o : Cluster). AllLeft rules full o.names n.state n.lines) opening
+            (naming.only (only_full rules full full w all)));
       };
+      ends = λ says. subst (IsDone rules) (sym state) (done.tells.through (sym said ∙ says)).done;
+      needed = λ says. ap are_used events ∙ (done.tells.through (sym said ∙ says)).needed;
     }
 
 -- so a plan that begins without a line
@@ -67,7 +118,7 @@ planned-alone s lost rules d n begun played =
     planned s lost rules played.lost n
     (subst (λ (b : Draft). Loses b (set.contains lost) (losses_of b.state (set.contains lost) (length b.state.names)) played.lost)
     begun played.loses)
-    played.repaired.works
+    played.repaired
 
 -- what such a plan comes to, with comments on these fragments at its end
 pub record IsTold (s : Cluster) (lost : Set numbers) (rules : Rules) (fewer : List FewerRacks) (n : Draft) : Type 0 where
@@ -90,10 +141,10 @@ told-alone s lost rules d p n fewer begun played told =
       opening = done.opening;
       without = done.without;
       order = done.order;
-      named = named_on p.state p.lines (map racks_line fewer) p.state.parts.ledgers played.repaired.works.naming.named;
+      named = named_on p.state p.lines (map racks_line fewer) p.state.parts.ledgers done.named;
       told = ap (λ (lines : List (List ℕ)). lines ++ map racks_line fewer) (sym before);
       only = subst (OnlyLeft rules s.names p.state) (sym before) done.only;
-      ends = subst (Ends rules p.state) (sym before) played.repaired.ends;
+      ends = subst (Ends rules p.state) (sym before) done.ends;
       harmless = subst (λ (x : Draft). IsHarmless x.state p.state) begun played.harmless;
-      needed = subst (λ (lines : List (List ℕ)). AreNeeded lines p.events) (sym before) played.repaired.needed;
+      needed = subst (λ (lines : List (List ℕ)). AreNeeded lines p.events) (sym before) done.needed;
     }

@@ -1,5 +1,5 @@
--- What a plan must not leave, where its script has room.
-use Rattle.std.specs.Prelude.{◌≡◌, ◌≢◌, ◌⊎◌, ℕ, ◌+◌, ◌≤◌, Bool, false, ◌&&◌, IsTrue, IsFalse, All, List, [], ◌∷◌, length, map, is_none, is_some, slice_get}
+-- What a plan must not leave, unless its script says that it is full.
+use Rattle.std.specs.Prelude.{◌≡◌, ◌≢◌, ℕ, ◌+◌, ◌≤◌, Bool, false, ◌&&◌, IsTrue, IsFalse, All, List, [], ◌∷◌, ◌++◌, length, map, is_none, is_some, slice_get, bytes_eq, codes}
 use Rattle.std.specs.Prelude.{Option, None, Some}
 use Rattle.std.specs.List.{list_any}
 use Rattle.std.specs.Option.{option_map_or}
@@ -99,11 +99,26 @@ AreAmong flags others = (k : ℕ) → IsTrue (flag_at flags k) → IsTrue (flag_
 abbrev pub IsHarmless : Cluster → Cluster → Type 0
 IsHarmless s t = AreAmong (recovering t) (recovering s)
 
--- a script of these lines has no room for a further command, beside the comments
-pub record IsFull (lines : List (List ℕ)) : Type 0 where
+-- the comment that a script is full, and that something is left that could be done
+abbrev pub full_line : List ℕ
+full_line = codes "# the script is full: plan again after it"
+
+-- whether one of these lines says so
+abbrev pub says_full : List (List ℕ) → Bool
+says_full lines = list_any (bytes_eq full_line) lines
+
+-- after these lines a script has no room for a further command, beside the comments
+pub record HasNoRoom (lines : List (List ℕ)) : Type 0 where
   pub text : List ℕ
   pub says : lines_of text ≡ lines
   pub many : MAX_SCRIPT_BYTES ≤ length text + COMMAND_ROOM
+
+-- one of these lines says that the script is full, and before it there is no room
+pub record IsFull (lines : List (List ℕ)) : Type 0 where
+  pub before : List (List ℕ)
+  pub after : List (List ℕ)
+  pub is : lines ≡ before ++ full_line ∷ after
+  pub full : HasNoRoom before
 
 -- nothing is left that the bookies that may work could do
 pub record IsDone (rules : Rules) (s : Cluster) : Type 0 where
@@ -112,6 +127,6 @@ pub record IsDone (rules : Rules) (s : Cluster) : Type 0 where
   pub unlocked : IsUnlocked s
   pub needed : IsNeeded s
 
--- in t, the last state, nothing of that is left, unless the script is full
+-- in t, the last state, nothing of that is left, unless the script says that it is full
 abbrev pub Ends : Rules → Cluster → List (List ℕ) → Type 0
-Ends rules t lines = IsFull lines ⊎ IsDone rules t
+Ends rules t lines = IsFalse (says_full lines) → IsDone rules t

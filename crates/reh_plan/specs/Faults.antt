@@ -6,4 +6,4 @@ use Rattle.reh_plan.specs.declared.faults.PlanFault.TheVariants.{NoMemory, NoRoo
 abbrev pub plan_fault_text : PlanFault → List ℕ
 plan_fault_text NoMemory = codes "no memory"
 plan_fault_text NoRoom = codes "the plan is too long for a script"
-plan_fault_text Unfinished = codes "the plan would leave something undone"
+plan_fault_text Unfinished = codes "the plan would leave something undone, or do something in vain"

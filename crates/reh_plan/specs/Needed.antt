@@ -1,9 +1,9 @@
 -- Which commands of a plan are needed: what they do is used.
-use Rattle.std.specs.Prelude.{◌≡◌, ◌⊎◌, ℕ, ◌==◌, ◌&&◌, Bool, true, false, List, [], ◌∷◌}
+use Rattle.std.specs.Prelude.{◌≡◌, ℕ, ◌==◌, ◌&&◌, Bool, true, false, IsFalse, IsTrue, List, [], ◌∷◌}
 use Rattle.std.specs.List.{list_any}
 use Rattle.reh_types.specs.declared.moves.Event.{Event}
 use Rattle.reh_types.specs.declared.moves.Event.TheVariants.{Acquire, Grace, Fence, Seal, Copy, Swap}
-use Rattle.reh_plan.specs.Ends.{IsFull}
+use Rattle.reh_plan.specs.Ends.{says_full}
 
 -- whether the worker grants a grace, closes the ledger or copies its entries by the event
 abbrev pub is_by : ℕ → ℕ → Event → Bool
@@ -45,6 +45,6 @@ abbrev pub are_used : List Event → Bool
 are_used [] = true
 are_used (event ∷ events) = is_used event events && are_used events
 
--- of a script with these lines and events it is, unless the script is full
+-- of a script with these lines and events it is, unless the script says that it is full
 abbrev pub AreNeeded : List (List ℕ) → List Event → Type 0
-AreNeeded lines events = IsFull lines ⊎ (are_used events ≡ true)
+AreNeeded lines events = IsFalse (says_full lines) → IsTrue (are_used events)

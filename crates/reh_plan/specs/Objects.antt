@@ -1,6 +1,6 @@
 -- What a plan comes to, as a JSON value.
 use Rattle.std.specs.Prelude.{ℕ, List, map, codes}
-use Rattle.json.specs.Json.{Json, object, string, no_members, member}
+use Rattle.json.specs.Json.{Json, boolean, object, string, no_members, member}
 use Rattle.reh_answer.specs.Objects.{line_of, list_json, number_json}
 use Rattle.reh_commands.specs.Texts.{name_of}
 use Rattle.reh_plan.specs.declared.fewer.FewerRacks.{FewerRacks}
@@ -38,13 +38,15 @@ fewer_json fewer = list_json (map fragment_json fewer)
 
 -- All of it
 
--- what bookies are given, how many ledgers are left, how many entries can't be read, and where fewer racks hold copies
+-- what bookies are given, how many ledgers are left, how many entries can't be read, where fewer racks hold copies, and
+-- whether the script is full
 abbrev pub plan_value : List (List ℕ) → Summary → List FewerRacks → Json
 plan_value names summary fewer =
     object (
     member (codes "bookies") (bookies_json names summary.shares.items)
     (member (codes "left") (number_json summary.left)
-    (member (codes "lost") (number_json summary.unreadable) (member (codes "fewerRacks") (fewer_json fewer) no_members)))
+    (member (codes "lost") (number_json summary.unreadable) (member (codes "fewerRacks") (fewer_json fewer)
+    (member (codes "full") (boolean summary.is_full) no_members))))
     )
 
 -- one object on one line

@@ -1,6 +1,6 @@
 -- What a plan is: a script whose lines ask for events that are accepted one after another, and a comment for each ledger
 -- with which something is left to do.
-use Rattle.std.specs.Prelude.{◌≡◌, ◌==◌, ℕ, ◌≤◌, IsTrue, Bool, true, false, not, ◌&&◌, ◌||◌, All, Any, List, [], ◌∷◌, ◌++◌, length}
+use Rattle.std.specs.Prelude.{◌≡◌, ◌⊎◌, ◌==◌, ℕ, ◌≤◌, IsTrue, IsFalse, Bool, true, false, not, ◌&&◌, ◌||◌, All, Any, List, [], ◌∷◌, ◌++◌, length}
 use Rattle.std.specs.Prelude.{Option, None, Some, is_some, Result, Ok, codes, if◌then◌else◌}
 use Rattle.std.specs.List.{filter, flat_map, list_all, list_any, range_with_len}
 use Rattle.std.specs.Fmt.{decimal}
@@ -19,8 +19,8 @@ use Rattle.reh_lines.specs.Lines.{lines_of, ended}
 use Rattle.reh_commands.specs.declared.commands.Command.{Command}
 use Rattle.reh_commands.specs.declared.commands.Command.TheVariants.{Make}
 use Rattle.reh_commands.specs.declared.commands.LineFault.{LineFault}
-use Rattle.reh_plan.specs.Ends.{Ends, IsFull, IsHarmless}
-use Rattle.reh_plan.specs.Needed.{AreNeeded}
+use Rattle.reh_plan.specs.Ends.{IsDone, IsFull, IsHarmless, HasNoRoom, full_line, says_full}
+use Rattle.reh_plan.specs.Needed.{are_used}
 use Rattle.reh_plan.specs.Reasons.{IsReason, reason_text}
 use Rattle.reh_plan.specs.Workers.{Rules, may_work}
 use Rattle.reh_plan.specs.declared.reasons.Reason.{Reason}
@@ -170,38 +170,52 @@ IsLeftLine rules full s ledgers line =
     Any (λ g. IsTrue (is_left s g)
     × ((reason : Reason) × IsReason rules full s g reason × (line ≡ left_line g.id (reason_text reason)))) ledgers
 
--- each line without an answer is a comment on a ledger with which something is left, and why
+-- each line without an answer is a comment that the script is full, or on a ledger with which something is left, and why
 abbrev pub AllLeft : Rules → Bool → List (List ℕ) → Cluster → List (List ℕ) → Type 0
 AllLeft rules full names s lines =
-    All (λ line. asked names line ≡ None → IsLeftLine rules full s s.parts.ledgers line) lines
+    All (λ line. asked names line ≡ None → (line ≡ full_line) ⊎ IsLeftLine rules full s s.parts.ledgers line) lines
 
--- each line without an answer is one of those, and says that there is no room only where the script is full
+-- each line without an answer is one of those; and where one says that the script is full, it is
 pub record OnlyLeft (rules : Rules) (names : List (List ℕ)) (s : Cluster) (lines : List (List ℕ)) : Type 0 where
-  pub full : Bool
-  pub is_full : IsTrue full → IsFull lines
-  pub left : AllLeft rules full names s lines
+  pub full : IsTrue (says_full lines) → IsFull lines
+  pub left : AllLeft rules (says_full lines) names s lines
+
+-- after these lines come others, none of which says that the script is full
+abbrev pub HasMore : List (List ℕ) → List (List ℕ) → Type 0
+HasMore before lines = (more : List (List ℕ)) × (lines ≡ before ++ more) × (says_full more ≡ false)
+
+-- the plan goes on by the comment that its script is full, if it is
+abbrev pub with_full : Bool → Draft → Draft
+with_full true d = record d { lines = d.lines ++ full_line ∷ [] }
+with_full false d = d
 
 -- the plan goes on from d to n by comments alone: they name each ledger with which something is left, and why, and no other
 pub record IsNaming (rules : Rules) (full : Bool) (d n : Draft) : Type 0 where
   pub opening : n.opening ≡ d.opening
   pub state : n.state ≡ d.state
   pub events : n.events ≡ d.events
+  pub comments : HasMore d.lines n.lines
   pub named : AllNamed n.state n.lines n.state.parts.ledgers
   pub only : AllLeft rules full d.opening.names d.state d.lines → AllLeft rules full n.opening.names n.state n.lines
 
--- the plan goes on from d to n by such work, and then by comments on what is left
-pub record WorksAndNames (rules : Rules) (d n : Draft) : Type 0 where
+-- by the plan that is made so far nothing is left that could be done, and no command is in vain
+pub record IsThrough (rules : Rules) (d : Draft) : Type 0 where
+  pub done : IsDone rules d.state
+  pub needed : IsTrue (are_used d.events)
+
+-- the plan goes on from d to n by comments alone: that its script is full, where it has no room, else nothing is left that
+-- could be done; and on what is left
+pub record Tells (rules : Rules) (d n : Draft) : Type 0 where
+  pub full : Bool
+  pub cut_off : IsTrue full → HasNoRoom d.lines
+  pub through : IsFalse full → IsThrough rules d
+  pub naming : IsNaming rules full (with_full full d) n
+
+-- the plan goes on from d to n by such work, and then by such comments
+pub record IsRepaired (rules : Rules) (d n : Draft) : Type 0 where
   pub worked : Draft
   pub works : Works rules d worked
-  pub full : Bool
-  pub is_full : IsTrue full → IsFull n.lines
-  pub naming : IsNaming rules full worked n
-
--- and in the end nothing is left that could be done, where the script has room
-pub record IsRepaired (rules : Rules) (d n : Draft) : Type 0 where
-  pub works : WorksAndNames rules d n
-  pub ends : Ends rules n.state n.lines
-  pub needed : AreNeeded n.lines n.events
+  pub tells : Tells rules worked n
 
 -- the plan goes on from d to n by the losses of these bookies, by AutoRecovery's work, and by comments on what is left; and no
 -- ledger was fenced and not recovered

@@ -16,11 +16,11 @@ use Rattle.reh_model.specs.Step.{refusal_of}
 use Rattle.reh_plan.specs.Ends.{has_writer, seal_refusal}
 use Rattle.reh_plan.specs.Workers.{Rules, may_work}
 use Rattle.reh_plan.specs.declared.reasons.Reason.{Reason}
-use Rattle.reh_plan.specs.declared.reasons.Reason.TheVariants.{NoTask, NoWorker, Place, Roll, Seal, NoRoom}
+use Rattle.reh_plan.specs.declared.reasons.Reason.TheVariants.{NoWorker, Place, Roll, Seal, NoRoom}
 
 -- When a reason is one
 
--- a member of the fragment isn't registered, and each bookie that may work isn't either, or is a member
+-- a member of the fragment isn't registered, and each bookie that may work is itself not registered, or a member
 pub record LacksWorker (rules : Rules) (s : Cluster) (fragment : Fragment) : Type 0 where
   pub under : is_under s fragment ≡ true
   pub none : (b : ℕ) → IsTrue (may_work rules b) → first_reason (target_down s b ∷ target_is_member fragment b ∷ []) ≢ None
@@ -69,17 +69,16 @@ may_come rules s g i b =
 abbrev pub unrolled_refusal : Rules → Cluster → Ledger → ℕ → ℕ → Option Refusal
 unrolled_refusal rules s g i b = if has_writer rules g && may_come rules s g i b then roll_refusal s g i b else None
 
--- none of these is so, so that only room can lack
+-- none of these is so: only room can be missing
 pub record LacksRoom (rules : Rules) (s : Cluster) (g : Ledger) : Type 0 where
   pub workers : (f : ℕ) → LacksWorkerAt rules s g f → ⊥
   pub places : (f i : ℕ) → unfilled_refusal s g f i ≡ None
   pub seal : unsealed_refusal rules s g ≡ None
   pub roll : (i b : ℕ) → unrolled_refusal rules s g i b ≡ None
 
--- that is why something is left for the ledger in s, the last state; that there is no room only where the script is full and
--- nothing else is so, and that there is no task only where it has room
+-- that is why something is left for the ledger in s, the last state: that there is no room, only where the script says that
+-- it is full and nothing else is so
 abbrev pub IsReason : Rules → Bool → Cluster → Ledger → Reason → Type 0
-IsReason rules full s g NoTask = (is_none g.task ≡ true) × (full ≡ false)
 IsReason rules full s g (NoWorker f) = LacksWorkerAt rules s g f
 IsReason rules full s g (Place f i refusal) = unfilled_refusal s g f i ≡ Some refusal
 IsReason rules full s g (Roll refusal) = (i : ℕ) × (b : ℕ) × (unrolled_refusal rules s g i b ≡ Some refusal)
@@ -94,7 +93,6 @@ place_verb VersionEnd = codes "swap"
 place_verb other = codes "copy"
 
 abbrev pub reason_text : Reason → List ℕ
-reason_text NoTask = codes "no task"
 reason_text (NoWorker f) = codes "fragment " ++ (decimal f ++ codes ": no worker")
 reason_text (Place f i refusal) =
     codes "fragment " ++ (decimal f ++ (codes " index " ++ (decimal i ++ (codes ": " ++ (place_verb refusal

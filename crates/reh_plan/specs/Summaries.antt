@@ -1,5 +1,5 @@
 -- What a plan comes to.
-use Rattle.std.specs.Prelude.{◌≡◌, ℕ, ◌-◌, ◌==◌, ◌&&◌, Bool, false, List, [], ◌∷◌, ◌++◌, map, flat_map, length, count_by, sum_by}
+use Rattle.std.specs.Prelude.{◌≡◌, ℕ, ◌-◌, ◌==◌, ◌&&◌, Bool, false, not, List, [], ◌∷◌, ◌++◌, map, flat_map, length, count_by, sum_by}
 use Rattle.std.specs.Prelude.{unwrap_or, codes, if◌then◌else◌}
 use Rattle.std.specs.List.{range_with_len}
 use Rattle.std.specs.Fmt.{decimal}
@@ -9,6 +9,7 @@ use Rattle.reh_model.specs.Contents.{count_held}
 use Rattle.reh_model.specs.Cluster.{Cluster}
 use Rattle.reh_model.specs.Survey.{survey}
 use Rattle.reh_commands.specs.Texts.{name_of, spaced}
+use Rattle.reh_plan.specs.Ends.{says_full}
 use Rattle.reh_plan.specs.Plans.{Draft, is_left}
 use Rattle.reh_plan.specs.declared.summaries.Share.{Share}
 use Rattle.reh_plan.specs.declared.summaries.Summary.{Summary}
@@ -48,10 +49,11 @@ pub record IsSum (d : Draft) (summary : Summary) : Type 0 where
   pub shares : summary.shares.items ≡ map (share_of d) (range_with_len 0 (length d.opening.names))
   pub left : summary.left ≡ left_of d.state
   pub unreadable : summary.unreadable ≡ unreadable_of d.state
+  pub full : summary.is_full ≡ says_full d.lines
 
--- whether nothing is left, and each entry can be read
+-- whether nothing is left, each entry can be read, and the script isn't full
 abbrev pub is_whole : Summary → Bool
-is_whole summary = (summary.left == 0) && (summary.unreadable == 0)
+is_whole summary = (summary.left == 0) && ((summary.unreadable == 0) && not summary.is_full)
 
 -- Texts
 
@@ -62,7 +64,15 @@ share_text names share =
     else (spaced (codes "bookie" ∷ name_of names share.bookie ∷ codes "places" ∷ decimal share.places ∷ codes "entries"
     ∷ decimal share.entries ∷ []) ++ codes "\n")
 
+-- that the script is full, if it is
+abbrev pub full_text : Bool → List ℕ
+full_text is_full = if is_full then codes "the script is full: plan again after it\n" else []
+
+-- how many ledgers are left, and how many entries are lost
+abbrev pub totals_text : Summary → List ℕ
+totals_text summary =
+    codes "ledgers left " ++ (decimal summary.left ++ (codes "\nentries lost " ++ (decimal summary.unreadable ++ codes "\n")))
+
 abbrev pub summary_text : List (List ℕ) → Summary → List ℕ
 summary_text names summary =
-    flat_map (share_text names) summary.shares.items
-    ++ (codes "ledgers left " ++ (decimal summary.left ++ (codes "\nentries lost " ++ (decimal summary.unreadable ++ codes "\n"))))
+    (flat_map (share_text names) summary.shares.items ++ totals_text summary) ++ full_text summary.is_full

@@ -1,10 +1,10 @@
-// What a plan must not leave, where its script has room.
+// What a plan must not leave, unless its script is full.
 ghost use Rattle.std.specs.Prelude.{◌≡◌, ◌≢◌, ℕ, false, IfOk, IfSome, IsFalse, IsTrue, None, OnOk, is_none, is_some};
 ghost use Rattle.reh_model.specs.Metadata as meta;
 ghost use Rattle.reh_model.specs.Metadata.{is_in_recovery};
 ghost use Rattle.reh_model.specs.Refusals.{no_place};
 ghost use Rattle.reh_plan.specs.Ends as model;
-ghost use Rattle.reh_plan.specs.Needed.{AreNeeded};
+ghost use Rattle.reh_plan.specs.Plans.{IsThrough};
 ghost use Rattle.reh_plan.specs.Workers.{may_work};
 
 use crate::faults::PlanFault;
@@ -241,33 +241,19 @@ fn has_unfinished(state: &State, workers: &Workers) -> bool
     false
 }
 
-/// Checks that a plan leaves no place that could be filled, no ledger that could be recovered, or given a bookie by its writer,
-/// each by one that may work, no lock and no needless task, where its script has room.
-pub(crate) fn check_end(plan: &Plan, workers: &Workers) -> Result<(), PlanFault>
-    ensures { OnOk result (model.Ends workers.now plan.now.state plan.now.lines) }
+/// Whether a plan leaves a place that could be filled, a ledger that could be recovered, or given a bookie by its writer, each
+/// by one that may work, a lock or a needless task, or has a lock, fence, copy or grace that is in vain, as its script is full.
+/// Where the script has room, that is a fault.
+pub(crate) fn is_cut_off(plan: &Plan, workers: &Workers) -> Result<bool, PlanFault>
+    ensures full { IfOk result (λ cut_off. IsTrue cut_off → model.HasNoRoom plan.now.lines) }
+    ensures through { IfOk result (λ cut_off. IsFalse cut_off → IsThrough workers.now plan.now) }
 {
-    if !plan.is_full() && has_unfinished(plan.state(), workers) {
-        return Err(PlanFault::Unfinished);
+    if !has_unfinished(plan.state(), workers) && are_used(plan.events()) {
+        return Ok(false);
     }
-    Ok(())
-}
-
-/// Checks that a script that had no room for a further command has none.
-pub(crate) fn check_full(plan: &Plan, full: bool) -> Result<(), PlanFault>
-    ensures { OnOk result (IsTrue full → model.IsFull plan.now.lines) }
-{
-    if full && !plan.is_full() {
-        return Err(PlanFault::Unfinished);
+    if plan.is_full() {
+        Ok(true)
+    } else {
+        Err(PlanFault::Unfinished)
     }
-    Ok(())
-}
-
-/// Checks that no lock, fence, copy or grace of a plan is in vain, where its script has room.
-pub(crate) fn check_needed(plan: &Plan) -> Result<(), PlanFault>
-    ensures { OnOk result (AreNeeded plan.now.lines plan.now.events) }
-{
-    if !plan.is_full() && !are_used(plan.events()) {
-        return Err(PlanFault::Unfinished);
-    }
-    Ok(())
 }

@@ -13,11 +13,11 @@ use std::fmt;
 pub enum PlanFault {
     /// There is no memory for it.
     NoMemory,
-    /// What it has to say at least, the bookies that are lost and the ledgers that are left, finds no room in a script.
+    /// What it has to say at least, the bookies that are lost and the ledgers that are left, has no room in a script.
     NoRoom,
-    /// It would leave a place that could be filled, a ledger that could be recovered or given a bookie by its writer, a lock, a
-    /// task where nothing is missing, a ledger that it fenced and didn't recover, or one without a reason; or it would have a
-    /// command that nothing needs. No picture is known for which that is so.
+    /// Its script has room, and it would leave a place that could be filled, a ledger that could be recovered or given a bookie
+    /// by its writer, a lock, a task where nothing is missing, or a ledger without a reason; or it would have a command that
+    /// nothing needs. Or it would leave a ledger that it fenced and didn't recover.
     Unfinished,
 }
 
@@ -31,7 +31,9 @@ impl fmt::Display for PlanFault {
         f.write_str(match self {
             PlanFault::NoMemory => "no memory",
             PlanFault::NoRoom => "the plan is too long for a script",
-            PlanFault::Unfinished => "the plan would leave something undone",
+            PlanFault::Unfinished => {
+                "the plan would leave something undone, or do something in vain"
+            }
         })
     }
 }

@@ -1,5 +1,6 @@
 // What a plan comes to, as one object.
 ghost use Rattle.std.specs.Prelude.{◌≡◌, OnOk, IfOk, codes, flat_map, string_bytes};
+ghost use Rattle.json.specs.Json.{boolean};
 ghost use Rattle.json.specs.Tree.{json_tokens};
 ghost use Rattle.reh_answer.specs.Objects.{Adds, IsLineOf, member_tokens, number_json};
 ghost use Rattle.reh_plan.specs.Objects as model;
@@ -97,6 +98,14 @@ fn add_fewer_racks(json: &mut Writer<Global>, fewer: &[FewerRacks]) -> Result<()
     json.end_array()
 }
 
+/// Adds whether the script is full.
+fn add_full(json: &mut Writer<Global>, is_full: bool) -> Result<(), AllocError>
+    ensures { OnOk result (Adds (member_tokens (codes "full") (boolean is_full)) json.old json.new) }
+{
+    json.key("full")?;
+    json.boolean(is_full)
+}
+
 /// Adds the object.
 fn add_all(
     json: &mut Writer<Global>,
@@ -111,6 +120,7 @@ fn add_all(
     add_number(json, "left", summary.left as u64)?;
     add_number(json, "lost", summary.unreadable)?;
     add_fewer_racks(json, fewer)?;
+    add_full(json, summary.is_full)?;
     json.end_object()
 }
 

@@ -7,7 +7,7 @@ ghost use Rattle.reh_model.specs.Session.{replay, opened_session};
 ghost use Rattle.reh_transcript.specs.Transcript.{starting, transcript};
 ghost use Rattle.reh_plan.specs.Replies.{ok_answers};
 ghost use Rattle.reh_types.specs.Sets as set;
-ghost use Rattle.reh_plan.specs.Plans.{Asks, Draft, Works, Loses, GoesOnBy, IsWithout, AllNamed, OnlyLeft, IsNaming, IsPlayed, IsRepaired, WorksAndNames, losses_of};
+ghost use Rattle.reh_plan.specs.Plans.{Asks, Draft, Works, Loses, GoesOnBy, IsWithout, AllNamed, OnlyLeft, IsNaming, IsPlayed, IsRepaired, Tells, losses_of};
 ghost use Rattle.reh_plan.specs.Ends.{Ends, IsHarmless};
 ghost use Rattle.reh_plan.specs.Needed.{AreNeeded};
 ghost use Rattle.reh_plan.specs.Plans.{is_filled_by};
@@ -15,7 +15,7 @@ ghost use Rattle.reh_plan.specs.Summaries.{IsSum, holdings_of};
 ghost use Rattle.reh_plan.specs.Racks as model;
 ghost use Rattle.reh_plan.specs.Workers.{Rules, can_work, may_work, rules_by};
 
-use crate::ends::{check_end, check_full, check_harmless, check_needed, recovering_in};
+use crate::ends::{check_harmless, is_cut_off, recovering_in};
 use crate::faults::{PlanFault, StepFault, go_on};
 use crate::fewer::{FewerRacks, fewer_racks, metadata_of, tell};
 use crate::plans::Plan;
@@ -55,14 +55,14 @@ pub struct Planned {
 /// part only with `writers_roll`, and then no ledger gets a grace or is fenced (`order`). Each bookie that copies entries or
 /// takes a place is registered, too (`filled`). In the end the lost bookies aren't registered, and all others are as they
 /// were (`lost`). Each ledger that has a task then, or a member that isn't registered, is named in a comment (`named`), and
-/// no other is, and for a reason that is so in the end; that there is no room only where the script has none (`only`). Where
-/// the script has room, no place is left in the end that could be filled, no ledger that could be recovered, or given a bookie
+/// no other is, and for a reason that is so in the end; a comment says that the script is full only where it is (`only`).
+/// Where none does, no place is left in the end that could be filled, no ledger that could be recovered, or given a bookie
 /// that may work by its writer, no lock, and no task where nothing is missing (`ends`), and no lock, fence, copy or grace is
-/// in vain: the next command uses the first three, and a fence uses the grace (`needed`); and no ledger was fenced and left
+/// in vain: the next command uses the first three, and a fence uses the grace (`needed`). No ledger was fenced and left
 /// (`harmless`). At the end of the script a comment tells of each fragment of which a write set comes to stand in fewer
-/// racks than before, and than are asked for (`racks` and `told`); `only` and `ends` speak of the lines before these. The
-/// summary tells for each bookie how many places it takes and how many entries it holds more in the end, how many ledgers
-/// are left, and how many entries can't be read (`sum`).
+/// racks than before, and than are asked for (`racks` and `told`); `only`, `ends` and `needed` speak of the lines before
+/// these. The summary tells for each bookie how many places it takes and how many entries it holds more in the end, how many
+/// ledgers are left, how many entries can't be read, and whether the script says that it is full (`sum`).
 pub fn plan(
     alloc: Global,
     state: State,
@@ -197,21 +197,18 @@ fn repair_all(
     roll_all(plan, &mut workers)?;
     publish(plan)?;
     grant_all(plan, &workers)?;
-    work_and_name(alloc, plan, &mut workers)?;
-    check_end(plan, &workers)?;
-    check_needed(plan)?;
+    work_all(alloc, plan, &mut workers)?;
+    tell_all(plan, &workers)?;
     Ok(())
 }
 
-/// Does what can be done for each ledger with a task, and names what is left.
-fn work_and_name(alloc: Global, plan: &mut Plan, workers: &mut Workers) -> Result<(), PlanFault>
-    ensures names { OnOk result (WorksAndNames workers.old plan.old plan.new) }
-    ensures workers { workers.new ≡ workers.old }
+/// Says that the script is full, if something is left that could be done, and names each ledger with which something is left.
+fn tell_all(plan: &mut Plan, workers: &Workers) -> Result<(), PlanFault>
+    ensures { OnOk result (Tells workers.now plan.old plan.new) }
 {
-    work_all(alloc, plan, workers)?;
-    let full = plan.is_full();
+    let full = is_cut_off(plan, workers)?;
+    plan.tell_full(full)?;
     leave_all(plan, workers, full)?;
-    check_full(plan, full)?;
     Ok(())
 }
 

@@ -10,21 +10,26 @@ ghost use Rattle.reh_commands.specs.Answers.{asked};
 ghost use Rattle.reh_lines.specs.Lines.{lines_of};
 ghost use Rattle.reh_transcript.specs.Transcript.{starting, transcript};
 ghost use Rattle.reh_plan.specs.Replies.{ok_answers};
-ghost use Rattle.reh_plan.specs.Ends.{IsFull};
-ghost use Rattle.reh_plan.specs.Plans.{Asks, IsMade, Works, Loses, is_nobodys, has_lf, loss_of, IsLeaving};
+ghost use Rattle.reh_plan.specs.Ends.{HasNoRoom, full_line, says_full};
+ghost use Rattle.reh_plan.specs.Plans.{Asks, IsMade, Works, Loses, is_nobodys, has_lf, loss_of, IsLeaving, with_full};
 ghost use Rattle.reh_plan.specs.Workers.{Rules};
 
 use crate::faults::{PlanFault, StepFault, go_on};
 use crate::reasons::Reason;
 use reh_cluster::{Names, State};
 use reh_commands::{Command, command_text, parse_line};
+use reh_lines::first_line;
 use reh_session::Session;
 use reh_types::{BookieIx, Event, LedgerId, MAX_LEDGERS, MAX_SCRIPT_BYTES, Move, Refusal};
 use std::alloc::{AllocError, Global};
 use std::marker::Model;
 
-/// How many bytes of a script are kept free for the comments on the ledgers that are left.
+/// How many bytes of a script are kept free for comments: 128 for each ledger that there can be. A comment on a ledger has fewer
+/// than 100, so the one that the script is full has room, too.
 const COMMENT_BYTES: usize = 128 * MAX_LEDGERS;
+
+/// The comment that a script is full, and that something is left that could be done.
+const FULL_LINE: &str = "# the script is full: plan again after it";
 
 /// How many bytes a script has to have left, so that each further command has room: those for the comments, and 1,024 for the
 /// command, whose name has at most 300.
@@ -165,9 +170,26 @@ impl Plan {
 
     /// Whether there is no room for a further command, beside the comments on the ledgers that are left.
     pub(crate) fn is_full(&self) -> bool
-        ensures { IsTrue result → IsFull self.now.lines }
+        ensures { IsTrue result → HasNoRoom self.now.lines }
     {
         self.text.len() >= MAX_SCRIPT_BYTES - COMMAND_ROOM
+    }
+
+    /// Whether it says that its script is full.
+    pub(crate) fn says_full(&self) -> bool
+        ensures { result ≡ says_full self.now.lines }
+    {
+        has_full_line(&self.text)
+    }
+
+    /// Writes the comment that the script is full, if it is.
+    pub(crate) fn tell_full(&mut self, full: bool) -> Result<(), PlanFault>
+        ensures { OnOk result (self.new ≡ with_full full self.old) }
+    {
+        if full {
+            self.remark(FULL_LINE.as_bytes())?;
+        }
+        Ok(())
     }
 
     /// Writes the comment that a ledger is left, and why.
@@ -190,6 +212,21 @@ impl Plan {
         push_line(&mut self.text, line)?;
         Ok(())
     }
+}
+
+/// Whether a line of the script says that it is full.
+fn has_full_line(script: &[u8]) -> bool
+    ensures { result ≡ says_full (lines_of script.now) }
+{
+    let mut rest = script;
+    while !rest.is_empty() {
+        let (line, more) = first_line(rest);
+        if FULL_LINE.as_bytes() == line {
+            return true;
+        }
+        rest = more;
+    }
+    false
 }
 
 /// Makes these events and undoes them, or says why one is refused.

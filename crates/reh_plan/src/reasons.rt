@@ -1,5 +1,5 @@
 // Why something is left for a ledger in the end.
-ghost use Rattle.std.specs.Prelude.{◌≡◌, ℕ, Bool, true, false, IfOk, IfSome, IsFalse, IsTrue, None, Some, is_none, is_some, length, slice_get};
+ghost use Rattle.std.specs.Prelude.{◌≡◌, ℕ, Bool, true, false, IfErr, IfOk, IfSome, IsFalse, IsTrue, None, Some, is_none, is_some, length, slice_get};
 ghost use Rattle.reh_model.specs.Metadata.{stop_of, stripe_of};
 ghost use Rattle.reh_plan.specs.Workers.{Rules};
 ghost use Rattle.reh_plan.specs.Reasons as model;
@@ -20,8 +20,6 @@ use std::fmt;
 /// Why something is left to do for a ledger.
 #[derive(Clone, Copy)]
 pub(crate) enum Reason {
-    /// The ledger has no task.
-    NoTask,
     /// No bookie that may take places is registered and outside of the ensemble of this fragment.
     NoWorker {
         fragment: u64,
@@ -52,7 +50,6 @@ impl fmt::Display for Reason {
 
     fn fmt<W: fmt::Write>(&self, f: &mut fmt::Formatter<W>) -> fmt::Result {
         match self {
-            Reason::NoTask => f.write_str("no task"),
             Reason::NoWorker { fragment } => write!(f, "fragment {fragment}: no worker"),
             Reason::Place {
                 fragment,
@@ -83,18 +80,16 @@ fn place_verb(refusal: &Refusal) -> &'static str
 }
 
 /// Why something is left for the ledger in the end, where the script is full or has room. What another bookie wouldn't mend
-/// comes before a worker that is missing.
+/// comes before a worker that is missing. In a full script there is always a reason.
 pub(crate) fn reason_for(
     state: &State,
     workers: &Workers,
     ledger: &Ledger,
     full: bool,
 ) -> Result<Reason, PlanFault>
-    ensures { IfOk result (model.IsReason workers.now full state.now ledger.now) }
+    ensures reason { IfOk result (model.IsReason workers.now full state.now ledger.now) }
+    ensures room { IfErr result (λ fault. full ≡ false) }
 {
-    if ledger.task().is_none() && !full {
-        return Ok(Reason::NoTask);
-    }
     if let Some(reason) = unfilled(state, ledger) {
         return Ok(reason);
     }

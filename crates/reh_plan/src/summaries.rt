@@ -32,35 +32,56 @@ pub struct Summary {
     pub left: usize,
     /// How many entries can't be read in the end, of all fragments whose entries are known.
     pub unreadable: u64,
+    /// Whether the script is full, and something is left that could be done.
+    pub is_full: bool,
 }
 
 impl Summary {
-    /// Whether nothing is left, and each entry can be read.
+    /// Whether nothing is left, each entry can be read, and the script isn't full.
     pub fn is_whole(&self) -> bool
         ensures { result ≡ model.is_whole self.now }
     {
-        self.left == 0 && self.unreadable == 0
+        self.left == 0 && self.unreadable == 0 && !self.is_full
     }
 
-    /// The exit status of a plan that comes to this: 8 where something is left or can't be read.
+    /// The exit status of a plan that comes to this: 8 where something is left or can't be read, or the script is full.
     pub fn status(&self) -> u8
         ensures { result ≡ (if model.is_whole self.now then 0 else 8) }
     {
         if self.is_whole() { 0 } else { 8 }
     }
 
-    /// A line of each bookie that is given something, and what is left and can't be read.
+    /// A line of each bookie that is given something, what is left and can't be read, and that the script is full, if it is.
     pub fn text(&self, alloc: Global, names: &Names) -> Result<String, AllocError>
         ensures { IfOk result (λ text. string_bytes text ≡ model.summary_text names.now self.now) }
     {
         let mut text = String::new(alloc);
         push_shares(&mut text, names, &self.shares)?;
-        write!(
-            text,
-            "ledgers left {}\nentries lost {}\n",
-            self.left, self.unreadable
-        )?;
+        push_totals(&mut text, self)?;
+        text.push_str(full_text(self.is_full))?;
         Ok(text)
+    }
+}
+
+/// Adds how many ledgers are left, and how many entries can't be read.
+fn push_totals(text: &mut String, summary: &Summary) -> Result<(), AllocError>
+    ensures { OnOk result (string_bytes text.new ≡ string_bytes text.old ++ model.totals_text summary.now) }
+{
+    write!(
+        text,
+        "ledgers left {}\nentries lost {}\n",
+        summary.left, summary.unreadable
+    )
+}
+
+/// The line that a script is full, if it is.
+fn full_text(is_full: bool) -> &'static str
+    ensures { result.now ≡ model.full_text is_full }
+{
+    if is_full {
+        "the script is full: plan again after it\n"
+    } else {
+        ""
     }
 }
 
@@ -131,6 +152,7 @@ pub(crate) fn summary_of(alloc: Global, held: &[usize], plan: &Plan) -> Result<S
         shares,
         left: count_left(state),
         unreadable: count_unreadable(alloc, state)?,
+        is_full: plan.says_full(),
     })
 }
 

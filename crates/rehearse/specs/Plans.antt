@@ -76,8 +76,7 @@ pub record IsPlanFor (bytes : List ℕ) (words : PlanWords) (p : Planned) : Type
 -- the fault of a run that has no plan
 abbrev pub TellsUnplanned : PlanFault → RunFault → Type 0
 TellsUnplanned plan_fault.NoMemory run = run ≡ run_fault.NoMemory
-TellsUnplanned plan_fault.NoRoom run = run ≡ run_fault.TooLong
-TellsUnplanned plan_fault.Unfinished run = IsUnfit (plan_fault_text plan_fault.Unfinished) run
+TellsUnplanned fault run = IsUnfit (plan_fault_text fault) run
 
 -- What is printed
 

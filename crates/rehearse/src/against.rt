@@ -21,6 +21,13 @@ use std::alloc::{AllocError, Global};
 use std::fs::File;
 use std::io::BufReader;
 
+/// The note that there is no ledger.
+const NO_LEDGER: &str = "no ledger was judged: the answer is for a cluster without ledgers";
+
+/// The note on inventories that can be read only once.
+const STREAM: &str =
+    "no ledger is named of an inventory that can be read only once, as from a pipe";
+
 /// What ledgers are weighed by: the numbers of these names, with what is assumed or without it, and the stop.
 #[derive(Clone, Copy)]
 pub(crate) struct WeighedBy<'a> {
@@ -95,31 +102,20 @@ pub(crate) fn notes_of(
 {
     let mut notes = cut_notes(alloc, files, kinds)?;
     if is_empty(judged) {
-        push_empty(alloc, &mut notes)?;
+        push_note(alloc, &mut notes, NO_LEDGER)?;
     }
     if is_any && has_stream(kinds) {
-        push_stream(alloc, &mut notes)?;
+        push_note(alloc, &mut notes, STREAM)?;
     }
     Ok(notes)
 }
 
-/// Adds the note that there is no ledger.
-fn push_empty(alloc: Global, notes: &mut Vec<String>) -> Result<(), AllocError>
+/// Adds a note with this text.
+fn push_note(alloc: Global, notes: &mut Vec<String>, text: &str) -> Result<(), AllocError>
     ensures { OnOk result (map string_bytes notes.new.items
-        ≡ map string_bytes notes.old.items ++ model.empty_text ∷ []) }
+        ≡ map string_bytes notes.old.items ++ text.now ∷ []) }
 {
-    let note = "no ledger was judged: the answer is for a cluster without ledgers";
-    notes.push(String::from_str(alloc, note)?)?;
-    Ok(())
-}
-
-/// Adds the note on inventories that can be read only once.
-fn push_stream(alloc: Global, notes: &mut Vec<String>) -> Result<(), AllocError>
-    ensures { OnOk result (map string_bytes notes.new.items
-        ≡ map string_bytes notes.old.items ++ model.stream_text ∷ []) }
-{
-    let note = "no ledger is named of an inventory that can be read only once, as from a pipe";
-    notes.push(String::from_str(alloc, note)?)?;
+    notes.push(String::from_str(alloc, text)?)?;
     Ok(())
 }
 

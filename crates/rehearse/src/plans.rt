@@ -196,8 +196,7 @@ fn unplanned(alloc: Global, fault: PlanFault) -> RunFault
 {
     match fault {
         PlanFault::NoMemory => RunFault::NoMemory,
-        PlanFault::NoRoom => RunFault::TooLong,
-        PlanFault::Unfinished => unfit(format!(in alloc; "{fault}")),
+        PlanFault::NoRoom | PlanFault::Unfinished => unfit(format!(in alloc; "{fault}")),
     }
 }
 

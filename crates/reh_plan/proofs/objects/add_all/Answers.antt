@@ -19,4 +19,5 @@ returns c =
     (then c.end_object.result c.add_bookies.new.json c.add_number.new.json c.end_object.new.self _ _ c.in_ok-add_number.ensures
     (then c.end_object.result c.add_number.new.json c.add_number-2.new.json c.end_object.new.self _ _ c.in_ok-add_number-2.ensures
     (then c.end_object.result c.add_number-2.new.json c.add_fewer_racks.new.json c.end_object.new.self _ _ c.in_ok-add_fewer_racks.ensures
-    (last c.end_object.result c.add_fewer_racks.new.json c.end_object.new.self _ c.end_object.ensures))))))
+    (then c.end_object.result c.add_fewer_racks.new.json c.add_full.new.json c.end_object.new.self _ _ c.in_ok-add_full.ensures
+    (last c.end_object.result c.add_full.new.json c.end_object.new.self _ c.end_object.ensures)))))))

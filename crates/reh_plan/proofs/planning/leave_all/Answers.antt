@@ -1,10 +1,11 @@
 -- Each ledger that is left is named in its turn.
 use Rattle.std.proofs.Common.{◌≡◌, ℕ, ◌+◌, ◌<◌, length, take, get_or, sym, ap, ◌∙◌, subst, arith, Bool, List, true, false}
 use Rattle.reh_model.specs.Cluster.{Cluster, Ledger}
-use Rattle.reh_plan.specs.Plans.{Draft, IsLeaving, AllLeft, AllNamed, is_left}
-use Rattle.reh_plan.specs.Reasons.{IsReason}
+use Rattle.reh_plan.specs.Plans.{Draft, HasMore, IsLeaving, AllLeft, AllNamed, is_left}
+use Rattle.reh_plan.specs.Reasons.{IsReason, reason_text}
 use Rattle.reh_plan.specs.Workers.{Rules}
 use Rattle.reh_plan.specs.declared.reasons.Reason.{Reason}
+use Rattle.reh_plan.proofs.FullLaws.{more_left}
 use Rattle.reh_plan.proofs.NamedLaws.{named_left, named_else, named_whole, only_left}
 use Rattle.reh_plan.proofs.planning.leave_all.Goals as goal
 use Rattle.reh_plan.proofs.planning.leave_all.Goals.{then-is_left+in_ok-reason+in_ok-leave, else-is_left}
@@ -27,7 +28,7 @@ loop-place-preserved c =
           let leaving : IsLeaving d g.id reason w.leave.new.self =
           subst (λ (l : ℕ). IsLeaving d l reason w.leave.new.self) w.id-id.ensures w.in_ok-leave.ensures in
           let why : IsReason rules full d.state g reason =
-          subst (λ (s : Cluster). IsReason rules full s g reason) w.state-then-is_left.ensures w.in_ok-reason.ensures in
+          subst (λ (s : Cluster). IsReason rules full s g reason) w.state-then-is_left.ensures w.in_ok-reason.ensures.reason in
           let same = w.plan-is ∙ leaving in
           let left : is_left d.state g ≡ true =
           ap (λ (s : Cluster). is_left s g) (sym c.state-in-loop-place-2.ensures) ∙ sym c.is_left.ensures ∙ w.if-is_left.true in
@@ -42,6 +43,9 @@ loop-place-preserved c =
                 (sym (ap (λ (x : Draft). x.opening) leaving))
                 (only_left rules full d.opening.names d w.leave.new.self k g reason leaving why left within is
                 (c.loop-place.invariant.only only)));
+            comments =
+                subst (λ (x : Draft). HasMore c.args.plan.now.lines x.lines) (sym same)
+                (more_left c.args.plan.now.lines d.lines g.id (reason_text reason) c.loop-place.invariant.comments);
             named =
                 subst (λ (x : Draft). AllNamed x.state x.lines (take (k + 1) x.state.parts.ledgers)) (sym w.plan-is)
                 (named_left d w.leave.new.self k g reason leaving within is c.loop-place.invariant.named);
@@ -57,6 +61,8 @@ loop-place-preserved c =
             only = λ only.
                 subst (λ (x : Draft). AllLeft c.args.workers.now c.args.full x.opening.names x.state x.lines) (sym w.plan-is)
                 (c.loop-place.invariant.only only);
+            comments =
+                subst (λ (x : Draft). HasMore c.args.plan.now.lines x.lines) (sym w.plan-is) c.loop-place.invariant.comments;
             named =
                 subst (λ (x : Draft). AllNamed x.state x.lines (take (k + 1) x.state.parts.ledgers)) (sym w.plan-is)
                 (named_else d k g fine within is c.loop-place.invariant.named);
@@ -68,6 +74,7 @@ returns c = record {
   opening = c.loop-place.invariant.opening;
   state = c.loop-place.invariant.state;
   events = c.loop-place.invariant.events;
+  comments = c.loop-place.invariant.comments;
   only = c.loop-place.invariant.only;
   named =
       named_whole c.loop-place.plan.state c.loop-place.plan.lines c.loop-place.plan.state.parts.ledgers c.loop-place.place

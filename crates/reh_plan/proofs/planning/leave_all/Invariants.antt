@@ -1,6 +1,6 @@
 -- The first ledgers with which something is left are named.
 use Rattle.std.proofs.Common.{◌≡◌, length, take}
-use Rattle.reh_plan.specs.Plans.{AllLeft, AllNamed}
+use Rattle.reh_plan.specs.Plans.{AllLeft, AllNamed, HasMore}
 use Rattle.reh_plan.proofs.planning.leave_all.Given as goal
 
 abbrev pub invariant-loop-place : goal.invariant-loop-place
@@ -11,5 +11,6 @@ invariant-loop-place l = record {
   events : l.plan.events ≡ l.fn.plan.events;
   only : AllLeft l.workers l.full l.fn.plan.opening.names l.fn.plan.state l.fn.plan.lines
       → AllLeft l.workers l.full l.plan.opening.names l.plan.state l.plan.lines;
+  comments : HasMore l.fn.plan.lines l.plan.lines;
   named : AllNamed l.plan.state l.plan.lines (take l.place l.plan.state.parts.ledgers);
 }

@@ -4,6 +4,7 @@ use Rattle.std.proofs.lemmas.Result.{IfOk-weaker}
 use Rattle.reh_model.specs.Metadata.{Metadata}
 use Rattle.reh_plan.specs.Racks.{fewer_among, metadata_of}
 use Rattle.reh_plan.specs.Summaries.{holdings_of}
+use Rattle.reh_plan.proofs.PlannedLaws.{tells_opening}
 use Rattle.reh_plan.proofs.planning.play_and_tell.Goals as goal
 
 pub told-requires-clause-held : goal.told-requires-clause-held
@@ -12,7 +13,7 @@ told-requires-clause-held c =
     ∙ c.in_ok-held.ensures.held
     ∙ ap holdings_of
     (c.state.ensures ∙ c.requires.begins
-    ∙ sym (c.in_ok-play.ensures.repaired.works.naming.opening ∙ c.in_ok-play.ensures.repaired.works.works.opening
+    ∙ sym (tells_opening _ _ _ c.in_ok-play.ensures.repaired.tells ∙ c.in_ok-play.ensures.repaired.works.opening
     ∙ c.in_ok-play.ensures.loses.opening))
 
 pub returns-clause-racks : goal.returns-clause-racks

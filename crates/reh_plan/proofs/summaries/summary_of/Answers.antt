@@ -31,4 +31,5 @@ returns c =
           ∙ ap (λ k. map (share_of c.args.plan.now) (range_with_len 0 k)) all;
       left = c.count_left.ensures ∙ ap left_of c.state-state.ensures;
       unreadable = c.in_ok-count_unreadable.ensures ∙ ap unreadable_of c.state-state.ensures;
+      full = c.says_full.ensures;
     }
