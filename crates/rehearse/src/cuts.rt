@@ -9,12 +9,16 @@ use crate::inventories::{read_line, reader_of, refused};
 use crate::looks::Looks;
 use crate::progress::Teller;
 use reh_cut::{Assume, ChosenLedgers, CutFault};
+use reh_inventory::InventoryFault;
 use reh_near::near_ids;
 use reh_words::CutWords;
 use std::alloc::{AllocError, Global};
 use std::io::{BufReader, Read};
 use std::sync::Wait;
 use std::thread;
+
+/// How a picture begins, as it is mostly written.
+const PICTURE_BEGINS: &str = "{\"format\"";
 
 /// Says to standard output what the picture is, and to standard error if it may show only a part of a ledger.
 pub(crate) fn cut_over<R: thread::Threads + Wait + Copy + Send + 'static>(
@@ -98,8 +102,25 @@ fn choose_line(
 {
     match chosen.add(alloc, line) {
         Ok(()) => Ok(()),
-        Err(fault) => Err(refused(alloc, path, number, fault)),
+        Err(fault) => Err(unchosen(alloc, path, number, line, fault)),
     }
+}
+
+/// The fault of a line. If the file begins as a picture, one more line says so.
+fn unchosen(
+    alloc: Global,
+    path: &str,
+    number: u64,
+    line: &[u8],
+    fault: InventoryFault,
+) -> RunFault {
+    let fault = refused(alloc, path, number, fault);
+    if number == 1 && line.starts_with(PICTURE_BEGINS.as_bytes()) {
+        return unfit(format!(in alloc;
+            "{fault}\n{path} is a picture: nothing has to be cut out of it"
+        ));
+    }
+    fault
 }
 
 /// Why there is no picture of an inventory with ledgers of these ids.

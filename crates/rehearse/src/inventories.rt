@@ -112,10 +112,7 @@ fn too_long(alloc: Global, path: &str) -> RunFault {
 pub(crate) fn refused(alloc: Global, path: &str, line: u64, fault: InventoryFault) -> RunFault {
     match fault {
         InventoryFault::NoMemory => RunFault::NoMemory,
-        _ => match format!(in alloc; "inventory {path}: line {line}: {fault}") {
-            Ok(text) => RunFault::Unfit(text),
-            Err(want) => RunFault::from(want),
-        },
+        _ => unfit(format!(in alloc; "inventory {path}: line {line}: {fault}")),
     }
 }
 
