@@ -64,15 +64,17 @@ only_full rules full true d all =
 only_full rules full false d all = only_commands rules full d all
 
 -- where the script has no room, and its next line says so
-full_after : (d : Draft) (full : Bool) (lines : List (List ℕ)) → full ≡ true → HasNoRoom d.lines
-    → HasMore (with_full full d).lines lines → IsFull lines
-full_after d true lines _ no_room more = record {
+full_after : (d : Draft) (full : Bool) (lines : List (List ℕ)) → full ≡ true → is_all_asked d ≡ true → HasNoRoom d.lines
+    → HasMore (with_full full d).lines lines → IsFull d.opening.names lines
+full_after d true lines _ all no_room more = record {
   before = d.lines;
   after = more.0;
   is = more.1 ∙ append_assoc d.lines (full_line ∷ []) more.0;
+  commands = all;
   full = no_room;
+  once = more.2;
 }
-full_after d false lines is no_room more = absurd (true≢false (sym is))
+full_after d false lines is all no_room more = absurd (true≢false (sym is))
 
 -- bookies are lost, work is done, and what is left is named
 planned : (s : Cluster) (lost : Set numbers) (rules : Rules) (l n : Draft) → Loses (empty_draft s) (set.contains lost) (losses_of s (set.contains lost) (length s.names)) l
@@ -101,7 +103,8 @@ planned s lost rules l n first done =
       only = record {
         full = λ says.
             let is : full ≡ true = sym said ∙ says in
-            full_after w full n.lines is (done.tells.cut_off is) naming.comments;
+            subst (λ (o : Cluster). IsFull o.names n.lines) (done.works.opening ∙ first.opening)
+            (full_after w full n.lines is all (done.tells.cut_off is) naming.comments);
         left =
             subst (λ (x : Bool). AllLeft rules x s.names n.state n.lines) (sym said)
             (subst (λ (o : Cluster). AllLeft rules full o.names n.state n.lines) opening

@@ -1,7 +1,7 @@
 -- What a plan must not leave, unless its script says that it is full.
-use Rattle.std.specs.Prelude.{◌≡◌, ◌≢◌, ℕ, ◌+◌, ◌≤◌, Bool, false, ◌&&◌, IsTrue, IsFalse, All, List, [], ◌∷◌, ◌++◌, length, map, is_none, is_some, slice_get, bytes_eq, codes}
+use Rattle.std.specs.Prelude.{◌≡◌, ◌≢◌, ℕ, ◌+◌, ◌≤◌, Bool, true, false, ◌&&◌, IsTrue, IsFalse, All, List, [], ◌∷◌, ◌++◌, length, map, is_none, is_some, slice_get, bytes_eq, codes}
 use Rattle.std.specs.Prelude.{Option, None, Some}
-use Rattle.std.specs.List.{list_any}
+use Rattle.std.specs.List.{list_all, list_any}
 use Rattle.std.specs.Option.{option_map_or}
 use Rattle.reh_types.specs.declared.limits.TheConstants.{MAX_SCRIPT_BYTES}
 use Rattle.reh_types.specs.declared.moves.Event.TheVariants.{Roll}
@@ -16,9 +16,9 @@ use Rattle.reh_model.specs.Metadata.{is_in_recovery, is_open, last_fragment}
 use Rattle.reh_model.specs.Refusals.{no_place, no_source, not_needed, target_down, target_is_member}
 use Rattle.reh_model.specs.Refusals.{too_few, undecided, version_end}
 use Rattle.reh_model.specs.Step.{fenced_ledger, refusal_of}
+use Rattle.reh_commands.specs.Answers.{asked}
 use Rattle.reh_lines.specs.Lines.{lines_of}
 use Rattle.reh_plan.specs.Workers.{Rules, may_work}
-use Rattle.reh_plan.specs.declared.plans.TheConstants.{COMMAND_ROOM}
 
 -- why the bookie can't take a place of the ledger, if it had the ledger's lock: it can't take that place, some entry can't be
 -- copied, or there is no next version
@@ -107,18 +107,21 @@ full_line = codes "# the script is full: plan again after it"
 abbrev pub says_full : List (List ℕ) → Bool
 says_full lines = list_any (bytes_eq full_line) lines
 
--- after these lines a script has no room for a further command, beside the comments
+-- after these lines a script has no room for a further command, beside 64 KiB of comments: for each command 1,024 bytes are to
+-- be left
 pub record HasNoRoom (lines : List (List ℕ)) : Type 0 where
   pub text : List ℕ
   pub says : lines_of text ≡ lines
-  pub many : MAX_SCRIPT_BYTES ≤ length text + COMMAND_ROOM
+  pub many : MAX_SCRIPT_BYTES ≤ length text + 66560
 
--- one of these lines says that the script is full, and before it there is no room
-pub record IsFull (lines : List (List ℕ)) : Type 0 where
+-- with the bookies of these names, one of these lines says that the script is full, and the commands before it leave no room
+pub record IsFull (names : List (List ℕ)) (lines : List (List ℕ)) : Type 0 where
   pub before : List (List ℕ)
   pub after : List (List ℕ)
   pub is : lines ≡ before ++ full_line ∷ after
+  pub commands : list_all (λ line. is_some (asked names line)) before ≡ true
   pub full : HasNoRoom before
+  pub once : says_full after ≡ false
 
 -- nothing is left that the bookies that may work could do
 pub record IsDone (rules : Rules) (s : Cluster) : Type 0 where

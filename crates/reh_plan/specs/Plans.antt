@@ -177,7 +177,7 @@ AllLeft rules full names s lines =
 
 -- each line without an answer is one of those; and where one says that the script is full, it is
 pub record OnlyLeft (rules : Rules) (names : List (List ℕ)) (s : Cluster) (lines : List (List ℕ)) : Type 0 where
-  pub full : IsTrue (says_full lines) → IsFull lines
+  pub full : IsTrue (says_full lines) → IsFull names lines
   pub left : AllLeft rules (says_full lines) names s lines
 
 -- after these lines come others, none of which says that the script is full

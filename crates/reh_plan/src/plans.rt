@@ -33,7 +33,7 @@ const FULL_LINE: &str = "# the script is full: plan again after it";
 
 /// How many bytes a script has to have left, so that each further command has room: those for the comments, and 1,024 for the
 /// command, whose name has at most 300.
-pub const COMMAND_ROOM: usize = COMMENT_BYTES + 1024;
+const COMMAND_ROOM: usize = COMMENT_BYTES + 1024;
 
 /// A script whose commands are accepted one after another, and where they lead.
 ///
