@@ -1,5 +1,5 @@
 -- Which lines say that a script is full.
-use Rattle.std.proofs.Common.{◌≡◌, ◌∙◌, ◌||◌, ℕ, Bool, true, false, List, [], ◌∷◌, ◌++◌, ap, append-nil, append_assoc, is_some, refl, sym, true≢false}
+use Rattle.std.proofs.Common.{◌≡◌, ◌∙◌, ◌||◌, ℕ, Bool, true, false, List, [], ◌∷◌, ◌++◌, ap, append_assoc, is_some, map, refl, sym, true≢false}
 use Rattle.std.specs.Prelude.{bytes_eq}
 use Rattle.std.proofs.lemmas.Bool.{false_from_ne_true}
 use Rattle.std.proofs.lemmas.List.Elements.{All-weaker}
@@ -7,8 +7,9 @@ use Rattle.std.proofs.lemmas.List.Folds.{list_any-append, list_any_none}
 use Rattle.std.proofs.lemmas.List.Sums.{AllPass-from_list_all}
 use Rattle.std.proofs.lemmas.Slice.Eq.{bytes_eq-Decides}
 use Rattle.reh_commands.specs.Answers.{asked}
-use Rattle.reh_plan.specs.Ends.{full_line, says_full}
-use Rattle.reh_plan.specs.Plans.{Draft, HasMore, is_all_asked, left_line, with_full}
+use Rattle.reh_plan.specs.Ends.{HasNoRoom, IsFull, full_line, says_full}
+use Rattle.reh_plan.specs.Plans.{Draft, comment_of, is_all_asked, with_full}
+use Rattle.reh_plan.specs.declared.reasons.Left.{Left}
 
 -- a command doesn't
 command_isnt : (names : List (List ℕ)) (line : List ℕ) → is_some (asked names line) ≡ true → bytes_eq full_line line ≡ false
@@ -28,27 +29,31 @@ pub told : (d : Draft) (full : Bool) → says_full d.lines ≡ false → says_fu
 told d true plain = list_any-append (bytes_eq full_line) d.lines (full_line ∷ []) ∙ ap (λ (t : Bool). t || true) plain
 told d false plain = plain
 
+-- nor do comments on ledgers
+silent : (left : List Left) → says_full (map comment_of left) ≡ false
+silent [] = refl
+silent (l ∷ left) = silent left
+
 or_false : (b : Bool) → (b || false) ≡ b
 or_false true = refl
 or_false false = refl
 
--- and no line that comes after it
-pub more_same : (before lines : List (List ℕ)) → HasMore before lines → says_full lines ≡ says_full before
-more_same before lines more =
-    ap says_full more.1
-    ∙ list_any-append (bytes_eq full_line) before more.0
-    ∙ ap (λ (t : Bool). says_full before || t) more.2
+-- so these lines say no more than those before them
+pub comments_same : (before : List (List ℕ)) (left : List Left) → says_full (before ++ map comment_of left) ≡ says_full before
+comments_same before left =
+    list_any-append (bytes_eq full_line) before (map comment_of left)
+    ∙ ap (λ (t : Bool). says_full before || t) (silent left)
     ∙ or_false (says_full before)
 
-pub more_none : (lines : List (List ℕ)) → HasMore lines lines
-more_none lines = ([], sym (append-nil lines), refl)
-
--- such as that on a ledger
-pub more_left : (before lines : List (List ℕ)) (ledger : ℕ) (why : List ℕ) → HasMore before lines
-    → HasMore before (lines ++ left_line ledger why ∷ [])
-more_left before lines ledger why more = (
-  more.0 ++ left_line ledger why ∷ [],
-  ap (λ (ls : List (List ℕ)). ls ++ left_line ledger why ∷ []) more.1
-      ∙ append_assoc before more.0 (left_line ledger why ∷ []),
-  list_any-append (bytes_eq full_line) more.0 (left_line ledger why ∷ []) ∙ ap (λ (t : Bool). t || false) more.2,
-)
+-- where the script has no room, and its next line says so
+pub full_after : (d : Draft) (full : Bool) (left : List Left) → full ≡ true → is_all_asked d ≡ true → HasNoRoom d.lines
+    → IsFull d.opening.names ((with_full full d).lines ++ map comment_of left)
+full_after d true left _ all no_room = record {
+  before = d.lines;
+  after = map comment_of left;
+  is = append_assoc d.lines (full_line ∷ []) (map comment_of left);
+  commands = all;
+  full = no_room;
+  once = silent left;
+}
+full_after d false left is all no_room = absurd (true≢false (sym is))

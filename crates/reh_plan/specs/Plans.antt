@@ -1,6 +1,6 @@
 -- What a plan is: a script whose lines ask for events that are accepted one after another, and a comment for each ledger
 -- with which something is left to do.
-use Rattle.std.specs.Prelude.{◌≡◌, ◌⊎◌, ◌==◌, ℕ, ◌≤◌, IsTrue, IsFalse, Bool, true, false, not, ◌&&◌, ◌||◌, All, Any, List, [], ◌∷◌, ◌++◌, length}
+use Rattle.std.specs.Prelude.{◌≡◌, ◌⊎◌, ◌==◌, ℕ, ◌≤◌, IsTrue, IsFalse, Bool, true, false, not, ◌&&◌, ◌||◌, All, Any, List, [], ◌∷◌, ◌++◌, length, map}
 use Rattle.std.specs.Prelude.{Option, None, Some, is_some, Result, Ok, codes, if◌then◌else◌}
 use Rattle.std.specs.List.{filter, flat_map, list_all, list_any, range_with_len}
 use Rattle.std.specs.Fmt.{decimal}
@@ -23,6 +23,7 @@ use Rattle.reh_plan.specs.Ends.{IsDone, IsFull, IsHarmless, HasNoRoom, full_line
 use Rattle.reh_plan.specs.Needed.{are_used}
 use Rattle.reh_plan.specs.Reasons.{IsReason, reason_text}
 use Rattle.reh_plan.specs.Workers.{Rules, may_work}
+use Rattle.reh_plan.specs.declared.reasons.Left.{Left}
 use Rattle.reh_plan.specs.declared.reasons.Reason.{Reason}
 
 -- Scripts of events
@@ -156,10 +157,6 @@ left_line ledger why = codes "# ledger " ++ (decimal ledger ++ (codes " is left:
 abbrev pub IsNamed : List (List ℕ) → ℕ → Type 0
 IsNamed lines ledger = Any (λ line. (why : List ℕ) × (line ≡ left_line ledger why)) lines
 
--- the plan goes on by such a comment, with that reason
-abbrev pub IsLeaving : Draft → ℕ → Reason → Draft → Type 0
-IsLeaving d ledger reason n = n ≡ record d { lines = d.lines ++ left_line ledger (reason_text reason) ∷ [] }
-
 -- each of these ledgers with which something is left is named in a comment
 abbrev pub AllNamed : Cluster → List (List ℕ) → List Ledger → Type 0
 AllNamed s lines ledgers = All (λ g. IsTrue (is_left s g) → IsNamed lines g.id) ledgers
@@ -180,23 +177,36 @@ pub record OnlyLeft (rules : Rules) (names : List (List ℕ)) (s : Cluster) (lin
   pub full : IsTrue (says_full lines) → IsFull names lines
   pub left : AllLeft rules (says_full lines) names s lines
 
--- after these lines come others, none of which says that the script is full
-abbrev pub HasMore : List (List ℕ) → List (List ℕ) → Type 0
-HasMore before lines = (more : List (List ℕ)) × (lines ≡ before ++ more) × (says_full more ≡ false)
+-- the comment on a ledger that is left
+abbrev pub comment_of : Left → List ℕ
+comment_of left = left_line left.ledger (reason_text left.reason)
+
+-- something is left for one of these ledgers, and for that reason
+abbrev pub IsLeftFor : Rules → Bool → Cluster → List Ledger → Left → Type 0
+IsLeftFor rules full s ledgers left =
+    Any (λ g. (left.ledger ≡ g.id) × IsTrue (is_left s g) × IsReason rules full s g left.reason) ledgers
+
+-- those of these ledgers with which something is left, in their order
+abbrev pub left_ids : Cluster → List Ledger → List ℕ
+left_ids s ledgers = map (λ g. g.id) (filter (is_left s) ledgers)
+
+-- these are the ledgers with which something is left in s, in picture order, and why; and the last lines say so
+pub record AreLeft (rules : Rules) (s : Cluster) (lines : List (List ℕ)) (left : List Left) : Type 0 where
+  pub before : List (List ℕ)
+  pub told : lines ≡ before ++ map comment_of left
+  pub of : map (λ l. l.ledger) left ≡ left_ids s s.parts.ledgers
+  pub why : All (IsLeftFor rules (says_full lines) s s.parts.ledgers) left
 
 -- the plan goes on by the comment that its script is full, if it is
 abbrev pub with_full : Bool → Draft → Draft
 with_full true d = record d { lines = d.lines ++ full_line ∷ [] }
 with_full false d = d
 
--- the plan goes on from d to n by comments alone: they name each ledger with which something is left, and why, and no other
-pub record IsNaming (rules : Rules) (full : Bool) (d n : Draft) : Type 0 where
-  pub opening : n.opening ≡ d.opening
-  pub state : n.state ≡ d.state
-  pub events : n.events ≡ d.events
-  pub comments : HasMore d.lines n.lines
-  pub named : AllNamed n.state n.lines n.state.parts.ledgers
-  pub only : AllLeft rules full d.opening.names d.state d.lines → AllLeft rules full n.opening.names n.state n.lines
+-- the plan goes on from d to n by a comment on each ledger with which something is left, and why, and on no other
+pub record IsNaming (rules : Rules) (full : Bool) (d : Draft) (left : List Left) (n : Draft) : Type 0 where
+  pub told : n ≡ record d { lines = d.lines ++ map comment_of left }
+  pub of : map (λ l. l.ledger) left ≡ left_ids d.state d.state.parts.ledgers
+  pub why : All (IsLeftFor rules full d.state d.state.parts.ledgers) left
 
 -- by the plan that is made so far nothing is left that could be done, and no command is in vain
 pub record IsThrough (rules : Rules) (d : Draft) : Type 0 where
@@ -205,22 +215,22 @@ pub record IsThrough (rules : Rules) (d : Draft) : Type 0 where
 
 -- the plan goes on from d to n by comments alone: that its script is full, where it has no room, else nothing is left that
 -- could be done; and on what is left
-pub record Tells (rules : Rules) (d n : Draft) : Type 0 where
+pub record Tells (rules : Rules) (d : Draft) (left : List Left) (n : Draft) : Type 0 where
   pub full : Bool
   pub cut_off : IsTrue full → HasNoRoom d.lines
   pub through : IsFalse full → IsThrough rules d
-  pub naming : IsNaming rules full (with_full full d) n
+  pub naming : IsNaming rules full (with_full full d) left n
 
 -- the plan goes on from d to n by such work, and then by such comments
-pub record IsRepaired (rules : Rules) (d n : Draft) : Type 0 where
+pub record IsRepaired (rules : Rules) (d : Draft) (left : List Left) (n : Draft) : Type 0 where
   pub worked : Draft
   pub works : Works rules d worked
-  pub tells : Tells rules worked n
+  pub tells : Tells rules worked left n
 
 -- the plan goes on from d to n by the losses of these bookies, by AutoRecovery's work, and by comments on what is left; and no
 -- ledger was fenced and not recovered
-pub record IsPlayed (d : Draft) (is_lost : ℕ → Bool) (rules : Rules) (n : Draft) : Type 0 where
+pub record IsPlayed (d : Draft) (is_lost : ℕ → Bool) (rules : Rules) (left : List Left) (n : Draft) : Type 0 where
   pub lost : Draft
   pub loses : Loses d is_lost (losses_of d.state is_lost (length d.state.names)) lost
-  pub repaired : IsRepaired rules lost n
+  pub repaired : IsRepaired rules lost left n
   pub harmless : IsHarmless d.state n.state

@@ -96,7 +96,7 @@ lacking r m fragment i bookie =
 
 -- Comments
 
--- a fragment of a ledger, if some write set stands in fewer racks than before
+-- a fragment of a ledger, if some write set may stand in fewer racks than before
 abbrev pub fewer_at : Racks → Metadata → Ledger → ℕ → List FewerRacks
 fewer_at r m g f =
     option_map_or (λ racks. record { ledger = g.id; fragment = f; racks = racks } ∷ [])
@@ -113,7 +113,7 @@ fewer_among r before ledgers = flat_map (λ pair. fewer_in r pair.0 pair.1) (zip
 abbrev pub metadata_of : Cluster → List Metadata
 metadata_of s = map (λ g. g.metadata) s.parts.ledgers
 
--- the fragments that stand in fewer racks in t than in s, and than is asked for
+-- the fragments that may stand in fewer racks in t than in s, and stand in fewer than is asked for
 abbrev pub fewer_racks : Racks → Cluster → Cluster → List FewerRacks
 fewer_racks r s t = fewer_among r (metadata_of s) t.parts.ledgers
 

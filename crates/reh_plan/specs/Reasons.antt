@@ -100,3 +100,12 @@ reason_text (Place f i refusal) =
 reason_text (Roll refusal) = codes "roll refused " ++ refusal_text refusal
 reason_text (Seal refusal) = codes "seal refused " ++ refusal_text refusal
 reason_text NoRoom = codes "no room in the script"
+
+-- the same without places and numbers
+abbrev pub kind_of : Reason → List ℕ
+kind_of (NoWorker f) = codes "no worker"
+kind_of (Place f i VersionEnd) = codes "swap refused"
+kind_of (Place f i other) = codes "copy refused"
+kind_of (Roll refusal) = codes "roll refused"
+kind_of (Seal refusal) = codes "seal refused"
+kind_of NoRoom = codes "no room in the script"

@@ -1,6 +1,6 @@
 -- What a plan comes to.
 use Rattle.std.specs.Prelude.{◌≡◌, ℕ, ◌-◌, ◌==◌, ◌&&◌, Bool, false, not, List, [], ◌∷◌, ◌++◌, map, flat_map, length, count_by, sum_by}
-use Rattle.std.specs.Prelude.{unwrap_or, codes, if◌then◌else◌}
+use Rattle.std.specs.Prelude.{bytes_eq, unwrap_or, codes, if◌then◌else◌}
 use Rattle.std.specs.List.{range_with_len}
 use Rattle.std.specs.Fmt.{decimal}
 use Rattle.reh_types.specs.declared.moves.Event.{Event}
@@ -11,6 +11,9 @@ use Rattle.reh_model.specs.Survey.{survey}
 use Rattle.reh_commands.specs.Texts.{name_of, spaced}
 use Rattle.reh_plan.specs.Ends.{says_full}
 use Rattle.reh_plan.specs.Plans.{Draft, is_left}
+use Rattle.reh_plan.specs.Reasons.{kind_of}
+use Rattle.reh_plan.specs.declared.planning.Planned.{Planned}
+use Rattle.reh_plan.specs.declared.reasons.Left.{Left}
 use Rattle.reh_plan.specs.declared.summaries.Share.{Share}
 use Rattle.reh_plan.specs.declared.summaries.Summary.{Summary}
 
@@ -64,15 +67,42 @@ share_text names share =
     else (spaced (codes "bookie" ∷ name_of names share.bookie ∷ codes "places" ∷ decimal share.places ∷ codes "entries"
     ∷ decimal share.entries ∷ []) ++ codes "\n")
 
+-- whether a ledger is left for a reason of that kind
+abbrev pub is_kind : List ℕ → Left → Bool
+is_kind kind left = bytes_eq (kind_of left.reason) kind
+
+-- how many of these ledgers are, if some are
+abbrev pub kind_text : List Left → List ℕ → List ℕ
+kind_text left kind =
+    if count_by (is_kind kind) left == 0 then []
+    else (codes "left: " ++ (kind ++ (codes " " ++ (decimal (count_by (is_kind kind) left) ++ codes "\n"))))
+
+-- the same of each kind
+abbrev pub kinds_text : List Left → List ℕ
+kinds_text left =
+    flat_map (kind_text left)
+    (codes "copy refused" ∷ codes "swap refused" ∷ codes "seal refused" ∷ codes "roll refused" ∷ codes "no worker"
+    ∷ codes "no room in the script" ∷ [])
+
+-- how many ledgers are left, and for each kind of reason
+abbrev pub left_text : ℕ → List Left → List ℕ
+left_text count left = (codes "ledgers left " ++ (decimal count ++ codes "\n")) ++ kinds_text left
+
 -- that the script is full, if it is
 abbrev pub full_text : Bool → List ℕ
 full_text is_full = if is_full then codes "the script is full: plan again after it\n" else []
 
--- how many ledgers are left, and how many entries are lost
-abbrev pub totals_text : Summary → List ℕ
-totals_text summary =
-    codes "ledgers left " ++ (decimal summary.left ++ (codes "\nentries lost " ++ (decimal summary.unreadable ++ codes "\n")))
+-- how many fragments are in fewer racks, if some are
+abbrev pub fewer_text : ℕ → List ℕ
+fewer_text fewer = if fewer == 0 then [] else (codes "fragments in fewer racks " ++ (decimal fewer ++ codes "\n"))
 
-abbrev pub summary_text : List (List ℕ) → Summary → List ℕ
-summary_text names summary =
-    (flat_map (share_text names) summary.shares.items ++ totals_text summary) ++ full_text summary.is_full
+-- how many entries are lost, and the two before
+abbrev pub rest_text : Summary → ℕ → List ℕ
+rest_text summary fewer =
+    codes "entries lost " ++ (decimal summary.unreadable ++ (codes "\n" ++ (full_text summary.is_full ++ fewer_text fewer)))
+
+-- what a plan comes to
+abbrev pub plan_text : Planned → List ℕ
+plan_text p =
+    (flat_map (share_text p.plan.state.names) p.summary.shares.items ++ left_text p.summary.left p.left.items)
+    ++ rest_text p.summary (length p.fewer.items)

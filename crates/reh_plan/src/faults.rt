@@ -13,7 +13,7 @@ use std::fmt;
 pub enum PlanFault {
     /// There is no memory for it.
     NoMemory,
-    /// What it has to say at least, the bookies that are lost and the ledgers that are left, has no room in a script.
+    /// It has no room in a script, which may be for the bookies that are lost, for its comments, or as a runbook.
     NoRoom,
     /// Its script has room, and it would leave a place that could be filled, a ledger that could be recovered or given a bookie
     /// by its writer, a lock, a task where nothing is missing, or a ledger without a reason; or it would have a command that

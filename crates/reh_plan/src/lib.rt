@@ -25,5 +25,6 @@ pub use objects::plan_json;
 pub use planning::{Planned, plan};
 pub use plans::Plan;
 pub use racks::Racks;
+pub use reasons::{Left, Reason};
 pub use runbooks::runbook;
-pub use summaries::{Share, Summary};
+pub use summaries::{Share, Summary, plan_summary};

@@ -6,9 +6,11 @@ ghost use Rattle.reh_answer.specs.Objects.{Adds, IsLineOf, member_tokens, number
 ghost use Rattle.reh_plan.specs.Objects as model;
 
 use crate::fewer::FewerRacks;
-use crate::summaries::{Share, Summary};
+use crate::planning::Planned;
+use crate::reasons::Left;
+use crate::summaries::Share;
 use json::Writer;
-use reh_answer::{add_number, text_in};
+use reh_answer::{add_number, add_text, text_in};
 use reh_cluster::Names;
 use reh_types::{BookieIx, LedgerId};
 use std::alloc::{AllocError, Global};
@@ -67,7 +69,40 @@ fn add_ledger(json: &mut Writer<Global>, ledger: LedgerId) -> Result<(), AllocEr
     add_number(json, "ledger", ledger.0)
 }
 
-/// Adds a fragment of which a write set stands in fewer racks.
+/// Adds a ledger with which something is left to do, and why.
+fn add_one_left(json: &mut Writer<Global>, alloc: Global, left: &Left) -> Result<(), AllocError>
+    ensures { OnOk result (Adds (json_tokens (model.left_json left.now)) json.old json.new) }
+{
+    let Left { ledger, reason } = *left;
+    let text = format!(in alloc; "{reason}")?;
+    json.begin_object()?;
+    add_ledger(json, ledger)?;
+    add_text(json, "reason", reason.kind())?;
+    add_text(json, "text", text.as_str())?;
+    json.end_object()
+}
+
+/// Adds these ledgers.
+fn add_each_left(json: &mut Writer<Global>, alloc: Global, left: &[Left]) -> Result<(), AllocError>
+    ensures { OnOk result (Adds (flat_map (λ l. json_tokens (model.left_json l)) left.now) json.old json.new) }
+{
+    for one in left {
+        add_one_left(json, alloc, one)?;
+    }
+    Ok(())
+}
+
+/// Adds the list of the ledgers with which something is left to do.
+fn add_ledgers(json: &mut Writer<Global>, alloc: Global, left: &[Left]) -> Result<(), AllocError>
+    ensures { OnOk result (Adds (member_tokens (codes "ledgers") (model.ledgers_json left.now)) json.old json.new) }
+{
+    json.key("ledgers")?;
+    json.begin_array()?;
+    add_each_left(json, alloc, left)?;
+    json.end_array()
+}
+
+/// Adds a fragment of which a write set may stand in fewer racks.
 fn add_fragment(json: &mut Writer<Global>, fewer: &FewerRacks) -> Result<(), AllocError>
     ensures { OnOk result (Adds (json_tokens (model.fragment_json fewer.now)) json.old json.new) }
 {
@@ -88,7 +123,7 @@ fn add_each_fragment(json: &mut Writer<Global>, fewer: &[FewerRacks]) -> Result<
     Ok(())
 }
 
-/// Adds the list of the fragments of which a write set stands in fewer racks.
+/// Adds the list of the fragments of which a write set may stand in fewer racks.
 fn add_fewer_racks(json: &mut Writer<Global>, fewer: &[FewerRacks]) -> Result<(), AllocError>
     ensures { OnOk result (Adds (member_tokens (codes "fewerRacks") (model.fewer_json fewer.now)) json.old json.new) }
 {
@@ -107,37 +142,27 @@ fn add_full(json: &mut Writer<Global>, is_full: bool) -> Result<(), AllocError>
 }
 
 /// Adds the object.
-fn add_all(
-    json: &mut Writer<Global>,
-    names: &Names,
-    summary: &Summary,
-    fewer: &[FewerRacks],
-) -> Result<(), AllocError>
-    ensures { OnOk result (Adds (json_tokens (model.plan_value names.now summary.now fewer.now)) json.old json.new) }
+fn add_all(json: &mut Writer<Global>, alloc: Global, planned: &Planned) -> Result<(), AllocError>
+    ensures { OnOk result (Adds (json_tokens (model.plan_value planned.now)) json.old json.new) }
 {
+    let summary = &planned.summary;
     json.begin_object()?;
-    add_bookies(json, names, &summary.shares)?;
+    add_bookies(json, planned.plan.state().names(), &summary.shares)?;
     add_number(json, "left", summary.left as u64)?;
+    add_ledgers(json, alloc, &planned.left)?;
     add_number(json, "lost", summary.unreadable)?;
-    add_fewer_racks(json, fewer)?;
+    add_fewer_racks(json, &planned.fewer)?;
     add_full(json, summary.is_full)?;
     json.end_object()
 }
 
-/// What a plan comes to as JSON, where the bookies have these names, and these fragments come to stand in fewer racks: one
-/// object, on one line.
-pub fn plan_json(
-    alloc: Global,
-    names: &Names,
-    summary: &Summary,
-    fewer: &[FewerRacks],
-) -> Result<String, AllocError>
-    ensures text { IfOk result (λ text. string_bytes text ≡ model.json_of names.now summary.now fewer.now) }
-    ensures reads_back { IfOk result (λ text.
-        IsLineOf (model.plan_value names.now summary.now fewer.now) (string_bytes text)) }
+/// A plan and what it comes to as JSON: one object, on one line.
+pub fn plan_json(alloc: Global, planned: &Planned) -> Result<String, AllocError>
+    ensures text { IfOk result (λ text. string_bytes text ≡ model.json_of planned.now) }
+    ensures reads_back { IfOk result (λ text. IsLineOf (model.plan_value planned.now) (string_bytes text)) }
 {
     let mut json = Writer::new(Vec::new(alloc));
-    add_all(&mut json, names, summary, fewer)?;
+    add_all(&mut json, alloc, planned)?;
     let mut text = text_in(json)?;
     text.push_str("\n")?;
     Ok(text)

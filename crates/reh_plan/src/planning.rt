@@ -7,7 +7,7 @@ ghost use Rattle.reh_model.specs.Session.{replay, opened_session};
 ghost use Rattle.reh_transcript.specs.Transcript.{starting, transcript};
 ghost use Rattle.reh_plan.specs.Replies.{ok_answers};
 ghost use Rattle.reh_types.specs.Sets as set;
-ghost use Rattle.reh_plan.specs.Plans.{Asks, Draft, Works, Loses, GoesOnBy, IsWithout, AllNamed, OnlyLeft, IsNaming, IsPlayed, IsRepaired, Tells, losses_of};
+ghost use Rattle.reh_plan.specs.Plans.{Asks, Draft, Works, Loses, GoesOnBy, IsWithout, AllNamed, AreLeft, OnlyLeft, IsPlayed, IsRepaired, Tells, comment_of, losses_of};
 ghost use Rattle.reh_plan.specs.Ends.{Ends, IsHarmless};
 ghost use Rattle.reh_plan.specs.Needed.{AreNeeded};
 ghost use Rattle.reh_plan.specs.Plans.{is_filled_by};
@@ -20,13 +20,13 @@ use crate::faults::{PlanFault, StepFault, go_on};
 use crate::fewer::{FewerRacks, fewer_racks, metadata_of, tell};
 use crate::plans::Plan;
 use crate::racks::Racks;
-use crate::reasons::reason_for;
+use crate::reasons::{Left, left_in};
 use crate::repairs::Repair;
-use crate::summaries::{Summary, holdings_of, is_left, summary_of};
+use crate::summaries::{Summary, holdings_of, summary_of};
 use crate::workers::Workers;
 use reh_cluster::State;
 use reh_meta::LedgerMeta;
-use reh_types::{BookieIx, BookieSet, Event, MAX_BOOKIES, Refusal};
+use reh_types::{BookieIx, BookieSet, Event, MAX_BOOKIES};
 use std::alloc::Global;
 
 /// A plan, and what it comes to.
@@ -34,8 +34,18 @@ use std::alloc::Global;
 pub struct Planned {
     pub plan: Plan,
     pub summary: Summary,
-    /// The fragments of which a write set stands in fewer racks at the end.
+    /// The ledgers with which something is left to do at the end, in picture order, and why.
+    pub left: Vec<Left>,
+    /// The fragments of which a write set may stand in fewer racks at the end.
     pub fewer: Vec<FewerRacks>,
+}
+
+/// What is said of a plan that was played.
+#[derive(Drop)]
+struct Told {
+    left: Vec<Left>,
+    fewer: Vec<FewerRacks>,
+    summary: Summary,
 }
 
 /// The plan for a cluster of which these bookies are lost, where only the allowed bookies work, but for those that are
@@ -56,12 +66,13 @@ pub struct Planned {
 /// takes a place is registered, too (`filled`). In the end the lost bookies aren't registered, and all others are as they
 /// were (`lost`). Each ledger that has a task then, or a member that isn't registered, is named in a comment (`named`), and
 /// no other is, and for a reason that is so in the end; a comment says that the script is full only where it is (`only`).
+/// These ledgers and reasons are told beside the script, too (`left`).
 /// Where none does, no place is left in the end that could be filled, no ledger that could be recovered, or given a bookie
 /// that may work by its writer, no lock, and no task where nothing is missing (`ends`), and no lock, fence, copy or grace is
-/// in vain: the next command uses the first three, and a fence uses the grace (`needed`). No ledger was fenced and left
-/// (`harmless`). At the end of the script a comment tells of each fragment of which a write set comes to stand in fewer
-/// racks than before, and than are asked for (`racks` and `told`); `only`, `ends` and `needed` speak of the lines before
-/// these. The summary tells for each bookie how many places it takes and how many entries it holds more in the end, how many
+/// in vain: the next command uses the first three, and a fence uses the grace (`needed`). No ledger was fenced and stays in
+/// recovery (`harmless`). At the end of the script a comment tells of each fragment of which a write set may come to stand in
+/// fewer racks than before, and than are asked for (`racks` and `told`); `only`, `left`, `ends` and `needed` speak of the
+/// lines before these. The summary tells for each bookie how many places it takes and how many entries it holds more in the end, how many
 /// ledgers are left, how many entries can't be read, and whether the script says that it is full (`sum`).
 pub fn plan(
     alloc: Global,
@@ -90,6 +101,8 @@ pub fn plan(
     ensures only { IfOk result (λ p.
         OnlyLeft (rules_by allowed.now read_only.now writers_roll) state.names p.plan.state
         (model.lines_before p.fewer.items p.plan.lines)) }
+    ensures left { IfOk result (λ p. AreLeft (rules_by allowed.now read_only.now writers_roll) p.plan.state
+        (model.lines_before p.fewer.items p.plan.lines) p.left.items) }
     ensures ends { IfOk result (λ p. Ends (rules_by allowed.now read_only.now writers_roll) p.plan.state
         (model.lines_before p.fewer.items p.plan.lines)) }
     ensures harmless { IfOk result (λ p. IsHarmless state p.plan.state) }
@@ -98,7 +111,7 @@ pub fn plan(
     ensures sum { IfOk result (λ p. IsSum p.plan p.summary) }
 {
     let mut plan = Plan::begin(alloc, state)?;
-    let (fewer, summary) = play_and_tell(
+    let told = play_and_tell(
         alloc,
         &mut plan,
         lost,
@@ -108,15 +121,21 @@ pub fn plan(
         writers_roll,
     )?;
     let _checked = plan.text();
+    let Told {
+        left,
+        fewer,
+        summary,
+    } = told;
     Ok(Planned {
         plan,
         summary,
+        left,
         fewer,
     })
 }
 
-/// Plays a plan that has no line yet to its end, and tells in comments of the fragments of which a write set stands in fewer
-/// racks. Returns these, and what the plan comes to.
+/// Plays a plan that has no line yet to its end, and tells in comments of what is left, and of the fragments of which a write
+/// set may stand in fewer racks. Returns these, and what the plan comes to.
 fn play_and_tell(
     alloc: Global,
     plan: &mut Plan,
@@ -125,23 +144,29 @@ fn play_and_tell(
     read_only: &BookieSet,
     racks: &Racks,
     writers_roll: bool,
-) -> Result<(Vec<FewerRacks>, Summary), PlanFault>
+) -> Result<Told, PlanFault>
     requires begins { plan.old.state ≡ plan.old.opening }
     ensures racks { IfOk result (λ told.
-        told.0.items ≡ model.fewer_racks racks.now plan.old.state plan.new.state) }
+        told.fewer.items ≡ model.fewer_racks racks.now plan.old.state plan.new.state) }
     ensures played { IfOk result (λ told. (p : Draft)
-        × IsPlayed plan.old (set.contains lost.now) (rules_by allowed.now read_only.now writers_roll) p
-        × (plan.new ≡ record p { lines = p.lines ++ map model.racks_line told.0.items })) }
-    ensures sum { IfOk result (λ told. IsSum plan.new told.1) }
+        × IsPlayed plan.old (set.contains lost.now) (rules_by allowed.now read_only.now writers_roll) told.left.items p
+        × (plan.new ≡ record p { lines = p.lines ++ map model.racks_line told.fewer.items })) }
+    ensures sum { IfOk result (λ told. IsSum plan.new told.summary) }
 {
     let held = holdings_of(alloc, plan.state())?;
     let before = metadata_of(alloc, plan.state())?;
-    play(alloc, plan, lost, allowed, read_only, racks, writers_roll)?;
-    told(alloc, plan, racks, &before, &held)
+    let left = play(alloc, plan, lost, allowed, read_only, racks, writers_roll)?;
+    let (fewer, summary) = tell_racks(alloc, plan, racks, &before, &held)?;
+    Ok(Told {
+        left,
+        fewer,
+        summary,
+    })
 }
 
-/// Tells in comments of the fragments of which a write set stands in fewer racks. Returns these, and what the plan comes to.
-fn told(
+/// Tells in comments of the fragments of which a write set may stand in fewer racks. Returns these, and what the plan comes
+/// to.
+fn tell_racks(
     alloc: Global,
     plan: &mut Plan,
     racks: &Racks,
@@ -162,7 +187,7 @@ fn told(
     Ok((fewer, summary))
 }
 
-/// Loses these bookies, plays AutoRecovery to its end, and names what is left.
+/// Loses these bookies, plays AutoRecovery to its end, and names what is left. Returns that.
 fn play(
     alloc: Global,
     plan: &mut Plan,
@@ -171,18 +196,18 @@ fn play(
     read_only: &BookieSet,
     racks: &Racks,
     writers_roll: bool,
-) -> Result<(), PlanFault>
-    ensures { OnOk result
-        (IsPlayed plan.old (set.contains lost.now) (rules_by allowed.now read_only.now writers_roll) plan.new) }
+) -> Result<Vec<Left>, PlanFault>
+    ensures { IfOk result (λ left.
+        IsPlayed plan.old (set.contains lost.now) (rules_by allowed.now read_only.now writers_roll) left.items plan.new) }
 {
     let recovering = recovering_in(alloc, plan.state())?;
     lose_all(plan, lost)?;
-    repair_all(alloc, plan, allowed, read_only, racks, writers_roll)?;
+    let left = repair_all(alloc, plan, allowed, read_only, racks, writers_roll)?;
     check_harmless(plan.state(), &recovering)?;
-    Ok(())
+    Ok(left)
 }
 
-/// Plays AutoRecovery to its end by the bookies that may work, and names what is left.
+/// Plays AutoRecovery to its end by the bookies that may work, and names what is left. Returns that.
 fn repair_all(
     alloc: Global,
     plan: &mut Plan,
@@ -190,26 +215,29 @@ fn repair_all(
     read_only: &BookieSet,
     racks: &Racks,
     writers_roll: bool,
-) -> Result<(), PlanFault>
-    ensures { OnOk result (IsRepaired (rules_by allowed.now read_only.now writers_roll) plan.old plan.new) }
+) -> Result<Vec<Left>, PlanFault>
+    ensures { IfOk result (λ left.
+        IsRepaired (rules_by allowed.now read_only.now writers_roll) plan.old left.items plan.new) }
 {
     let mut workers = Workers::of(alloc, plan.state(), allowed, read_only, racks, writers_roll)?;
     roll_all(plan, &mut workers)?;
     publish(plan)?;
     grant_all(plan, &workers)?;
     work_all(alloc, plan, &mut workers)?;
-    tell_all(plan, &workers)?;
-    Ok(())
+    let left = tell_all(alloc, plan, &workers)?;
+    Ok(left)
 }
 
 /// Says that the script is full, if something is left that could be done, and names each ledger with which something is left.
-fn tell_all(plan: &mut Plan, workers: &Workers) -> Result<(), PlanFault>
-    ensures { OnOk result (Tells workers.now plan.old plan.new) }
+/// Returns these.
+fn tell_all(alloc: Global, plan: &mut Plan, workers: &Workers) -> Result<Vec<Left>, PlanFault>
+    ensures { IfOk result (λ left. Tells workers.now plan.old left.items plan.new) }
 {
     let full = is_cut_off(plan, workers)?;
+    let left = left_in(alloc, plan.state(), workers, full)?;
     plan.tell_full(full)?;
-    leave_all(plan, workers, full)?;
-    Ok(())
+    leave_all(plan, &left)?;
+    Ok(left)
 }
 
 /// Loses these bookies, those that are registered.
@@ -389,20 +417,12 @@ fn repair_at(state: &State, place: usize) -> Option<Repair> {
     })
 }
 
-/// Names in a comment each ledger that has a task, or a member that isn't registered, and why, where the script is full or has
-/// room.
-fn leave_all(plan: &mut Plan, workers: &Workers, full: bool) -> Result<(), PlanFault>
-    ensures { OnOk result (IsNaming workers.now full plan.old plan.new) }
+/// Names each of these ledgers in a comment, and why something is left to do for it.
+fn leave_all(plan: &mut Plan, left: &[Left]) -> Result<(), PlanFault>
+    ensures { OnOk result (plan.new ≡ record plan.old { lines = plan.old.lines ++ map comment_of left.now }) }
 {
-    // The check of this loop has to meet the type of a refusal by its name.
-    let _refusal: Option<Refusal> = None;
-    for place in 0..plan.state().ledgers().len() {
-        let ledger = &plan.state().ledgers()[place];
-        if is_left(plan.state(), ledger) {
-            let reason = reason_for(plan.state(), workers, ledger, full)?;
-            let id = ledger.id();
-            plan.leave(id, &reason)?;
-        }
+    for one in left {
+        plan.leave(one)?;
     }
     Ok(())
 }

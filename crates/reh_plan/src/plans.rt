@@ -11,16 +11,16 @@ ghost use Rattle.reh_lines.specs.Lines.{lines_of};
 ghost use Rattle.reh_transcript.specs.Transcript.{starting, transcript};
 ghost use Rattle.reh_plan.specs.Replies.{ok_answers};
 ghost use Rattle.reh_plan.specs.Ends.{HasNoRoom, full_line, says_full};
-ghost use Rattle.reh_plan.specs.Plans.{Asks, IsMade, Works, Loses, is_nobodys, has_lf, loss_of, IsLeaving, with_full};
+ghost use Rattle.reh_plan.specs.Plans.{Asks, IsMade, Works, Loses, comment_of, is_nobodys, has_lf, loss_of, with_full};
 ghost use Rattle.reh_plan.specs.Workers.{Rules};
 
 use crate::faults::{PlanFault, StepFault, go_on};
-use crate::reasons::Reason;
+use crate::reasons::Left;
 use reh_cluster::{Names, State};
 use reh_commands::{Command, command_text, parse_line};
 use reh_lines::first_line;
 use reh_session::Session;
-use reh_types::{BookieIx, Event, LedgerId, MAX_LEDGERS, MAX_SCRIPT_BYTES, Move, Refusal};
+use reh_types::{BookieIx, Event, MAX_LEDGERS, MAX_SCRIPT_BYTES, Move, Refusal};
 use std::alloc::{AllocError, Global};
 use std::marker::Model;
 
@@ -193,10 +193,11 @@ impl Plan {
     }
 
     /// Writes the comment that a ledger is left, and why.
-    pub(crate) fn leave(&mut self, ledger: LedgerId, reason: &Reason) -> Result<(), PlanFault>
-        ensures { OnOk result (IsLeaving self.old ledger reason.now self.new) }
+    pub(crate) fn leave(&mut self, left: &Left) -> Result<(), PlanFault>
+        ensures { OnOk result (self.new ≡ record self.old { lines = self.old.lines ++ comment_of left.now ∷ [] }) }
     {
         let alloc = self.session.allocator();
+        let Left { ledger, reason } = *left;
         let id = ledger.0;
         let line = format!(in alloc; "# ledger {id} is left: {reason}")?;
         self.remark(line.as_bytes())

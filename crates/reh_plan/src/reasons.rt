@@ -1,12 +1,14 @@
 // Why something is left for a ledger in the end.
-ghost use Rattle.std.specs.Prelude.{◌≡◌, ℕ, Bool, true, false, IfErr, IfOk, IfSome, IsFalse, IsTrue, None, Some, is_none, is_some, length, slice_get};
+ghost use Rattle.std.specs.Prelude.{◌≡◌, ◌++◌, ◌∷◌, [], ℕ, All, Bool, true, false, IfErr, IfOk, OnOk, IfSome, IsFalse, IsTrue, None, Some, is_none, is_some, length, map, slice_get};
 ghost use Rattle.reh_model.specs.Metadata.{stop_of, stripe_of};
+ghost use Rattle.reh_plan.specs.Plans.{IsLeftFor, left_ids};
 ghost use Rattle.reh_plan.specs.Workers.{Rules};
 ghost use Rattle.reh_plan.specs.Reasons as model;
 
 use crate::ends::{has_writer, is_open, is_recovering};
 use crate::faults::PlanFault;
 use crate::recoveries::{has_substitute, seal_refusal};
+use crate::summaries::is_left;
 use crate::workers::Workers;
 use reh_audit::is_under;
 use reh_cluster::{Ledger, State};
@@ -14,12 +16,13 @@ use reh_meta::Fragment;
 use reh_scan::{check_member, first_unreadable, last_fragment};
 use reh_step::check_event;
 use reh_stripe::Striped;
-use reh_types::{BookieIx, Event, MAX_VERSION, Refusal};
+use reh_types::{BookieIx, Event, LedgerId, MAX_VERSION, Refusal};
+use std::alloc::{AllocError, Global};
 use std::fmt;
 
 /// Why something is left to do for a ledger.
 #[derive(Clone, Copy)]
-pub(crate) enum Reason {
+pub enum Reason {
     /// No bookie that may take places is registered and outside of the ensemble of this fragment.
     NoWorker {
         fragment: u64,
@@ -40,6 +43,25 @@ pub(crate) enum Reason {
     },
     /// The script has no room for a further command.
     NoRoom,
+}
+
+impl Reason {
+    /// Its text without places and numbers.
+    pub fn kind(&self) -> &'static str
+        ensures { result.now ≡ model.kind_of self.now }
+    {
+        match self {
+            Reason::NoWorker { .. } => "no worker",
+            Reason::Place {
+                refusal: Refusal::VersionEnd,
+                ..
+            } => "swap refused",
+            Reason::Place { .. } => "copy refused",
+            Reason::Roll { .. } => "roll refused",
+            Reason::Seal { .. } => "seal refused",
+            Reason::NoRoom => "no room in the script",
+        }
+    }
 }
 
 impl fmt::Display for Reason {
@@ -79,9 +101,48 @@ fn place_verb(refusal: &Refusal) -> &'static str
     }
 }
 
+/// A ledger with which something is left to do, and why.
+#[derive(Clone, Copy)]
+pub struct Left {
+    pub ledger: LedgerId,
+    pub reason: Reason,
+}
+
+/// The ledgers with which something is left to do, in picture order, and why, where the script is full or has room.
+pub(crate) fn left_in(
+    alloc: Global,
+    state: &State,
+    workers: &Workers,
+    full: bool,
+) -> Result<Vec<Left>, PlanFault>
+    ensures of { IfOk result (λ left.
+        map (λ l. l.ledger) left.items ≡ left_ids state.now state.now.parts.ledgers) }
+    ensures why { IfOk result (λ left.
+        All (IsLeftFor workers.now full state.now state.now.parts.ledgers) left.items) }
+{
+    // The check of this loop has to meet the type of a refusal by its name.
+    let _refusal: Option<Refusal> = None;
+    let mut left = Vec::new(alloc);
+    for ledger in state.ledgers() {
+        if is_left(state, ledger) {
+            let reason = reason_for(state, workers, ledger, full)?;
+            push_left(&mut left, ledger.id(), reason)?;
+        }
+    }
+    Ok(left)
+}
+
+/// Adds a ledger with which something is left to do, and why.
+fn push_left(left: &mut Vec<Left>, ledger: LedgerId, reason: Reason) -> Result<(), AllocError>
+    ensures { OnOk result (left.new.items ≡ left.old.items ++ (record { ledger = ledger; reason = reason }) ∷ []) }
+{
+    left.push(Left { ledger, reason })?;
+    Ok(())
+}
+
 /// Why something is left for the ledger in the end, where the script is full or has room. What another bookie wouldn't mend
 /// comes before a worker that is missing. In a full script there is always a reason.
-pub(crate) fn reason_for(
+fn reason_for(
     state: &State,
     workers: &Workers,
     ledger: &Ledger,

@@ -1,12 +1,15 @@
 // What a plan comes to: what each bookie is given, what is left, and what can't be read.
-ghost use Rattle.std.specs.Prelude.{◌≡◌, ◌==◌, ◌^◌, ◌<◌, ◌≤◌, ◌++◌, length, unwrap_or, if◌then◌else◌, IfOk, OnOk, string_bytes, codes, flat_map};
+ghost use Rattle.std.specs.Prelude.{◌≡◌, ◌==◌, ◌^◌, ◌<◌, ◌≤◌, ◌++◌, length, unwrap_or, if◌then◌else◌, IfOk, OnOk, string_bytes, codes, count_by, flat_map};
 ghost use Rattle.reh_types.specs.declared.limits.TheConstants.{MAX_BOOKIES};
 ghost use Rattle.reh_commands.specs.Texts.{name_of};
 ghost use Rattle.reh_plan.specs.Plans as plans;
 ghost use Rattle.reh_plan.specs.Summaries as model;
 ghost use Rattle.reh_plan.specs.Summaries.{IsSum};
 
+use crate::fewer::FewerRacks;
+use crate::planning::Planned;
 use crate::plans::Plan;
+use crate::reasons::Left;
 use reh_audit::under_of;
 use reh_cluster::{Ledger, Names, State};
 use reh_scan::survey_plain;
@@ -50,28 +53,104 @@ impl Summary {
     {
         if self.is_whole() { 0 } else { 8 }
     }
-
-    /// A line of each bookie that is given something, what is left and can't be read, and that the script is full, if it is.
-    pub fn text(&self, alloc: Global, names: &Names) -> Result<String, AllocError>
-        ensures { IfOk result (λ text. string_bytes text ≡ model.summary_text names.now self.now) }
-    {
-        let mut text = String::new(alloc);
-        push_shares(&mut text, names, &self.shares)?;
-        push_totals(&mut text, self)?;
-        text.push_str(full_text(self.is_full))?;
-        Ok(text)
-    }
 }
 
-/// Adds how many ledgers are left, and how many entries can't be read.
-fn push_totals(text: &mut String, summary: &Summary) -> Result<(), AllocError>
-    ensures { OnOk result (string_bytes text.new ≡ string_bytes text.old ++ model.totals_text summary.now) }
+/// What a plan comes to: a line of each bookie that is given something, how many ledgers are left, and for each kind of reason,
+/// how many entries can't be read, that the script is full, if it is, and how many fragments are in fewer racks, if some are.
+pub fn plan_summary(alloc: Global, planned: &Planned) -> Result<String, AllocError>
+    ensures { IfOk result (λ text. string_bytes text ≡ model.plan_text planned.now) }
 {
-    write!(
-        text,
-        "ledgers left {}\nentries lost {}\n",
-        summary.left, summary.unreadable
-    )
+    let Planned {
+        plan,
+        summary,
+        left,
+        fewer,
+    } = planned;
+    let mut text = shares_text(alloc, plan.state().names(), &summary.shares)?;
+    push_left(&mut text, alloc, summary.left, left)?;
+    push_rest(&mut text, summary, fewer)?;
+    Ok(text)
+}
+
+/// Adds how many ledgers are left, and for each kind of reason.
+fn push_left(
+    text: &mut String,
+    alloc: Global,
+    count: usize,
+    left: &[Left],
+) -> Result<(), AllocError>
+    ensures { OnOk result (string_bytes text.new ≡ string_bytes text.old ++ model.left_text count left.now) }
+{
+    write!(text, "ledgers left {count}\n")?;
+    let kinds = kinds_text(alloc, left)?;
+    text.push_str(&kinds)?;
+    Ok(())
+}
+
+/// How many of these ledgers are left for each kind of reason, a line each.
+fn kinds_text(alloc: Global, left: &[Left]) -> Result<String, AllocError>
+    ensures { IfOk result (λ text. string_bytes text ≡ model.kinds_text left.now) }
+{
+    let mut text = String::new(alloc);
+    push_kind(&mut text, left, "copy refused")?;
+    push_kind(&mut text, left, "swap refused")?;
+    push_kind(&mut text, left, "seal refused")?;
+    push_kind(&mut text, left, "roll refused")?;
+    push_kind(&mut text, left, "no worker")?;
+    push_kind(&mut text, left, "no room in the script")?;
+    Ok(text)
+}
+
+/// Adds how many of these ledgers are left for a reason of this kind, if some are.
+fn push_kind(text: &mut String, left: &[Left], kind: &str) -> Result<(), AllocError>
+    ensures { OnOk result (string_bytes text.new ≡ string_bytes text.old ++ model.kind_text left.now kind.now) }
+{
+    let count = count_kind(left, kind);
+    if count == 0 {
+        return Ok(());
+    }
+    write!(text, "left: {kind} {count}\n")
+}
+
+/// How many of these ledgers are left for a reason of this kind.
+fn count_kind(left: &[Left], kind: &str) -> usize
+    ensures { result ≡ count_by (model.is_kind kind.now) left.now }
+{
+    let mut count = 0;
+    for one in left {
+        if is_kind(one, kind) {
+            count += 1;
+        }
+    }
+    count
+}
+
+/// Whether the ledger is left for a reason of this kind.
+fn is_kind(left: &Left, kind: &str) -> bool
+    ensures { result ≡ model.is_kind kind.now left.now }
+{
+    left.reason.kind() == kind
+}
+
+/// Adds how many entries can't be read, that the script is full, if it is, and how many fragments are in fewer racks, if some
+/// are.
+fn push_rest(text: &mut String, summary: &Summary, fewer: &[FewerRacks]) -> Result<(), AllocError>
+    ensures { OnOk result (string_bytes text.new
+        ≡ string_bytes text.old ++ model.rest_text summary.now (length fewer.now)) }
+{
+    write!(text, "entries lost {}\n", summary.unreadable)?;
+    text.push_str(full_text(summary.is_full))?;
+    push_fewer(text, fewer.len())
+}
+
+/// Adds how many fragments are in fewer racks, if some are.
+fn push_fewer(text: &mut String, fewer: usize) -> Result<(), AllocError>
+    ensures { OnOk result (string_bytes text.new ≡ string_bytes text.old ++ model.fewer_text fewer) }
+{
+    if fewer == 0 {
+        return Ok(());
+    }
+    write!(text, "fragments in fewer racks {fewer}\n")
 }
 
 /// The line that a script is full, if it is.
@@ -83,6 +162,15 @@ fn full_text(is_full: bool) -> &'static str
     } else {
         ""
     }
+}
+
+/// The lines of bookies that are given something.
+fn shares_text(alloc: Global, names: &Names, shares: &[Share]) -> Result<String, AllocError>
+    ensures { IfOk result (λ text. string_bytes text ≡ flat_map (model.share_text names.now) shares.now) }
+{
+    let mut text = String::new(alloc);
+    push_shares(&mut text, names, shares)?;
+    Ok(text)
 }
 
 /// Adds the lines of bookies that are given something.

@@ -17,10 +17,10 @@ use Rattle.reh_picture.specs.declared.listings.Listed.{Listed}
 use Rattle.reh_plan.specs.Faults.{plan_fault_text}
 use Rattle.reh_plan.specs.Named.{AreNamed}
 use Rattle.reh_plan.specs.Objects.{json_of}
-use Rattle.reh_plan.specs.Plans.{GoesOnBy, IsWithout, losses_of}
-use Rattle.reh_plan.specs.Racks.{Racks, fewer_racks, racks_named}
+use Rattle.reh_plan.specs.Plans.{AreLeft, GoesOnBy, IsWithout, losses_of}
+use Rattle.reh_plan.specs.Racks.{Racks, fewer_racks, lines_before, racks_named}
 use Rattle.reh_plan.specs.Runbooks.{runbook_lines}
-use Rattle.reh_plan.specs.Summaries.{IsSum, is_whole, summary_text}
+use Rattle.reh_plan.specs.Summaries.{IsSum, is_whole, plan_text}
 use Rattle.reh_plan.specs.Workers.{rules_by}
 use Rattle.reh_plan.specs.declared.faults.PlanFault.{PlanFault}
 use Rattle.reh_plan.specs.declared.faults.PlanFault.TheVariants as plan_fault
@@ -62,6 +62,8 @@ pub record IsPlan (state : Cluster) (asked : Asked) (p : Planned) : Type 0 where
   pub without : IsWithout state (set.contains asked.lost) p.plan.state
   pub order : GoesOnBy (rules_by asked.allowed asked.read_only asked.writers_roll)
       (losses_of state (set.contains asked.lost) (length state.names)) p.plan.events
+  pub left : AreLeft (rules_by asked.allowed asked.read_only asked.writers_roll) p.plan.state
+      (lines_before p.fewer.items p.plan.lines) p.left.items
   pub racks : p.fewer.items ≡ fewer_racks asked.racks state p.plan.state
   pub sum : IsSum p.plan p.summary
 
@@ -80,15 +82,10 @@ TellsUnplanned fault run = IsUnfit (plan_fault_text fault) run
 
 -- What is printed
 
--- how many fragments are in fewer racks, if some are
-abbrev pub fewer_text : ℕ → List ℕ
-fewer_text fewer = if fewer == 0 then [] else codes "fragments in fewer racks " ++ (decimal fewer ++ codes "\n")
-
 -- JSON, or what the plan comes to, or its runbook, where they are asked for, the first of these; else its script
 abbrev pub PrintsPlan : Bool → Bool → Bool → Planned → List ℕ → Type 0
-PrintsPlan true only_sums expects p text = text ≡ json_of p.plan.state.names p.summary p.fewer.items
-PrintsPlan false true expects p text =
-    text ≡ summary_text p.plan.state.names p.summary ++ fewer_text (length p.fewer.items)
+PrintsPlan true only_sums expects p text = text ≡ json_of p
+PrintsPlan false true expects p text = text ≡ plan_text p
 PrintsPlan false false true p text =
     text ≡ text_of (runbook_lines p.plan.state.names p.plan.lines p.summary.unreadable)
 PrintsPlan false false false p text = lines_of text ≡ p.plan.lines
@@ -103,7 +100,7 @@ pub record IsPlanned (words : PlanWords) (p : Planned) : Type 0 where
   pub picture : IsPictureFor words bytes
   pub planned : IsPlanFor bytes words p
 
--- 0 where nothing is left and no entry is lost, else 8
+-- 0 where nothing is left, no entry is lost, and the script isn't full, else 8
 abbrev pub status_of : Planned → ℕ
 status_of p = if is_whole p.summary then 0 else 8
 

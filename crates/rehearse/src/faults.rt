@@ -77,16 +77,16 @@ impl fmt::Display for RunFault {
             RunFault::Picture(fault) => write!(f, "picture: {fault}"),
             RunFault::Refused(None, located) => write!(f, "picture: {located}"),
             RunFault::Refused(Some(path), located) => write!(f, "picture {path}: {located}"),
-            RunFault::Unfit(reason) => write!(f, "{reason}"),
-            RunFault::Misnamed(reason) => write!(f, "{reason}"),
-            RunFault::Unread(reason) => write!(f, "{reason}"),
-            RunFault::ReadFault => write!(f, "read fault"),
-            RunFault::TooLong => write!(f, "script too long"),
-            RunFault::WriteFault => write!(f, "write fault"),
-            RunFault::Unwritten(reason) => write!(f, "{reason}"),
-            RunFault::NoMemory => write!(f, "no memory"),
-            RunFault::NoThread => write!(f, "no thread"),
-            RunFault::Close(CloseCause::Seats) => write!(f, "close: 1 Seats"),
+            RunFault::Unfit(reason)
+            | RunFault::Misnamed(reason)
+            | RunFault::Unread(reason)
+            | RunFault::Unwritten(reason) => f.write_str(reason),
+            RunFault::ReadFault => f.write_str("read fault"),
+            RunFault::TooLong => f.write_str("script too long"),
+            RunFault::WriteFault => f.write_str("write fault"),
+            RunFault::NoMemory => f.write_str("no memory"),
+            RunFault::NoThread => f.write_str("no thread"),
+            RunFault::Close(CloseCause::Seats) => f.write_str("close: 1 Seats"),
             RunFault::Close(CloseCause::StillOut(count)) => write!(f, "close: 2 StillOut {count}"),
             RunFault::Close(CloseCause::Mismatch(number)) => {
                 write!(f, "close: 3 Mismatch {number}")

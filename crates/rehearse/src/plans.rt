@@ -1,10 +1,9 @@
 // What is to be done without some bookies, planned from the file of a picture.
-ghost use Rattle.std.specs.Prelude.{◌≡◌, ◌++◌, ◌&&◌, ℕ, nat_lt, false, slice_get, length, string_bytes, if◌then◌else◌, IfOk};
+ghost use Rattle.std.specs.Prelude.{◌≡◌, ◌++◌, ◌&&◌, ℕ, nat_lt, false, slice_get, length, if◌then◌else◌, IfOk};
 ghost use Rattle.std.specs.Option.{option_map_or};
 ghost use Rattle.reh_types.specs.declared.limits.TheConstants.{MAX_BOOKIES};
 ghost use Rattle.reh_types.specs.Sets as set;
 ghost use Rattle.reh_plan.specs.Named.{AreNamed};
-ghost use Rattle.reh_plan.specs.Summaries.{summary_text};
 ghost use Rattle.rehearse.specs.Plans as model;
 
 use crate::afters::text_after;
@@ -17,7 +16,9 @@ use crate::names::{named_twice, unknown};
 use crate::progress::{Progress, Teller};
 use reh_cluster::{Names, State};
 use reh_picture::{BookieMarks, list_picture};
-use reh_plan::{PlanFault, Planned, Racks, find_bookies, first_unknown, plan, plan_json, runbook};
+use reh_plan::{
+    PlanFault, Planned, Racks, find_bookies, first_unknown, plan, plan_json, plan_summary, runbook,
+};
 use reh_types::{BookieIx, BookieSet, MAX_BOOKIES};
 use reh_words::PlanWords;
 use std::alloc::{AllocError, Global};
@@ -72,40 +73,18 @@ fn printed(alloc: Global, planned: &Planned, words: &PlanWords<'_>) -> Result<Ve
     ensures { IfOk result (λ text.
         model.PrintsPlan words.now.as_json words.now.only_sums words.now.expects planned.now text.items) }
 {
-    let names = planned.plan.state().names();
     if words.as_json {
-        let text = plan_json(alloc, names, &planned.summary, &planned.fewer)?;
+        let text = plan_json(alloc, planned)?;
         return Ok(text.into_bytes());
     }
     if words.only_sums {
-        let text = sums_of(alloc, planned)?;
+        let text = plan_summary(alloc, planned)?;
         return Ok(text.into_bytes());
     }
     if words.expects {
         return runbook(alloc, planned).map_err(|fault| unplanned(alloc, fault));
     }
     Ok(Vec::from_slice(alloc, planned.plan.text())?)
-}
-
-/// What the plan comes to. Where it leaves fragments in fewer racks, a last line says how many.
-fn sums_of(alloc: Global, planned: &Planned) -> Result<String, RunFault>
-    ensures { IfOk result (λ text. string_bytes text
-        ≡ summary_text planned.now.plan.state.names planned.now.summary ++ model.fewer_text (length planned.now.fewer.items)) }
-{
-    let mut text = planned.summary.text(alloc, planned.plan.state().names())?;
-    let line = fewer_line(alloc, planned.fewer.len())?;
-    text.push_str(&line)?;
-    Ok(text)
-}
-
-/// The line that says how many fragments are in fewer racks, if some are.
-fn fewer_line(alloc: Global, fewer: usize) -> Result<String, AllocError>
-    ensures { IfOk result (λ line. string_bytes line ≡ model.fewer_text fewer) }
-{
-    if fewer == 0 {
-        return Ok(String::new(alloc));
-    }
-    format!(in alloc; "fragments in fewer racks {fewer}\n")
 }
 
 /// The bytes of the picture; or of the picture of the state to which a script leads from it.

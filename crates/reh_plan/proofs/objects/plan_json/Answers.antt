@@ -8,12 +8,12 @@ use Rattle.reh_plan.proofs.objects.plan_json.Goals as goal
 
 pub returns-clause-reads_back : goal.returns-clause-reads_back
 returns-clause-reads_back c =
-    let value = plan_value c.args.names.now c.args.summary.now c.args.fewer.now in
+    let value = plan_value c.args.planned.now in
     record {
       line = string_bytes c.in_ok-text.text;
       ends = c.in_ok-push_str.ensures.bytes;
       reads =
-          reads value (string_bytes c.in_ok-text.text) (plan-depth c.args.names.now c.args.summary.now c.args.fewer.now)
+          reads value (string_bytes c.in_ok-text.text) (plan-depth c.args.planned.now)
           (c.in_ok-text.ensures.reads_back
           ∙ c.in_ok-add_all.ensures.tokens
           ∙ (λ i. c.new-json.ensures.tokens i ++ json_tokens value));

@@ -9,6 +9,7 @@ use Rattle.reh_plan.specs.Plans.{Asks, Draft}
 use Rattle.reh_plan.specs.Racks.{fewer_racks}
 use Rattle.reh_plan.specs.Replies.{ok_answers}
 use Rattle.reh_plan.specs.declared.fewer.FewerRacks.{FewerRacks}
+use Rattle.reh_plan.specs.declared.reasons.Left.{Left}
 use Rattle.reh_plan.specs.Workers.{Rules, rules_by}
 use Rattle.reh_plan.proofs.FilledLaws.{filled_by}
 use Rattle.reh_plan.proofs.PlannedLaws.{IsTold, told-alone}
@@ -19,10 +20,11 @@ returns c =
     let s : Cluster = c.args.state in
     let rules : Rules = rules_by c.args.allowed.now c.args.read_only.now c.args.writers_roll in
     let n : Draft = c.play_and_tell.new.plan in
-    let fewer : List FewerRacks = c.in_ok-fewer.fewer.items in
-    let told : IsTold s c.args.lost.now rules fewer n =
-    told-alone s c.args.lost.now rules c.in_ok-plan.plan c.in_ok-fewer.ensures.played.0 n fewer c.in_ok-plan.ensures
-    c.in_ok-fewer.ensures.played.1 c.in_ok-fewer.ensures.played.2 in
+    let left : List Left = c.in_ok-told.told.left.items in
+    let fewer : List FewerRacks = c.in_ok-told.told.fewer.items in
+    let told : IsTold s c.args.lost.now rules left fewer n =
+    told-alone s c.args.lost.now rules c.in_ok-plan.plan c.in_ok-told.ensures.played.0 n left fewer c.in_ok-plan.ensures
+    c.in_ok-told.ensures.played.1 c.in_ok-told.ensures.played.2 in
     let accepted : replay s n.events ≡ Some n.state =
     subst (λ (o : Cluster). replay o n.events ≡ Some n.state) told.opening c.text-checked.ensures.accepted in
     record {
@@ -40,12 +42,13 @@ returns c =
           filled_by rules s n.state (set.contains c.args.lost.now) (length s.names) n.events told.order accepted;
       named = told.named;
       racks =
-          c.in_ok-fewer.ensures.racks
+          c.in_ok-told.ensures.racks
           ∙ ap (λ (d : Draft). fewer_racks c.args.racks.now d.state n.state) c.in_ok-plan.ensures;
       told = told.told;
       only = told.only;
+      left = told.left;
       ends = told.ends;
       harmless = told.harmless;
       needed = told.needed;
-      sum = c.in_ok-fewer.ensures.sum;
+      sum = c.in_ok-told.ensures.sum;
     }

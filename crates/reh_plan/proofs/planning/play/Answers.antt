@@ -8,7 +8,7 @@ pub returns : goal.returns
 returns c = record {
   lost = c.lose_all.new.plan;
   loses = c.in_ok-lose_all.ensures;
-  repaired = c.in_ok-repair_all.ensures;
+  repaired = c.in_ok-left.ensures;
   harmless =
       subst (λ (s : Cluster). AreAmong (recovering s) (recovering c.args.plan.now.state)) c.state-2.ensures
       (subst (λ (flags : List Bool). AreAmong (recovering c.state-2.result.now) flags)

@@ -1,29 +1,26 @@
 -- The steps leave the cluster on which the plan begins, and are what comes before the comments.
 use Rattle.std.proofs.Common.{◌≡◌, ◌∙◌, List, ap, sym}
-use Rattle.std.proofs.lemmas.Result.{IfOk-weaker}
 use Rattle.reh_model.specs.Metadata.{Metadata}
 use Rattle.reh_plan.specs.Racks.{fewer_among, metadata_of}
 use Rattle.reh_plan.specs.Summaries.{holdings_of}
 use Rattle.reh_plan.proofs.PlannedLaws.{tells_opening}
 use Rattle.reh_plan.proofs.planning.play_and_tell.Goals as goal
 
-pub told-requires-clause-held : goal.told-requires-clause-held
-told-requires-clause-held c =
+pub tell_racks-requires-clause-held : goal.tell_racks-requires-clause-held
+tell_racks-requires-clause-held c =
     c.deref-2.ensures.value
     ∙ c.in_ok-held.ensures.held
     ∙ ap holdings_of
     (c.state.ensures ∙ c.requires.begins
-    ∙ sym (tells_opening _ _ _ c.in_ok-play.ensures.repaired.tells ∙ c.in_ok-play.ensures.repaired.works.opening
-    ∙ c.in_ok-play.ensures.loses.opening))
+    ∙ sym (tells_opening _ _ _ _ c.in_ok-left.ensures.repaired.tells ∙ c.in_ok-left.ensures.repaired.works.opening
+    ∙ c.in_ok-left.ensures.loses.opening))
 
 pub returns-clause-racks : goal.returns-clause-racks
 returns-clause-racks c =
     let before : c.deref.result.now ≡ metadata_of c.args.plan.now.state =
     c.deref.ensures.value ∙ c.in_ok-before.ensures ∙ ap metadata_of c.state-2.ensures in
-    IfOk-weaker c.told.result _ _
-    (λ told found. found ∙ ap (λ (ms : List Metadata). fewer_among c.args.racks.now ms c.told.new.plan.state.parts.ledgers) before)
-    c.told.ensures.racks
+    c.in_ok-fewer.ensures.racks
+    ∙ ap (λ (ms : List Metadata). fewer_among c.args.racks.now ms c.tell_racks.new.plan.state.parts.ledgers) before
 
 pub returns-clause-played : goal.returns-clause-played
-returns-clause-played c =
-    IfOk-weaker c.told.result _ _ (λ told comments. (c.play.new.plan, c.in_ok-play.ensures, comments)) c.told.ensures.told
+returns-clause-played c = (c.play.new.plan, c.in_ok-left.ensures, c.in_ok-fewer.ensures.told)

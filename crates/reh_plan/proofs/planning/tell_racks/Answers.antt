@@ -5,7 +5,7 @@ use Rattle.reh_plan.specs.Racks.{fewer_among, racks_line}
 use Rattle.reh_plan.specs.Summaries.{holdings_of}
 use Rattle.reh_model.specs.Cluster.{Cluster}
 use Rattle.reh_plan.specs.declared.fewer.FewerRacks.{FewerRacks}
-use Rattle.reh_plan.proofs.planning.told.Goals as goal
+use Rattle.reh_plan.proofs.planning.tell_racks.Goals as goal
 
 pub summary_of-requires-clause-held : goal.summary_of-requires-clause-held
 summary_of-requires-clause-held c =
