@@ -72,8 +72,8 @@ struct Told {
 /// in vain: the next command uses the first three, and a fence uses the grace (`needed`). No ledger was fenced and stays in
 /// recovery (`harmless`). At the end of the script a comment tells of each fragment of which a write set may come to stand in
 /// fewer racks than before, and than are asked for (`racks` and `told`); `only`, `left`, `ends` and `needed` speak of the
-/// lines before these. The summary tells for each bookie how many places it takes and how many entries it holds more in the end, how many
-/// ledgers are left, how many entries can't be read, and whether the script says that it is full (`sum`).
+/// lines before these. The summary tells for each bookie how many places it takes and how many entries it holds more in the
+/// end, how many ledgers are left, how many entries can't be read, and whether the script says that it is full (`sum`).
 pub fn plan(
     alloc: Global,
     state: State,
