@@ -1,7 +1,6 @@
 -- The plan that the command line asks for, and what is printed of it.
-use Rattle.std.specs.Prelude.{◌≡◌, ℕ, ◌==◌, ◌++◌, ◌&&◌, Bool, true, false, List, [], ◌∷◌, Some, Ok, codes, IfSome, if◌then◌else◌, length, map, nat_lt, slice_get, take}
+use Rattle.std.specs.Prelude.{◌≡◌, ℕ, ◌&&◌, Bool, true, false, List, [], ◌∷◌, Some, Ok, IfSome, if◌then◌else◌, length, map, nat_lt, slice_get, take}
 use Rattle.std.specs.Borrow.{Bor}
-use Rattle.std.specs.Fmt.{decimal}
 use Rattle.std.specs.Option.{option_map_or}
 use Rattle.reh_types.specs.declared.limits.TheConstants.{MAX_BOOKIES}
 use Rattle.reh_types.specs.Sets as set

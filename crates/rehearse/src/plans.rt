@@ -1,5 +1,5 @@
 // What is to be done without some bookies, planned from the file of a picture.
-ghost use Rattle.std.specs.Prelude.{◌≡◌, ◌++◌, ◌&&◌, ℕ, nat_lt, false, slice_get, length, if◌then◌else◌, IfOk};
+ghost use Rattle.std.specs.Prelude.{◌≡◌, ◌&&◌, ℕ, nat_lt, false, slice_get, IfOk};
 ghost use Rattle.std.specs.Option.{option_map_or};
 ghost use Rattle.reh_types.specs.declared.limits.TheConstants.{MAX_BOOKIES};
 ghost use Rattle.reh_types.specs.Sets as set;
