@@ -40,7 +40,7 @@ left_json left =
 abbrev pub ledgers_json : List Left → Json
 ledgers_json left = list_json (map left_json left)
 
--- Where fewer racks hold copies
+-- Where fewer racks may hold copies
 
 abbrev pub fragment_json : FewerRacks → Json
 fragment_json fewer =
@@ -54,8 +54,8 @@ fewer_json fewer = list_json (map fragment_json fewer)
 
 -- All of it
 
--- what bookies are given, how many ledgers are left, which and why, how many entries can't be read, where fewer racks hold
--- copies, and whether the script is full
+-- what bookies are given, how many ledgers are left, which and why, how many entries can't be read, where fewer racks
+-- may hold copies, and whether the script is full
 abbrev pub plan_value : Planned → Json
 plan_value p =
     object (

@@ -181,12 +181,12 @@ pub record OnlyLeft (rules : Rules) (names : List (List ℕ)) (s : Cluster) (lin
 abbrev pub comment_of : Left → List ℕ
 comment_of left = left_line left.ledger (reason_text left.reason)
 
--- something is left for one of these ledgers, and for that reason
+-- it is one of these ledgers, with which something is left for that reason
 abbrev pub IsLeftFor : Rules → Bool → Cluster → List Ledger → Left → Type 0
 IsLeftFor rules full s ledgers left =
     Any (λ g. (left.ledger ≡ g.id) × IsTrue (is_left s g) × IsReason rules full s g left.reason) ledgers
 
--- those of these ledgers with which something is left, in their order
+-- the ids of those of these ledgers with which something is left, in their order
 abbrev pub left_ids : Cluster → List Ledger → List ℕ
 left_ids s ledgers = map (λ g. g.id) (filter (is_left s) ledgers)
 
@@ -213,8 +213,8 @@ pub record IsThrough (rules : Rules) (d : Draft) : Type 0 where
   pub done : IsDone rules d.state
   pub needed : IsTrue (are_used d.events)
 
--- the plan goes on from d to n by comments alone: that its script is full, where it has no room, else nothing is left that
--- could be done; and on what is left
+-- the plan goes on from d to n by comments alone. One may say that its script is full, only if it has no room; without it
+-- nothing is left that could be done, and no command is in vain. Then comes one on each ledger that is left
 pub record Tells (rules : Rules) (d : Draft) (left : List Left) (n : Draft) : Type 0 where
   pub full : Bool
   pub cut_off : IsTrue full → HasNoRoom d.lines

@@ -101,7 +101,7 @@ reason_text (Roll refusal) = codes "roll refused " ++ refusal_text refusal
 reason_text (Seal refusal) = codes "seal refused " ++ refusal_text refusal
 reason_text NoRoom = codes "no room in the script"
 
--- the same without places and numbers
+-- the same without the place and the refusal
 abbrev pub kind_of : Reason → List ℕ
 kind_of (NoWorker f) = codes "no worker"
 kind_of (Place f i VersionEnd) = codes "swap refused"
@@ -109,3 +109,9 @@ kind_of (Place f i other) = codes "copy refused"
 kind_of (Roll refusal) = codes "roll refused"
 kind_of (Seal refusal) = codes "seal refused"
 kind_of NoRoom = codes "no room in the script"
+
+-- all of these
+abbrev pub kinds : List (List ℕ)
+kinds =
+    codes "copy refused" ∷ codes "swap refused" ∷ codes "seal refused" ∷ codes "roll refused" ∷ codes "no worker"
+    ∷ codes "no room in the script" ∷ []

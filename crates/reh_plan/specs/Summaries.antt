@@ -11,7 +11,7 @@ use Rattle.reh_model.specs.Survey.{survey}
 use Rattle.reh_commands.specs.Texts.{name_of, spaced}
 use Rattle.reh_plan.specs.Ends.{says_full}
 use Rattle.reh_plan.specs.Plans.{Draft, is_left}
-use Rattle.reh_plan.specs.Reasons.{kind_of}
+use Rattle.reh_plan.specs.Reasons.{kind_of, kinds}
 use Rattle.reh_plan.specs.declared.planning.Planned.{Planned}
 use Rattle.reh_plan.specs.declared.reasons.Left.{Left}
 use Rattle.reh_plan.specs.declared.summaries.Share.{Share}
@@ -71,20 +71,17 @@ share_text names share =
 abbrev pub is_kind : List ℕ → Left → Bool
 is_kind kind left = bytes_eq (kind_of left.reason) kind
 
--- how many of these ledgers are, if some are
+-- the line that says how many of these ledgers are, if some are
 abbrev pub kind_text : List Left → List ℕ → List ℕ
 kind_text left kind =
     if count_by (is_kind kind) left == 0 then []
     else (codes "left: " ++ (kind ++ (codes " " ++ (decimal (count_by (is_kind kind) left) ++ codes "\n"))))
 
--- the same of each kind
+-- these lines of all kinds
 abbrev pub kinds_text : List Left → List ℕ
-kinds_text left =
-    flat_map (kind_text left)
-    (codes "copy refused" ∷ codes "swap refused" ∷ codes "seal refused" ∷ codes "roll refused" ∷ codes "no worker"
-    ∷ codes "no room in the script" ∷ [])
+kinds_text left = flat_map (kind_text left) kinds
 
--- how many ledgers are left, and for each kind of reason
+-- how many ledgers are left, and how many of them for each kind of reason
 abbrev pub left_text : ℕ → List Left → List ℕ
 left_text count left = (codes "ledgers left " ++ (decimal count ++ codes "\n")) ++ kinds_text left
 
@@ -96,7 +93,7 @@ full_text is_full = if is_full then codes "the script is full: plan again after 
 abbrev pub fewer_text : ℕ → List ℕ
 fewer_text fewer = if fewer == 0 then [] else (codes "fragments in fewer racks " ++ (decimal fewer ++ codes "\n"))
 
--- how many entries are lost, and the two before
+-- how many entries are lost; then that the script is full, if it is, and how many fragments are in fewer racks, if some are
 abbrev pub rest_text : Summary → ℕ → List ℕ
 rest_text summary fewer =
     codes "entries lost " ++ (decimal summary.unreadable ++ (codes "\n" ++ (full_text summary.is_full ++ fewer_text fewer)))

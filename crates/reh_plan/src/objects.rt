@@ -156,7 +156,7 @@ fn add_all(json: &mut Writer<Global>, alloc: Global, planned: &Planned) -> Resul
     json.end_object()
 }
 
-/// A plan and what it comes to as JSON: one object, on one line.
+/// What a plan comes to as JSON: one object, on one line.
 pub fn plan_json(alloc: Global, planned: &Planned) -> Result<String, AllocError>
     ensures text { IfOk result (λ text. string_bytes text ≡ model.json_of planned.now) }
     ensures reads_back { IfOk result (λ text. IsLineOf (model.plan_value planned.now) (string_bytes text)) }

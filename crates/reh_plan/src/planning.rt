@@ -66,10 +66,11 @@ struct Told {
 /// takes a place is registered, too (`filled`). In the end the lost bookies aren't registered, and all others are as they
 /// were (`lost`). Each ledger that has a task then, or a member that isn't registered, is named in a comment (`named`), and
 /// no other is, and for a reason that is so in the end; a comment says that the script is full only where it is (`only`).
-/// These ledgers and reasons are told beside the script, too (`left`).
-/// Where none does, no place is left in the end that could be filled, no ledger that could be recovered, or given a bookie
-/// that may work by its writer, no lock, and no task where nothing is missing (`ends`), and no lock, fence, copy or grace is
-/// in vain: the next command uses the first three, and a fence uses the grace (`needed`). No ledger was fenced and stays in
+/// [`Planned::left`] lists exactly these ledgers, in picture order, each with the reason that its comment gives, and these
+/// comments are the last lines before those on racks (`left`). Where no comment says that the script is full, no place is
+/// left in the end that could be filled, no ledger that could be recovered, or given a bookie that may work by its writer,
+/// no lock, and no task where nothing is missing (`ends`), and no lock, fence, copy or grace is in vain: the next command
+/// uses the first three, and a fence uses the grace (`needed`). No ledger was fenced and stays in
 /// recovery (`harmless`). At the end of the script a comment tells of each fragment of which a write set may come to stand in
 /// fewer racks than before, and than are asked for (`racks` and `told`); `only`, `left`, `ends` and `needed` speak of the
 /// lines before these. The summary tells for each bookie how many places it takes and how many entries it holds more in the
@@ -187,7 +188,7 @@ fn tell_racks(
     Ok((fewer, summary))
 }
 
-/// Loses these bookies, plays AutoRecovery to its end, and names what is left. Returns that.
+/// Loses these bookies, plays AutoRecovery to its end, and names what is left. Returns the ledgers that are left, and why.
 fn play(
     alloc: Global,
     plan: &mut Plan,
@@ -207,7 +208,8 @@ fn play(
     Ok(left)
 }
 
-/// Plays AutoRecovery to its end by the bookies that may work, and names what is left. Returns that.
+/// Plays AutoRecovery to its end by the bookies that may work, and names what is left. Returns the ledgers that are left, and
+/// why.
 fn repair_all(
     alloc: Global,
     plan: &mut Plan,
@@ -229,7 +231,7 @@ fn repair_all(
 }
 
 /// Says that the script is full, if something is left that could be done, and names each ledger with which something is left.
-/// Returns these.
+/// Returns these ledgers, and why.
 fn tell_all(alloc: Global, plan: &mut Plan, workers: &Workers) -> Result<Vec<Left>, PlanFault>
     ensures { IfOk result (λ left. Tells workers.now plan.old left.items plan.new) }
 {

@@ -1,5 +1,6 @@
 // Why something is left for a ledger in the end.
-ghost use Rattle.std.specs.Prelude.{◌≡◌, ◌++◌, ◌∷◌, [], ℕ, All, Bool, true, false, IfErr, IfOk, OnOk, IfSome, IsFalse, IsTrue, None, Some, is_none, is_some, length, map, slice_get};
+ghost use Rattle.std.specs.Prelude.{◌≡◌, ◌++◌, ◌∷◌, [], ℕ, All, Bool, true, false, IfErr, IfOk, OnOk, IfSome, IsFalse, IsTrue, None, Some, bytes_eq, is_none, is_some, length, map, slice_get};
+ghost use Rattle.std.specs.List.{list_any};
 ghost use Rattle.reh_model.specs.Metadata.{stop_of, stripe_of};
 ghost use Rattle.reh_plan.specs.Plans.{IsLeftFor, left_ids};
 ghost use Rattle.reh_plan.specs.Workers.{Rules};
@@ -46,9 +47,10 @@ pub enum Reason {
 }
 
 impl Reason {
-    /// Its text without places and numbers.
+    /// Its text without the place and the refusal, as `copy refused`: one of six (`kinds`).
     pub fn kind(&self) -> &'static str
-        ensures { result.now ≡ model.kind_of self.now }
+        ensures kind { result.now ≡ model.kind_of self.now }
+        ensures among { list_any (bytes_eq result.now) model.kinds ≡ true }
     {
         match self {
             Reason::NoWorker { .. } => "no worker",
@@ -108,7 +110,7 @@ pub struct Left {
     pub reason: Reason,
 }
 
-/// The ledgers with which something is left to do, in picture order, and why, where the script is full or has room.
+/// The ledgers with which something is left to do, in picture order, and why. `full` says whether the script is full.
 pub(crate) fn left_in(
     alloc: Global,
     state: &State,
@@ -140,8 +142,8 @@ fn push_left(left: &mut Vec<Left>, ledger: LedgerId, reason: Reason) -> Result<(
     Ok(())
 }
 
-/// Why something is left for the ledger in the end, where the script is full or has room. What another bookie wouldn't mend
-/// comes before a worker that is missing. In a full script there is always a reason.
+/// Why something is left for the ledger in the end. `full` says whether the script is full: then there is always a reason.
+/// What another bookie wouldn't mend comes before a worker that is missing.
 fn reason_for(
     state: &State,
     workers: &Workers,

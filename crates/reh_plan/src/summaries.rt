@@ -55,8 +55,9 @@ impl Summary {
     }
 }
 
-/// What a plan comes to: a line of each bookie that is given something, how many ledgers are left, and for each kind of reason,
-/// how many entries can't be read, that the script is full, if it is, and how many fragments are in fewer racks, if some are.
+/// What a plan comes to: a line of each bookie that is given something, how many ledgers are left, a line for each kind of
+/// reason that some have, how many entries can't be read, that the script is full, if it is, and how many fragments are in
+/// fewer racks, if some are.
 pub fn plan_summary(alloc: Global, planned: &Planned) -> Result<String, AllocError>
     ensures { IfOk result (λ text. string_bytes text ≡ model.plan_text planned.now) }
 {
@@ -72,7 +73,7 @@ pub fn plan_summary(alloc: Global, planned: &Planned) -> Result<String, AllocErr
     Ok(text)
 }
 
-/// Adds how many ledgers are left, and for each kind of reason.
+/// Adds how many ledgers are left, and a line for each kind of reason that some have.
 fn push_left(
     text: &mut String,
     alloc: Global,
@@ -87,7 +88,7 @@ fn push_left(
     Ok(())
 }
 
-/// How many of these ledgers are left for each kind of reason, a line each.
+/// A line for each kind of reason that some of these ledgers are left for, with how many they are.
 fn kinds_text(alloc: Global, left: &[Left]) -> Result<String, AllocError>
     ensures { IfOk result (λ text. string_bytes text ≡ model.kinds_text left.now) }
 {

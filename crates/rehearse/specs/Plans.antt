@@ -54,7 +54,8 @@ pub record IsAsked (bytes : List ℕ) (names : List (List ℕ)) (words : PlanWor
   pub writers : asked.writers_roll ≡ words.writers_roll
 
 -- a plan for a cluster, without the lost bookies, by those that may work and aren't read-only; where writers change their
--- ensembles themselves, by them too, and without a fence
+-- ensembles themselves, by them too, and without a fence; with the ledgers that are left and why, the fragments in fewer
+-- racks, and what it comes to
 pub record IsPlan (state : Cluster) (asked : Asked) (p : Planned) : Type 0 where
   pub opening : p.plan.opening ≡ state
   pub accepted : replay state p.plan.events ≡ Some p.plan.state

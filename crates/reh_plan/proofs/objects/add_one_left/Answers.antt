@@ -12,7 +12,7 @@ returns c =
     let text = c.as_str.ensures.value ∙ c.in_ok-text.ensures.ok in
     in_place c.end_object.result c.args.json.now c.end_object.new.self _ _
     (λ i. begin_object ∷ (member_tokens (codes "ledger") (number_json c.args.left.now.ledger)
-    ++ (member_tokens (codes "reason") (string (c.kind.ensures i)) ++ (member_tokens (codes "text") (string (text i)) ++ end_object ∷ []))))
+    ++ (member_tokens (codes "reason") (string (c.kind.ensures.kind i)) ++ (member_tokens (codes "text") (string (text i)) ++ end_object ∷ []))))
     (then c.end_object.result c.args.json.now c.begin_object.new.self c.end_object.new.self _ _ (one c.args.json.now c.begin_object.new.self _ c.in_ok-begin_object.ensures.ok c.in_ok-begin_object.ensures.room.0)
     (then c.end_object.result c.begin_object.new.self c.add_ledger.new.json c.end_object.new.self _ _ c.in_ok-add_ledger.ensures
     (then c.end_object.result c.add_ledger.new.json c.add_text.new.json c.end_object.new.self _ _ c.in_ok-add_text.ensures
