@@ -1,7 +1,9 @@
 -- What all of a plan's steps come to.
 use Rattle.std.proofs.Common.{◌≡◌, ◌∙◌, ◌⊎◌, inl, All, Bool, List, [], ◌++◌, ℕ, length, map, true, false, None, is_some, sym, ap, refl, subst, true≢false}
 use Rattle.std.proofs.lemmas.List.Elements.{All-push, All-weaker}
-use Rattle.std.proofs.lemmas.List.Sums.{AllPass-from_list_all}
+use Rattle.std.specs.List.{filter}
+use Rattle.std.proofs.lemmas.List.{length-map}
+use Rattle.std.proofs.lemmas.List.Sums.{AllPass-from_list_all, length-filter}
 use Rattle.reh_types.specs.declared.moves.Event.{Event}
 use Rattle.reh_types.specs.Sets as set
 use Rattle.reh_types.specs.Sets.{Set, numbers}
@@ -9,8 +11,9 @@ use Rattle.reh_model.specs.Cluster.{Cluster}
 use Rattle.reh_commands.specs.Answers.{asked}
 use Rattle.reh_plan.specs.Ends.{Ends, IsDone, IsFull, IsHarmless, full_line, says_full}
 use Rattle.reh_plan.specs.Needed.{AreNeeded, are_used}
-use Rattle.reh_plan.specs.Plans.{AllLeft, AllNamed, AreLeft, Draft, GoesOnBy, IsWithout, IsLeftFor, IsLeftLine, IsNaming, IsPlayed, IsRepaired, Loses, OnlyLeft, Tells, comment_of, is_all_asked, left_ids, losses_of, with_full}
+use Rattle.reh_plan.specs.Plans.{AllLeft, AllNamed, AreLeft, Draft, GoesOnBy, IsWithout, IsLeftFor, IsLeftLine, IsNaming, IsPlayed, IsRepaired, Loses, OnlyLeft, Tells, comment_of, is_all_asked, is_left, left_ids, losses_of, with_full}
 use Rattle.reh_plan.specs.Racks.{lines_before, racks_line}
+use Rattle.reh_plan.specs.Summaries.{left_of}
 use Rattle.reh_plan.specs.Workers.{Rules}
 use Rattle.reh_plan.specs.declared.fewer.FewerRacks.{FewerRacks}
 use Rattle.reh_plan.proofs.FewerLaws.{before-told}
@@ -28,7 +31,7 @@ pub record IsPlanned (s : Cluster) (lost : Set numbers) (rules : Rules) (ledgers
   pub order : GoesOnBy rules (losses_of s (set.contains lost) (length s.names)) n.events
   pub named : AllNamed n.state n.lines n.state.parts.ledgers
   pub only : OnlyLeft rules s.names n.state n.lines
-  pub left : AreLeft rules n.state n.lines ledgers
+  pub left : AreLeft rules s.names n.state n.lines ledgers
   pub ends : Ends rules n.state n.lines
   pub needed : AreNeeded n.lines n.events
 
@@ -49,21 +52,18 @@ full_events false d = refl
 pub tells_opening : (rules : Rules) (d : Draft) (left : List Left) (n : Draft) → Tells rules d left n → n.opening ≡ d.opening
 tells_opening rules d left n tells = ap (λ (x : Draft). x.opening) tells.naming.told ∙ full_opening tells.full d
 
--- a plan without a comment, and one of which the last line may say that its script is full
-only_commands : (rules : Rules) (full : Bool) (d : Draft) → is_all_asked d ≡ true → AllLeft rules full d.opening.names d.state d.lines
-only_commands rules full d all =
-    All-weaker (λ line. is_some (asked d.opening.names line) ≡ true)
-    (λ line. asked d.opening.names line ≡ None → (line ≡ full_line) ⊎ IsLeftLine rules full d.state d.state.parts.ledgers line)
+-- of a plan of commands alone no line is without an answer, but the last one that may say that its script is full
+all_commands : (d : Draft) → is_all_asked d ≡ true → All (λ line. asked d.opening.names line ≡ None → line ≡ full_line) d.lines
+all_commands d all =
+    All-weaker (λ line. is_some (asked d.opening.names line) ≡ true) (λ line. asked d.opening.names line ≡ None → line ≡ full_line)
     (λ line some none. absurd (true≢false (sym some ∙ ap is_some none)))
     d.lines (AllPass-from_list_all (λ line. is_some (asked d.opening.names line)) d.lines all)
 
-only_full : (rules : Rules) (full last : Bool) (d : Draft) → is_all_asked d ≡ true
-    → AllLeft rules full (with_full last d).opening.names (with_full last d).state (with_full last d).lines
-only_full rules full true d all =
-    All-push
-    (λ line. asked d.opening.names line ≡ None → (line ≡ full_line) ⊎ IsLeftLine rules full d.state d.state.parts.ledgers line)
-    d.lines full_line (only_commands rules full d all) (λ _. inl refl)
-only_full rules full false d all = only_commands rules full d all
+only_full : (full : Bool) (d : Draft) → is_all_asked d ≡ true
+    → All (λ line. asked d.opening.names line ≡ None → line ≡ full_line) (with_full full d).lines
+only_full true d all =
+    All-push (λ line. asked d.opening.names line ≡ None → line ≡ full_line) d.lines full_line (all_commands d all) (λ _. refl)
+only_full false d all = all_commands d all
 
 -- bookies are lost, work is done, and what is left is named
 planned : (s : Cluster) (lost : Set numbers) (rules : Rules) (l : Draft) (left : List Left) (n : Draft) → Loses (empty_draft s) (set.contains lost) (losses_of s (set.contains lost) (length s.names)) l
@@ -85,10 +85,13 @@ planned s lost rules l left n first done =
     naming.of ∙ ap (λ (t : Cluster). left_ids t t.parts.ledgers) same in
     let why : All (IsLeftFor rules full n.state n.state.parts.ledgers) left =
     subst (λ (t : Cluster). All (IsLeftFor rules full t t.parts.ledgers) left) same naming.why in
+    let others : All (λ line. asked s.names line ≡ None → line ≡ full_line) before.lines =
+    subst (λ (o : Cluster). All (λ line. asked o.names line ≡ None → line ≡ full_line) before.lines)
+    (done.works.opening ∙ first.opening) (only_full full w all) in
     let first_lines : AllLeft rules full s.names n.state before.lines =
-    subst (λ (t : Cluster). AllLeft rules full s.names t before.lines) same
-    (subst (λ (o : Cluster). AllLeft rules full o.names before.state before.lines)
-    (full_opening full w ∙ done.works.opening ∙ first.opening) (only_full rules full full w all)) in
+    All-weaker (λ line. asked s.names line ≡ None → line ≡ full_line)
+    (λ line. asked s.names line ≡ None → (line ≡ full_line) ⊎ IsLeftLine rules full n.state n.state.parts.ledgers line)
+    (λ line is none. inl (is none)) before.lines others in
     record {
       opening = opening;
       without =
@@ -116,6 +119,7 @@ planned s lost rules l left n first done =
       left = record {
         before = before.lines;
         told = lines;
+        others = others;
         of = of;
         why = subst (λ (x : Bool). All (IsLeftFor rules x n.state n.state.parts.ledgers) left) (sym said) why;
       };
@@ -140,7 +144,7 @@ pub record IsTold (s : Cluster) (lost : Set numbers) (rules : Rules) (ledgers : 
   pub named : AllNamed n.state n.lines n.state.parts.ledgers
   pub told : n.lines ≡ lines_before fewer n.lines ++ map racks_line fewer
   pub only : OnlyLeft rules s.names n.state (lines_before fewer n.lines)
-  pub left : AreLeft rules n.state (lines_before fewer n.lines) ledgers
+  pub left : AreLeft rules s.names n.state (lines_before fewer n.lines) ledgers
   pub ends : Ends rules n.state (lines_before fewer n.lines)
   pub harmless : IsHarmless s n.state
   pub needed : AreNeeded (lines_before fewer n.lines) n.events
@@ -157,8 +161,16 @@ told-alone s lost rules d p n left fewer begun played told =
       named = named_on p.state p.lines (map racks_line fewer) p.state.parts.ledgers done.named;
       told = ap (λ (lines : List (List ℕ)). lines ++ map racks_line fewer) (sym before);
       only = subst (OnlyLeft rules s.names p.state) (sym before) done.only;
-      left = subst (λ (ls : List (List ℕ)). AreLeft rules p.state ls left) (sym before) done.left;
+      left = subst (λ (ls : List (List ℕ)). AreLeft rules s.names p.state ls left) (sym before) done.left;
       ends = subst (Ends rules p.state) (sym before) done.ends;
       harmless = subst (λ (x : Draft). IsHarmless x.state p.state) begun played.harmless;
       needed = subst (λ (lines : List (List ℕ)). AreNeeded lines p.events) (sym before) done.needed;
     }
+
+-- so many ledgers are left as the list has
+pub left-counted : (s : Cluster) (left : List Left) → map (λ l. l.ledger) left ≡ left_ids s s.parts.ledgers → left_of s ≡ length left
+left-counted s left of =
+    sym (length-filter (is_left s) s.parts.ledgers)
+    ∙ sym (length-map (filter (is_left s) s.parts.ledgers) (λ g. g.id))
+    ∙ ap length (sym of)
+    ∙ length-map left (λ l. l.ledger)

@@ -190,10 +190,12 @@ IsLeftFor rules full s ledgers left =
 abbrev pub left_ids : Cluster → List Ledger → List ℕ
 left_ids s ledgers = map (λ g. g.id) (filter (is_left s) ledgers)
 
--- these are the ledgers with which something is left in s, in picture order, and why; and the last lines say so
-pub record AreLeft (rules : Rules) (s : Cluster) (lines : List (List ℕ)) (left : List Left) : Type 0 where
+-- these are the ledgers with which something is left in s, in picture order, and why; the last lines say so, and those before
+-- are commands, and the comment that the script is full
+pub record AreLeft (rules : Rules) (names : List (List ℕ)) (s : Cluster) (lines : List (List ℕ)) (left : List Left) : Type 0 where
   pub before : List (List ℕ)
   pub told : lines ≡ before ++ map comment_of left
+  pub others : All (λ line. asked names line ≡ None → line ≡ full_line) before
   pub of : map (λ l. l.ledger) left ≡ left_ids s s.parts.ledgers
   pub why : All (IsLeftFor rules (says_full lines) s s.parts.ledgers) left
 

@@ -10,7 +10,8 @@ use reh_meta::LedgerMeta;
 use reh_types::LedgerId;
 use std::alloc::{AllocError, Global};
 
-/// A fragment of which a write set stands in so few racks: in fewer than are asked for, and maybe in fewer than before the plan.
+/// A fragment of which a write set stands in so few racks: in fewer than are asked for, and maybe in fewer than before the
+/// plan.
 #[derive(Clone, Copy)]
 pub struct FewerRacks {
     pub ledger: LedgerId,
@@ -29,8 +30,8 @@ pub(crate) fn metadata_of(alloc: Global, state: &State) -> Result<Vec<LedgerMeta
     Ok(all)
 }
 
-/// The fragments of which a write set may stand in fewer racks than before, and stands in fewer than are asked for: by ledger, in
-/// picture order.
+/// The fragments of which a write set may stand in fewer racks than before, and stands in fewer than are asked for: by ledger,
+/// in picture order.
 pub(crate) fn fewer_racks(
     alloc: Global,
     racks: &Racks,

@@ -66,15 +66,16 @@ struct Told {
 /// takes a place is registered, too (`filled`). In the end the lost bookies aren't registered, and all others are as they
 /// were (`lost`). Each ledger that has a task then, or a member that isn't registered, is named in a comment (`named`), and
 /// no other is, and for a reason that is so in the end; a comment says that the script is full only where it is (`only`).
-/// [`Planned::left`] lists exactly these ledgers, in picture order, each with the reason that its comment gives, and these
-/// comments are the last lines before those on racks (`left`). Where no comment says that the script is full, no place is
-/// left in the end that could be filled, no ledger that could be recovered, or given a bookie that may work by its writer,
-/// no lock, and no task where nothing is missing (`ends`), and no lock, fence, copy or grace is in vain: the next command
-/// uses the first three, and a fence uses the grace (`needed`). No ledger was fenced and stays in
-/// recovery (`harmless`). At the end of the script a comment tells of each fragment of which a write set may come to stand in
-/// fewer racks than before, and than are asked for (`racks` and `told`); `only`, `left`, `ends` and `needed` speak of the
-/// lines before these. The summary tells for each bookie how many places it takes and how many entries it holds more in the
-/// end, how many ledgers are left, how many entries can't be read, and whether the script says that it is full (`sum`).
+/// [`Planned::left`] lists exactly these ledgers, in picture order, each with the reason that its comment gives; there is one
+/// comment for each, and these are the last lines before those on racks (`left`). The summary has their number (`counted`).
+/// Where no comment says that the script is full, no place is left in the end that could be filled, no ledger that could be
+/// recovered, or given a bookie that may work by its writer, no lock, and no task where nothing is missing (`ends`), and no
+/// lock, fence, copy or grace is in vain: the next command uses the first three, and a fence uses the grace (`needed`). No
+/// ledger was fenced and stays in recovery (`harmless`). At the end of the script a comment tells of each fragment of which a
+/// write set may come to stand in fewer racks than before, and than are asked for (`racks` and `told`); `only`, `left`, `ends`
+/// and `needed` speak of the lines before these. The summary tells for each bookie how many places it takes and how many
+/// entries it holds more in the end, how many ledgers are left, how many entries can't be read, and whether the script says
+/// that it is full (`sum`).
 pub fn plan(
     alloc: Global,
     state: State,
@@ -102,8 +103,9 @@ pub fn plan(
     ensures only { IfOk result (λ p.
         OnlyLeft (rules_by allowed.now read_only.now writers_roll) state.names p.plan.state
         (model.lines_before p.fewer.items p.plan.lines)) }
-    ensures left { IfOk result (λ p. AreLeft (rules_by allowed.now read_only.now writers_roll) p.plan.state
+    ensures left { IfOk result (λ p. AreLeft (rules_by allowed.now read_only.now writers_roll) state.names p.plan.state
         (model.lines_before p.fewer.items p.plan.lines) p.left.items) }
+    ensures counted { IfOk result (λ p. p.summary.left ≡ length p.left.items) }
     ensures ends { IfOk result (λ p. Ends (rules_by allowed.now read_only.now writers_roll) p.plan.state
         (model.lines_before p.fewer.items p.plan.lines)) }
     ensures harmless { IfOk result (λ p. IsHarmless state p.plan.state) }

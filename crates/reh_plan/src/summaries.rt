@@ -35,7 +35,7 @@ pub struct Summary {
     pub left: usize,
     /// How many entries can't be read in the end, of all fragments whose entries are known.
     pub unreadable: u64,
-    /// Whether the script is full, and something is left that could be done.
+    /// Whether the script says that it is full.
     pub is_full: bool,
 }
 

@@ -62,7 +62,7 @@ pub record IsPlan (state : Cluster) (asked : Asked) (p : Planned) : Type 0 where
   pub without : IsWithout state (set.contains asked.lost) p.plan.state
   pub order : GoesOnBy (rules_by asked.allowed asked.read_only asked.writers_roll)
       (losses_of state (set.contains asked.lost) (length state.names)) p.plan.events
-  pub left : AreLeft (rules_by asked.allowed asked.read_only asked.writers_roll) p.plan.state
+  pub left : AreLeft (rules_by asked.allowed asked.read_only asked.writers_roll) state.names p.plan.state
       (lines_before p.fewer.items p.plan.lines) p.left.items
   pub racks : p.fewer.items ≡ fewer_racks asked.racks state p.plan.state
   pub sum : IsSum p.plan p.summary

@@ -12,7 +12,7 @@ use Rattle.reh_plan.specs.declared.fewer.FewerRacks.{FewerRacks}
 use Rattle.reh_plan.specs.declared.reasons.Left.{Left}
 use Rattle.reh_plan.specs.Workers.{Rules, rules_by}
 use Rattle.reh_plan.proofs.FilledLaws.{filled_by}
-use Rattle.reh_plan.proofs.PlannedLaws.{IsTold, told-alone}
+use Rattle.reh_plan.proofs.PlannedLaws.{IsTold, left-counted, told-alone}
 use Rattle.reh_plan.proofs.planning.plan.Goals as goal
 
 pub returns : goal.returns
@@ -47,6 +47,7 @@ returns c =
       told = told.told;
       only = told.only;
       left = told.left;
+      counted = c.in_ok-told.ensures.sum.left ∙ left-counted n.state left told.left.of;
       ends = told.ends;
       harmless = told.harmless;
       needed = told.needed;
