@@ -69,17 +69,21 @@ may_come rules s g i b =
 abbrev pub unrolled_refusal : Rules → Cluster → Ledger → ℕ → ℕ → Option Refusal
 unrolled_refusal rules s g i b = if has_writer rules g && may_come rules s g i b then roll_refusal s g i b else None
 
--- none of these is so: only room can be missing
-pub record LacksRoom (rules : Rules) (s : Cluster) (g : Ledger) : Type 0 where
-  pub workers : (f : ℕ) → LacksWorkerAt rules s g f → ⊥
+-- nothing is refused of the ledger that a further bookie wouldn't mend
+pub record IsUnrefused (rules : Rules) (s : Cluster) (g : Ledger) : Type 0 where
   pub places : (f i : ℕ) → unfilled_refusal s g f i ≡ None
   pub seal : unsealed_refusal rules s g ≡ None
   pub roll : (i b : ℕ) → unrolled_refusal rules s g i b ≡ None
 
--- that is why something is left for the ledger in s, the last state: that there is no room, only where the script says that
--- it is full and nothing else is so
+-- nor does a fragment lack a bookie: only room can be missing
+pub record LacksRoom (rules : Rules) (s : Cluster) (g : Ledger) : Type 0 where
+  pub workers : (f : ℕ) → LacksWorkerAt rules s g f → ⊥
+  pub unrefused : IsUnrefused rules s g
+
+-- that is why something is left for the ledger in s, the last state: that a bookie is missing, only where nothing is refused;
+-- and that there is no room, only where the script says that it is full and nothing else is so
 abbrev pub IsReason : Rules → Bool → Cluster → Ledger → Reason → Type 0
-IsReason rules full s g (NoWorker f) = LacksWorkerAt rules s g f
+IsReason rules full s g (NoWorker f) = LacksWorkerAt rules s g f × IsUnrefused rules s g
 IsReason rules full s g (Place f i refusal) = unfilled_refusal s g f i ≡ Some refusal
 IsReason rules full s g (Roll refusal) = (i : ℕ) × (b : ℕ) × (unrolled_refusal rules s g i b ≡ Some refusal)
 IsReason rules full s g (Seal refusal) = unsealed_refusal rules s g ≡ Some refusal

@@ -24,7 +24,7 @@ use std::fmt;
 /// Why something is left to do for a ledger.
 #[derive(Clone, Copy)]
 pub enum Reason {
-    /// No bookie that may take places is registered and outside of the ensemble of this fragment.
+    /// No bookie that may take places is registered and outside of the ensemble of this fragment, and nothing is refused.
     NoWorker {
         fragment: u64,
     },
@@ -159,8 +159,8 @@ fn reason_for(
     if let Some(reason) = unsettled(state, workers, ledger) {
         return Ok(reason);
     }
-    if let Some(reason) = without_worker(state, workers, ledger) {
-        return Ok(reason);
+    if let Some(fragment) = without_worker(state, workers, ledger) {
+        return Ok(Reason::NoWorker { fragment });
     }
     if full {
         Ok(Reason::NoRoom)
@@ -189,16 +189,14 @@ fn is_unsettled(state: &State, ledger: &Ledger) -> bool
     (is_open(ledger) || is_recovering(ledger)) && is_under(state, last_fragment(ledger))
 }
 
-/// That no bookie can take a missing member's place in some fragment, if it is so.
-fn without_worker(state: &State, workers: &Workers, ledger: &Ledger) -> Option<Reason>
-    ensures some { (full : Bool) → IfSome result (model.IsReason workers.now full state.now ledger.now) }
+/// A fragment in which no bookie can take a missing member's place, if there is one.
+fn without_worker(state: &State, workers: &Workers, ledger: &Ledger) -> Option<u64>
+    ensures some { IfSome result (model.LacksWorkerAt workers.now state.now ledger.now) }
     ensures none { result ≡ None → (f : ℕ) → model.LacksWorkerAt workers.now state.now ledger.now f → ⊥ }
 {
     for number in 0..ledger.metadata().fragments().len() {
         if lacks_worker(state, workers, ledger, number) {
-            return Some(Reason::NoWorker {
-                fragment: number as u64,
-            });
+            return Some(number as u64);
         }
     }
     None

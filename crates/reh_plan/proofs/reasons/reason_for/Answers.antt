@@ -8,7 +8,17 @@ pub returns-in-Some-unsettled : goal.returns-in-Some-unsettled
 returns-in-Some-unsettled c = record { reason = c.in-Some-unsettled.ensures.some c.args.full; room = tt }
 
 pub returns-in-Some-without_worker : goal.returns-in-Some-without_worker
-returns-in-Some-without_worker c = record { reason = c.in-Some-without_worker.ensures.some c.args.full; room = tt }
+returns-in-Some-without_worker c = record {
+  reason = (
+    c.in-Some-without_worker.ensures.some,
+    record {
+      places = c.unfilled.ensures.none c.in_default.is;
+      seal = c.unsettled.ensures.seal c.in_default-unsettled.is;
+      roll = c.unsettled.ensures.roll c.in_default-unsettled.is;
+    },
+  );
+  room = tt;
+}
 
 pub returns-then-full : goal.returns-then-full
 returns-then-full c = record {
@@ -16,9 +26,11 @@ returns-then-full c = record {
     c.if-full.true,
     record {
       workers = c.without_worker.ensures.none c.in_default-without_worker.is;
-      places = c.unfilled.ensures.none c.in_default.is;
-      seal = c.unsettled.ensures.seal c.in_default-unsettled.is;
-      roll = c.unsettled.ensures.roll c.in_default-unsettled.is;
+      unrefused = record {
+        places = c.unfilled.ensures.none c.in_default.is;
+        seal = c.unsettled.ensures.seal c.in_default-unsettled.is;
+        roll = c.unsettled.ensures.roll c.in_default-unsettled.is;
+      };
     },
   );
   room = tt;
