@@ -10,7 +10,7 @@ use Rattle.reh_fields.specs.declared.faults.PictureFault.{PictureFault}
 use Rattle.reh_fields.specs.declared.faults.PictureFault.TheVariants as picture_fault
 use Rattle.reh_picture.specs.declared.listings.Listed.{Listed}
 use Rattle.reh_picture.specs.declared.places.LocatedFault.{LocatedFault}
-use Rattle.reh_picture.specs.Listings.{Lists}
+use Rattle.reh_picture.specs.Listings.{Lists, located_listing}
 use Rattle.reh_picture.specs.Pictures.{picture_of}
 use Rattle.reh_picture_out.specs.Kept.{kept_of}
 use Rattle.reh_picture_out.specs.Marks.{KeepsMarksIn}
@@ -67,12 +67,13 @@ pub record IsBegun (picture : List ℕ) (begun : Begun) : Type 0 where
   pub opened : IsOpened picture begun.names begun.session
   pub lists : Lists picture begun.marked
 
--- From what was begun the script leads to a state, by commands that are all accepted, and the text is that state's picture, with the
--- marks that still hold.
+-- From what was begun the script leads to a state, by commands that are all accepted, and the text is that state's picture,
+-- which questions accept, with the marks that still hold.
 pub record IsEnd (begun : Begun) (script text : List ℕ) : Type 0 where
   pub session : Session
   pub played : after_lines begun.names begun.session (lines_of script) ≡ Some session
   pub shown : picture_of text ≡ Ok (kept_of (state_of session))
+  pub listed : located_listing text ≡ None
   pub marks : KeepsMarksIn (state_of session) begun.marked text
 
 -- the text is the picture of the state to which the script leads from the picture

@@ -168,10 +168,11 @@ others_silent b ledger e p bookie here (h ∷ hs) apart =
     sym (λ i. flipped (one i) h.bookie i && flipped (two i) h.ledger i) ∙ apart.0 in
     (λ i. (away i && list_any (λ ends. is_within e (range_of ends)) h.ranges) || others_silent b ledger e p bookie here hs apart.1 i)
 
--- all contents of the ledger tell what they list
+-- by all contents of the ledger their bookies hold what they list
 abbrev pub AreTold : Reading → ℕ → List Holding → Type 0
 AreTold reading ledger holdings =
-    AllByRecursion (λ h. (h.ledger == ledger) ≡ true → told_by reading h ≡ Holds (map range_of h.ranges)) holdings
+    AllByRecursion (λ h. (h.ledger == ledger) ≡ true → (e : ℕ)
+    → census.is_held e (told_by reading h) ≡ census.is_held e (Holds (map range_of h.ranges))) holdings
 
 module _ (numbers : List ℕ) (reading : Reading) (ledger c b e : ℕ)
     (numbered : (m : ℕ) → (number_in numbers m == c) ≡ (m == b)) (rest : Told)
@@ -195,7 +196,7 @@ module _ (numbers : List ℕ) (reading : Reading) (ledger c b e : ℕ)
             → census.is_held e (if u then told_by reading h else told_in others rest c)
             ≡ (((u && true) && ours) || list_any (says b ledger e) hs)) [
               | true ↦ λ bookie.
-                  ap (census.is_held e) (told.0 here)
+                  told.0 here e
                   ∙ list_any-map (is_within e) range_of h.ranges
                   ∙ sym (or_false ours)
                   ∙ ap (λ t. ours || t) (sym (others_silent b ledger e (pair h) bookie here hs distinct.0))

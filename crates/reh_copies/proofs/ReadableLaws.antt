@@ -68,9 +68,19 @@ closed_reading Open closed = cc
 closed_reading InRecovery closed = cc
 closed_reading (Closed end) closed = refl
 
+-- what is assumed too, as an empty list holds nothing either way
+told_all : (e : ℕ) (assumed : Bool) (ranges : List (ℕ × ℕ))
+    → census.is_held e (told_as readings.All assumed ranges) ≡ census.is_held e (Holds (map range_of ranges))
+told_all e true [] = refl
+told_all e true (r ∷ rs) = refl
+told_all e false ranges = refl
+
 all_told : (reading : Reading) → reading ≡ readings.All → (ledger : ℕ) (holdings : List Holding) → AreTold reading ledger holdings
 all_told reading is ledger [] = tt
-all_told reading is ledger (h ∷ hs) = (λ _. ap (λ r. told_by r h) is, all_told reading is ledger hs)
+all_told reading is ledger (h ∷ hs) = (
+  λ _ e. ap (λ r. census.is_held e (told_by r h)) is ∙ told_all e h.is_assumed h.ranges,
+  all_told reading is ledger hs,
+)
 
 pub IsTold-closed : (l : Listed) (g : Ledger) → is_closed g.metadata.state ≡ true → IsTold readings.All l g
 IsTold-closed l g closed = record {
@@ -84,9 +94,9 @@ IsTold-closed l g closed = record {
 told_sure : (state : LedgerState) (strict : Bool) (h : Holding) → h.is_assumed ≡ false
     → told_by (reading_in state (reading_of strict)) h ≡ Holds (map range_of h.ranges)
 told_sure state strict h sure =
-    ap (λ b. told_as (reading_in state (reading_of strict)) b (map range_of h.ranges)) sure ∙ by state strict where
+    ap (λ b. told_as (reading_in state (reading_of strict)) b h.ranges) sure ∙ by state strict where
       by : (state : LedgerState) (strict : Bool)
-          → told_as (reading_in state (reading_of strict)) false (map range_of h.ranges) ≡ Holds (map range_of h.ranges)
+          → told_as (reading_in state (reading_of strict)) false h.ranges ≡ Holds (map range_of h.ranges)
       by Open true = refl
       by Open false = refl
       by InRecovery true = refl
@@ -99,8 +109,9 @@ sure_told : (state : LedgerState) (strict : Bool) (ledger : ℕ) (holdings : Lis
     → AreTold (reading_in state (reading_of strict)) ledger holdings
 sure_told state strict ledger [] sure = tt
 sure_told state strict ledger (h ∷ hs) sure = (
-  λ here. let same : h.ledger ≡ ledger = grind (arith, nat_tests, here) in
-      told_sure state strict h (All-head (λ (h : Holding). h.ledger ≡ ledger → h.is_assumed ≡ false) h hs sure same),
+  λ here e. let same : h.ledger ≡ ledger = grind (arith, nat_tests, here) in
+      ap (census.is_held e)
+      (told_sure state strict h (All-head (λ (h : Holding). h.ledger ≡ ledger → h.is_assumed ≡ false) h hs sure same)),
   sure_told state strict ledger hs (All-tail (λ (h : Holding). h.ledger ≡ ledger → h.is_assumed ≡ false) h hs sure),
 )
 

@@ -1,5 +1,5 @@
 -- What a picture shows of one bookie and one entry, by the line of the entry's ledger in an inventory.
-use Rattle.std.specs.Prelude.{ℕ, Bool, true, false, not, ◌&&◌, nat_lt, Option, None, Some, if◌then◌else◌}
+use Rattle.std.specs.Prelude.{ℕ, Bool, true, false, not, ◌&&◌, ◌==◌, length, nat_lt, Option, None, Some, if◌then◌else◌}
 use Rattle.std.specs.List.{list_any}
 use Rattle.std.specs.Option.{is_some, option_map_or, option_or}
 use Rattle.reh_census.specs.Ledgers.{is_within}
@@ -52,17 +52,22 @@ is_listed content entry = option_map_or (λ c. has_entry entry c.entries) conten
 
 -- What the picture shows
 
--- what stands for what nobody says, if anything does
-abbrev pub stands_for : Assume → Option Bool
-stands_for assume.Nothing = None
-stands_for assume.Held = Some true
-stands_for assume.Empty = Some false
+-- whether the line says that nothing is told of the bookie, as of a replica that a task names missing
+abbrev pub is_doubted : Option Content → Bool
+is_doubted content = option_map_or (λ c. option_map_or (λ ranges. length ranges == 0) c.told false) content false
+
+-- what stands for what nobody says of the bookie, if anything does: where it is doubted, never that it holds an entry
+abbrev pub stands_for : Assume → Option Content → Option Bool
+stands_for assume.Nothing content = None
+stands_for assume.Held content = Some (not (is_doubted content))
+stands_for assume.Empty content = Some false
 
 -- whether the bookie holds the entry: of one that is written to it, what the line says, or what stands for that; another
 -- entry it holds where its content lists it
 abbrev pub shown : Rules → Striping → Option Content → ℕ → Option Bool
 shown rules s content entry =
-    if is_written s entry then option_or (said_of rules.assumes_striped false s content entry) (stands_for rules.assume)
+    if is_written s entry then option_or (said_of rules.assumes_striped false s content entry)
+        (stands_for rules.assume content)
     else Some (is_listed content entry)
 
 -- whether that rests on no assumption

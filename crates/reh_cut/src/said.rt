@@ -16,7 +16,7 @@ use reh_types::MAX_ENSEMBLE_SIZE;
 pub enum Assume {
     /// Nothing: a ledger with such an entry has no picture.
     Nothing,
-    /// That the bookie holds it.
+    /// That the bookie holds it, unless the line says that nothing is told of the bookie.
     Held,
     /// That the bookie doesn't hold it.
     Empty,
@@ -152,13 +152,23 @@ fn has_entry(content: &Content, entry: u64) -> bool
     }
 }
 
-/// What stands for what nobody says, if anything does.
-fn stands_for(assume: Assume) -> Option<bool>
-    ensures { result ≡ model.stands_for assume }
+/// Whether the line says that nothing is told of the bookie, as of a replica that a task names missing.
+fn is_doubted(content: Option<&Content>) -> bool
+    ensures { result ≡ model.is_doubted (option_copied content.entry) }
+{
+    match content {
+        Some(Content { told: Some(ranges), .. }) => ranges.as_slice().is_empty(),
+        _ => false,
+    }
+}
+
+/// What stands for what nobody says of the bookie, if anything does.
+fn stands_for(assume: Assume, content: Option<&Content>) -> Option<bool>
+    ensures { result ≡ model.stands_for assume (option_copied content.entry) }
 {
     match assume {
         Assume::Nothing => None,
-        Assume::Held => Some(true),
+        Assume::Held => Some(!is_doubted(content)),
         Assume::Empty => Some(false),
     }
 }
@@ -187,7 +197,7 @@ pub(crate) fn shown(
     );
     match said {
         Some(holds) => Some(holds),
-        None => stands_for(rules.assume),
+        None => stands_for(rules.assume, content),
     }
 }
 

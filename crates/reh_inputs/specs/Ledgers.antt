@@ -1,5 +1,5 @@
 -- The ledgers of a picture, as a census counts them.
-use Rattle.std.specs.Prelude.{ℕ, ◌+◌, max, Bool, ◌==◌, List, [], map, length, fold, if◌then◌else◌}
+use Rattle.std.specs.Prelude.{ℕ, ◌+◌, max, Bool, false, ◌&&◌, ◌==◌, List, [], map, length, fold, if◌then◌else◌}
 use Rattle.std.specs.Prelude.{slice_get, slice_index_or, unwrap_or}
 use Rattle.std.specs.List.{filter}
 use Rattle.std.specs.Option.{option_map_or}
@@ -28,15 +28,27 @@ number_in numbers b = slice_index_or numbers b 65535
 abbrev pub range_of : ℕ × ℕ → Range
 range_of ends = record { first = ends.0; last = ends.1 }
 
--- what a holding tells: what is assumed may count as told, as untold, or alone
-abbrev pub told_as : Reading → Bool → List Range → ToldOf
-told_as All assumed ranges = Holds ranges
-told_as Told assumed ranges = if assumed then Untold else Holds ranges
-told_as Assumed assumed ranges = if assumed then Holds ranges else Holds []
-told_as Nothing assumed ranges = Holds []
+-- whether a holding tells nothing, since it is assumed. Where an empty list is, nobody said that the bookie holds nothing, and
+-- entries that count as lost already would make a yes easier
+abbrev pub is_unsaid : Reading → Bool → List (ℕ × ℕ) → Bool
+is_unsaid All assumed ranges = assumed && (length ranges == 0)
+is_unsaid Told assumed ranges = assumed
+is_unsaid Assumed assumed ranges = false
+is_unsaid Nothing assumed ranges = false
+
+-- what another holding tells: what is assumed may count as told, or alone
+abbrev pub said_as : Reading → Bool → List Range → ToldOf
+said_as All assumed ranges = Holds ranges
+said_as Told assumed ranges = Holds ranges
+said_as Assumed assumed ranges = if assumed then Holds ranges else Holds []
+said_as Nothing assumed ranges = Holds []
+
+abbrev pub told_as : Reading → Bool → List (ℕ × ℕ) → ToldOf
+told_as reading assumed ranges =
+    if is_unsaid reading assumed ranges then Untold else said_as reading assumed (map range_of ranges)
 
 abbrev pub told_by : Reading → Holding → ToldOf
-told_by reading holding = told_as reading holding.is_assumed (map range_of holding.ranges)
+told_by reading holding = told_as reading holding.is_assumed holding.ranges
 
 -- of a bookie without a content nobody told
 abbrev pub rest_of : Reading → ToldOf

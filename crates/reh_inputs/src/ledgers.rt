@@ -77,7 +77,7 @@ fn ranges_of(alloc: Global, ranges: &[(u32, u32)]) -> Result<Ranges, AllocError>
 /// What counts as told of what a bookie holds.
 #[derive(Clone, Copy)]
 pub enum Reading {
-    /// What is told, and what is assumed.
+    /// What is told, and what is assumed to be held. An assumed list that is empty tells nothing.
     All,
     /// What is told alone: a bookie of which something is assumed is untold.
     Told,
@@ -100,12 +100,25 @@ fn reading_in(state: State, reading: Reading) -> Reading
     }
 }
 
+/// Whether a holding tells nothing, since it is assumed: all of them, or an empty list alone.
+fn is_unsaid(reading: Reading, holding: &Holding) -> bool
+    ensures { result ≡ model.is_unsaid reading holding.now.is_assumed holding.now.ranges }
+{
+    match reading {
+        Reading::All => holding.is_assumed() && holding.ranges().is_empty(),
+        Reading::Told => holding.is_assumed(),
+        Reading::Assumed | Reading::Nothing => false,
+    }
+}
+
 /// What a holding tells.
 fn told_by(alloc: Global, reading: Reading, holding: &Holding) -> Result<Told, AllocError>
     ensures { IfOk result (λ told. told ≡ model.told_by reading holding.now) }
 {
+    if is_unsaid(reading, holding) {
+        return Ok(Told::Untold);
+    }
     match (reading, holding.is_assumed()) {
-        (Reading::Told, true) => Ok(Told::Untold),
         (Reading::Assumed, false) | (Reading::Nothing, _) => {
             Ok(Told::Holds(Ranges::of(Vec::new(alloc))))
         }

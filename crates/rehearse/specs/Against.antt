@@ -1,5 +1,5 @@
 -- The ledgers that speak against a stop, of pictures and of inventories that are read once more.
-use Rattle.std.specs.Prelude.{ℕ, Bool, true, false, ◌&&◌, ◌==◌, List, [], ◌∷◌, ◌++◌, codes, map, option_map, string_bytes, zip, if◌then◌else◌}
+use Rattle.std.specs.Prelude.{ℕ, Bool, true, false, not, ◌&&◌, ◌==◌, List, [], ◌∷◌, ◌++◌, codes, length, map, is_none, option_map, string_bytes, zip, if◌then◌else◌}
 use Rattle.std.specs.Borrow.{Bor}
 use Rattle.std.specs.List.{flat_map, list_any}
 use Rattle.reh_against.specs.declared.stops.Stop.{Stop}
@@ -7,6 +7,7 @@ use Rattle.reh_against.specs.declared.worst.Worst.{Worst}
 use Rattle.reh_against.specs.Worst.{alone}
 use Rattle.reh_census.specs.declared.answers.Answer.{Answer}
 use Rattle.reh_census.specs.declared.answers.Answer.TheVariants.{Yes, No, Unknown, UnknownDisks, NotJudged}
+use Rattle.reh_census.specs.declared.bookies.Bookie.{Bookie}
 use Rattle.reh_census.specs.Ledgers.{Ledger}
 use Rattle.reh_census.specs.declared.censuses.Judged.{Judged}
 use Rattle.reh_inventory_against.specs.declared.rereading.Rereading.{Rereading}
@@ -69,9 +70,18 @@ is_empty judged = (judged.ledgers == 0) && ((judged.unread == 0) && (judged.miss
 abbrev pub empty_text : List ℕ
 empty_text = codes "no ledger was judged: the answer is for a cluster without ledgers"
 
-abbrev pub notes_of : Judged → Bool → List (Bor (List ℕ)) → List FileKind → List (List ℕ)
-notes_of judged is_any files kinds =
-    (cut_notes files kinds ++ (if is_empty judged then empty_text ∷ [] else []))
+-- whether racks are named, and that of some registered bookie isn't known
+abbrev pub lacks_rack : List (Bor (List ℕ)) → List Bookie → Bool
+lacks_rack racks bookies = not (length racks == 0) && list_any (λ b. b.is_registered && is_none b.rack) bookies
+
+-- a note where it is so
+abbrev pub rack_text : List ℕ
+rack_text = codes "some registered bookies have no known rack: they don't count as in a rack that is named"
+
+abbrev pub notes_of : Judged → Bool → Bool → List (Bor (List ℕ)) → List FileKind → List (List ℕ)
+notes_of judged lacks_rack is_any files kinds =
+    ((cut_notes files kinds ++ (if is_empty judged then empty_text ∷ [] else []))
+    ++ (if lacks_rack then rack_text ∷ [] else []))
     ++ (if is_any && list_any is_stream kinds then stream_text ∷ [] else [])
 
 -- some lines of an inventory were read once more, and their ledgers weighed
@@ -93,4 +103,5 @@ pub record SaysOf (files : GatheredFiles) (paths : List (Bor (List ℕ))) (stric
   pub answered : IsAnsweredBy (files.gathered.ids.items ++ flat_map ids_in weighed)
       (map alone files.gathered.ledgers.items ++ flat_map ledgers_in weighed)
       (option_map string_bytes files.taken)
-      (notes_of files.gathered.census.judged (has_against verdict.facts.answer) paths files.kinds.items) files.gathered asked said
+      (notes_of files.gathered.census.judged (lacks_rack asked.racks.now files.gathered.bookies)
+      (has_against verdict.facts.answer) paths files.kinds.items) files.gathered asked said

@@ -13,7 +13,7 @@ use crate::files::open_file;
 use crate::inputs::{FileKind, too_many, unfit};
 use crate::inventories::{read_line, reader_of, uncounted};
 use reh_against::{Stop, Worst};
-use reh_census::{Answer, Judged, Ledger};
+use reh_census::{Answer, Bookie, Judged, Ledger};
 use reh_inputs::{ClusterNames, names_of};
 use reh_inventory_against::Rereading;
 use reh_tally::TallyFault;
@@ -23,6 +23,10 @@ use std::io::BufReader;
 
 /// The note that there is no ledger.
 const NO_LEDGER: &str = "no ledger was judged: the answer is for a cluster without ledgers";
+
+/// The note where racks are named.
+const NO_RACK: &str =
+    "some registered bookies have no known rack: they don't count as in a rack that is named";
 
 /// The note on inventories that can be read only once.
 const STREAM: &str =
@@ -90,19 +94,31 @@ fn is_empty(judged: Judged) -> bool
     judged.ledgers == 0 && judged.unread == 0 && judged.missing == 0
 }
 
-/// What else is to be noted of these files, whose ledgers were judged so, and of which some are read once more, if any is.
+/// Whether racks are named, and that of some registered bookie isn't known.
+pub(crate) fn lacks_rack(racks: &[&str], bookies: &[Bookie]) -> bool
+    ensures { result ≡ model.lacks_rack racks.now bookies.now }
+{
+    !racks.is_empty() && bookies.iter().any(|bookie| bookie.is_registered && bookie.rack.is_none())
+}
+
+/// What else is to be noted of these files, whose ledgers were judged so, where some bookie lacks a rack that matters, and
+/// of which some are read once more, if any is.
 pub(crate) fn notes_of(
     alloc: Global,
     judged: Judged,
+    lacks_rack: bool,
     is_any: bool,
     files: &[&str],
     kinds: &[FileKind],
 ) -> Result<Vec<String>, AllocError>
-    ensures { IfOk result (λ notes. map string_bytes notes.items ≡ model.notes_of judged is_any files.now kinds.now) }
+    ensures { IfOk result (λ notes. map string_bytes notes.items ≡ model.notes_of judged lacks_rack is_any files.now kinds.now) }
 {
     let mut notes = cut_notes(alloc, files, kinds)?;
     if is_empty(judged) {
         push_note(alloc, &mut notes, NO_LEDGER)?;
+    }
+    if lacks_rack {
+        push_note(alloc, &mut notes, NO_RACK)?;
     }
     if is_any && has_stream(kinds) {
         push_note(alloc, &mut notes, STREAM)?;

@@ -238,12 +238,12 @@ fn bookies_of(
 ) -> Result<BookieSet, RunFault>
     ensures { IfOk result (AreNamed names.now words.now) }
 {
-    let bookies = find_bookies(names, words).map_err(|again| named_twice(
-        alloc, words, again.word,
-    ))?;
-    match first_unknown(names, words) {
-        Some(number) => Err(unknown(alloc, picture, names, words, number)),
-        None => Ok(bookies),
+    if let Some(number) = first_unknown(names, words) {
+        return Err(unknown(alloc, picture, names, words, number));
+    }
+    match find_bookies(names, words) {
+        Ok(bookies) => Ok(bookies),
+        Err(again) => Err(named_twice(alloc, words, again.word)),
     }
 }
 

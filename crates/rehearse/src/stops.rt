@@ -6,7 +6,7 @@ ghost use Rattle.rehearse.specs.Endings.{EndsStop};
 ghost use Rattle.rehearse.specs.Inputs.{AreGathered, SaysStop};
 ghost use Rattle.rehearse.specs.Names.{TellsOf};
 
-use crate::against::{WeighedBy, has_against, notes_of, weigh, weigh_files};
+use crate::against::{WeighedBy, has_against, lacks_rack, notes_of, weigh, weigh_files};
 use crate::faults::RunFault;
 use crate::inputs::{GatheredFiles, gather_files};
 use crate::looks::{Looks, show_answer};
@@ -126,6 +126,7 @@ fn say_judged(
         ledgers,
         ..
     } = gathered;
+    let unracked = lacks_rack(asked.racks, bookies.as_slice());
     let about = stop_of(&cluster, &bookies, asked, verdict);
     let mut worst = weigh(alloc, &ids, ledgers, &about)?;
     let by = WeighedBy {
@@ -135,7 +136,7 @@ fn say_judged(
     };
     let is_any = has_against(verdict.answer());
     weigh_files(rt, &inputs.files, is_any, &kinds, &kept, &by, &mut worst)?;
-    let notes = notes_of(alloc, judged, is_any, &inputs.files, &kinds)?;
+    let notes = notes_of(alloc, judged, unracked, is_any, &inputs.files, &kinds)?;
     let time = time_of(&taken);
     let said = say_weighed(alloc, asked, verdict, &about, &worst, time, &notes)?;
     Ok(said)

@@ -16,6 +16,7 @@ returns-in-Ok c =
       session = session;
       played = c.in_ok-play_lines.ensures;
       shown = c.in-Ok.ensures.state ∙ ap (λ (s : Cluster). Ok (kept_of s)) state;
+      listed = c.in-Ok.ensures.listed;
       marks = subst (λ (s : Cluster). KeepsMarksIn s c.args.begun.now.marked (string_bytes c.in-Ok.text)) state
           c.in-Ok.ensures.marks;
     }
