@@ -39,7 +39,7 @@ pub(crate) fn has_substitute(state: &State, workers: &Workers, fragment: &Fragme
     false
 }
 
-/// Whether the bookie could.
+/// Whether the bookie is registered and no member of the fragment's ensemble.
 fn is_substitute(state: &State, fragment: &Fragment, bookie: BookieIx) -> bool
     ensures { result
         ≡ is_none (first_reason (target_down state.now bookie ∷ target_is_member fragment.now bookie ∷ [])) }

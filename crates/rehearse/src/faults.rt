@@ -26,7 +26,7 @@ pub enum RunFault {
     Unread(String),
     /// A read failed, or a file can't be opened, of a rehearsal, whose fault names neither file nor reason.
     ReadFault,
-    /// The script is longer than 1,048,576 bytes.
+    /// The script is longer than `MAX_SCRIPT_BYTES`.
     TooLong,
     /// A write failed, or took no byte.
     WriteFault,

@@ -1,6 +1,6 @@
 // Rehearses events on a picture of a cluster, from standard input or from files, by one operator or several; checks a
-// picture or a script; cuts a picture out of an inventory; plans what is to be done without some of a picture's bookies; or
-// prints help.
+// picture, an inventory or a script; judges which bookies may be stopped, in which rounds, and what the next loss costs;
+// counts a census; cuts a picture out of an inventory; plans what is to be done without some bookies; or prints help.
 #![tactic(auto)]
 
 ghost use Rattle.std.specs.Prelude.{◌≡◌, false, IfOk};

@@ -34,8 +34,8 @@ impl Progress {
     }
 }
 
-/// Says each second on standard error how far the work is, where that is a terminal and more than faults is said. A thread of its own does so. Where
-/// there is none, or no memory for it, nothing is said.
+/// Says each second on standard error how far the work is, where that is a terminal and more than faults is said. A thread of
+/// its own does so. Where there is none, or no memory for it, nothing is said.
 #[derive(Drop)]
 pub(crate) struct Teller {
     pub(crate) progress: Progress,
