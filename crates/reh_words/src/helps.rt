@@ -195,7 +195,7 @@ pub(crate) const PLAN: &str = after!(
         "plan --lose b2:3181 examples/cluster.json",
         "plan --lose b2:3181 --to b4:3181,b5:3181 examples/cluster.json"
     ],
-    zero: "nothing is left to do, and each entry can be read",
+    zero: "nothing is left to do, and each entry of a fragment whose entries are known can be read",
     words: "the words of the command line are wrong, or name a bookie or rack that is unknown, or one twice",
     read: "a file can't be read, or a script is longer than 1 MiB",
     write: "an answer can't be written",
