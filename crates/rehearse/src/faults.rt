@@ -13,7 +13,7 @@ use std::{fmt, io};
 
 /// Why a run ends early. Its text is what standard error shows.
 #[derive(Drop)]
-pub enum RunFault {
+pub(crate) enum RunFault {
     /// The picture is refused.
     Picture(PictureFault),
     /// The picture is refused, and where: the one that is checked or planned for, or the one of several in this file.
@@ -53,7 +53,7 @@ impl RunFault {
 }
 
 /// The exit status of a fault.
-pub fn status_of(fault: &RunFault) -> u8
+pub(crate) fn status_of(fault: &RunFault) -> u8
     ensures { result ≡ status_number fault.now }
 {
     match fault {

@@ -28,6 +28,7 @@ mod progress;
 mod prompts;
 mod runs;
 mod stops;
+mod tails;
 mod waves;
 
 use checks::{check_file, check_script};

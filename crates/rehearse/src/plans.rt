@@ -14,16 +14,21 @@ use crate::looks::Looks;
 use crate::mistaken::state_in;
 use crate::names::{named_twice, unknown};
 use crate::progress::{Progress, Teller};
+use crate::tails::{add_unclosed, untold_of};
 use reh_cluster::{Names, State};
 use reh_picture::{BookieMarks, list_picture};
 use reh_plan::{
     PlanFault, Planned, Racks, find_bookies, first_unknown, plan, plan_json, plan_summary, runbook,
 };
-use reh_types::{BookieIx, BookieSet, MAX_BOOKIES};
+use reh_types::{BookieIx, BookieSet, LedgerId, MAX_BOOKIES};
 use reh_words::PlanWords;
 use std::alloc::{AllocError, Global};
 use std::sync::Wait;
 use std::thread;
+
+/// What a note says of ledgers that a plan closes.
+const CLOSED_EMPTY: &str =
+    "closed with an empty last fragment, as no bookie left is told to hold an entry of it";
 
 /// Writes the plan to standard output, as a script or a runbook, or what it comes to, as text or JSON; and gives the status.
 pub(crate) fn plan_file<R: thread::Threads + Wait + Copy + Send + 'static>(
@@ -35,9 +40,11 @@ pub(crate) fn plan_file<R: thread::Threads + Wait + Copy + Send + 'static>(
     ensures { IfOk result (model.IsStatus words.now) }
 {
     let teller = Teller::begin(rt, threads, looks, files_of(words));
-    let planned = planned_by(rt, words, &teller.progress);
+    let mut open = Vec::new(rt.alloc());
+    let planned = planned_by(rt, words, &teller.progress, &mut open);
     teller.end(threads);
     let planned = planned?;
+    say_untold(rt, looks, &open, &planned)?;
     let status = write_plan(rt, words, &planned)?;
     Ok(status)
 }
@@ -47,16 +54,37 @@ fn files_of(words: &PlanWords<'_>) -> usize {
     if words.after.is_some() { 2 } else { 1 }
 }
 
-/// The plan that is asked for.
+/// The plan that is asked for; and to `open` it adds the ledgers that aren't closed before it.
 fn planned_by(
     rt: &HostRuntime,
     words: &PlanWords<'_>,
     progress: &Progress,
+    open: &mut Vec<LedgerId>,
 ) -> Result<Planned, RunFault>
     ensures { IfOk result (model.IsPlanned words.now) }
 {
     let bytes = picture_bytes(rt, words, progress)?;
-    plan_of(rt.alloc(), &bytes, words)
+    plan_of(rt.alloc(), &bytes, words, open)
+}
+
+/// Says on standard error how many of these ledgers a plan closes without an entry of their last fragment, unless faults alone
+/// are to be said.
+fn say_untold(
+    rt: &HostRuntime,
+    looks: Looks,
+    open: &[LedgerId],
+    planned: &Planned,
+) -> Result<(), RunFault> {
+    if looks.is_quiet {
+        return Ok(());
+    }
+    let untold = untold_of(rt.alloc(), planned.plan.state(), open)?;
+    if let Some(LedgerId(first)) = untold.first() {
+        let count = untold.len();
+        let what = CLOSED_EMPTY;
+        let _ = eprintln!(rt; "note: {what}: {count}, such as ledger {first}");
+    }
+    Ok(())
 }
 
 /// Writes a plan as it is asked for, and gives the status.
@@ -110,11 +138,17 @@ fn picture_bytes(
     }
 }
 
-/// The plan for the picture of these bytes.
-fn plan_of(alloc: Global, bytes: &[u8], words: &PlanWords<'_>) -> Result<Planned, RunFault>
+/// The plan for the picture of these bytes; and to `open` it adds the picture's ledgers that aren't closed.
+fn plan_of(
+    alloc: Global,
+    bytes: &[u8],
+    words: &PlanWords<'_>,
+    open: &mut Vec<LedgerId>,
+) -> Result<Planned, RunFault>
     ensures { IfOk result (model.IsPlanFor bytes.now words.now) }
 {
     let state = state_in(alloc, words.picture, bytes)?;
+    add_unclosed(open, &state)?;
     match asked_of(alloc, bytes, state.names(), words) {
         Ok(asked) => plan_by(alloc, state, &asked),
         Err(fault) => Err(fault),
