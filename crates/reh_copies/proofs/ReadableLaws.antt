@@ -17,7 +17,7 @@ use Rattle.reh_model.specs.Metadata.{Fragment, IsEnsemble, IsMetadata, writes}
 use Rattle.reh_model.specs.Cluster.{Cluster, Ledger, is_readable, is_source, is_up}
 use Rattle.reh_census.specs.Bookies.{bookies_of as census_bookies, is_holder}
 use Rattle.reh_census.specs.Ledgers as census
-use Rattle.reh_census.specs.declared.ledgers.Told.TheVariants.{Holds}
+use Rattle.reh_census.specs.declared.ledgers.Told.TheVariants.{Holds, Untold}
 use Rattle.reh_census.specs.Striping.{index_at, range, write_set}
 use Rattle.reh_census.proofs.CountLaws.{count-filter}
 use Rattle.reh_picture.specs.declared.listings.Listed.{Listed}
@@ -72,7 +72,9 @@ closed_reading (Closed end) closed = refl
 told_all : (e : ℕ) (assumed : Bool) (ranges : List (ℕ × ℕ))
     → census.is_held e (told_as readings.All assumed ranges) ≡ census.is_held e (Holds (map range_of ranges))
 told_all e true [] = refl
-told_all e true (r ∷ rs) = refl
+told_all e true (r ∷ rs) =
+    let some : (length (r ∷ rs) == 0) ≡ false = grind (arith, nat_tests) in
+    ap (λ (none : Bool). census.is_held e (if none then Untold else Holds (map range_of (r ∷ rs)))) some
 told_all e false ranges = refl
 
 all_told : (reading : Reading) → reading ≡ readings.All → (ledger : ℕ) (holdings : List Holding) → AreTold reading ledger holdings

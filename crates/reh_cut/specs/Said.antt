@@ -67,7 +67,7 @@ stands_for assume.Empty content = Some false
 abbrev pub shown : Rules → Striping → Option Content → ℕ → Option Bool
 shown rules s content entry =
     if is_written s entry then option_or (said_of rules.assumes_striped false s content entry)
-        (stands_for rules.assume content)
+    (stands_for rules.assume content)
     else Some (is_listed content entry)
 
 -- whether that rests on no assumption

@@ -157,7 +157,12 @@ fn is_doubted(content: Option<&Content>) -> bool
     ensures { result ≡ model.is_doubted (option_copied content.entry) }
 {
     match content {
-        Some(Content { told: Some(ranges), .. }) => ranges.as_slice().is_empty(),
+        Some(
+            Content {
+                told: Some(ranges),
+                ..
+            },
+        ) => ranges.as_slice().is_empty(),
         _ => false,
     }
 }

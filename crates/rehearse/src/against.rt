@@ -98,7 +98,10 @@ fn is_empty(judged: Judged) -> bool
 pub(crate) fn lacks_rack(racks: &[&str], bookies: &[Bookie]) -> bool
     ensures { result ≡ model.lacks_rack racks.now bookies.now }
 {
-    !racks.is_empty() && bookies.iter().any(|bookie| bookie.is_registered && bookie.rack.is_none())
+    !racks.is_empty()
+        && bookies
+            .iter()
+            .any(|bookie| bookie.is_registered && bookie.rack.is_none())
 }
 
 /// What else is to be noted of these files, whose ledgers were judged so, where some bookie lacks a rack that matters, and

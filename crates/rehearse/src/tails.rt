@@ -31,7 +31,11 @@ fn push_unclosed(open: &mut Vec<LedgerId>, ledger: &Ledger) -> Result<(), AllocE
 }
 
 /// Those of these ledgers that the state has closed without an entry of their last fragment.
-pub(crate) fn untold_of(alloc: Global, state: &State, open: &[LedgerId]) -> Result<Vec<LedgerId>, AllocError>
+pub(crate) fn untold_of(
+    alloc: Global,
+    state: &State,
+    open: &[LedgerId],
+) -> Result<Vec<LedgerId>, AllocError>
     ensures { IfOk result (λ untold. untold.items ≡ model.untold state.now open.now) }
 {
     let mut untold = Vec::new(alloc);
@@ -42,7 +46,11 @@ pub(crate) fn untold_of(alloc: Global, state: &State, open: &[LedgerId]) -> Resu
 }
 
 /// Adds a ledger, if it is one of those.
-fn push_untold(untold: &mut Vec<LedgerId>, state: &State, ledger: LedgerId) -> Result<(), AllocError>
+fn push_untold(
+    untold: &mut Vec<LedgerId>,
+    state: &State,
+    ledger: LedgerId,
+) -> Result<(), AllocError>
     ensures { OnOk result (untold.new.items ≡ untold.old.items ++ model.untold_one state.now ledger) }
 {
     if is_untold(state, ledger) {
