@@ -1,6 +1,6 @@
 -- What can be read of a picture, and what is known of its copies.
 use Rattle.std.proofs.Common.{◌≡◌, ℕ, ◌+◌, ◌<◌, ◌≤◌, Bool, true, false, ◌&&◌, List, [], ◌∷◌, map, length, Option, Some, is_none, refl, sym, ap, ◌∙◌, subst, arith, nat_lt, inl, inr}
-use Rattle.std.specs.Prelude.{count_by, Contains, ◌==◌, All, slice_get, slice_index}
+use Rattle.std.specs.Prelude.{count_by, Contains, ◌==◌, All, slice_get, slice_index, if◌then◌else◌}
 use Rattle.std.specs.List.{IsDistinct, filter, list_any, range_with_len}
 use Rattle.std.specs.Option.{option_map_or}
 use Rattle.std.specs.Str.{bytes_eq}
