@@ -1,4 +1,4 @@
--- Ledgers that a plan closes though no bookie that is left is told to hold an entry of their last fragment.
+-- Ledgers that a plan closes with an empty last fragment.
 use Rattle.std.specs.Prelude.{ℕ, Bool, nat_le, List, [], ◌∷◌, if◌then◌else◌}
 use Rattle.std.specs.List.{flat_map}
 use Rattle.std.specs.Option.{is_some, option_map_or}

@@ -28,7 +28,7 @@ use std::thread;
 
 /// What a note says of ledgers that a plan closes.
 const CLOSED_EMPTY: &str =
-    "closed with an empty last fragment, as no bookie left is told to hold an entry of it";
+    "closed with an empty last fragment, by what is told of the members that are left";
 
 /// Writes the plan to standard output, as a script or a runbook, or what it comes to, as text or JSON; and gives the status.
 pub(crate) fn plan_file<R: thread::Threads + Wait + Copy + Send + 'static>(

@@ -1,4 +1,4 @@
-// Ledgers that a plan closes though no bookie that is left is told to hold an entry of their last fragment.
+// Ledgers that a plan closes with an empty last fragment.
 ghost use Rattle.std.specs.Prelude.{◌≡◌, ◌++◌, false, IfOk, OnOk};
 ghost use Rattle.std.specs.Option.{option_map_or};
 ghost use Rattle.reh_model.specs.Cluster.{ledger_at};
