@@ -70,9 +70,13 @@ is_empty judged = (judged.ledgers == 0) && ((judged.unread == 0) && (judged.miss
 abbrev pub empty_text : List ℕ
 empty_text = codes "no ledger was judged: the answer is for a cluster without ledgers"
 
+-- whether a registered bookie's rack isn't known
+abbrev pub is_unracked : Bookie → Bool
+is_unracked b = b.is_registered && is_none b.rack
+
 -- whether racks are named, and that of some registered bookie isn't known
 abbrev pub lacks_rack : List (Bor (List ℕ)) → List Bookie → Bool
-lacks_rack racks bookies = not (length racks == 0) && list_any (λ b. b.is_registered && is_none b.rack) bookies
+lacks_rack racks bookies = not (length racks == 0) && list_any is_unracked bookies
 
 -- a note where it is so
 abbrev pub rack_text : List ℕ

@@ -94,14 +94,25 @@ fn is_empty(judged: Judged) -> bool
     judged.ledgers == 0 && judged.unread == 0 && judged.missing == 0
 }
 
+/// Whether a registered bookie's rack isn't known.
+fn is_unracked(bookie: Bookie) -> bool
+    ensures { result ≡ model.is_unracked bookie }
+{
+    bookie.is_registered && bookie.rack.is_none()
+}
+
+/// Whether that is so of one of these bookies.
+fn has_unracked(bookies: &[Bookie]) -> bool
+    ensures { result ≡ list_any model.is_unracked bookies.now }
+{
+    bookies.iter().any(|bookie| is_unracked(*bookie))
+}
+
 /// Whether racks are named, and that of some registered bookie isn't known.
 pub(crate) fn lacks_rack(racks: &[&str], bookies: &[Bookie]) -> bool
     ensures { result ≡ model.lacks_rack racks.now bookies.now }
 {
-    !racks.is_empty()
-        && bookies
-            .iter()
-            .any(|bookie| bookie.is_registered && bookie.rack.is_none())
+    !racks.is_empty() && has_unracked(bookies)
 }
 
 /// What else is to be noted of these files, whose ledgers were judged so, where some bookie lacks a rack that matters, and

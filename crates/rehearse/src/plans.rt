@@ -79,7 +79,8 @@ fn say_untold(
         return Ok(());
     }
     let untold = untold_of(rt.alloc(), planned.plan.state(), open)?;
-    if let Some(LedgerId(first)) = untold.first() {
+    if let Some(first) = untold.first() {
+        let first = first.0;
         let count = untold.len();
         let what = CLOSED_EMPTY;
         let _ = eprintln!(rt; "note: {what}: {count}, such as ledger {first}");
