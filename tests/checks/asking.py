@@ -59,6 +59,8 @@ class Question(NamedTuple):
     racks: Optional[int] = None
     is_for_good: bool = False
     is_strict: bool = False
+    # Whether bookies are named by their racks.
+    is_by_rack: bool = False
 
 
 class Entry(NamedTuple):
@@ -113,11 +115,12 @@ def stop_of(ledger: Ledger, number: int) -> int:
 
 
 def is_told(ledger: Ledger, name: str, question: Question) -> bool:
-    """Whether what the bookie holds counts as told: what is assumed does of a closed ledger, where nobody is strict."""
+    """Whether what the bookie holds counts as told: what is assumed does of a closed ledger, where nobody is strict, but not
+    that the bookie holds nothing."""
     content = ledger.contents.get(name)
     if content is None:
         return False
-    return not content.is_assumed or (ledger.state == "CLOSED" and not question.is_strict)
+    return not content.is_assumed or (ledger.state == "CLOSED" and not question.is_strict and bool(content.entries))
 
 
 def entry_of(cluster: Cluster, ledger: Ledger, members: FrozenSet[str], entry: int, question: Question) -> Entry:
@@ -376,7 +379,9 @@ def notes_of(cluster: Cluster, question: Question, counted: Counted, taken: Opti
             "make them read-only, take a new input, ask again"
         )
     empty = [] if cluster.ledgers else ["no ledger was judged: the answer is for a cluster without ledgers"]
-    return notes + unasked_notes(cluster, question) + empty
+    lacks_rack = question.is_by_rack and any(bookie.is_up and bookie.rack is None for bookie in cluster.bookies.values())
+    unracked = ["some registered bookies have no known rack: they don't count as in a rack that is named"] if lacks_rack else []
+    return notes + unasked_notes(cluster, question) + empty + unracked
 
 
 def unasked_notes(cluster: Cluster, question: Question) -> List[str]:
