@@ -12,6 +12,7 @@ use Rattle.reh_picture.specs.declared.listings.Listed.{Listed}
 use Rattle.reh_picture.specs.declared.places.LocatedFault.{LocatedFault}
 use Rattle.reh_picture.specs.Listings.{Lists, located_listing}
 use Rattle.reh_picture.specs.Pictures.{picture_of}
+use Rattle.reh_picture_out.specs.InPart.{AreKnown}
 use Rattle.reh_picture_out.specs.Kept.{kept_of}
 use Rattle.reh_picture_out.specs.Marks.{KeepsMarksIn}
 use Rattle.reh_lines.specs.Lines.{lines_of}
@@ -68,19 +69,20 @@ pub record IsBegun (picture : List ℕ) (begun : Begun) : Type 0 where
   pub lists : Lists picture begun.marked
 
 -- From what was begun the script leads to a state, by commands that are all accepted, and the text is that state's picture,
--- which questions accept, with the marks that still hold.
-pub record IsEnd (begun : Begun) (script text : List ℕ) : Type 0 where
+-- which questions accept, with the marks that still hold. It is known, if that is asked for, of each bookie what it holds.
+pub record IsEnd (begun : Begun) (script : List ℕ) (all_known : Bool) (text : List ℕ) : Type 0 where
   pub session : Session
   pub played : after_lines begun.names begun.session (lines_of script) ≡ Some session
   pub shown : picture_of text ≡ Ok (kept_of (state_of session))
   pub listed : located_listing text ≡ None
   pub marks : KeepsMarksIn (state_of session) begun.marked text
+  pub known : all_known ≡ true → AreKnown (state_of session) begun.marked
 
 -- the text is the picture of the state to which the script leads from the picture
-pub record IsAfter (picture script text : List ℕ) : Type 0 where
+pub record IsAfter (picture script : List ℕ) (all_known : Bool) (text : List ℕ) : Type 0 where
   pub begun : Begun
   pub is_begun : IsBegun picture begun
-  pub ends : IsEnd begun script text
+  pub ends : IsEnd begun script all_known text
 
 -- the fault of a picture that is refused
 abbrev pub refused_by : PictureFault → LocatedFault → AfterFault

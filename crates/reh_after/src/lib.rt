@@ -5,5 +5,5 @@ mod faults;
 mod pictures;
 mod plays;
 
-pub use faults::{AfterFault, Unaccepted};
+pub use faults::{AfterFault, Unaccepted, Untold};
 pub use pictures::picture_after;

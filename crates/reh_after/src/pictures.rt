@@ -1,12 +1,14 @@
 // The picture of the state to which a script leads.
-ghost use Rattle.std.specs.Prelude.{IfOk, string_bytes};
+ghost use Rattle.std.specs.Prelude.{◌≡◌, true, IfOk, OnOk, string_bytes};
+ghost use Rattle.reh_model.specs.Session.{state_of};
+ghost use Rattle.reh_picture_out.specs.InPart.{AreKnown};
 ghost use Rattle.reh_after.specs.After as model;
 
-use crate::faults::{AfterFault, unheld};
+use crate::faults::{AfterFault, Untold, unheld};
 use crate::plays::play_lines;
 use reh_cluster::Names;
 use reh_picture::{Listed, check_picture, list_picture};
-use reh_picture_out::picture_text;
+use reh_picture_out::{InPart, first_in_part, picture_text};
 use reh_session::Session;
 use reh_types::MAX_SCRIPT_BYTES;
 use std::alloc::Global;
@@ -15,27 +17,63 @@ use std::alloc::Global;
 /// are passed over; a checkout, a spend and a discard aren't accepted.
 ///
 /// The picture has the marks of the one that the script began with, as far as they still hold. It leaves out tasks, locks,
-/// the clock and the switch of AutoRecovery.
-pub fn picture_after(alloc: Global, picture: &[u8], script: &[u8]) -> Result<String, AfterFault>
-    ensures { IfOk result (λ text. model.IsAfter picture.now script.now (string_bytes text)) }
+/// the clock and the switch of AutoRecovery. A question needs to know all of what bookies hold that took copies: a bookie
+/// that may hold more than it took is a fault then, as no picture can say so.
+pub fn picture_after(
+    alloc: Global,
+    picture: &[u8],
+    script: &[u8],
+    all_known: bool,
+) -> Result<String, AfterFault>
+    ensures { IfOk result (λ text. model.IsAfter picture.now script.now all_known (string_bytes text)) }
 {
     if script.len() > MAX_SCRIPT_BYTES {
         return Err(AfterFault::TooLong);
     }
     let mut begun = begin(alloc, picture)?;
-    let text = end_of(alloc, &mut begun, script);
+    let text = end_of(alloc, &mut begun, script, all_known);
     begun.close();
     text
 }
 
 /// The picture of the state to which a script leads from what was begun.
-fn end_of(alloc: Global, begun: &mut Begun, script: &[u8]) -> Result<String, AfterFault>
-    ensures { IfOk result (λ text. model.IsEnd begun.old script.now (string_bytes text)) }
+fn end_of(
+    alloc: Global,
+    begun: &mut Begun,
+    script: &[u8],
+    all_known: bool,
+) -> Result<String, AfterFault>
+    ensures { IfOk result (λ text. model.IsEnd begun.old script.now all_known (string_bytes text)) }
 {
     play_lines(alloc, &begun.names, &mut begun.session, script)?;
+    check_known(alloc, begun, all_known)?;
     match picture_text(alloc, begun.session.state(), &begun.marked) {
         Ok(text) => Ok(text),
         Err(fault) => Err(unheld(fault)),
+    }
+}
+
+/// Whether it is known of each bookie what it holds, if that has to be: what was told when the script began, all that is
+/// striped onto it, or nothing.
+fn check_known(alloc: Global, begun: &Begun, all_known: bool) -> Result<(), AfterFault>
+    ensures { OnOk result (all_known ≡ true
+        → AreKnown (state_of begun.now.session) begun.now.marked) }
+{
+    if !all_known {
+        return Ok(());
+    }
+    match first_in_part(begun.session.state(), &begun.marked) {
+        None => Ok(()),
+        Some(found) => Err(untold(alloc, &begun.names, found)),
+    }
+}
+
+/// That a bookie isn't known to have all that is striped onto it, or that there is no memory.
+fn untold(alloc: Global, names: &Names, found: InPart) -> AfterFault {
+    let InPart { bookie, ledger } = found;
+    match String::from_str(alloc, names.name(bookie).unwrap_or("")) {
+        Ok(bookie) => AfterFault::Untold(Untold { bookie, ledger }),
+        Err(want) => AfterFault::from(want),
     }
 }
 

@@ -235,7 +235,7 @@ pub record StopsWriting (state : Cluster) (scripts : List (List ℕ)) (fault : D
   pub prints : HasToPrint state scripts text
   pub written : Writes (Err fault) text old new
 
--- there was no memory before the first operator began
+-- there was no memory, and nothing was written
 abbrev pub IsNotBegun : DrillFault → Option (List ℕ) → Option (List ℕ) → Type 0
 IsNotBegun fault old new = (fault ≡ NoMemory) × Keeps old new
 

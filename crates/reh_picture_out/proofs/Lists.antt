@@ -1,6 +1,7 @@
 -- Lists of values that grow by one, and lists that are read by their places.
-use Rattle.std.proofs.Common.{◌≡◌, ℕ, zero, suc, ◌+◌, ◌<◌, List, [], ◌∷◌, ◌++◌, map, length, take, get_or, refl, sym, ap, ◌∙◌, arith}
-use Rattle.std.proofs.lemmas.List.{map-append}
+use Rattle.std.proofs.Common.{◌≡◌, ℕ, zero, suc, ◌+◌, ◌<◌, List, [], ◌∷◌, ◌++◌, map, length, take, get_or, refl, sym, subst, ap, ◌∙◌, arith, All}
+use Rattle.std.proofs.lemmas.List.{map-append, take_more}
+use Rattle.std.proofs.lemmas.List.Elements.{All-append, All-cons, All-nil}
 use Rattle.std.specs.List.{range_with_len}
 use Rattle.serde_json.specs.Data.{Data}
 use Rattle.serde_json.specs.View.{view}
@@ -46,3 +47,10 @@ pub made_there : {A : Type 0} (f : A → Data) (xs : List A) (i : ℕ) (d : A) �
     → map view (vs ++ v ∷ []) ≡ map f (take (i + 1) xs)
 made_there f xs i d within vs v so_far made =
     made_more f xs i (get_or xs i d) within (read_same xs i d (get_or xs i d) within) vs v so_far made
+
+-- what holds of those that are passed and of the next one holds of one more
+pub all-more : {A : Type 0} (P : A → Type 0) (xs : List A) (i : ℕ) (x : A) → i < length xs → x ≡ get_or xs i x
+    → All P (take i xs) → P x → All P (take (i + 1) xs)
+all-more P xs i x within is so_far one =
+    subst (All P) (sym (take_more xs i x within ∙ (λ j. take i xs ++ sym is j ∷ [])))
+    (All-append P (take i xs) (x ∷ []) so_far (All-cons P x [] one (All-nil P)))

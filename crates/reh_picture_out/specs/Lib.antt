@@ -4,3 +4,4 @@ pub mod Written
 pub mod Ranges
 pub mod Holdings
 pub mod Unshown
+pub mod InPart

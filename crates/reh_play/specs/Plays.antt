@@ -82,8 +82,8 @@ pub record StopsBetween {S : Type 0} (place : Setting S) (lines : List (List ℕ
   pub ends : Ends place y z
   pub written : Appends old new text
 
--- A play broke off between two lines, and no read had failed: there was no memory for the hand or to read on, or what is
--- written could not be handed on.
+-- A play broke off between two lines, and no read had failed: there was no memory for the hand or to read on, or a write or
+-- a flush failed.
 abbrev pub BreaksOff : {S : Type 0} → Setting S → Bool → List (List ℕ) → Result (Unit {0}) PlayFault → Player S
     → Player S → Option (List ℕ) → Option (List ℕ) → Type 0
 BreaksOff {S} place failed lines result x z old new =
@@ -97,7 +97,7 @@ pub record Plays {S : Type 0} (place : Setting S) (result : Result (Unit {0}) Pl
   pub played : IsPlayed place (answered_lines failed text) (stop_of failed text) result x z old new
       ⊎ BreaksOff place failed (answered_lines failed text) result x z old new
 
--- When a reader was last read, the other end could see the answers to all lines that were complete by then. What the
+-- After the play the other end can see the answers to all lines that were complete when a reader was last read. What the
 -- reader was to give was left_old before the play and left_before before that read; old was written before the play, and
 -- shown can be seen after it. As each read may be the last one, an answer never waits for a read.
 pub record GoesOut {S : Type 0} (place : Setting S) (left_old left_before : Option (List ℕ)) (x : Player S)

@@ -91,8 +91,8 @@ pub record TranscribesBetween (names : List (List ℕ)) (seat : ℕ) (lines : Li
   pub taken : b ≡ end_of seat (after_lines names seat p done)
   pub written : Appends old new (transcript names seat p 1 done)
 
--- A play broke off between two lines, and no read had failed: there was no memory for the hand or to read on, or what is
--- written could not be handed on.
+-- A play broke off between two lines, and no read had failed: there was no memory for the hand or to read on, or a write or
+-- a flush failed.
 abbrev pub LeavesOff : List (List ℕ) → ℕ → Bool → List (List ℕ) → Result (Unit {0}) PlayFault → BookPlayer → Book
     → Option (List ℕ) → Option (List ℕ) → Type 0
 LeavesOff names seat failed lines result p b old new =

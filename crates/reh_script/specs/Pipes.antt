@@ -70,16 +70,16 @@ pub record Pipes (result : Result (Unit {0}) PipeFault) (failed : Bool)
   pub given : Gives left_old left_new failed input
   pub ends : IsPiped failed (rehearsal_of failed input) result old new
 
--- These lines of a rehearsal were answered, and the other end could see it. Where the picture was told and is refused
--- nothing more is read.
+-- These lines of a rehearsal were answered, and the other end can see it. Where the picture was told and is refused nothing
+-- more is read.
 abbrev pub IsOut : Result Rehearsal PipeFault → List (List ℕ) → Option (List ℕ) → Option (List ℕ) → Type 0
 IsOut (Ok r) lines old shown =
     Reaches old shown (transcript r.state.names 0 (starting (new_book (opened_session r.state))) 1 lines)
 IsOut (Err (Picture fault)) lines old shown = ⊥
 IsOut (Err (Play fault)) lines old shown = ⊤
 
--- When the reader was last read, the other end could see the answers to all lines of the script that were complete by
--- then. So an answer never waits for a read, nor does the refusal of a picture.
+-- After the play the other end can see the answers to all lines of the script that were complete when the reader was last
+-- read. So an answer never waits for a read, nor does the refusal of a picture.
 pub record AnswersGoOut (left_old left_before old shown : Option (List ℕ)) : Type 0 where
   pub earlier : List ℕ
   pub given : Consumes left_old left_before earlier

@@ -40,8 +40,8 @@ pub record RunsPrinting (prints : Printing Kept) (result : Result (Unit {0}) Pip
   pub opens : OpensText unread first_old first_new opened
   pub ends : IsRunPrinting prints untouched opened result failed left_old left_new old new
 
--- When the script's reader was last read, the picture had been given and accepted, and the other end could see what is
--- printed of all lines of the script that were complete by then.
+-- When the script's reader was last read, the picture had been given and accepted. After the run the other end can see what
+-- is printed of all lines of the script that were complete at that read.
 pub record PrintsInTime (prints : Printing Kept) (unread : Bool)
     (first_old first_new left_old left_before old shown : Option (List ℕ)) : Type 0 where
   pub rehearsal : Opened

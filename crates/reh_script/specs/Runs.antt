@@ -36,8 +36,8 @@ pub record Runs (result : Result (Unit {0}) PipeFault) (untouched : Type 0) (unr
   pub opens : OpensText unread first_old first_new opened
   pub ends : IsRun untouched opened result failed left_old left_new old new
 
--- When the script's reader was last read, the picture had been given and accepted, and the other end could see the
--- answers to all lines of the script that were complete by then.
+-- When the script's reader was last read, the picture had been given and accepted. After the run the other end can see the
+-- answers to all lines of the script that were complete at that read.
 pub record RunsOut (unread : Bool) (first_old first_new left_old left_before old shown : Option (List ℕ)) : Type 0 where
   pub picture : List ℕ
   pub given : Gives first_old first_new unread picture

@@ -1,5 +1,5 @@
 -- What is asked, by the arguments that are given.
-use Rattle.std.specs.Prelude.{◌≡◌, ◌⊎◌, ℕ, Bool, true, false, List, [], map, take, Option, None, Some, unwrap_or, codes}
+use Rattle.std.specs.Prelude.{◌≡◌, ◌⊎◌, ℕ, Bool, true, false, List, [], map, max, min, take, Option, None, Some, unwrap_or, codes}
 use Rattle.std.specs.Option.{option_map, option_map_or}
 use Rattle.std.specs.Str.{bytes_eq}
 use Rattle.std.specs.Str.Parse.{digits_value, without_leading_plus, ParsesUnsigned, ExplainsUnsignedError, HasUnsignedDigitsIfOk}
@@ -10,6 +10,7 @@ use Rattle.clap.specs.Words.{ReadsOne, first_value, found_of, matched_of, one_te
 use Rattle.clap.specs.declared.parser.matches.ArgMatches.{ArgMatches}
 use Rattle.clap.specs.declared.parser.matches.ArgMatches.TheViews.{out-ArgMatches}
 use Rattle.reh_census.specs.declared.questions.Keep.{Keep}
+use Rattle.reh_crew.specs.declared.threads.TheConstants.{MAX_WORKERS}
 use Rattle.reh_census.specs.declared.questions.Keep.TheVariants.{AckQuorum, Copies, AckLessOne}
 use Rattle.reh_census.specs.declared.questions.Question.{Question}
 use Rattle.reh_words.specs.declared.tasks.TheConstants.{MAX_FILES}
@@ -86,11 +87,19 @@ pub record IsQuestion (given : ArgMatches) (question : Question) : Type 0 where
 abbrev pub is_json : ArgMatches → Bool
 is_json given = option_map_or (bytes_eq (codes "json")) (word_of given (codes "format")) false
 
--- the files, of which the parser lets no more through, the script that is played first, and whether files are read strictly
+-- who reads files: one worker, unless a number from 1 to 8 says otherwise
+pub record IsReaders (given : ArgMatches) (crew : Crew) : Type 0 where
+  pub number : Option ℕ
+  pub is_number : IsNumber given (codes "workers") number
+  pub works : crew.workers ≡ min (max (unwrap_or number 1) 1) MAX_WORKERS
+
+-- the files, of which the parser lets no more through, the script that is played first, whether files are read strictly, and
+-- who reads them
 pub record IsInputs (given : ArgMatches) (inputs : Inputs) : Type 0 where
   pub files_are : map (λ file. file.now) inputs.files.items ≡ take MAX_FILES (words_of given (codes "FILE"))
   pub after_is : option_map (λ script. script.now) inputs.after ≡ word_of given (codes "after")
   pub is_strict : IsFlag given (codes "strict") inputs.strict
+  pub readers : IsReaders given inputs.crew
 
 -- what `ok-to-stop` is asked
 pub record IsStop (given : ArgMatches) (stop : StopWords) : Type 0 where

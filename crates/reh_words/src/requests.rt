@@ -22,7 +22,7 @@ pub struct Request<'a> {
 }
 
 /// What `--version` says; a picture has the number of its format in itself.
-const VERSION: &str = "1.0.0";
+const VERSION: &str = "1.1.0";
 
 const ABOUT: &str =
     "Rehearses Apache BookKeeper AutoRecovery on a picture of a cluster, and not on the cluster.";
@@ -122,7 +122,8 @@ fn all_ways(alloc: Global) -> Result<String, AllocError> {
 /// `talk PICTURE --changes --json`, `check --format json PICTURE SCRIPT`, `drill PICTURE SCRIPT..`,
 /// `ok-to-stop --lose BOOKIE,.. FILE..`, `waves FILE..`, `risk FILE..`, `census FILE..`,
 /// `cut --ledgers ID,.. --window K INVENTORY`,
-/// `plan --lose BOOKIE,.. --to BOOKIE,.. --min-racks R --expect --summary PICTURE`, or `help TOPIC`.
+/// `plan --lose BOOKIE,.. --to BOOKIE,.. --min-racks R --writers-roll --expect --summary --format json --after SCRIPT PICTURE`,
+/// or `help TOPIC`.
 fn command<'a>(alloc: Global, ways: &'a str) -> Result<Command<'a>, AllocError> {
     let commands = subcommands(alloc)?;
     let program = with_style(alloc, program(alloc, ways))?;

@@ -64,16 +64,17 @@ pub record IsOfInventory (file : FileInput) : Type 0 where
 abbrev pub IsOfFile : FileInput → Type 0
 IsOfFile file = IsOfBytes file ⊎ IsOfInventory file
 
--- from some picture some script leads to a state of which the text is the picture
-pub record IsAfterSome (text : List ℕ) : Type 0 where
+-- from some picture some script leads to a state of which the text is the picture; and of each bookie it is known what it
+-- holds there, if that has to be
+pub record IsAfterSome (all_known : Bool) (text : List ℕ) : Type 0 where
   pub picture : List ℕ
   pub script : List ℕ
-  pub is_after : IsAfter picture script text
+  pub is_after : IsAfter picture script all_known text
 
 -- a file shows what the picture of such a state shows
 pub record IsOfEnd (file : FileInput) : Type 0 where
   pub text : List ℕ
-  pub is_after : IsAfterSome text
+  pub is_after : IsAfterSome true text
   pub is_read : IsRead text file.input
 
 -- after a script each of the files does

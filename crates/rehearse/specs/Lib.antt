@@ -9,5 +9,5 @@ pub mod Inventories
 pub mod Mistaken
 pub mod Names
 pub mod Plans
-pub mod Tails
 pub mod Runs
+pub mod Tails

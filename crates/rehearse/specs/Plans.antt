@@ -92,7 +92,7 @@ PrintsPlan false false false p text = lines_of text ≡ p.plan.lines
 
 -- after a script the bytes are the picture of some state to which some script leads
 abbrev pub IsPictureFor : PlanWords → List ℕ → Type 0
-IsPictureFor words bytes = IfSome words.after (λ script. IsAfterSome bytes)
+IsPictureFor words bytes = IfSome words.after (λ script. IsAfterSome false bytes)
 
 -- a plan as these words ask, for some picture
 pub record IsPlanned (words : PlanWords) (p : Planned) : Type 0 where

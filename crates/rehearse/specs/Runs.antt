@@ -27,7 +27,7 @@ RunsBy Changes result untouched unread first_old first_new failed left_old left_
 RunsBy Json result untouched unread first_old first_new failed left_old left_new old new =
     RunsAsJson result untouched unread first_old first_new failed left_old left_new old new
 
--- When the script's reader was last read, the other end could see what is printed of all lines that were complete by then.
+-- After the run the other end can see what is printed of all lines that were complete when the script's reader was last read.
 abbrev pub IsInTime : Prints → Bool → Option (List ℕ) → Option (List ℕ) → Option (List ℕ) → Option (List ℕ)
     → Option (List ℕ) → Option (List ℕ) → Type 0
 IsInTime Answers unread first_old first_new left_old left_before old shown =

@@ -6,17 +6,23 @@ use crate::faults::RunFault;
 use crate::files::{read_picture, read_script};
 use crate::inputs::{refused, unfit};
 use crate::mistaken::explained;
-use reh_after::{AfterFault, Unaccepted, picture_after};
+use reh_after::{AfterFault, Unaccepted, Untold, picture_after};
 use std::alloc::{AllocError, Global};
 
-/// The text of the picture of the state to which the script in a file leads from the picture in another.
-pub(crate) fn text_after(rt: &HostRuntime, picture: &str, script: &str) -> Result<String, RunFault>
-    ensures { IfOk result (λ text. model.IsAfterSome (string_bytes text)) }
+/// The text of the picture of the state to which the script in a file leads from the picture in another. For a question it
+/// has to be known there of each bookie what it holds.
+pub(crate) fn text_after(
+    rt: &HostRuntime,
+    picture: &str,
+    script: &str,
+    all_known: bool,
+) -> Result<String, RunFault>
+    ensures { IfOk result (λ text. model.IsAfterSome all_known (string_bytes text)) }
 {
     let alloc = rt.alloc();
     let bytes = read_picture(rt, picture)?;
     let commands = read_script(rt, script)?;
-    match picture_after(alloc, &bytes, &commands) {
+    match picture_after(alloc, &bytes, &commands, all_known) {
         Ok(text) => Ok(text),
         Err(fault) => {
             let fault = unplayed(alloc, picture, script, fault);
@@ -34,6 +40,7 @@ fn unplayed(alloc: Global, picture: &str, script: &str, fault: AfterFault) -> Ru
         },
         AfterFault::TooLong => RunFault::TooLong,
         AfterFault::Unaccepted(first) => unfit(unaccepted_text(alloc, script, &first)),
+        AfterFault::Untold(first) => unfit(untold_text(alloc, picture, script, &first)),
         AfterFault::Unheld(fault) => unfit(format!(in alloc;
             "{script}: no picture holds the state at the end: {fault}"
         )),
@@ -46,5 +53,19 @@ fn unaccepted_text(alloc: Global, script: &str, first: &Unaccepted) -> Result<St
     let Unaccepted { line, answer } = first;
     format!(in alloc;
         "{script}:{line}: {answer}: nothing is asked, as each command has to be accepted first"
+    )
+}
+
+/// That a bookie took copies, and nothing told what it held before.
+fn untold_text(
+    alloc: Global,
+    picture: &str,
+    script: &str,
+    first: &Untold,
+) -> Result<String, AllocError> {
+    let Untold { bookie, ledger } = first;
+    let ledger = ledger.0;
+    format!(in alloc;
+        "{picture}: nothing tells what {bookie} held of ledger {ledger} before {script} gave it copies: nothing is asked"
     )
 }

@@ -283,7 +283,7 @@ fn end_of(rt: &HostRuntime, picture: &str, script: &str) -> Result<FileInput, Ru
     ensures of { IfOk result model.IsOfFile }
     ensures end { IfOk result model.IsOfEnd }
 {
-    let text = text_after(rt, picture, script)?;
+    let text = text_after(rt, picture, script, true)?;
     match read_input(rt.alloc(), text.as_bytes()) {
         Ok(input) => {
             let file = of_bytes(rt.alloc(), input)?;

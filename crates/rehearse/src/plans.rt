@@ -14,7 +14,7 @@ use crate::looks::Looks;
 use crate::mistaken::state_in;
 use crate::names::{named_twice, unknown};
 use crate::progress::{Progress, Teller};
-use crate::tails::{add_unclosed, untold_of};
+use crate::tails::{Tails, add_unclosed, tails_of};
 use reh_cluster::{Names, State};
 use reh_picture::{BookieMarks, list_picture};
 use reh_plan::{
@@ -26,9 +26,11 @@ use std::alloc::{AllocError, Global};
 use std::sync::Wait;
 use std::thread;
 
-/// What a note says of ledgers that a plan closes.
+/// What notes say of ledgers that a plan closes.
 const CLOSED_EMPTY: &str =
     "closed with an empty last fragment, by what is told of the members that are left";
+
+const CLOSED_SHORT: &str = "closed before an entry that some bookie holds";
 
 /// Writes the plan to standard output, as a script or a runbook, or what it comes to, as text or JSON; and gives the status.
 pub(crate) fn plan_file<R: thread::Threads + Wait + Copy + Send + 'static>(
@@ -44,7 +46,7 @@ pub(crate) fn plan_file<R: thread::Threads + Wait + Copy + Send + 'static>(
     let planned = planned_by(rt, words, &teller.progress, &mut open);
     teller.end(threads);
     let planned = planned?;
-    say_untold(rt, looks, &open, &planned)?;
+    say_tails(rt, looks, &open, &planned)?;
     let status = write_plan(rt, words, &planned)?;
     Ok(status)
 }
@@ -67,9 +69,9 @@ fn planned_by(
     plan_of(rt.alloc(), &bytes, words, open)
 }
 
-/// Says on standard error how many of these ledgers a plan closes without an entry of their last fragment, unless faults alone
-/// are to be said.
-fn say_untold(
+/// Says on standard error how many of these ledgers a plan closes so that entries may be missing, unless faults alone are to
+/// be said.
+fn say_tails(
     rt: &HostRuntime,
     looks: Looks,
     open: &[LedgerId],
@@ -78,14 +80,19 @@ fn say_untold(
     if looks.is_quiet {
         return Ok(());
     }
-    let untold = untold_of(rt.alloc(), planned.plan.state(), open)?;
-    if let Some(first) = untold.first() {
+    let Tails { empty, short } = tails_of(rt.alloc(), planned.plan.state(), open)?;
+    say_closed(rt, CLOSED_EMPTY, &empty);
+    say_closed(rt, CLOSED_SHORT, &short);
+    Ok(())
+}
+
+/// Says how many ledgers these are, if there are any, and names the first.
+fn say_closed(rt: &HostRuntime, what: &str, ledgers: &[LedgerId]) {
+    if let Some(first) = ledgers.first() {
         let first = first.0;
-        let count = untold.len();
-        let what = CLOSED_EMPTY;
+        let count = ledgers.len();
         let _ = eprintln!(rt; "note: {what}: {count}, such as ledger {first}");
     }
-    Ok(())
 }
 
 /// Writes a plan as it is asked for, and gives the status.
@@ -131,7 +138,7 @@ fn picture_bytes(
             Ok(bytes)
         }
         Some(script) => {
-            let text = text_after(rt, words.picture, script)?;
+            let text = text_after(rt, words.picture, script, false)?;
             progress.count();
             progress.count();
             Ok(text.into_bytes())

@@ -1,4 +1,4 @@
-// Ledgers that a plan closes with an empty last fragment.
+// Ledgers that a plan closes so that entries may be missing.
 ghost use Rattle.std.specs.Prelude.{◌≡◌, ◌++◌, false, IfOk, OnOk};
 ghost use Rattle.std.specs.Option.{option_map_or};
 ghost use Rattle.reh_model.specs.Cluster.{ledger_at};
@@ -30,51 +30,75 @@ fn push_unclosed(open: &mut Vec<LedgerId>, ledger: &Ledger) -> Result<(), AllocE
     Ok(())
 }
 
-/// Those of these ledgers that the state has closed without an entry of their last fragment.
-pub(crate) fn untold_of(
-    alloc: Global,
-    state: &State,
-    open: &[LedgerId],
-) -> Result<Vec<LedgerId>, AllocError>
-    ensures { IfOk result (λ untold. untold.items ≡ model.untold state.now open.now) }
-{
-    let mut untold = Vec::new(alloc);
-    for ledger in open {
-        push_untold(&mut untold, state, *ledger)?;
-    }
-    Ok(untold)
+/// Which ledgers of some a plan closes so that entries may be missing.
+#[derive(Drop)]
+pub(crate) struct Tails {
+    /// Those whose last fragment is empty then.
+    pub empty: Vec<LedgerId>,
+    /// Those that are closed before an entry that some bookie holds, be it registered or not.
+    pub short: Vec<LedgerId>,
 }
 
-/// Adds a ledger, if it is one of those.
-fn push_untold(
-    untold: &mut Vec<LedgerId>,
-    state: &State,
-    ledger: LedgerId,
-) -> Result<(), AllocError>
-    ensures { OnOk result (untold.new.items ≡ untold.old.items ++ model.untold_one state.now ledger) }
+/// Which of these ledgers the state has closed so.
+pub(crate) fn tails_of(alloc: Global, state: &State, open: &[LedgerId]) -> Result<Tails, AllocError>
+    ensures empty { IfOk result (λ tails. tails.empty.items ≡ model.closed_empty state.now open.now) }
+    ensures short { IfOk result (λ tails. tails.short.items ≡ model.closed_short state.now open.now) }
 {
-    if is_untold(state, ledger) {
-        untold.push(ledger)?;
+    let mut empty = Vec::new(alloc);
+    let mut short = Vec::new(alloc);
+    for ledger in open {
+        push_if(&mut empty, *ledger, is_empty_in(state, *ledger))?;
+        push_if(&mut short, *ledger, is_short_in(state, *ledger))?;
+    }
+    Ok(Tails { empty, short })
+}
+
+/// Adds a ledger, if this is so.
+fn push_if(ledgers: &mut Vec<LedgerId>, ledger: LedgerId, is_so: bool) -> Result<(), AllocError>
+    ensures { OnOk result (ledgers.new.items ≡ ledgers.old.items ++ model.one_if ledger is_so) }
+{
+    if is_so {
+        ledgers.push(ledger)?;
     }
     Ok(())
 }
 
 /// Whether the ledger is closed without an entry of its last fragment.
-fn is_untold(state: &State, ledger: LedgerId) -> bool
-    ensures { result ≡ option_map_or model.ends_before (ledger_at state.now ledger) false }
+fn is_empty_in(state: &State, ledger: LedgerId) -> bool
+    ensures { result ≡ option_map_or model.is_closed_empty (ledger_at state.now ledger) false }
 {
     match state.ledger(ledger) {
-        Some(ledger) => ends_before(ledger),
+        Some(ledger) => is_closed_empty(ledger),
         None => false,
     }
 }
 
 /// The same of a ledger of a state.
-fn ends_before(ledger: &Ledger) -> bool
-    ensures { result ≡ model.ends_before ledger.now }
+fn is_closed_empty(ledger: &Ledger) -> bool
+    ensures { result ≡ model.is_closed_empty ledger.now }
 {
     match ledger.metadata().state() {
         LedgerState::Closed { end } => end <= last_fragment(ledger).first,
         LedgerState::Open | LedgerState::InRecovery => false,
+    }
+}
+
+/// Whether the ledger is closed before an entry that some bookie holds.
+fn is_short_in(state: &State, ledger: LedgerId) -> bool
+    ensures { result ≡ option_map_or (model.is_closed_short state.now) (ledger_at state.now ledger) false }
+{
+    match state.ledger(ledger) {
+        Some(ledger) => is_closed_short(state, ledger),
+        None => false,
+    }
+}
+
+/// The same of a ledger of a state.
+fn is_closed_short(state: &State, ledger: &Ledger) -> bool
+    ensures { result ≡ model.is_closed_short state.now ledger.now }
+{
+    match (ledger.metadata().state(), state.greatest(ledger.id())) {
+        (LedgerState::Closed { end }, Some(greatest)) => end <= greatest,
+        _ => false,
     }
 }

@@ -19,4 +19,5 @@ returns-in-Ok c =
       listed = c.in-Ok.ensures.listed;
       marks = subst (λ (s : Cluster). KeepsMarksIn s c.args.begun.now.marked (string_bytes c.in-Ok.text)) state
           c.in-Ok.ensures.marks;
+      known = c.in_ok-check_known.ensures;
     }

@@ -9,8 +9,8 @@ use Rattle.reh_after.proofs.pictures.picture_after.Goals as goal
 pub returns : goal.returns
 returns c =
     let begun : Begun = c.in_ok-begun.begun in
-    elim c.end_of-text.result as (λ r. IfOk r (λ text. IsEnd begun c.args.script.now (string_bytes text))
-    → IfOk r (λ text. IsAfter c.args.picture.now c.args.script.now (string_bytes text))) [
+    elim c.end_of-text.result as (λ r. IfOk r (λ text. IsEnd begun c.args.script.now c.args.all_known (string_bytes text))
+    → IfOk r (λ text. IsAfter c.args.picture.now c.args.script.now c.args.all_known (string_bytes text))) [
       | Ok text ↦ λ ends. record { begun = begun; is_begun = c.in_ok-begun.ensures; ends = ends }
       | Err fault ↦ λ none. none
     ] c.end_of-text.ensures

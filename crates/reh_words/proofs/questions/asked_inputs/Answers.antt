@@ -14,4 +14,5 @@ returns c =
           ∙ ap (take MAX_FILES) c.in_ok-files.ensures;
       after_is = c.get_str.ensures;
       is_strict = c.is_given.ensures;
+      readers = record { number = c.number_of.result; is_number = c.number_of.ensures; works = search };
     }
