@@ -20,7 +20,8 @@ GRACE_FIELD = "openLedgerRereplicationGracePeriod"
 DEFAULT_GRACE_MS = 30_000
 DELAY_FIELD = "lostBookieRecoveryDelay"
 
-LEVEL = r"(?:TRACE|DEBUG|INFO|WARN|ERROR|FATAL)"
+LEVEL = r"(TRACE|DEBUG|INFO|WARN|ERROR|FATAL)"
+ERRORS = {"ERROR", "FATAL"}
 # What a logger puts before a line: its time and level, with or without the thread and the class.
 LOGGED = re.compile(
     r"(?:[0-9]{4}-[0-9]{2}-[0-9]{2}[T ])?[0-9]{2}:[0-9]{2}:[0-9]{2}[.,][0-9]{3}(?:Z|[+-][0-9]{4})? "
@@ -51,6 +52,8 @@ LEDGER_HEADING = re.compile(f"ledgerID: ({NUMBER})")
 METADATA = re.compile(r"LedgerMetadata\{([^{}\[\]]*), ensembles=\{([^{}]*)\}(?:, customMetadata=\{[^{}]*\})?\}")
 FRAGMENT = re.compile(rf"({NUMBER})=\[([^\[\]{{}}=]*)")
 LEDGERS = re.compile("ledgerID|LedgerMetadata")
+# An error that says of a single ledger that it could not be read.
+UNREAD = re.compile(rf"Unable to read the ledger ?:? ?({NUMBER})\b")
 STRANGE_FIELD = "the metadata has a field that isn't known, or twice"
 STATES = {"OPEN", "IN_RECOVERY", "CLOSED"}
 SIZES = ["ensembleSize", "writeQuorumSize", "ackQuorumSize"]
@@ -69,7 +72,8 @@ ZNODE = re.compile(rf"LedgerMetadata|BookieMetadataFormatVersion|\s*(?:(?:{ZNODE
 
 # What `ledger` prints of an index, and `readledger` of entries.
 INDEX_HEADING = re.compile(f"===== LEDGER: ({NUMBER}) =====")
-INDEX_FACT = re.compile(r"(?:master key|size|entries|isFenced)\s*:.*")
+INDEX_COUNT = re.compile(r"entries\s*: *(.*)")
+INDEX_FACT = re.compile(r"(?:master key|size|isFenced)\s*:.*")
 INDEXED = re.compile(rf"entry ({NUMBER})\s*:\s*(N/A|\(log: ?[0-9]+, pos: ?[0-9]+\))")
 INDEX = re.compile("=====|entry [0-9]|master key|size |entries |isFenced")
 ENTRY_READ = re.compile(rf"-{{9}} Lid=({NUMBER}), Eid=({NUMBER})(?:, EntrySize=[0-9]+)? -{{9}}")
@@ -88,11 +92,11 @@ class Fault(Exception):
 
 
 class Line(NamedTuple):
-    """A line of a dump: where it stands, its text without what a logger puts before it, and whether that was there."""
+    """A line of a dump: where it stands, its text without what a logger puts before it, and that logger's level, if any."""
 
     place: str
     text: str
-    is_logged: bool = False
+    level: str = ""
 
 
 class Pairs(List[Tuple[str, Any]]):
@@ -156,6 +160,13 @@ class Entries(NamedTuple):
     told: Optional[FrozenSet[int]]
 
 
+class Index(NamedTuple):
+    """A ledger's index: whether each entry that it lists is there, and how many it says it has, by where it says so."""
+
+    entries: Dict[int, bool]
+    counts: Dict[str, int]
+
+
 class Holding(NamedTuple):
     """What a dump tells that a bookie holds of a ledger."""
 
@@ -216,7 +227,7 @@ class Dump(NamedTuple):
                 logged = LOGGED.match(line)
                 line = (line[logged.end() :] if logged else line).rstrip()
                 if line:
-                    yield Line(place, line, logged is not None)
+                    yield Line(place, line, logged[1] if logged else "")
 
 
 def open_dump(file: str) -> Dump:
@@ -230,14 +241,14 @@ def open_dump(file: str) -> Dump:
 def data_lines(dump: Dump, data: Pattern[str], passed: Passed) -> Iterator[Line]:
     """Yields the lines of a dump that have data, which begin so, and those that nothing is known of.
 
-    Lines of a log without data are passed over, with an exception's lines after them.
+    Lines of a log without data are passed over, with an exception's lines after them, and after data that is an error.
     """
     is_after = False
     for line in dump.lines():
         if data.match(line.text):
-            is_after = line.is_logged
+            is_after = line.level in ERRORS
             yield line
-        elif line.is_logged or CHATTER.match(line.text) or is_after and STACK.match(line.text):
+        elif line.level or CHATTER.match(line.text) or is_after and STACK.match(line.text):
             is_after = True
             passed(line)
         else:
@@ -487,9 +498,15 @@ def ledgers_by_admin(dump: Dump) -> Iterator[Ledger]:
 
 
 def read_ledgers(file: str, passed: Passed) -> Iterator[Ledger]:
-    """Yields the ledgers of a list, whichever form it has."""
+    """Yields the ledgers of a list, whichever form it has. An error in it is a fault, unless it is of a single ledger."""
+
+    def judged(line: Line) -> None:
+        if line.level in ERRORS and not UNREAD.match(line.text):
+            raise Fault(f"{line.place}: an error is logged here, so the list of ledgers may be cut")
+        passed(line)
+
     dump = open_dump(file)
-    return ledgers_by_admin(dump) if dump.is_json() else ledgers_by_shell(data_lines(dump, LEDGERS, passed), file)
+    return ledgers_by_admin(dump) if dump.is_json() else ledgers_by_shell(data_lines(dump, LEDGERS, judged), file)
 
 
 def read_metadata(word: str, passed: Passed) -> Ledger:
@@ -509,21 +526,35 @@ def part_word(word: str) -> Tuple[str, str]:
 
 def entries_indexed(lines: Iterable[Line], named: Optional[int]) -> Dict[int, Entries]:
     """Returns the entries by ledger of what `ledger` printed of an index. A heading or a word names the ledger."""
-    entries: Dict[int, Set[int]] = {} if named is None else {named: set()}
+    indexes: Dict[int, Index] = {} if named is None else {named: Index({}, {})}
     ledger = named
     for line in lines:
         heading = INDEX_HEADING.fullmatch(line.text)
+        count = INDEX_COUNT.fullmatch(line.text)
         indexed = INDEXED.fullmatch(line.text)
         if heading:
             ledger = ledger_in(heading[1], named, line)
-            entries.setdefault(ledger, set())
-        elif indexed and ledger is None:
+            indexes.setdefault(ledger, Index({}, {}))
+        elif (count or indexed) and ledger is None:
             raise Fault(f"{line.place}: name the ledger, as BOOKIE/LEDGER=FILE")
+        elif count and ledger is not None:
+            indexes[ledger].counts[line.place] = number_in(count[1], "the number of entries", line.place)
         elif indexed and ledger is not None:
-            entries[ledger].update([] if indexed[2] == "N/A" else [int(indexed[1])])
+            entries, entry = indexes[ledger].entries, int(indexed[1])
+            entries[entry] = indexed[2] != "N/A" or entries.get(entry, False)
         elif not INDEX_FACT.fullmatch(line.text):
             unknown(line, "an index")
-    return {ledger: Entries(frozenset(held), None) for ledger, held in entries.items()}
+    return {ledger: told_by(index) for ledger, index in indexes.items()}
+
+
+def told_by(index: Index) -> Entries:
+    """Returns what an index tells. If it says how many entries it has, each needs a line. Without any it tells nothing."""
+    for place, count in index.counts.items():
+        absent = next((entry for entry in range(count) if entry not in index.entries), None)
+        if absent is not None:
+            raise Fault(f"{place}: it says {count} entries, and entry {absent} isn't listed, as if the dump was cut")
+    held = frozenset(entry for entry, is_there in index.entries.items() if is_there)
+    return Entries(held, None if index.entries or 0 in index.counts.values() else frozenset())
 
 
 def entries_read(lines: Iterable[Line], named: Optional[int]) -> Dict[int, Entries]:
@@ -577,8 +608,18 @@ def read_holdings(
 
 
 def read_index(word: str, passed: Passed) -> List[Holding]:
-    """Returns what `ledger` printed on a bookie's host."""
-    return read_holdings(word, INDEX, entries_indexed, passed)
+    """Returns what `ledger` printed on a bookie's host. If an error is logged in it, it may be cut, unless it tells nothing."""
+    errors: List[str] = []
+
+    def noticed(line: Line) -> None:
+        if line.level in ERRORS:
+            errors.append(line.place)
+        passed(line)
+
+    holdings = read_holdings(word, INDEX, entries_indexed, noticed)
+    if errors and any(holding.told is None for holding in holdings):
+        raise Fault(f"{errors[0]}: an error is logged here, so the index may be cut")
+    return holdings
 
 
 def read_entries(word: str, passed: Passed) -> List[Holding]:
