@@ -78,8 +78,11 @@ INDEXED = re.compile(rf"entry ({NUMBER})\s*:\s*(N/A|\(log: ?[0-9]+, pos: ?[0-9]+
 INDEX = re.compile("=====|entry [0-9]|master key|size |entries |isFenced")
 ENTRY_READ = re.compile(rf"-{{9}} Lid=({NUMBER}), Eid=({NUMBER})(?:, EntrySize=[0-9]+)? -{{9}}")
 NOT_READ = re.compile(f"Failed to read entry ({NUMBER}) -- (.*)")
-NOT_THERE = re.compile(r"No such (?:entry|ledger)\b.*")
-READ = re.compile(f"---------|Failed to read entry {NUMBER} -- {NOT_THERE.pattern}")
+# What a bookie answers if it lacks the entry, or has nothing of the ledger. What a metadata server lacks isn't told by it.
+NOT_THERE = re.compile("No such (?:entry|ledger(?: exists(?: on Bookies)?)?)")
+# What follows a read that failed. It alone names the ledger.
+READ_ERROR = re.compile(rf"Error future\.get while reading entries from ledger ({NUMBER})(?!\S).*")
+READ = re.compile(rf"---------|Failed to read entry {NUMBER} --|Error future\.get while reading entries")
 
 # What `listunderreplicated` prints: a ledger, and below it what its task has.
 TASK = re.compile(f"(?:ledgerID: )?({NUMBER})")
@@ -497,15 +500,21 @@ def ledgers_by_admin(dump: Dump) -> Iterator[Ledger]:
         yield ledger_by_text(number_in(key, "the ledger's id", place), lines)
 
 
-def read_ledgers(file: str, passed: Passed) -> Iterator[Ledger]:
-    """Yields the ledgers of a list, whichever form it has. An error in it is a fault, unless it is of a single ledger."""
+def without_errors(passed: Passed, what: str, allowed: Optional[Pattern[str]] = None) -> Passed:
+    """Returns what passes lines over, but no error that is logged, unless such an error is allowed."""
 
     def judged(line: Line) -> None:
-        if line.level in ERRORS and not UNREAD.match(line.text):
-            raise Fault(f"{line.place}: an error is logged here, so the list of ledgers may be cut")
+        if line.level in ERRORS and not (allowed and allowed.match(line.text)):
+            raise Fault(f"{line.place}: an error is logged here, so {what} may be cut")
         passed(line)
 
+    return judged
+
+
+def read_ledgers(file: str, passed: Passed) -> Iterator[Ledger]:
+    """Yields the ledgers of a list, whichever form it has. An error in it is a fault, unless it is of a single ledger."""
     dump = open_dump(file)
+    judged = without_errors(passed, "the list of ledgers", UNREAD)
     return ledgers_by_admin(dump) if dump.is_json() else ledgers_by_shell(data_lines(dump, LEDGERS, judged), file)
 
 
@@ -557,26 +566,46 @@ def told_by(index: Index) -> Entries:
     return Entries(held, None if index.entries or 0 in index.counts.values() else frozenset())
 
 
-def entries_read(lines: Iterable[Line], named: Optional[int]) -> Dict[int, Entries]:
+def entries_read(lines: Iterable[Line], named: Optional[int], passed: Passed) -> Dict[int, Entries]:
     """Returns the entries by ledger that `readledger` could read from one bookie, and those that it asked for.
 
-    A line of an entry that isn't there doesn't name its ledger. It is the dump's one, or nothing is told of it.
+    A line of an entry that isn't there doesn't name its ledger. A word does, or the error that follows it.
     """
-    entries: Dict[int, Set[int]] = {} if named is None else {named: set()}
-    missing: Set[int] = set()
+    entries: Dict[int, Dict[int, bool]] = {} if named is None else {named: {}}
+    missed: Dict[int, str] = {}
     for line in lines:
-        read = ENTRY_READ.fullmatch(line.text)
-        failed = NOT_READ.fullmatch(line.text)
-        if read:
-            entries.setdefault(ledger_in(read[1], named, line), set()).add(int(read[2]))
-        elif not failed:
+        read, failed, error = (form.fullmatch(line.text) for form in [ENTRY_READ, NOT_READ, READ_ERROR])
+        if not (read or failed or error):
             unknown(line, "what readledger prints")
-        elif not NOT_THERE.fullmatch(failed[2]):
-            raise Fault(f"{line.place}: the read failed, so it isn't known whether the bookie holds the entry")
-        else:
-            missing.add(int(failed[1]))
-    also = missing if len(entries) == 1 else set()
-    return {ledger: Entries(frozenset(held), frozenset(held | also)) for ledger, held in entries.items()}
+        if not error:
+            need_ledger(missed)
+        if read:
+            entries.setdefault(ledger_in(read[1], named, line), {})[int(read[2])] = True
+        elif error:
+            of_ledger = entries.setdefault(ledger_in(error[1], named, line), {})
+            of_ledger.update({entry: of_ledger.get(entry, False) for entry in missed})
+            missed = {}
+        elif failed and not NOT_THERE.fullmatch(failed[2]):
+            pass_failure(line, passed)
+        elif failed and named is None:
+            missed = {int(failed[1]): line.place}
+        elif failed and named is not None:
+            entries[named].setdefault(int(failed[1]), False)
+    need_ledger(missed)
+    return {ledger: Entries(frozenset(it for it in asked if asked[it]), frozenset(asked)) for ledger, asked in entries.items()}
+
+
+def need_ledger(missed: Dict[int, str]) -> None:
+    """Judges that there is no entry that a bookie lacks, by its place, of which nothing names the ledger."""
+    for place in missed.values():
+        raise Fault(f"{place}: no line names this entry's ledger: if the dump is of one alone, name it, as BOOKIE/LEDGER=FILE")
+
+
+def pass_failure(line: Line, passed: Passed) -> None:
+    """Passes a read over that failed, if it is logged. It tells nothing of what the bookie holds."""
+    if not line.level:
+        raise Fault(f"{line.place}: the read failed, so it isn't known whether the bookie holds the entry")
+    passed(line)
 
 
 def ledger_in(text: str, named: Optional[int], line: Line) -> int:
@@ -624,7 +653,7 @@ def read_index(word: str, passed: Passed) -> List[Holding]:
 
 def read_entries(word: str, passed: Passed) -> List[Holding]:
     """Returns what `readledger` printed for a bookie."""
-    return read_holdings(word, READ, entries_read, passed)
+    return read_holdings(word, READ, lambda lines, named: entries_read(lines, named, passed), passed)
 
 
 def missing_by_shell(lines: Iterable[Line]) -> Dict[int, Set[str]]:
@@ -656,7 +685,8 @@ def missing_by_admin(dump: Dump) -> Dict[int, Set[str]]:
 def read_missing(file: str, passed: Passed) -> Dict[int, Set[str]]:
     """Returns the ledgers of a list of those that have a task, with the replicas that it names missing."""
     dump = open_dump(file)
-    return missing_by_admin(dump) if dump.is_json() else missing_by_shell(data_lines(dump, TASKS, passed))
+    judged = without_errors(passed, "the list of tasks")
+    return missing_by_admin(dump) if dump.is_json() else missing_by_shell(data_lines(dump, TASKS, judged))
 
 
 def compare_facts(listed: Iterable[Listed]) -> None:
