@@ -20,7 +20,8 @@ GRACE_FIELD = "openLedgerRereplicationGracePeriod"
 DEFAULT_GRACE_MS = 30_000
 DELAY_FIELD = "lostBookieRecoveryDelay"
 
-LEVEL = r"(?:TRACE|DEBUG|INFO|WARN|ERROR|FATAL)"
+LEVEL = r"(TRACE|DEBUG|INFO|WARN|ERROR|FATAL)"
+ERRORS = {"ERROR", "FATAL"}
 # What a logger puts before a line: its time and level, with or without the thread and the class.
 LOGGED = re.compile(
     r"(?:[0-9]{4}-[0-9]{2}-[0-9]{2}[T ])?[0-9]{2}:[0-9]{2}:[0-9]{2}[.,][0-9]{3}(?:Z|[+-][0-9]{4})? "
@@ -51,6 +52,8 @@ LEDGER_HEADING = re.compile(f"ledgerID: ({NUMBER})")
 METADATA = re.compile(r"LedgerMetadata\{([^{}\[\]]*), ensembles=\{([^{}]*)\}(?:, customMetadata=\{[^{}]*\})?\}")
 FRAGMENT = re.compile(rf"({NUMBER})=\[([^\[\]{{}}=]*)")
 LEDGERS = re.compile("ledgerID|LedgerMetadata")
+# An error that says of a single ledger that it could not be read.
+UNREAD = re.compile(rf"Unable to read the ledger ?:? ?({NUMBER})\b")
 STRANGE_FIELD = "the metadata has a field that isn't known, or twice"
 STATES = {"OPEN", "IN_RECOVERY", "CLOSED"}
 SIZES = ["ensembleSize", "writeQuorumSize", "ackQuorumSize"]
@@ -69,13 +72,17 @@ ZNODE = re.compile(rf"LedgerMetadata|BookieMetadataFormatVersion|\s*(?:(?:{ZNODE
 
 # What `ledger` prints of an index, and `readledger` of entries.
 INDEX_HEADING = re.compile(f"===== LEDGER: ({NUMBER}) =====")
-INDEX_FACT = re.compile(r"(?:master key|size|entries|isFenced)\s*:.*")
+INDEX_COUNT = re.compile(r"entries\s*: *(.*)")
+INDEX_FACT = re.compile(r"(?:master key|size|isFenced)\s*:.*")
 INDEXED = re.compile(rf"entry ({NUMBER})\s*:\s*(N/A|\(log: ?[0-9]+, pos: ?[0-9]+\))")
 INDEX = re.compile("=====|entry [0-9]|master key|size |entries |isFenced")
 ENTRY_READ = re.compile(rf"-{{9}} Lid=({NUMBER}), Eid=({NUMBER})(?:, EntrySize=[0-9]+)? -{{9}}")
 NOT_READ = re.compile(f"Failed to read entry ({NUMBER}) -- (.*)")
-NOT_THERE = re.compile(r"No such (?:entry|ledger)\b.*")
-READ = re.compile(f"---------|Failed to read entry {NUMBER} -- {NOT_THERE.pattern}")
+# What a bookie answers if it lacks the entry, or has nothing of the ledger. What a metadata server lacks isn't told by it.
+NOT_THERE = re.compile("No such (?:entry|ledger(?: exists(?: on Bookies)?)?)")
+# What follows a read that failed. It alone names the ledger.
+READ_ERROR = re.compile(rf"Error future\.get while reading entries from ledger ({NUMBER})(?!\S).*")
+READ = re.compile(rf"---------|Failed to read entry {NUMBER} --|Error future\.get while reading entries")
 
 # What `listunderreplicated` prints: a ledger, and below it what its task has.
 TASK = re.compile(f"(?:ledgerID: )?({NUMBER})")
@@ -88,11 +95,11 @@ class Fault(Exception):
 
 
 class Line(NamedTuple):
-    """A line of a dump: where it stands, its text without what a logger puts before it, and whether that was there."""
+    """A line of a dump: where it stands, its text without what a logger puts before it, and that logger's level, if any."""
 
     place: str
     text: str
-    is_logged: bool = False
+    level: str = ""
 
 
 class Pairs(List[Tuple[str, Any]]):
@@ -156,6 +163,13 @@ class Entries(NamedTuple):
     told: Optional[FrozenSet[int]]
 
 
+class Index(NamedTuple):
+    """A ledger's index: whether each entry that it lists is there, and how many it says it has, by where it says so."""
+
+    entries: Dict[int, bool]
+    counts: Dict[str, int]
+
+
 class Holding(NamedTuple):
     """What a dump tells that a bookie holds of a ledger."""
 
@@ -216,7 +230,7 @@ class Dump(NamedTuple):
                 logged = LOGGED.match(line)
                 line = (line[logged.end() :] if logged else line).rstrip()
                 if line:
-                    yield Line(place, line, logged is not None)
+                    yield Line(place, line, logged[1] if logged else "")
 
 
 def open_dump(file: str) -> Dump:
@@ -230,14 +244,14 @@ def open_dump(file: str) -> Dump:
 def data_lines(dump: Dump, data: Pattern[str], passed: Passed) -> Iterator[Line]:
     """Yields the lines of a dump that have data, which begin so, and those that nothing is known of.
 
-    Lines of a log without data are passed over, with an exception's lines after them.
+    Lines of a log without data are passed over, with an exception's lines after them, and after data that is an error.
     """
     is_after = False
     for line in dump.lines():
         if data.match(line.text):
-            is_after = line.is_logged
+            is_after = line.level in ERRORS
             yield line
-        elif line.is_logged or CHATTER.match(line.text) or is_after and STACK.match(line.text):
+        elif line.level or CHATTER.match(line.text) or is_after and STACK.match(line.text):
             is_after = True
             passed(line)
         else:
@@ -332,9 +346,10 @@ def bookies_by_admin(dump: Dump) -> List[Listed]:
 
 
 def read_bookies(file: str, kind: str, passed: Passed) -> List[Listed]:
-    """Returns the bookies of a list, whichever form it has."""
+    """Returns the bookies of a list, whichever form it has. An error that is logged in it is a fault."""
     dump = open_dump(file)
-    return bookies_by_admin(dump) if dump.is_json() else bookies_by_shell(some_lines(dump, LISTED, passed), kind)
+    judged = without_errors(passed, "the list of bookies")
+    return bookies_by_admin(dump) if dump.is_json() else bookies_by_shell(some_lines(dump, LISTED, judged), kind)
 
 
 def metadata_of(fields: Dict[str, str], sizes: List[str], fragments: Any, place: str) -> Metadata:
@@ -486,10 +501,22 @@ def ledgers_by_admin(dump: Dump) -> Iterator[Ledger]:
         yield ledger_by_text(number_in(key, "the ledger's id", place), lines)
 
 
+def without_errors(passed: Passed, what: str, allowed: Optional[Pattern[str]] = None) -> Passed:
+    """Returns what passes lines over, but no error that is logged, unless such an error is allowed."""
+
+    def judged(line: Line) -> None:
+        if line.level in ERRORS and not (allowed and allowed.match(line.text)):
+            raise Fault(f"{line.place}: an error is logged here, so {what} may be cut")
+        passed(line)
+
+    return judged
+
+
 def read_ledgers(file: str, passed: Passed) -> Iterator[Ledger]:
-    """Yields the ledgers of a list, whichever form it has."""
+    """Yields the ledgers of a list, whichever form it has. An error in it is a fault, unless it is of a single ledger."""
     dump = open_dump(file)
-    return ledgers_by_admin(dump) if dump.is_json() else ledgers_by_shell(data_lines(dump, LEDGERS, passed), file)
+    judged = without_errors(passed, "the list of ledgers", UNREAD)
+    return ledgers_by_admin(dump) if dump.is_json() else ledgers_by_shell(data_lines(dump, LEDGERS, judged), file)
 
 
 def read_metadata(word: str, passed: Passed) -> Ledger:
@@ -509,43 +536,77 @@ def part_word(word: str) -> Tuple[str, str]:
 
 def entries_indexed(lines: Iterable[Line], named: Optional[int]) -> Dict[int, Entries]:
     """Returns the entries by ledger of what `ledger` printed of an index. A heading or a word names the ledger."""
-    entries: Dict[int, Set[int]] = {} if named is None else {named: set()}
+    indexes: Dict[int, Index] = {} if named is None else {named: Index({}, {})}
     ledger = named
     for line in lines:
         heading = INDEX_HEADING.fullmatch(line.text)
+        count = INDEX_COUNT.fullmatch(line.text)
         indexed = INDEXED.fullmatch(line.text)
         if heading:
             ledger = ledger_in(heading[1], named, line)
-            entries.setdefault(ledger, set())
-        elif indexed and ledger is None:
+            indexes.setdefault(ledger, Index({}, {}))
+        elif (count or indexed) and ledger is None:
             raise Fault(f"{line.place}: name the ledger, as BOOKIE/LEDGER=FILE")
+        elif count and ledger is not None:
+            indexes[ledger].counts[line.place] = number_in(count[1], "the number of entries", line.place)
         elif indexed and ledger is not None:
-            entries[ledger].update([] if indexed[2] == "N/A" else [int(indexed[1])])
+            entries, entry = indexes[ledger].entries, int(indexed[1])
+            entries[entry] = indexed[2] != "N/A" or entries.get(entry, False)
         elif not INDEX_FACT.fullmatch(line.text):
             unknown(line, "an index")
-    return {ledger: Entries(frozenset(held), None) for ledger, held in entries.items()}
+    return {ledger: told_by(index) for ledger, index in indexes.items()}
 
 
-def entries_read(lines: Iterable[Line], named: Optional[int]) -> Dict[int, Entries]:
+def told_by(index: Index) -> Entries:
+    """Returns what an index tells. If it says how many entries it has, each needs a line. Without any it tells nothing."""
+    for place, count in index.counts.items():
+        absent = next((entry for entry in range(count) if entry not in index.entries), None)
+        if absent is not None:
+            raise Fault(f"{place}: it says {count} entries, and entry {absent} isn't listed, as if the dump was cut")
+    held = frozenset(entry for entry, is_there in index.entries.items() if is_there)
+    return Entries(held, None if index.entries or 0 in index.counts.values() else frozenset())
+
+
+def entries_read(lines: Iterable[Line], named: Optional[int], passed: Passed) -> Dict[int, Entries]:
     """Returns the entries by ledger that `readledger` could read from one bookie, and those that it asked for.
 
-    A line of an entry that isn't there doesn't name its ledger. It is the dump's one, or nothing is told of it.
+    A line of an entry that isn't there doesn't name its ledger. A word does, or the error that follows it.
     """
-    entries: Dict[int, Set[int]] = {} if named is None else {named: set()}
-    missing: Set[int] = set()
+    entries: Dict[int, Dict[int, bool]] = {} if named is None else {named: {}}
+    missed: Dict[int, str] = {}
     for line in lines:
-        read = ENTRY_READ.fullmatch(line.text)
-        failed = NOT_READ.fullmatch(line.text)
-        if read:
-            entries.setdefault(ledger_in(read[1], named, line), set()).add(int(read[2]))
-        elif not failed:
+        read, failed, error = (form.fullmatch(line.text) for form in [ENTRY_READ, NOT_READ, READ_ERROR])
+        if not (read or failed or error):
             unknown(line, "what readledger prints")
-        elif not NOT_THERE.fullmatch(failed[2]):
-            raise Fault(f"{line.place}: the read failed, so it isn't known whether the bookie holds the entry")
-        else:
-            missing.add(int(failed[1]))
-    also = missing if len(entries) == 1 else set()
-    return {ledger: Entries(frozenset(held), frozenset(held | also)) for ledger, held in entries.items()}
+        if not error:
+            need_ledger(missed)
+        if read:
+            entries.setdefault(ledger_in(read[1], named, line), {})[int(read[2])] = True
+        elif error:
+            of_ledger = entries.setdefault(ledger_in(error[1], named, line), {})
+            of_ledger.update({entry: of_ledger.get(entry, False) for entry in missed})
+            missed = {}
+        elif failed and not NOT_THERE.fullmatch(failed[2]):
+            pass_failure(line, passed)
+        elif failed and named is None:
+            missed = {int(failed[1]): line.place}
+        elif failed and named is not None:
+            entries[named].setdefault(int(failed[1]), False)
+    need_ledger(missed)
+    return {ledger: Entries(frozenset(it for it in asked if asked[it]), frozenset(asked)) for ledger, asked in entries.items()}
+
+
+def need_ledger(missed: Dict[int, str]) -> None:
+    """Judges that there is no entry that a bookie lacks, by its place, of which nothing names the ledger."""
+    for place in missed.values():
+        raise Fault(f"{place}: no line names this entry's ledger: if the dump is of one alone, name it, as BOOKIE/LEDGER=FILE")
+
+
+def pass_failure(line: Line, passed: Passed) -> None:
+    """Passes a read over that failed, if it is logged. It tells nothing of what the bookie holds."""
+    if not line.level:
+        raise Fault(f"{line.place}: the read failed, so it isn't known whether the bookie holds the entry")
+    passed(line)
 
 
 def ledger_in(text: str, named: Optional[int], line: Line) -> int:
@@ -577,13 +638,23 @@ def read_holdings(
 
 
 def read_index(word: str, passed: Passed) -> List[Holding]:
-    """Returns what `ledger` printed on a bookie's host."""
-    return read_holdings(word, INDEX, entries_indexed, passed)
+    """Returns what `ledger` printed on a bookie's host. If an error is logged in it, it may be cut, unless it tells nothing."""
+    errors: List[str] = []
+
+    def noticed(line: Line) -> None:
+        if line.level in ERRORS:
+            errors.append(line.place)
+        passed(line)
+
+    holdings = read_holdings(word, INDEX, entries_indexed, noticed)
+    if errors and any(holding.told is None for holding in holdings):
+        raise Fault(f"{errors[0]}: an error is logged here, so the index may be cut")
+    return holdings
 
 
 def read_entries(word: str, passed: Passed) -> List[Holding]:
     """Returns what `readledger` printed for a bookie."""
-    return read_holdings(word, READ, entries_read, passed)
+    return read_holdings(word, READ, lambda lines, named: entries_read(lines, named, passed), passed)
 
 
 def missing_by_shell(lines: Iterable[Line]) -> Dict[int, Set[str]]:
@@ -615,7 +686,8 @@ def missing_by_admin(dump: Dump) -> Dict[int, Set[str]]:
 def read_missing(file: str, passed: Passed) -> Dict[int, Set[str]]:
     """Returns the ledgers of a list of those that have a task, with the replicas that it names missing."""
     dump = open_dump(file)
-    return missing_by_admin(dump) if dump.is_json() else missing_by_shell(data_lines(dump, TASKS, passed))
+    judged = without_errors(passed, "the list of tasks")
+    return missing_by_admin(dump) if dump.is_json() else missing_by_shell(data_lines(dump, TASKS, judged))
 
 
 def compare_facts(listed: Iterable[Listed]) -> None:
