@@ -39,7 +39,7 @@ HasShare s bookie g =
     → (is_member_at g f i bookie && lacks_at s bookie g f i) ≡ false
 
 -- What the bookie holds of the ledger was told when the rehearsal began; or it has all that is striped onto it; or it holds
--- nothing, and a picture says nothing of it.
+-- nothing.
 abbrev pub IsKnown : Cluster → Listed → Ledger → ℕ → Type 0
 IsKnown s began g bookie =
     (was_told began bookie g.id ≡ true) ⊎ (HasShare s bookie g ⊎ ((e : ℕ) → holds s bookie g.id e ≡ false))
