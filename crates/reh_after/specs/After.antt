@@ -12,7 +12,7 @@ use Rattle.reh_picture.specs.declared.listings.Listed.{Listed}
 use Rattle.reh_picture.specs.declared.places.LocatedFault.{LocatedFault}
 use Rattle.reh_picture.specs.Listings.{Lists, located_listing}
 use Rattle.reh_picture.specs.Pictures.{picture_of}
-use Rattle.reh_picture_out.specs.InPart.{AreKnown}
+use Rattle.reh_known.specs.Known.{AreKnown}
 use Rattle.reh_picture_out.specs.Kept.{kept_of}
 use Rattle.reh_picture_out.specs.Marks.{KeepsMarksIn}
 use Rattle.reh_lines.specs.Lines.{lines_of}

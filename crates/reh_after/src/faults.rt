@@ -1,6 +1,5 @@
 // Why there is no picture of the state to which a script leads.
 use reh_picture::{LocatedFault, PictureFault};
-use reh_types::LedgerId;
 use std::alloc::AllocError;
 
 /// Why there is no picture of the state to which a script leads.
@@ -12,8 +11,8 @@ pub enum AfterFault {
     TooLong,
     /// A command of the script isn't accepted.
     Unaccepted(Unaccepted),
-    /// A bookie took copies, and nothing told what it held before.
-    Untold(Untold),
+    /// It isn't known what the bookies hold at the end, and why, in words.
+    Doubt(String),
     /// No picture holds the state at the end, which would have this fault.
     Unheld(PictureFault),
     /// There is no memory.
@@ -25,13 +24,6 @@ pub enum AfterFault {
 pub struct Unaccepted {
     pub line: usize,
     pub answer: String,
-}
-
-/// A bookie that took copies of a ledger, and isn't known to have all of it that is striped onto it.
-#[derive(Drop)]
-pub struct Untold {
-    pub bookie: String,
-    pub ledger: LedgerId,
 }
 
 impl From<AllocError> for AfterFault {

@@ -5,5 +5,5 @@ mod faults;
 mod pictures;
 mod plays;
 
-pub use faults::{AfterFault, Unaccepted, Untold};
+pub use faults::{AfterFault, Unaccepted};
 pub use pictures::picture_after;

@@ -1,14 +1,15 @@
 // The picture of the state to which a script leads.
 ghost use Rattle.std.specs.Prelude.{◌≡◌, true, IfOk, OnOk, string_bytes};
 ghost use Rattle.reh_model.specs.Session.{state_of};
-ghost use Rattle.reh_picture_out.specs.InPart.{AreKnown};
+ghost use Rattle.reh_known.specs.Known.{AreKnown};
 ghost use Rattle.reh_after.specs.After as model;
 
-use crate::faults::{AfterFault, Untold, unheld};
+use crate::faults::{AfterFault, unheld};
 use crate::plays::play_lines;
 use reh_cluster::Names;
+use reh_known::{Doubted, doubt_text, first_doubt};
 use reh_picture::{Listed, check_picture, list_picture};
-use reh_picture_out::{InPart, first_in_part, picture_text};
+use reh_picture_out::picture_text;
 use reh_session::Session;
 use reh_types::MAX_SCRIPT_BYTES;
 use std::alloc::Global;
@@ -17,8 +18,8 @@ use std::alloc::Global;
 /// are passed over; a checkout, a spend and a discard aren't accepted.
 ///
 /// The picture has the marks of the one that the script began with, as far as they still hold. It leaves out tasks, locks,
-/// the clock and the switch of AutoRecovery. A question needs to know all of what bookies hold that took copies: a bookie
-/// that may hold more than it took is a fault then, as no picture can say so.
+/// the clock and the switch of AutoRecovery. A question needs to know what the bookies hold (`all_known`): where a script
+/// took it for granted, that is a fault then, as no picture can say so.
 pub fn picture_after(
     alloc: Global,
     picture: &[u8],
@@ -53,8 +54,7 @@ fn end_of(
     }
 }
 
-/// Whether it is known of each bookie what it holds, if that has to be: what was told when the script began, all that is
-/// striped onto it, or nothing.
+/// Whether it is known of each bookie what it holds, if that has to be.
 fn check_known(alloc: Global, begun: &Begun, all_known: bool) -> Result<(), AfterFault>
     ensures { OnOk result (all_known ≡ true
         → AreKnown (state_of begun.now.session) begun.now.marked) }
@@ -62,17 +62,17 @@ fn check_known(alloc: Global, begun: &Begun, all_known: bool) -> Result<(), Afte
     if !all_known {
         return Ok(());
     }
-    match first_in_part(begun.session.state(), &begun.marked) {
+    match first_doubt(begun.session.state(), &begun.marked) {
         None => Ok(()),
-        Some(found) => Err(untold(alloc, &begun.names, found)),
+        Some(found) => Err(doubt_of(alloc, &begun.names, found)),
     }
 }
 
-/// That a bookie isn't known to have all that is striped onto it, or that there is no memory.
-fn untold(alloc: Global, names: &Names, found: InPart) -> AfterFault {
-    let InPart { bookie, ledger } = found;
-    match String::from_str(alloc, names.name(bookie).unwrap_or("")) {
-        Ok(bookie) => AfterFault::Untold(Untold { bookie, ledger }),
+/// That it isn't known what a bookie holds, or that there is no memory.
+fn doubt_of(alloc: Global, names: &Names, found: Doubted) -> AfterFault {
+    let bookie = names.name(found.bookie).unwrap_or("");
+    match doubt_text(alloc, found.doubt, bookie, found.ledger.0) {
+        Ok(doubt) => AfterFault::Doubt(doubt),
         Err(want) => AfterFault::from(want),
     }
 }

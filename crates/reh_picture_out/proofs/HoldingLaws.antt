@@ -31,7 +31,7 @@ use Rattle.reh_picture.specs.Contents.{Holding, ends_of, holding_in, copies_with
 use Rattle.reh_picture_out.specs.Marks.{is_told, lacks_content, has_assumed}
 use Rattle.reh_picture_out.specs.Ranges.{is_within, is_in}
 use Rattle.reh_picture_out.specs.Holdings.{held_by, tells, Adds, LiesWithin}
-use Rattle.reh_picture_out.specs.Written.{name_at, range_data, content_data, IsMarked, AreContents}
+use Rattle.reh_picture_out.specs.Written.{name_at, range_data, content_data, IsMarked, IsNeeded, AreContents}
 use Rattle.reh_picture_out.proofs.Depths.{depth-push, depth-content}
 use Rattle.reh_picture_out.proofs.NamesLaws.{bookie_in-name_at}
 use Rattle.reh_picture_out.proofs.RangeLaws.{any-range}
@@ -146,10 +146,11 @@ tells-pushed names ds d b l =
 module _ (names : List (List ℕ)) (held : Contents) (began : List Holding) where
   -- a content of a bookie and a ledger
   pub Adds-one : (assumed : Bool) (bookie ledger : ℕ) (ranges : List (ℕ × ℕ)) → IsDistinct bytes_eq names → bookie < length names
-      → assumed ≡ has_assumed began ledger → ((e : ℕ) → is_in ranges e ≡ has held bookie ledger e) → (ds : List Data)
+      → assumed ≡ has_assumed began ledger → lacks_content began bookie ledger ranges ≡ false
+      → ((e : ℕ) → is_in ranges e ≡ has held bookie ledger e) → (ds : List Data)
       → Adds names held began (is_of bookie ledger) ds
       (ds ++ content_data assumed (name_at names bookie) ledger ranges ∷ [])
-  Adds-one assumed bookie ledger ranges apart within marked told ds = record {
+  Adds-one assumed bookie ledger ranges apart within marked needed told ds = record {
     more = λ b l e.
         has-pushed b l e assumed names ds (name_at names bookie) ledger ranges
         ∙ ap (λ k. has (held_by names ds) b l e || ((nat_eq b k && nat_eq l ledger) && is_in ranges e))
@@ -158,6 +159,11 @@ module _ (names : List (List ℕ)) (held : Contents) (began : List Holding) wher
     marked = λ all.
         let one : IsMarked began (content_data assumed (name_at names bookie) ledger ranges) = marked in
         All-push (IsMarked began) ds (content_data assumed (name_at names bookie) ledger ranges) all one;
+    needed = λ all.
+        let read = ap (map ends_of) (elements-items_of (map range_data ranges)) ∙ ranges-back ranges in
+        let one : IsNeeded names began (content_data assumed (name_at names bookie) ledger ranges) =
+        (λ i. lacks_content began (bookie_in-name_at names bookie apart within i) ledger (read i)) ∙ needed in
+        All-push (IsNeeded names began) ds (content_data assumed (name_at names bookie) ledger ranges) all one;
     stays = λ b l one.
         tells-pushed names ds (content_data assumed (name_at names bookie) ledger ranges) b l
         ∙ ap (λ t. t || tells names (content_data assumed (name_at names bookie) ledger ranges ∷ []) b l) one;
@@ -183,19 +189,20 @@ module _ (names : List (List ℕ)) (held : Contents) (began : List Holding) wher
         ∙ ap (λ t. has (held_by names ds) b l e || t)
         (never (nat_eq b bookie && nat_eq l ledger) ∙ guarded held bookie ledger e b l false (told e));
     marked = λ all. all;
+    needed = λ all. all;
     flat = λ flat. flat;
   }
 
   -- the same with the value that stands for it
   pub Adds-value : (assumed : Bool) (bookie ledger : ℕ) (ranges : List (ℕ × ℕ)) → IsDistinct bytes_eq names
-      → bookie < length names → assumed ≡ has_assumed began ledger
+      → bookie < length names → assumed ≡ has_assumed began ledger → lacks_content began bookie ledger ranges ≡ false
       → ((e : ℕ) → is_in ranges e ≡ has held bookie ledger e) → (vs : List Value) (v : Value)
       → view v ≡ content_data assumed (name_at names bookie) ledger ranges
       → Adds names held began (is_of bookie ledger) (map view vs) (map view (vs ++ v ∷ []))
-  Adds-value assumed bookie ledger ranges apart within marked told vs v is =
+  Adds-value assumed bookie ledger ranges apart within marked needed told vs v is =
       subst (λ ds. Adds names held began (is_of bookie ledger) (map view vs) ds)
       (sym (map-append view vs (v ∷ []) ∙ ap (λ d. map view vs ++ d ∷ []) is))
-      (Adds-one assumed bookie ledger ranges apart within marked told (map view vs))
+      (Adds-one assumed bookie ledger ranges apart within marked needed told (map view vs))
 
   join : (x p q h : Bool) → ((x || (p && h)) || (q && h)) ≡ (x || ((p || q) && h))
   join true p q h = refl
@@ -220,6 +227,7 @@ module _ (names : List (List ℕ)) (held : Contents) (began : List Holding) wher
           | false ↦ λ _ other. second.again b l other was
         ] refl (sym (is b l) ∙ pass);
     marked = λ all. second.marked (first.marked all);
+    needed = λ all. second.needed (first.needed all);
     flat = λ flat. second.flat (first.flat flat);
   }
 
@@ -232,6 +240,7 @@ module _ (names : List (List ℕ)) (held : Contents) (began : List Holding) wher
     stays = λ b l one. one;
     again = λ b l pass was. absurd (false≢true (sym (none b l) ∙ pass));
     marked = λ all. all;
+    needed = λ all. all;
     flat = λ flat. flat;
   }
 
@@ -364,6 +373,7 @@ contents-all s began ds ledgers k good same past added =
       held_are = held-all s.names s.parts.held began s.parts.ledgers ds good.contents.copies whole;
       again = whole.again;
       marked = whole.marked (All-nil (IsMarked began));
+      needed = whole.needed (All-nil (IsNeeded s.names began));
       flat = whole.flat (omega arith);
     }
 

@@ -1,6 +1,6 @@
 -- What is written is read as what a picture keeps.
 use Rattle.std.proofs.Common.{◌≡◌, ℕ, ◌≤◌, Bool, true, false, List, map, length, refl, sym, ap, subst, ◌∙◌, arith}
-use Rattle.std.specs.Prelude.{◌==◌, Option, None, Some, Result, Ok, Err, if◌then◌else◌, nat_lt}
+use Rattle.std.specs.Prelude.{◌==◌, All, Option, None, Some, Result, Ok, Err, if◌then◌else◌, nat_lt}
 use Rattle.std.specs.Option.{ok_or, option_or}
 use Rattle.std.proofs.lemmas.Bool.Decides.{nat_tests}
 use Rattle.std.proofs.lemmas.List.Elements.{All-map, All-same}
@@ -25,10 +25,10 @@ use Rattle.reh_picture.specs.Contents.{Holding, holding_in}
 use Rattle.reh_picture.specs.Marks.{BookieMarks, bookie_marks}
 use Rattle.reh_picture.specs.Listings.{ListsFields, ListsJson, listing_fault, located_json, located_listing}
 use Rattle.reh_picture.specs.Pictures.{pictured_cluster, picture_of, json_in, names_of, fields_fault, unless_fault, shown_by}
-use Rattle.reh_picture_out.specs.Marks.{is_told, has_assumed, KeepsMarksIn}
+use Rattle.reh_picture_out.specs.Marks.{is_told, lacks_content, has_assumed, KeepsMarksIn}
 use Rattle.reh_picture_out.specs.Kept.{lost_at_start, kept_of}
 use Rattle.reh_picture_out.specs.Holdings.{held_by}
-use Rattle.reh_picture_out.specs.Written.{bookies_data, ledgers_data, first_data, delayed_data, written_data, picture_data, IsMarked, IsPicture}
+use Rattle.reh_picture_out.specs.Written.{bookies_data, ledgers_data, first_data, delayed_data, written_data, picture_data, IsMarked, IsNeeded, IsPicture}
 use Rattle.reh_picture_out.proofs.NamesLaws.{names-back, registrations-back, all-marks-back}
 use Rattle.reh_picture_out.proofs.LedgerLaws.{ledgers-back}
 use Rattle.reh_picture_out.proofs.Depths.{depth-bookies, depth-ledgers, depth-written}
@@ -160,4 +160,10 @@ marks-kept s began d bytes picture reads none = λ new lists.
           ap (λ hs. is_told hs b l)
           (fields.listing.holdings_are ∙ (λ i. map (holding_in (names i)) (contents i)))
           ∙ picture.are_contents.again b l there was;
+      needed =
+          let P = λ (h : Holding). lacks_content told h.bookie h.ledger h.ranges ≡ false in
+          All-same P _ _ fields.listing.holdings_are
+          (All-map P (holding_in (names_of d)) (list_of d field.Contents)
+          (All-same (IsNeeded (names_of d) told) _ _ contents
+          (subst (λ ns. All (IsNeeded ns told) picture.contents) (sym names) picture.are_contents.needed)));
     }

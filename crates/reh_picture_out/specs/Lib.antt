@@ -4,4 +4,3 @@ pub mod Written
 pub mod Ranges
 pub mod Holdings
 pub mod Unshown
-pub mod InPart

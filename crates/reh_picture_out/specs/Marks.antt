@@ -44,13 +44,15 @@ abbrev pub is_there : Cluster → ℕ → ℕ → Bool
 is_there s bookie ledger = nat_lt bookie (length s.names) && list_any (λ g. nat_eq g.id ledger) s.parts.ledgers
 
 -- The new picture has the marks of the old one's bookies that stay, and all contents of a ledger are assumed where one of
--- them was. Where the old one had a content, it has one.
+-- them was. Where the old one had a content, it has one; any other has an entry.
 pub record KeepsMarks (s : Cluster) (old new : Listed) : Type 0 where
   pub bookies : new.marks.items ≡ map (kept_marks s old.marks.items) (range_with_len 0 (length s.names))
   pub contents :
       All (λ h. h.is_assumed ≡ has_assumed old.listing.holdings.items h.ledger) new.listing.holdings.items
   pub told : (b l : ℕ) → is_there s b l ≡ true → is_told old.listing.holdings.items b l ≡ true
       → is_told new.listing.holdings.items b l ≡ true
+  pub needed :
+      All (λ h. lacks_content old.listing.holdings.items h.bookie h.ledger h.ranges ≡ false) new.listing.holdings.items
 
 -- whatever these bytes list as a picture
 abbrev pub KeepsMarksIn : Cluster → Listed → List ℕ → Type 0

@@ -1,5 +1,5 @@
 -- The JSON that is written of a cluster.
-use Rattle.std.specs.Prelude.{◌≡◌, ℕ, zero, ◌-◌, ◌≤◌, ◌==◌, negsuc, Bool, true, if◌then◌else◌, List, [], map, codes, length}
+use Rattle.std.specs.Prelude.{◌≡◌, ℕ, zero, ◌-◌, ◌≤◌, ◌==◌, negsuc, Bool, true, false, if◌then◌else◌, List, [], map, codes, length}
 use Rattle.std.specs.Prelude.{All, Option, None, Some, unwrap_or, slice_get}
 use Rattle.std.specs.List.{range_with_len}
 use Rattle.serde_json.specs.Data.{Num, unsigned, negative, Data, boolean, number, string, array, object, Items, no_items}
@@ -13,7 +13,7 @@ use Rattle.reh_fields.specs.declared.fields.Field.TheVariants as field
 use Rattle.reh_fields.specs.Members.{mark_of, number_of}
 use Rattle.reh_picture.specs.Contents.{Holding, holding_in, held_in}
 use Rattle.reh_picture.specs.Marks.{BookieMarks}
-use Rattle.reh_picture_out.specs.Marks.{kept_marks, is_told, has_assumed, is_there}
+use Rattle.reh_picture_out.specs.Marks.{kept_marks, is_told, lacks_content, has_assumed, is_there}
 
 -- Bookies
 
@@ -109,11 +109,17 @@ content_data assumed name ledger ranges =
 abbrev pub IsMarked : List Holding → Data → Type 0
 IsMarked told d = mark_of d field.Assumed ≡ has_assumed told (number_of d field.Ledger)
 
--- These contents, read, are what a cluster's bookies hold, and have the marks that stay; there is one for what was told.
+-- a content that has an entry, or of a bookie and a ledger that had one
+abbrev pub IsNeeded : List (List ℕ) → List Holding → Data → Type 0
+IsNeeded names told d = let h = holding_in names d in lacks_content told h.bookie h.ledger h.ranges ≡ false
+
+-- These contents, read, are what a cluster's bookies hold, and have the marks that stay; there is one for what was told, and
+-- any other has an entry.
 pub record AreContents (s : Cluster) (told : List Holding) (contents : List Data) : Type 0 where
   pub held_are : held_in (map (holding_in s.names) contents) ≡ s.parts.held
   pub again : (b l : ℕ) → is_there s b l ≡ true → is_told told b l ≡ true
       → is_told (map (holding_in s.names) contents) b l ≡ true
+  pub needed : All (IsNeeded s.names told) contents
   pub marked : All (IsMarked told) contents
   pub flat : items_depth (items_of contents) ≤ 3
 

@@ -3,13 +3,12 @@
 
 mod bookies;
 mod contents;
-mod in_part;
 mod ledgers;
 mod pictures;
 mod ranges;
 mod told;
 mod unshown;
 
-pub use in_part::{InPart, first_in_part};
 pub use pictures::picture_text;
+pub use ranges::is_clear;
 pub use unshown::Unshown;

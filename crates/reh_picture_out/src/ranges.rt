@@ -32,7 +32,7 @@ pub(crate) fn ranges_of(
 }
 
 /// Whether no word has a bit that is set.
-pub(crate) fn is_clear(words: &[u64]) -> bool
+pub fn is_clear(words: &[u64]) -> bool
     ensures { IsTrue result → EachIndex words.now (λ k. slice_index words.now k ≡ 0) }
 {
     for word in words {

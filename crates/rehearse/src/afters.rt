@@ -6,7 +6,7 @@ use crate::faults::RunFault;
 use crate::files::{read_picture, read_script};
 use crate::inputs::{refused, unfit};
 use crate::mistaken::explained;
-use reh_after::{AfterFault, Unaccepted, Untold, picture_after};
+use reh_after::{AfterFault, Unaccepted, picture_after};
 use std::alloc::{AllocError, Global};
 
 /// The text of the picture of the state to which the script in a file leads from the picture in another. For a question it
@@ -40,7 +40,9 @@ fn unplayed(alloc: Global, picture: &str, script: &str, fault: AfterFault) -> Ru
         },
         AfterFault::TooLong => RunFault::TooLong,
         AfterFault::Unaccepted(first) => unfit(unaccepted_text(alloc, script, &first)),
-        AfterFault::Untold(first) => unfit(untold_text(alloc, picture, script, &first)),
+        AfterFault::Doubt(doubt) => unfit(format!(in alloc;
+            "{picture}: {doubt}: nothing is asked after {script}"
+        )),
         AfterFault::Unheld(fault) => unfit(format!(in alloc;
             "{script}: no picture holds the state at the end: {fault}"
         )),
@@ -53,19 +55,5 @@ fn unaccepted_text(alloc: Global, script: &str, first: &Unaccepted) -> Result<St
     let Unaccepted { line, answer } = first;
     format!(in alloc;
         "{script}:{line}: {answer}: nothing is asked, as each command has to be accepted first"
-    )
-}
-
-/// That a bookie took copies, and nothing told what it held before.
-fn untold_text(
-    alloc: Global,
-    picture: &str,
-    script: &str,
-    first: &Untold,
-) -> Result<String, AllocError> {
-    let Untold { bookie, ledger } = first;
-    let ledger = ledger.0;
-    format!(in alloc;
-        "{picture}: nothing tells what {bookie} held of ledger {ledger} before {script} gave it copies: nothing is asked"
     )
 }

@@ -11,8 +11,9 @@ use crate::files::{LateFile, read_picture, unwritten};
 use crate::looks::Looks;
 use crate::runs::{play_opened, tell_unbegun};
 use reh_cluster::State;
+use reh_known::{doubt_text, first_doubt};
 use reh_picture::{Holding, Listed, PictureFault, list_picture};
-use reh_picture_out::{Unshown, first_in_part, picture_text};
+use reh_picture_out::{Unshown, picture_text};
 use reh_script::{Gathered, Opened, TextOut, ToWrite, open_picture};
 use reh_types::BookieIx;
 use reh_words::PlayOut;
@@ -83,7 +84,7 @@ fn write_end(
     if !looks.is_quiet {
         say_unshown(rt, words.out, Unshown::of(state));
         say_marks(rt, words, state, began);
-        say_in_part(rt, words.out, state, began);
+        say_doubt(rt, words.out, state, began);
     }
     Ok(())
 }
@@ -247,14 +248,13 @@ fn say_filled(rt: &HostRuntime, out: &str, state: &State, bookie: BookieIx) {
     }
 }
 
-/// Says that a bookie may hold more than it took in the rehearsal, if nothing told what it held before. A picture can't say so.
-fn say_in_part(rt: &HostRuntime, out: &str, state: &State, began: &Listed) {
-    let Some(found) = first_in_part(state, began) else {
+/// Says that questions can't be asked of the picture, where it isn't known what the bookies hold. A picture can't say so.
+fn say_doubt(rt: &HostRuntime, out: &str, state: &State, began: &Listed) {
+    let Some(found) = first_doubt(state, began) else {
         return;
     };
-    if let Some(name) = state.names().name(found.bookie) {
-        let ledger = found.ledger.0;
-        let why = "nothing tells what it held before, and questions count that as lost";
-        let _ = eprintln!(rt; "note: {out} has only what {name} took of ledger {ledger}: {why}");
+    let bookie = state.names().name(found.bookie).unwrap_or("");
+    if let Ok(doubt) = doubt_text(rt.alloc(), found.doubt, bookie, found.ledger.0) {
+        let _ = eprintln!(rt; "note: ask no question of {out}: {doubt}");
     }
 }

@@ -1,7 +1,7 @@
 -- The bookie's row is written, or has no entry and was not told.
 use Rattle.std.proofs.Common.{◌≡◌, ◌∙◌, ap, sym}
 use Rattle.std.specs.Prelude.{false}
-use Rattle.reh_picture_out.specs.Marks.{is_told}
+use Rattle.reh_picture_out.specs.Marks.{is_told, lacks_content}
 use Rattle.reh_picture_out.specs.Ranges.{is_in}
 use Rattle.reh_picture_out.specs.Written.{name_at, content_data}
 use Rattle.reh_picture_out.proofs.HoldingLaws.{Adds-none, Adds-value, lacks-told}
@@ -27,6 +27,7 @@ returns c =
     rw c.in_ok-push.ensures.items
     (Adds-value names c.args.state.now.parts.held c.args.told.now c.args.assumed bookie c.args.ledger.now.id ranges
     c.names-names.ensures.well_formed.names.different c.requires.bookie c.requires.assumed
+    (sym (ap (λ l. lacks_content c.args.told.now bookie l ranges) c.id.ensures) ∙ sym c.if-lacks_content.ensures)
     (λ e. ap (λ rs. is_in rs e) c.as_slice-ranges.ensures.value ∙ c.in_ok-held.ensures e)
     c.args.contents.now.items _
     (c.in_ok-content.ensures
