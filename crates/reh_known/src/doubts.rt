@@ -1,32 +1,32 @@
-// The first reason why it isn't known what the bookies hold.
+// Why no question is asked at the end of a rehearsal.
 ghost use Rattle.std.specs.Prelude.{◌≡◌, true, All, IfNone, IfOk, string_bytes};
 ghost use Rattle.reh_known.specs.Known as model;
 ghost use Rattle.reh_known.specs.Texts as texts;
 
-use crate::members::{has_moved, is_in_last, lacks_share};
-use crate::told::{is_shown_empty, was_told};
+use crate::members::{has_other_end, is_at_end, lacks_share};
+use crate::told::{is_shown_empty, was_told, was_told_end};
 use reh_cluster::{Ledger, State};
 use reh_inputs::check_empties;
 use reh_picture::Listed;
 use reh_picture_out::is_clear;
-use reh_types::{BookieIx, LedgerId, LedgerState};
+use reh_types::{BookieIx, LedgerId};
 use std::alloc::{AllocError, Global};
 
-/// Why it isn't known what a bookie holds of a ledger. A question would count on what the script took for granted.
+/// Why no question is asked after a script, of a bookie and a ledger.
 #[derive(Clone, Copy)]
 pub enum Doubt {
-    /// The picture shows it as one that came back without its disk, and gives it entries.
+    /// The picture shows the bookie as one that came back without its disk, and gives it entries.
     ShownEmpty,
-    /// It took copies, nothing told what it held before, and it isn't known to have all that is striped onto it.
+    /// The bookie took copies, nothing told what it held before, and it isn't known to have all that is striped onto it.
     TookCopies,
-    /// It had a place that another bookie has now, or whose fragment the script closed, and nothing told what it held. What
-    /// is assumed of a ledger that wasn't closed tells nothing then.
-    Moved,
-    /// It came back without its disk and took copies. A recovery of this ledger, which isn't closed, would count on it.
+    /// The bookie was in the last ensemble of the ledger, which wasn't closed. The script ended that fragment, or changed its
+    /// ensemble, and it wasn't told what this bookie held: neither an assumed content nor a lost disk tells that.
+    OtherEnd,
+    /// The bookie came back without its disk, is in such an ensemble, and took copies. A recovery would count on it.
     Refilled,
 }
 
-/// A bookie of which it isn't known what it holds of a ledger.
+/// A bookie and a ledger of which something wasn't told, and the reason why that matters.
 #[derive(Clone, Copy)]
 pub struct Doubted {
     pub bookie: BookieIx,
@@ -50,8 +50,8 @@ pub fn doubt_text(
         Doubt::TookCopies => format!(in alloc;
             "nothing tells what {bookie} held of ledger {ledger} before it took copies"
         ),
-        Doubt::Moved => format!(in alloc;
-            "nothing tells for sure what {bookie} held of ledger {ledger} before its fragments changed"
+        Doubt::OtherEnd => format!(in alloc;
+            "nothing tells for sure what {bookie} held of ledger {ledger} before its end changed"
         ),
         Doubt::Refilled => format!(in alloc;
             "a recovery of ledger {ledger} would count on {bookie} that was empty"
@@ -59,10 +59,11 @@ pub fn doubt_text(
     }
 }
 
-/// A bookie of which it isn't known, at the end of a rehearsal of this picture, what it holds, if there is one.
+/// Why no question is asked at the end of a rehearsal of this picture, if there is a reason: something that the script went
+/// by wasn't told.
 ///
-/// A script takes what nothing tells to be nothing. So the state at the end tells less than the cluster would have where a
-/// bookie took copies, or where a script closed a fragment or gave a place away by what was told.
+/// A script takes what nothing tells to be nothing. So where a bookie took copies, its content at the end may tell less than
+/// it holds; and a ledger or a fragment that the script closed may in fact go on.
 pub fn first_doubt(state: &State, began: &Listed) -> Option<Doubted>
     ensures none { IfNone result (model.AreKnown state.now began.now) }
 {
@@ -76,7 +77,7 @@ pub fn first_doubt(state: &State, began: &Listed) -> Option<Doubted>
     first_of_ledgers(state, began)
 }
 
-/// A bookie of which it isn't known what it holds of one of the picture's ledgers, if there is one.
+/// The first reason of any ledger, if there is one.
 fn first_of_ledgers(state: &State, began: &Listed) -> Option<Doubted>
     ensures none { IfNone result
         (All (model.IsKnownSince state.now began.now) began.now.listing.ledgers.items) }
@@ -89,7 +90,7 @@ fn first_of_ledgers(state: &State, began: &Listed) -> Option<Doubted>
     None
 }
 
-/// A bookie of which it isn't known what it holds of the ledger, if there is one.
+/// The first reason of the ledger, if there is one.
 fn first_of_ledger(state: &State, began: &Listed, was: &Ledger) -> Option<Doubted>
     ensures none { IfNone result (model.IsKnownSince state.now began.now was.now) }
 {
@@ -99,7 +100,7 @@ fn first_of_ledger(state: &State, began: &Listed, was: &Ledger) -> Option<Doubte
     }
 }
 
-/// A bookie of which it isn't known what it holds of the ledger that was so, and is so now, if there is one.
+/// The first reason of the ledger that was so, and is so now, if there is one.
 fn first_of_bookies(state: &State, began: &Listed, was: &Ledger, now: &Ledger) -> Option<Doubted>
     ensures none { IfNone result (model.AreKnownOf state.now began.now was.now now.now) }
 {
@@ -116,7 +117,7 @@ fn first_of_bookies(state: &State, began: &Listed, was: &Ledger, now: &Ledger) -
     None
 }
 
-/// Why it isn't known what the bookie holds of the ledger, if it isn't.
+/// Why something that matters wasn't told of the bookie and the ledger, if so.
 fn doubt_of(
     state: &State,
     began: &Listed,
@@ -126,46 +127,39 @@ fn doubt_of(
 ) -> Option<Doubt>
     ensures none { IfNone result (model.IsKnown state.now began.now was.now now.now bookie) }
 {
-    let ledger = now.id();
-    if !is_told_or_whole(state, began, now, bookie) {
+    if !is_told(state, began, now, bookie) {
         return Some(Doubt::TookCopies);
     }
-    if has_moved(was.metadata(), now.metadata(), bookie)
-        && !was_told(began, is_closed(was.metadata().state()), bookie, ledger)
-    {
-        return Some(Doubt::Moved);
+    if is_end_guessed(began, was, now, bookie) {
+        return Some(Doubt::OtherEnd);
     }
-    if is_refilled(state, began, now, bookie) {
+    if is_refilled(state, began, was, bookie) {
         return Some(Doubt::Refilled);
     }
     None
 }
 
-/// Whether the picture told what the bookie holds of the ledger, or it holds nothing of it or all that is striped onto it.
-fn is_told_or_whole(state: &State, began: &Listed, now: &Ledger, bookie: BookieIx) -> bool
-    ensures { result ≡ true → model.HoldsKnown state.now began.now now.now bookie }
+/// Whether the picture told what the bookie held of the ledger, or it holds nothing of it or all that is striped onto it.
+fn is_told(state: &State, began: &Listed, now: &Ledger, bookie: BookieIx) -> bool
+    ensures { result ≡ true → model.IsTold state.now began.now now.now bookie }
 {
     is_clear(state.row(bookie, now.id()))
-        || was_told(began, true, bookie, now.id())
+        || was_told(began, bookie, now.id())
         || !lacks_share(state, bookie, now)
 }
 
-/// Whether the bookie came back without its disk, holds an entry now, and is in the last ensemble of the ledger, which isn't
-/// closed.
-fn is_refilled(state: &State, began: &Listed, now: &Ledger, bookie: BookieIx) -> bool
-    ensures { result ≡ model.is_refilled state.now began.now now.now bookie }
+/// Whether the ledger has another end, the bookie was at the one before, and wasn't told what it held of it.
+fn is_end_guessed(began: &Listed, was: &Ledger, now: &Ledger, bookie: BookieIx) -> bool
+    ensures { result ≡ model.is_end_guessed began.now was.now now.now bookie }
 {
-    is_shown_empty(began, bookie)
-        && state.count(bookie) != 0
-        && !is_closed(now.metadata().state())
-        && is_in_last(now.metadata(), bookie)
+    has_other_end(was.metadata(), now.metadata())
+        && is_at_end(was.metadata(), bookie)
+        && !was_told_end(began, bookie, now.id())
 }
 
-fn is_closed(state: LedgerState) -> bool
-    ensures { result ≡ model.is_closed state }
+/// Whether the bookie came back without its disk, was at the end of the ledger, and holds an entry now.
+fn is_refilled(state: &State, began: &Listed, was: &Ledger, bookie: BookieIx) -> bool
+    ensures { result ≡ model.is_refilled state.now began.now was.now bookie }
 {
-    match state {
-        LedgerState::Closed { .. } => true,
-        LedgerState::Open | LedgerState::InRecovery => false,
-    }
+    is_shown_empty(began, bookie) && state.count(bookie) != 0 && is_at_end(was.metadata(), bookie)
 }

@@ -1,4 +1,4 @@
-// Whether it is known, at the end of a rehearsal, what the bookies hold: only then can a question be asked of that state.
+// Whether a question can be asked at the end of a rehearsal: whether what its script went by was told.
 #![tactic(auto)]
 
 mod doubts;

@@ -1,27 +1,44 @@
-// Places of a ledger's fragments, and what is striped onto them.
+// Which bookies are at the end of a ledger, and which have what is striped onto them.
 ghost use Rattle.std.specs.Prelude.{◌≡◌, ℕ, ◌<◌, ◌&&◌, nat_eq, not, false, is_none, length, IfSome};
 ghost use Rattle.std.specs.List.{list_any};
 ghost use Rattle.reh_model.specs.Cluster.{holds};
 ghost use Rattle.reh_model.specs.Metadata.{last_fragment, stop_of, stripe_of};
+ghost use Rattle.reh_meta.specs.Same.{same_fragment};
 ghost use Rattle.reh_known.specs.Known as model;
 
 use reh_cluster::{Ledger, State};
 use reh_meta::LedgerMeta;
 use reh_stripe::Striped;
-use reh_types::{BookieIx, LedgerId};
+use reh_types::{BookieIx, LedgerId, LedgerState};
 
-/// Whether the bookie is the member at that index of the fragment of that number.
-fn is_member_at(metadata: &LedgerMeta, number: usize, index: u32, bookie: BookieIx) -> bool
-    ensures { result ≡ model.is_member_at metadata.now number index bookie }
+// Ends of ledgers
+
+/// Whether the ledger isn't closed, and the bookie is in its last ensemble.
+pub(crate) fn is_at_end(metadata: &LedgerMeta, bookie: BookieIx) -> bool
+    ensures { result ≡ model.is_at_end metadata.now bookie }
 {
-    match metadata.fragments().get(number) {
-        Some(fragment) => fragment.ensemble.get(index as usize) == Some(&bookie),
-        None => false,
+    !is_closed(metadata.state()) && is_in_last(metadata, bookie)
+}
+
+/// Whether the ledger wasn't closed, and is now, or has another last fragment, or another ensemble there.
+pub(crate) fn has_other_end(was: &LedgerMeta, now: &LedgerMeta) -> bool
+    ensures { result ≡ model.has_other_end was.now now.now }
+{
+    !is_closed(was.state()) && (is_closed(now.state()) || !has_same_last(was, now))
+}
+
+/// Whether the last fragment is the same, with the same ensemble.
+fn has_same_last(was: &LedgerMeta, now: &LedgerMeta) -> bool
+    ensures { result ≡ same_fragment (last_fragment was.now) (last_fragment now.now) }
+{
+    match (was.fragments().last(), now.fragments().last()) {
+        (Some(was), Some(now)) => was == now,
+        _ => false,
     }
 }
 
 /// Whether the bookie is in the last ensemble.
-pub(crate) fn is_in_last(metadata: &LedgerMeta, bookie: BookieIx) -> bool
+fn is_in_last(metadata: &LedgerMeta, bookie: BookieIx) -> bool
     ensures { result ≡ list_any (λ b. nat_eq bookie b) (last_fragment metadata.now).ensemble }
 {
     match metadata.fragments().last() {
@@ -30,59 +47,16 @@ pub(crate) fn is_in_last(metadata: &LedgerMeta, bookie: BookieIx) -> bool
     }
 }
 
-// Changed places
-
-/// Whether a place of the bookie has another member now, or its fragment another stop.
-pub(crate) fn has_moved(was: &LedgerMeta, now: &LedgerMeta, bookie: BookieIx) -> bool
-    ensures { result ≡ false → model.KeepsPlaces was.now now.now bookie }
+fn is_closed(state: LedgerState) -> bool
+    ensures { result ≡ model.is_closed state }
 {
-    for number in 0..was.fragments().len() {
-        if has_moved_in(was, now, number, bookie) {
-            return true;
-        }
-    }
-    false
-}
-
-/// Whether a place of the bookie in the fragment of that number has another member now, or the fragment another stop.
-fn has_moved_in(was: &LedgerMeta, now: &LedgerMeta, number: usize, bookie: BookieIx) -> bool
-    ensures { result ≡ false → (i : ℕ) → i < was.now.size
-        → model.is_changed_at was.now now.now number i bookie ≡ false }
-{
-    for index in 0..was.size() {
-        if is_changed_at(was, now, number, index, bookie) {
-            return true;
-        }
-    }
-    false
-}
-
-/// Whether the bookie had the place at that index, and it has another member now, or its fragment another stop.
-fn is_changed_at(
-    was: &LedgerMeta,
-    now: &LedgerMeta,
-    number: usize,
-    index: u32,
-    bookie: BookieIx,
-) -> bool
-    ensures { result ≡ model.is_changed_at was.now now.now number index bookie }
-{
-    is_member_at(was, number, index, bookie)
-        && !(is_member_at(now, number, index, bookie) && has_same_stop(was, now, number))
-}
-
-/// Whether the fragment has the same stop in both, or none in either.
-fn has_same_stop(was: &LedgerMeta, now: &LedgerMeta, number: usize) -> bool
-    ensures { result ≡ model.has_same_stop was.now now.now number }
-{
-    match (was.end_of(number), now.end_of(number)) {
-        (Some(was), Some(now)) => was == now,
-        (None, None) => true,
-        _ => false,
+    match state {
+        LedgerState::Closed { .. } => true,
+        LedgerState::Open | LedgerState::InRecovery => false,
     }
 }
 
-// Shares
+// Shares of entries
 
 /// Whether the bookie isn't known to have all entries of the ledger that are striped onto it.
 pub(crate) fn lacks_share(state: &State, bookie: BookieIx, ledger: &Ledger) -> bool
@@ -119,6 +93,16 @@ fn lacks_at(state: &State, bookie: BookieIx, ledger: &Ledger, number: usize, ind
     match stripe_at(ledger, number, index) {
         Some(entries) => lacks_any(state, bookie, ledger.id(), entries),
         None => true,
+    }
+}
+
+/// Whether the bookie is the member at that index of the fragment of that number.
+fn is_member_at(metadata: &LedgerMeta, number: usize, index: u32, bookie: BookieIx) -> bool
+    ensures { result ≡ model.is_member_at metadata.now number index bookie }
+{
+    match metadata.fragments().get(number) {
+        Some(fragment) => fragment.ensemble.get(index as usize) == Some(&bookie),
+        None => false,
     }
 }
 

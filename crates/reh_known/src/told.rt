@@ -6,17 +6,22 @@ ghost use Rattle.reh_known.specs.Known as model;
 use reh_picture::{Holding, Listed};
 use reh_types::{BookieIx, LedgerId};
 
-/// Whether the picture told what the bookie holds of the ledger: by a content, or as it had come back without its disk.
-pub(crate) fn was_told(began: &Listed, may_assume: bool, bookie: BookieIx, ledger: LedgerId) -> bool
-    ensures { result ≡ model.was_told began.now may_assume bookie ledger }
+/// Whether the picture told what the bookie holds of the ledger: by a content, also an assumed one, or as it had come back
+/// without its disk.
+pub(crate) fn was_told(began: &Listed, bookie: BookieIx, ledger: LedgerId) -> bool
+    ensures { result ≡ model.was_told began.now bookie ledger }
 {
     is_shown_empty(began, bookie)
-        || is_said(
-            began.listing.holdings.as_slice(),
-            may_assume,
-            bookie,
-            ledger,
-        )
+        || is_said(began.listing.holdings.as_slice(), true, bookie, ledger)
+}
+
+/// Whether it told what the bookie holds of the end of the ledger, too: by a content that isn't assumed, of a bookie that
+/// hadn't come back without its disk.
+pub(crate) fn was_told_end(began: &Listed, bookie: BookieIx, ledger: LedgerId) -> bool
+    ensures { result ≡ model.was_told_end began.now bookie ledger }
+{
+    is_said(began.listing.holdings.as_slice(), false, bookie, ledger)
+        && !is_shown_empty(began, bookie)
 }
 
 /// Whether the picture shows the bookie as one that came back without its disk.
