@@ -76,7 +76,7 @@ pub record IsEnd (begun : Begun) (script : List ℕ) (all_known : Bool) (text : 
   pub shown : picture_of text ≡ Ok (kept_of (state_of session))
   pub listed : located_listing text ≡ None
   pub marks : KeepsMarksIn (state_of session) begun.marked text
-  pub known : all_known ≡ true → AreKnown (state_of session) begun.marked
+  pub known : all_known ≡ true → AreKnown (state_of session) session.done begun.marked
 
 -- the text is the picture of the state to which the script leads from the picture
 pub record IsAfter (picture script : List ℕ) (all_known : Bool) (text : List ℕ) : Type 0 where

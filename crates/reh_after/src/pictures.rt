@@ -19,7 +19,7 @@ use std::alloc::Global;
 ///
 /// The picture has the marks of the one that the script began with, as far as they still hold. It leaves out tasks, locks,
 /// the clock and the switch of AutoRecovery. A question needs to know what the bookies hold (`all_known`): where a script
-/// took it for granted, that is a fault then, as no picture can say so.
+/// went by what isn't told, that is a fault then, as no picture can say so.
 pub fn picture_after(
     alloc: Global,
     picture: &[u8],
@@ -57,12 +57,13 @@ fn end_of(
 /// Whether it is known of each bookie what it holds, if that has to be.
 fn check_known(alloc: Global, begun: &Begun, all_known: bool) -> Result<(), AfterFault>
     ensures { OnOk result (all_known ≡ true
-        → AreKnown (state_of begun.now.session) begun.now.marked) }
+        → AreKnown (state_of begun.now.session) begun.now.session.done begun.now.marked) }
 {
     if !all_known {
         return Ok(());
     }
-    match first_doubt(begun.session.state(), &begun.marked) {
+    let session = &begun.session;
+    match first_doubt(session.state(), session.done(), &begun.marked) {
         None => Ok(()),
         Some(found) => Err(doubt_of(alloc, &begun.names, found)),
     }

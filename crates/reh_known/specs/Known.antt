@@ -1,17 +1,23 @@
 -- What a question after a script goes by. The script takes what nothing tells to be nothing, so its end can tell less than the
--- cluster has: where that matters, no question is asked.
-use Rattle.std.specs.Prelude.{◌≡◌, ℕ, ◌<◌, ◌⊎◌, All, Bool, true, false, not, ◌&&◌, ◌||◌, nat_eq, List, length, slice_get, is_none}
+-- cluster has: where it would do so as said below, no question is asked.
+use Rattle.std.specs.Prelude.{◌≡◌, ℕ, ◌<◌, ◌⊎◌, ⊥, All, Bool, true, false, not, ◌&&◌, ◌||◌, nat_eq, List, length, slice_get, is_none}
 use Rattle.std.specs.List.{list_any}
-use Rattle.std.specs.Option.{ForSome, option_map_or}
+use Rattle.std.specs.Option.{ForSome, IsSomeAnd, option_map_or}
+use Rattle.reh_types.specs.declared.moves.Event.{Event}
+use Rattle.reh_types.specs.declared.moves.Event.TheVariants.{Roll, Seal}
 use Rattle.reh_types.specs.declared.names.LedgerState.{LedgerState}
 use Rattle.reh_types.specs.declared.names.LedgerState.TheVariants.{Open, InRecovery, Closed}
 use Rattle.reh_model.specs.Cluster.{Cluster, Ledger, holds, ledger_at}
 use Rattle.reh_model.specs.Contents.{count_held}
 use Rattle.reh_model.specs.Metadata.{Metadata, last_fragment, stop_of, stripe_of}
-use Rattle.reh_meta.specs.Same.{same_fragment}
 use Rattle.reh_picture.specs.declared.listings.Listed.{Listed}
 use Rattle.reh_picture.specs.Contents.{Holding}
 use Rattle.reh_inputs.specs.Empties.{EmptyHoldNothing, is_shown_empty}
+use Rattle.reh_inputs.specs.Faults.{IsHeldBy}
+use Rattle.reh_inputs.specs.declared.inputs.Input.TheVariants.{Picture}
+use Rattle.reh_known.specs.declared.doubts.Doubt.{Doubt}
+use Rattle.reh_known.specs.declared.doubts.Doubt.TheVariants.{ShownEmpty, TookCopies, OtherEnd, Refilled}
+use Rattle.reh_known.specs.declared.doubts.Doubted.{Doubted}
 
 -- What the picture told with which the rehearsal began
 
@@ -24,7 +30,7 @@ abbrev pub is_said : List Holding → Bool → ℕ → ℕ → Bool
 is_said told may_assume bookie ledger =
     list_any (λ h. (nat_eq h.bookie bookie && nat_eq h.ledger ledger) && tells may_assume h) told
 
--- whether the picture told it: by a content, also an assumed one, or as the bookie had come back without its disk
+-- whether the picture told it: by a content, also an assumed one that isn't empty, or as the bookie had come back without its disk
 abbrev pub was_told : Listed → ℕ → ℕ → Bool
 was_told began bookie ledger =
     is_shown_empty began bookie || is_said began.listing.holdings.items true bookie ledger
@@ -70,41 +76,69 @@ is_closed (Closed end) = true
 abbrev pub is_at_end : Metadata → ℕ → Bool
 is_at_end m bookie = not (is_closed m.state) && list_any (nat_eq bookie) (last_fragment m).ensemble
 
--- whether the ledger wasn't closed, and is now, or has another last fragment, or another ensemble there
-abbrev pub has_other_end : Metadata → Metadata → Bool
-has_other_end was now =
-    not (is_closed was.state)
-    && (is_closed now.state || not (same_fragment (last_fragment was) (last_fragment now)))
+-- whether an event changes the end of the ledger: it begins a fragment there, changes the last ensemble, or closes the ledger
+abbrev pub changes_end : ℕ → Event → Bool
+changes_end ledger (Roll l i b) = nat_eq l ledger
+changes_end ledger (Seal w l) = nat_eq l ledger
+changes_end ledger event = false
 
--- whether it has another end, the bookie was at the one before, and wasn't told what it held of it: where a fragment or the
--- ledger ends depends on that
-abbrev pub is_end_guessed : Listed → Ledger → Ledger → ℕ → Bool
-is_end_guessed began was now bookie =
-    (has_other_end was.metadata now.metadata && is_at_end was.metadata bookie) && not (was_told_end began bookie now.id)
+-- whether it was changed, by an event that isn't undone
+abbrev pub is_end_changed : List Event → ℕ → Bool
+is_end_changed done ledger = list_any (changes_end ledger) done
 
--- whether the bookie came back without its disk, was at the end, and holds an entry now: it isn't marked any more, so a recovery of
--- the ledger would count on it
+-- whether it was changed, the bookie was at the end before, and wasn't told what it held of it: where a fragment or the ledger
+-- ends depends on that
+abbrev pub is_end_guessed : List Event → Listed → Ledger → ℕ → Bool
+is_end_guessed done began was bookie =
+    (is_at_end was.metadata bookie && not (was_told_end began bookie was.id)) && is_end_changed done was.id
+
+-- whether the bookie came back without its disk, was at the end, and holds an entry of any ledger now: it isn't marked any more, so
+-- a recovery of the ledger would count on it
 abbrev pub is_refilled : Cluster → Listed → Ledger → ℕ → Bool
 is_refilled s began was bookie =
     (is_shown_empty began bookie && not (nat_eq (count_held s.parts.held bookie) 0)) && is_at_end was.metadata bookie
 
 -- All
 
--- the script went by nothing that wasn't told of the bookie and the ledger, as it was and as it is now
-pub record IsKnown (s : Cluster) (began : Listed) (was now : Ledger) (bookie : ℕ) : Type 0 where
+-- nothing of the above is in doubt of the bookie and the ledger, as it was and as it is now
+pub record IsKnown (s : Cluster) (done : List Event) (began : Listed) (was now : Ledger) (bookie : ℕ) : Type 0 where
   pub copies : IsTold s began now bookie
-  pub ends : is_end_guessed began was now bookie ≡ false
+  pub ends : is_end_guessed done began was bookie ≡ false
   pub recoveries : is_refilled s began was bookie ≡ false
 
 -- so it is of each bookie
-abbrev pub AreKnownOf : Cluster → Listed → Ledger → Ledger → Type 0
-AreKnownOf s began was now = (bookie : ℕ) → bookie < length s.names → IsKnown s began was now bookie
+abbrev pub AreKnownOf : Cluster → List Event → Listed → Ledger → Ledger → Type 0
+AreKnownOf s done began was now = (bookie : ℕ) → bookie < length s.names → IsKnown s done began was now bookie
 
 -- and of each ledger of the picture, as it is in the state
-abbrev pub IsKnownSince : Cluster → Listed → Ledger → Type 0
-IsKnownSince s began was = ForSome (ledger_at s was.id) (AreKnownOf s began was)
+abbrev pub IsKnownSince : Cluster → List Event → Listed → Ledger → Type 0
+IsKnownSince s done began was = ForSome (ledger_at s was.id) (AreKnownOf s done began was)
 
 -- and no bookie was shown as empty and as one that holds entries
-pub record AreKnown (s : Cluster) (began : Listed) : Type 0 where
+pub record AreKnown (s : Cluster) (done : List Event) (began : Listed) : Type 0 where
   pub empties : EmptyHoldNothing began
-  pub ledgers : All (IsKnownSince s began) began.listing.ledgers.items
+  pub ledgers : All (IsKnownSince s done began) began.listing.ledgers.items
+
+-- Why no question is asked
+
+-- what a reason says is so of the bookie and the ledger, as it was and as it is now
+abbrev pub IsDoubtOf : Cluster → List Event → Listed → Ledger → Ledger → ℕ → Doubt → Type 0
+IsDoubtOf s done began was now bookie ShownEmpty = ⊥
+IsDoubtOf s done began was now bookie TookCopies = (was_told began bookie now.id ≡ false) × (HasShare s bookie now → ⊥)
+IsDoubtOf s done began was now bookie OtherEnd = is_end_guessed done began was bookie ≡ true
+IsDoubtOf s done began was now bookie Refilled = is_refilled s began was bookie ≡ true
+
+-- and of a ledger of the picture, as it is in the state
+abbrev pub IsDoubtSince : Cluster → List Event → Listed → Doubted → Ledger → Type 0
+IsDoubtSince s done began found was =
+    (was.id ≡ found.ledger)
+    × IsSomeAnd (ledger_at s was.id) (λ now. IsDoubtOf s done began was now found.bookie found.doubt)
+
+-- one of the picture's ledgers, or a content of a bookie that it shows as empty
+abbrev pub IsDoubtedIn : Cluster → List Event → Listed → Doubted → Doubt → Type 0
+IsDoubtedIn s done began found ShownEmpty = IsHeldBy (Picture began) (record { bookie = found.bookie; ledger = found.ledger })
+IsDoubtedIn s done began found doubt =
+    (k : ℕ) × IsSomeAnd (slice_get began.listing.ledgers.items k) (IsDoubtSince s done began found)
+
+abbrev pub IsDoubted : Cluster → List Event → Listed → Doubted → Type 0
+IsDoubted s done began found = IsDoubtedIn s done began found found.doubt

@@ -1,15 +1,17 @@
 // Why no question is asked at the end of a rehearsal.
-ghost use Rattle.std.specs.Prelude.{◌≡◌, true, All, IfNone, IfOk, string_bytes};
+ghost use Rattle.std.specs.Prelude.{◌≡◌, ℕ, ⊥, true, false, All, IfNone, IfSome, IfOk, slice_get, string_bytes};
+ghost use Rattle.std.specs.Option.{IsSomeAnd};
 ghost use Rattle.reh_known.specs.Known as model;
 ghost use Rattle.reh_known.specs.Texts as texts;
+ghost use Rattle.reh_known.specs.declared.doubts.Doubt.TheVariants.{ShownEmpty};
 
-use crate::members::{has_other_end, is_at_end, lacks_share};
+use crate::members::{is_at_end, is_end_changed, lacks_share};
 use crate::told::{is_shown_empty, was_told, was_told_end};
 use reh_cluster::{Ledger, State};
 use reh_inputs::check_empties;
 use reh_picture::Listed;
 use reh_picture_out::is_clear;
-use reh_types::{BookieIx, LedgerId};
+use reh_types::{BookieIx, Event, LedgerId};
 use std::alloc::{AllocError, Global};
 
 /// Why no question is asked after a script, of a bookie and a ledger.
@@ -19,8 +21,9 @@ pub enum Doubt {
     ShownEmpty,
     /// The bookie took copies, nothing told what it held before, and it isn't known to have all that is striped onto it.
     TookCopies,
-    /// The bookie was in the last ensemble of the ledger, which wasn't closed. The script ended that fragment, or changed its
-    /// ensemble, and it wasn't told what this bookie held: neither an assumed content nor a lost disk tells that.
+    /// The bookie was in the last ensemble of the ledger, which wasn't closed. The script closed the ledger, ended that
+    /// fragment or changed its ensemble, and it wasn't told what this bookie held: neither an assumed content nor a lost disk
+    /// tells that.
     OtherEnd,
     /// The bookie came back without its disk, is in such an ensemble, and took copies. A recovery would count on it.
     Refilled,
@@ -60,12 +63,13 @@ pub fn doubt_text(
 }
 
 /// Why no question is asked at the end of a rehearsal of this picture, if there is a reason: something that the script went
-/// by wasn't told.
+/// by wasn't told. The state is the one at the end, and `done` are the events that led to it.
 ///
 /// A script takes what nothing tells to be nothing. So where a bookie took copies, its content at the end may tell less than
 /// it holds; and a ledger or a fragment that the script closed may in fact go on.
-pub fn first_doubt(state: &State, began: &Listed) -> Option<Doubted>
-    ensures none { IfNone result (model.AreKnown state.now began.now) }
+pub fn first_doubt(state: &State, done: &[Event], began: &Listed) -> Option<Doubted>
+    ensures none { IfNone result (model.AreKnown state.now done.now began.now) }
+    ensures some { IfSome result (λ found. model.IsDoubted state.now done.now began.now found) }
 {
     if let Err(held) = check_empties(began) {
         return Some(Doubted {
@@ -74,16 +78,19 @@ pub fn first_doubt(state: &State, began: &Listed) -> Option<Doubted>
             doubt: Doubt::ShownEmpty,
         });
     }
-    first_of_ledgers(state, began)
+    first_of_ledgers(state, done, began)
 }
 
 /// The first reason of any ledger, if there is one.
-fn first_of_ledgers(state: &State, began: &Listed) -> Option<Doubted>
+fn first_of_ledgers(state: &State, done: &[Event], began: &Listed) -> Option<Doubted>
     ensures none { IfNone result
-        (All (model.IsKnownSince state.now began.now) began.now.listing.ledgers.items) }
+        (All (model.IsKnownSince state.now done.now began.now) began.now.listing.ledgers.items) }
+    ensures some { IfSome result (λ found. (k : ℕ)
+        × IsSomeAnd (slice_get began.now.listing.ledgers.items k) (model.IsDoubtSince state.now done.now began.now found)) }
+    ensures kind { IfSome result (λ found. (found.doubt ≡ ShownEmpty) → ⊥) }
 {
     for was in &began.listing.ledgers {
-        if let Some(found) = first_of_ledger(state, began, was) {
+        if let Some(found) = first_of_ledger(state, done, began, was) {
             return Some(found);
         }
     }
@@ -91,25 +98,34 @@ fn first_of_ledgers(state: &State, began: &Listed) -> Option<Doubted>
 }
 
 /// The first reason of the ledger, if there is one.
-fn first_of_ledger(state: &State, began: &Listed, was: &Ledger) -> Option<Doubted>
-    ensures none { IfNone result (model.IsKnownSince state.now began.now was.now) }
+fn first_of_ledger(state: &State, done: &[Event], began: &Listed, was: &Ledger) -> Option<Doubted>
+    ensures none { IfNone result (model.IsKnownSince state.now done.now began.now was.now) }
+    ensures some { IfSome result (λ found. model.IsDoubtSince state.now done.now began.now found was.now) }
 {
     match state.ledger(was.id()) {
-        Some(now) => first_of_bookies(state, began, was, now),
+        Some(now) => first_of_bookies(state, done, began, was, now),
         None => None,
     }
 }
 
 /// The first reason of the ledger that was so, and is so now, if there is one.
-fn first_of_bookies(state: &State, began: &Listed, was: &Ledger, now: &Ledger) -> Option<Doubted>
-    ensures none { IfNone result (model.AreKnownOf state.now began.now was.now now.now) }
+fn first_of_bookies(
+    state: &State,
+    done: &[Event],
+    began: &Listed,
+    was: &Ledger,
+    now: &Ledger,
+) -> Option<Doubted>
+    ensures none { IfNone result (model.AreKnownOf state.now done.now began.now was.now now.now) }
+    ensures some { IfSome result (λ found. (found.ledger ≡ was.now.id)
+        × model.IsDoubtOf state.now done.now began.now was.now now.now found.bookie found.doubt) }
 {
     for bookie in 0..state.names().len() {
         let bookie = BookieIx(bookie as u8);
-        if let Some(doubt) = doubt_of(state, began, was, now, bookie) {
+        if let Some(doubt) = doubt_of(state, done, began, was, now, bookie) {
             return Some(Doubted {
                 bookie,
-                ledger: now.id(),
+                ledger: was.id(),
                 doubt,
             });
         }
@@ -120,17 +136,19 @@ fn first_of_bookies(state: &State, began: &Listed, was: &Ledger, now: &Ledger) -
 /// Why something that matters wasn't told of the bookie and the ledger, if so.
 fn doubt_of(
     state: &State,
+    done: &[Event],
     began: &Listed,
     was: &Ledger,
     now: &Ledger,
     bookie: BookieIx,
 ) -> Option<Doubt>
-    ensures none { IfNone result (model.IsKnown state.now began.now was.now now.now bookie) }
+    ensures none { IfNone result (model.IsKnown state.now done.now began.now was.now now.now bookie) }
+    ensures some { IfSome result (λ doubt. model.IsDoubtOf state.now done.now began.now was.now now.now bookie doubt) }
 {
     if !is_told(state, began, now, bookie) {
         return Some(Doubt::TookCopies);
     }
-    if is_end_guessed(began, was, now, bookie) {
+    if is_end_guessed(done, began, was, bookie) {
         return Some(Doubt::OtherEnd);
     }
     if is_refilled(state, began, was, bookie) {
@@ -141,20 +159,22 @@ fn doubt_of(
 
 /// Whether the picture told what the bookie held of the ledger, or it holds nothing of it or all that is striped onto it.
 fn is_told(state: &State, began: &Listed, now: &Ledger, bookie: BookieIx) -> bool
-    ensures { result ≡ true → model.IsTold state.now began.now now.now bookie }
+    ensures told { result ≡ true → model.IsTold state.now began.now now.now bookie }
+    ensures untold { result ≡ false → (model.was_told began.now bookie now.now.id ≡ false)
+        × (model.HasShare state.now bookie now.now → ⊥) }
 {
     is_clear(state.row(bookie, now.id()))
         || was_told(began, bookie, now.id())
         || !lacks_share(state, bookie, now)
 }
 
-/// Whether the ledger has another end, the bookie was at the one before, and wasn't told what it held of it.
-fn is_end_guessed(began: &Listed, was: &Ledger, now: &Ledger, bookie: BookieIx) -> bool
-    ensures { result ≡ model.is_end_guessed began.now was.now now.now bookie }
+/// Whether the end of the ledger was changed, the bookie was there before, and wasn't told what it held of it.
+fn is_end_guessed(done: &[Event], began: &Listed, was: &Ledger, bookie: BookieIx) -> bool
+    ensures { result ≡ model.is_end_guessed done.now began.now was.now bookie }
 {
-    has_other_end(was.metadata(), now.metadata())
-        && is_at_end(was.metadata(), bookie)
-        && !was_told_end(began, bookie, now.id())
+    is_at_end(was.metadata(), bookie)
+        && !was_told_end(began, bookie, was.id())
+        && is_end_changed(done, was.id())
 }
 
 /// Whether the bookie came back without its disk, was at the end of the ledger, and holds an entry now.

@@ -1,15 +1,14 @@
 // Which bookies are at the end of a ledger, and which have what is striped onto them.
-ghost use Rattle.std.specs.Prelude.{◌≡◌, ℕ, ◌<◌, ◌&&◌, nat_eq, not, false, is_none, length, IfSome};
+ghost use Rattle.std.specs.Prelude.{◌≡◌, ℕ, ⊥, ◌<◌, ◌&&◌, nat_eq, not, true, false, is_none, length, IfSome, IfNone};
 ghost use Rattle.std.specs.List.{list_any};
 ghost use Rattle.reh_model.specs.Cluster.{holds};
 ghost use Rattle.reh_model.specs.Metadata.{last_fragment, stop_of, stripe_of};
-ghost use Rattle.reh_meta.specs.Same.{same_fragment};
 ghost use Rattle.reh_known.specs.Known as model;
 
 use reh_cluster::{Ledger, State};
 use reh_meta::LedgerMeta;
 use reh_stripe::Striped;
-use reh_types::{BookieIx, LedgerId, LedgerState};
+use reh_types::{BookieIx, Event, LedgerId, LedgerState};
 
 // Ends of ledgers
 
@@ -20,19 +19,19 @@ pub(crate) fn is_at_end(metadata: &LedgerMeta, bookie: BookieIx) -> bool
     !is_closed(metadata.state()) && is_in_last(metadata, bookie)
 }
 
-/// Whether the ledger wasn't closed, and is now, or has another last fragment, or another ensemble there.
-pub(crate) fn has_other_end(was: &LedgerMeta, now: &LedgerMeta) -> bool
-    ensures { result ≡ model.has_other_end was.now now.now }
+/// Whether an event that isn't undone changed the end of the ledger.
+pub(crate) fn is_end_changed(done: &[Event], ledger: LedgerId) -> bool
+    ensures { result ≡ model.is_end_changed done.now ledger }
 {
-    !is_closed(was.state()) && (is_closed(now.state()) || !has_same_last(was, now))
+    done.iter().any(|event| changes_end(event, ledger))
 }
 
-/// Whether the last fragment is the same, with the same ensemble.
-fn has_same_last(was: &LedgerMeta, now: &LedgerMeta) -> bool
-    ensures { result ≡ same_fragment (last_fragment was.now) (last_fragment now.now) }
+/// Whether an event begins a fragment at the end of the ledger, changes the last ensemble, or closes the ledger.
+fn changes_end(event: &Event, ledger: LedgerId) -> bool
+    ensures { result ≡ model.changes_end ledger event.now }
 {
-    match (was.fragments().last(), now.fragments().last()) {
-        (Some(was), Some(now)) => was == now,
+    match event {
+        Event::Roll { ledger: of, .. } | Event::Seal { ledger: of, .. } => *of == ledger,
         _ => false,
     }
 }
@@ -60,7 +59,8 @@ fn is_closed(state: LedgerState) -> bool
 
 /// Whether the bookie isn't known to have all entries of the ledger that are striped onto it.
 pub(crate) fn lacks_share(state: &State, bookie: BookieIx, ledger: &Ledger) -> bool
-    ensures { result ≡ false → model.HasShare state.now bookie ledger.now }
+    ensures has { result ≡ false → model.HasShare state.now bookie ledger.now }
+    ensures lacks { result ≡ true → model.HasShare state.now bookie ledger.now → ⊥ }
 {
     for number in 0..ledger.metadata().fragments().len() {
         if lacks_in(state, bookie, ledger, number) {
@@ -72,9 +72,12 @@ pub(crate) fn lacks_share(state: &State, bookie: BookieIx, ledger: &Ledger) -> b
 
 /// Whether it isn't known to have all that the fragment of that number stripes onto it.
 fn lacks_in(state: &State, bookie: BookieIx, ledger: &Ledger, number: usize) -> bool
-    ensures { result ≡ false → (i : ℕ) → i < ledger.now.metadata.size
+    ensures has { result ≡ false → (i : ℕ) → i < ledger.now.metadata.size
         → (model.is_member_at ledger.now.metadata number i bookie
         && model.lacks_at state.now bookie ledger.now number i) ≡ false }
+    ensures lacks { result ≡ true → ((i : ℕ) → i < ledger.now.metadata.size
+        → (model.is_member_at ledger.now.metadata number i bookie
+        && model.lacks_at state.now bookie ledger.now number i) ≡ false) → ⊥ }
 {
     for index in 0..ledger.metadata().size() {
         if is_member_at(ledger.metadata(), number, index, bookie)
@@ -88,7 +91,7 @@ fn lacks_in(state: &State, bookie: BookieIx, ledger: &Ledger, number: usize) -> 
 
 /// Whether it isn't known to have all that the fragment of that number stripes onto this index.
 fn lacks_at(state: &State, bookie: BookieIx, ledger: &Ledger, number: usize, index: u32) -> bool
-    ensures { result ≡ false → model.lacks_at state.now bookie ledger.now number index ≡ false }
+    ensures { result ≡ model.lacks_at state.now bookie ledger.now number index }
 {
     match stripe_at(ledger, number, index) {
         Some(entries) => lacks_any(state, bookie, ledger.id(), entries),
@@ -108,8 +111,9 @@ fn is_member_at(metadata: &LedgerMeta, number: usize, index: u32, bookie: Bookie
 
 /// The entries that a fragment stripes onto the index, if it has a stop.
 fn stripe_at(ledger: &Ledger, number: usize, index: u32) -> Option<Striped>
-    ensures { IfSome result (λ entries. (entries ≡ stripe_of ledger.now.metadata number index)
+    ensures some { IfSome result (λ entries. (entries ≡ stripe_of ledger.now.metadata number index)
         × (is_none (stop_of ledger.now.metadata number) ≡ false)) }
+    ensures none { IfNone result (is_none (stop_of ledger.now.metadata number) ≡ true) }
 {
     let metadata = ledger.metadata();
     let fragment = metadata.fragments().get(number)?;
@@ -125,7 +129,7 @@ fn stripe_at(ledger: &Ledger, number: usize, index: u32) -> Option<Striped>
 
 /// Whether it lacks one of these entries.
 fn lacks_any(state: &State, bookie: BookieIx, ledger: LedgerId, entries: Striped) -> bool
-    ensures { result ≡ false → list_any (λ e. not (holds state.now bookie ledger e)) entries ≡ false }
+    ensures { result ≡ list_any (λ e. not (holds state.now bookie ledger e)) entries }
 {
     for entry in entries {
         if !state.holds(bookie, ledger, entry) {

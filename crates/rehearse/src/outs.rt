@@ -1,6 +1,5 @@
 // Runs that write the picture of the state at their end.
 ghost use Rattle.std.specs.Prelude.{◌≡◌, Ok, false, length, string_bytes, IfOk};
-ghost use Rattle.reh_model.specs.Session.{state_of};
 ghost use Rattle.reh_picture.specs.Pictures.{picture_of};
 ghost use Rattle.reh_picture_out.specs.Kept.{kept_of};
 ghost use Rattle.reh_picture_out.specs.Marks.{KeepsMarksIn};
@@ -15,6 +14,7 @@ use reh_known::{doubt_text, first_doubt};
 use reh_picture::{Holding, Listed, PictureFault, list_picture};
 use reh_picture_out::{Unshown, picture_text};
 use reh_script::{Gathered, Opened, TextOut, ToWrite, open_picture};
+use reh_session::Session;
 use reh_types::BookieIx;
 use reh_words::PlayOut;
 use std::alloc::{AllocError, Global};
@@ -41,7 +41,7 @@ pub(crate) fn run_out<R: Threads + Wait + Sync>(
         }
     };
     play_out(rt, threads, looks, words, &mut rehearsal)?;
-    write_end(rt, looks, words, state_at_end(&rehearsal), &began)
+    write_end(rt, looks, words, rehearsal.book.session(), &began)
 }
 
 /// Reads a picture, opens a book on it, and judges its marks. No ticket is out.
@@ -76,15 +76,16 @@ fn write_end(
     rt: &HostRuntime,
     looks: Looks,
     words: &PlayOut<'_>,
-    state: &State,
+    session: &Session,
     began: &Listed,
 ) -> Result<(), RunFault> {
+    let state = session.state();
     let text = text_of(rt.alloc(), words.out, state, began)?;
     write_whole(rt, words.out, text.as_str())?;
     if !looks.is_quiet {
         say_unshown(rt, words.out, Unshown::of(state));
         say_marks(rt, words, state, began);
-        say_doubt(rt, words.out, state, began);
+        say_doubt(rt, words.out, session, began);
     }
     Ok(())
 }
@@ -121,16 +122,6 @@ fn play_file<R: Threads + Wait + Sync, W: TextOut>(
     match script.into_unopened() {
         Some(fault) => Err(fault.without_reason()),
         None => played.map_err(RunFault::from),
-    }
-}
-
-/// The state of the book of a rehearsal, which always shows it.
-fn state_at_end(rehearsal: &Opened) -> &State
-    ensures { result.now ≡ state_of rehearsal.now.book.book.session }
-{
-    match rehearsal.book.whole() {
-        Some(state) => state,
-        None => unreachable!(),
     }
 }
 
@@ -249,8 +240,9 @@ fn say_filled(rt: &HostRuntime, out: &str, state: &State, bookie: BookieIx) {
 }
 
 /// Says that questions can't be asked of the picture, where it isn't known what the bookies hold. A picture can't say so.
-fn say_doubt(rt: &HostRuntime, out: &str, state: &State, began: &Listed) {
-    let Some(found) = first_doubt(state, began) else {
+fn say_doubt(rt: &HostRuntime, out: &str, session: &Session, began: &Listed) {
+    let state = session.state();
+    let Some(found) = first_doubt(state, session.done(), began) else {
         return;
     };
     let bookie = state.names().name(found.bookie).unwrap_or("");
