@@ -1,5 +1,5 @@
 // The texts of replies, and of bookies by name.
-ghost use Rattle.std.specs.Prelude.{◌≡◌, ◌++◌, ◌∷◌, IfOk, OnOk, string_bytes};
+ghost use Rattle.std.specs.Prelude.{◌≡◌, ◌++◌, IfOk, OnOk, string_bytes};
 ghost use Rattle.std.specs.Prelude.{codes};
 ghost use Rattle.reh_commands.specs.Texts as texts;
 

@@ -8,7 +8,6 @@ ghost use Rattle.reh_commands.specs.Printed as printed;
 ghost use Rattle.reh_commands.specs.Script as script;
 
 use crate::commands::Command;
-use crate::parts::event_parts;
 use crate::words::{Arguments, Role};
 use reh_types::{Aim, Event, LedgerId, Move};
 use std::fmt;
@@ -266,13 +265,6 @@ impl Verb {
             Verb::Report => Command::Report,
             Verb::Survey => Command::Survey,
         }
-    }
-
-    /// The verb that makes an event.
-    pub fn of_event(event: &Event) -> Verb
-        ensures { result ≡ (printed.event_parts event.now).0 }
-    {
-        event_parts(event).0
     }
 }
 

@@ -1,5 +1,5 @@
 // What a picture's bookies hold, by ledger.
-ghost use Rattle.std.specs.Prelude.{◌≡◌, ◌<◌, ◌≤◌, ◌++◌, [], ◌==◌, ℕ, All, IfOk, None, OnOk, cond, length, map, slice_index_or};
+ghost use Rattle.std.specs.Prelude.{◌≡◌, ◌<◌, ◌≤◌, ◌++◌, [], ◌==◌, ℕ, IfOk, None, OnOk, cond, length, map, slice_index_or};
 ghost use Rattle.std.specs.BTreeMap.{get};
 ghost use Rattle.std.specs.Ordering.{nat_cmp};
 ghost use Rattle.reh_picture.specs.Contents.{Holding as HoldingValue};

@@ -15,8 +15,8 @@ pub struct EmptyHolds {
     pub ledger: u64,
 }
 
-/// Whether a picture shows a bookie as empty.
-fn is_shown_empty(listed: &Listed, bookie: BookieIx) -> bool
+/// Whether a picture shows a bookie as empty: as one that came back without its disk.
+pub fn is_shown_empty(listed: &Listed, bookie: BookieIx) -> bool
     ensures { result ≡ model.is_shown_empty listed.now bookie }
 {
     match listed.marks.get(bookie.0 as usize) {

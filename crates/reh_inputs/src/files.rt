@@ -1,6 +1,5 @@
 // What census files count, with the numbers that their bookies have in the cluster.
-ghost use Rattle.std.specs.Prelude.{◌≡◌, ◌<◌, ◌≤◌, ◌^◌, ◌++◌, ◌+◌, ◌∷◌, [], All, IfNone, IfOk, IfSome, OnOk, fold, map, slice_get};
-ghost use Rattle.std.specs.List.{flat_map};
+ghost use Rattle.std.specs.Prelude.{◌≡◌, ◌<◌, ◌≤◌, ◌^◌, ◌++◌, ◌+◌, All, IfNone, IfOk, IfSome, OnOk, fold, map, slice_get};
 ghost use Rattle.std.specs.Option.{option_map_or};
 ghost use Rattle.reh_census.specs.Counting.{judged_sum};
 ghost use Rattle.reh_census.specs.Tails.{IsTail};

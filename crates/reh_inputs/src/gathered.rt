@@ -1,5 +1,5 @@
 // What inputs show together, as a census counts it.
-ghost use Rattle.std.specs.Prelude.{◌≡◌, ◌+◌, ◌++◌, All, Bool, List, ℕ, None, Some, fold, length, map, nat_eq, slice_get, take, IfErr, IfOk, OnOk};
+ghost use Rattle.std.specs.Prelude.{◌≡◌, ◌+◌, ◌++◌, All, Bool, List, ℕ, None, Some, fold, length, nat_eq, slice_get, take, IfErr, IfOk, OnOk};
 ghost use Rattle.std.specs.List.{flat_map, IsDistinct};
 ghost use Rattle.std.specs.Option.{IsSomeAnd};
 ghost use Rattle.reh_census.specs.declared.censuses.Tail.{Tail as TailValue};

@@ -14,7 +14,7 @@ use reh_census::{Content, Fragment, Ledger, LedgerState, Names, Range, Ranges, T
 use reh_cluster::Ledger as Listed;
 use reh_meta::LedgerMeta;
 use reh_picture::Holding;
-use reh_types::{BookieIx, LedgerId, LedgerState as State};
+use reh_types::{BookieIx, LedgerState as State};
 use std::alloc::{AllocError, Global};
 
 /// The number that a bookie of a picture has in the cluster.

@@ -18,7 +18,7 @@ mod united;
 
 pub use apart::{check_ids, ids_of};
 pub use cluster::{Cluster, ClusterFault};
-pub use empties::{EmptyHolds, check_empties};
+pub use empties::{EmptyHolds, check_empties, is_shown_empty};
 pub use gathered::{GatherFault, gather};
 pub use inputs::{Input, InputFault, read_input};
 pub use ledgers::Reading;

@@ -1,5 +1,5 @@
 // An inventory as a whole, line after line.
-ghost use Rattle.std.specs.Prelude.{◌≡◌, ◌≢◌, ◌<◌, ◌^◌, Ok, Err, length, map, option_map, IfErr, IfOk, OnErr, OnOk, MatchResult};
+ghost use Rattle.std.specs.Prelude.{◌≡◌, ◌≢◌, ◌<◌, ◌^◌, Ok, Err, length, option_map, IfErr, IfOk, OnErr, OnOk};
 ghost use Rattle.std.specs.Result.{result_err};
 ghost use Rattle.reh_inventory.specs.Inventories as model;
 
@@ -298,20 +298,4 @@ impl Inventory {
             Err(fault) => Err(line_fault(fault)),
         }
     }
-}
-
-/// What these lines say, or the first fault.
-///
-/// `NoMemory` comes only where a growth was refused, and may then stand in place of any other answer.
-pub fn read_lines(alloc: Global, lines: &[&[u8]]) -> Result<Inventory, InventoryFault>
-    ensures { MatchResult result
-        (λ inventory. model.inventory_of (map (λ line. line.now) lines.now) ≡ Ok inventory)
-        (λ fault. fault ≢ InventoryFault.NoMemory
-        → model.inventory_of (map (λ line. line.now) lines.now) ≡ Err (model.without_column fault)) }
-{
-    let mut inventory = Inventory::new(alloc);
-    for line in lines {
-        inventory.add(alloc, line)?;
-    }
-    Ok(inventory)
 }

@@ -9,7 +9,7 @@ mod lines;
 
 pub use contents::{Content, ContentList, Entries};
 pub use heads::{Bookie, BookieList, Head};
-pub use inventories::{Inventory, InventoryFault, read_lines};
+pub use inventories::{Inventory, InventoryFault};
 pub use ledgers::{Fragment, FragmentList, LedgerLine, LedgerState, Sizes};
 pub use lines::{Line, read_line};
 pub use reh_inventory_fields::{Ensemble, Fault, Field, LineFault, Name, Place};

@@ -6,7 +6,7 @@ ghost use Rattle.reh_inventory_census.specs.Bookies as model;
 use crate::numbers::{NumberFault, number_member};
 use reh_census::{Bookie as CountedBookie, Bookies};
 use reh_census_file::NameList;
-use reh_inventory::{Bookie, Head};
+use reh_inventory::Bookie;
 use std::alloc::{AllocError, Global};
 
 /// A bookie that isn't registered.

@@ -1,13 +1,11 @@
 // What is counted of the ledgers of an inventory, line after line.
-ghost use Rattle.std.specs.Prelude.{◌≡◌, ◌+◌, ◌++◌, ◌∷◌, [], false, ℕ, List, OnOk, IfOk, IfErr, IfSome};
+ghost use Rattle.std.specs.Prelude.{◌≡◌, ◌+◌, ◌++◌, ◌∷◌, [], List, OnOk, IfOk};
 ghost use Rattle.reh_census.specs.Bookies.{bookies_of, holders};
 ghost use Rattle.reh_census.specs.Counting.{count_entries};
 ghost use Rattle.reh_inventory.specs.declared.ledgers.LedgerLine.{LedgerLine as LineValue};
 ghost use Rattle.reh_inventory_census.specs.declared.counter.Counter.{Counter as CounterValue};
 ghost use Rattle.reh_inventory_census.specs.Counters as model;
 ghost use Rattle.reh_inventory_census.specs.Counted.{assumed as assumed_of};
-ghost use Rattle.std.specs.List.{list_any};
-ghost use Rattle.reh_inventory_census.specs.Empties.{holds_though_empty};
 ghost use Rattle.reh_inventory_census.specs.Parts.{parts_of};
 ghost use Rattle.reh_inventory_census.specs.Counting.{is_held};
 

@@ -5,13 +5,13 @@ ghost use Rattle.reh_census.specs.Order.{IsInOrder};
 ghost use Rattle.reh_census.specs.Bookies.{bookies_of, holders};
 ghost use Rattle.reh_census.specs.Counting as census;
 ghost use Rattle.reh_census.specs.Ledgers.{Ledger as LedgerValue};
-ghost use Rattle.reh_tally.specs.Few.{AreFewCounts, capped};
+ghost use Rattle.reh_tally.specs.Few.{AreFewCounts};
 ghost use Rattle.reh_inventory_census.specs.Counting as model;
 
 use reh_census::{Bookies, Census, Counted, CountedEnsemble, CountedTail, Judged, Ledger};
 use reh_tally::{
-    TallyFault, census_of_counts, ensembles_of, entries_of, merged, merged_ensembles, merged_tails,
-    tails_of,
+    TallyFault, census_of_counts, ensembles_in, ensembles_of, entries_in, entries_of, merged,
+    merged_ensembles, merged_tails, tails_in, tails_of,
 };
 use std::alloc::{AllocError, Global};
 use std::marker::Model;
@@ -62,39 +62,6 @@ impl Model for Counts {
     ghost view = { λ c. model.counts_by c.entries.items c.tails.items c.ensembles.items };
 
     ghost invariant = { λ c. All (λ t. IsTail t.tail) c.tails.items };
-}
-
-/// How many entries were counted.
-fn entries_in(entries: &[Counted]) -> u64
-    ensures { result ≡ capped (census.entries_in entries.now) }
-{
-    let mut total: u64 = 0;
-    for counted in entries {
-        total = total.saturating_add(counted.count);
-    }
-    total
-}
-
-/// How many ledgers that aren't closed.
-fn tails_in(tails: &[CountedTail]) -> u64
-    ensures { result ≡ capped (census.tails_in tails.now) }
-{
-    let mut total: u64 = 0;
-    for counted in tails {
-        total = total.saturating_add(counted.count);
-    }
-    total
-}
-
-/// How many fragments.
-fn ensembles_in(ensembles: &[CountedEnsemble]) -> u64
-    ensures { result ≡ capped (census.ensembles_in ensembles.now) }
-{
-    let mut total: u64 = 0;
-    for counted in ensembles {
-        total = total.saturating_add(counted.count);
-    }
-    total
 }
 
 /// How many of the entries have a known copy, if a number of 64 bits can say that.

@@ -6,9 +6,9 @@ ghost use Rattle.reh_known.specs.Texts as texts;
 ghost use Rattle.reh_known.specs.declared.doubts.Doubt.TheVariants.{ShownEmpty};
 
 use crate::members::{is_at_end, is_end_changed, lacks_share};
-use crate::told::{is_shown_empty, was_told, was_told_end};
+use crate::told::{was_told, was_told_end};
 use reh_cluster::{Ledger, State};
-use reh_inputs::check_empties;
+use reh_inputs::{check_empties, is_shown_empty};
 use reh_picture::Listed;
 use reh_picture_out::is_clear;
 use reh_types::{BookieIx, Event, LedgerId};

@@ -1,5 +1,5 @@
 // Which bookies are at the end of a ledger, and which have what is striped onto them.
-ghost use Rattle.std.specs.Prelude.{◌≡◌, ℕ, ⊥, ◌<◌, ◌&&◌, nat_eq, not, true, false, is_none, length, IfSome, IfNone};
+ghost use Rattle.std.specs.Prelude.{◌≡◌, ℕ, ⊥, ◌<◌, ◌&&◌, nat_eq, not, true, false, is_none, IfSome, IfNone};
 ghost use Rattle.std.specs.List.{list_any};
 ghost use Rattle.reh_model.specs.Cluster.{holds};
 ghost use Rattle.reh_model.specs.Metadata.{last_fragment, stop_of, stripe_of};

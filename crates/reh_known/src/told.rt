@@ -1,8 +1,8 @@
 // What a picture told of its bookies.
 ghost use Rattle.std.specs.Prelude.{◌≡◌};
-ghost use Rattle.reh_inputs.specs.Empties as empties;
 ghost use Rattle.reh_known.specs.Known as model;
 
+use reh_inputs::is_shown_empty;
 use reh_picture::{Holding, Listed};
 use reh_types::{BookieIx, LedgerId};
 
@@ -22,16 +22,6 @@ pub(crate) fn was_told_end(began: &Listed, bookie: BookieIx, ledger: LedgerId) -
 {
     is_said(began.listing.holdings.as_slice(), false, bookie, ledger)
         && !is_shown_empty(began, bookie)
-}
-
-/// Whether the picture shows the bookie as one that came back without its disk.
-pub(crate) fn is_shown_empty(began: &Listed, bookie: BookieIx) -> bool
-    ensures { result ≡ empties.is_shown_empty began.now bookie }
-{
-    match began.marks.get(bookie.0 as usize) {
-        Some(marks) => marks.is_empty(),
-        None => false,
-    }
 }
 
 /// Whether one of these contents tells what the bookie holds of the ledger.

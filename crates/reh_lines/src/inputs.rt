@@ -1,6 +1,6 @@
 // The input: a picture, a line `%` and a script.
-ghost use Rattle.std.specs.Prelude.{◌≡◌, ℕ, ◌==◌, ◌<◌, ◌≤◌, List, ◌∷◌, ◌++◌, length, take, count_by, position};
-ghost use Rattle.std.specs.Prelude.{option_map, IfSome};
+ghost use Rattle.std.specs.Prelude.{◌≡◌, ◌==◌, ◌<◌, ◌≤◌, ◌∷◌, length, take, position};
+ghost use Rattle.std.specs.Prelude.{option_map};
 ghost use Rattle.reh_lines.specs.Lines.{lines_of, cut_of, ended, after_end as follows_end};
 ghost use Rattle.reh_lines.specs.Lines.{after_percent as follows_percent};
 

@@ -4,13 +4,11 @@
 mod gathered;
 mod heads;
 mod inputs;
-mod pieces;
 mod readings;
 mod streams;
 
 pub use gathered::Gathered;
 pub use heads::{Head, Percent, read_head};
 pub use inputs::{first_line, front, split_input, whole_lines};
-pub use pieces::{PiecesIn, PiecesOut};
 pub use readings::{Progress, TextRead, read_on, read_text};
 pub use streams::{FromRead, StreamFault, TextIn, TextOut, ToWrite, write_all};

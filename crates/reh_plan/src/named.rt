@@ -1,5 +1,5 @@
 // The bookies that words name.
-ghost use Rattle.std.specs.Prelude.{◌≡◌, ◌<◌, not, IfErr, IfOk, is_some, length, position};
+ghost use Rattle.std.specs.Prelude.{◌≡◌, ◌<◌, not, IfErr, IfOk, is_some, position};
 ghost use Rattle.reh_types.specs.declared.limits.TheConstants.{MAX_BOOKIES};
 ghost use Rattle.reh_types.specs.Sets as set;
 ghost use Rattle.reh_model.specs.Cluster.{bookie_named};

@@ -10,7 +10,7 @@ ghost use Rattle.reh_commands.specs.Answers.{asked};
 ghost use Rattle.reh_lines.specs.Lines.{lines_of};
 ghost use Rattle.reh_transcript.specs.Transcript.{starting, transcript};
 ghost use Rattle.reh_plan.specs.Replies.{ok_answers};
-ghost use Rattle.reh_plan.specs.Ends.{HasNoRoom, full_line, says_full};
+ghost use Rattle.reh_plan.specs.Ends.{HasNoRoom, says_full};
 ghost use Rattle.reh_plan.specs.Plans.{Asks, IsMade, Works, Loses, comment_of, is_nobodys, has_lf, loss_of, with_full};
 ghost use Rattle.reh_plan.specs.Workers.{Rules};
 

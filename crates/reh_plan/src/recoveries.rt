@@ -1,6 +1,5 @@
-// Whether a ledger that isn't closed could be recovered: what a fence and a seal ask, but for the lock and the grace. Where a
-// recovery ends, and whether it is answered, is decided here as a seal decides it, whose own function isn't public.
-ghost use Rattle.std.specs.Prelude.{◌≡◌, ◌≢◌, [], ◌∷◌, ℕ, None, length, is_none, IsFalse, IsTrue};
+// Whether a ledger that isn't closed could be recovered: what a fence and a seal ask, but for the lock and the grace.
+ghost use Rattle.std.specs.Prelude.{◌≡◌, ◌≢◌, [], ◌∷◌, ℕ, None, is_none, IsFalse, IsTrue};
 ghost use Rattle.reh_model.specs.Checks.{first_reason};
 ghost use Rattle.reh_model.specs.Metadata as meta;
 ghost use Rattle.reh_model.specs.Recovery as recovery;
@@ -12,9 +11,9 @@ use crate::workers::Workers;
 use reh_audit::is_under;
 use reh_cluster::{Ledger, State};
 use reh_meta::Fragment;
-use reh_scan::{first_unreadable, last_fragment};
-use reh_stripe::{Striped, write_set};
-use reh_types::{BookieIx, ENTRY_END, LedgerState, MAX_VERSION, Refusal};
+use reh_scan::last_fragment;
+use reh_step::find_end;
+use reh_types::{BookieIx, LedgerState, MAX_VERSION, Refusal};
 
 /// Whether some bookie that may work could recover the ledger, if it had the ledger's lock and the grace were over.
 pub(crate) fn can_recover(state: &State, workers: &Workers, ledger: &Ledger) -> bool
@@ -87,47 +86,8 @@ fn not_closable(ledger: &Ledger) -> Option<Refusal>
 fn unanswered(state: &State, ledger: &Ledger) -> Option<Refusal>
     ensures { result ≡ first_reason (too_few state.now ledger.now ∷ undecided state.now ledger.now ∷ []) }
 {
-    let metadata = ledger.metadata();
-    let last = last_fragment(ledger);
-    let end = recovered_end(state, ledger, last);
-    // as many entries as the ensemble has members: from there on write sets repeat
-    for entry in last.first..end.min(last.first + metadata.size()) {
-        if count_up(state, ledger, last, entry) < metadata.ack_quorum() {
-            return Some(Refusal::TooFew(entry as u64));
-        }
+    match find_end(state, ledger) {
+        Ok(_) => None,
+        Err(refusal) => Some(refusal),
     }
-    let decisive = metadata.write_quorum() - metadata.ack_quorum() + 1;
-    if count_up(state, ledger, last, end) < decisive {
-        return Some(Refusal::Undecided(end as u64));
-    }
-    None
-}
-
-/// The first entry of the ledger's last fragment that can't be read.
-fn recovered_end(state: &State, ledger: &Ledger, last: &Fragment) -> u32
-    requires last { last.now ≡ meta.last_fragment ledger.now.metadata }
-    requires whole { length last.now.ensemble ≡ ledger.now.metadata.size }
-    ensures { result ≡ recovery.recovered_end state.now ledger.now }
-{
-    state.assert_well_formed();
-    let _well_formed_metadata = ledger.metadata().size();
-    // of an ensemble of one member, that member carries each entry
-    let entries = Striped::new(last.first, ENTRY_END as u32, 0, 1, 1);
-    first_unreadable(state, ledger, last, entries).unwrap_or(ENTRY_END as u32)
-}
-
-/// How many members of the entry's write set in the last fragment are registered.
-fn count_up(state: &State, ledger: &Ledger, last: &Fragment, entry: u32) -> u32
-    requires last { last.now ≡ meta.last_fragment ledger.now.metadata }
-    requires whole { length last.now.ensemble ≡ ledger.now.metadata.size }
-    ensures { result ≡ length (recovery.up_writes state.now ledger.now entry) }
-{
-    let metadata = ledger.metadata();
-    let mut count = 0;
-    for index in write_set(entry, metadata.size(), metadata.write_quorum()) {
-        if state.is_up(last.ensemble[index as usize]) {
-            count += 1;
-        }
-    }
-    count
 }

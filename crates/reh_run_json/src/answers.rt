@@ -1,5 +1,5 @@
 // The answer to a line as JSON.
-ghost use Rattle.std.specs.Prelude.{◌≡◌, OnOk, Some, codes};
+ghost use Rattle.std.specs.Prelude.{◌≡◌, OnOk, codes};
 ghost use Rattle.json.specs.Json.{string};
 ghost use Rattle.json.specs.Tree.{json_tokens};
 ghost use Rattle.reh_answer.specs.Objects.{Adds, member_tokens};

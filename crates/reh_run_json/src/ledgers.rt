@@ -1,5 +1,5 @@
 // A ledger of a report as JSON.
-ghost use Rattle.std.specs.Prelude.{◌≡◌, OnOk, codes, flat_map, slice_get};
+ghost use Rattle.std.specs.Prelude.{OnOk, codes, flat_map, slice_get};
 ghost use Rattle.std.specs.List.{enumerate_from};
 ghost use Rattle.std.specs.Option.{option_copied};
 ghost use Rattle.json.specs.Tree.{json_tokens};

@@ -16,4 +16,3 @@ mod words;
 
 pub use laws::changes_have_objects;
 pub use lines::push_line;
-pub use places::add_changes;

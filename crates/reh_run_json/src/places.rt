@@ -1,5 +1,5 @@
 // What a record of changes leads back to, and what is there now.
-ghost use Rattle.std.specs.Prelude.{◌≡◌, ◌∷◌, [], OnOk, All, codes, flat_map, is_none};
+ghost use Rattle.std.specs.Prelude.{◌∷◌, [], OnOk, All, codes, flat_map, is_none};
 ghost use Rattle.std.specs.Option.{option_copied};
 ghost use Rattle.json.specs.Tree.{json_tokens};
 ghost use Rattle.reh_model.specs.Cluster.{is_up, lost_tick};
@@ -18,19 +18,6 @@ use reh_cluster::{Changes, Ledger, Names, State};
 use reh_meta::LedgerMeta;
 use reh_types::{BookieIx, BookieSet, Change, LedgerId, Lock, Scalar};
 use std::alloc::{AllocError, Global};
-
-/// Adds the changes of a record that leads back from this state: of each place what was there, and what is there now.
-pub fn add_changes(
-    json: &mut Writer<Global>,
-    state: &State,
-    changes: &Changes,
-) -> Result<(), AllocError>
-    requires { All (IsThere state.now) changes.now }
-    ensures { OnOk result (Adds (member_tokens (codes "changes") (objects.changes_json state.now changes.now))
-        json.old json.new) }
-{
-    add_list(json, state, changes.as_slice())
-}
 
 /// Adds the list of changes that lead back from this state.
 pub(crate) fn add_list(

@@ -1,5 +1,5 @@
 // The report of a state as JSON.
-ghost use Rattle.std.specs.Prelude.{◌≡◌, ◌<◌, OnOk, codes, flat_map, slice_get};
+ghost use Rattle.std.specs.Prelude.{◌<◌, OnOk, codes, flat_map, slice_get};
 ghost use Rattle.std.specs.List.{enumerate_from};
 ghost use Rattle.json.specs.Tree.{json_tokens};
 ghost use Rattle.reh_answer.specs.Objects.{Adds, member_tokens};

@@ -1,5 +1,5 @@
 // A survey as JSON.
-ghost use Rattle.std.specs.Prelude.{◌≡◌, OnOk, codes, flat_map};
+ghost use Rattle.std.specs.Prelude.{OnOk, flat_map};
 ghost use Rattle.json.specs.Tree.{json_tokens};
 ghost use Rattle.reh_answer.specs.Objects.{Adds};
 ghost use Rattle.reh_run_json.specs.Reports as reports;

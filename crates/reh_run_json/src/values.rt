@@ -1,5 +1,5 @@
 // Values of a rehearsal as JSON.
-ghost use Rattle.std.specs.Prelude.{◌≡◌, ◌<◌, ◌∷◌, [], OnOk, flat_map, if◌then◌else◌, map};
+ghost use Rattle.std.specs.Prelude.{◌<◌, ◌∷◌, [], OnOk, flat_map, if◌then◌else◌, map};
 ghost use Rattle.std.specs.Option.{option_copied};
 ghost use Rattle.json.specs.Json.{string};
 ghost use Rattle.json.specs.Token as token;

@@ -1,6 +1,6 @@
 // Plays by a seat of a book that it has for itself.
-ghost use Rattle.std.specs.Prelude.{◌≡◌, ◌⊎◌, ◌+◌, ◌≤◌, [], false, length, OnOk};
-ghost use Rattle.std.specs.Io.KnownBytes.{IsAtEnd, prepend_known};
+ghost use Rattle.std.specs.Prelude.{◌≡◌, ◌⊎◌, ◌+◌, ◌≤◌, false, length, OnOk};
+ghost use Rattle.std.specs.Io.KnownBytes.{IsAtEnd};
 ghost use Rattle.reh_script.specs.BookPlays.{Transcribes, at_book};
 ghost use Rattle.reh_play.specs.Players.{seated};
 ghost use Rattle.reh_play.specs.Plays.{Plays, GoesOut, is_write_fault};

@@ -20,8 +20,6 @@ pub use printed::run_printing;
 pub use reh_commands::{
     Command, LineFault, Role, Verb, command_text, parse_line, reply_text, report_text,
 };
-pub use reh_lines::{
-    FromRead, Gathered, PiecesIn, PiecesOut, StreamFault, TextIn, TextOut, ToWrite, write_all,
-};
+pub use reh_lines::{FromRead, Gathered, StreamFault, TextIn, TextOut, ToWrite, write_all};
 pub use reh_play::{PlayFault, play, play_at_desk, play_by};
 pub use runs::run;

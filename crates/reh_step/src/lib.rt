@@ -8,4 +8,5 @@ mod steps;
 
 pub use decisions::check_event;
 pub use records::copy_record;
+pub use recoveries::find_end;
 pub use steps::{decide, step};

@@ -22,7 +22,7 @@ use reh_types::{ENTRY_END, MAX_ENSEMBLE_SIZE, Refusal};
 ///
 /// BookKeeper's recovery (`LedgerRecoveryOp`) reads on from the last fragment's first entry, writes each entry back, and
 /// ends at the first one that no ack quorum can have stored.
-pub(crate) fn find_end(state: &State, ledger: &Ledger) -> Result<u32, Refusal>
+pub fn find_end(state: &State, ledger: &Ledger) -> Result<u32, Refusal>
     ensures { Finds result (first_reason
         (model.too_few state.now ledger.now ∷ model.undecided state.now ledger.now ∷ []))
         (λ end. end ≡ recovery.recovered_end state.now ledger.now) }

@@ -15,8 +15,8 @@ use crate::merge::{merged, merged_ensembles, merged_tails};
 use reh_census::{Census, Counted, CountedEnsemble, CountedTail, Judged};
 use std::alloc::{AllocError, Global};
 
-/// How many entries were counted.
-fn entries_in(entries: &[Counted]) -> u64
+/// How many entries were counted, or 2^64 - 1 if there are more.
+pub fn entries_in(entries: &[Counted]) -> u64
     ensures { result ≡ capped (model.entries_in entries.now) }
 {
     let mut total: u64 = 0;
@@ -26,8 +26,8 @@ fn entries_in(entries: &[Counted]) -> u64
     total
 }
 
-/// How many ledgers that aren't closed.
-fn tails_in(tails: &[CountedTail]) -> u64
+/// How many ledgers that aren't closed, or 2^64 - 1 if there are more.
+pub fn tails_in(tails: &[CountedTail]) -> u64
     ensures { result ≡ capped (model.tails_in tails.now) }
 {
     let mut total: u64 = 0;
@@ -37,8 +37,8 @@ fn tails_in(tails: &[CountedTail]) -> u64
     total
 }
 
-/// How many fragments.
-fn ensembles_in(ensembles: &[CountedEnsemble]) -> u64
+/// How many fragments, or 2^64 - 1 if there are more.
+pub fn ensembles_in(ensembles: &[CountedEnsemble]) -> u64
     ensures { result ≡ capped (model.ensembles_in ensembles.now) }
 {
     let mut total: u64 = 0;

@@ -17,7 +17,7 @@ mod segments;
 mod tails;
 
 pub use census::{TallyFault, census_of, census_of_few};
-pub use counts::census_of_counts;
+pub use counts::{census_of_counts, ensembles_in, entries_in, tails_in};
 pub use few::are_few;
 pub use merge::{merged, merged_ensembles, merged_tails};
 pub use segments::entries_of;
