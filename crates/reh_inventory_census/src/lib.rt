@@ -17,4 +17,4 @@ pub use counted::{end_of, end_told, last_first, stop_of};
 pub use counter::LedgerCount;
 pub use faults::CountFault;
 pub use ledgers::InventoryLedgers;
-pub use numbers::{line_fault, number_line};
+pub use numbers::{in_order, line_fault, number_line};
