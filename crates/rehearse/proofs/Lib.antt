@@ -1,3 +1,2 @@
 pub mod AgainstLaws
-pub mod InventoryLaws
 pub mod NameLaws

@@ -1,5 +1,5 @@
 -- What is read of the files of a cluster, and what is said of it.
-use Rattle.std.specs.Prelude.{◌≡◌, ◌⊎◌, ℕ, ◌%◌, Bool, true, false, if◌then◌else◌, List, [], ◌++◌, All, Option, Result, Ok, Err, String, codes, length, map, nat_eq, slice_get, string_bytes, vec_len, IfOk, IfSome}
+use Rattle.std.specs.Prelude.{◌≡◌, ◌⊎◌, ℕ, ◌%◌, Bool, true, false, if◌then◌else◌, List, [], ◌++◌, All, Option, Result, Ok, Err, String, codes, length, map, nat_eq, slice_get, string_bytes, vec_len, IfOk, IfSome, IsSome}
 use Rattle.std.specs.Borrow.{Bor}
 use Rattle.std.specs.Fmt.{decimal}
 use Rattle.std.specs.List.{flat_map, IsDistinct}
@@ -17,6 +17,8 @@ use Rattle.reh_inputs.specs.declared.inputs.Input.TheVariants.{Picture, Census}
 use Rattle.reh_inputs.specs.declared.gathered.GatherFault.{GatherFault}
 use Rattle.reh_inputs.specs.declared.gathered.GatherFault.TheVariants as gather
 use Rattle.reh_inputs.specs.declared.together.Gathered.{Gathered}
+use Rattle.reh_inventory_read.specs.Counted.{IsOfLines}
+use Rattle.reh_inventory_read.specs.declared.counting.CountedInventory.{CountedInventory}
 use Rattle.reh_stop.specs.Rounds.{SaysCost, SaysRounds}
 use Rattle.reh_stop.specs.declared.rounds.AskedRisk.{AskedRisk}
 use Rattle.reh_stop.specs.declared.rounds.AskedWaves.{AskedWaves}
@@ -27,15 +29,13 @@ use Rattle.reh_words.specs.declared.tasks.Inputs.{Inputs}
 use Rattle.reh_words.specs.declared.tasks.RiskWords.{RiskWords}
 use Rattle.reh_words.specs.declared.tasks.StopWords.{StopWords}
 use Rattle.reh_words.specs.declared.tasks.WaveWords.{WaveWords}
-use Rattle.rehearse.specs.Against.{SaysOf, cut_notes, is_cut}
-use Rattle.rehearse.specs.Inventories.{IsOfLines}
+use Rattle.rehearse.specs.Against.{SaysOf, cut_notes, is_cut, is_stream}
 use Rattle.rehearse.specs.declared.faults.RunFault.{RunFault}
 use Rattle.rehearse.specs.declared.inputs.FileInput.{FileInput}
 use Rattle.rehearse.specs.declared.inputs.FileKind.{FileKind}
 use Rattle.rehearse.specs.declared.inputs.FileKind.TheVariants as kind
 use Rattle.rehearse.specs.declared.inputs.GatheredFiles.{GatheredFiles}
 use Rattle.rehearse.specs.declared.inputs.Parted.{Parted}
-use Rattle.rehearse.specs.declared.inventories.CountedInventory.{CountedInventory}
 use Rattle.rehearse.specs.declared.noted.Noted.{Noted}
 use Rattle.rehearse.specs.declared.faults.RunFault.TheVariants.{NoMemory, Unfit}
 
@@ -52,10 +52,13 @@ pub record IsOfBytes (file : FileInput) : Type 0 where
   pub ids : file.ids.items ≡ of_picture ids_in file.input
   pub kind_is : is_inventory file.kind ≡ false
 
--- it is the census of some lines of an inventory, with the ids of their ledgers, and whether the last line isn't there
+-- It is the census of some lines of an inventory, with the ids of their ledgers, and whether the last line isn't there. Of one that
+-- can be read only once they are all lines of the bytes that were read.
 pub record IsOfInventory (file : FileInput) : Type 0 where
   pub counted : CountedInventory
-  pub of_lines : IsOfLines counted
+  pub left : Option (List ℕ)
+  pub of_lines : IsOfLines left counted
+  pub known : is_stream file.kind ≡ true → IsSome left
   pub input : file.input ≡ Census counted.census
   pub ids : file.ids ≡ counted.ids
   pub kind_is : is_inventory file.kind ≡ true

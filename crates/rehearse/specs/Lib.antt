@@ -5,7 +5,6 @@ pub mod Cuts
 pub mod Endings
 pub mod Faults
 pub mod Inputs
-pub mod Inventories
 pub mod Mistaken
 pub mod Names
 pub mod Plans

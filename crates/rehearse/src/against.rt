@@ -16,10 +16,10 @@ use reh_against::{Stop, Worst};
 use reh_census::{Answer, Bookie, Judged, Ledger};
 use reh_inputs::{ClusterNames, names_of};
 use reh_inventory_against::Rereading;
+use reh_inventory_read::LineReader;
 use reh_tally::TallyFault;
 use std::alloc::{AllocError, Global};
 use std::fs::File;
-use std::io::BufReader;
 
 /// The note that there is no ledger.
 const NO_LEDGER: &str = "no ledger was judged: the answer is for a cluster without ledgers";
@@ -260,7 +260,7 @@ fn weigh_file(
 fn weigh_reader(
     alloc: Global,
     path: &str,
-    reader: &mut BufReader<File>,
+    reader: &mut LineReader<File>,
     ids: &[u64],
     by: &WeighedBy<'_>,
     worst: &mut Worst,
@@ -283,7 +283,7 @@ fn read_first(
     alloc: Global,
     path: &str,
     by: &WeighedBy<'_>,
-    reader: &mut BufReader<File>,
+    reader: &mut LineReader<File>,
 ) -> Result<Rereading, RunFault>
     ensures { IfOk result (λ again. (first : List ℕ)
         × IsRereading by.now.names.now by.now.is_strict first [] again) }
@@ -309,7 +309,7 @@ fn begin(alloc: Global, path: &str, by: &WeighedBy<'_>, line: &[u8]) -> Result<R
 fn weigh_lines(
     alloc: Global,
     path: &str,
-    reader: &mut BufReader<File>,
+    reader: &mut LineReader<File>,
     again: &mut Rereading,
     by: &WeighedBy<'_>,
     worst: &mut Worst,

@@ -13,7 +13,7 @@ use reh_inventory::InventoryFault;
 use reh_near::near_ids;
 use reh_words::CutWords;
 use std::alloc::{AllocError, Global};
-use std::io::{BufReader, Read};
+use std::io::BufRead;
 use std::sync::Wait;
 use std::thread;
 
@@ -69,10 +69,10 @@ fn assumed(words: &CutWords<'_>) -> Assume
 }
 
 /// The ledgers of these ids, of the lines of an inventory.
-fn choose_lines<R: Read + Drop>(
+fn choose_lines<B: BufRead>(
     alloc: Global,
     path: &str,
-    reader: &mut BufReader<R>,
+    reader: &mut B,
     ids: &[u64],
 ) -> Result<ChosenLedgers, RunFault>
     ensures { IfOk result (model.IsChoosing ids.now) }

@@ -1,19 +1,19 @@
 // The files of a cluster, read by several workers, what they show together, and their census.
-ghost use Rattle.std.specs.Prelude.{◌≡◌, ◌<◌, ◌++◌, ◌∷◌, [], true, All, List, vec_len, length, map, nat_eq, ℕ, IfOk, OnOk, string_bytes};
+ghost use Rattle.std.specs.Prelude.{◌≡◌, ◌<◌, ◌++◌, ◌∷◌, [], true, All, List, vec_len, length, map, nat_eq, ℕ, Option, IsSome, IfOk, OnOk, string_bytes};
 ghost use Rattle.std.specs.List.{flat_map, IsDistinct};
 ghost use Rattle.std.specs.Option.{option_map};
 ghost use Rattle.reh_inputs.specs.Gathered.{Gathers};
 ghost use Rattle.reh_inputs.specs.Inputs.{IsRead};
 ghost use Rattle.reh_inputs.specs.Named.{named_of as model_named, taken_of as model_taken};
-ghost use Rattle.rehearse.specs.Against.{cut_notes, is_cut};
+ghost use Rattle.rehearse.specs.Against.{cut_notes, is_cut, is_stream};
 ghost use Rattle.rehearse.specs.Endings.{EndsCensus};
 ghost use Rattle.rehearse.specs.Inputs as model;
-ghost use Rattle.rehearse.specs.Inventories.{IsOfLines};
+ghost use Rattle.reh_inventory_read.specs.Counted.{IsOfLines};
 
 use crate::afters::text_after;
 use crate::faults::RunFault;
 use crate::files::{InputBytes, read_input_file};
-use crate::inventories::{CountedInventory, Source, count_bytes, count_inventory};
+use crate::inventories::{Source, count_bytes, count_inventory};
 use crate::looks::Looks;
 use crate::mistaken::headless;
 use crate::names::misnamed;
@@ -25,6 +25,7 @@ use reh_inputs::{
     EmptyHolds, GatherFault, Gathered, Input, InputFault, check_ids, gather, ids_of, let_go,
     named_of, read_input, taken_of,
 };
+use reh_inventory_read::CountedInventory;
 use reh_picture::{LocatedFault, PictureFault};
 use reh_types::BookieIx;
 use reh_words::{CensusWords, Inputs};
@@ -448,10 +449,10 @@ fn no_input(alloc: Global, path: &str, bytes: &[u8], fault: InputFault) -> RunFa
 
 /// What an inventory shows.
 fn of_inventory(counted: CountedInventory, kind: FileKind) -> FileInput
-    requires lines { IsOfLines counted }
     requires kind { model.is_inventory kind ≡ true }
     requires cut { is_cut kind ≡ counted.is_cut }
-    ensures { model.IsOfFile result }
+    ensures { (left : Option (List ℕ)) → IsOfLines left counted → (is_stream kind ≡ true → IsSome left)
+        → model.IsOfFile result }
 {
     FileInput {
         input: Input::Census(counted.census),

@@ -9,7 +9,6 @@ ghost use Rattle.rehearse.specs.Endings.{Answers, EndsTask, done_well, end_statu
 
 mod afters;
 mod against;
-mod batches;
 mod checks;
 mod colors;
 mod cuts;

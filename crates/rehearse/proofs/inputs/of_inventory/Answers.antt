@@ -3,10 +3,12 @@ use Rattle.std.proofs.Common.{inr, refl}
 use Rattle.rehearse.proofs.inputs.of_inventory.Goals as goal
 
 pub returns : goal.returns
-returns g =
+returns g = λ left lines known.
     inr (record {
       counted = g.args.counted;
-      of_lines = g.requires.lines;
+      left = left;
+      of_lines = lines;
+      known = known;
       input = refl;
       ids = refl;
       kind_is = g.requires.kind;

@@ -1,15 +1,16 @@
 -- The census of the lines that were counted, and the ids of their ledgers.
 use Rattle.std.proofs.Common.{◌∙◌, ap, not}
 use Rattle.reh_inventory.specs.Inventories.{Inventory}
-use Rattle.rehearse.proofs.inventories.finish.Goals as goal
+use Rattle.reh_inventory_read.proofs.counting.finish.Goals as goal
 
 pub returns-in-Ok : goal.returns-in-Ok
-returns-in-Ok c = λ strict was. record {
+returns-in-Ok c = λ strict old new was. record {
   strict = strict;
   names = was.names;
   first = was.first;
   lines = was.lines;
   counted = c.in-Ok.ensures was.names strict was.first was.lines was.counted;
+  all = was.read;
   said = c.args.count.inventory;
   is_read = was.counted.inventory;
   ids =

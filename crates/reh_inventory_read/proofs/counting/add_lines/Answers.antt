@@ -1,10 +1,10 @@
 -- The lines that are passed were added, and one more.
 use Rattle.std.proofs.Common.{ℕ, List, ◌++◌, ◌∷◌, [], subst, sym}
 use Rattle.std.proofs.lemmas.List.{map_push}
-use Rattle.rehearse.specs.declared.batches.LineCount.{LineCount}
-use Rattle.rehearse.specs.Inventories.{GoesOn, bytes_of}
-use Rattle.rehearse.proofs.InventoryLaws.{goes-nowhere, goes-further}
-use Rattle.rehearse.proofs.inventories.add_lines.Goals as goal
+use Rattle.reh_inventory_read.specs.declared.batches.LineCount.{LineCount}
+use Rattle.reh_inventory_read.specs.Counted.{GoesOn, bytes_of}
+use Rattle.reh_inventory_read.proofs.CountedLaws.{goes-nowhere, goes-further}
+use Rattle.reh_inventory_read.proofs.counting.add_lines.Goals as goal
 
 pub loop-line-init : goal.loop-line-init
 loop-line-init c = goes-nowhere c.args.count.now

@@ -5,8 +5,8 @@ use Rattle.std.specs.Option.{IsSomeAnd}
 use Rattle.reh_inventory_census.specs.declared.census.CountedLine.{CountedLine}
 use Rattle.reh_inventory_census.specs.declared.faults.CountFault.{CountFault}
 use Rattle.reh_inventory_census.specs.Census.{IsCountedLine}
-use Rattle.rehearse.proofs.InventoryLaws.{still-counted}
-use Rattle.rehearse.proofs.batches.add_line.Goals as goal
+use Rattle.reh_inventory_read.proofs.CountedLaws.{still-counted}
+use Rattle.reh_inventory_read.proofs.batches.add_line.Goals as goal
 
 pub returns : goal.returns
 returns c =

@@ -1,13 +1,14 @@
-// Lines of an inventory, many at a time, so that several workers can read and count them.
-ghost use Rattle.std.specs.Prelude.{◌∷◌, [], All, IfOk, OnOk};
-ghost use Rattle.rehearse.specs.Inventories as model;
+// Lines of an inventory, many at a time, so that several workers can parse and count them.
+ghost use Rattle.std.specs.Prelude.{◌≡◌, ◌∷◌, ◌++◌, [], All, map, IfNone, IfOk, OnOk};
+ghost use Rattle.reh_inventory_read.specs.Counted as model;
+ghost use Rattle.reh_inventory_read.specs.Lines.{Reads};
 
-use crate::faults::RunFault;
-use crate::inventories::read_line;
+use crate::faults::ReadFault;
+use crate::lines::read_line;
 use reh_inventory::{Line, LineFault, read_line as parse_line};
 use reh_inventory_census::{CountFault, CountedLine, InventoryCount, line_fault};
 use std::alloc::{AllocError, Global};
-use std::io::{BufReader, Read};
+use std::io::BufRead;
 use std::thread;
 
 /// How many lines are read at a time, at most.
@@ -16,11 +17,12 @@ const MAX_LINES: usize = 4096;
 /// After how many bytes no further line is read at that time.
 const MAX_BYTES: usize = 1 << 20;
 
-/// The bytes of some lines of an inventory, and why the line after them can't be read, if it can't.
+/// The bytes of some lines of an inventory; whether no line comes after them, and why the next one can't be read, if it can't.
 #[derive(Drop)]
 pub(crate) struct Batch {
     pub(crate) lines: Vec<Vec<u8>>,
-    pub(crate) fault: Option<RunFault>,
+    pub(crate) is_last: bool,
+    pub(crate) fault: Option<ReadFault>,
 }
 
 /// A line, and what it says, once it was parsed.
@@ -37,36 +39,46 @@ pub(crate) struct LineCount {
     line: Option<Result<CountedLine, CountFault>>,
 }
 
-/// The next lines of an inventory; none at its end.
-pub(crate) fn next_lines<R: Read + Drop>(
-    alloc: Global,
-    path: &str,
-    reader: &mut BufReader<R>,
-) -> Result<Batch, AllocError> {
+/// The next lines of an inventory.
+pub(crate) fn next_lines<B: BufRead>(alloc: Global, reader: &mut B) -> Result<Batch, AllocError>
+    ensures { IfOk result (λ batch. IfNone batch.fault
+        (Reads batch.is_last (B.remaining reader.old) (B.remaining reader.new) (map (λ line. line.items) batch.lines.items))) }
+{
     let mut lines = Vec::new(alloc);
     let mut read = 0_usize;
     for _number in 0..MAX_LINES {
+        if read >= MAX_BYTES {
+            break;
+        }
         let mut bytes = Vec::new(alloc);
-        if let Err(fault) = read_line(alloc, path, reader, &mut bytes) {
+        if let Err(fault) = read_line(reader, &mut bytes) {
             return Ok(Batch {
                 lines,
+                is_last: false,
                 fault: Some(fault),
             });
         }
         if bytes.is_empty() {
-            break;
+            return Ok(Batch {
+                lines,
+                is_last: true,
+                fault: None,
+            });
         }
         read = read.saturating_add(bytes.len());
         push_line(&mut lines, bytes)?;
-        if read >= MAX_BYTES {
-            break;
-        }
     }
-    Ok(Batch { lines, fault: None })
+    Ok(Batch {
+        lines,
+        is_last: false,
+        fault: None,
+    })
 }
 
 /// Adds a line of these bytes.
-fn push_line(lines: &mut Vec<Vec<u8>>, bytes: Vec<u8>) -> Result<(), AllocError> {
+fn push_line(lines: &mut Vec<Vec<u8>>, bytes: Vec<u8>) -> Result<(), AllocError>
+    ensures { OnOk result (lines.new.items ≡ lines.old.items ++ bytes ∷ []) }
+{
     lines.push(bytes)?;
     Ok(())
 }
@@ -81,7 +93,9 @@ fn to_parse(alloc: Global, lines: Vec<Vec<u8>>) -> Result<Vec<ParsedLine>, Alloc
 }
 
 /// These lines, none of which is counted yet.
-fn to_count(alloc: Global, lines: Vec<Vec<u8>>) -> Result<Vec<LineCount>, AllocError> {
+fn to_count(alloc: Global, lines: Vec<Vec<u8>>) -> Result<Vec<LineCount>, AllocError>
+    ensures { IfOk result (λ waiting. model.bytes_of waiting.items ≡ map (λ line. line.items) lines.items) }
+{
     let mut waiting = Vec::new(alloc);
     for bytes in lines {
         waiting.push(LineCount { bytes, line: None })?;
@@ -120,7 +134,8 @@ pub(crate) fn count_each<T: thread::Threads + Sync>(
     count: &InventoryCount,
     lines: Vec<Vec<u8>>,
 ) -> Result<Vec<LineCount>, AllocError>
-    ensures { IfOk result (λ counted. All (model.IsLineCount count.now) counted.items) }
+    ensures counted { IfOk result (λ counted. All (model.IsLineCount count.now) counted.items) }
+    ensures same { IfOk result (λ counted. model.bytes_of counted.items ≡ map (λ line. line.items) lines.items) }
 {
     let mut lines = to_count(alloc, lines)?;
     thread::for_each_mut(
@@ -128,7 +143,8 @@ pub(crate) fn count_each<T: thread::Threads + Sync>(
         &mut lines,
         workers.max(1),
         &|_number, line: &mut LineCount|
-            ensures { model.IsLineCount count.entry.now line.exit.now }
+            ensures counted { model.IsLineCount count.entry.now line.exit.now }
+            ensures same { line.exit.now.bytes.items ≡ line.entry.now.bytes.items }
         {
             line.line = Some(count.count_line(alloc, &line.bytes));
         },

@@ -1,0 +1,2 @@
+pub mod CountedLaws
+pub mod LineLaws

@@ -1,0 +1,13 @@
+// The lines of an inventory, read one after the other, and counted by several workers.
+#![tactic(auto)]
+
+mod batches;
+mod counting;
+mod faults;
+mod limited;
+mod lines;
+
+pub use counting::{CountedInventory, count_lines, names_in};
+pub use faults::ReadFault;
+pub use limited::{Limited, MAX_LINE_BYTES};
+pub use lines::{LineReader, line_reader, read_line};
