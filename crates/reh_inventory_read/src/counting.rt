@@ -1,5 +1,5 @@
 // The census of an inventory's lines.
-ghost use Rattle.std.specs.Prelude.{◌≡◌, ◌∷◌, [], All, Bool, List, Option, ℕ, true, false, map, IfOk, OnOk};
+ghost use Rattle.std.specs.Prelude.{◌∷◌, [], All, Bool, List, Option, ℕ, true, false, map, IfOk, OnOk};
 ghost use Rattle.reh_inventory_read.specs.Counted as model;
 
 use crate::batches::{

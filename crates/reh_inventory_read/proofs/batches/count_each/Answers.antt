@@ -15,9 +15,9 @@ returns-clause-same g c =
     (ap (λ (rest : List LineCount). take was.len (are ++ rest)) (drop_all (length are) was.items (omega (arith, long)))
     ∙ ap (take was.len) (append-nil are) ∙ take_all was.len are (omega (arith, long, was.ok.0)))
     ∙ same-bytes was.items are long (λ i d below.
-        let change = (c.for_each_mut.ensures i d (omega (arith, below, ap (λ (l : List LineCount). length l) c.deref_mut.ensures.value))).1 in
-        ap (λ (l : LineCount). l.bytes.items) (sym change.left)
-        ∙ change.call.1
-        ∙ ap (λ (l : LineCount). l.bytes.items) change.argument_is
-        ∙ ap (λ (ls : List LineCount). (slice_index_or ls i d).bytes.items) c.deref_mut.ensures.value)
+    let change = (c.for_each_mut.ensures i d (omega (arith, below, ap (λ (l : List LineCount). length l) c.deref_mut.ensures.value))).1 in
+    ap (λ (l : LineCount). l.bytes.items) (sym change.left)
+    ∙ change.call.1
+    ∙ ap (λ (l : LineCount). l.bytes.items) change.argument_is
+    ∙ ap (λ (ls : List LineCount). (slice_index_or ls i d).bytes.items) c.deref_mut.ensures.value)
     ∙ c.in_ok-lines.ensures
