@@ -1,5 +1,5 @@
 -- Lines of an inventory that were counted by themselves, and added one after another.
-use Rattle.std.proofs.Common.{◌≡◌, ◌∙◌, ℕ, suc, ◌<◌, ap, arith, refl, slice_index_or, ◌++◌, ◌∷◌, [], List, Option, None, Some, append-nil, append_assoc, length, map, subst, sym}
+use Rattle.std.proofs.Common.{◌≡◌, ◌∙◌, ℕ, suc, ◌<◌, ap, arith, refl, slice_index_or, ◌++◌, ◌∷◌, [], List, Option, None, Some, append-nil, append_assoc, length, subst, sym}
 use Rattle.std.specs.Prelude.{Result, Ok, Err, IfOk}
 use Rattle.std.specs.Option.{IsSomeAnd}
 use Rattle.reh_inventory_census.specs.declared.census.CountedLine.{CountedLine}

@@ -1,5 +1,5 @@
 -- Each line keeps its bytes.
-use Rattle.std.proofs.Common.{◌≡◌, ◌∙◌, ◌++◌, List, ap, append-nil, arith, drop, length, rules, slice_index_or, sym, take}
+use Rattle.std.proofs.Common.{◌≡◌, ◌∙◌, ◌++◌, List, ap, append-nil, arith, length, rules, slice_index_or, sym, take}
 use Rattle.std.proofs.lemmas.List.{take_all, drop_all}
 use Rattle.reh_inventory_read.specs.Counted.{bytes_of}
 use Rattle.reh_inventory_read.specs.declared.batches.LineCount.{LineCount}

@@ -1,5 +1,5 @@
 -- The lines that are passed were added, and one more.
-use Rattle.std.proofs.Common.{ℕ, List, ◌++◌, ◌∷◌, [], subst, sym}
+use Rattle.std.proofs.Common.{ℕ, List, ◌∷◌, [], subst, sym}
 use Rattle.std.proofs.lemmas.List.{map_push}
 use Rattle.reh_inventory_read.specs.declared.batches.LineCount.{LineCount}
 use Rattle.reh_inventory_read.specs.Counted.{GoesOn, bytes_of}
