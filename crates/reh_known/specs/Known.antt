@@ -1,6 +1,6 @@
 -- What a question after a script goes by. The script takes what nothing tells to be nothing, so its end can tell less than the
 -- cluster has: where it would do so as said below, no question is asked.
-use Rattle.std.specs.Prelude.{◌≡◌, ℕ, ◌<◌, ◌⊎◌, ⊥, All, Bool, true, false, not, ◌&&◌, ◌||◌, nat_eq, List, length, slice_get, is_none}
+use Rattle.std.specs.Prelude.{◌≡◌, ℕ, ◌<◌, ◌⊎◌, All, Bool, true, false, not, ◌&&◌, ◌||◌, nat_eq, List, length, slice_get, is_none}
 use Rattle.std.specs.List.{list_any}
 use Rattle.std.specs.Option.{ForSome, IsSomeAnd, option_map_or}
 use Rattle.reh_types.specs.declared.moves.Event.{Event}
@@ -124,7 +124,7 @@ pub record AreKnown (s : Cluster) (done : List Event) (began : Listed) : Type 0 
 -- what a reason says is so of the bookie and the ledger, as it was and as it is now
 abbrev pub IsDoubtOf : Cluster → List Event → Listed → Ledger → Ledger → ℕ → Doubt → Type 0
 IsDoubtOf s done began was now bookie ShownEmpty = ⊥
-IsDoubtOf s done began was now bookie TookCopies = (was_told began bookie now.id ≡ false) × (HasShare s bookie now → ⊥)
+IsDoubtOf s done began was now bookie TookCopies = was_told began bookie now.id ≡ false
 IsDoubtOf s done began was now bookie OtherEnd = is_end_guessed done began was bookie ≡ true
 IsDoubtOf s done began was now bookie Refilled = is_refilled s began was bookie ≡ true
 
@@ -136,7 +136,8 @@ IsDoubtSince s done began found was =
 
 -- one of the picture's ledgers, or a content of a bookie that it shows as empty
 abbrev pub IsDoubtedIn : Cluster → List Event → Listed → Doubted → Doubt → Type 0
-IsDoubtedIn s done began found ShownEmpty = IsHeldBy (Picture began) (record { bookie = found.bookie; ledger = found.ledger })
+IsDoubtedIn s done began found ShownEmpty =
+    (bookie : ℕ) × IsHeldBy (Picture began) (record { bookie = bookie; ledger = found.ledger })
 IsDoubtedIn s done began found doubt =
     (k : ℕ) × IsSomeAnd (slice_get began.listing.ledgers.items k) (IsDoubtSince s done began found)
 

@@ -1,5 +1,5 @@
 // Why no question is asked at the end of a rehearsal.
-ghost use Rattle.std.specs.Prelude.{◌≡◌, ℕ, ⊥, true, false, All, IfNone, IfSome, IfOk, slice_get, string_bytes};
+ghost use Rattle.std.specs.Prelude.{◌≡◌, ℕ, true, false, All, IfNone, IfSome, IfOk, slice_get, string_bytes};
 ghost use Rattle.std.specs.Option.{IsSomeAnd};
 ghost use Rattle.reh_known.specs.Known as model;
 ghost use Rattle.reh_known.specs.Texts as texts;
@@ -160,8 +160,7 @@ fn doubt_of(
 /// Whether the picture told what the bookie held of the ledger, or it holds nothing of it or all that is striped onto it.
 fn is_told(state: &State, began: &Listed, now: &Ledger, bookie: BookieIx) -> bool
     ensures told { result ≡ true → model.IsTold state.now began.now now.now bookie }
-    ensures untold { result ≡ false → (model.was_told began.now bookie now.now.id ≡ false)
-        × (model.HasShare state.now bookie now.now → ⊥) }
+    ensures untold { result ≡ false → model.was_told began.now bookie now.now.id ≡ false }
 {
     is_clear(state.row(bookie, now.id()))
         || was_told(began, bookie, now.id())

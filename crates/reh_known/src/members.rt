@@ -1,5 +1,5 @@
 // Which bookies are at the end of a ledger, and which have what is striped onto them.
-ghost use Rattle.std.specs.Prelude.{◌≡◌, ℕ, ⊥, ◌<◌, ◌&&◌, nat_eq, not, true, false, is_none, IfSome, IfNone};
+ghost use Rattle.std.specs.Prelude.{◌≡◌, ℕ, ◌<◌, ◌&&◌, nat_eq, not, true, false, is_none, IfSome};
 ghost use Rattle.std.specs.List.{list_any};
 ghost use Rattle.reh_model.specs.Cluster.{holds};
 ghost use Rattle.reh_model.specs.Metadata.{last_fragment, stop_of, stripe_of};
@@ -59,8 +59,7 @@ fn is_closed(state: LedgerState) -> bool
 
 /// Whether the bookie isn't known to have all entries of the ledger that are striped onto it.
 pub(crate) fn lacks_share(state: &State, bookie: BookieIx, ledger: &Ledger) -> bool
-    ensures has { result ≡ false → model.HasShare state.now bookie ledger.now }
-    ensures lacks { result ≡ true → model.HasShare state.now bookie ledger.now → ⊥ }
+    ensures { result ≡ false → model.HasShare state.now bookie ledger.now }
 {
     for number in 0..ledger.metadata().fragments().len() {
         if lacks_in(state, bookie, ledger, number) {
@@ -72,12 +71,9 @@ pub(crate) fn lacks_share(state: &State, bookie: BookieIx, ledger: &Ledger) -> b
 
 /// Whether it isn't known to have all that the fragment of that number stripes onto it.
 fn lacks_in(state: &State, bookie: BookieIx, ledger: &Ledger, number: usize) -> bool
-    ensures has { result ≡ false → (i : ℕ) → i < ledger.now.metadata.size
+    ensures { result ≡ false → (i : ℕ) → i < ledger.now.metadata.size
         → (model.is_member_at ledger.now.metadata number i bookie
         && model.lacks_at state.now bookie ledger.now number i) ≡ false }
-    ensures lacks { result ≡ true → ((i : ℕ) → i < ledger.now.metadata.size
-        → (model.is_member_at ledger.now.metadata number i bookie
-        && model.lacks_at state.now bookie ledger.now number i) ≡ false) → ⊥ }
 {
     for index in 0..ledger.metadata().size() {
         if is_member_at(ledger.metadata(), number, index, bookie)
@@ -91,7 +87,7 @@ fn lacks_in(state: &State, bookie: BookieIx, ledger: &Ledger, number: usize) -> 
 
 /// Whether it isn't known to have all that the fragment of that number stripes onto this index.
 fn lacks_at(state: &State, bookie: BookieIx, ledger: &Ledger, number: usize, index: u32) -> bool
-    ensures { result ≡ model.lacks_at state.now bookie ledger.now number index }
+    ensures { result ≡ false → model.lacks_at state.now bookie ledger.now number index ≡ false }
 {
     match stripe_at(ledger, number, index) {
         Some(entries) => lacks_any(state, bookie, ledger.id(), entries),
@@ -111,9 +107,8 @@ fn is_member_at(metadata: &LedgerMeta, number: usize, index: u32, bookie: Bookie
 
 /// The entries that a fragment stripes onto the index, if it has a stop.
 fn stripe_at(ledger: &Ledger, number: usize, index: u32) -> Option<Striped>
-    ensures some { IfSome result (λ entries. (entries ≡ stripe_of ledger.now.metadata number index)
+    ensures { IfSome result (λ entries. (entries ≡ stripe_of ledger.now.metadata number index)
         × (is_none (stop_of ledger.now.metadata number) ≡ false)) }
-    ensures none { IfNone result (is_none (stop_of ledger.now.metadata number) ≡ true) }
 {
     let metadata = ledger.metadata();
     let fragment = metadata.fragments().get(number)?;
@@ -129,7 +124,7 @@ fn stripe_at(ledger: &Ledger, number: usize, index: u32) -> Option<Striped>
 
 /// Whether it lacks one of these entries.
 fn lacks_any(state: &State, bookie: BookieIx, ledger: LedgerId, entries: Striped) -> bool
-    ensures { result ≡ list_any (λ e. not (holds state.now bookie ledger e)) entries }
+    ensures { result ≡ false → list_any (λ e. not (holds state.now bookie ledger e)) entries ≡ false }
 {
     for entry in entries {
         if !state.holds(bookie, ledger, entry) {
