@@ -1,8 +1,9 @@
 // The picture of the state to which a script leads.
-ghost use Rattle.std.specs.Prelude.{◌≡◌, true, IfOk, OnOk, string_bytes};
+ghost use Rattle.std.specs.Prelude.{◌≡◌, true, IfErr, IfOk, OnOk, string_bytes};
 ghost use Rattle.reh_model.specs.Session.{state_of};
 ghost use Rattle.reh_known.specs.Known.{AreKnown};
 ghost use Rattle.reh_after.specs.After as model;
+ghost use Rattle.reh_after.specs.Faults as faults;
 
 use crate::faults::{AfterFault, unheld};
 use crate::plays::play_lines;
@@ -26,7 +27,8 @@ pub fn picture_after(
     script: &[u8],
     all_known: bool,
 ) -> Result<String, AfterFault>
-    ensures { IfOk result (λ text. model.IsAfter picture.now script.now all_known (string_bytes text)) }
+    ensures after { IfOk result (λ text. model.IsAfter picture.now script.now all_known (string_bytes text)) }
+    ensures fault { IfErr result (faults.IsAfterFault picture.now script.now all_known) }
 {
     if script.len() > MAX_SCRIPT_BYTES {
         return Err(AfterFault::TooLong);
@@ -44,7 +46,8 @@ fn end_of(
     script: &[u8],
     all_known: bool,
 ) -> Result<String, AfterFault>
-    ensures { IfOk result (λ text. model.IsEnd begun.old script.now all_known (string_bytes text)) }
+    ensures end { IfOk result (λ text. model.IsEnd begun.old script.now all_known (string_bytes text)) }
+    ensures fault { IfErr result (faults.IsEndFault begun.old script.now all_known) }
 {
     play_lines(alloc, &begun.names, &mut begun.session, script)?;
     check_known(alloc, begun, all_known)?;
@@ -56,8 +59,10 @@ fn end_of(
 
 /// Whether it is known of each bookie what it holds, if that has to be.
 fn check_known(alloc: Global, begun: &Begun, all_known: bool) -> Result<(), AfterFault>
-    ensures { OnOk result (all_known ≡ true
+    ensures known { OnOk result (all_known ≡ true
         → AreKnown (state_of begun.now.session) begun.now.session.done begun.now.marked) }
+    ensures asked { IfErr result (λ _. all_known ≡ true) }
+    ensures fault { IfErr result (faults.IsDoubtFault begun.now.names begun.now.session begun.now.marked) }
 {
     if !all_known {
         return Ok(());
@@ -70,7 +75,9 @@ fn check_known(alloc: Global, begun: &Begun, all_known: bool) -> Result<(), Afte
 }
 
 /// That it isn't known what a bookie holds, or that there is no memory.
-fn doubt_of(alloc: Global, names: &Names, found: Doubted) -> AfterFault {
+fn doubt_of(alloc: Global, names: &Names, found: Doubted) -> AfterFault
+    ensures { faults.IsDoubtOf names.now found result }
+{
     let bookie = names.name(found.bookie).unwrap_or("");
     match doubt_text(alloc, found.doubt, bookie, found.ledger.0) {
         Ok(doubt) => AfterFault::Doubt(doubt),
@@ -93,7 +100,8 @@ impl Begun {
 
 /// Opens a session on a picture, and lists what it has.
 fn begin(alloc: Global, picture: &[u8]) -> Result<Begun, AfterFault>
-    ensures { IfOk result (model.IsBegun picture.now) }
+    ensures begun { IfOk result (model.IsBegun picture.now) }
+    ensures fault { IfErr result (faults.IsBeginFault picture.now) }
 {
     let (names, session) = opened(alloc, picture)?;
     let marked = list_picture(alloc, picture)?;
@@ -106,7 +114,8 @@ fn begin(alloc: Global, picture: &[u8]) -> Result<Begun, AfterFault>
 
 /// A session on a picture, and the names of its bookies.
 fn opened(alloc: Global, picture: &[u8]) -> Result<(Names, Session), AfterFault>
-    ensures { IfOk result (λ opened. model.IsOpened picture.now opened.0 opened.1) }
+    ensures opened { IfOk result (λ opened. model.IsOpened picture.now opened.0 opened.1) }
+    ensures fault { IfErr result (faults.IsBeginFault picture.now) }
 {
     let state = check_picture(alloc, picture)?;
     let names = state.names().clone_in()?;

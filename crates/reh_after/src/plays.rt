@@ -1,8 +1,13 @@
 // Scripts whose commands are all accepted.
-ghost use Rattle.std.specs.Prelude.{◌≡◌, Some, OnOk};
+ghost use Rattle.std.specs.Prelude.{◌≡◌, ◌≢◌, Some, IfErr, IfOk, OnOk, string_bytes};
+ghost use Rattle.reh_types.specs.declared.moves.Reply.TheVariants.{Refused};
+ghost use Rattle.reh_types.specs.declared.refusals.Refusal.TheVariants.{NoMemory};
 ghost use Rattle.reh_commands.specs.Answers.{asked};
 ghost use Rattle.reh_lines.specs.Lines.{lines_of};
+ghost use Rattle.reh_commands.specs.Texts as texts;
+ghost use Rattle.reh_commands.specs.declared.commands.Command.TheVariants as command;
 ghost use Rattle.reh_after.specs.After as model;
+ghost use Rattle.reh_after.specs.Faults as faults;
 
 use crate::faults::{AfterFault, Unaccepted};
 use reh_cluster::Names;
@@ -20,7 +25,8 @@ pub(crate) fn play_lines(
     session: &mut Session,
     script: &[u8],
 ) -> Result<(), AfterFault>
-    ensures { OnOk result (model.after_lines names.now session.old (lines_of script.now) ≡ Some session.new) }
+    ensures played { OnOk result (model.after_lines names.now session.old (lines_of script.now) ≡ Some session.new) }
+    ensures fault { IfErr result (faults.IsLineFault names.now session.old (lines_of script.now)) }
 {
     let mut rest = script;
     let mut number = 0;
@@ -41,7 +47,8 @@ fn play_line(
     number: usize,
     line: &[u8],
 ) -> Result<(), AfterFault>
-    ensures { OnOk result (model.after_asked session.old (asked names.now line.now) ≡ Some session.new) }
+    ensures played { OnOk result (model.after_asked session.old (asked names.now line.now) ≡ Some session.new) }
+    ensures fault { IfErr result (faults.IsFaultAt number (faults.IsRefusedAt names.now session.old (asked names.now line.now))) }
 {
     match parse_line(names, line) {
         Some(Ok(command)) => play_command(alloc, names, session, number, &command),
@@ -58,7 +65,8 @@ fn play_command(
     number: usize,
     command: &Command,
 ) -> Result<(), AfterFault>
-    ensures { OnOk result (model.after_command session.old command.now ≡ Some session.new) }
+    ensures played { OnOk result (model.after_command session.old command.now ≡ Some session.new) }
+    ensures fault { IfErr result (faults.IsFaultAt number (faults.IsRefused names.now session.old command.now)) }
 {
     match command {
         Command::Make(step) => make(alloc, names, session, number, step),
@@ -78,7 +86,8 @@ fn make(
     number: usize,
     step: &Move,
 ) -> Result<(), AfterFault>
-    ensures { OnOk result (model.after_move session.old step.now ≡ Some session.new) }
+    ensures played { OnOk result (model.after_move session.old step.now ≡ Some session.new) }
+    ensures fault { IfErr result (faults.IsFaultAt number (faults.IsRefused names.now session.old (command.Make step.now))) }
 {
     let reply = session.perform(step);
     if is_accepted(&reply) {
@@ -99,7 +108,9 @@ fn is_accepted(reply: &Reply) -> bool
 }
 
 /// That the move of the line of that number was refused, or that there is no memory.
-fn refused(alloc: Global, names: &Names, number: usize, reply: &Reply) -> AfterFault {
+fn refused(alloc: Global, names: &Names, number: usize, reply: &Reply) -> AfterFault
+    ensures { faults.IsFaultAt number (λ answer. (reply.now ≢ Refused NoMemory) × (answer ≡ texts.reply_text names.now reply.now)) result }
+{
     match reply {
         Reply::Refused(Refusal::NoMemory) => AfterFault::NoMemory,
         reply => unaccepted(number, reply_text(alloc, names, reply)),
@@ -107,7 +118,9 @@ fn refused(alloc: Global, names: &Names, number: usize, reply: &Reply) -> AfterF
 }
 
 /// That the command of the line of that number isn't accepted, by its answer.
-fn unaccepted(line: usize, answer: Result<String, AllocError>) -> AfterFault {
+fn unaccepted(line: usize, answer: Result<String, AllocError>) -> AfterFault
+    ensures { faults.IsFaultAt line (λ told. IfOk answer (λ text. told ≡ string_bytes text)) result }
+{
     match answer {
         Ok(answer) => AfterFault::Unaccepted(Unaccepted { line, answer }),
         Err(want) => AfterFault::from(want),

@@ -3,3 +3,4 @@ pub mod Texts
 pub mod Reports
 pub mod Answers
 pub mod Printed
+pub mod Usage

@@ -125,7 +125,7 @@ impl Verb {
     /// The verb that a word names, if it names one.
     #[tactic(auto, unfolding(crate::specs::Script::verbs))]
     #[inline(always)]
-    pub(crate) fn of(word: &[u8]) -> Option<Verb>
+    pub fn of(word: &[u8]) -> Option<Verb>
         ensures { result ≡ script.verb_of word.now }
     {
         match word {
@@ -269,6 +269,11 @@ impl Verb {
 }
 
 impl fmt::Display for Verb {
+    ghost use Rattle.std.specs.Prelude.{Some};
+    ghost use Rattle.reh_commands.specs.Usage.{verb_text};
+
+    ghost output = { λ verb. Some (verb_text verb) };
+
     fn fmt<W: fmt::Write>(&self, f: &mut fmt::Formatter<W>) -> fmt::Result {
         f.write_str(self.name())?;
         for role in self.roles() {

@@ -60,6 +60,11 @@ impl Role {
 
 /// The role as it is written in help.
 impl fmt::Display for Role {
+    ghost use Rattle.std.specs.Prelude.{Some};
+    ghost use Rattle.reh_commands.specs.Usage.{role_text};
+
+    ghost output = { λ role. Some (role_text role) };
+
     fn fmt<W: fmt::Write>(&self, f: &mut fmt::Formatter<W>) -> fmt::Result {
         f.write_str(match self {
             Role::Bookie => "BOOKIE",

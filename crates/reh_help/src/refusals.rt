@@ -1,6 +1,7 @@
 // Refusals by their numbers and names, and what is said of each.
 ghost use Rattle.std.specs.Prelude.{◌≡◌, ◌==◌, true, find, is_some, IfSome};
-ghost use Rattle.reh_types.specs.Texts.{refusal_number};
+ghost use Rattle.std.specs.Str.{bytes_eq};
+ghost use Rattle.reh_types.specs.Texts.{refusal_name, refusal_number};
 ghost use Rattle.reh_help.specs.Pages.{IsNamedBy, topic_name, topic_number, topic_value};
 
 use reh_types::{BookieIx, Refusal};
@@ -38,8 +39,10 @@ impl Topic {
 
 /// All refusals that something is said of, in the order of their numbers: for each refusal, one that has its number.
 pub(crate) fn topics() -> [Topic; 44]
-    ensures { (refusal : Refusal)
+    ensures each { (refusal : Refusal)
         → is_some (find (λ topic. topic_number topic == refusal_number refusal) result) ≡ true }
+    ensures named { (refusal : Refusal)
+        → is_some (find (λ topic. bytes_eq (topic_name topic) (refusal_name refusal)) result) ≡ true }
 {
     [
         Topic::Refusal(Refusal::NoBookie),
@@ -107,26 +110,25 @@ fn first_numbered(topics: &[Topic], number: u8) -> Option<Topic>
         .find(|topic| topic.number() == number)
 }
 
-/// The refusal that a word names, by its number or its name.
+/// The refusal that a word names, by its name or its number. Each name that is printed of a refusal is found.
 pub fn topic_named(word: &str) -> Option<Topic>
-    ensures { IfSome result (IsNamedBy word.now) }
+    ensures named { IfSome result (IsNamedBy word.now) }
+    ensures each { (refusal : Refusal) → refusal_name refusal ≡ word.now → is_some result ≡ true }
 {
+    if let Some(topic) = topic_by_name(&topics(), word) {
+        return Some(topic);
+    }
     match word.parse::<u8>() {
         Ok(number) => topic_of(number),
-        Err(_) => topic_by_name(word),
+        Err(_) => None,
     }
 }
 
-/// The refusal of this name.
-fn topic_by_name(word: &str) -> Option<Topic>
-    ensures { IfSome result (λ topic. topic_name topic ≡ word.now) }
+/// The first of these that has this name.
+fn topic_by_name(topics: &[Topic], word: &str) -> Option<Topic>
+    ensures { result ≡ find (λ topic. bytes_eq (topic_name topic) word.now) topics.now }
 {
-    for topic in topics() {
-        if topic.name() == word {
-            return Some(topic);
-        }
-    }
-    None
+    topics.iter().copied().find(|topic| topic.name() == word)
 }
 
 /// When it is the answer.

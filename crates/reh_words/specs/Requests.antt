@@ -1,7 +1,9 @@
 -- What the program is asked, by all that is given.
-use Rattle.std.specs.Prelude.{◌≡◌, ◌⊎◌, ℕ, List, Some, codes}
+use Rattle.std.specs.Prelude.{◌≡◌, ◌≢◌, ◌⊎◌, ℕ, List, None, Some, codes}
 use Rattle.clap.specs.declared.parser.matches.ArgMatches.{ArgMatches}
-use Rattle.reh_commands.specs.Script.{form_of}
+use Rattle.reh_types.specs.Texts.{refusal_name}
+use Rattle.reh_types.specs.declared.refusals.Refusal.{Refusal}
+use Rattle.reh_commands.specs.Script.{verb_of}
 use Rattle.reh_help.specs.Pages.{IsNamedBy}
 use Rattle.reh_words.specs.Asked.{IsGiven, IsTask, word_of}
 use Rattle.reh_words.specs.Styles.{IsStyle}
@@ -11,13 +13,18 @@ use Rattle.reh_words.specs.declared.requests.Request.{Request}
 use Rattle.reh_words.specs.declared.tasks.Task.{Task}
 use Rattle.reh_words.specs.declared.tasks.Task.TheVariants as task
 
+-- the word is no command of a script, and no name of a refusal
+pub record IsUnknown (word : List ℕ) : Type 0 where
+  pub no_verb : verb_of word ≡ None
+  pub no_name : (refusal : Refusal) → refusal_name refusal ≢ word
+
 -- the word names what help is asked on
 abbrev pub IsTopic : List ℕ → HelpTopic → Type 0
 IsTopic word topic.Script = word ≡ codes "script"
 IsTopic word topic.Refusals = word ≡ codes "refusals"
 IsTopic word (topic.Refusal refusal) = IsNamedBy word refusal
-IsTopic word (topic.Command verb) = (form_of verb).name ≡ word
-IsTopic word (topic.Unknown other) = other.now ≡ word
+IsTopic word (topic.Command verb) = verb_of word ≡ Some verb
+IsTopic word (topic.Unknown other) = (other.now ≡ word) × IsUnknown word
 
 abbrev pub IsOnTopic : List ℕ → Task → Type 0
 IsOnTopic word (task.Help on) = IsTopic word on

@@ -83,10 +83,8 @@ fn named_topic<'a>(alloc: Global, word: &'a str) -> Result<HelpTopic<'a>, Error>
     if let Some(topic) = topic_named(word) {
         return Ok(HelpTopic::Refusal(topic));
     }
-    for verb in Verb::all() {
-        if verb.name() == word {
-            return Ok(HelpTopic::Command(verb));
-        }
+    if let Some(verb) = Verb::of(word.as_bytes()) {
+        return Ok(HelpTopic::Command(verb));
     }
     show_command(alloc, word)?;
     Ok(HelpTopic::Unknown(word))
