@@ -5,7 +5,7 @@ ghost use Rattle.std.specs.Option.{option_copied};
 ghost use Rattle.reh_types.specs.declared.calls.Call.TheVariants as call;
 ghost use Rattle.reh_types.specs.declared.limits.TheConstants.{MAX_LINES};
 ghost use Rattle.reh_types.specs.declared.moves.Move.TheVariants.{Post};
-ghost use Rattle.reh_types.specs.declared.moves.Reply.TheVariants.{Done, Refused};
+ghost use Rattle.reh_types.specs.declared.moves.Reply.TheVariants.{Done, Issued, Refused};
 ghost use Rattle.reh_types.specs.declared.refusals.Refusal.TheVariants.{NotOut};
 ghost use Rattle.reh_model.specs.Book.{new_book, ticket, is_written, ticket_place, Legal};
 ghost use Rattle.reh_model.specs.Scan as model;
@@ -230,6 +230,8 @@ impl Book {
     ) -> Result<Ticket, Refusal>
         ensures called { (C.shown caller.old).out ≤ length self.old.book.out
             → Called self.old (C.shown caller.old).number (call.Checkout aim) (checked_out result) self.new }
+        ensures issued { IfOk result (λ ticket.
+            Called self.old (C.shown caller.old).number (call.Checkout aim) (Issued ticket.number) self.new) }
         ensures caller { C.shown caller.new
             ≡ caller_after C.keeps (C.shown caller.old) (call.Checkout aim) (checked_out result) }
         ensures aim { IfOk result (λ ticket. ticket.content.aim ≡ aim) }

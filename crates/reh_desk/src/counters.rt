@@ -13,6 +13,7 @@ ghost use Rattle.reh_model.specs.Session.{state_of};
 ghost use Rattle.reh_desk.specs.Kept.{Called};
 ghost use Rattle.reh_desk.specs.Replies.{checked_out, spent, discarded};
 ghost use Rattle.reh_desk.specs.Seats.{SeatView, gained};
+ghost use Rattle.reh_desk.specs.Tickets.{IsIssued};
 ghost use Rattle.reh_desk.specs.Unspent.{number_of, aim_of};
 
 use crate::books::{Book, SpendFault};
@@ -54,7 +55,8 @@ pub trait Counter {
         ensures goes { goes self.old seat.old.number (call.Checkout aim) (checked_out result) self.new }
         ensures seat { seat.new ≡ gained seat.old (call.Checkout aim) (checked_out result) }
         ensures aim { IfOk result (λ ticket. ticket.content.aim ≡ aim) }
-        ensures ticket { IfOk result (λ ticket. IfSome (scene self.old) (λ s. scan s aim ≡ Some ticket.content)) };
+        ensures ticket { IfOk result (λ ticket. IfSome (scene self.old) (λ s. scan s aim ≡ Some ticket.content)) }
+        ensures issued { IfOk result (IsIssued seat.old.number aim) };
 
     /// Posts what was found with a ticket. Where its ticket isn't out at this seat, as none is of a seat that counts
     /// none, or there is no memory for an accepted post, the finding is handed back.

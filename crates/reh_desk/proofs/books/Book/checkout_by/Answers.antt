@@ -65,8 +65,8 @@ invariant_of-self-2 g c =
     c.state.ensures.replays c.in_default.ensures
     (omega (arith, reserved, c.in_ok-make_room.ensures.room, c.write_checkout-2.ensures.capacity)))
 
-pub returns-clause-called : goal.returns-clause-called
-returns-clause-called g c few =
+pub returns-clause-issued : goal.returns-clause-issued
+returns-clause-issued g c =
     let i = c.self.inside in
     let reserved : c.len-reserved.result ≡ length i.out.items = omega (arith, i.out.ok.0, c.len-reserved.ensures) in
     let call = Checkout c.args.aim in
@@ -79,6 +79,9 @@ returns-clause-called g c few =
     (rw (c.write_checkout-2.ensures.lines, c.push_reserved.ensures.items, c.reserve.ensures.items, c.make_room.ensures.items)
     (called_line (issued _ _ _ _ _ _ _ _ (rw reserved at c.in_ok-make_room.ensures.full)
     c.state.ensures.replays c.in_default.ensures)))))
+
+pub returns-clause-called : goal.returns-clause-called
+returns-clause-called g c few = returns-clause-issued g c
 
 pub returns-then-has_most_out-clause-called : goal.returns-then-has_most_out-clause-called
 returns-then-has_most_out-clause-called g c few =
