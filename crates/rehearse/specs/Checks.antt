@@ -1,4 +1,4 @@
--- What is said of a picture, an inventory or a script that is checked.
+-- What is said of a picture or a script that is checked.
 use Rattle.std.specs.Prelude.{◌≡◌, ◌==◌, ℕ, Bool, true, false, if◌then◌else◌, List, ◌++◌, length, string_bytes, codes, Ok, String}
 use Rattle.std.specs.Fmt.{decimal}
 use Rattle.std.specs.List.{filter}
@@ -7,9 +7,7 @@ use Rattle.reh_model.specs.Cluster.{Cluster}
 use Rattle.reh_lines.specs.Lines.{answered_lines}
 use Rattle.reh_picture.specs.Counts.{counts_of, counts_text}
 use Rattle.reh_picture.specs.Pictures.{located_picture_of}
-use Rattle.reh_inventory.specs.Inventories.{Inventory}
 use Rattle.reh_lint.specs.Lints.{findings, is_command, is_faulty}
-use Rattle.reh_check_json.specs.Inventories as inventories
 use Rattle.reh_check_json.specs.Objects as objects
 use Rattle.reh_check_json.specs.declared.objects.CheckedScript.{CheckedScript}
 
@@ -17,11 +15,6 @@ use Rattle.reh_check_json.specs.declared.objects.CheckedScript.{CheckedScript}
 abbrev pub picture_text : Bool → Cluster → List ℕ
 picture_text true state = objects.picture_text (counts_of state)
 picture_text false state = codes "ok\n" ++ (counts_text (counts_of state) ++ codes "\n")
-
-abbrev pub inventory_text : Bool → Inventory → List ℕ
-inventory_text true inventory = inventories.inventory_text (inventories.counts_of inventory)
-inventory_text false inventory =
-    codes "ok\n" ++ (inventories.counts_text (inventories.counts_of inventory) ++ codes "\n")
 
 -- how many lines of a script ask for a command, and how many are faulty, where the bookies have these names
 abbrev pub commands_in : List (List ℕ) → List (List ℕ) → ℕ

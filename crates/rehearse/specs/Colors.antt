@@ -1,14 +1,6 @@
 -- What is known of a text that may be shown in colour.
 use Rattle.std.specs.Prelude.{ℕ, Bool, true, false, List, Option, None}
 use Rattle.reh_lines.specs.Streams.{Grows, grows_not}
-use Rattle.reh_words.specs.declared.tasks.Prints.{Prints}
-use Rattle.reh_words.specs.declared.tasks.Prints.TheVariants.{Answers, Changes, Json}
-
--- whether what is printed of each line has colours, where answers have: JSON has none
-abbrev pub has_colors : Bool → Prints → Bool
-has_colors shown Answers = shown
-has_colors shown Changes = shown
-has_colors shown Json = false
 
 -- nothing, where it is
 abbrev pub unless_shown : Bool → Option (List ℕ) → Option (List ℕ)

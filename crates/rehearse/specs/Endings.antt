@@ -1,34 +1,19 @@
 -- How a run ends. Where no fault ends it, its status is 0, or that of what was answered.
 use Rattle.std.specs.Prelude.{◌≡◌, ◌⊎◌, ℕ, Some, Result, Ok, Err}
-use Rattle.reh_stop.specs.declared.stops.Said.{Said}
-use Rattle.reh_words.specs.declared.tasks.CensusWords.{CensusWords}
-use Rattle.reh_words.specs.declared.tasks.RiskWords.{RiskWords}
-use Rattle.reh_words.specs.declared.tasks.StopWords.{StopWords}
+use Rattle.reh_drill.specs.declared.faults.DrillFault.{DrillFault}
+use Rattle.reh_drill.specs.declared.faults.DrillFault.TheVariants as drill_fault
+use Rattle.reh_files.specs.Faults.{status_number}
+use Rattle.reh_files.specs.declared.faults.RunFault.{RunFault}
+use Rattle.reh_files.specs.declared.faults.RunFault.TheVariants.{Picture, ReadFault, TooLong, WriteFault, NoMemory, NoThread, Close}
+use Rattle.reh_lines.specs.declared.streams.StreamFault.{StreamFault}
+use Rattle.reh_play.specs.declared.faults.PlayFault.TheVariants as play_fault
+use Rattle.reh_questions.specs.Endings.{EndsCensus, EndsRisk, EndsStop, EndsWaves}
+use Rattle.reh_script.specs.declared.faults.PipeFault.{PipeFault}
+use Rattle.reh_script.specs.declared.faults.PipeFault.TheVariants as pipe_fault
 use Rattle.reh_words.specs.declared.tasks.Task.{Task}
 use Rattle.reh_words.specs.declared.tasks.Task.TheVariants as task
-use Rattle.reh_words.specs.declared.tasks.WaveWords.{WaveWords}
 use Rattle.rehearse.specs.Checks.{IsChecked}
-use Rattle.rehearse.specs.Faults.{status_number}
-use Rattle.rehearse.specs.Inputs.{SaysCensus, SaysRisk, SaysStop, SaysWaves}
 use Rattle.rehearse.specs.Plans.{IsStatus}
-use Rattle.rehearse.specs.declared.faults.RunFault.{RunFault}
-use Rattle.rehearse.specs.declared.noted.Noted.{Noted}
-
--- of a stop the status of the answer by all files: 0 for yes, 8 for no, and 9 for unknown
-pub record EndsStop (words : StopWords) (status : ℕ) : Type 0 where
-  pub said : Said
-  pub says : SaysStop words said
-  pub status_is : status ≡ said.status
-
--- there is an answer of rounds, of the next losses, or of a census, by all files
-abbrev pub EndsWaves : WaveWords → Type 0
-EndsWaves words = (noted : Noted) × SaysWaves words noted
-
-abbrev pub EndsRisk : RiskWords → Type 0
-EndsRisk words = (noted : Noted) × SaysRisk words noted
-
-abbrev pub EndsCensus : CensusWords → Type 0
-EndsCensus words = (noted : Noted) × SaysCensus words noted
 
 -- what is asked was answered, and that is the status; of tasks that ask no question it is 0
 abbrev pub Answers : Task → ℕ → Type 0
@@ -53,3 +38,31 @@ end_status (Err fault) = status_number fault
 -- what is asked was answered, with that status, or some fault has it
 abbrev pub EndsTask : Task → ℕ → Type 0
 EndsTask asked status = Answers asked status ⊎ ((fault : RunFault) × (status ≡ status_number fault))
+
+-- how a run ends once its answers were flushed: a failed flush is a write fault where answers were lost, and any
+-- other fault stays
+abbrev pub end_after_flush : Result (Unit {0}) RunFault → Result (Unit {0}) StreamFault → Result (Unit {0}) RunFault
+end_after_flush played (Ok flushed) = played
+end_after_flush (Ok played) (Err lost) = Err WriteFault
+end_after_flush (Err ReadFault) (Err lost) = Err WriteFault
+end_after_flush (Err TooLong) (Err lost) = Err WriteFault
+end_after_flush (Err fault) (Err lost) = Err fault
+
+-- a pipe's fault as the run's
+abbrev pub run_fault_of : PipeFault → RunFault
+run_fault_of (pipe_fault.Picture fault) = Picture fault
+run_fault_of (pipe_fault.Play play_fault.ReadFault) = ReadFault
+run_fault_of (pipe_fault.Play play_fault.TooLong) = TooLong
+run_fault_of (pipe_fault.Play play_fault.WriteFault) = WriteFault
+run_fault_of (pipe_fault.Play play_fault.NoMemory) = NoMemory
+run_fault_of (pipe_fault.Play play_fault.NoThread) = NoThread
+
+-- a drill's fault as the run's
+abbrev pub run_fault_of_drill : DrillFault → RunFault
+run_fault_of_drill (drill_fault.Picture fault) = Picture fault
+run_fault_of_drill drill_fault.ReadFault = ReadFault
+run_fault_of_drill drill_fault.TooLong = TooLong
+run_fault_of_drill drill_fault.WriteFault = WriteFault
+run_fault_of_drill drill_fault.NoMemory = NoMemory
+run_fault_of_drill drill_fault.NoThread = NoThread
+run_fault_of_drill (drill_fault.Close cause) = Close cause

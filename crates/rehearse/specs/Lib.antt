@@ -1,12 +1,6 @@
-pub mod Against
 pub mod Checks
 pub mod Colors
-pub mod Cuts
 pub mod Endings
-pub mod Faults
-pub mod Inputs
-pub mod Mistaken
-pub mod Names
 pub mod Plans
 pub mod Runs
 pub mod Tails

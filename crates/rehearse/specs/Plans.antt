@@ -25,9 +25,9 @@ use Rattle.reh_plan.specs.declared.faults.PlanFault.{PlanFault}
 use Rattle.reh_plan.specs.declared.faults.PlanFault.TheVariants as plan_fault
 use Rattle.reh_plan.specs.declared.planning.Planned.{Planned}
 use Rattle.reh_words.specs.declared.tasks.PlanWords.{PlanWords}
-use Rattle.rehearse.specs.Inputs.{IsAfterSome, IsUnfit}
-use Rattle.rehearse.specs.declared.faults.RunFault.{RunFault}
-use Rattle.rehearse.specs.declared.faults.RunFault.TheVariants as run_fault
+use Rattle.reh_questions.specs.Inputs.{IsAfterSome, IsUnfit}
+use Rattle.reh_files.specs.declared.faults.RunFault.{RunFault}
+use Rattle.reh_files.specs.declared.faults.RunFault.TheVariants as run_fault
 use Rattle.rehearse.specs.declared.plans.Asked.{Asked}
 
 -- in which racks the bookies stand, by the marks of as many as there can be

@@ -13,8 +13,8 @@ use Rattle.reh_script.specs.Printed.{EndsPrinting, RunsPrinting, PrintsInTime}
 use Rattle.reh_script.specs.Runs.{Runs, RunsOut}
 use Rattle.reh_words.specs.declared.tasks.Prints.{Prints}
 use Rattle.reh_words.specs.declared.tasks.Prints.TheVariants.{Answers, Changes, Json}
-use Rattle.rehearse.specs.declared.faults.RunFault.{RunFault}
-use Rattle.rehearse.specs.declared.faults.RunFault.TheVariants as run_fault
+use Rattle.reh_files.specs.declared.faults.RunFault.{RunFault}
+use Rattle.reh_files.specs.declared.faults.RunFault.TheVariants as run_fault
 
 -- A run of the picture and the script that two readers give, whose bytes to come were first_old and left_old and are
 -- first_new and left_new. Untouched says that the script's reader is as it was.

@@ -2,14 +2,15 @@
 ghost use Rattle.std.specs.Prelude.{◌≡◌, ◌++◌, IfOk, List, string_bytes, ℕ};
 ghost use Rattle.rehearse.specs.Checks as model;
 
-use crate::faults::RunFault;
-use crate::files::{PICTURE_BYTES, open_file, read_on, read_picture, read_script, write_out};
-use crate::inventories::{INVENTORY_BEGINS, check_inventory};
-use crate::mistaken::{no_picture, state_in};
 use reh_check_json::{CheckedScript, picture_json, script_json};
 use reh_cluster::State;
+use reh_files::{
+    INVENTORY_BEGINS, PICTURE_BYTES, RunFault, open_file, read_on, read_picture, read_script,
+    write_out,
+};
 use reh_lint::{Linted, lint};
 use reh_picture::{Counts, check_picture};
+use reh_questions::{check_inventory, no_picture, state_in};
 use reh_types::MAX_SCRIPT_BYTES;
 use std::alloc::{AllocError, Global};
 

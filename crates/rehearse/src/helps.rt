@@ -1,7 +1,6 @@
 // Help on scripts and refusals.
-use crate::faults::RunFault;
-use crate::files::write_out;
 use reh_commands::Verb;
+use reh_files::{RunFault, write_out};
 use reh_help::{command_page, refusal_page, refusals_page, script_page, topic_named};
 use reh_words::HelpTopic;
 use std::alloc::{AllocError, Global};

@@ -7,44 +7,30 @@ ghost use Rattle.std.specs.Prelude.{◌≡◌, false, IfOk};
 ghost use Rattle.std.specs.Process.{exit_status};
 ghost use Rattle.rehearse.specs.Endings.{Answers, EndsTask, done_well, end_status};
 
-mod afters;
-mod against;
 mod checks;
 mod colors;
-mod cuts;
-mod faults;
-mod files;
+mod endings;
 mod helps;
-mod inputs;
-mod inventories;
-mod looks;
-mod mistaken;
-mod names;
-mod noted;
+mod late;
 mod outs;
 mod plans;
-mod progress;
 mod prompts;
 mod runs;
-mod stops;
 mod tails;
-mod waves;
 
 use checks::{check_file, check_script};
 use clap::Error;
 use colors::Colored;
-use cuts::cut_over;
-use faults::{RunFault, after_flush, status_of, want_of_memory};
-use files::{LateFile, open_file, read_picture, read_scripts};
+use endings::{after_flush, of_drill, of_pipe, want_of_memory};
 use helps::help_on;
-use inputs::census_over;
-use looks::{Looks, say_fault};
-use mistaken::{end_on, picture_of};
+use late::LateFile;
 use outs::run_out;
 use plans::plan_file;
 use prompts::{Typed, tell_input};
 use reh_crew::{OpenGate, Plain};
 use reh_drill::drill_over;
+use reh_files::{Looks, RunFault, open_file, read_picture, read_scripts, say_fault, status_of};
+use reh_questions::{census_over, cut_over, end_on, picture_of, risk_over, stop_over, waves_over};
 use reh_script::{FromRead, Gathered, TextOut, ToWrite, pipe};
 use reh_words::{Crew, DrillFiles, PlayWords, Prints, Request, Task, request_of};
 use runs::{run_by, tell_unbegun};
@@ -52,8 +38,6 @@ use std::process::ExitCode;
 use std::sync::Wait;
 use std::thread::Threads;
 use std::{env, io};
-use stops::stop_over;
-use waves::{risk_over, waves_over};
 
 fn main(rt: HostRuntime) -> ExitCode {
     let words = match words(&rt) {
@@ -179,7 +163,7 @@ fn play<R: Threads + Wait + Sync>(
         PlayWords::Pipe => {
             tell_input(rt, looks);
             let mut reader = FromRead::new(rt.reader());
-            pipe(rt.alloc(), &Plain, &mut reader, &mut writer).map_err(RunFault::from)
+            pipe(rt.alloc(), &Plain, &mut reader, &mut writer).map_err(of_pipe)
         }
         PlayWords::Talk { picture, .. } => {
             talk(rt, threads, looks, picture, prints, &mut writer)
@@ -221,8 +205,8 @@ fn talk<R: Threads + Wait + Sync, W: TextOut>(
         &mut picture,
         &mut script,
         writer,
-    )?;
-    Ok(())
+    )
+    .map_err(of_pipe)
 }
 
 /// Plays a script file on a picture file. The script is opened once the picture is accepted.
@@ -254,7 +238,7 @@ fn run_files<R: Threads + Wait + Sync, W: TextOut>(
     );
     match script.into_unopened() {
         Some(fault) => Err(fault.without_reason()),
-        None => played.map_err(RunFault::from),
+        None => played.map_err(of_pipe),
     }
 }
 
@@ -278,5 +262,5 @@ fn drill<R: Threads + Wait + Sync>(
         &mut writer,
     );
     let flushed = writer.flush();
-    after_flush(drilled.map_err(RunFault::from), flushed)
+    after_flush(drilled.map_err(of_drill), flushed)
 }

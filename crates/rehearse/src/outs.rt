@@ -5,11 +5,11 @@ ghost use Rattle.reh_picture_out.specs.Kept.{kept_of};
 ghost use Rattle.reh_picture_out.specs.Marks.{KeepsMarksIn};
 
 use crate::colors::Colored;
-use crate::faults::{RunFault, after_flush};
-use crate::files::{LateFile, read_picture, unwritten};
-use crate::looks::Looks;
+use crate::endings::{after_flush, of_pipe};
+use crate::late::LateFile;
 use crate::runs::{play_opened, tell_unbegun};
 use reh_cluster::State;
+use reh_files::{Looks, RunFault, read_picture, unwritten};
 use reh_known::{doubt_text, first_doubt};
 use reh_picture::{Holding, Listed, PictureFault, list_picture};
 use reh_picture_out::{Unshown, picture_text};
@@ -94,8 +94,10 @@ fn write_end(
 fn open_rehearsal(alloc: Global, bytes: &[u8]) -> Result<Opened, RunFault>
     ensures { IfOk result (λ rehearsal. length rehearsal.book.book.out ≡ rehearsal.seat.out) }
 {
-    let rehearsal = open_picture(alloc, bytes)?;
-    Ok(rehearsal)
+    match open_picture(alloc, bytes) {
+        Ok(rehearsal) => Ok(rehearsal),
+        Err(fault) => Err(of_pipe(fault)),
+    }
 }
 
 /// Plays a script file at the book of a picture. The script is opened at its first read.
@@ -121,7 +123,7 @@ fn play_file<R: Threads + Wait + Sync, W: TextOut>(
     );
     match script.into_unopened() {
         Some(fault) => Err(fault.without_reason()),
-        None => played.map_err(RunFault::from),
+        None => played.map_err(of_pipe),
     }
 }
 

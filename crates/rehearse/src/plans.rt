@@ -6,20 +6,14 @@ ghost use Rattle.reh_types.specs.Sets as set;
 ghost use Rattle.reh_plan.specs.Named.{AreNamed};
 ghost use Rattle.rehearse.specs.Plans as model;
 
-use crate::afters::text_after;
-use crate::faults::RunFault;
-use crate::files::{read_picture, write_out};
-use crate::inputs::unfit;
-use crate::looks::Looks;
-use crate::mistaken::state_in;
-use crate::names::{named_twice, unknown};
-use crate::progress::{Progress, Teller};
 use crate::tails::{Tails, add_unclosed, tails_of};
 use reh_cluster::{Names, State};
+use reh_files::{Looks, Progress, RunFault, Teller, read_picture, write_out};
 use reh_picture::{BookieMarks, list_picture};
 use reh_plan::{
     PlanFault, Planned, Racks, find_bookies, first_unknown, plan, plan_json, plan_summary, runbook,
 };
+use reh_questions::{named_twice, state_in, text_after, unfit, unknown};
 use reh_types::{BookieIx, BookieSet, LedgerId, MAX_BOOKIES};
 use reh_words::PlanWords;
 use std::alloc::{AllocError, Global};

@@ -2,7 +2,7 @@
 ghost use Rattle.std.specs.Prelude.{◌≡◌};
 
 use crate::helps::say_help;
-use crate::looks::Looks;
+use reh_files::Looks;
 use reh_script::{StreamFault, TextIn};
 use std::io::IsTerminal;
 

@@ -6,9 +6,9 @@ ghost use Rattle.reh_script.specs.Pipes.{loses_output};
 ghost use Rattle.reh_script.specs.AsJson.{end_text};
 ghost use Rattle.rehearse.specs.Runs.{RunsBy, IsInTime, PlaysBy, TellsUnbegun, unbegun_text};
 
-use crate::faults::RunFault;
 use reh_cluster::State;
 use reh_crew::{BySurvey, OpenGate, Plain, SurveyFault, SurveyLine, Surveyor, Threads};
+use reh_files::RunFault;
 use reh_picture::PictureFault;
 use reh_script::{
     AsJson, Opened, PipeFault, PlayFault, TextIn, TextOut, WithChanges, pipe_end, play_book,

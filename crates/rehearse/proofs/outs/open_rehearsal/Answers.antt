@@ -15,5 +15,5 @@ none-out (Ok state) o opens =
     ap (λ (k : Kept). length k.book.out) opens.book ∙ sym (ap (λ (s : SeatView). s.out) opens.seat)
 none-out (Err fault) o opens = absurd opens
 
-pub returns : goal.returns
-returns c = none-out (picture_of c.args.bytes.now) c.in_ok-rehearsal.rehearsal c.in_ok-rehearsal.ensures
+pub returns-in-Ok : goal.returns-in-Ok
+returns-in-Ok c = none-out (picture_of c.args.bytes.now) c.in-Ok.rehearsal c.in-Ok.ensures

@@ -1,0 +1,2 @@
+pub mod Colors
+pub mod Faults

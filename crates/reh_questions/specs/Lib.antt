@@ -1,0 +1,7 @@
+pub mod Against
+pub mod Cuts
+pub mod Endings
+pub mod Inputs
+pub mod Inventories
+pub mod Mistaken
+pub mod Names

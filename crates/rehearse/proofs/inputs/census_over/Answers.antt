@@ -1,5 +1,0 @@
--- It is the answer that was written.
-use Rattle.rehearse.proofs.inputs.census_over.Goals as goal
-
-pub returns : goal.returns
-returns g c = (c.in_ok-noted.noted, c.in_ok-noted.ensures)

@@ -1,7 +1,0 @@
--- As much is read as slots are passed, each of some bytes.
-use Rattle.std.proofs.Common.{◌≡◌, length, All}
-use Rattle.rehearse.specs.Inputs.{IsOfFile}
-use Rattle.rehearse.proofs.inputs.read_of.Given as goal
-
-abbrev pub invariant-loop-slot : goal.invariant-loop-slot
-invariant-loop-slot l = (length l.read.items ≡ length l.yielded) × All IsOfFile l.read.items

@@ -1,0 +1,84 @@
+// A file that is opened late.
+ghost use Rattle.std.specs.Prelude.{◌≡◌, false, None};
+ghost use Rattle.std.specs.Io.{ReadsAtMost};
+
+use reh_files::{RunFault, open_file};
+use reh_script::{FromRead, StreamFault, TextIn};
+use std::fs::File;
+
+/// A file that is opened at its first read, so that what is read before it is judged before it.
+#[derive(Drop)]
+pub(crate) struct LateFile<'a> {
+    rt: &'a HostRuntime,
+    path: &'a str,
+    file: Option<FromRead<File>>,
+    unopened: Option<RunFault>,
+    has_failed: bool,
+    calls: u64,
+}
+
+impl<'a> LateFile<'a> {
+    /// The file of this path, of which no read was made yet.
+    pub(crate) fn new(rt: &'a HostRuntime, path: &'a str) -> Self
+        ensures fresh { result.has_failed ≡ false }
+        ensures closed { result.unopened ≡ None }
+    {
+        LateFile {
+            rt,
+            path,
+            file: None,
+            unopened: None,
+            has_failed: false,
+            calls: 0,
+        }
+    }
+
+    /// Why it could not be opened, if it could not.
+    pub(crate) fn into_unopened(self) -> Option<RunFault>
+        ensures { result ≡ self.entry.unopened }
+    {
+        self.unopened
+    }
+
+    /// Takes some bytes of the file, which is opened first where it isn't open yet.
+    fn take_opened(&mut self, buffer: &mut [u8]) -> Result<usize, StreamFault>
+        ensures bound { ReadsAtMost result buffer.new }
+        ensures failed { self.new.has_failed ≡ self.old.has_failed }
+        ensures counted { self.new.calls ≡ self.old.calls }
+    {
+        if let Some(file) = &mut self.file {
+            return file.take(buffer);
+        }
+        match open_file(self.rt, self.path) {
+            Ok(file) => {
+                let mut file = FromRead::new(file);
+                let taken = file.take(buffer);
+                self.file = Some(file);
+                taken
+            }
+            Err(fault) => {
+                self.unopened = Some(fault);
+                Err(StreamFault)
+            }
+        }
+    }
+}
+
+impl TextIn for LateFile<'_> {
+    ghost remaining = { λ _. None };
+
+    ghost has_failed = { λ s. s.has_failed };
+
+    ghost calls = { λ s. s.calls };
+
+    ghost before = { λ _. None };
+
+    fn take(&mut self, buffer: &mut [u8]) -> Result<usize, StreamFault> {
+        self.calls = self.calls.saturating_add(1);
+        let taken = self.take_opened(buffer);
+        if taken.is_err() {
+            self.has_failed = true;
+        }
+        taken
+    }
+}
