@@ -1,5 +1,5 @@
 -- The statuses and texts of faults.
-use Rattle.std.specs.Prelude.{ℕ, List, ◌++◌, None, Some, codes, string_bytes}
+use Rattle.std.specs.Prelude.{◌≡◌, ⊤, ⊥, ℕ, List, ◌++◌, None, Some, codes, string_bytes}
 use Rattle.std.specs.Fmt.{decimal}
 use Rattle.reh_desk.specs.declared.desks.CloseCause.{CloseCause}
 use Rattle.reh_desk.specs.declared.desks.CloseCause.TheVariants.{Seats, StillOut, Mismatch}
@@ -58,3 +58,22 @@ run_fault_text (Close cause) = codes "close: " ++ cause_text cause
 abbrev pub refused_by : PictureFault → LocatedFault → RunFault
 refused_by picture_fault.NoMemory located = NoMemory
 refused_by fault located = Refused None located
+
+-- Files
+
+-- what couldn't be done with the file, and some reason
+pub record SaysUndone (failed path text : List ℕ) : Type 0 where
+  pub reason : List ℕ
+  pub says : text ≡ codes "cannot " ++ (failed ++ (codes " " ++ (path ++ (codes ": " ++ reason))))
+
+-- the fault says that this can't be done with a file to be read, or there is no memory
+abbrev pub TellsUnread : List ℕ → List ℕ → RunFault → Type 0
+TellsUnread failed path (Unread text) = SaysUndone failed path (string_bytes text)
+TellsUnread failed path NoMemory = ⊤
+TellsUnread failed path other = ⊥
+
+-- the fault says that a file can't be written, or there is no memory
+abbrev pub TellsUnwritten : List ℕ → RunFault → Type 0
+TellsUnwritten path (Unwritten text) = SaysUndone (codes "write") path (string_bytes text)
+TellsUnwritten path NoMemory = ⊤
+TellsUnwritten path other = ⊥

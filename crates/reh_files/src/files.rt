@@ -1,5 +1,6 @@
 // Files that are read, and what is written to standard output.
-ghost use Rattle.std.specs.Prelude.{◌≡◌, length, IfOk, OnOk, ◌+◌};
+ghost use Rattle.std.specs.Prelude.{◌≡◌, codes, length, string_bytes, IfErr, IfOk, OnOk, ◌+◌};
+ghost use Rattle.reh_files.specs.Faults.{SaysUndone, TellsUnread, TellsUnwritten};
 
 use crate::faults::RunFault;
 use reh_census_file::is_census;
@@ -10,7 +11,9 @@ use std::io::{ErrorKind, Read, Seek, Write};
 use std::{fs, io};
 
 /// The file of this path, or standard input, if that is `-`; or that it can't be opened, and the system's reason.
-pub fn open_file(rt: &HostRuntime, path: &str) -> Result<File, RunFault> {
+pub fn open_file(rt: &HostRuntime, path: &str) -> Result<File, RunFault>
+    ensures { IfErr result (TellsUnread (codes "open") path.now) }
+{
     let place = if path == "-" { "/dev/stdin" } else { path };
     match fs::open(rt, place) {
         Ok(file) => Ok(file),
@@ -25,7 +28,9 @@ pub fn read_on(
     file: File,
     most: u64,
     bytes: &mut Vec<u8>,
-) -> Result<File, RunFault> {
+) -> Result<File, RunFault>
+    ensures { IfErr result (TellsUnread (codes "read") path.now) }
+{
     let mut part = file.take(most);
     match part.read_to_end(bytes) {
         Ok(_) => Ok(part.into_inner()),
@@ -113,7 +118,9 @@ pub fn read_script(rt: &HostRuntime, path: &str) -> Result<Vec<u8>, RunFault> {
 }
 
 /// That a file can't be opened or read, or out of memory.
-pub fn unread(alloc: Global, failed: &str, path: &str, error: io::Error) -> RunFault {
+pub fn unread(alloc: Global, failed: &str, path: &str, error: io::Error) -> RunFault
+    ensures { TellsUnread failed.now path.now result }
+{
     match error.kind() {
         ErrorKind::OutOfMemory => RunFault::from(error),
         _ => match unread_text(alloc, failed, path, error) {
@@ -124,7 +131,9 @@ pub fn unread(alloc: Global, failed: &str, path: &str, error: io::Error) -> RunF
 }
 
 /// That a file can't be written, or out of memory.
-pub fn unwritten(alloc: Global, path: &str, error: io::Error) -> RunFault {
+pub fn unwritten(alloc: Global, path: &str, error: io::Error) -> RunFault
+    ensures { TellsUnwritten path.now result }
+{
     match error.kind() {
         ErrorKind::OutOfMemory => RunFault::from(error),
         _ => match unread_text(alloc, "write", path, error) {
@@ -140,7 +149,9 @@ fn unread_text(
     failed: &str,
     path: &str,
     error: io::Error,
-) -> Result<String, AllocError> {
+) -> Result<String, AllocError>
+    ensures { IfOk result (λ text. SaysUndone failed.now path.now (string_bytes text)) }
+{
     let said = format!(in alloc; "{error}")?;
     let reason = without_number(said.as_str());
     format!(in alloc; "cannot {failed} {path}: {reason}")

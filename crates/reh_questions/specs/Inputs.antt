@@ -12,6 +12,10 @@ use Rattle.reh_census_json.specs.Objects.{json_of}
 use Rattle.reh_inputs.specs.Gathered.{Gathers, ids_in}
 use Rattle.reh_inputs.specs.Inputs.{IsRead, of_picture}
 use Rattle.reh_inputs.specs.Named.{named_of, taken_of}
+use Rattle.reh_census_file.specs.Faults.{fault_text as census_fault_text}
+use Rattle.reh_census_file.specs.declared.faults.CensusFault.TheVariants as census_fault
+use Rattle.reh_inputs.specs.declared.inputs.InputFault.{InputFault}
+use Rattle.reh_inputs.specs.declared.inputs.InputFault.TheVariants as input_fault
 use Rattle.reh_inputs.specs.declared.inputs.Input.{Input}
 use Rattle.reh_inputs.specs.declared.inputs.Input.TheVariants.{Picture, Census}
 use Rattle.reh_inputs.specs.declared.gathered.GatherFault.{GatherFault}
@@ -37,7 +41,8 @@ use Rattle.reh_questions.specs.declared.inputs.FileKind.TheVariants as kind
 use Rattle.reh_questions.specs.declared.inputs.GatheredFiles.{GatheredFiles}
 use Rattle.reh_questions.specs.declared.inputs.Parted.{Parted}
 use Rattle.reh_questions.specs.declared.noted.Noted.{Noted}
-use Rattle.reh_files.specs.declared.faults.RunFault.TheVariants.{NoMemory, Unfit}
+use Rattle.reh_files.specs.declared.faults.RunFault.TheVariants.{NoMemory, Refused, Unfit}
+use Rattle.reh_picture.specs.declared.places.LocatedFault.{LocatedFault}
 
 -- whether a file is an inventory
 abbrev pub is_inventory : FileKind → Bool
@@ -179,6 +184,19 @@ abbrev pub IsUnfit : List ℕ → RunFault → Type 0
 IsUnfit text (Unfit reason) = string_bytes reason ≡ text
 IsUnfit text NoMemory = Unit {0}
 IsUnfit text other = ⊥
+
+-- the fault says of the file's picture why it is refused, or there is no memory
+abbrev pub TellsRefused : List ℕ → LocatedFault → RunFault → Type 0
+TellsRefused path located (Refused (Some told) other) = (string_bytes told ≡ path) × (other ≡ located)
+TellsRefused path located NoMemory = Unit {0}
+TellsRefused path located other = ⊥
+
+-- which fault of a run tells why the file is no input
+abbrev pub TellsUnreadable : List ℕ → InputFault → RunFault → Type 0
+TellsUnreadable path (input_fault.Picture located) run = TellsRefused path located run
+TellsUnreadable path (input_fault.Census census_fault.NoMemory) run = run ≡ NoMemory
+TellsUnreadable path (input_fault.Census fault) run =
+    IsUnfit (codes "census " ++ (path ++ (codes ": " ++ census_fault_text fault))) run
 
 abbrev pub too_many_text : List ℕ
 too_many_text = codes "there are more entries, ledgers or fragments than can be counted"

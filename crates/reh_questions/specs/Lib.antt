@@ -5,3 +5,4 @@ pub mod Inputs
 pub mod Inventories
 pub mod Mistaken
 pub mod Names
+pub mod Afters

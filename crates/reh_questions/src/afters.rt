@@ -1,5 +1,6 @@
 // The picture of the state to which a script leads, for a question that is asked of that state.
-ghost use Rattle.std.specs.Prelude.{IfOk, string_bytes};
+ghost use Rattle.std.specs.Prelude.{◌≡◌, IfOk, string_bytes};
+ghost use Rattle.reh_questions.specs.Afters.{TellsUnplayed, unaccepted_text};
 ghost use Rattle.reh_questions.specs.Inputs as model;
 
 use crate::inputs::{refused, unfit};
@@ -31,7 +32,9 @@ pub fn text_after(
 }
 
 /// Why there is no state that can be asked of.
-fn unplayed(alloc: Global, picture: &str, script: &str, fault: AfterFault) -> RunFault {
+fn unplayed(alloc: Global, picture: &str, script: &str, fault: AfterFault) -> RunFault
+    ensures { TellsUnplayed picture.now script.now fault result }
+{
     match fault {
         AfterFault::Picture(located) => match refused(alloc, picture, located) {
             Ok(fault) => fault,
@@ -50,7 +53,9 @@ fn unplayed(alloc: Global, picture: &str, script: &str, fault: AfterFault) -> Ru
 }
 
 /// That a command of a script isn't accepted.
-fn unaccepted_text(alloc: Global, script: &str, first: &Unaccepted) -> Result<String, AllocError> {
+fn unaccepted_text(alloc: Global, script: &str, first: &Unaccepted) -> Result<String, AllocError>
+    ensures { IfOk result (λ text. string_bytes text ≡ unaccepted_text script.now first.now) }
+{
     let Unaccepted { line, answer } = first;
     format!(in alloc;
         "{script}:{line}: {answer}: nothing is asked, as each command has to be accepted first"

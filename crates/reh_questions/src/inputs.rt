@@ -472,7 +472,9 @@ fn of_bytes(alloc: Global, input: Input) -> Result<FileInput, AllocError>
 }
 
 /// The fault of a run whose file is no input.
-fn unreadable(alloc: Global, path: &str, fault: InputFault) -> RunFault {
+fn unreadable(alloc: Global, path: &str, fault: InputFault) -> RunFault
+    ensures { model.TellsUnreadable path.now fault result }
+{
     match fault {
         InputFault::Picture(located) => match refused(alloc, path, located) {
             Ok(fault) => fault,
@@ -488,7 +490,9 @@ pub(crate) fn refused(
     alloc: Global,
     path: &str,
     located: LocatedFault,
-) -> Result<RunFault, AllocError> {
+) -> Result<RunFault, AllocError>
+    ensures { IfOk result (model.TellsRefused path.now located) }
+{
     match &located.fault {
         PictureFault::NoMemory => Ok(RunFault::NoMemory),
         _ => Ok(RunFault::Refused(Some(format!(in alloc; "{path}")?), located)),

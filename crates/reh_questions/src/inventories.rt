@@ -1,7 +1,9 @@
 // Inventories, read line by line: one that is checked, and one whose ledgers are counted.
-ghost use Rattle.std.specs.Prelude.{◌≡◌, ℕ, List, Option, Some, IfOk, string_bytes};
+ghost use Rattle.std.specs.Prelude.{◌≡◌, ℕ, List, Option, Some, IfOk, length, string_bytes};
 ghost use Rattle.reh_inventory_read.specs.Counted.{IsOfLines};
-ghost use Rattle.reh_questions.specs.Inventories.{inventory_text};
+ghost use Rattle.reh_inventory_read.specs.declared.faults.ReadFault.TheVariants.{TooLong};
+ghost use Rattle.reh_questions.specs.Inputs.{IsUnfit};
+ghost use Rattle.reh_questions.specs.Inventories as model;
 
 use crate::inputs::unfit;
 use reh_check_json::{InventoryCounts, inventory_json};
@@ -25,7 +27,9 @@ pub fn check_inventory(
     file: File,
     start: Vec<u8>,
     as_json: bool,
-) -> Result<String, RunFault> {
+) -> Result<String, RunFault>
+    ensures { IfOk result (λ text. model.SaysOfInventory as_json (string_bytes text)) }
+{
     let alloc = rt.alloc();
     let mut line = start;
     let mut reader = reader_of(alloc, path, file)?;
@@ -39,7 +43,9 @@ fn check_read(
     reader: &mut LineReader<File>,
     line: &mut Vec<u8>,
     as_json: bool,
-) -> Result<String, RunFault> {
+) -> Result<String, RunFault>
+    ensures { IfOk result (λ text. model.SaysOfInventory as_json (string_bytes text)) }
+{
     let mut inventory = Inventory::new(alloc);
     add_read(alloc, path, reader, line, &mut inventory)?;
     whole_text(alloc, path, &inventory, as_json)
@@ -51,7 +57,9 @@ fn whole_text(
     path: &str,
     inventory: &Inventory,
     as_json: bool,
-) -> Result<String, RunFault> {
+) -> Result<String, RunFault>
+    ensures { IfOk result (λ text. model.SaysOfInventory as_json (string_bytes text)) }
+{
     if !inventory.is_whole() {
         return Err(cut(alloc, path, inventory));
     }
@@ -93,7 +101,9 @@ pub(crate) fn read_line<B: BufRead>(
 }
 
 /// Why an inventory isn't read or counted.
-fn uncounted_file(alloc: Global, path: &str, fault: ReadFault) -> RunFault {
+fn uncounted_file(alloc: Global, path: &str, fault: ReadFault) -> RunFault
+    ensures { model.TellsUnreadInventory path.now fault result }
+{
     match fault {
         ReadFault::Unread(error) => unread(alloc, "read", path, error),
         ReadFault::TooLong => too_long(alloc, path),
@@ -103,12 +113,16 @@ fn uncounted_file(alloc: Global, path: &str, fault: ReadFault) -> RunFault {
 }
 
 /// That a line is too long.
-fn too_long(alloc: Global, path: &str) -> RunFault {
+fn too_long(alloc: Global, path: &str) -> RunFault
+    ensures { model.TellsUnreadInventory path.now TooLong result }
+{
     unfit(format!(in alloc; "inventory {path}: a line has more than {MAX_LINE_BYTES} bytes"))
 }
 
 /// The fault of an inventory's line.
-pub(crate) fn refused(alloc: Global, path: &str, line: u64, fault: InventoryFault) -> RunFault {
+pub(crate) fn refused(alloc: Global, path: &str, line: u64, fault: InventoryFault) -> RunFault
+    ensures { model.TellsLine path.now line fault result }
+{
     match fault {
         InventoryFault::NoMemory => RunFault::NoMemory,
         _ => unfit(format!(in alloc; "inventory {path}: line {line}: {fault}")),
@@ -116,19 +130,18 @@ pub(crate) fn refused(alloc: Global, path: &str, line: u64, fault: InventoryFaul
 }
 
 /// That the last line isn't there.
-fn cut(alloc: Global, path: &str, inventory: &Inventory) -> RunFault {
+fn cut(alloc: Global, path: &str, inventory: &Inventory) -> RunFault
+    ensures { IsUnfit (model.cut_text path.now (length inventory.now.ids)) result }
+{
     let ledgers = inventory.ledgers();
-    match format!(in alloc;
+    unfit(format!(in alloc;
         "inventory {path}: expected a last line, after the lines of {ledgers} ledgers: the file was cut"
-    ) {
-        Ok(text) => RunFault::Unfit(text),
-        Err(want) => RunFault::from(want),
-    }
+    ))
 }
 
 /// How much there is in a whole inventory, as text or as JSON.
 fn inventory_said(alloc: Global, inventory: &Inventory, as_json: bool) -> Result<String, AllocError>
-    ensures { IfOk result (λ text. string_bytes text ≡ inventory_text as_json inventory.now) }
+    ensures { IfOk result (λ text. string_bytes text ≡ model.inventory_text as_json inventory.now) }
 {
     let counts = InventoryCounts::of(inventory);
     if as_json {
@@ -223,28 +236,26 @@ pub(crate) fn reader_of<R: Read + Drop>(
 }
 
 /// The fault of a line that can't be counted.
-pub(crate) fn uncounted(alloc: Global, path: &str, line: u64, fault: &CountFault) -> RunFault {
-    let text = match fault {
-        CountFault::Line(fault) => return refused(alloc, path, line, *fault),
-        CountFault::NoMemory => return RunFault::NoMemory,
-        CountFault::TooManyBookies => format!(in alloc;
+pub(crate) fn uncounted(alloc: Global, path: &str, line: u64, fault: &CountFault) -> RunFault
+    ensures { model.TellsUncounted path.now line fault.now result }
+{
+    match fault {
+        CountFault::Line(fault) => refused(alloc, path, line, *fault),
+        CountFault::NoMemory => RunFault::NoMemory,
+        CountFault::TooManyBookies => unfit(format!(in alloc;
             "inventory {path}: line {line}: there are more than 4096 bookies"
-        ),
-        CountFault::Unnamed => format!(in alloc;
+        )),
+        CountFault::Unnamed => unfit(format!(in alloc;
             "inventory {path}: line {line}: it names a bookie that no line had when the names were read: the file has changed"
-        ),
-        CountFault::Unfit(id) => format!(in alloc;
+        )),
+        CountFault::Unfit(id) => unfit(format!(in alloc;
             "inventory {path}: line {line}: ledger {id} can't be counted"
-        ),
-        CountFault::HoldsThoughEmpty(id) => format!(in alloc;
+        )),
+        CountFault::HoldsThoughEmpty(id) => unfit(format!(in alloc;
             "inventory {path}: line {line}: a bookie that is shown as empty holds entries of ledger {id}: leave out one of the two"
-        ),
-        CountFault::TooMany => format!(in alloc;
+        )),
+        CountFault::TooMany => unfit(format!(in alloc;
             "inventory {path}: there are more entries, ledgers or fragments than can be counted"
-        ),
-    };
-    match text {
-        Ok(text) => RunFault::Unfit(text),
-        Err(want) => RunFault::from(want),
+        )),
     }
 }
