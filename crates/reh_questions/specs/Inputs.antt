@@ -26,6 +26,8 @@ use Rattle.reh_inventory_read.specs.declared.counting.CountedInventory.{CountedI
 use Rattle.reh_stop.specs.Rounds.{SaysCost, SaysRounds}
 use Rattle.reh_stop.specs.declared.rounds.AskedRisk.{AskedRisk}
 use Rattle.reh_stop.specs.declared.rounds.AskedWaves.{AskedWaves}
+use Rattle.reh_stop.specs.declared.rounds.RoundFault.{RoundFault}
+use Rattle.reh_stop.specs.declared.rounds.RoundFault.TheVariants as round_fault
 use Rattle.reh_stop.specs.declared.stops.Asked.{Asked}
 use Rattle.reh_stop.specs.declared.stops.Said.{Said}
 use Rattle.reh_words.specs.declared.tasks.CensusWords.{CensusWords}
@@ -246,3 +248,8 @@ TellsOf words read (gather.OtherStrict input) run =
     IsUnfit (strict_text (path_of words.files.items input) words.strict) run
 TellsOf words read gather.TooMany run = IsUnfit too_many_text run
 TellsOf words read gather.NoMemory run = run ≡ NoMemory
+
+-- which fault of a run tells why rounds or next losses aren't answered
+abbrev pub TellsRounds : RoundFault → RunFault → Type 0
+TellsRounds round_fault.Unprintable run = IsUnfit (codes "a name has a byte that can't be printed") run
+TellsRounds round_fault.NoMemory run = run ≡ NoMemory

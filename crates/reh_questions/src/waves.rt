@@ -1,7 +1,7 @@
 // Rounds of bookies that may be stopped together, and what the next losses cost, judged from files.
 ghost use Rattle.std.specs.Prelude.{IfOk, OnOk};
 ghost use Rattle.reh_questions.specs.Endings.{EndsRisk, EndsWaves};
-ghost use Rattle.reh_questions.specs.Inputs.{AreGathered, SaysRisk, SaysWaves};
+ghost use Rattle.reh_questions.specs.Inputs.{AreGathered, SaysRisk, SaysWaves, TellsRounds};
 
 use crate::inputs::{GatheredFiles, gather_files, unfit};
 use crate::noted::{Noted, with_notes, write_noted};
@@ -113,7 +113,9 @@ fn risk_by(alloc: Global, words: &RiskWords<'_>, files: &GatheredFiles) -> Resul
 }
 
 /// The fault of a run that answers nothing.
-fn fault_of(alloc: Global, fault: RoundFault) -> RunFault {
+fn fault_of(alloc: Global, fault: RoundFault) -> RunFault
+    ensures { TellsRounds fault result }
+{
     match fault {
         RoundFault::Unprintable => {
             unfit(format!(in alloc; "a name has a byte that can't be printed"))
