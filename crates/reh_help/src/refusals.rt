@@ -115,20 +115,28 @@ pub fn topic_named(word: &str) -> Option<Topic>
     ensures named { IfSome result (IsNamedBy word.now) }
     ensures each { (refusal : Refusal) → refusal_name refusal ≡ word.now → is_some result ≡ true }
 {
-    if let Some(topic) = topic_by_name(&topics(), word) {
-        return Some(topic);
-    }
-    match word.parse::<u8>() {
-        Ok(number) => topic_of(number),
-        Err(_) => None,
+    match topic_by_name(&topics(), word) {
+        Some(topic) => Some(topic),
+        None => topic_by_number(word),
     }
 }
 
 /// The first of these that has this name.
 fn topic_by_name(topics: &[Topic], word: &str) -> Option<Topic>
-    ensures { result ≡ find (λ topic. bytes_eq (topic_name topic) word.now) topics.now }
+    ensures first { result ≡ find (λ topic. bytes_eq (topic_name topic) word.now) topics.now }
+    ensures named { IfSome result (λ topic. topic_name topic ≡ word.now) }
 {
     topics.iter().copied().find(|topic| topic.name() == word)
+}
+
+/// The refusal whose number a word says.
+fn topic_by_number(word: &str) -> Option<Topic>
+    ensures { IfSome result (IsNamedBy word.now) }
+{
+    match word.parse::<u8>() {
+        Ok(number) => topic_of(number),
+        Err(_) => None,
+    }
 }
 
 /// When it is the answer.

@@ -24,4 +24,4 @@ pub returns-clause-each : goal.returns-clause-each
 returns-clause-each c = λ refusal is.
     ap is_some c.first_numbered.ensures
     ∙ ap (λ n. is_some (find (λ topic. topic_number topic == n) c.topics.result)) (sym is)
-    ∙ c.topics.ensures refusal
+    ∙ c.topics.ensures.each refusal
