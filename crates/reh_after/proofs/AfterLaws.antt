@@ -1,5 +1,7 @@
 -- One move and one line more are accepted.
-use Rattle.std.proofs.Common.{◌≡◌, ◌∙◌, ◌==◌, ◌+◌, ◌++◌, ℕ, Bool, true, List, [], ◌∷◌, Option, None, Some, cond, ap, sym, subst, refl, arith, length, append_assoc, length-append, true≢false, inl, inr}
+use Rattle.std.proofs.Common.{◌≡◌, ◌∙◌, ◌==◌, ◌+◌, ◌++◌, ℕ, Bool, true, false, List, [], ◌∷◌, Option, None, Some, cond, ap, sym, subst, refl, arith, length, append_assoc, length-append, true≢false, inl, inr}
+use Rattle.std.specs.Prelude.{IfOk, Result, Ok, Err, String, string_bytes}
+use Rattle.std.specs.declared.alloc.Global.{Global}
 use Rattle.std.proofs.lemmas.List.{append-nil}
 use Rattle.std.proofs.lemmas.Option.{none-some, same_Some}
 use Rattle.std.proofs.lemmas.Bool.Decides.{nat_tests}
@@ -10,7 +12,9 @@ use Rattle.reh_model.specs.Session.{Session, Performs, session_after}
 use Rattle.reh_lines.specs.Lines.{lines_of}
 use Rattle.reh_commands.specs.Answers.{asked}
 use Rattle.reh_after.specs.After.{after_asked, after_lines, after_move, after_reply, is_accepted}
-use Rattle.reh_after.specs.Faults.{AreAccepted, IsFaultAt, IsLineFault, IsRefusedAt}
+use Rattle.reh_commands.specs.Texts.{reply_text}
+use Rattle.reh_commands.specs.declared.commands.Command.TheVariants.{Make}
+use Rattle.reh_after.specs.Faults.{AreAccepted, IsFaultAt, IsLineFault, IsRefused, IsRefusedAt, lacks_memory, unaccepted_by}
 use Rattle.reh_after.specs.declared.faults.AfterFault.{AfterFault}
 use Rattle.reh_after.specs.declared.faults.AfterFault.TheVariants.{Unaccepted}
 
@@ -76,3 +80,30 @@ none_left [] none = refl
 none_left (b ∷ bs) none =
     let zero : length (b ∷ bs) ≡ 0 = grind (arith, nat_tests, none) in
     absurd (omega (arith, zero))
+
+-- Faults
+
+-- what is said, if the answer could be made
+pub told : {E : Type 0} (number : ℕ) (answers : List ℕ → Type 0) (answer : Result (String Global) E) (fault : AfterFault)
+    → fault ≡ unaccepted_by number answer → IfOk answer (λ text. answers (string_bytes text)) → IsFaultAt number answers fault
+told {E} number answers (Ok text) fault is so = subst (IsFaultAt number answers) (sym is) (refl, so)
+told {E} number answers (Err want) fault is so = subst (IsFaultAt number answers) (sym is) tt
+
+-- the reply to a move that isn't accepted is the machine's, if it isn't that there is no memory
+by_machine : (names : List (List ℕ)) (m : Session) (move : Move) (reply : Reply) (n : Session) (answer : List ℕ)
+    → Performs m move reply n → is_accepted reply ≡ false → (lacks_memory reply ≡ false) × (answer ≡ reply_text names reply)
+    → IsRefused names m (Make move) answer
+by_machine names m move reply n answer (inl answers) refuses says = (
+  ap is_accepted (sym answers.0) ∙ refuses,
+  says.1 ∙ ap (reply_text names) answers.0,
+)
+by_machine names m move reply n answer (inr wants) refuses says =
+    absurd (true≢false (sym (ap lacks_memory wants.1) ∙ says.0))
+
+pub refused_move : (names : List (List ℕ)) (m : Session) (move : Move) (reply : Reply) (n : Session) (number : ℕ)
+    (fault : AfterFault) → Performs m move reply n → is_accepted reply ≡ false
+    → IsFaultAt number (λ answer. (lacks_memory reply ≡ false) × (answer ≡ reply_text names reply)) fault
+    → IsFaultAt number (IsRefused names m (Make move)) fault
+refused_move names m move reply n number (Unaccepted found) performs refuses says =
+    (says.0, by_machine names m move reply n (string_bytes found.answer) performs refuses says.1)
+refused_move names m move reply n number fault performs refuses says = says

@@ -1,8 +1,12 @@
 -- Why there is no picture of the state to which a script leads.
 use Rattle.std.specs.Prelude.{◌≡◌, ◌⊎◌, ◌<◌, ⊤, ⊥, ℕ, ◌+◌, Bool, true, false, List, ◌∷◌, ◌++◌, length, slice_get, unwrap_or}
-use Rattle.std.specs.Prelude.{Option, None, Some, Result, Ok, Err, codes, string_bytes}
+use Rattle.std.specs.Prelude.{Option, None, Some, Result, Ok, Err, String, codes, string_bytes}
+use Rattle.std.specs.declared.alloc.Global.{Global}
 use Rattle.reh_types.specs.declared.limits.TheConstants.{MAX_SCRIPT_BYTES}
 use Rattle.reh_types.specs.declared.moves.Move.{Move}
+use Rattle.reh_types.specs.declared.moves.Reply.{Reply}
+use Rattle.reh_types.specs.declared.moves.Reply.TheVariants.{Refused as ReplyRefused}
+use Rattle.reh_types.specs.declared.refusals.Refusal.TheVariants.{NoMemory}
 use Rattle.reh_model.specs.Session.{Session, reply_to, state_of}
 use Rattle.reh_fields.specs.declared.faults.PictureFault.{PictureFault}
 use Rattle.reh_picture.specs.Listings.{located_listing}
@@ -34,13 +38,22 @@ IsRefusal picture located =
 
 -- Commands that aren't accepted
 
+-- whether a reply says that there is no memory
+abbrev pub lacks_memory : Reply → Bool
+lacks_memory (ReplyRefused NoMemory) = true
+lacks_memory reply = false
+
+-- what is said where tickets are asked for
+abbrev pub tickets_text : List ℕ
+tickets_text = codes "tickets are for workers, and none is at work here"
+
 -- a play answers so to a command that isn't accepted
 abbrev pub IsRefused : List (List ℕ) → Session → Command → List ℕ → Type 0
 IsRefused names m (Make move) answer =
     (is_accepted (reply_to m move) ≡ false) × (answer ≡ reply_text names (reply_to m move))
-IsRefused names m (Checkout aim) answer = answer ≡ codes "tickets are for workers, and none is at work here"
-IsRefused names m Spend answer = answer ≡ codes "tickets are for workers, and none is at work here"
-IsRefused names m Discard answer = answer ≡ codes "tickets are for workers, and none is at work here"
+IsRefused names m (Checkout aim) answer = answer ≡ tickets_text
+IsRefused names m Spend answer = answer ≡ tickets_text
+IsRefused names m Discard answer = answer ≡ tickets_text
 IsRefused names m Report answer = ⊥
 IsRefused names m Survey answer = ⊥
 
@@ -72,6 +85,11 @@ abbrev pub IsFaultAt : ℕ → (List ℕ → Type 0) → AfterFault → Type 0
 IsFaultAt number answers (after_fault.Unaccepted found) = (found.line ≡ number) × answers (string_bytes found.answer)
 IsFaultAt number answers after_fault.NoMemory = ⊤
 IsFaultAt number answers other = ⊥
+
+-- the same, if the answer could be made
+abbrev pub unaccepted_by : {E : Type 0} → ℕ → Result (String Global) E → AfterFault
+unaccepted_by {E} number (Ok answer) = after_fault.Unaccepted (record { line = number; answer = answer })
+unaccepted_by {E} number (Err want) = after_fault.NoMemory
 
 -- what is said where a command of these lines isn't accepted
 abbrev pub IsLineFault : List (List ℕ) → Session → List (List ℕ) → AfterFault → Type 0

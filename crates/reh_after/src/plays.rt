@@ -1,7 +1,5 @@
 // Scripts whose commands are all accepted.
-ghost use Rattle.std.specs.Prelude.{◌≡◌, ◌≢◌, Some, IfErr, IfOk, OnOk, string_bytes};
-ghost use Rattle.reh_types.specs.declared.moves.Reply.TheVariants.{Refused};
-ghost use Rattle.reh_types.specs.declared.refusals.Refusal.TheVariants.{NoMemory};
+ghost use Rattle.std.specs.Prelude.{◌≡◌, Some, IfErr, OnOk, false};
 ghost use Rattle.reh_commands.specs.Answers.{asked};
 ghost use Rattle.reh_lines.specs.Lines.{lines_of};
 ghost use Rattle.reh_commands.specs.Texts as texts;
@@ -11,7 +9,7 @@ ghost use Rattle.reh_after.specs.Faults as faults;
 
 use crate::faults::{AfterFault, Unaccepted};
 use reh_cluster::Names;
-use reh_commands::{Command, parse_line, reply_text};
+use reh_commands::{Command, LineFault, parse_line, reply_text};
 use reh_lines::first_line;
 use reh_session::Session;
 use reh_types::{Move, Refusal, Reply};
@@ -52,7 +50,7 @@ fn play_line(
 {
     match parse_line(names, line) {
         Some(Ok(command)) => play_command(alloc, names, session, number, &command),
-        Some(Err(fault)) => Err(unaccepted(number, format!(in alloc; "{fault}"))),
+        Some(Err(fault)) => Err(faulty(alloc, number, fault)),
         None => Ok(()),
     }
 }
@@ -71,10 +69,9 @@ fn play_command(
     match command {
         Command::Make(step) => make(alloc, names, session, number, step),
         Command::Report | Command::Survey => Ok(()),
-        Command::Checkout(_) | Command::Spend | Command::Discard => Err(unaccepted(
-            number,
-            String::from_str(alloc, "tickets are for workers, and none is at work here"),
-        )),
+        Command::Checkout(_) => Err(no_worker(alloc, number)),
+        Command::Spend => Err(no_worker(alloc, number)),
+        Command::Discard => Err(no_worker(alloc, number)),
     }
 }
 
@@ -107,19 +104,47 @@ fn is_accepted(reply: &Reply) -> bool
     }
 }
 
-/// That the move of the line of that number was refused, or that there is no memory.
-fn refused(alloc: Global, names: &Names, number: usize, reply: &Reply) -> AfterFault
-    ensures { faults.IsFaultAt number (λ answer. (reply.now ≢ Refused NoMemory) × (answer ≡ texts.reply_text names.now reply.now)) result }
+/// Whether a reply says that there is no memory.
+fn lacks_memory(reply: &Reply) -> bool
+    ensures { result ≡ faults.lacks_memory reply.now }
 {
     match reply {
-        Reply::Refused(Refusal::NoMemory) => AfterFault::NoMemory,
-        reply => unaccepted(number, reply_text(alloc, names, reply)),
+        Reply::Refused(Refusal::NoMemory) => true,
+        _ => false,
     }
+}
+
+/// That the line of that number asks for nothing, or that there is no memory.
+fn faulty(alloc: Global, number: usize, fault: LineFault) -> AfterFault
+    ensures { faults.IsFaultAt number (λ answer. answer ≡ texts.line_fault_text fault) result }
+{
+    unaccepted(number, format!(in alloc; "{fault}"))
+}
+
+/// That the line of that number asks for a ticket, or that there is no memory.
+fn no_worker(alloc: Global, number: usize) -> AfterFault
+    ensures { faults.IsFaultAt number (λ answer. answer ≡ faults.tickets_text) result }
+{
+    unaccepted(
+        number,
+        String::from_str(alloc, "tickets are for workers, and none is at work here"),
+    )
+}
+
+/// That the move of the line of that number was refused, or that there is no memory.
+fn refused(alloc: Global, names: &Names, number: usize, reply: &Reply) -> AfterFault
+    ensures { faults.IsFaultAt number (λ answer.
+        (faults.lacks_memory reply.now ≡ false) × (answer ≡ texts.reply_text names.now reply.now)) result }
+{
+    if lacks_memory(reply) {
+        return AfterFault::NoMemory;
+    }
+    unaccepted(number, reply_text(alloc, names, reply))
 }
 
 /// That the command of the line of that number isn't accepted, by its answer.
 fn unaccepted(line: usize, answer: Result<String, AllocError>) -> AfterFault
-    ensures { faults.IsFaultAt line (λ told. IfOk answer (λ text. told ≡ string_bytes text)) result }
+    ensures { result ≡ faults.unaccepted_by line answer }
 {
     match answer {
         Ok(answer) => AfterFault::Unaccepted(Unaccepted { line, answer }),

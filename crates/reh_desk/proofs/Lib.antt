@@ -7,3 +7,4 @@ pub mod NewSeats
 pub mod ReplyLaws
 pub mod Closing
 pub mod Endings
+pub mod Issued
