@@ -1,6 +1,7 @@
 -- One move and one line more are accepted.
-use Rattle.std.proofs.Common.{◌≡◌, ◌∙◌, ◌==◌, ◌+◌, ◌++◌, ℕ, Bool, true, false, List, [], ◌∷◌, Option, None, Some, cond, ap, sym, subst, refl, arith, length, append_assoc, length-append, true≢false, inl, inr}
-use Rattle.std.specs.Prelude.{IfOk, Result, Ok, Err, String, string_bytes}
+use Rattle.std.proofs.Common.{◌≡◌, ◌≢◌, ◌∙◌, ◌==◌, ◌+◌, ◌++◌, ℕ, Bool, true, false, List, [], ◌∷◌, Option, None, Some, cond, ap, sym, subst, refl, arith, length, append_assoc, length-append, true≢false, inl, inr, rules}
+use Rattle.std.specs.Prelude.{IfErr, IfOk, Result, Ok, Err, String, string_bytes}
+use Rattle.std.specs.Result.{IsErrAnd}
 use Rattle.std.specs.declared.alloc.Global.{Global}
 use Rattle.std.proofs.lemmas.List.{append-nil}
 use Rattle.std.proofs.lemmas.Option.{none-some, same_Some}
@@ -11,12 +12,17 @@ use Rattle.reh_types.specs.declared.moves.Reply.{Reply}
 use Rattle.reh_model.specs.Session.{Session, Performs, session_after}
 use Rattle.reh_lines.specs.Lines.{lines_of}
 use Rattle.reh_commands.specs.Answers.{asked}
-use Rattle.reh_after.specs.After.{after_asked, after_lines, after_move, after_reply, is_accepted}
+use Rattle.reh_picture.specs.Listings.{located_listing}
+use Rattle.reh_picture.specs.declared.places.LocatedFault.{LocatedFault}
+use Rattle.reh_after.specs.After.{IsBegun, refused_by, after_asked, after_lines, after_move, after_reply, is_accepted}
 use Rattle.reh_commands.specs.Texts.{reply_text}
 use Rattle.reh_commands.specs.declared.commands.Command.TheVariants.{Make}
-use Rattle.reh_after.specs.Faults.{AreAccepted, IsFaultAt, IsLineFault, IsRefused, IsRefusedAt, lacks_memory, unaccepted_by}
+use Rattle.reh_after.specs.Faults.{AreAccepted, IsAfterFault, IsBeginFault, IsDoubtFault, IsEndFault, IsFaultAt, IsLineFault, IsRefused, IsRefusedAt, lacks_memory, unaccepted_by, unheld_by}
 use Rattle.reh_after.specs.declared.faults.AfterFault.{AfterFault}
-use Rattle.reh_after.specs.declared.faults.AfterFault.TheVariants.{Unaccepted}
+use Rattle.reh_after.specs.declared.faults.AfterFault.TheVariants.{Unaccepted, Doubt, Unheld, Picture, NoMemory}
+use Rattle.reh_after.specs.declared.pictures.Begun.{Begun}
+use Rattle.reh_fields.specs.declared.faults.PictureFault.{PictureFault}
+use Rattle.reh_fields.specs.declared.faults.PictureFault.TheVariants as picture_fault
 
 pub accepted : (m : Session) (move : Move) (reply : Reply) (n : Session) → Performs m move reply n
     → is_accepted reply ≡ true → after_move m move ≡ Some n
@@ -84,10 +90,17 @@ none_left (b ∷ bs) none =
 -- Faults
 
 -- what is said, if the answer could be made
-pub told : {E : Type 0} (number : ℕ) (answers : List ℕ → Type 0) (answer : Result (String Global) E) (fault : AfterFault)
-    → fault ≡ unaccepted_by number answer → IfOk answer (λ text. answers (string_bytes text)) → IsFaultAt number answers fault
-told {E} number answers (Ok text) fault is so = subst (IsFaultAt number answers) (sym is) (refl, so)
-told {E} number answers (Err want) fault is so = subst (IsFaultAt number answers) (sym is) tt
+pub told : {E : Type 0} (number : ℕ) (said : List ℕ) (answer : Result (String Global) E) (fault : AfterFault)
+    → fault ≡ unaccepted_by number answer → IfOk answer (λ text. string_bytes text ≡ said)
+    → IsFaultAt number (λ a. a ≡ said) fault
+told {E} number said (Ok text) fault is says = subst (IsFaultAt number (λ a. a ≡ said)) (sym is) (refl, says)
+told {E} number said (Err want) fault is says = subst (IsFaultAt number (λ a. a ≡ said)) (sym is) tt
+
+-- what is said with a fact
+pub with_fact : (number : ℕ) (fact : Type 0) (answers : List ℕ → Type 0) (fault : AfterFault) → fact → IsFaultAt number answers fault
+    → IsFaultAt number (λ a. fact × answers a) fault
+with_fact number fact answers (Unaccepted found) so says = (says.0, (so, says.1))
+with_fact number fact answers fault so says = says
 
 -- the reply to a move that isn't accepted is the machine's, if it isn't that there is no memory
 by_machine : (names : List (List ℕ)) (m : Session) (move : Move) (reply : Reply) (n : Session) (answer : List ℕ)
@@ -107,3 +120,46 @@ pub refused_move : (names : List (List ℕ)) (m : Session) (move : Move) (reply 
 refused_move names m move reply n number (Unaccepted found) performs refuses says =
     (says.0, by_machine names m move reply n (string_bytes found.answer) performs refuses says.1)
 refused_move names m move reply n number fault performs refuses says = says
+
+-- a fault that is passed on
+pub passed_on : {T : Type 0} (r : Result T AfterFault) (P : AfterFault → Type 0) (fault : AfterFault) → IsErrAnd r (λ e. e ≡ fault)
+    → P fault → IfErr r P
+passed_on {T} (Ok x) P fault is so = absurd is
+passed_on {T} (Err e) P fault is so = subst P (sym is) so
+
+-- a doubt at the end
+pub doubt_ends : (begun : Begun) (script : List ℕ) (all_known : Bool) (session : Session) (fault : AfterFault)
+    → after_lines begun.names begun.session (lines_of script) ≡ Some session → all_known ≡ true
+    → IsDoubtFault begun.names session begun.marked fault → IsEndFault begun script all_known fault
+doubt_ends begun script all_known session (Doubt text) played asked doubt =
+    (asked, record { session = session; played = played; doubt = doubt })
+doubt_ends begun script all_known session NoMemory played asked doubt = tt
+doubt_ends begun script all_known session fault played asked doubt = absurd doubt.says
+
+-- no picture holds the state at the end
+pub unheld_ends : (begun : Begun) (script : List ℕ) (all_known : Bool) (session : Session) (fault : PictureFault)
+    → after_lines begun.names begun.session (lines_of script) ≡ Some session → IsEndFault begun script all_known (unheld_by fault)
+unheld_ends begun script all_known session picture_fault.NoMemory played = tt
+unheld_ends begun script all_known session fault played = record { session = session; played = played }
+
+-- nothing was begun, or there is no end
+pub never_begun : (picture script : List ℕ) (all_known : Bool) (fault : AfterFault) → IsBeginFault picture fault
+    → IsAfterFault picture script all_known fault
+never_begun picture script all_known (Picture located) is = is
+never_begun picture script all_known NoMemory is = tt
+never_begun picture script all_known fault is = absurd is
+
+pub never_ended : (picture script : List ℕ) (all_known : Bool) (begun : Begun) (fault : AfterFault) → IsBegun picture begun
+    → IsEndFault begun script all_known fault → IsAfterFault picture script all_known fault
+never_ended picture script all_known begun (Unaccepted found) is_begun is = record { begun = begun; is_begun = is_begun; is_fault = is }
+never_ended picture script all_known begun (Doubt text) is_begun is = record { begun = begun; is_begun = is_begun; is_fault = is }
+never_ended picture script all_known begun (Unheld fault) is_begun is = record { begun = begun; is_begun = is_begun; is_fault = is }
+never_ended picture script all_known begun NoMemory is_begun is = tt
+never_ended picture script all_known begun fault is_begun is = absurd is
+
+-- the picture isn't listed
+pub not_listed : (picture : List ℕ) (located : LocatedFault) (fault : PictureFault)
+    → (fault ≢ picture_fault.NoMemory → located_listing picture ≡ Some (located.fault, located.place))
+    → IsBeginFault picture (refused_by fault located)
+not_listed picture located picture_fault.NoMemory is = tt
+not_listed picture located fault is = inr (is (search rules))

@@ -8,7 +8,6 @@ use Rattle.reh_model.specs.Cluster.{Cluster}
 use Rattle.reh_model.specs.Session.{Session, opened_session, reply_to, session_after, state_of}
 use Rattle.reh_fields.specs.declared.faults.PictureFault.{PictureFault}
 use Rattle.reh_fields.specs.declared.faults.PictureFault.TheVariants as picture_fault
-use Rattle.reh_picture.specs.declared.listings.Listed.{Listed}
 use Rattle.reh_picture.specs.declared.places.LocatedFault.{LocatedFault}
 use Rattle.reh_picture.specs.Listings.{Lists, located_listing}
 use Rattle.reh_picture.specs.Pictures.{picture_of}

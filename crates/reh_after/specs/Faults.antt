@@ -1,14 +1,14 @@
 -- Why there is no picture of the state to which a script leads.
-use Rattle.std.specs.Prelude.{◌≡◌, ◌⊎◌, ◌<◌, ⊤, ⊥, ℕ, ◌+◌, Bool, true, false, List, ◌∷◌, ◌++◌, length, slice_get, unwrap_or}
+use Rattle.std.specs.Prelude.{◌≡◌, ◌⊎◌, ◌<◌, ⊤, ℕ, ◌+◌, Bool, true, false, List, ◌∷◌, ◌++◌, length, slice_get, unwrap_or}
 use Rattle.std.specs.Prelude.{Option, None, Some, Result, Ok, Err, String, codes, string_bytes}
 use Rattle.std.specs.declared.alloc.Global.{Global}
 use Rattle.reh_types.specs.declared.limits.TheConstants.{MAX_SCRIPT_BYTES}
-use Rattle.reh_types.specs.declared.moves.Move.{Move}
 use Rattle.reh_types.specs.declared.moves.Reply.{Reply}
 use Rattle.reh_types.specs.declared.moves.Reply.TheVariants.{Refused as ReplyRefused}
 use Rattle.reh_types.specs.declared.refusals.Refusal.TheVariants.{NoMemory}
 use Rattle.reh_model.specs.Session.{Session, reply_to, state_of}
 use Rattle.reh_fields.specs.declared.faults.PictureFault.{PictureFault}
+use Rattle.reh_fields.specs.declared.faults.PictureFault.TheVariants as picture_fault
 use Rattle.reh_picture.specs.Listings.{located_listing}
 use Rattle.reh_picture.specs.Pictures.{located_picture_of}
 use Rattle.reh_picture.specs.declared.listings.Listed.{Listed}
@@ -114,6 +114,11 @@ pub record IsDoubtFault (names : List (List ℕ)) (m : Session) (marked : Listed
 
 -- All
 
+-- what is said where no picture holds the state at the end
+abbrev pub unheld_by : PictureFault → AfterFault
+unheld_by picture_fault.NoMemory = after_fault.NoMemory
+unheld_by fault = after_fault.Unheld fault
+
 -- each command of the script is accepted, and at the end something is in doubt, which this says
 pub record EndsInDoubt (begun : Begun) (script : List ℕ) (fault : AfterFault) : Type 0 where
   pub session : Session
@@ -151,4 +156,5 @@ pub record HasNoEnd (picture script : List ℕ) (all_known : Bool) (fault : Afte
 abbrev pub IsAfterFault : List ℕ → List ℕ → Bool → AfterFault → Type 0
 IsAfterFault picture script all_known after_fault.TooLong = MAX_SCRIPT_BYTES < length script
 IsAfterFault picture script all_known (after_fault.Picture located) = IsRefusal picture located
+IsAfterFault picture script all_known after_fault.NoMemory = ⊤
 IsAfterFault picture script all_known fault = HasNoEnd picture script all_known fault

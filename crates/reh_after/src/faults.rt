@@ -1,4 +1,7 @@
 // Why there is no picture of the state to which a script leads.
+ghost use Rattle.std.specs.Prelude.{◌≡◌};
+ghost use Rattle.reh_after.specs.Faults.{unheld_by};
+
 use reh_picture::{LocatedFault, PictureFault};
 use std::alloc::AllocError;
 
@@ -52,7 +55,9 @@ impl From<LocatedFault> for AfterFault {
 }
 
 /// That no picture holds the state at the end, or that there is no memory.
-pub(crate) fn unheld(fault: PictureFault) -> AfterFault {
+pub(crate) fn unheld(fault: PictureFault) -> AfterFault
+    ensures { result ≡ unheld_by fault }
+{
     match fault {
         PictureFault::NoMemory => AfterFault::NoMemory,
         fault => AfterFault::Unheld(fault),

@@ -1,5 +1,5 @@
 -- The statuses and texts of faults.
-use Rattle.std.specs.Prelude.{◌≡◌, ⊤, ⊥, ℕ, List, ◌++◌, None, Some, codes, string_bytes}
+use Rattle.std.specs.Prelude.{◌≡◌, ⊤, ℕ, List, ◌++◌, None, Some, codes, string_bytes}
 use Rattle.std.specs.Fmt.{decimal}
 use Rattle.reh_desk.specs.declared.desks.CloseCause.{CloseCause}
 use Rattle.reh_desk.specs.declared.desks.CloseCause.TheVariants.{Seats, StillOut, Mismatch}

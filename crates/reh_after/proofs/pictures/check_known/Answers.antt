@@ -1,5 +1,5 @@
 -- What is found is so of the state at the end.
-use Rattle.std.proofs.Common.{◌≡◌, ap, sym, Option, Some, unwrap_or}
+use Rattle.std.proofs.Common.{◌≡◌, ap, sym, Option, unwrap_or}
 use Rattle.reh_model.specs.Cluster.{Cluster}
 use Rattle.reh_model.specs.Session.{state_of}
 use Rattle.reh_after.proofs.pictures.check_known.Goals as goal
