@@ -1,2 +1,4 @@
 pub mod CountedLaws
 pub mod LineLaws
+pub mod NamedLaws
+pub mod PassLaws

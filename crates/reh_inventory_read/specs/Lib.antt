@@ -1,2 +1,4 @@
 pub mod Lines
+pub mod Passes
 pub mod Counted
+pub mod Named
