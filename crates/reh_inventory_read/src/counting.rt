@@ -41,7 +41,11 @@ impl Pass for InventoryCount {
         self.count_line(alloc, bytes)
     }
 
-    fn add(&mut self, alloc: Global, made: Result<CountedLine, CountFault>) -> Result<(), CountFault> {
+    fn add(
+        &mut self,
+        alloc: Global,
+        made: Result<CountedLine, CountFault>,
+    ) -> Result<(), CountFault> {
         let line = made?;
         InventoryCount::add(self, alloc, line)?;
         Ok(())

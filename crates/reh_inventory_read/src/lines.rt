@@ -12,7 +12,7 @@ pub type LineReader<R> = BufReader<Limited<R>>;
 
 /// A reader of lines that reads ahead.
 pub fn line_reader<R: Read + Drop>(alloc: Global, inner: R) -> Result<LineReader<R>, ReadFault>
-    ensures { IfOk result (λ reader. ⟦<BufReader<Limited<R>> as Read>⟧.remaining reader ≡ R.remaining inner) }
+    ensures { IfOk result (λ reader. ⟦<LineReader<R> as Read>⟧.remaining reader ≡ R.remaining inner) }
 {
     let reader = BufReader::new(alloc, Limited::new(inner))?;
     Ok(reader)
