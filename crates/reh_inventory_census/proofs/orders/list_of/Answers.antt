@@ -1,5 +1,4 @@
 -- The names so far were added, and one more.
-use Rattle.reh_census_file.specs.declared.lists.TheConstants.{MAX_NAMES}
 use Rattle.reh_inventory_census.proofs.OrderLemmas.{names-more}
 use Rattle.reh_inventory_census.proofs.orders.list_of.Goals as goal
 

@@ -1,5 +1,5 @@
 -- The names so far are there, and one more.
-use Rattle.std.proofs.Common.{◌≡◌, ◌∙◌, Bor, List, ap, arith, map, ◌<◌, length}
+use Rattle.std.proofs.Common.{◌∙◌, ap, arith, map, ◌<◌, length}
 use Rattle.reh_inventory_census.proofs.OrderLemmas.{texts-end, texts-more}
 use Rattle.reh_inventory_census.proofs.orders.texts_of.Goals as goal
 use Rattle.reh_inventory_census.proofs.orders.texts_of.Goals.{in-Some+in_ok-push, in_default}
