@@ -1,4 +1,3 @@
 pub mod CountedLaws
 pub mod LineLaws
-pub mod NamedLaws
 pub mod PassLaws

@@ -1,14 +1,14 @@
 -- The names of the bookies that the lines of an inventory name.
-use Rattle.std.specs.Prelude.{◌≡◌, ℕ, List, [], Option, Result, Ok, IfOk, fold, map, nat_cmp, IsPermutation, IsSorted}
+use Rattle.std.specs.Prelude.{◌≡◌, ℕ, List, [], Option, Result, Ok, IfOk, fold, map, IsPermutation, IsSorted}
 use Rattle.std.specs.Cmp.Lexicographic.{slice_cmp}
+use Rattle.std.specs.Ordering.{nat_cmp}
 use Rattle.reh_inventory.specs.declared.lines.Line.{Line}
-use Rattle.reh_inventory.specs.declared.faults.LineFault.{LineFault}
 use Rattle.reh_inventory.specs.Lines.{located_line_of}
 use Rattle.reh_inventory_census.specs.Numbers.{with_line}
 use Rattle.reh_inventory_read.specs.Lines.{ReadsAll}
 
 -- the bytes say what was parsed
-abbrev pub IsParsed : List ℕ → Result Line LineFault → Type 0
+abbrev pub IsParsed : {E : Type 0} → List ℕ → Result Line E → Type 0
 IsParsed bytes parsed = IfOk parsed (λ line. located_line_of bytes ≡ Ok line)
 
 -- the names that these lines name, after others: each once, as the last when it comes first

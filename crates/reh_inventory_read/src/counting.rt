@@ -23,7 +23,7 @@ pub struct CountedInventory {
 /// Each line is counted by itself, beside what was counted before.
 impl Pass for InventoryCount {
     ghost use Rattle.reh_inventory_read.specs.Counted.{GoesOn, IsCountMade};
-    ghost use Rattle.reh_inventory_read.proofs.CountedLaws.{goes-nowhere, goes-further};
+    ghost use Rattle.reh_inventory_read.specs.AddedLaws.{goes-nowhere, goes-further};
 
     type Made = Result<CountedLine, CountFault>;
 

@@ -14,7 +14,7 @@ use std::thread;
 /// Each bookie that a line names gets a number, if it has none.
 impl Pass for NameList {
     ghost use Rattle.reh_inventory_read.specs.Named.{AddsNames, IsParsed};
-    ghost use Rattle.reh_inventory_read.proofs.NamedLaws.{names-nowhere, names-further};
+    ghost use Rattle.reh_inventory_read.specs.AddedLaws.{names-nowhere, names-further};
 
     type Made = Result<Line, LineFault>;
 
