@@ -1,9 +1,8 @@
 -- No line, and some lines and then others, lead from what there was to what there is: the names that lines name, and what was
 -- counted of them.
-use Rattle.std.proofs.Common.{◌≡◌, ◌∙◌, ℕ, ◌++◌, [], List, Result, Ok, ap, append-nil, append_assoc, map, refl, subst, sym}
+use Rattle.std.proofs.Common.{◌∙◌, ℕ, ◌++◌, [], List, Ok, ap, append-nil, append_assoc, map, refl, subst, sym}
 use Rattle.std.proofs.lemmas.List.{map-append}
 use Rattle.std.proofs.lemmas.List.Sums.{fold-append}
-use Rattle.reh_inventory.specs.declared.lines.Line.{Line}
 use Rattle.reh_inventory.specs.Lines.{located_line_of}
 use Rattle.reh_inventory_census.specs.declared.census.InventoryCount.{InventoryCount}
 use Rattle.reh_inventory_census.specs.Census.{IsCount}

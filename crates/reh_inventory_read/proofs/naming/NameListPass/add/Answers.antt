@@ -1,6 +1,5 @@
 -- The names of one line more were added.
 use Rattle.std.proofs.Common.{◌∷◌, [], ap, subst}
-use Rattle.std.specs.Prelude.{Result}
 use Rattle.reh_inventory_read.specs.Named.{IsParsed}
 use Rattle.reh_inventory_read.proofs.naming.NameListPass.add.Goals as goal
 
