@@ -10,6 +10,7 @@ mod empties;
 mod faults;
 mod ledgers;
 mod numbers;
+mod orders;
 mod parts;
 
 pub use census::{CountedLine, InventoryCount};
@@ -17,4 +18,5 @@ pub use counted::{end_of, end_told, last_first, stop_of};
 pub use counter::LedgerCount;
 pub use faults::CountFault;
 pub use ledgers::InventoryLedgers;
-pub use numbers::{in_order, line_fault, number_line};
+pub use numbers::{line_fault, number_line};
+pub use orders::in_order;

@@ -9,7 +9,7 @@ use crate::faults::CountFault;
 use reh_census_file::{MAX_NAMES, NameList};
 use reh_inventory::{Bookie, Fault, Fragment, Head, InventoryFault, LedgerLine, Line, LineFault};
 use reh_inventory_fields::Name;
-use std::alloc::{AllocError, Global};
+use std::alloc::AllocError;
 
 /// Why a member can't get a number.
 #[derive(Clone, Copy)]
@@ -150,22 +150,4 @@ pub fn line_fault(located: LineFault) -> CountFault
         Fault::NoMemory => CountFault::NoMemory,
         _ => CountFault::Line(InventoryFault::Line(located)),
     }
-}
-
-/// The same names, in their order.
-pub fn in_order(alloc: Global, names: &NameList) -> Result<NameList, AllocError> {
-    let mut sorted = Vec::new(alloc);
-    for number in 0..names.len() {
-        if let Some(name) = names.name(number as u16) {
-            sorted.push(name)?;
-        }
-    }
-    sorted.sort()?;
-    let mut ordered = NameList::new(alloc);
-    for name in &sorted {
-        if ordered.len() < MAX_NAMES {
-            ordered.add(name)?;
-        }
-    }
-    Ok(ordered)
 }

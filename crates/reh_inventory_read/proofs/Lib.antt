@@ -1,2 +1,3 @@
 pub mod CountedLaws
 pub mod LineLaws
+pub mod PassLaws

@@ -1,2 +1,5 @@
 pub mod Lines
+pub mod Passes
 pub mod Counted
+pub mod Named
+pub mod AddedLaws

@@ -1,5 +1,5 @@
 // Reads an inventory line by line.
-ghost use Rattle.std.specs.Prelude.{◌≡◌, ◌++◌, IfSome, OnOk};
+ghost use Rattle.std.specs.Prelude.{◌≡◌, ◌++◌, IfOk, IfSome, OnOk};
 ghost use Rattle.std.specs.Io.BufRead.{DropsThrough, take_through};
 
 use crate::faults::ReadFault;
@@ -11,7 +11,9 @@ use std::io::{BufRead, BufReader, Read};
 pub type LineReader<R> = BufReader<Limited<R>>;
 
 /// A reader of lines that reads ahead.
-pub fn line_reader<R: Read + Drop>(alloc: Global, inner: R) -> Result<LineReader<R>, ReadFault> {
+pub fn line_reader<R: Read + Drop>(alloc: Global, inner: R) -> Result<LineReader<R>, ReadFault>
+    ensures { IfOk result (λ reader. ⟦<LineReader<R> as Read>⟧.remaining reader ≡ R.remaining inner) }
+{
     let reader = BufReader::new(alloc, Limited::new(inner))?;
     Ok(reader)
 }

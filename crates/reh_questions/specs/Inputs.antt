@@ -22,6 +22,7 @@ use Rattle.reh_inputs.specs.declared.gathered.GatherFault.{GatherFault}
 use Rattle.reh_inputs.specs.declared.gathered.GatherFault.TheVariants as gather
 use Rattle.reh_inputs.specs.declared.together.Gathered.{Gathered}
 use Rattle.reh_inventory_read.specs.Counted.{IsOfLines}
+use Rattle.reh_inventory_read.specs.Named.{IsOfNames}
 use Rattle.reh_inventory_read.specs.declared.counting.CountedInventory.{CountedInventory}
 use Rattle.reh_stop.specs.Rounds.{SaysCost, SaysRounds}
 use Rattle.reh_stop.specs.declared.rounds.AskedRisk.{AskedRisk}
@@ -59,12 +60,19 @@ pub record IsOfBytes (file : FileInput) : Type 0 where
   pub ids : file.ids.items ≡ of_picture ids_in file.input
   pub kind_is : is_inventory file.kind ≡ false
 
+-- an inventory was counted, strict or not: its bookies have the names that its lines name, in their order
+pub record IsCountedOf (strict : Bool) (left : Option (List ℕ)) (counted : CountedInventory) : Type 0 where
+  pub names : List (List ℕ)
+  pub are_names : IsOfNames left names
+  pub of_lines : IsOfLines strict names left counted
+
 -- It is the census of some lines of an inventory, with the ids of their ledgers, and whether the last line isn't there. Of one that
 -- can be read only once they are all lines of the bytes that were read.
 pub record IsOfInventory (file : FileInput) : Type 0 where
   pub counted : CountedInventory
+  pub strict : Bool
   pub left : Option (List ℕ)
-  pub of_lines : IsOfLines left counted
+  pub of_lines : IsCountedOf strict left counted
   pub known : is_stream file.kind ≡ true → IsSome left
   pub input : file.input ≡ Census counted.census
   pub ids : file.ids ≡ counted.ids

@@ -1,5 +1,5 @@
 // The files of a cluster, read by several workers, what they show together, and their census.
-ghost use Rattle.std.specs.Prelude.{◌≡◌, ◌<◌, ◌++◌, ◌∷◌, [], true, All, List, vec_len, length, map, nat_eq, ℕ, Option, IsSome, IfOk, OnOk, string_bytes};
+ghost use Rattle.std.specs.Prelude.{◌≡◌, ◌<◌, ◌++◌, ◌∷◌, [], true, All, Bool, List, vec_len, length, map, nat_eq, ℕ, Option, IsSome, IfOk, OnOk, string_bytes};
 ghost use Rattle.std.specs.List.{flat_map, IsDistinct};
 ghost use Rattle.std.specs.Option.{option_map};
 ghost use Rattle.reh_inputs.specs.Gathered.{Gathers};
@@ -8,7 +8,6 @@ ghost use Rattle.reh_inputs.specs.Named.{named_of as model_named, taken_of as mo
 ghost use Rattle.reh_questions.specs.Against.{cut_notes, is_cut, is_stream};
 ghost use Rattle.reh_questions.specs.Endings.{EndsCensus};
 ghost use Rattle.reh_questions.specs.Inputs as model;
-ghost use Rattle.reh_inventory_read.specs.Counted.{IsOfLines};
 
 use crate::afters::text_after;
 use crate::inventories::{Source, count_bytes, count_inventory};
@@ -448,8 +447,8 @@ fn no_input(alloc: Global, path: &str, bytes: &[u8], fault: InputFault) -> RunFa
 fn of_inventory(counted: CountedInventory, kind: FileKind) -> FileInput
     requires kind { model.is_inventory kind ≡ true }
     requires cut { is_cut kind ≡ counted.is_cut }
-    ensures { (left : Option (List ℕ)) → IsOfLines left counted → (is_stream kind ≡ true → IsSome left)
-        → model.IsOfFile result }
+    ensures { (strict : Bool) (left : Option (List ℕ)) → model.IsCountedOf strict left counted
+        → (is_stream kind ≡ true → IsSome left) → model.IsOfFile result }
 {
     FileInput {
         input: Input::Census(counted.census),

@@ -1,8 +1,7 @@
 // Inventories, read line by line: one that is checked, and one whose ledgers are counted.
-ghost use Rattle.std.specs.Prelude.{◌≡◌, ℕ, List, Option, Some, IfOk, length, string_bytes};
-ghost use Rattle.reh_inventory_read.specs.Counted.{IsOfLines};
+ghost use Rattle.std.specs.Prelude.{◌≡◌, None, Some, IfOk, length, string_bytes};
 ghost use Rattle.reh_inventory_read.specs.declared.faults.ReadFault.TheVariants.{TooLong};
-ghost use Rattle.reh_questions.specs.Inputs.{IsUnfit};
+ghost use Rattle.reh_questions.specs.Inputs.{IsCountedOf, IsUnfit};
 ghost use Rattle.reh_questions.specs.Inventories as model;
 
 use crate::inputs::unfit;
@@ -166,7 +165,7 @@ pub(crate) fn count_inventory<T: thread::Threads + Sync>(
     file: File,
     is_strict: bool,
 ) -> Result<CountedInventory, RunFault>
-    ensures { IfOk result (λ counted. (left : Option (List ℕ)) × IsOfLines left counted) }
+    ensures { IfOk result (IsCountedOf is_strict None) }
 {
     let Source {
         alloc,
@@ -190,7 +189,9 @@ fn from_start(
     alloc: Global,
     path: &str,
     reader: LineReader<File>,
-) -> Result<LineReader<File>, RunFault> {
+) -> Result<LineReader<File>, RunFault>
+    ensures { IfOk result (λ reader. ⟦<LineReader<File> as Read>⟧.remaining reader ≡ None) }
+{
     let mut file = reader.into_inner().into_inner();
     match file.rewind() {
         Ok(()) => reader_of(alloc, path, file),
@@ -205,7 +206,7 @@ pub(crate) fn count_bytes<T: thread::Threads + Sync>(
     bytes: &[u8],
     is_strict: bool,
 ) -> Result<CountedInventory, RunFault>
-    ensures { IfOk result (IsOfLines (Some bytes.now)) }
+    ensures { IfOk result (IsCountedOf is_strict (Some bytes.now)) }
 {
     let Source {
         alloc,
@@ -228,7 +229,9 @@ pub(crate) fn reader_of<R: Read + Drop>(
     alloc: Global,
     path: &str,
     inner: R,
-) -> Result<LineReader<R>, RunFault> {
+) -> Result<LineReader<R>, RunFault>
+    ensures { IfOk result (λ reader. ⟦<LineReader<R> as Read>⟧.remaining reader ≡ R.remaining inner) }
+{
     match line_reader(alloc, inner) {
         Ok(reader) => Ok(reader),
         Err(fault) => Err(uncounted_file(alloc, path, fault)),

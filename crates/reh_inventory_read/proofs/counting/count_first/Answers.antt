@@ -8,7 +8,6 @@ pub returns-in-Ok : goal.returns-in-Ok
 returns-in-Ok g c =
     let line = c.read_line.new.line in
     record {
-      names = c.args.names;
       first = line.items;
       lines = [];
       counted =

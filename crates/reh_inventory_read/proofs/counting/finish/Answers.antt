@@ -4,12 +4,10 @@ use Rattle.reh_inventory.specs.Inventories.{Inventory}
 use Rattle.reh_inventory_read.proofs.counting.finish.Goals as goal
 
 pub returns-in-Ok : goal.returns-in-Ok
-returns-in-Ok c = λ strict old new was. record {
-  strict = strict;
-  names = was.names;
+returns-in-Ok c = λ strict names old new was. record {
   first = was.first;
   lines = was.lines;
-  counted = c.in-Ok.ensures was.names strict was.first was.lines was.counted;
+  counted = c.in-Ok.ensures names strict was.first was.lines was.counted;
   all = was.read;
   said = c.args.count.inventory;
   is_read = was.counted.inventory;

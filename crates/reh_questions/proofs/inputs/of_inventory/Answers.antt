@@ -3,9 +3,10 @@ use Rattle.std.proofs.Common.{inr, refl}
 use Rattle.reh_questions.proofs.inputs.of_inventory.Goals as goal
 
 pub returns : goal.returns
-returns g = λ left lines known.
+returns g = λ strict left lines known.
     inr (record {
       counted = g.args.counted;
+      strict = strict;
       left = left;
       of_lines = lines;
       known = known;
