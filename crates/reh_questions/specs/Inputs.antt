@@ -1,5 +1,5 @@
 -- What is read of the files of a cluster, and what is said of it.
-use Rattle.std.specs.Prelude.{◌≡◌, ◌⊎◌, ℕ, ◌%◌, Bool, true, false, if◌then◌else◌, List, [], ◌++◌, All, Option, Result, Ok, Err, String, codes, length, map, nat_eq, slice_get, string_bytes, vec_len, IfOk, IfSome, IsSome}
+use Rattle.std.specs.Prelude.{◌≡◌, ◌⊎◌, ℕ, ◌%◌, Bool, true, false, if◌then◌else◌, List, [], ◌++◌, All, Option, Some, Result, Ok, Err, String, codes, length, map, nat_eq, slice_get, string_bytes, vec_len, IfOk, IfSome, IsSome}
 use Rattle.std.specs.Borrow.{Bor}
 use Rattle.std.specs.Fmt.{decimal}
 use Rattle.std.specs.List.{flat_map, IsDistinct}
@@ -13,6 +13,7 @@ use Rattle.reh_inputs.specs.Gathered.{Gathers, ids_in}
 use Rattle.reh_inputs.specs.Inputs.{IsRead, of_picture}
 use Rattle.reh_inputs.specs.Named.{named_of, taken_of}
 use Rattle.reh_census_file.specs.Faults.{fault_text as census_fault_text}
+use Rattle.reh_census_file.specs.declared.faults.CensusFault.{CensusFault}
 use Rattle.reh_census_file.specs.declared.faults.CensusFault.TheVariants as census_fault
 use Rattle.reh_inputs.specs.declared.inputs.InputFault.{InputFault}
 use Rattle.reh_inputs.specs.declared.inputs.InputFault.TheVariants as input_fault
@@ -201,12 +202,18 @@ TellsRefused path located (Refused (Some told) other) = (string_bytes told ≡ p
 TellsRefused path located NoMemory = Unit {0}
 TellsRefused path located other = ⊥
 
--- which fault of a run tells why the file is no input
+-- which fault of a run tells why the file is no census
+abbrev pub census_text : List ℕ → CensusFault → List ℕ
+census_text path fault = codes "census " ++ (path ++ (codes ": " ++ census_fault_text fault))
+
+abbrev pub TellsCensus : List ℕ → CensusFault → RunFault → Type 0
+TellsCensus path census_fault.NoMemory run = run ≡ NoMemory
+TellsCensus path fault run = IsUnfit (census_text path fault) run
+
+-- and which tells why it is no input
 abbrev pub TellsUnreadable : List ℕ → InputFault → RunFault → Type 0
 TellsUnreadable path (input_fault.Picture located) run = TellsRefused path located run
-TellsUnreadable path (input_fault.Census census_fault.NoMemory) run = run ≡ NoMemory
-TellsUnreadable path (input_fault.Census fault) run =
-    IsUnfit (codes "census " ++ (path ++ (codes ": " ++ census_fault_text fault))) run
+TellsUnreadable path (input_fault.Census fault) run = TellsCensus path fault run
 
 abbrev pub too_many_text : List ℕ
 too_many_text = codes "there are more entries, ledgers or fragments than can be counted"

@@ -479,9 +479,25 @@ fn unreadable(alloc: Global, path: &str, fault: InputFault) -> RunFault
             Ok(fault) => fault,
             Err(want) => RunFault::from(want),
         },
-        InputFault::Census(CensusFault::NoMemory) => RunFault::NoMemory,
-        InputFault::Census(fault) => unfit(format!(in alloc; "census {path}: {fault}")),
+        InputFault::Census(fault) => refused_census(alloc, path, fault),
     }
+}
+
+/// The fault of a run that can't read this census.
+fn refused_census(alloc: Global, path: &str, fault: CensusFault) -> RunFault
+    ensures { model.TellsCensus path.now fault result }
+{
+    match fault {
+        CensusFault::NoMemory => RunFault::NoMemory,
+        fault => faulty_census(alloc, path, fault),
+    }
+}
+
+/// That a census has this fault.
+fn faulty_census(alloc: Global, path: &str, fault: CensusFault) -> RunFault
+    ensures { model.IsUnfit (model.census_text path.now fault) result }
+{
+    unfit(format!(in alloc; "census {path}: {fault}"))
 }
 
 /// The fault of a run that can't read this picture.

@@ -1,5 +1,6 @@
 // Inventories, read line by line: one that is checked, and one whose ledgers are counted.
 ghost use Rattle.std.specs.Prelude.{◌≡◌, None, Some, IfOk, length, string_bytes};
+ghost use Rattle.reh_inventory.specs.Inventories.{fault_text};
 ghost use Rattle.reh_inventory_read.specs.declared.faults.ReadFault.TheVariants.{TooLong};
 ghost use Rattle.reh_questions.specs.Inputs.{IsCountedOf, IsUnfit};
 ghost use Rattle.reh_questions.specs.Inventories as model;
@@ -124,8 +125,15 @@ pub(crate) fn refused(alloc: Global, path: &str, line: u64, fault: InventoryFaul
 {
     match fault {
         InventoryFault::NoMemory => RunFault::NoMemory,
-        _ => unfit(format!(in alloc; "inventory {path}: line {line}: {fault}")),
+        fault => refused_for(alloc, path, line, fault),
     }
+}
+
+/// That a line of an inventory has this fault.
+fn refused_for(alloc: Global, path: &str, line: u64, fault: InventoryFault) -> RunFault
+    ensures { IsUnfit (model.told_of_line path.now line (fault_text fault)) result }
+{
+    unfit(format!(in alloc; "inventory {path}: line {line}: {fault}"))
 }
 
 /// That the last line isn't there.
