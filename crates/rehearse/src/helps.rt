@@ -58,12 +58,10 @@ fn topic_of(word: &str) -> HelpTopic<'_> {
     if let Some(topic) = topic_named(word) {
         return HelpTopic::Refusal(topic);
     }
-    for verb in Verb::all() {
-        if verb.name() == word {
-            return HelpTopic::Command(verb);
-        }
+    match Verb::of(word.as_bytes()) {
+        Some(verb) => HelpTopic::Command(verb),
+        None => HelpTopic::Unknown(word),
     }
-    HelpTopic::Unknown(word)
 }
 
 /// The page of a topic, or that there is none.
