@@ -1,5 +1,4 @@
 pub mod Against
-pub mod Cuts
 pub mod Endings
 pub mod Inputs
 pub mod Inventories

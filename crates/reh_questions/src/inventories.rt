@@ -81,14 +81,14 @@ fn add_read(
         }
         match inventory.add(alloc, line) {
             Ok(_) => line.clear(),
-            Err(fault) => return Err(refused(alloc, path, number, fault)),
+            Err(fault) => return Err(refused_line(alloc, path, number, fault)),
         }
     }
     Ok(())
 }
 
 /// Reads the rest of a line of which some bytes may be there. A line that is too long is a fault.
-pub(crate) fn read_line<B: BufRead>(
+pub fn read_line<B: BufRead>(
     alloc: Global,
     path: &str,
     reader: &mut B,
@@ -120,17 +120,17 @@ fn too_long(alloc: Global, path: &str) -> RunFault
 }
 
 /// The fault of an inventory's line.
-pub(crate) fn refused(alloc: Global, path: &str, line: u64, fault: InventoryFault) -> RunFault
+pub fn refused_line(alloc: Global, path: &str, line: u64, fault: InventoryFault) -> RunFault
     ensures { model.TellsLine path.now line fault result }
 {
     match fault {
         InventoryFault::NoMemory => RunFault::NoMemory,
-        fault => refused_for(alloc, path, line, fault),
+        fault => faulty_line(alloc, path, line, fault),
     }
 }
 
 /// That a line of an inventory has this fault.
-fn refused_for(alloc: Global, path: &str, line: u64, fault: InventoryFault) -> RunFault
+fn faulty_line(alloc: Global, path: &str, line: u64, fault: InventoryFault) -> RunFault
     ensures { IsUnfit (model.told_of_line path.now line (fault_text fault)) result }
 {
     unfit(format!(in alloc; "inventory {path}: line {line}: {fault}"))
@@ -233,7 +233,7 @@ pub(crate) fn count_bytes<T: thread::Threads + Sync>(
 }
 
 /// A reader of lines that reads ahead.
-pub(crate) fn reader_of<R: Read + Drop>(
+pub fn reader_of<R: Read + Drop>(
     alloc: Global,
     path: &str,
     inner: R,
@@ -251,7 +251,7 @@ pub(crate) fn uncounted(alloc: Global, path: &str, line: u64, fault: &CountFault
     ensures { model.TellsUncounted path.now line fault.now result }
 {
     match fault {
-        CountFault::Line(fault) => refused(alloc, path, line, *fault),
+        CountFault::Line(fault) => refused_line(alloc, path, line, *fault),
         CountFault::NoMemory => RunFault::NoMemory,
         CountFault::TooManyBookies => unfit(format!(in alloc;
             "inventory {path}: line {line}: there are more than 4096 bookies"

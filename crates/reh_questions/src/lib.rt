@@ -1,10 +1,9 @@
-// What is asked of files: whether bookies may be stopped, in which rounds, what the next losses cost, what a census counts,
-// and the picture of some of an inventory's ledgers; and what is wrong with a file or a name.
+// What is asked of files: whether bookies may be stopped, in which rounds, what the next losses cost, and what a census
+// counts; and what is wrong with a file or a name.
 #![tactic(auto)]
 
 mod afters;
 mod against;
-mod cuts;
 mod inputs;
 mod inventories;
 mod mistaken;
@@ -14,9 +13,8 @@ mod stops;
 mod waves;
 
 pub use afters::text_after;
-pub use cuts::cut_over;
 pub use inputs::{census_over, unfit};
-pub use inventories::check_inventory;
+pub use inventories::{check_inventory, read_line, reader_of, refused_line};
 pub use mistaken::{end_on, no_picture, picture_of, state_in};
 pub use names::{named_twice, unknown};
 pub use stops::stop_over;

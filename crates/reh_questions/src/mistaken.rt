@@ -4,7 +4,7 @@ ghost use Rattle.reh_picture.specs.Pictures.{located_picture_of};
 ghost use Rattle.reh_questions.specs.Mistaken as model;
 
 use crate::inputs::unfit;
-use crate::inventories::refused;
+use crate::inventories::refused_line;
 use reh_cluster::State;
 use reh_files::{INVENTORY_BEGINS, RunFault, open_file, read_on};
 use reh_inventory::{Inventory, InventoryFault};
@@ -56,7 +56,7 @@ pub(crate) fn explained(alloc: Global, path: &str, bytes: &[u8], fault: RunFault
 /// The fault of an inventory without its first line, if bytes begin with another line of one.
 pub(crate) fn headless(alloc: Global, path: &str, bytes: &[u8]) -> Option<RunFault> {
     match Inventory::new(alloc).add(alloc, first_line(bytes)) {
-        Err(InventoryFault::NoHead) => Some(refused(alloc, path, 1, InventoryFault::NoHead)),
+        Err(InventoryFault::NoHead) => Some(refused_line(alloc, path, 1, InventoryFault::NoHead)),
         _ => None,
     }
 }

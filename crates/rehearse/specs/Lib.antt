@@ -4,3 +4,4 @@ pub mod Endings
 pub mod Plans
 pub mod Runs
 pub mod Tails
+pub mod Cuts

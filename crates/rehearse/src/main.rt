@@ -9,6 +9,7 @@ ghost use Rattle.rehearse.specs.Endings.{Answers, EndsTask, done_well, end_statu
 
 mod checks;
 mod colors;
+mod cuts;
 mod endings;
 mod helps;
 mod late;
@@ -21,6 +22,7 @@ mod tails;
 use checks::{check_file, check_script};
 use clap::Error;
 use colors::Colored;
+use cuts::cut_over;
 use endings::{after_flush, of_drill, of_pipe, want_of_memory};
 use helps::help_on;
 use late::LateFile;
@@ -30,7 +32,7 @@ use prompts::{Typed, tell_input};
 use reh_crew::{OpenGate, Plain};
 use reh_drill::drill_over;
 use reh_files::{Looks, RunFault, open_file, read_picture, read_scripts, say_fault, status_of};
-use reh_questions::{census_over, cut_over, end_on, picture_of, risk_over, stop_over, waves_over};
+use reh_questions::{census_over, end_on, picture_of, risk_over, stop_over, waves_over};
 use reh_script::{FromRead, Gathered, TextOut, ToWrite, pipe};
 use reh_words::{Crew, DrillFiles, PlayWords, Prints, Request, Task, request_of};
 use runs::{run_by, tell_unbegun};

@@ -1,6 +1,6 @@
 -- One line more came.
 use Rattle.std.proofs.Common.{◌++◌, ◌∷◌, []}
-use Rattle.reh_questions.proofs.cuts.choose_line.Goals as goal
+use Rattle.rehearse.proofs.cuts.choose_line.Goals as goal
 
 pub returns-in-Ok : goal.returns-in-Ok
 returns-in-Ok c = λ ids was. record {

@@ -1,13 +1,12 @@
 // The picture of some ledgers of an inventory.
 ghost use Rattle.std.specs.Prelude.{◌≡◌, IfOk, OnOk, ℕ, List};
-ghost use Rattle.reh_questions.specs.Cuts as model;
+ghost use Rattle.rehearse.specs.Cuts as model;
 
-use crate::inputs::unfit;
-use crate::inventories::{read_line, reader_of, refused};
 use reh_cut::{Assume, ChosenLedgers, CutFault};
 use reh_files::{Looks, RunFault, Teller, open_file, write_out};
 use reh_inventory::InventoryFault;
 use reh_near::near_ids;
+use reh_questions::{read_line, reader_of, refused_line, unfit};
 use reh_words::CutWords;
 use std::alloc::{AllocError, Global};
 use std::io::BufRead;
@@ -18,7 +17,7 @@ use std::thread;
 const PICTURE_BEGINS: &str = "{\"format\"";
 
 /// Says to standard output what the picture is, and to standard error if it may show only a part of a ledger.
-pub fn cut_over<R: thread::Threads + Wait + Copy + Send + 'static>(
+pub(crate) fn cut_over<R: thread::Threads + Wait + Copy + Send + 'static>(
     rt: &HostRuntime,
     threads: &R,
     looks: Looks,
@@ -111,7 +110,7 @@ fn unchosen(
     line: &[u8],
     fault: InventoryFault,
 ) -> RunFault {
-    let fault = refused(alloc, path, number, fault);
+    let fault = refused_line(alloc, path, number, fault);
     if number == 1 && line.starts_with(PICTURE_BEGINS.as_bytes()) {
         return unfit(format!(in alloc;
             "{fault}\n{path} is a picture: nothing has to be cut out of it"

@@ -2,8 +2,8 @@
 use Rattle.std.proofs.Common.{List, ℕ, string_bytes, subst}
 use Rattle.reh_cut.specs.Chosen.{IsCutOf}
 use Rattle.reh_cut.specs.declared.said.Assume.{Assume}
-use Rattle.reh_questions.specs.Cuts.{IsChoosing}
-use Rattle.reh_questions.proofs.cuts.cut_of.Goals as goal
+use Rattle.rehearse.specs.Cuts.{IsChoosing}
+use Rattle.rehearse.proofs.cuts.cut_of.Goals as goal
 
 pub returns-in-Ok : goal.returns-in-Ok
 returns-in-Ok c =
