@@ -9,6 +9,8 @@ use Rattle.std.proofs.lemmas.Bool.Decides.{nat_tests}
 use Rattle.std.specs.Option.{option_and_then}
 use Rattle.reh_types.specs.declared.moves.Move.{Move}
 use Rattle.reh_types.specs.declared.moves.Reply.{Reply}
+use Rattle.reh_types.specs.declared.moves.Reply.TheVariants.{Refused}
+use Rattle.reh_types.specs.declared.refusals.Refusal.TheVariants as refusal
 use Rattle.reh_model.specs.Session.{Session, Performs, session_after}
 use Rattle.reh_lines.specs.Lines.{lines_of}
 use Rattle.reh_commands.specs.Answers.{asked}
@@ -17,7 +19,7 @@ use Rattle.reh_picture.specs.declared.places.LocatedFault.{LocatedFault}
 use Rattle.reh_after.specs.After.{IsBegun, refused_by, after_asked, after_lines, after_move, after_reply, is_accepted}
 use Rattle.reh_commands.specs.Texts.{reply_text}
 use Rattle.reh_commands.specs.declared.commands.Command.TheVariants.{Make}
-use Rattle.reh_after.specs.Faults.{AreAccepted, IsAfterFault, IsBeginFault, IsDoubtFault, IsEndFault, IsFaultAt, IsLineFault, IsRefused, IsRefusedAt, lacks_memory, unaccepted_by, unheld_by}
+use Rattle.reh_after.specs.Faults.{AreAccepted, IsAfterFault, IsBeginFault, IsDoubtFault, IsEndFault, IsFaultAt, IsLineFault, IsRefused, IsRefusedAt, unaccepted_by, unheld_by, want_of}
 use Rattle.reh_after.specs.declared.faults.AfterFault.{AfterFault}
 use Rattle.reh_after.specs.declared.faults.AfterFault.TheVariants.{Unaccepted, Doubt, Unheld, Picture, NoMemory}
 use Rattle.reh_after.specs.declared.pictures.Begun.{Begun}
@@ -104,18 +106,18 @@ with_fact number fact answers fault so says = says
 
 -- the reply to a move that isn't accepted is the machine's, if it isn't that there is no memory
 by_machine : (names : List (List ℕ)) (m : Session) (move : Move) (reply : Reply) (n : Session) (answer : List ℕ)
-    → Performs m move reply n → is_accepted reply ≡ false → (lacks_memory reply ≡ false) × (answer ≡ reply_text names reply)
+    → Performs m move reply n → is_accepted reply ≡ false → (want_of reply ≡ None) × (answer ≡ reply_text names reply)
     → IsRefused names m (Make move) answer
 by_machine names m move reply n answer (inl answers) refuses says = (
   ap is_accepted (sym answers.0) ∙ refuses,
   says.1 ∙ ap (reply_text names) answers.0,
 )
 by_machine names m move reply n answer (inr wants) refuses says =
-    absurd (true≢false (sym (ap lacks_memory wants.1) ∙ says.0))
+    absurd (none-some _ (sym says.0 ∙ ap want_of wants.1))
 
 pub refused_move : (names : List (List ℕ)) (m : Session) (move : Move) (reply : Reply) (n : Session) (number : ℕ)
     (fault : AfterFault) → Performs m move reply n → is_accepted reply ≡ false
-    → IsFaultAt number (λ answer. (lacks_memory reply ≡ false) × (answer ≡ reply_text names reply)) fault
+    → IsFaultAt number (λ answer. (want_of reply ≡ None) × (answer ≡ reply_text names reply)) fault
     → IsFaultAt number (IsRefused names m (Make move)) fault
 refused_move names m move reply n number (Unaccepted found) performs refuses says =
     (says.0, by_machine names m move reply n (string_bytes found.answer) performs refuses says.1)
@@ -163,3 +165,9 @@ pub not_listed : (picture : List ℕ) (located : LocatedFault) (fault : PictureF
     → IsBeginFault picture (refused_by fault located)
 not_listed picture located picture_fault.NoMemory is = tt
 not_listed picture located fault is = inr (is (search rules))
+
+-- there is no memory
+pub wanting : (number : ℕ) (answers : List ℕ → Type 0) (reply : Reply) (want : AfterFault) → want_of reply ≡ Some want
+    → IsFaultAt number answers want
+wanting number answers (Refused refusal.NoMemory) want is = subst (IsFaultAt number answers) (same_Some _ _ is) tt
+wanting number answers reply want is = absurd (none-some want is)

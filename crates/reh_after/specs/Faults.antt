@@ -38,10 +38,10 @@ IsRefusal picture located =
 
 -- Commands that aren't accepted
 
--- whether a reply says that there is no memory
-abbrev pub lacks_memory : Reply → Bool
-lacks_memory (ReplyRefused NoMemory) = true
-lacks_memory reply = false
+-- the fault of a reply that there is no memory
+abbrev pub want_of : Reply → Option AfterFault
+want_of (ReplyRefused NoMemory) = Some after_fault.NoMemory
+want_of reply = None
 
 -- what is said where tickets are asked for
 abbrev pub tickets_text : List ℕ

@@ -1,5 +1,5 @@
 // Scripts whose commands are all accepted.
-ghost use Rattle.std.specs.Prelude.{◌≡◌, Some, IfErr, OnOk, false};
+ghost use Rattle.std.specs.Prelude.{◌≡◌, None, Some, IfErr, OnOk};
 ghost use Rattle.reh_commands.specs.Answers.{asked};
 ghost use Rattle.reh_lines.specs.Lines.{lines_of};
 ghost use Rattle.reh_commands.specs.Texts as texts;
@@ -104,13 +104,13 @@ fn is_accepted(reply: &Reply) -> bool
     }
 }
 
-/// Whether a reply says that there is no memory.
-fn lacks_memory(reply: &Reply) -> bool
-    ensures { result ≡ faults.lacks_memory reply.now }
+/// The fault of a reply that there is no memory.
+fn want_of(reply: &Reply) -> Option<AfterFault>
+    ensures { result ≡ faults.want_of reply.now }
 {
     match reply {
-        Reply::Refused(Refusal::NoMemory) => true,
-        _ => false,
+        Reply::Refused(Refusal::NoMemory) => Some(AfterFault::NoMemory),
+        _ => None,
     }
 }
 
@@ -134,12 +134,12 @@ fn no_worker(alloc: Global, number: usize) -> AfterFault
 /// That the move of the line of that number was refused, or that there is no memory.
 fn refused(alloc: Global, names: &Names, number: usize, reply: &Reply) -> AfterFault
     ensures { faults.IsFaultAt number (λ answer.
-        (faults.lacks_memory reply.now ≡ false) × (answer ≡ texts.reply_text names.now reply.now)) result }
+        (faults.want_of reply.now ≡ None) × (answer ≡ texts.reply_text names.now reply.now)) result }
 {
-    if lacks_memory(reply) {
-        return AfterFault::NoMemory;
+    match want_of(reply) {
+        Some(want) => want,
+        None => unaccepted(number, reply_text(alloc, names, reply)),
     }
-    unaccepted(number, reply_text(alloc, names, reply))
 }
 
 /// That the command of the line of that number isn't accepted, by its answer.
