@@ -16,7 +16,7 @@ use reh_types::{BookieIx, ENTRY_END, LedgerId, LedgerState as PictureState};
 // Bookies
 
 /// The bookie of that name in the first line.
-pub(crate) fn bookie_in<'a>(head: &'a Head, name: &str) -> Option<&'a Bookie>
+pub fn bookie_in<'a>(head: &'a Head, name: &str) -> Option<&'a Bookie>
     ensures { option_copied result ≡ model.bookie_in head.now name.now }
 {
     for bookie in head.bookies.as_slice() {
@@ -444,7 +444,7 @@ fn is_member(line: &LedgerLine, name: &str) -> bool
 }
 
 /// Whether the line names the bookie: as a member, or in a content.
-pub(crate) fn names_bookie(line: &LedgerLine, name: &str) -> bool
+pub fn names_bookie(line: &LedgerLine, name: &str) -> bool
     ensures { result ≡ model.names_bookie line.now name.now }
 {
     is_member(line, name) || content_of(line, name).is_some()

@@ -13,6 +13,7 @@ mod said;
 mod texts;
 mod windows;
 
+pub use checks::{bookie_in, names_bookie};
 pub use chosen::ChosenLedgers;
 pub use cuts::cut;
 pub use faults::CutFault;

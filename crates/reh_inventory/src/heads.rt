@@ -47,7 +47,7 @@ impl Model for BookieList {
 
 impl BookieList {
     /// These bookies.
-    pub(crate) fn of(items: Vec<Bookie>) -> BookieList
+    pub fn of(items: Vec<Bookie>) -> BookieList
         ensures { result ≡ items.items }
     {
         BookieList { items }

@@ -14,3 +14,4 @@ pub use faults::ReadFault;
 pub use limited::{Limited, MAX_LINE_BYTES};
 pub use lines::{LineReader, line_reader, read_line};
 pub use naming::names_in;
+pub use passes::{Pass, add_all};

@@ -10,7 +10,7 @@ use std::io::BufRead;
 use std::thread;
 
 /// To what lines of an inventory are added, one after the other.
-pub(crate) trait Pass {
+pub trait Pass {
     /// What is made of a line by itself, before it is added.
     type Made: Drop + Send;
 
@@ -162,7 +162,7 @@ fn add_batch<B: BufRead, P: Pass + Sync, T: thread::Threads + Sync>(
 }
 
 /// Adds all lines that this reader has left, the first of which has this number.
-pub(crate) fn add_all<B: BufRead, P: Pass + Sync, T: thread::Threads + Sync>(
+pub fn add_all<B: BufRead, P: Pass + Sync, T: thread::Threads + Sync>(
     threads: &T,
     alloc: Global,
     workers: usize,

@@ -101,7 +101,7 @@ pub fn read_line<B: BufRead>(
 }
 
 /// Why an inventory isn't read or counted.
-fn uncounted_file(alloc: Global, path: &str, fault: ReadFault) -> RunFault
+pub fn uncounted_file(alloc: Global, path: &str, fault: ReadFault) -> RunFault
     ensures { model.TellsUnreadInventory path.now fault result }
 {
     match fault {
@@ -193,7 +193,7 @@ pub(crate) fn count_inventory<T: thread::Threads + Sync>(
 }
 
 /// A reader of the same file, from its beginning.
-fn from_start(
+pub fn from_start(
     alloc: Global,
     path: &str,
     reader: LineReader<File>,

@@ -14,8 +14,10 @@ mod waves;
 
 pub use afters::text_after;
 pub use inputs::{census_over, unfit};
-pub use inventories::{check_inventory, read_line, reader_of, refused_line};
+pub use inventories::{
+    check_inventory, from_start, read_line, reader_of, refused_line, uncounted_file,
+};
 pub use mistaken::{end_on, no_picture, picture_of, state_in};
-pub use names::{named_twice, unknown};
+pub use names::{named_again, named_twice, unknown, unknown_among};
 pub use stops::stop_over;
 pub use waves::{risk_over, waves_over};

@@ -21,7 +21,27 @@ fn unknown_text(alloc: Global, path: &str, names: &Names, name: &str) -> Result<
     ensures { IfOk result (λ text. string_bytes text ≡ model.unknown_text path.now names.now name.now) }
 {
     let known = bookie_names(alloc, names)?;
-    let told = known_text(alloc, &known, name)?;
+    unknown_among_text(alloc, path, &known, name)
+}
+
+/// That the name is none of these, which are those of the bookies in a file, and what is near; or out of memory.
+pub fn unknown_among(alloc: Global, path: &str, known: &[&str], name: &str) -> RunFault
+    ensures { model.IsMisnamed (model.unknown_text path.now (map (λ name. name.now) known.now) name.now) result }
+{
+    misnamed(unknown_among_text(alloc, path, known, name))
+}
+
+/// The text of that.
+fn unknown_among_text(
+    alloc: Global,
+    path: &str,
+    known: &[&str],
+    name: &str,
+) -> Result<String, AllocError>
+    ensures { IfOk result (λ text. string_bytes text
+        ≡ model.unknown_text path.now (map (λ name. name.now) known.now) name.now) }
+{
+    let told = known_text(alloc, known, name)?;
     format!(in alloc; "{path} has no bookie '{name}'{told}")
 }
 
@@ -117,7 +137,7 @@ pub fn named_twice(alloc: Global, words: &[&str], number: usize) -> RunFault
 }
 
 /// That the bookie of this name is named before, too; or out of memory.
-pub(crate) fn named_again(alloc: Global, name: &str) -> RunFault
+pub fn named_again(alloc: Global, name: &str) -> RunFault
     ensures { model.IsMisnamed (model.again_text name.now) result }
 {
     misnamed(format!(in alloc; "bookie '{name}' is named twice"))

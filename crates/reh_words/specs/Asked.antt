@@ -165,7 +165,7 @@ IsTalk given (task.Play (play.Talk picture prints)) =
     (word_of given (codes "PICTURE") ≡ Some picture.now) × IsPrints given prints
 IsTalk given other = ⊥
 
--- who makes the surveys: one, unless a number says otherwise
+-- how many workers there are: one, unless a number says otherwise
 pub record IsCrew (given : ArgMatches) (crew : Crew) : Type 0 where
   pub number : Option ℕ
   pub is_number : IsNumber given (codes "workers") number
@@ -205,6 +205,9 @@ pub record IsPlan (given : ArgMatches) (words : PlanWords) : Type 0 where
   pub is_sum : IsFlag given (codes "summary") words.only_sums
   pub prints : words.as_json ≡ is_json given
   pub expects : IsFlag given (codes "expect") words.expects
+  pub held : IsFlag given (codes "assume-held") words.assume_held
+  pub empty : IsFlag given (codes "assume-empty") words.assume_empty
+  pub crew_is : IsCrew given words.crew
 
 -- what one of these commands asks of a picture
 abbrev pub IsAskedOfPicture : List ℕ → ArgMatches → Task → Type 0

@@ -268,7 +268,26 @@ static PLAN: CommandRow = CommandRow {
             takes: Takes::OneOfWithout("FORMAT", FORMATS, "expect"),
             help: "json prints what the plan comes to, as one object",
         },
-        PICTURE,
+        ArgRow {
+            name: "assume-held",
+            takes: Takes::Nothing,
+            help: "Of an inventory: what nobody tells of a member's entries is assumed to be held",
+        },
+        ArgRow {
+            name: "assume-empty",
+            takes: Takes::NothingWithout("assume-held"),
+            help: "Of an inventory: what nobody tells of a member's entries is assumed not to be held",
+        },
+        ArgRow {
+            name: "workers",
+            takes: Takes::Number("N", MAX_WORKERS as i64),
+            help: "Of an inventory: how many workers plan, 1 to 8; by default 1",
+        },
+        ArgRow {
+            name: "PICTURE",
+            takes: Takes::File,
+            help: "A file with the picture, or with --summary an inventory",
+        },
     ],
     asks: Asks::Nothing,
 };

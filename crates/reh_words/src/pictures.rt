@@ -95,7 +95,7 @@ fn asked_run<'a>(given: &ArgMatches<'a>) -> Option<Task<'a>>
     }
 }
 
-/// How many workers make each survey.
+/// How many workers there are.
 fn asked_crew(given: &ArgMatches<'_>) -> Option<Crew>
     ensures { IfSome result (model.IsCrew given.now) }
 {
@@ -126,7 +126,7 @@ fn asked_plan<'a>(alloc: Global, given: &ArgMatches<'a>) -> Result<Option<Task<'
 {
     let lost = words_of(alloc, given, "lose")?;
     let allowed = words_of(alloc, given, "to")?;
-    let Some(picture) = given.get_str("PICTURE") else {
+    let (Some(picture), Some(crew)) = (given.get_str("PICTURE"), asked_crew(given)) else {
         return Ok(None);
     };
     Ok(Some(Task::Plan(PlanWords {
@@ -139,5 +139,8 @@ fn asked_plan<'a>(alloc: Global, given: &ArgMatches<'a>) -> Result<Option<Task<'
         only_sums: is_given(given, "summary"),
         as_json: is_json(given),
         expects: is_given(given, "expect"),
+        assume_held: is_given(given, "assume-held"),
+        assume_empty: is_given(given, "assume-empty"),
+        crew,
     })))
 }

@@ -32,7 +32,7 @@ pub enum Task<'a> {
     Census(CensusWords<'a>),
     /// Prints the picture of some ledgers of an inventory.
     Cut(CutWords<'a>),
-    /// Plans what is to be done without some bookies of a picture.
+    /// Plans what is to be done without some bookies of a picture or an inventory.
     Plan(PlanWords<'a>),
     /// Says what the commands of a script and its refusals mean.
     Help(HelpTopic<'a>),
@@ -174,7 +174,7 @@ pub struct CutWords<'a> {
 }
 
 /// What is asked: a plan for a picture without these bookies, of which the allowed ones take the places, or any; or only
-/// what it comes to.
+/// what it comes to. Of an inventory, what plans for its ledgers come to.
 #[derive(Drop)]
 pub struct PlanWords<'a> {
     pub picture: &'a str,
@@ -191,4 +191,10 @@ pub struct PlanWords<'a> {
     pub as_json: bool,
     /// Whether the script says what each command is expected to be answered.
     pub expects: bool,
+    /// Of an inventory: whether what nobody tells of a bookie's entries is assumed to be held.
+    pub assume_held: bool,
+    /// Of an inventory: whether it is assumed not to be held.
+    pub assume_empty: bool,
+    /// Of an inventory: who plans for its ledgers.
+    pub crew: Crew,
 }

@@ -3,5 +3,5 @@ pub mod Colors
 pub mod Endings
 pub mod Plans
 pub mod Runs
-pub mod Tails
 pub mod Cuts
+pub mod InventoryPlans

@@ -29,6 +29,13 @@ use Rattle.reh_questions.specs.Inputs.{IsAfterSome, IsUnfit}
 use Rattle.reh_files.specs.declared.faults.RunFault.{RunFault}
 use Rattle.reh_files.specs.declared.faults.RunFault.TheVariants as run_fault
 use Rattle.rehearse.specs.declared.plans.Asked.{Asked}
+use Rattle.rehearse.specs.declared.plans.Plans.{Plans}
+use Rattle.rehearse.specs.declared.plans.Plans.TheVariants as plans
+use Rattle.rehearse.specs.InventoryPlans.{ArePlans}
+use Rattle.reh_files.specs.declared.files.InputBytes.{InputBytes}
+use Rattle.reh_files.specs.declared.files.InputBytes.TheVariants as input
+use Rattle.reh_inventory_plan.specs.Totals.{is_done}
+use Rattle.reh_inventory_plan.specs.declared.inventories.InventoryPlan.{InventoryPlan}
 
 -- in which racks the bookies stand, by the marks of as many as there can be
 abbrev pub racks_of : List BookieMarks → ℕ → Racks
@@ -94,18 +101,36 @@ PrintsPlan false false false p text = lines_of text ≡ p.plan.lines
 abbrev pub IsPictureFor : PlanWords → List ℕ → Type 0
 IsPictureFor words bytes = IfSome words.after (λ script. IsAfterSome false bytes)
 
+-- the same of what was read; an inventory is planned for only without a script
+abbrev pub IsInputFor : PlanWords → InputBytes → Type 0
+IsInputFor words (input.Whole bytes) = IsPictureFor words bytes.items
+IsInputFor words other = Unit {0}
+
 -- a plan as these words ask, for some picture
 pub record IsPlanned (words : PlanWords) (p : Planned) : Type 0 where
   pub bytes : List ℕ
   pub picture : IsPictureFor words bytes
   pub planned : IsPlanFor bytes words p
 
+-- the same, or plans for the ledgers of an inventory
+abbrev pub ArePlanned : PlanWords → Plans → Type 0
+ArePlanned words (plans.Picture p unclosed) = IsPlanned words p
+ArePlanned words (plans.Inventory plan) = ArePlans words plan
+
 -- 0 where nothing is left, no entry is lost, and the script isn't full, else 8
 abbrev pub status_of : Planned → ℕ
 status_of p = if is_whole p.summary then 0 else 8
 
--- the status of such a plan
+-- 0 where all ledgers were read, nothing is left, no entry of a ledger that is planned for is lost, and no script is full, else 8
+abbrev pub status_of_inventory : InventoryPlan → ℕ
+status_of_inventory plan = if is_done plan then 0 else 8
+
+abbrev pub status_of_plans : Plans → ℕ
+status_of_plans (plans.Picture p unclosed) = status_of p
+status_of_plans (plans.Inventory plan) = status_of_inventory plan
+
+-- the status of such plans
 pub record IsStatus (words : PlanWords) (status : ℕ) : Type 0 where
-  pub planned : Planned
-  pub is_planned : IsPlanned words planned
-  pub is_status : status ≡ status_of planned
+  pub planned : Plans
+  pub are_planned : ArePlanned words planned
+  pub is_status : status ≡ status_of_plans planned

@@ -12,12 +12,12 @@ mod colors;
 mod cuts;
 mod endings;
 mod helps;
+mod inventory_plans;
 mod late;
 mod outs;
 mod plans;
 mod prompts;
 mod runs;
-mod tails;
 
 use checks::{check_file, check_script};
 use clap::Error;

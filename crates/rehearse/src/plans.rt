@@ -6,9 +6,10 @@ ghost use Rattle.reh_types.specs.Sets as set;
 ghost use Rattle.reh_plan.specs.Named.{AreNamed};
 ghost use Rattle.rehearse.specs.Plans as model;
 
-use crate::tails::{Tails, add_unclosed, tails_of};
+use crate::inventory_plans::{InventoryInput, plan_inventory, plans_said};
 use reh_cluster::{Names, State};
-use reh_files::{Looks, Progress, RunFault, Teller, read_picture, write_out};
+use reh_files::{InputBytes, Looks, Progress, RunFault, Teller, read_input_file, write_out};
+use reh_inventory_plan::{InventoryPlan, Tails, add_unclosed, tails_of};
 use reh_picture::{BookieMarks, list_picture};
 use reh_plan::{
     PlanFault, Planned, Racks, find_bookies, first_unknown, plan, plan_json, plan_summary, runbook,
@@ -26,8 +27,16 @@ const CLOSED_EMPTY: &str =
 
 const CLOSED_SHORT: &str = "closed before an entry that some bookie holds";
 
-/// Writes the plan to standard output, as a script or a runbook, or what it comes to, as text or JSON; and gives the status.
-pub(crate) fn plan_file<R: thread::Threads + Wait + Copy + Send + 'static>(
+/// What was planned: for a picture, with its ledgers that weren't closed before; or for the ledgers of an inventory.
+#[derive(Drop)]
+enum Plans {
+    Picture(Planned, Vec<LedgerId>),
+    Inventory(InventoryPlan),
+}
+
+/// Writes the plan to standard output, as a script or a runbook, or what it comes to, as text or JSON; and gives the status. Of
+/// an inventory it writes what plans for its ledgers come to.
+pub(crate) fn plan_file<R: thread::Threads + Wait + Sync + Copy + Send + 'static>(
     rt: &HostRuntime,
     threads: &R,
     looks: Looks,
@@ -36,13 +45,41 @@ pub(crate) fn plan_file<R: thread::Threads + Wait + Copy + Send + 'static>(
     ensures { IfOk result (model.IsStatus words.now) }
 {
     let teller = Teller::begin(rt, threads, looks, files_of(words));
-    let mut open = Vec::new(rt.alloc());
-    let planned = planned_by(rt, words, &teller.progress, &mut open);
+    let planned = planned_by(rt, threads, words, &teller.progress);
     teller.end(threads);
     let planned = planned?;
-    say_tails(rt, looks, &open, &planned)?;
-    let status = write_plan(rt, words, &planned)?;
-    Ok(status)
+    write_plans(rt, looks, words, &planned)
+}
+
+/// Writes what was planned, and gives the status.
+fn write_plans(
+    rt: &HostRuntime,
+    looks: Looks,
+    words: &PlanWords<'_>,
+    planned: &Plans,
+) -> Result<u8, RunFault>
+    ensures { IfOk result (λ status. status ≡ model.status_of_plans planned.now) }
+{
+    match planned {
+        Plans::Picture(planned, open) => {
+            say_tails(rt, looks, open, planned)?;
+            write_plan(rt, words, planned)
+        }
+        Plans::Inventory(plan) => write_inventory(rt, words, plan),
+    }
+}
+
+/// Writes what plans for the ledgers of an inventory come to, and gives the status.
+fn write_inventory(
+    rt: &HostRuntime,
+    words: &PlanWords<'_>,
+    plan: &InventoryPlan,
+) -> Result<u8, RunFault>
+    ensures { IfOk result (λ status. status ≡ model.status_of_inventory plan.now) }
+{
+    let text = plans_said(rt.alloc(), words, plan)?;
+    write_out(rt, &text)?;
+    Ok(plan.status())
 }
 
 /// How many files are read.
@@ -50,17 +87,48 @@ fn files_of(words: &PlanWords<'_>) -> usize {
     if words.after.is_some() { 2 } else { 1 }
 }
 
-/// The plan that is asked for; and to `open` it adds the ledgers that aren't closed before it.
-fn planned_by(
+/// What is asked for: the plan for a picture, or those for the ledgers of an inventory.
+fn planned_by<R: thread::Threads + Sync>(
     rt: &HostRuntime,
+    threads: &R,
     words: &PlanWords<'_>,
     progress: &Progress,
-    open: &mut Vec<LedgerId>,
-) -> Result<Planned, RunFault>
-    ensures { IfOk result (model.IsPlanned words.now) }
+) -> Result<Plans, RunFault>
+    ensures { IfOk result (model.ArePlanned words.now) }
 {
-    let bytes = picture_bytes(rt, words, progress)?;
-    plan_of(rt.alloc(), &bytes, words, open)
+    let alloc = rt.alloc();
+    match input_bytes(rt, words, progress)? {
+        InputBytes::Whole(bytes) => plan_picture(alloc, &bytes, words),
+        InputBytes::Inventory(file) => {
+            plans_of(threads, alloc, words, InventoryInput::File(file))
+        }
+        InputBytes::Stream(bytes) => {
+            plans_of(threads, alloc, words, InventoryInput::Bytes(bytes))
+        }
+    }
+}
+
+/// The plans for the ledgers of an inventory.
+fn plans_of<R: thread::Threads + Sync>(
+    threads: &R,
+    alloc: Global,
+    words: &PlanWords<'_>,
+    input: InventoryInput,
+) -> Result<Plans, RunFault>
+    ensures { IfOk result (model.ArePlanned words.now) }
+{
+    let plan = plan_inventory(threads, alloc, words, input)?;
+    Ok(Plans::Inventory(plan))
+}
+
+/// The plan for the picture of these bytes, with its ledgers that weren't closed before.
+fn plan_picture(alloc: Global, bytes: &[u8], words: &PlanWords<'_>) -> Result<Plans, RunFault>
+    requires { model.IsPictureFor words.now bytes.now }
+    ensures { IfOk result (model.ArePlanned words.now) }
+{
+    let mut open = Vec::new(alloc);
+    let planned = plan_of(alloc, bytes, words, &mut open)?;
+    Ok(Plans::Picture(planned, open))
 }
 
 /// Says on standard error how many of these ledgers a plan closes so that entries may be missing, unless faults alone are to
@@ -117,25 +185,25 @@ fn printed(alloc: Global, planned: &Planned, words: &PlanWords<'_>) -> Result<Ve
     Ok(Vec::from_slice(alloc, planned.plan.text())?)
 }
 
-/// The bytes of the picture; or of the picture of the state to which a script leads from it.
-fn picture_bytes(
+/// The bytes of the picture, or of the picture of the state to which a script leads from it; or an inventory.
+fn input_bytes(
     rt: &HostRuntime,
     words: &PlanWords<'_>,
     progress: &Progress,
-) -> Result<Vec<u8>, RunFault>
-    ensures { IfOk result (λ bytes. model.IsPictureFor words.now bytes.items) }
+) -> Result<InputBytes, RunFault>
+    ensures { IfOk result (model.IsInputFor words.now) }
 {
     match words.after {
         None => {
-            let bytes = read_picture(rt, words.picture)?;
+            let input = read_input_file(rt, words.picture)?;
             progress.count();
-            Ok(bytes)
+            Ok(input)
         }
         Some(script) => {
             let text = text_after(rt, words.picture, script, false)?;
             progress.count();
             progress.count();
-            Ok(text.into_bytes())
+            Ok(InputBytes::Whole(text.into_bytes()))
         }
     }
 }

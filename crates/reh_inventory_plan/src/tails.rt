@@ -2,7 +2,7 @@
 ghost use Rattle.std.specs.Prelude.{◌≡◌, ◌++◌, false, IfOk, OnOk};
 ghost use Rattle.std.specs.Option.{option_map_or};
 ghost use Rattle.reh_model.specs.Cluster.{ledger_at};
-ghost use Rattle.rehearse.specs.Tails as model;
+ghost use Rattle.reh_inventory_plan.specs.Tails as model;
 
 use reh_cluster::{Ledger, State};
 use reh_scan::last_fragment;
@@ -10,7 +10,7 @@ use reh_types::{LedgerId, LedgerState};
 use std::alloc::{AllocError, Global};
 
 /// Adds the ledgers that aren't closed, in picture order.
-pub(crate) fn add_unclosed(open: &mut Vec<LedgerId>, state: &State) -> Result<(), AllocError>
+pub fn add_unclosed(open: &mut Vec<LedgerId>, state: &State) -> Result<(), AllocError>
     ensures { OnOk result (open.new.items ≡ open.old.items ++ model.unclosed state.now.parts.ledgers) }
 {
     for ledger in state.ledgers() {
@@ -32,7 +32,7 @@ fn push_unclosed(open: &mut Vec<LedgerId>, ledger: &Ledger) -> Result<(), AllocE
 
 /// Which ledgers of some a plan closes so that entries may be missing.
 #[derive(Drop)]
-pub(crate) struct Tails {
+pub struct Tails {
     /// Those whose last fragment is empty then.
     pub empty: Vec<LedgerId>,
     /// Those that are closed before an entry that some bookie holds, be it registered or not.
@@ -40,7 +40,7 @@ pub(crate) struct Tails {
 }
 
 /// Which of these ledgers the state has closed so.
-pub(crate) fn tails_of(alloc: Global, state: &State, open: &[LedgerId]) -> Result<Tails, AllocError>
+pub fn tails_of(alloc: Global, state: &State, open: &[LedgerId]) -> Result<Tails, AllocError>
     ensures empty { IfOk result (λ tails. tails.empty.items ≡ model.closed_empty state.now open.now) }
     ensures short { IfOk result (λ tails. tails.short.items ≡ model.closed_short state.now open.now) }
 {
@@ -64,7 +64,7 @@ fn push_if(ledgers: &mut Vec<LedgerId>, ledger: LedgerId, is_so: bool) -> Result
 }
 
 /// Whether the ledger is closed without an entry of its last fragment.
-fn is_empty_in(state: &State, ledger: LedgerId) -> bool
+pub(crate) fn is_empty_in(state: &State, ledger: LedgerId) -> bool
     ensures { result ≡ option_map_or model.is_closed_empty (ledger_at state.now ledger) false }
 {
     match state.ledger(ledger) {
@@ -84,7 +84,7 @@ fn is_closed_empty(ledger: &Ledger) -> bool
 }
 
 /// Whether the ledger is closed before an entry that some bookie holds.
-fn is_short_in(state: &State, ledger: LedgerId) -> bool
+pub(crate) fn is_short_in(state: &State, ledger: LedgerId) -> bool
     ensures { result ≡ option_map_or (model.is_closed_short state.now) (ledger_at state.now ledger) false }
 {
     match state.ledger(ledger) {

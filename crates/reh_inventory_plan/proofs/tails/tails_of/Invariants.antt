@@ -1,7 +1,7 @@
 -- Those of the ledgers that are passed.
 use Rattle.std.proofs.Common.{◌≡◌, take}
-use Rattle.rehearse.specs.Tails.{closed_empty, closed_short}
-use Rattle.rehearse.proofs.tails.tails_of.Given as goal
+use Rattle.reh_inventory_plan.specs.Tails.{closed_empty, closed_short}
+use Rattle.reh_inventory_plan.proofs.tails.tails_of.Given as goal
 
 abbrev pub invariant-loop-ledger : goal.invariant-loop-ledger
 invariant-loop-ledger l = record {

@@ -1,0 +1,19 @@
+-- What was done, step by step.
+use Rattle.std.proofs.Common.{subst, List, ℕ, string_bytes}
+use Rattle.reh_inventory_plan.specs.Pictures.{IsPicturePlan}
+use Rattle.reh_inventory_plan.proofs.ledgers.plan_ledger.Goals as goal
+
+pub returns : goal.returns
+returns c =
+    let planned = c.in_ok-planned.planned in
+    record {
+      others = c.args.others.now;
+      part = c.in_ok-part.part;
+      is_part = c.in_ok-part.ensures;
+      text = string_bytes c.in_ok-text.text;
+      cut = c.in_ok-text.ensures.cut;
+      plan = planned;
+      is_plan = subst (λ (text : List ℕ). IsPicturePlan c.args.asked.now text planned) c.as_bytes.ensures.value
+          c.in_ok-planned.ensures;
+      sums = c.in_ok-sums.ensures;
+    }

@@ -1,0 +1,10 @@
+pub mod Asked
+pub mod Faults
+pub mod Parts
+pub mod Pictures
+pub mod Tails
+pub mod Ledgers
+pub mod Lines
+pub mod AddedLaws
+pub mod Totals
+pub mod Texts
