@@ -1,1 +1,2 @@
 pub mod PlannerLaws
+pub mod ObjectLaws

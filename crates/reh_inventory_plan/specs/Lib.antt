@@ -8,3 +8,4 @@ pub mod Lines
 pub mod AddedLaws
 pub mod Totals
 pub mod Texts
+pub mod Objects
