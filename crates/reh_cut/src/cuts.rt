@@ -9,7 +9,7 @@ ghost use Rattle.reh_picture.specs.Pictures.{picture_of};
 
 use crate::checks::{first_unknown, refills, shows_bookies, shows_ledgers};
 use crate::faults::{CutFault, no_picture};
-use crate::names::names_of;
+use crate::names::{Others, names_of};
 use crate::passed::{check_count, check_limits, check_size};
 use crate::said::Assume;
 use crate::texts::{Written, picture_text};
@@ -34,8 +34,23 @@ pub fn cut(
     ensures faultless { IfOk result (λ _. lines_fault head.now assume lines.now ≡ None) }
     ensures fault { NamesFault result (lines_fault head.now assume lines.now) }
 {
+    cut_with(alloc, head, lines, assume, Others::ByName)
+}
+
+/// The same picture, where the other bookies come in this order.
+pub fn cut_with(
+    alloc: Global,
+    head: &Head,
+    lines: &[LedgerLine],
+    assume: Assume,
+    others: Others,
+) -> Result<String, CutFault>
+    ensures cut { IfOk result (λ text. model.IsCut head.now lines.now assume (string_bytes text)) }
+    ensures faultless { IfOk result (λ _. lines_fault head.now assume lines.now ≡ None) }
+    ensures fault { NamesFault result (lines_fault head.now assume lines.now) }
+{
     check_lines(alloc, head, assume, lines)?;
-    cut_checked(alloc, head, lines, assume)
+    cut_checked(alloc, head, lines, assume, others)
 }
 
 /// The picture of lines in which no bookie that is empty holds entries.
@@ -44,11 +59,12 @@ fn cut_checked(
     head: &Head,
     lines: &[LedgerLine],
     assume: Assume,
+    others: Others,
 ) -> Result<String, CutFault>
     requires { list_all (model.keeps_empties head.now) lines.now ≡ true }
     ensures { IfOk result (λ text. model.IsCut head.now lines.now assume (string_bytes text)) }
 {
-    let names = names_of(alloc, head, lines)?;
+    let names = names_of(alloc, head, lines, others)?;
     let Written { text, words } = picture_text(alloc, head, assume, &names, lines)?;
     check_size(text.len(), lines.len())?;
     check_cut(alloc, head, assume, lines, words, text.as_bytes())?;

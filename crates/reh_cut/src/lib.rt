@@ -15,7 +15,8 @@ mod windows;
 
 pub use checks::{bookie_in, names_bookie};
 pub use chosen::ChosenLedgers;
-pub use cuts::cut;
+pub use cuts::{cut, cut_with};
 pub use faults::CutFault;
 pub use limits::{LedgerLimit, Limit, Past, Sum, Total, TotalLimit, Twice, WayOut};
+pub use names::Others;
 pub use said::Assume;

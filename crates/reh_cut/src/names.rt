@@ -7,12 +7,22 @@ use reh_inventory::{Bookie, Head, LedgerLine, Name};
 use reh_types::MAX_BOOKIES;
 use std::alloc::{AllocError, Global};
 
-/// The bookies of which these lines tell, and then others of the first line up to as many as a picture may have, by name:
-/// first those that can be written to.
+/// In which order other bookies come after those of which lines tell. In either, those that can be written to come first.
+#[derive(Clone, Copy)]
+pub enum Others {
+    /// By their names.
+    ByName,
+    /// As the first line has them.
+    AsListed,
+}
+
+/// The bookies of which these lines tell, and then others of the first line up to as many as a picture may have, in that
+/// order.
 pub(crate) fn names_of(
     alloc: Global,
     head: &Head,
     lines: &[LedgerLine],
+    order: Others,
 ) -> Result<NameList, CutFault> {
     let mut names = NameList::new(alloc);
     for line in lines {
@@ -22,7 +32,7 @@ pub(crate) fn names_of(
         return Err(past_total(TotalLimit::Bookies, names.len() as u64, lines.len()));
     }
     for is_writable in [true, false] {
-        add_others(alloc, &mut names, head, is_writable)?;
+        add_others(alloc, &mut names, head, is_writable, order)?;
     }
     Ok(names)
 }
@@ -59,12 +69,13 @@ fn is_writable(bookie: &Bookie) -> bool {
     bookie.is_up && !bookie.is_read_only
 }
 
-/// Adds other bookies, by name, as long as there is room for them: those that can be written to, or those that can't.
+/// Adds other bookies as long as there is room for them: those that can be written to, or those that can't.
 fn add_others(
     alloc: Global,
     names: &mut NameList,
     head: &Head,
     writable: bool,
+    order: Others,
 ) -> Result<(), AllocError> {
     let mut others = Vec::new(alloc);
     for bookie in head.bookies.as_slice() {
@@ -72,7 +83,9 @@ fn add_others(
             others.push(bookie.name.as_str())?;
         }
     }
-    others.sort()?;
+    if matches!(order, Others::ByName) {
+        others.sort()?;
+    }
     for name in &others {
         if names.len() < MAX_BOOKIES {
             names.add(name)?;

@@ -1,18 +1,17 @@
 -- What comes of the ledgers of one line more.
-use Rattle.std.proofs.Common.{◌≡◌, ◌∙◌, ℕ, Bool, true, false, List, [], ◌∷◌, ◌++◌, Ok, None, Some, Option, ap, refl, subst, sym, cond}
+use Rattle.std.proofs.Common.{◌≡◌, ◌∙◌, ℕ, Bool, List, [], ◌∷◌, ◌++◌, Ok, None, Some, Option, ap, subst, sym, cond}
 use Rattle.std.specs.List.{filter}
 use Rattle.std.specs.Option.{option_map_or}
-use Rattle.std.specs.Prelude.{OnOk, Result}
 use Rattle.std.proofs.lemmas.Grind.{flat_map-append}
 use Rattle.std.proofs.lemmas.List.{append-nil}
 use Rattle.std.proofs.lemmas.List.Elements.{filter-append}
 use Rattle.std.proofs.lemmas.List.Sums.{fold-append}
-use Rattle.reh_inventory.specs.Inventories.{added_bytes, and_bytes, ledger_in, no_lines}
+use Rattle.reh_inventory.specs.Inventories.{added_bytes, and_bytes, no_lines}
 use Rattle.reh_inventory.specs.declared.heads.Head.{Head}
 use Rattle.reh_inventory.specs.declared.ledgers.LedgerLine.{LedgerLine}
 use Rattle.reh_inventory_census.specs.Census.{ledger_line, ledger_lines}
 use Rattle.reh_inventory_plan.specs.Asked.{misses_member}
-use Rattle.reh_inventory_plan.specs.Lines.{AreOutcomes, GoesOn, IsOutcome, IsOutcomeOf, IsPlanning, missing_in}
+use Rattle.reh_inventory_plan.specs.Lines.{AreOutcomes, GoesOn, IsOutcomeOf, missing_in}
 use Rattle.reh_inventory_plan.specs.declared.asked.Asked.{Asked}
 use Rattle.reh_inventory_plan.specs.declared.ledgers.Outcome.{Outcome}
 use Rattle.reh_inventory_plan.specs.declared.planner.Planner.{Planner}

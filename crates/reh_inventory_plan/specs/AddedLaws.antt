@@ -1,5 +1,5 @@
 -- No line, and some lines and then others, lead from what was planned to what was planned then.
-use Rattle.std.proofs.Common.{◌∙◌, ◌≡◌, ℕ, ◌++◌, [], List, append-nil, append_assoc, refl, subst, sym}
+use Rattle.std.proofs.Common.{◌∙◌, ℕ, ◌++◌, [], List, append-nil, append_assoc, refl, subst, sym}
 use Rattle.std.specs.Prelude.{Result, IfOk}
 use Rattle.reh_inventory.specs.declared.heads.Head.{Head}
 use Rattle.reh_inventory_census.specs.declared.faults.CountFault.{CountFault}

@@ -1,5 +1,5 @@
 -- What is asked of an inventory's ledgers, and for which of them there is a plan.
-use Rattle.std.specs.Prelude.{ℕ, Bool, true, false, not, ◌&&◌, ◌||◌, ◌==◌, List, length, bytes_eq, position}
+use Rattle.std.specs.Prelude.{ℕ, Bool, false, not, ◌&&◌, ◌||◌, ◌==◌, List, length, bytes_eq, position}
 use Rattle.std.specs.List.{list_any}
 use Rattle.std.specs.Option.{is_some, option_map_or}
 use Rattle.reh_cut.specs.Cuts.{bookie_in}

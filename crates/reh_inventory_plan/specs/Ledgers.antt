@@ -62,9 +62,8 @@ pub record AreSums (line : LedgerLine) (p : Planned) (sums : PlannedLedger) : Ty
 -- The plan is for a picture that shows the ledger as its line does, with the bookies that the line names and some others of the
 -- first line; and this is what it comes to.
 pub record IsLedgerPlan (head : Head) (asked : Asked) (line : LedgerLine) (planned : PlannedLedger) : Type 0 where
-  pub others : List (List ℕ)
   pub part : Head
-  pub is_part : IsPart head line others part
+  pub is_part : IsPart head line part
   pub text : List ℕ
   pub cut : IsCut part (line ∷ []) asked.assume text
   pub plan : Planned

@@ -1,5 +1,5 @@
 -- What plans for the ledgers of an inventory come to, in words.
-use Rattle.std.specs.Prelude.{ℕ, Bool, true, false, List, [], ◌∷◌, ◌++◌, ◌==◌, codes, count_by, flat_map, length, if◌then◌else◌}
+use Rattle.std.specs.Prelude.{ℕ, List, [], ◌∷◌, ◌++◌, ◌==◌, codes, count_by, flat_map, if◌then◌else◌}
 use Rattle.std.specs.Fmt.{decimal}
 use Rattle.reh_commands.specs.Texts.{spaced}
 use Rattle.reh_inventory.specs.declared.heads.Bookie.{Bookie}

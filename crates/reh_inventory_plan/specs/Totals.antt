@@ -1,14 +1,10 @@
 -- What plans for the ledgers of an inventory come to together. Numbers are added up to 2^64 - 1.
-use Rattle.std.specs.Prelude.{ℕ, ◌+◌, ◌*◌, ◌/◌, ◌==◌, ◌&&◌, min, nat_le, Bool, true, false, not, List, [], ◌∷◌, ◌++◌, codes, count_by, flat_map, fold, length, map}
+use Rattle.std.specs.Prelude.{ℕ, ◌+◌, ◌*◌, ◌/◌, ◌==◌, ◌&&◌, min, nat_le, Bool, true, false, not, List, codes, count_by, fold, length, map}
 use Rattle.std.specs.Prelude.{Option, None, Some, bytes_eq, if◌then◌else◌}
 use Rattle.std.specs.List.{list_any}
 use Rattle.std.specs.Option.{is_none}
-use Rattle.std.specs.Fmt.{decimal}
-use Rattle.reh_commands.specs.Texts.{spaced}
-use Rattle.reh_inventory.specs.declared.heads.Bookie.{Bookie}
-use Rattle.reh_plan.specs.Reasons.{kind_of, kinds, reason_text}
+use Rattle.reh_plan.specs.Reasons.{kind_of}
 use Rattle.reh_plan.specs.declared.reasons.Left.{Left}
-use Rattle.reh_inventory_plan.specs.Faults.{unplanned_text}
 use Rattle.reh_inventory_plan.specs.declared.faults.Unplanned.{Unplanned}
 use Rattle.reh_inventory_plan.specs.declared.faults.Unplanned.TheVariants.{NoMemory, NoPicture, NoPlan}
 use Rattle.reh_inventory_plan.specs.declared.inventories.InventoryPlan.{InventoryPlan}

@@ -8,9 +8,8 @@ use crate::faults::Unplanned;
 use crate::parts::part_of;
 use crate::pictures::plan_picture;
 use crate::tails::{is_empty_in, is_short_in};
-use reh_census_file::NameList;
 use reh_cluster::Names;
-use reh_cut::cut;
+use reh_cut::{Others, cut_with};
 use reh_inventory::{Head, LedgerLine, LedgerState, Name};
 use reh_plan::{Left, Planned, Share};
 use reh_types::LedgerId;
@@ -64,19 +63,19 @@ pub enum Outcome {
     Unplanned(u64, Unplanned),
 }
 
-/// The plan for a ledger, in which these other bookies may take part.
+/// The plan for a ledger, in which other bookies of these numbers may take part. Of those that do as well the first takes a place.
 pub(crate) fn plan_ledger(
     alloc: Global,
     head: &Head,
     asked: &Asked,
     line: LedgerLine,
-    others: &NameList,
+    others: &[usize],
 ) -> Result<PlannedLedger, Unplanned>
     ensures { IfOk result (model.IsLedgerPlan head.now asked.now line) }
 {
     let lines = [line];
     let part = part_of(alloc, head, &lines[0], others)?;
-    let text = cut(alloc, &part, &lines, asked.assume)?;
+    let text = cut_with(alloc, &part, &lines, asked.assume, Others::AsListed)?;
     let planned = plan_picture(alloc, asked, text.as_bytes())?;
     let sums = sums_of(alloc, &lines[0], planned)?;
     Ok(sums)

@@ -28,28 +28,29 @@ impl Takers {
         Ok(Takers { numbers, given })
     }
 
-    /// The bookies that are offered the places of this ledger: for each missing member of one ensemble one, and as many of each
-    /// further rack. They follow one another from one on that the ledger's id gives: of two the one that was given less.
+    /// The bookies that are offered the places of this ledger, by their numbers, the one that takes a place first coming first:
+    /// as many as there are missing members of one ensemble, of each rack. They follow one another from one on that the
+    /// ledger's id gives: of two the one that was given less.
     pub(crate) fn others_for(
         &self,
         alloc: Global,
         head: &Head,
         lost: &NameList,
         line: &LedgerLine,
-    ) -> Result<NameList, AllocError> {
+    ) -> Result<Vec<usize>, AllocError> {
         let most = most_missing(head, lost, line);
         let start = self.start_for(line.id);
-        let mut others = NameList::new(alloc);
+        let mut others = Vec::new(alloc);
         let mut racks = Vec::new(alloc);
         for step in 0..self.numbers.len() {
-            let Some(bookie) = self.taker(head, start, step) else {
+            let Some((number, bookie)) = self.taker(head, start, step) else {
                 continue;
             };
             if others.len() < MAX_BOOKIES
                 && !names_bookie(line, bookie.name.as_str())
                 && count_of(&racks, &bookie.rack) < most
             {
-                others.add(bookie.name.as_str())?;
+                others.push(number)?;
                 racks.push(&bookie.rack)?;
             }
         }
@@ -79,14 +80,14 @@ impl Takers {
         }
     }
 
-    /// The one so many steps after that place, round and round.
-    fn taker<'a>(&self, head: &'a Head, start: usize, step: usize) -> Option<&'a Bookie> {
+    /// The one so many steps after that place, round and round, with its number.
+    fn taker<'a>(&self, head: &'a Head, start: usize, step: usize) -> Option<(usize, &'a Bookie)> {
         let count = self.numbers.len();
         if count == 0 {
             return None;
         }
-        let place = start.wrapping_add(step) % count;
-        head.bookies.as_slice().get(*self.numbers.get(place)?)
+        let number = *self.numbers.get(start.wrapping_add(step) % count)?;
+        Some((number, head.bookies.as_slice().get(number)?))
     }
 
     /// Notes that the bookie of this name was given so many entries.

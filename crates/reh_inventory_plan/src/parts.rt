@@ -1,24 +1,25 @@
 // The bookies of an inventory that take part in the plan for one of its ledgers.
-ghost use Rattle.std.specs.Prelude.{◌≡◌, ◌++◌, ◌∷◌, [], IfOk, OnOk};
-ghost use Rattle.std.specs.List.{filter};
+ghost use Rattle.std.specs.Prelude.{◌≡◌, ◌++◌, ◌∷◌, [], All, Contains, IfOk, IfSome, OnOk};
 ghost use Rattle.reh_inventory_plan.specs.Parts as model;
 
-use crate::asked::is_among;
-use reh_census_file::NameList;
 use reh_cut::names_bookie;
 use reh_inventory::{Bookie, BookieList, Head, LedgerLine, Name};
 use std::alloc::{AllocError, Global};
 
-/// The first line with those bookies alone that the ledger's line names, and with these others.
+/// The first line with those of its bookies alone that the ledger's line names, and then with others of it, by their numbers
+/// there.
 pub(crate) fn part_of(
     alloc: Global,
     head: &Head,
     line: &LedgerLine,
-    others: &NameList,
+    others: &[usize],
 ) -> Result<Head, AllocError>
-    ensures { IfOk result (model.IsPart head.now line.now others.now) }
+    ensures { IfOk result (model.IsPart head.now line.now) }
 {
-    let bookies = bookies_of(alloc, head.bookies.as_slice(), line, others)?;
+    let all = head.bookies.as_slice();
+    let named = named_in(alloc, line, all)?;
+    let others = others_in(alloc, all, others)?;
+    let bookies = joined(named, others)?;
     Ok(Head {
         taken: None,
         grace: head.grace,
@@ -28,30 +29,50 @@ pub(crate) fn part_of(
     })
 }
 
-/// Those of these bookies.
-fn bookies_of(
-    alloc: Global,
-    bookies: &[Bookie],
-    line: &LedgerLine,
-    others: &NameList,
-) -> Result<Vec<Bookie>, AllocError>
-    ensures { IfOk result (λ part. part.items ≡ filter (model.takes_part line.now others.now) bookies.now) }
+/// Those of these bookies that the ledger's line names.
+fn named_in(alloc: Global, line: &LedgerLine, all: &[Bookie]) -> Result<Vec<Bookie>, AllocError>
+    ensures { IfOk result (λ named. named.items ≡ model.named_in line.now all.now) }
 {
-    let mut part = Vec::new(alloc);
-    for bookie in bookies {
-        if takes_part(line, others, bookie) {
-            push_copy(alloc, &mut part, bookie)?;
+    let mut named = Vec::new(alloc);
+    for bookie in all {
+        if names_bookie(line, bookie.name.as_str()) {
+            push_copy(alloc, &mut named, bookie)?;
         }
     }
-    Ok(part)
+    Ok(named)
 }
 
-/// Whether the ledger's line names the bookie, or it is one of these others.
-fn takes_part(line: &LedgerLine, others: &NameList, bookie: &Bookie) -> bool
-    ensures { result ≡ model.takes_part line.now others.now bookie.now }
+/// Those of these bookies that have these numbers.
+fn others_in(alloc: Global, all: &[Bookie], numbers: &[usize]) -> Result<Vec<Bookie>, AllocError>
+    ensures { IfOk result (λ others. All (Contains all.now) others.items) }
 {
-    let name = bookie.name.as_str();
-    names_bookie(line, name) || is_among(others, name)
+    let mut others = Vec::new(alloc);
+    for number in numbers {
+        if let Some(bookie) = bookie_at(alloc, all, *number)? {
+            others.push(bookie)?;
+        }
+    }
+    Ok(others)
+}
+
+/// The same bookie as the one of that number, if there is one.
+fn bookie_at(alloc: Global, all: &[Bookie], number: usize) -> Result<Option<Bookie>, AllocError>
+    ensures { IfOk result (λ bookie. IfSome bookie (Contains all.now)) }
+{
+    match all.get(number) {
+        Some(bookie) => Ok(Some(copy_of(alloc, bookie)?)),
+        None => Ok(None),
+    }
+}
+
+/// These bookies, and then others.
+fn joined(mut bookies: Vec<Bookie>, others: Vec<Bookie>) -> Result<Vec<Bookie>, AllocError>
+    ensures { IfOk result (λ all. all.items ≡ bookies.items ++ others.items) }
+{
+    for other in others {
+        bookies.push(other)?;
+    }
+    Ok(bookies)
 }
 
 /// Adds the same bookie.

@@ -7,7 +7,6 @@ pub returns : goal.returns
 returns c =
     let planned = c.in_ok-planned.planned in
     record {
-      others = c.args.others.now;
       part = c.in_ok-part.part;
       is_part = c.in_ok-part.ensures;
       text = string_bytes c.in_ok-text.text;

@@ -1,6 +1,6 @@
 -- The plan is for what the picture shows.
 use Rattle.std.proofs.Common.{subst, List}
-use Rattle.std.specs.Prelude.{IfOk, Result, Ok, Err}
+use Rattle.std.specs.Prelude.{IfOk, Ok, Err}
 use Rattle.reh_model.specs.Cluster.{Cluster}
 use Rattle.reh_picture.specs.Marks.{BookieMarks}
 use Rattle.reh_inventory_plan.specs.Pictures.{IsPicturePlan, IsPlanAsked}

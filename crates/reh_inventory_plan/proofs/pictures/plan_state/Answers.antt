@@ -1,6 +1,6 @@
 -- The plan is for what is asked of the bookies.
 use Rattle.std.proofs.Common.{subst, ℕ, List}
-use Rattle.std.specs.Prelude.{IfOk, Result, Ok, Err}
+use Rattle.std.specs.Prelude.{IfOk, Ok, Err}
 use Rattle.reh_inventory_plan.specs.Pictures.{IsPartOf, IsPlan, IsPlanAsked}
 use Rattle.reh_inventory_plan.specs.declared.pictures.Part.{Part}
 use Rattle.reh_inventory_plan.proofs.pictures.plan_state.Goals as goal
