@@ -1,5 +1,5 @@
 -- What a plan for one ledger of an inventory comes to.
-use Rattle.std.specs.Prelude.{◌≡◌, ℕ, Bool, true, false, ◌==◌, ◌&&◌, not, List, [], ◌∷◌, Option, None, Some, length, map, slice_get, unwrap_or}
+use Rattle.std.specs.Prelude.{◌≡◌, ℕ, Bool, true, false, ◌==◌, ◌&&◌, not, List, [], ◌∷◌, Option, None, Some, length, map, slice_get, string_bytes, unwrap_or}
 use Rattle.std.specs.List.{filter}
 use Rattle.std.specs.Option.{option_map_or}
 use Rattle.reh_model.specs.Cluster.{ledger_at}
@@ -8,12 +8,14 @@ use Rattle.reh_inventory.specs.declared.heads.Head.{Head}
 use Rattle.reh_inventory.specs.declared.ledgers.LedgerLine.{LedgerLine}
 use Rattle.reh_inventory.specs.declared.ledgers.LedgerState.{LedgerState}
 use Rattle.reh_inventory.specs.declared.ledgers.LedgerState.TheVariants as state
+use Rattle.reh_lines.specs.Lines.{lines_of}
 use Rattle.reh_plan.specs.declared.planning.Planned.{Planned}
 use Rattle.reh_plan.specs.declared.summaries.Share.{Share}
 use Rattle.reh_inventory_plan.specs.Parts.{IsPart}
 use Rattle.reh_inventory_plan.specs.Pictures.{IsPicturePlan}
 use Rattle.reh_inventory_plan.specs.Tails.{is_closed_empty, is_closed_short}
 use Rattle.reh_inventory_plan.specs.declared.asked.Asked.{Asked}
+use Rattle.reh_inventory_plan.specs.declared.ledgers.LedgerFiles.{LedgerFiles}
 use Rattle.reh_inventory_plan.specs.declared.ledgers.NamedShare.{NamedShare}
 use Rattle.reh_inventory_plan.specs.declared.ledgers.PlannedLedger.{PlannedLedger}
 use Rattle.reh_inventory_plan.specs.declared.ledgers.Size.{Size}
@@ -59,6 +61,12 @@ pub record AreSums (line : LedgerLine) (p : Planned) (sums : PlannedLedger) : Ty
   pub short : sums.is_closed_short
       ≡ (not (is_closed line.state) && option_map_or (is_closed_short p.plan.state) (ledger_at p.plan.state line.id) false)
 
+-- the picture and the lines of the script, if they are kept
+abbrev pub AreFiles : Bool → List ℕ → List (List ℕ) → Option LedgerFiles → Type 0
+AreFiles true text lines (Some files) = (string_bytes files.picture ≡ text) × (lines_of files.script.items ≡ lines)
+AreFiles false text lines None = Unit {0}
+AreFiles keeps text lines other = ⊥
+
 -- The plan is for a picture that shows the ledger as its line does, with the bookies that the line names and some others of the
 -- first line; and this is what it comes to.
 pub record IsLedgerPlan (head : Head) (asked : Asked) (line : LedgerLine) (planned : PlannedLedger) : Type 0 where
@@ -69,3 +77,4 @@ pub record IsLedgerPlan (head : Head) (asked : Asked) (line : LedgerLine) (plann
   pub plan : Planned
   pub is_plan : IsPicturePlan asked text plan
   pub sums : AreSums line plan planned
+  pub files : AreFiles asked.keeps_files text plan.plan.lines planned.files

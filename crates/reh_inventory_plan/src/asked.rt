@@ -19,6 +19,8 @@ pub struct Asked {
     pub assume: Assume,
     /// Whether writers put other bookies into their ensembles themselves.
     pub writers_roll: bool,
+    /// Whether pictures and scripts are kept.
+    pub keeps_files: bool,
 }
 
 /// Whether the name is one of these.

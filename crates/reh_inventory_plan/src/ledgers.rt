@@ -1,5 +1,5 @@
 // What the plan for one ledger comes to.
-ghost use Rattle.std.specs.Prelude.{◌≡◌, ◌∷◌, [], map, IfOk};
+ghost use Rattle.std.specs.Prelude.{◌≡◌, ◌∷◌, [], map, string_bytes, IfOk};
 ghost use Rattle.std.specs.List.{filter};
 ghost use Rattle.reh_inventory_plan.specs.Ledgers as model;
 
@@ -11,7 +11,7 @@ use crate::tails::{is_empty_in, is_short_in};
 use reh_cluster::Names;
 use reh_cut::{Others, cut_with};
 use reh_inventory::{Head, LedgerLine, LedgerState, Name};
-use reh_plan::{Left, Planned, Share};
+use reh_plan::{Left, Plan, Planned, Share};
 use reh_types::LedgerId;
 use std::alloc::{AllocError, Global};
 
@@ -45,6 +45,15 @@ pub struct PlannedLedger {
     pub is_closed_empty: bool,
     /// Whether the plan closes it before an entry that some bookie holds.
     pub is_closed_short: bool,
+    /// The picture and the script, if they are kept.
+    pub files: Option<LedgerFiles>,
+}
+
+/// The picture of a ledger, and the script of the plan for it.
+#[derive(Drop)]
+pub struct LedgerFiles {
+    pub picture: String,
+    pub script: Vec<u8>,
 }
 
 /// How many bytes a closed ledger has, and how many entries.
@@ -77,13 +86,39 @@ pub(crate) fn plan_ledger(
     let part = part_of(alloc, head, &lines[0], others)?;
     let text = cut_with(alloc, &part, &lines, asked.assume, Others::AsListed)?;
     let planned = plan_picture(alloc, asked, text.as_bytes())?;
-    let sums = sums_of(alloc, &lines[0], planned)?;
+    let files = files_of(alloc, asked.keeps_files, text, &planned.plan)?;
+    let sums = sums_of(alloc, &lines[0], planned, files)?;
     Ok(sums)
 }
 
+/// The picture of this text and the script of the plan, if they are kept.
+fn files_of(
+    alloc: Global,
+    keeps: bool,
+    text: String,
+    plan: &Plan,
+) -> Result<Option<LedgerFiles>, AllocError>
+    ensures { IfOk result (model.AreFiles keeps (string_bytes text) plan.now.lines) }
+{
+    if !keeps {
+        return Ok(None);
+    }
+    let script = Vec::from_slice(alloc, plan.text())?;
+    Ok(Some(LedgerFiles {
+        picture: text,
+        script,
+    }))
+}
+
 /// What the plan for the ledger of this line comes to.
-fn sums_of(alloc: Global, line: &LedgerLine, planned: Planned) -> Result<PlannedLedger, AllocError>
-    ensures { IfOk result (model.AreSums line.now planned) }
+fn sums_of(
+    alloc: Global,
+    line: &LedgerLine,
+    planned: Planned,
+    files: Option<LedgerFiles>,
+) -> Result<PlannedLedger, AllocError>
+    ensures sums { IfOk result (model.AreSums line.now planned) }
+    ensures files { IfOk result (λ sums. sums.files ≡ files) }
 {
     let Planned {
         plan,
@@ -105,6 +140,7 @@ fn sums_of(alloc: Global, line: &LedgerLine, planned: Planned) -> Result<Planned
         fewer: fewer.len(),
         is_closed_empty: !was_closed && is_empty_in(state, ledger),
         is_closed_short: !was_closed && is_short_in(state, ledger),
+        files,
     })
 }
 

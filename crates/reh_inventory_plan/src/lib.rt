@@ -18,7 +18,7 @@ mod totals;
 pub use asked::Asked;
 pub use faults::Unplanned;
 pub use inventories::{InventoryPlan, plan_lines};
-pub use ledgers::{NamedShare, Outcome, PlannedLedger, Size};
+pub use ledgers::{LedgerFiles, NamedShare, Outcome, PlannedLedger, Size};
 pub use objects::plans_json;
 pub use tails::{Tails, add_unclosed, tails_of};
 pub use texts::plans_text;
