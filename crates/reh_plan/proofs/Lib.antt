@@ -8,6 +8,8 @@ pub mod PlannedLaws
 pub mod NamesLaws
 pub mod FilledLaws
 pub mod TakerLaws
+pub mod ChoiceLaws
+pub mod MemberLaws
 pub mod SummaryLaws
 pub mod EndLaws
 pub mod RacksLaws

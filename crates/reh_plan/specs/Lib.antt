@@ -2,6 +2,7 @@ pub mod Plans
 pub mod Replies
 pub mod Workers
 pub mod Takers
+pub mod Choices
 pub mod Ends
 pub mod Faults
 pub mod Needed

@@ -245,7 +245,7 @@ fn repair_all(
 /// Says that the script is full, if something is left that could be done, and names each ledger with which something is left.
 /// Returns these ledgers, and why.
 fn tell_all(alloc: Global, plan: &mut Plan, workers: &Workers) -> Result<Vec<Left>, PlanFault>
-    ensures { IfOk result (λ left. Tells workers.now plan.old left.items plan.new) }
+    ensures { IfOk result (λ left. Tells workers.now.rules plan.old left.items plan.new) }
 {
     let full = is_cut_off(plan, workers)?;
     let left = left_in(alloc, plan.state(), workers, full)?;
@@ -347,8 +347,8 @@ fn ticks_to_publish(state: &State) -> u64 {
 
 /// Has the writers of all open ledgers put other bookies in the place of missing members, where writers do so.
 fn roll_all(plan: &mut Plan, workers: &mut Workers) -> Result<(), PlanFault>
-    ensures works { Works workers.old plan.old plan.new }
-    ensures workers { workers.new ≡ workers.old }
+    ensures works { Works workers.old.rules plan.old plan.new }
+    ensures rules { workers.new.rules ≡ workers.old.rules }
 {
     if !workers.do_writers_roll() {
         return Ok(());
@@ -365,7 +365,7 @@ fn roll_all(plan: &mut Plan, workers: &mut Workers) -> Result<(), PlanFault>
 /// Grants a grace to the writers of all open ledgers that need another bookie, and waits until it is over. Where writers put
 /// other bookies into their ensembles themselves, nothing happens.
 fn grant_all(plan: &mut Plan, workers: &Workers) -> Result<(), PlanFault>
-    ensures { Works workers.now plan.old plan.new }
+    ensures { Works workers.now.rules plan.old plan.new }
 {
     if workers.do_writers_roll() {
         return Ok(());
@@ -394,8 +394,8 @@ fn ticks_to_fence(state: &State) -> u64 {
 
 /// Does what can be done for each ledger with a task, in picture order.
 fn work_all(alloc: Global, plan: &mut Plan, workers: &mut Workers) -> Result<(), PlanFault>
-    ensures works { Works workers.old plan.old plan.new }
-    ensures workers { workers.new ≡ workers.old }
+    ensures works { Works workers.old.rules plan.old plan.new }
+    ensures rules { workers.new.rules ≡ workers.old.rules }
 {
     for place in 0..plan.state().ledgers().len() {
         work_at(alloc, plan, workers, place)?;
@@ -410,8 +410,8 @@ fn work_at(
     workers: &mut Workers,
     place: usize,
 ) -> Result<(), PlanFault>
-    ensures works { Works workers.old plan.old plan.new }
-    ensures workers { workers.new ≡ workers.old }
+    ensures works { Works workers.old.rules plan.old plan.new }
+    ensures rules { workers.new.rules ≡ workers.old.rules }
 {
     let Some(repair) = repair_at(plan.state(), place) else {
         return Ok(());

@@ -177,7 +177,7 @@ impl Plan {
     pub(crate) fn check_takers(&mut self, workers: &Workers, racks: &Racks) -> Result<(), PlanFault>
         ensures same { self.new ≡ self.old }
         ensures taken { OnOk result
-            (AreWellTaken (may_work workers.now) racks.now self.old.opening self.old.events) }
+            (AreWellTaken (may_work workers.now.rules) racks.now self.old.opening self.old.events) }
     {
         if are_well_taken(&mut self.session, workers, racks) {
             Ok(())

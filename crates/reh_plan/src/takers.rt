@@ -1,7 +1,6 @@
 // Whether each place of a plan goes to a bookie with which the fewest write sets lack racks.
-ghost use Rattle.std.specs.Prelude.{◌≡◌, ◌++◌, ◌-◌, [], length, take, slice_get, IsTrue};
-ghost use Rattle.std.specs.Option.{option_map_or};
-ghost use Rattle.reh_plan.specs.Racks.{lacking};
+ghost use Rattle.std.specs.Prelude.{◌≡◌, ◌++◌, ◌-◌, [], length, take, IsTrue};
+ghost use Rattle.reh_plan.specs.Racks.{lacking_at};
 ghost use Rattle.reh_plan.specs.Takers as model;
 ghost use Rattle.reh_plan.specs.Workers.{may_work};
 
@@ -9,7 +8,6 @@ use crate::ends::aim_at;
 use crate::racks::Racks;
 use crate::workers::Workers;
 use reh_cluster::{Ledger, State};
-use reh_meta::Fragment;
 use reh_session::Session;
 use reh_types::{Aim, BookieIx, Event};
 
@@ -20,7 +18,7 @@ pub(crate) fn are_well_taken(session: &mut Session, workers: &Workers, racks: &R
     ensures opening { session.new.opening ≡ session.old.opening }
     ensures done { session.new.done ≡ session.old.done }
     ensures taken { IsTrue result
-        → model.AreWellTaken (may_work workers.now) racks.now session.old.opening session.old.done }
+        → model.AreWellTaken (may_work workers.now.rules) racks.now session.old.opening session.old.done }
 {
     let count = session.done().len();
     undo_all(session);
@@ -48,8 +46,8 @@ fn undo_all(session: &mut Session)
 /// Whether a place that is taken by the next event that is undone, if there is one, goes to such a bookie.
 fn is_next_well_taken(session: &Session, workers: &Workers, racks: &Racks) -> bool
     ensures { IsTrue result
-        → model.AreWellTaken (may_work workers.now) racks.now session.now.opening session.now.done
-        → model.AreWellTaken (may_work workers.now) racks.now session.now.opening
+        → model.AreWellTaken (may_work workers.now.rules) racks.now session.now.opening session.now.done
+        → model.AreWellTaken (may_work workers.now.rules) racks.now session.now.opening
         (session.now.done ++ take 1 session.now.undone) }
 {
     let state = session.state();
@@ -61,7 +59,7 @@ fn is_next_well_taken(session: &Session, workers: &Workers, racks: &Racks) -> bo
 
 /// Whether a place that is taken by the event goes to such a bookie.
 fn is_well_taken(state: &State, workers: &Workers, racks: &Racks, event: &Event) -> bool
-    ensures { IsTrue result → model.IsWellTaken (may_work workers.now) racks.now state.now event.now }
+    ensures { IsTrue result → model.IsWellTaken (may_work workers.now.rules) racks.now state.now event.now }
 {
     match event {
         Event::Swap {
@@ -101,7 +99,7 @@ fn last_number(ledger: &Ledger) -> usize
 
 /// Whether with the worker of the aim no more write sets lack racks than with any other bookie that could take the place.
 fn lacks_least(state: &State, workers: &Workers, racks: &Racks, ledger: &Ledger, aim: &Aim) -> bool
-    ensures { IsTrue result → model.LacksLeastAt (may_work workers.now) racks.now state.now ledger.now
+    ensures { IsTrue result → model.LacksLeastAt (may_work workers.now.rules) racks.now state.now ledger.now
         aim.now.fragment aim.now.index aim.now.worker }
 {
     let Some(fragment) = ledger.metadata().fragments().get(aim.fragment as usize) else {
@@ -113,7 +111,7 @@ fn lacks_least(state: &State, workers: &Workers, racks: &Racks, ledger: &Ledger,
     }
     for number in 0..state.names().len() as u8 {
         let other = BookieIx(number);
-        if could_take(state, workers, fragment, other)
+        if workers.could_take(state, fragment, other)
             && lacking_with(racks, ledger, aim, other) < least
         {
             return false;
@@ -124,8 +122,7 @@ fn lacks_least(state: &State, workers: &Workers, racks: &Racks, ledger: &Ledger,
 
 /// How many write sets would lack racks, with that bookie at the place of the aim.
 fn lacking_with(racks: &Racks, ledger: &Ledger, aim: &Aim, bookie: BookieIx) -> usize
-    ensures { result ≡ option_map_or (λ f. lacking racks.now ledger.now.metadata f aim.now.index bookie)
-        (slice_get ledger.now.metadata.fragments aim.now.fragment) 0 }
+    ensures { result ≡ lacking_at racks.now ledger.now.metadata aim.now.fragment aim.now.index bookie }
 {
     racks.lacking(
         ledger.metadata(),
@@ -133,11 +130,4 @@ fn lacking_with(racks: &Racks, ledger: &Ledger, aim: &Aim, bookie: BookieIx) -> 
         aim.index as usize,
         bookie,
     )
-}
-
-/// Whether the bookie could take a place of the fragment: it may work, is registered, and is no member.
-fn could_take(state: &State, workers: &Workers, fragment: &Fragment, bookie: BookieIx) -> bool
-    ensures { result ≡ model.could_take (may_work workers.now) state.now fragment.now bookie }
-{
-    workers.is_able(bookie) && state.is_up(bookie) && !fragment.ensemble.contains(&bookie)
 }

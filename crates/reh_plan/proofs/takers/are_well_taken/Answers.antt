@@ -23,7 +23,7 @@ returns-clause-taken c = λ are.
     same_done m c.args.session.now c.loop-session.invariant.all
     (omega (arith, now, c.loop-session-test.false, c.loop-session.invariant.few, c.loop-session.invariant.count)) in
     subst
-    (λ (s : Cluster). AreWellTaken (may_work c.args.workers.now) c.args.racks.now s c.args.session.now.done)
+    (λ (s : Cluster). AreWellTaken (may_work c.args.workers.now.rules) c.args.racks.now s c.args.session.now.done)
     c.loop-session.invariant.opening
-    (subst (λ (es : List Event). AreWellTaken (may_work c.args.workers.now) c.args.racks.now m.opening es) same
+    (subst (λ (es : List Event). AreWellTaken (may_work c.args.workers.now.rules) c.args.racks.now m.opening es) same
     (c.loop-session.invariant.taken are))

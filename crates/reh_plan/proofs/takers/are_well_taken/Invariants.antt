@@ -12,7 +12,7 @@ invariant-loop-session l = record {
   all : all_events l.session ≡ all_events l.fn.session;
   few : length l.session.done ≤ length l.fn.session.done;
   count : l.count ≡ length l.fn.session.done;
-  taken : IsTrue l.are → AreWellTaken (may_work l.workers) l.racks l.session.opening l.session.done;
+  taken : IsTrue l.are → AreWellTaken (may_work l.workers.rules) l.racks l.session.opening l.session.done;
 }
 
 abbrev pub decreases-loop-session : goal.decreases-loop-session

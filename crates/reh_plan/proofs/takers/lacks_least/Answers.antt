@@ -22,7 +22,7 @@ loop-number-preserved c =
     ∙ slice_get-there c.fragments.result.now c.args.aim.now.fragment f c.in-Some.ensures.lookup.3.0
     c.in-Some.ensures.lookup.1 in
     passed_more
-    (λ b. IsTrue (could_take (may_work c.args.workers.now) s f b)
+    (λ b. IsTrue (could_take (may_work c.args.workers.now.rules) s f b)
     → c.lacking_with-least.result ≤ lacking c.args.racks.now g.metadata f c.args.aim.now.index b)
     k c.loop-number.invariant
     (elim c.else-could_take.branch [
@@ -49,8 +49,8 @@ returns c = λ _.
     lacking_there c.args.racks.now g.metadata c.args.aim.now.fragment c.args.aim.now.index b c.lacking_with-least.result f
     there c.lacking_with-least.ensures in
     let names : length c.names.result.now ≡ length s.names = ap length c.names.ensures.names in
-    least_at (may_work c.args.workers.now) c.args.racks.now s g c.args.aim.now.fragment c.args.aim.now.index b f there
-    (least_of_named (may_work c.args.workers.now) c.args.racks.now s g.metadata f c.args.aim.now.index b
+    least_at (may_work c.args.workers.now.rules) c.args.racks.now s g c.args.aim.now.fragment c.args.aim.now.index b f there
+    (least_of_named (may_work c.args.workers.now.rules) c.args.racks.now s g.metadata f c.args.aim.now.index b
     c.names.ensures.well_formed
     (λ other named could.
     subst (λ n. n ≤ lacking c.args.racks.now g.metadata f c.args.aim.now.index other) is

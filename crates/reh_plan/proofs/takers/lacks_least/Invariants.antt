@@ -8,5 +8,5 @@ use Rattle.reh_plan.proofs.takers.lacks_least.Given as goal
 
 abbrev pub invariant-loop-number : goal.invariant-loop-number
 invariant-loop-number l =
-    (b : ℕ) → b < l.number → IsTrue (could_take (may_work l.workers) l.state l.fragment b)
+    (b : ℕ) → b < l.number → IsTrue (could_take (may_work l.workers.rules) l.state l.fragment b)
     → l.least ≤ lacking l.racks l.ledger.metadata l.fragment l.aim.index b
