@@ -86,9 +86,9 @@ impl Workers {
         })
     }
 
-    /// Who takes the place at the index of a fragment. Of the bookies that could take it it is the one with which the fewest
-    /// write sets lack racks; of several such the one that has the ledger's lock, else one that is in no ensemble of the
-    /// ledger, of several such the one that holds least, and of several such the first of the picture.
+    /// Who takes the place at the index of a fragment: of the bookies that could, the one with which the fewest write sets
+    /// lack racks; of several the one that has the ledger's lock, else one in no ensemble of the ledger, then the one that
+    /// holds least, and then the first of the picture.
     pub(crate) fn choose(
         &self,
         state: &State,
