@@ -22,7 +22,7 @@ use Rattle.reh_plan.specs.Plans.{GoesOnBy, is_filled_by, is_work_by, loss_of, lo
 use Rattle.reh_plan.specs.Workers.{Rules, can_work, may_work}
 use Rattle.reh_plan.proofs.PlanLaws.{both_true, first_true, lost_at-after}
 
-second_true : (a b : Bool) → (a && b) ≡ true → b ≡ true
+pub second_true : (a b : Bool) → (a && b) ≡ true → b ≡ true
 second_true true b both = both
 second_true false b both = cc
 

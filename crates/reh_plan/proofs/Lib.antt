@@ -7,6 +7,9 @@ pub mod RollLaws
 pub mod PlannedLaws
 pub mod NamesLaws
 pub mod FilledLaws
+pub mod TakerLaws
+pub mod ChoiceLaws
+pub mod MemberLaws
 pub mod SummaryLaws
 pub mod EndLaws
 pub mod RacksLaws

@@ -12,9 +12,10 @@ use Rattle.reh_commands.specs.Answers.{asked}
 use Rattle.reh_plan.specs.Ends.{Ends, IsDone, IsFull, IsHarmless, full_line, says_full}
 use Rattle.reh_plan.specs.Needed.{AreNeeded, are_used}
 use Rattle.reh_plan.specs.Plans.{AllLeft, AllNamed, AreLeft, Draft, GoesOnBy, IsWithout, IsLeftFor, IsLeftLine, IsNaming, IsPlayed, IsRepaired, Loses, OnlyLeft, Tells, comment_of, is_all_asked, is_left, left_ids, losses_of, with_full}
-use Rattle.reh_plan.specs.Racks.{lines_before, racks_line}
+use Rattle.reh_plan.specs.Racks.{Racks, lines_before, racks_line}
 use Rattle.reh_plan.specs.Summaries.{left_of}
-use Rattle.reh_plan.specs.Workers.{Rules}
+use Rattle.reh_plan.specs.Takers.{AreWellTaken}
+use Rattle.reh_plan.specs.Workers.{Rules, may_work}
 use Rattle.reh_plan.specs.declared.fewer.FewerRacks.{FewerRacks}
 use Rattle.reh_plan.proofs.FewerLaws.{before-told}
 use Rattle.reh_plan.specs.declared.reasons.Left.{Left}
@@ -51,6 +52,19 @@ full_events false d = refl
 -- comments leave the cluster on which the plan begins
 pub tells_opening : (rules : Rules) (d : Draft) (left : List Left) (n : Draft) → Tells rules d left n → n.opening ≡ d.opening
 tells_opening rules d left n tells = ap (λ (x : Draft). x.opening) tells.naming.told ∙ full_opening tells.full d
+
+-- and its events
+tells_events : (rules : Rules) (d : Draft) (left : List Left) (n : Draft) → Tells rules d left n → n.events ≡ d.events
+tells_events rules d left n tells = ap (λ (x : Draft). x.events) tells.naming.told ∙ full_events tells.full d
+
+-- so that what was true of each place that is taken is still so
+pub taken-told : (rules : Rules) (r : Racks) (d w n : Draft) (left : List Left) → w ≡ d → Tells rules w left n
+    → AreWellTaken (may_work rules) r d.opening d.events → AreWellTaken (may_work rules) r n.opening n.events
+taken-told rules r d w n left same tells taken =
+    let opening : n.opening ≡ d.opening = tells_opening rules w left n tells ∙ ap (λ (x : Draft). x.opening) same in
+    let events : n.events ≡ d.events = tells_events rules w left n tells ∙ ap (λ (x : Draft). x.events) same in
+    subst (λ (s : Cluster). AreWellTaken (may_work rules) r s n.events) (sym opening)
+    (subst (λ (es : List Event). AreWellTaken (may_work rules) r d.opening es) (sym events) taken)
 
 -- of a plan of commands alone no line is without an answer, but the last one that may say that its script is full
 all_commands : (d : Draft) → is_all_asked d ≡ true → All (λ line. asked d.opening.names line ≡ None → line ≡ full_line) d.lines

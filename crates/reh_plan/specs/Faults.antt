@@ -6,4 +6,5 @@ use Rattle.reh_plan.specs.declared.faults.PlanFault.TheVariants.{NoMemory, NoRoo
 abbrev pub plan_fault_text : PlanFault → List ℕ
 plan_fault_text NoMemory = codes "no memory"
 plan_fault_text NoRoom = codes "the plan is too long for a script"
-plan_fault_text Unfinished = codes "the plan would leave something undone, or do something in vain"
+plan_fault_text Unfinished =
+    codes "the plan would leave something undone, do something in vain, or give a place to the wrong bookie"

@@ -1,6 +1,8 @@
 pub mod Plans
 pub mod Replies
 pub mod Workers
+pub mod Takers
+pub mod Choices
 pub mod Ends
 pub mod Faults
 pub mod Needed

@@ -94,6 +94,10 @@ lacking r m fragment i bookie =
     count_by (λ entry. nat_lt (racks_at r m (with_member fragment i bookie) entry) (min r.least m.write_quorum))
     (range 0 m.size)
 
+-- the same of the fragment of that number, 0 where there is none
+abbrev pub lacking_at : Racks → Metadata → ℕ → ℕ → ℕ → ℕ
+lacking_at r m f i bookie = option_map_or (λ fragment. lacking r m fragment i bookie) (slice_get m.fragments f) 0
+
 -- Comments
 
 -- a fragment of a ledger, if some write set may stand in fewer racks than before

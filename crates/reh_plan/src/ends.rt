@@ -53,7 +53,7 @@ fn taker(
     fragment: usize,
     index: usize,
 ) -> Option<BookieIx>
-    ensures none { (b : ℕ) → result ≡ None → IsTrue (may_work workers.now b)
+    ensures none { (b : ℕ) → result ≡ None → IsTrue (may_work workers.now.rules b)
         → no_place state.now b ledger.now fragment index ≢ None }
     ensures some { IfSome result (λ b. no_place state.now b ledger.now fragment index ≡ None) }
 {
@@ -91,7 +91,7 @@ fn can_fill(
     fragment: usize,
     index: usize,
 ) -> bool
-    ensures { IsFalse result → model.IsFilled (may_work workers.now) state.now ledger.now fragment index }
+    ensures { IsFalse result → model.IsFilled (may_work workers.now.rules) state.now ledger.now fragment index }
 {
     match taker(state, workers, ledger, fragment, index) {
         Some(worker) => is_fill_accepted(state, ledger, &aim_at(worker, ledger, fragment, index)),
@@ -101,7 +101,7 @@ fn can_fill(
 
 /// The same of some place of a fragment.
 fn can_fill_fragment(state: &State, workers: &Workers, ledger: &Ledger, fragment: usize) -> bool
-    ensures { IsFalse result → (i : ℕ) → model.IsFilled (may_work workers.now) state.now ledger.now fragment i }
+    ensures { IsFalse result → (i : ℕ) → model.IsFilled (may_work workers.now.rules) state.now ledger.now fragment i }
 {
     for index in 0..ledger.metadata().size() as usize {
         if can_fill(state, workers, ledger, fragment, index) {
@@ -113,7 +113,7 @@ fn can_fill_fragment(state: &State, workers: &Workers, ledger: &Ledger, fragment
 
 /// The same of some place of a ledger.
 fn can_fill_ledger(state: &State, workers: &Workers, ledger: &Ledger) -> bool
-    ensures { IsFalse result → model.AllFilled (may_work workers.now) state.now ledger.now }
+    ensures { IsFalse result → model.AllFilled (may_work workers.now.rules) state.now ledger.now }
 {
     for fragment in 0..ledger.metadata().fragments().len() {
         if can_fill_fragment(state, workers, ledger, fragment) {
@@ -188,7 +188,7 @@ pub(crate) fn check_harmless(state: &State, recovering: &[bool]) -> Result<(), P
 /// Whether a bookie that may work could be put into the ledger's last ensemble by its writer, if it has one; or else could
 /// recover it.
 fn can_settle(state: &State, workers: &Workers, ledger: &Ledger) -> bool
-    ensures { IsFalse result → model.IsSettled workers.now state.now ledger.now }
+    ensures { IsFalse result → model.IsSettled workers.now.rules state.now ledger.now }
 {
     if has_writer(workers, ledger) {
         can_roll(state, workers, ledger.id())
@@ -199,7 +199,7 @@ fn can_settle(state: &State, workers: &Workers, ledger: &Ledger) -> bool
 
 /// Whether the ledger has a writer that changes its ensemble itself.
 pub(crate) fn has_writer(workers: &Workers, ledger: &Ledger) -> bool
-    ensures { result ≡ model.has_writer workers.now ledger.now }
+    ensures { result ≡ model.has_writer workers.now.rules ledger.now }
 {
     workers.do_writers_roll() && is_open(ledger)
 }
@@ -218,8 +218,8 @@ pub(crate) fn is_open(ledger: &Ledger) -> bool
 /// Whether a ledger has a place that could be filled, could be recovered, or given a bookie by its writer, each by one that may
 /// work, is locked, or has a needless task.
 fn is_unfinished(state: &State, workers: &Workers, ledger: &Ledger) -> bool
-    ensures filled { IsFalse result → model.AllFilled (may_work workers.now) state.now ledger.now }
-    ensures settled { IsFalse result → model.IsSettled workers.now state.now ledger.now }
+    ensures filled { IsFalse result → model.AllFilled (may_work workers.now.rules) state.now ledger.now }
+    ensures settled { IsFalse result → model.IsSettled workers.now.rules state.now ledger.now }
     ensures unlocked { IsFalse result → is_some ledger.now.lock ≡ false }
     ensures needed { IsFalse result → model.is_needless state.now ledger.now ≡ false }
 {
@@ -231,7 +231,7 @@ fn is_unfinished(state: &State, workers: &Workers, ledger: &Ledger) -> bool
 
 /// Whether some ledger is unfinished.
 fn has_unfinished(state: &State, workers: &Workers) -> bool
-    ensures { IsFalse result → model.IsDone workers.now state.now }
+    ensures { IsFalse result → model.IsDone workers.now.rules state.now }
 {
     for ledger in state.ledgers() {
         if is_unfinished(state, workers, ledger) {
@@ -246,7 +246,7 @@ fn has_unfinished(state: &State, workers: &Workers) -> bool
 /// Where the script has room, that is a fault.
 pub(crate) fn is_cut_off(plan: &Plan, workers: &Workers) -> Result<bool, PlanFault>
     ensures full { IfOk result (λ cut_off. IsTrue cut_off → model.HasNoRoom plan.now.lines) }
-    ensures through { IfOk result (λ cut_off. IsFalse cut_off → IsThrough workers.now plan.now) }
+    ensures through { IfOk result (λ cut_off. IsFalse cut_off → IsThrough workers.now.rules plan.now) }
 {
     if !has_unfinished(plan.state(), workers) && are_used(plan.events()) {
         return Ok(false);

@@ -17,7 +17,8 @@ pub enum PlanFault {
     NoRoom,
     /// Its script has room, and it would leave a place that could be filled, a ledger that could be recovered or given a bookie
     /// by its writer, a lock, a task where nothing is missing, or a ledger without a reason; or it would have a command that
-    /// nothing needs. Or it would leave a ledger that it fenced and didn't recover.
+    /// nothing needs. Or it would leave a ledger that it fenced and didn't recover, or give a place to a bookie with which more
+    /// write sets lack racks than with another one.
     Unfinished,
 }
 
@@ -32,7 +33,7 @@ impl fmt::Display for PlanFault {
             PlanFault::NoMemory => "no memory",
             PlanFault::NoRoom => "the plan is too long for a script",
             PlanFault::Unfinished => {
-                "the plan would leave something undone, or do something in vain"
+                "the plan would leave something undone, do something in vain, or give a place to the wrong bookie"
             }
         })
     }

@@ -16,6 +16,7 @@ mod repairs;
 mod rolls;
 mod runbooks;
 mod summaries;
+mod takers;
 mod workers;
 
 pub use faults::PlanFault;

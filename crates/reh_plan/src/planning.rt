@@ -12,6 +12,7 @@ ghost use Rattle.reh_plan.specs.Ends.{Ends, IsHarmless};
 ghost use Rattle.reh_plan.specs.Needed.{AreNeeded};
 ghost use Rattle.reh_plan.specs.Summaries.{IsSum, holdings_of};
 ghost use Rattle.reh_plan.specs.Racks as model;
+ghost use Rattle.reh_plan.specs.Takers.{AreWellTaken};
 ghost use Rattle.reh_plan.specs.Workers.{Rules, can_work, may_work, rules_by};
 
 use crate::ends::{check_harmless, is_cut_off, recovering_in};
@@ -62,7 +63,8 @@ struct Told {
 /// are registered are lost, and after that there is nothing but AutoRecovery's work, by which no registration changes, and
 /// in which none but allowed bookies that aren't read-only lock tasks, recover ledgers, copy or take places; writers take
 /// part only with `writers_roll`, and then no ledger gets a grace or is fenced (`order`). Each bookie that copies entries or
-/// takes a place is registered, too (`filled`). In the end the lost bookies aren't registered, and all others are as they
+/// takes a place is registered, too (`filled`). Each place goes to a bookie with which no more write sets of the fragment lack
+/// racks than with any other that may work, is registered and is no member then (`places`). In the end the lost bookies aren't registered, and all others are as they
 /// were (`lost`). Each ledger that has a task then, or a member that isn't registered, is named in a comment (`named`), and
 /// no other is, and for a reason that is so in the end; a comment says that the script is full only where it is (`only`).
 /// [`Planned::left`] lists exactly these ledgers, in picture order, each with the reason that its comment gives; there is one
@@ -95,6 +97,8 @@ pub fn plan(
         (losses_of state (set.contains lost.now) (length state.names)) p.plan.events) }
     ensures filled { IfOk result (λ p. list_all
         (is_filled_by (can_work (may_work (rules_by allowed.now read_only.now writers_roll)) p.plan.state)) p.plan.events ≡ true) }
+    ensures places { IfOk result (λ p. AreWellTaken (may_work (rules_by allowed.now read_only.now writers_roll)) racks.now
+        state p.plan.events) }
     ensures named { IfOk result (λ p. AllNamed p.plan.state p.plan.lines p.plan.state.parts.ledgers) }
     ensures racks { IfOk result (λ p. p.fewer.items ≡ model.fewer_racks racks.now state p.plan.state) }
     ensures told { IfOk result (λ p.
@@ -153,6 +157,8 @@ fn play_and_tell(
     ensures played { IfOk result (λ told. (p : Draft)
         × IsPlayed plan.old (set.contains lost.now) (rules_by allowed.now read_only.now writers_roll) told.left.items p
         × (plan.new ≡ record p { lines = p.lines ++ map model.racks_line told.fewer.items })) }
+    ensures taken { OnOk result (AreWellTaken (may_work (rules_by allowed.now read_only.now writers_roll)) racks.now
+        plan.new.opening plan.new.events) }
     ensures sum { IfOk result (λ told. IsSum plan.new told.summary) }
 {
     let held = holdings_of(alloc, plan.state())?;
@@ -199,8 +205,10 @@ fn play(
     racks: &Racks,
     writers_roll: bool,
 ) -> Result<Vec<Left>, PlanFault>
-    ensures { IfOk result (λ left.
+    ensures played { IfOk result (λ left.
         IsPlayed plan.old (set.contains lost.now) (rules_by allowed.now read_only.now writers_roll) left.items plan.new) }
+    ensures taken { OnOk result (AreWellTaken (may_work (rules_by allowed.now read_only.now writers_roll)) racks.now
+        plan.new.opening plan.new.events) }
 {
     let recovering = recovering_in(alloc, plan.state())?;
     lose_all(plan, lost)?;
@@ -219,14 +227,17 @@ fn repair_all(
     racks: &Racks,
     writers_roll: bool,
 ) -> Result<Vec<Left>, PlanFault>
-    ensures { IfOk result (λ left.
+    ensures repaired { IfOk result (λ left.
         IsRepaired (rules_by allowed.now read_only.now writers_roll) plan.old left.items plan.new) }
+    ensures taken { OnOk result (AreWellTaken (may_work (rules_by allowed.now read_only.now writers_roll)) racks.now
+        plan.new.opening plan.new.events) }
 {
     let mut workers = Workers::of(alloc, plan.state(), allowed, read_only, racks, writers_roll)?;
     roll_all(plan, &mut workers)?;
     publish(plan)?;
     grant_all(plan, &workers)?;
     work_all(alloc, plan, &mut workers)?;
+    plan.check_takers(&workers, racks)?;
     let left = tell_all(alloc, plan, &workers)?;
     Ok(left)
 }
@@ -234,7 +245,7 @@ fn repair_all(
 /// Says that the script is full, if something is left that could be done, and names each ledger with which something is left.
 /// Returns these ledgers, and why.
 fn tell_all(alloc: Global, plan: &mut Plan, workers: &Workers) -> Result<Vec<Left>, PlanFault>
-    ensures { IfOk result (λ left. Tells workers.now plan.old left.items plan.new) }
+    ensures { IfOk result (λ left. Tells workers.now.rules plan.old left.items plan.new) }
 {
     let full = is_cut_off(plan, workers)?;
     let left = left_in(alloc, plan.state(), workers, full)?;
@@ -336,8 +347,8 @@ fn ticks_to_publish(state: &State) -> u64 {
 
 /// Has the writers of all open ledgers put other bookies in the place of missing members, where writers do so.
 fn roll_all(plan: &mut Plan, workers: &mut Workers) -> Result<(), PlanFault>
-    ensures works { Works workers.old plan.old plan.new }
-    ensures workers { workers.new ≡ workers.old }
+    ensures works { Works workers.old.rules plan.old plan.new }
+    ensures rules { workers.new.rules ≡ workers.old.rules }
 {
     if !workers.do_writers_roll() {
         return Ok(());
@@ -354,7 +365,7 @@ fn roll_all(plan: &mut Plan, workers: &mut Workers) -> Result<(), PlanFault>
 /// Grants a grace to the writers of all open ledgers that need another bookie, and waits until it is over. Where writers put
 /// other bookies into their ensembles themselves, nothing happens.
 fn grant_all(plan: &mut Plan, workers: &Workers) -> Result<(), PlanFault>
-    ensures { Works workers.now plan.old plan.new }
+    ensures { Works workers.now.rules plan.old plan.new }
 {
     if workers.do_writers_roll() {
         return Ok(());
@@ -383,8 +394,8 @@ fn ticks_to_fence(state: &State) -> u64 {
 
 /// Does what can be done for each ledger with a task, in picture order.
 fn work_all(alloc: Global, plan: &mut Plan, workers: &mut Workers) -> Result<(), PlanFault>
-    ensures works { Works workers.old plan.old plan.new }
-    ensures workers { workers.new ≡ workers.old }
+    ensures works { Works workers.old.rules plan.old plan.new }
+    ensures rules { workers.new.rules ≡ workers.old.rules }
 {
     for place in 0..plan.state().ledgers().len() {
         work_at(alloc, plan, workers, place)?;
@@ -399,8 +410,8 @@ fn work_at(
     workers: &mut Workers,
     place: usize,
 ) -> Result<(), PlanFault>
-    ensures works { Works workers.old plan.old plan.new }
-    ensures workers { workers.new ≡ workers.old }
+    ensures works { Works workers.old.rules plan.old plan.new }
+    ensures rules { workers.new.rules ≡ workers.old.rules }
 {
     let Some(repair) = repair_at(plan.state(), place) else {
         return Ok(());

@@ -12,10 +12,14 @@ ghost use Rattle.reh_transcript.specs.Transcript.{starting, transcript};
 ghost use Rattle.reh_plan.specs.Replies.{ok_answers};
 ghost use Rattle.reh_plan.specs.Ends.{HasNoRoom, says_full};
 ghost use Rattle.reh_plan.specs.Plans.{Asks, IsMade, Works, Loses, comment_of, is_nobodys, has_lf, loss_of, with_full};
-ghost use Rattle.reh_plan.specs.Workers.{Rules};
+ghost use Rattle.reh_plan.specs.Takers.{AreWellTaken};
+ghost use Rattle.reh_plan.specs.Workers.{Rules, may_work};
 
 use crate::faults::{PlanFault, StepFault, go_on};
+use crate::racks::Racks;
 use crate::reasons::Left;
+use crate::takers::are_well_taken;
+use crate::workers::Workers;
 use reh_cluster::{Names, State};
 use reh_commands::{Command, command_text, parse_line};
 use reh_lines::first_line;
@@ -166,6 +170,20 @@ impl Plan {
         }
         try_all(&mut self.session, events)?;
         Ok(())
+    }
+
+    /// Checks that each place that is taken by an event goes to a bookie with which the fewest write sets lack racks. The
+    /// events are undone and made again, so nothing changes.
+    pub(crate) fn check_takers(&mut self, workers: &Workers, racks: &Racks) -> Result<(), PlanFault>
+        ensures same { self.new ≡ self.old }
+        ensures taken { OnOk result
+            (AreWellTaken (may_work workers.now.rules) racks.now self.old.opening self.old.events) }
+    {
+        if are_well_taken(&mut self.session, workers, racks) {
+            Ok(())
+        } else {
+            Err(PlanFault::Unfinished)
+        }
     }
 
     /// Whether there is no room for a further command, beside the comments on the ledgers that are left.

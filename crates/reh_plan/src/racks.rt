@@ -96,8 +96,7 @@ impl Racks {
         index: usize,
         bookie: BookieIx,
     ) -> usize
-        ensures { result ≡ option_map_or (λ f. model.lacking self.now metadata.now f index bookie)
-            (slice_get metadata.now.fragments fragment) 0 }
+        ensures { result ≡ model.lacking_at self.now metadata.now fragment index bookie }
     {
         let Some(fragment) = metadata.fragments().get(fragment) else {
             return 0;

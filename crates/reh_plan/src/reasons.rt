@@ -120,7 +120,7 @@ pub(crate) fn left_in(
     ensures of { IfOk result (λ left.
         map (λ l. l.ledger) left.items ≡ left_ids state.now state.now.parts.ledgers) }
     ensures why { IfOk result (λ left.
-        All (IsLeftFor workers.now full state.now state.now.parts.ledgers) left.items) }
+        All (IsLeftFor workers.now.rules full state.now state.now.parts.ledgers) left.items) }
 {
     // The check of this loop has to meet the type of a refusal by its name.
     let _refusal: Option<Refusal> = None;
@@ -150,7 +150,7 @@ fn reason_for(
     ledger: &Ledger,
     full: bool,
 ) -> Result<Reason, PlanFault>
-    ensures reason { IfOk result (model.IsReason workers.now full state.now ledger.now) }
+    ensures reason { IfOk result (model.IsReason workers.now.rules full state.now ledger.now) }
     ensures room { IfErr result (λ fault. full ≡ false) }
 {
     if let Some(reason) = unfilled(state, ledger) {
@@ -171,9 +171,9 @@ fn reason_for(
 
 /// Why the last ensemble of a ledger that isn't closed still misses a member, if it does, whoever works.
 fn unsettled(state: &State, workers: &Workers, ledger: &Ledger) -> Option<Reason>
-    ensures some { (full : Bool) → IfSome result (model.IsReason workers.now full state.now ledger.now) }
-    ensures seal { result ≡ None → model.unsealed_refusal workers.now state.now ledger.now ≡ None }
-    ensures roll { result ≡ None → (i b : ℕ) → model.unrolled_refusal workers.now state.now ledger.now i b ≡ None }
+    ensures some { (full : Bool) → IfSome result (model.IsReason workers.now.rules full state.now ledger.now) }
+    ensures seal { result ≡ None → model.unsealed_refusal workers.now.rules state.now ledger.now ≡ None }
+    ensures roll { result ≡ None → (i b : ℕ) → model.unrolled_refusal workers.now.rules state.now ledger.now i b ≡ None }
 {
     if let Some(refusal) = unrolled(state, workers, ledger) {
         return Some(Reason::Roll { refusal });
@@ -191,8 +191,8 @@ fn is_unsettled(state: &State, ledger: &Ledger) -> bool
 
 /// A fragment in which no bookie can take a missing member's place, if there is one.
 fn without_worker(state: &State, workers: &Workers, ledger: &Ledger) -> Option<u64>
-    ensures some { IfSome result (model.LacksWorkerAt workers.now state.now ledger.now) }
-    ensures none { result ≡ None → (f : ℕ) → model.LacksWorkerAt workers.now state.now ledger.now f → ⊥ }
+    ensures some { IfSome result (model.LacksWorkerAt workers.now.rules state.now ledger.now) }
+    ensures none { result ≡ None → (f : ℕ) → model.LacksWorkerAt workers.now.rules state.now ledger.now f → ⊥ }
 {
     for number in 0..ledger.metadata().fragments().len() {
         if lacks_worker(state, workers, ledger, number) {
@@ -204,8 +204,8 @@ fn without_worker(state: &State, workers: &Workers, ledger: &Ledger) -> Option<u
 
 /// Whether no bookie can take a missing member's place in that fragment.
 fn lacks_worker(state: &State, workers: &Workers, ledger: &Ledger, number: usize) -> bool
-    ensures yes { IsTrue result → model.LacksWorkerAt workers.now state.now ledger.now number }
-    ensures no { IsFalse result → model.LacksWorkerAt workers.now state.now ledger.now number → ⊥ }
+    ensures yes { IsTrue result → model.LacksWorkerAt workers.now.rules state.now ledger.now number }
+    ensures no { IsFalse result → model.LacksWorkerAt workers.now.rules state.now ledger.now number → ⊥ }
 {
     match ledger.metadata().fragments().get(number) {
         Some(fragment) => { is_under(state, fragment) && !has_substitute(state, workers, fragment) }
@@ -216,8 +216,8 @@ fn lacks_worker(state: &State, workers: &Workers, ledger: &Ledger, number: usize
 /// Why an open ledger's writer can't put a bookie in the place of a missing member, if it is so.
 fn unrolled(state: &State, workers: &Workers, ledger: &Ledger) -> Option<Refusal>
     ensures some { IfSome result (λ refusal. (i : ℕ) × (b : ℕ)
-        × (model.unrolled_refusal workers.now state.now ledger.now i b ≡ Some refusal)) }
-    ensures none { result ≡ None → (i b : ℕ) → model.unrolled_refusal workers.now state.now ledger.now i b ≡ None }
+        × (model.unrolled_refusal workers.now.rules state.now ledger.now i b ≡ Some refusal)) }
+    ensures none { result ≡ None → (i b : ℕ) → model.unrolled_refusal workers.now.rules state.now ledger.now i b ≡ None }
 {
     for index in 0..ledger.metadata().size() {
         if let Some(refusal) = unrolled_at(state, workers, ledger, index as u64) {
@@ -230,8 +230,8 @@ fn unrolled(state: &State, workers: &Workers, ledger: &Ledger) -> Option<Refusal
 /// The same of the member at that index of the last ensemble.
 fn unrolled_at(state: &State, workers: &Workers, ledger: &Ledger, index: u64) -> Option<Refusal>
     ensures some { IfSome result (λ refusal. (b : ℕ)
-        × (model.unrolled_refusal workers.now state.now ledger.now index b ≡ Some refusal)) }
-    ensures none { result ≡ None → (b : ℕ) → model.unrolled_refusal workers.now state.now ledger.now index b ≡ None }
+        × (model.unrolled_refusal workers.now.rules state.now ledger.now index b ≡ Some refusal)) }
+    ensures none { result ≡ None → (b : ℕ) → model.unrolled_refusal workers.now.rules state.now ledger.now index b ≡ None }
 {
     for number in 0..state.names().len() as u8 {
         if let Some(refusal) = unrolled_by(state, workers, ledger, index, BookieIx(number)) {
@@ -249,7 +249,7 @@ fn unrolled_by(
     index: u64,
     bookie: BookieIx,
 ) -> Option<Refusal>
-    ensures { result ≡ model.unrolled_refusal workers.now state.now ledger.now index bookie }
+    ensures { result ≡ model.unrolled_refusal workers.now.rules state.now ledger.now index bookie }
 {
     let last = last_fragment(ledger);
     if has_writer(workers, ledger)
@@ -289,7 +289,7 @@ pub(crate) fn first_missing(state: &State, fragment: &Fragment) -> Option<usize>
 
 /// Why a ledger that isn't closed and has no writer can't be closed, if it can't.
 fn unsealed(state: &State, workers: &Workers, ledger: &Ledger) -> Option<Refusal>
-    ensures { result ≡ model.unsealed_refusal workers.now state.now ledger.now }
+    ensures { result ≡ model.unsealed_refusal workers.now.rules state.now ledger.now }
 {
     if has_writer(workers, ledger) || !is_unsettled(state, ledger) {
         return None;

@@ -17,16 +17,16 @@ use reh_types::{BookieIx, LedgerState, MAX_VERSION, Refusal};
 
 /// Whether some bookie that may work could recover the ledger, if it had the ledger's lock and the grace were over.
 pub(crate) fn can_recover(state: &State, workers: &Workers, ledger: &Ledger) -> bool
-    ensures { IsFalse result → model.IsUnrecoverable (may_work workers.now) state.now ledger.now }
+    ensures { IsFalse result → model.IsUnrecoverable (may_work workers.now.rules) state.now ledger.now }
 {
     is_recoverable(state, ledger) && has_substitute(state, workers, last_fragment(ledger))
 }
 
 /// Whether some bookie that may work could take the place of a member of the fragment.
 pub(crate) fn has_substitute(state: &State, workers: &Workers, fragment: &Fragment) -> bool
-    ensures yes { IsTrue result → (b : ℕ) × IsTrue (may_work workers.now b)
+    ensures yes { IsTrue result → (b : ℕ) × IsTrue (may_work workers.now.rules b)
         × (first_reason (target_down state.now b ∷ target_is_member fragment.now b ∷ []) ≡ None) }
-    ensures no { IsFalse result → (b : ℕ) → IsTrue (may_work workers.now b)
+    ensures no { IsFalse result → (b : ℕ) → IsTrue (may_work workers.now.rules b)
         → first_reason (target_down state.now b ∷ target_is_member fragment.now b ∷ []) ≢ None }
 {
     for number in 0..state.names().len() as u8 {

@@ -181,7 +181,7 @@ impl Repair {
         fragment: usize,
         index: usize,
     ) -> Result<BookieIx, StepFault>
-        ensures { IfOk result (λ worker. may_work workers.now worker ≡ true) }
+        ensures { IfOk result (λ worker. may_work workers.now.rules worker ≡ true) }
     {
         match self.worker(state, workers, fragment, index) {
             Some(worker) => Ok(worker),
@@ -197,15 +197,15 @@ impl Repair {
         fragment: usize,
         index: usize,
     ) -> Option<BookieIx>
-        ensures { IfSome result (λ worker. can_work (may_work workers.now) state.now worker ≡ true) }
+        ensures { IfSome result (λ worker. can_work (may_work workers.now.rules) state.now worker ≡ true) }
     {
         workers.choose(state, self.ledger_in(state)?, fragment, index)
     }
 
     /// Grants the writer of an open ledger its grace, if it needs another bookie, and its recovery will be accepted.
     pub(crate) fn grant(&self, plan: &mut Plan, workers: &Workers) -> Result<(), StepFault>
-        requires { workers.now.writers_roll ≡ false }
-        ensures { Works workers.now plan.old plan.new }
+        requires { workers.now.rules.writers_roll ≡ false }
+        ensures { Works workers.now.rules plan.old plan.new }
     {
         if !self.has_task(plan.state()) {
             return Ok(());
@@ -223,8 +223,8 @@ impl Repair {
     /// Does what can be done for a ledger that isn't closed, if some member of its last ensemble isn't registered: its writer
     /// puts others into the ensemble, where writers do so, or else it is recovered.
     fn settle(&self, plan: &mut Plan, workers: &mut Workers) -> Result<(), StepFault>
-        ensures works { Works workers.old plan.old plan.new }
-        ensures workers { workers.new ≡ workers.old }
+        ensures works { Works workers.old.rules plan.old plan.new }
+        ensures rules { workers.new.rules ≡ workers.old.rules }
     {
         match self.unclosed(plan.state()) {
             None => Ok(()),
@@ -248,8 +248,8 @@ impl Repair {
         last: usize,
         index: usize,
     ) -> Result<(), StepFault>
-        requires { workers.now.writers_roll ≡ false }
-        ensures { Works workers.now plan.old plan.new }
+        requires { workers.now.rules.writers_roll ≡ false }
+        ensures { Works workers.now.rules plan.old plan.new }
     {
         let worker = self.chosen(plan.state(), workers, last, index)?;
         self.check_grant(plan, worker)?;
@@ -270,7 +270,7 @@ impl Repair {
         last: usize,
         index: usize,
     ) -> Result<(), StepFault>
-        ensures { Works workers.now plan.old plan.new }
+        ensures { Works workers.now.rules plan.old plan.new }
     {
         let worker = self.chosen(plan.state(), workers, last, index)?;
         let ledger = self.ledger;
@@ -282,9 +282,9 @@ impl Repair {
 
     /// Has the writer of an open ledger put other bookies in the place of the last ensemble's missing members.
     pub(crate) fn roll(&self, plan: &mut Plan, workers: &mut Workers) -> Result<(), StepFault>
-        requires { workers.old.writers_roll ≡ true }
-        ensures works { Works workers.old plan.old plan.new }
-        ensures workers { workers.new ≡ workers.old }
+        requires { workers.old.rules.writers_roll ≡ true }
+        ensures works { Works workers.old.rules plan.old plan.new }
+        ensures rules { workers.new.rules ≡ workers.old.rules }
     {
         for index in 0..MAX_ENSEMBLE_SIZE as usize {
             self.roll_at(plan, workers, index)?;
@@ -295,9 +295,9 @@ impl Repair {
     /// Has the writer put another bookie at the index of the last ensemble, if the ledger is open and that member isn't
     /// registered.
     fn roll_at(&self, plan: &mut Plan, workers: &mut Workers, index: usize) -> Result<(), StepFault>
-        requires { workers.old.writers_roll ≡ true }
-        ensures works { Works workers.old plan.old plan.new }
-        ensures workers { workers.new ≡ workers.old }
+        requires { workers.old.rules.writers_roll ≡ true }
+        ensures works { Works workers.old.rules plan.old plan.new }
+        ensures rules { workers.new.rules ≡ workers.old.rules }
     {
         let Some(gap) = self.gap_to_roll(plan.state(), index) else {
             return Ok(());
@@ -313,8 +313,8 @@ impl Repair {
 
     /// Has a worker copy the entries of a missing member's place, and take it, where both are accepted.
     fn fill(&self, plan: &mut Plan, workers: &mut Workers, gap: &Gap) -> Result<(), StepFault>
-        ensures works { Works workers.old plan.old plan.new }
-        ensures workers { workers.new ≡ workers.old }
+        ensures works { Works workers.old.rules plan.old plan.new }
+        ensures rules { workers.new.rules ≡ workers.old.rules }
     {
         let worker = self.chosen(plan.state(), workers, gap.fragment, gap.index)?;
         self.check_fill(plan.state(), worker, gap)?;
@@ -349,8 +349,8 @@ impl Repair {
         plan: &mut Plan,
         workers: &mut Workers,
     ) -> Result<(), PlanFault>
-        ensures works { Works workers.old plan.old plan.new }
-        ensures workers { workers.new ≡ workers.old }
+        ensures works { Works workers.old.rules plan.old plan.new }
+        ensures rules { workers.new.rules ≡ workers.old.rules }
     {
         let settled = self.settle(plan, workers);
         go_on(settled)?;

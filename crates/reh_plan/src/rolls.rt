@@ -11,7 +11,7 @@ use reh_types::{BookieIx, Event, LedgerId, MAX_ENSEMBLE_SIZE};
 
 /// Whether the ledger's writer could put a bookie that may work in the place of a missing member.
 pub(crate) fn can_roll(state: &State, workers: &Workers, ledger: LedgerId) -> bool
-    ensures { IsFalse result → (b i : ℕ) → IsTrue (may_work workers.now b)
+    ensures { IsFalse result → (b i : ℕ) → IsTrue (may_work workers.now.rules b)
         → refusal_of state.now (RollEvent ledger i b) ≢ None }
 {
     state.assert_well_formed();
@@ -25,7 +25,7 @@ pub(crate) fn can_roll(state: &State, workers: &Workers, ledger: LedgerId) -> bo
 
 /// The same of the member at that index of the last ensemble.
 fn can_roll_at(state: &State, workers: &Workers, ledger: LedgerId, index: u64) -> bool
-    ensures { IsFalse result → (b : ℕ) → IsTrue (may_work workers.now b)
+    ensures { IsFalse result → (b : ℕ) → IsTrue (may_work workers.now.rules b)
         → refusal_of state.now (RollEvent ledger index b) ≢ None }
 {
     for number in 0..state.names().len() as u8 {

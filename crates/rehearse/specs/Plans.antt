@@ -20,7 +20,8 @@ use Rattle.reh_plan.specs.Plans.{AreLeft, GoesOnBy, IsWithout, losses_of}
 use Rattle.reh_plan.specs.Racks.{Racks, fewer_racks, lines_before, racks_named}
 use Rattle.reh_plan.specs.Runbooks.{runbook_lines}
 use Rattle.reh_plan.specs.Summaries.{IsSum, is_whole, plan_text}
-use Rattle.reh_plan.specs.Workers.{rules_by}
+use Rattle.reh_plan.specs.Takers.{AreWellTaken}
+use Rattle.reh_plan.specs.Workers.{may_work, rules_by}
 use Rattle.reh_plan.specs.declared.faults.PlanFault.{PlanFault}
 use Rattle.reh_plan.specs.declared.faults.PlanFault.TheVariants as plan_fault
 use Rattle.reh_plan.specs.declared.planning.Planned.{Planned}
@@ -61,7 +62,8 @@ pub record IsAsked (bytes : List ℕ) (names : List (List ℕ)) (words : PlanWor
   pub writers : asked.writers_roll ≡ words.writers_roll
 
 -- a plan for a cluster, without the lost bookies, by those that may work and aren't read-only; where writers change their
--- ensembles themselves, by them too, and without a fence; with the ledgers that are left and why, the fragments in fewer
+-- ensembles themselves, by them too, and without a fence; each place goes to a bookie with which the fewest write sets lack
+-- racks; with the ledgers that are left and why, the fragments in fewer
 -- racks, and what it comes to
 pub record IsPlan (state : Cluster) (asked : Asked) (p : Planned) : Type 0 where
   pub opening : p.plan.opening ≡ state
@@ -69,6 +71,7 @@ pub record IsPlan (state : Cluster) (asked : Asked) (p : Planned) : Type 0 where
   pub without : IsWithout state (set.contains asked.lost) p.plan.state
   pub order : GoesOnBy (rules_by asked.allowed asked.read_only asked.writers_roll)
       (losses_of state (set.contains asked.lost) (length state.names)) p.plan.events
+  pub places : AreWellTaken (may_work (rules_by asked.allowed asked.read_only asked.writers_roll)) asked.racks state p.plan.events
   pub left : AreLeft (rules_by asked.allowed asked.read_only asked.writers_roll) state.names p.plan.state
       (lines_before p.fewer.items p.plan.lines) p.left.items
   pub racks : p.fewer.items ≡ fewer_racks asked.racks state p.plan.state

@@ -7,4 +7,4 @@ use Rattle.reh_plan.proofs.ends.taker.Given as goal
 
 abbrev pub invariant-loop-number : goal.invariant-loop-number
 invariant-loop-number l =
-    (b : ℕ) → b < l.number → IsTrue (may_work l.workers b) → no_place l.state b l.ledger l.fragment l.index ≢ None
+    (b : ℕ) → b < l.number → IsTrue (may_work l.workers.rules b) → no_place l.state b l.ledger l.fragment l.index ≢ None

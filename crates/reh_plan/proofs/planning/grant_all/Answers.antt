@@ -4,5 +4,5 @@ use Rattle.reh_plan.proofs.planning.grant_all.Goals as goal
 
 pub returns : goal.returns
 returns c =
-    works_on c.args.workers.now c.args.plan.now c.loop-place.plan c.wait.new.self (c.wait.ensures c.args.workers.now)
+    works_on c.args.workers.now.rules c.args.plan.now c.loop-place.plan c.wait.new.self (c.wait.ensures c.args.workers.now.rules)
     c.loop-place.invariant

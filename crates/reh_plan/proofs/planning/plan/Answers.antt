@@ -10,7 +10,8 @@ use Rattle.reh_plan.specs.Racks.{fewer_racks}
 use Rattle.reh_plan.specs.Replies.{ok_answers}
 use Rattle.reh_plan.specs.declared.fewer.FewerRacks.{FewerRacks}
 use Rattle.reh_plan.specs.declared.reasons.Left.{Left}
-use Rattle.reh_plan.specs.Workers.{Rules, rules_by}
+use Rattle.reh_plan.specs.Takers.{AreWellTaken}
+use Rattle.reh_plan.specs.Workers.{Rules, may_work, rules_by}
 use Rattle.reh_plan.proofs.FilledLaws.{filled_by}
 use Rattle.reh_plan.proofs.PlannedLaws.{IsTold, left-counted, told-alone}
 use Rattle.reh_plan.proofs.planning.plan.Goals as goal
@@ -40,6 +41,9 @@ returns c =
       order = told.order;
       filled =
           filled_by rules s n.state (set.contains c.args.lost.now) (length s.names) n.events told.order accepted;
+      places =
+          subst (λ (o : Cluster). AreWellTaken (may_work rules) c.args.racks.now o n.events) told.opening
+          c.in_ok-told.ensures.taken;
       named = told.named;
       racks =
           c.in_ok-told.ensures.racks

@@ -5,6 +5,6 @@ use Rattle.reh_plan.proofs.planning.roll_all.Given as goal
 
 abbrev pub invariant-loop-place : goal.invariant-loop-place
 invariant-loop-place l = record {
-  works : Works l.fn.workers l.fn.plan l.plan;
-  workers : l.workers ≡ l.fn.workers;
+  works : Works l.fn.workers.rules l.fn.plan l.plan;
+  rules : l.workers.rules ≡ l.fn.workers.rules;
 }

@@ -24,7 +24,7 @@ returns c =
             ∙ ap (λ (ls : List Left). record d { lines = d.lines ++ map comment_of ls }) c.deref.ensures.value;
         of = c.in_ok-left.ensures.of ∙ ap (λ (t : Cluster). left_ids t t.parts.ledgers) same;
         why =
-            subst (λ (t : Cluster). All (IsLeftFor c.args.workers.now full t t.parts.ledgers) left) same
+            subst (λ (t : Cluster). All (IsLeftFor c.args.workers.now.rules full t t.parts.ledgers) left) same
             c.in_ok-left.ensures.why;
       };
     }

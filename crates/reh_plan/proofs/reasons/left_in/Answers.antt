@@ -20,7 +20,7 @@ loop-ledger-preserved c =
     let left : List Left = c.loop-ledger.left.items in
     let within : k < length ledgers = c.loop-ledger-test.true in
     let is : g ≡ get_or ledgers k g = c.ledger-item.is in
-    let P : Left → Type 0 = IsLeftFor c.args.workers.now c.args.full s s.parts.ledgers in
+    let P : Left → Type 0 = IsLeftFor c.args.workers.now.rules c.args.full s s.parts.ledgers in
     elim c.if-is_left.branch [
       | then-is_left+in_ok-reason+in_ok-push_left w ↦
           let reason : Reason = w.in_ok-reason.reason in
@@ -30,7 +30,7 @@ loop-ledger-preserved c =
           ap (λ (v : Vec Left Global). v.items) w.left-is ∙ w.in_ok-push_left.ensures
           ∙ ap (λ n. left ++ (record { ledger = n; reason = reason }) ∷ []) w.id.ensures in
           let here : P one =
-          subst (λ (gs : List Ledger). IsLeftFor c.args.workers.now c.args.full s gs one) c.ledgers-ledger-items.ensures.ledgers
+          subst (λ (gs : List Ledger). IsLeftFor c.args.workers.now.rules c.args.full s gs one) c.ledgers-ledger-items.ensures.ledgers
           (k, g, within, sym is, (refl, more, w.in_ok-reason.ensures.reason)) in
           record {
             of =

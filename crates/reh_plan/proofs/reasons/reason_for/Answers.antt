@@ -2,7 +2,7 @@
 use Rattle.reh_plan.proofs.reasons.reason_for.Goals as goal
 
 pub returns-in-Some : goal.returns-in-Some
-returns-in-Some c = record { reason = c.in-Some.ensures.some c.args.workers.now c.args.full; room = tt }
+returns-in-Some c = record { reason = c.in-Some.ensures.some c.args.workers.now.rules c.args.full; room = tt }
 
 pub returns-in-Some-unsettled : goal.returns-in-Some-unsettled
 returns-in-Some-unsettled c = record { reason = c.in-Some-unsettled.ensures.some c.args.full; room = tt }

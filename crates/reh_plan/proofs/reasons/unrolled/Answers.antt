@@ -6,5 +6,5 @@ use Rattle.reh_plan.proofs.reasons.unrolled.Goals as goal
 
 pub loop-index-preserved : goal.loop-index-preserved
 loop-index-preserved c =
-    below-more (λ i. (b : ℕ) → unrolled_refusal c.args.workers.now c.args.state.now c.args.ledger.now i b ≡ None)
+    below-more (λ i. (b : ℕ) → unrolled_refusal c.args.workers.now.rules c.args.state.now c.args.ledger.now i b ≡ None)
     c.loop-index.index c.loop-index.invariant (c.unrolled_at.ensures.none c.in_default.is)

@@ -7,7 +7,7 @@ use Rattle.reh_plan.proofs.reasons.without_worker.Goals as goal
 
 pub loop-number-preserved : goal.loop-number-preserved
 loop-number-preserved c =
-    below-more (λ f. LacksWorkerAt c.args.workers.now c.args.state.now c.args.ledger.now f → ⊥)
+    below-more (λ f. LacksWorkerAt c.args.workers.now.rules c.args.state.now c.args.ledger.now f → ⊥)
     c.loop-number.number c.loop-number.invariant (c.lacks_worker.ensures.no c.if-lacks_worker.false)
 
 pub returns-clause-none : goal.returns-clause-none

@@ -8,5 +8,5 @@ use Rattle.reh_plan.proofs.recoveries.has_substitute.Given as goal
 
 abbrev pub invariant-loop-number : goal.invariant-loop-number
 invariant-loop-number l =
-    (b : ℕ) → b < l.number → IsTrue (may_work l.workers b)
+    (b : ℕ) → b < l.number → IsTrue (may_work l.workers.rules b)
     → first_reason (target_down l.state b ∷ target_is_member l.fragment b ∷ []) ≢ None

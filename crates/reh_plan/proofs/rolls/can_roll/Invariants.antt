@@ -8,4 +8,4 @@ use Rattle.reh_plan.proofs.rolls.can_roll.Given as goal
 
 abbrev pub invariant-loop-index : goal.invariant-loop-index
 invariant-loop-index l =
-    (b i : ℕ) → i < l.index → IsTrue (may_work l.workers b) → refusal_of l.state (Roll l.ledger i b) ≢ None
+    (b i : ℕ) → i < l.index → IsTrue (may_work l.workers.rules b) → refusal_of l.state (Roll l.ledger i b) ≢ None

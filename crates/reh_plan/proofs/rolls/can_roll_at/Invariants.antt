@@ -8,4 +8,4 @@ use Rattle.reh_plan.proofs.rolls.can_roll_at.Given as goal
 
 abbrev pub invariant-loop-number : goal.invariant-loop-number
 invariant-loop-number l =
-    (b : ℕ) → b < l.number → IsTrue (may_work l.workers b) → refusal_of l.state (Roll l.ledger l.index b) ≢ None
+    (b : ℕ) → b < l.number → IsTrue (may_work l.workers.rules b) → refusal_of l.state (Roll l.ledger l.index b) ≢ None

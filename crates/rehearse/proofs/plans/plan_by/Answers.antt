@@ -7,6 +7,7 @@ returns-in-Ok c = record {
   accepted = c.in-Ok.ensures.accepted;
   without = c.in-Ok.ensures.lost;
   order = c.in-Ok.ensures.order;
+  places = c.in-Ok.ensures.places;
   left = c.in-Ok.ensures.left;
   racks = c.in-Ok.ensures.racks;
   sum = c.in-Ok.ensures.sum;

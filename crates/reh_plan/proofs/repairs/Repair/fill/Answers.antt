@@ -6,7 +6,7 @@ use Rattle.reh_plan.proofs.repairs.Repair.fill.Goals as goal
 
 pub returns-clause-works : goal.returns-clause-works
 returns-clause-works c =
-    let rules : Rules = c.args.workers.now in
+    let rules : Rules = c.args.workers.now.rules in
     let d : Draft = c.args.plan.now in
     let may = c.in_ok-worker.ensures in
     let copied : Works rules d c.work.new.self =

@@ -7,7 +7,7 @@ use Rattle.reh_plan.proofs.repairs.Repair.grant.Goals as goal
 
 pub returns : goal.returns
 returns c =
-    let rules : Rules = c.args.workers.now in
+    let rules : Rules = c.args.workers.now.rules in
     let d : Draft = c.args.plan.now in
     let may = c.in_ok-worker.ensures in
     let tried : Works rules d c.check_grant.new.plan =

@@ -5,6 +5,6 @@ use Rattle.reh_plan.proofs.repairs.Repair.roll.Given as goal
 
 abbrev pub invariant-loop-index : goal.invariant-loop-index
 invariant-loop-index l = record {
-  works : Works l.fn.workers l.fn.plan l.plan;
-  workers : l.workers ≡ l.fn.workers;
+  works : Works l.fn.workers.rules l.fn.plan l.plan;
+  rules : l.workers.rules ≡ l.fn.workers.rules;
 }
