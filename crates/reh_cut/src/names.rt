@@ -1,4 +1,7 @@
 // The bookies of a cut.
+ghost use Rattle.std.specs.Prelude.{length, IfErr};
+ghost use Rattle.reh_cut.specs.Passed.{IsPastBookies};
+
 use crate::faults::CutFault;
 use crate::limits::TotalLimit;
 use crate::passed::past_total;
@@ -13,7 +16,9 @@ pub(crate) fn names_of(
     alloc: Global,
     head: &Head,
     lines: &[LedgerLine],
-) -> Result<NameList, CutFault> {
+) -> Result<NameList, CutFault>
+    ensures { IfErr result (IsPastBookies (length lines.now)) }
+{
     let mut names = NameList::new(alloc);
     for line in lines {
         add_line(&mut names, line)?;
