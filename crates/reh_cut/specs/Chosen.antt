@@ -1,14 +1,19 @@
 -- The ledgers of an inventory that are asked for, and their picture, or that of a window of each.
-use Rattle.std.specs.Prelude.{◌≡◌, ℕ, Bool, true, ◌==◌, List, map, Option, None, Some, Ok}
+use Rattle.std.specs.Prelude.{◌≡◌, ℕ, Bool, true, ◌&&◌, not, ◌==◌, List, [], ◌∷◌, find, map, Option, None, Some, Ok, if◌then◌else◌}
 use Rattle.std.specs.List.{filter, list_all, list_any}
-use Rattle.std.specs.Option.{IsSomeAnd}
+use Rattle.std.specs.Option.{IsSomeAnd, is_some, option_and_then, option_map, option_or}
 use Rattle.reh_cut.specs.Cuts.{IsCut}
+use Rattle.reh_cut.specs.Faults.{no_window}
+use Rattle.reh_cut.specs.Passed.{lines_fault}
 use Rattle.reh_cut.specs.declared.chosen.ChosenLedgers.{ChosenLedgers}
+use Rattle.reh_cut.specs.declared.faults.CutFault.{CutFault}
+use Rattle.reh_cut.specs.declared.faults.CutFault.TheVariants.{NoLedger, NotWhole}
 use Rattle.reh_cut.specs.declared.said.Assume.{Assume}
+use Rattle.reh_inventory.specs.declared.heads.Head.{Head}
 use Rattle.reh_inventory.specs.declared.ledgers.LedgerLine.{LedgerLine}
 use Rattle.reh_inventory.specs.Inventories.{Inventory, inventory_of}
 use Rattle.reh_inventory_census.specs.Census.{ledger_lines}
-use Rattle.reh_window.specs.Windows.{has_window, window_of}
+use Rattle.reh_window.specs.Windows.{has_window, window_fault, window_of}
 
 abbrev pub has_id : ℕ → LedgerLine → Bool
 has_id id line = line.id == id
@@ -50,3 +55,36 @@ pub record IsCutOf (ids : List ℕ) (lines : List (List ℕ)) (assume : Assume) 
   pub has_ledgers : has_all ids (chosen_of ids lines) ≡ true
   pub has_windows : have_window window (chosen_of ids lines) ≡ true
   pub cut : IsSomeAnd inventory.head (λ head. IsCut head (cut_lines window (chosen_of ids lines)) assume text)
+
+-- Why there is no picture of them
+
+-- the first id that has no ledger
+abbrev pub first_missing : List ℕ → List LedgerLine → Option ℕ
+first_missing ids ledgers = find (λ id. not (list_any (has_id id) ledgers)) ids
+
+-- the first of these ledgers that has no such window
+abbrev pub windows_fault : ℕ → List LedgerLine → Option CutFault
+windows_fault window [] = None
+windows_fault window (line ∷ lines) =
+    option_or (option_map (no_window line.id) (window_fault window line)) (windows_fault window lines)
+
+-- the first fault of what is cut that is found without a picture
+abbrev pub cut_fault : Head → Assume → Option ℕ → List LedgerLine → Option CutFault
+cut_fault head assume None lines = lines_fault head assume lines
+cut_fault head assume (Some window) lines =
+    option_or (windows_fault window lines) (lines_fault head assume (map (window_of window) lines))
+
+-- whether the first line and the last one came
+abbrev pub is_complete : Inventory → Bool
+is_complete inventory = is_some inventory.head && inventory.is_whole
+
+abbrev pub whole_fault : Inventory → Option CutFault
+whole_fault inventory = if is_complete inventory then None else Some NotWhole
+
+-- the first fault that is found without a picture: a line that isn't there, the first id without a ledger, and what is
+-- wrong with the ledgers
+abbrev pub chosen_fault : Inventory → List ℕ → List LedgerLine → Assume → Option ℕ → Option CutFault
+chosen_fault inventory ids ledgers assume window =
+    option_or (whole_fault inventory)
+    (option_or (option_map NoLedger (first_missing ids ledgers))
+    (option_and_then (λ head. cut_fault head assume window ledgers) inventory.head))

@@ -1,6 +1,6 @@
 -- What a cut is: the picture of some ledgers of an inventory, which shows each as its line does.
 use Rattle.std.specs.Prelude.{◌≡◌, ℕ, ◌+◌, ◌-◌, max, Bool, true, false, not, ◌&&◌, ◌||◌, ◌==◌, nat_le, nat_lt, List, [], length}
-use Rattle.std.specs.Prelude.{Option, None, Some, Ok, position, slice_get, unwrap_or, if◌then◌else◌}
+use Rattle.std.specs.Prelude.{Option, None, Ok, position, slice_get, unwrap_or, if◌then◌else◌}
 use mathlib.Core.Bool.{beq}
 use Rattle.std.specs.List.{find, list_all, list_any, range_with_len}
 use Rattle.std.specs.Option.{is_none, is_some, option_and_then, option_eq, option_map_or}

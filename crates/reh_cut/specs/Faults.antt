@@ -6,6 +6,15 @@ use Rattle.reh_cut.specs.declared.faults.CutFault.TheVariants.{Differs, HoldsTho
 use Rattle.reh_cut.specs.declared.faults.CutFault.TheVariants.{NotWhole, NoWindow, OpenWindow, Untold}
 use Rattle.reh_cut.specs.Limits.{limit_text}
 use Rattle.reh_picture.specs.Expected.{located_text}
+use Rattle.reh_window.specs.declared.faults.WindowFault.{WindowFault}
+use Rattle.reh_window.specs.declared.faults.WindowFault.TheVariants as window
+
+-- why the ledger of this id has no such window; no line of an inventory is unfit
+abbrev pub no_window : ℕ → WindowFault → CutFault
+no_window id (window.PastLast last) = NoWindow id last
+no_window id (window.Unsettled first last) = OpenWindow id last
+no_window id window.Unfit = Differs
+no_window id window.NoMemory = NoMemory
 
 abbrev pub fault_text : CutFault → List ℕ
 fault_text NotWhole = codes "expected a last line: the file was cut"

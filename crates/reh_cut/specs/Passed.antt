@@ -1,5 +1,5 @@
 -- Which limits of a picture ledgers of an inventory pass.
-use Rattle.std.specs.Prelude.{◌≡◌, ◌≢◌, ℕ, ◌-◌, Bool, nat_lt, List, [], ◌∷◌, length, Option, None, Some, count_by, unwrap_or, if◌then◌else◌}
+use Rattle.std.specs.Prelude.{◌≡◌, ◌≢◌, ◌⊎◌, ℕ, ◌-◌, ◌<◌, Bool, nat_lt, List, [], ◌∷◌, length, Option, None, Some, count_by, unwrap_or, if◌then◌else◌}
 use Rattle.std.specs.Prelude.{IfErr, Result}
 use Rattle.std.specs.List.{find}
 use Rattle.std.specs.Option.{ForSome, is_some, option_and_then, option_map, option_or}
@@ -13,11 +13,15 @@ use Rattle.reh_cut.specs.declared.limits.Limit.TheVariants as passed
 use Rattle.reh_cut.specs.declared.limits.TotalLimit.{TotalLimit}
 use Rattle.reh_cut.specs.declared.limits.TotalLimit.TheVariants as of_all
 use Rattle.reh_cut.specs.declared.said.Assume.{Assume}
+use Rattle.reh_fields.specs.declared.faults.PictureFault.{PictureFault}
+use Rattle.reh_fields.specs.declared.faults.PictureFault.TheVariants as picture
+use Rattle.reh_fields.specs.declared.fields.Field.TheVariants.{Contents}
 use Rattle.reh_inventory.specs.declared.heads.Head.{Head}
 use Rattle.reh_inventory.specs.declared.ledgers.Fragment.{Fragment}
 use Rattle.reh_inventory.specs.declared.ledgers.LedgerLine.{LedgerLine}
 use Rattle.reh_inventory_census.specs.Counted.{last_first}
-use Rattle.reh_types.specs.declared.limits.TheConstants.{ENTRY_END, MAX_ENSEMBLE_SIZE, MAX_ENTRY_ID, MAX_FRAGMENTS}
+use Rattle.reh_picture.specs.declared.places.LocatedFault.{LocatedFault}
+use Rattle.reh_types.specs.declared.limits.TheConstants.{ENTRY_END, MAX_BOOKIES, MAX_ENSEMBLE_SIZE, MAX_ENTRY_ID, MAX_FRAGMENTS}
 use Rattle.reh_types.specs.declared.limits.TheConstants.{MAX_LEDGER_ID, MAX_LEDGERS, MAX_PICTURE_BYTES, MAX_VERSION}
 use Rattle.reh_window.specs.Windows.{width_of}
 
@@ -86,6 +90,21 @@ count_fault ledgers = if nat_lt MAX_LEDGERS ledgers then Some (past_total of_all
 abbrev pub size_fault : ℕ → ℕ → Option CutFault
 size_fault bytes ledgers =
     if nat_lt MAX_PICTURE_BYTES bytes then Some (past_total of_all.Bytes bytes ledgers) else None
+
+-- why what would be written for so many ledgers is no picture: the entries that are held of them take so many words
+abbrev pub no_picture_by : PictureFault → LocatedFault → ℕ → ℕ → CutFault
+no_picture_by picture.NoMemory located words ledgers = fault.NoMemory
+no_picture_by (picture.Limit Contents) located words ledgers = past_total of_all.Words words ledgers
+no_picture_by other located words ledgers = fault.NoPicture located
+
+abbrev pub no_picture : LocatedFault → ℕ → ℕ → CutFault
+no_picture located words ledgers = no_picture_by located.fault located words ledgers
+
+-- so many ledgers name more bookies than a picture may have, or there is no memory
+abbrev pub IsPastBookies : ℕ → CutFault → Type 0
+IsPastBookies ledgers failure =
+    (failure ≡ fault.NoMemory)
+    ⊎ ((bookies : ℕ) × (MAX_BOOKIES < bookies) × (failure ≡ past_total of_all.Bookies bookies ledgers))
 
 -- The lines
 

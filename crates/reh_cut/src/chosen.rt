@@ -2,6 +2,7 @@
 ghost use Rattle.std.specs.Prelude.{◌≡◌, ◌++◌, ◌∷◌, [], ℕ, List, None, IfOk, OnOk, string_bytes, true};
 ghost use Rattle.std.specs.List.{list_any};
 ghost use Rattle.reh_cut.specs.Chosen as model;
+ghost use Rattle.reh_cut.specs.Passed.{NamesFault};
 
 use crate::faults::CutFault;
 use crate::said::Assume;
@@ -70,7 +71,8 @@ impl ChosenLedgers {
 
     /// The first id without a ledger, if there is one.
     fn first_missing(&self) -> Option<u64>
-        ensures { result ≡ None → model.has_all self.now.ids.items self.now.ledgers.items ≡ true }
+        ensures first { result ≡ model.first_missing self.now.ids.items self.now.ledgers.items }
+        ensures all { result ≡ None → model.has_all self.now.ids.items self.now.ledgers.items ≡ true }
     {
         for id in &self.ids {
             if !has_ledger(&self.ledgers, *id) {
@@ -87,8 +89,10 @@ impl ChosenLedgers {
         assume: Assume,
         window: Option<u64>,
     ) -> Result<String, CutFault>
-        ensures { IfOk result (λ text. (ids : List ℕ) (lines : List (List ℕ)) → model.IsChosen ids lines self.now
+        ensures cut { IfOk result (λ text. (ids : List ℕ) (lines : List (List ℕ)) → model.IsChosen ids lines self.now
             → model.IsCutOf ids lines assume window (string_bytes text)) }
+        ensures fault { NamesFault result (model.chosen_fault self.now.inventory self.now.ids.items
+            self.now.ledgers.items assume window) }
     {
         let Some(head) = self.inventory.head() else {
             return Err(CutFault::NotWhole);

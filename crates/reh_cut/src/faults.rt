@@ -1,4 +1,8 @@
 // Why ledgers of an inventory have no picture.
+ghost use Rattle.std.specs.Prelude.{◌≡◌};
+ghost use Rattle.reh_cut.specs.Faults.{no_window as window_fault};
+ghost use Rattle.reh_cut.specs.Passed.{no_picture as picture_fault};
+
 use crate::limits::{Limit, TotalLimit};
 use crate::passed::past_total;
 use reh_inventory::Name;
@@ -94,7 +98,9 @@ impl<T: Drop> From<AllocFailed<T>> for CutFault {
 
 /// A fault of what would be written for so many ledgers, or that there is no memory to read it. The entries that are held of
 /// them take so many words.
-pub(crate) fn no_picture(fault: LocatedFault, words: u64, ledgers: usize) -> CutFault {
+pub(crate) fn no_picture(fault: LocatedFault, words: u64, ledgers: usize) -> CutFault
+    ensures { result ≡ picture_fault fault words ledgers }
+{
     match fault.fault {
         PictureFault::NoMemory => CutFault::NoMemory,
         PictureFault::Limit(Field::Contents) => past_total(TotalLimit::Words, words, ledgers),
@@ -103,7 +109,9 @@ pub(crate) fn no_picture(fault: LocatedFault, words: u64, ledgers: usize) -> Cut
 }
 
 /// That the ledger of this id has no such window. No line of an inventory is unfit.
-pub(crate) fn no_window(id: u64, fault: WindowFault) -> CutFault {
+pub(crate) fn no_window(id: u64, fault: WindowFault) -> CutFault
+    ensures { result ≡ window_fault id fault }
+{
     match fault {
         WindowFault::PastLast(last) => CutFault::NoWindow(id, last),
         WindowFault::Unsettled(_, last) => CutFault::OpenWindow(id, last),

@@ -1,4 +1,7 @@
 // The bookies of a cut.
+ghost use Rattle.std.specs.Prelude.{length, IfErr};
+ghost use Rattle.reh_cut.specs.Passed.{IsPastBookies};
+
 use crate::faults::CutFault;
 use crate::limits::TotalLimit;
 use crate::passed::past_total;
@@ -23,7 +26,9 @@ pub(crate) fn names_of(
     head: &Head,
     lines: &[LedgerLine],
     order: Others,
-) -> Result<NameList, CutFault> {
+) -> Result<NameList, CutFault>
+    ensures { IfErr result (IsPastBookies (length lines.now)) }
+{
     let mut names = NameList::new(alloc);
     for line in lines {
         add_line(&mut names, line)?;

@@ -1,8 +1,11 @@
 // The picture of some ledgers, or of a window of each.
 ghost use Rattle.std.specs.Prelude.{◌≡◌, true, map, IfOk, OnOk, string_bytes};
 ghost use Rattle.std.specs.List.{list_all};
+ghost use Rattle.std.specs.Option.{option_map};
 ghost use Rattle.reh_cut.specs.Chosen as model;
 ghost use Rattle.reh_cut.specs.Cuts.{IsCut};
+ghost use Rattle.reh_cut.specs.Faults.{FailsWith, no_window as window_fault};
+ghost use Rattle.reh_cut.specs.Passed.{NamesFault};
 ghost use Rattle.reh_window.specs.Windows as ledger;
 
 use crate::cuts::cut;
@@ -16,6 +19,8 @@ use std::alloc::Global;
 fn window_in(alloc: Global, line: &LedgerLine, window: u64) -> Result<LedgerLine, CutFault>
     ensures there { OnOk result (ledger.has_window window line.now ≡ true) }
     ensures cut { IfOk result (λ made. made ≡ ledger.window_of window line.now) }
+    ensures fault { FailsWith result
+        (option_map (window_fault line.now.id) (ledger.window_fault window line.now)) }
 {
     match window_of(alloc, line, window) {
         Ok(made) => Ok(made),
@@ -27,6 +32,7 @@ fn window_in(alloc: Global, line: &LedgerLine, window: u64) -> Result<LedgerLine
 fn windows_in(alloc: Global, lines: &[LedgerLine], window: u64) -> Result<Vec<LedgerLine>, CutFault>
     ensures there { OnOk result (list_all (ledger.has_window window) lines.now ≡ true) }
     ensures cut { IfOk result (λ made. made.items ≡ map (ledger.window_of window) lines.now) }
+    ensures fault { FailsWith result (model.windows_fault window lines.now) }
 {
     let mut made = Vec::new(alloc);
     for line in lines {
@@ -45,6 +51,7 @@ pub(crate) fn cut_lines(
 ) -> Result<String, CutFault>
     ensures there { OnOk result (model.have_window window lines.now ≡ true) }
     ensures cut { IfOk result (λ text. IsCut head.now (model.cut_lines window lines.now) assume (string_bytes text)) }
+    ensures fault { NamesFault result (model.cut_fault head.now assume window lines.now) }
 {
     match window {
         Some(window) => {

@@ -1,5 +1,5 @@
 -- The statuses and texts of faults.
-use Rattle.std.specs.Prelude.{◌≡◌, ⊤, ℕ, List, ◌++◌, None, Some, codes, string_bytes}
+use Rattle.std.specs.Prelude.{◌≡◌, ◌⊎◌, ⊤, ℕ, List, ◌++◌, None, Some, codes, string_bytes}
 use Rattle.std.specs.Fmt.{decimal}
 use Rattle.reh_desk.specs.declared.desks.CloseCause.{CloseCause}
 use Rattle.reh_desk.specs.declared.desks.CloseCause.TheVariants.{Seats, StillOut, Mismatch}
@@ -71,6 +71,10 @@ abbrev pub TellsUnread : List ℕ → List ℕ → RunFault → Type 0
 TellsUnread failed path (Unread text) = SaysUndone failed path (string_bytes text)
 TellsUnread failed path NoMemory = ⊤
 TellsUnread failed path other = ⊥
+
+-- the fault says that this file can't be opened or that it can't be read, or there is no memory
+abbrev pub TellsUnreadFile : List ℕ → RunFault → Type 0
+TellsUnreadFile path run = TellsUnread (codes "open") path run ⊎ TellsUnread (codes "read") path run
 
 -- the fault says that a file can't be written, or there is no memory
 abbrev pub TellsUnwritten : List ℕ → RunFault → Type 0

@@ -1,2 +1,3 @@
 pub mod Colors
 pub mod Faults
+pub mod Inputs

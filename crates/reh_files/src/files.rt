@@ -1,6 +1,8 @@
 // Files that are read, and what is written to standard output.
 ghost use Rattle.std.specs.Prelude.{◌≡◌, codes, length, string_bytes, IfErr, IfOk, OnOk, ◌+◌};
-ghost use Rattle.reh_files.specs.Faults.{SaysUndone, TellsUnread, TellsUnwritten};
+ghost use Rattle.std.specs.Io.{StartsWith};
+ghost use Rattle.reh_files.specs.Faults.{SaysUndone, TellsUnread, TellsUnreadFile, TellsUnwritten};
+ghost use Rattle.reh_files.specs.Inputs.{IsInputFrom, IsInventoryFrom};
 
 use crate::faults::RunFault;
 use reh_census_file::is_census;
@@ -29,7 +31,8 @@ pub fn read_on(
     most: u64,
     bytes: &mut Vec<u8>,
 ) -> Result<File, RunFault>
-    ensures { IfErr result (TellsUnread (codes "read") path.now) }
+    ensures fault { IfErr result (TellsUnread (codes "read") path.now) }
+    ensures appends { StartsWith bytes.new.items bytes.old.items }
 {
     let mut part = file.take(most);
     match part.read_to_end(bytes) {
@@ -48,7 +51,9 @@ pub const PICTURE_BYTES: u64 = MAX_PICTURE_BYTES as u64 + 1;
 const MORE_CENSUS_BYTES: u64 = 1 << 28;
 
 /// The bytes of a picture's file.
-pub fn read_picture(rt: &HostRuntime, path: &str) -> Result<Vec<u8>, RunFault> {
+pub fn read_picture(rt: &HostRuntime, path: &str) -> Result<Vec<u8>, RunFault>
+    ensures { IfErr result (TellsUnreadFile path.now) }
+{
     let mut bytes = Vec::new(rt.alloc());
     read_on(rt, path, open_file(rt, path)?, PICTURE_BYTES, &mut bytes)?;
     Ok(bytes)
@@ -67,7 +72,10 @@ pub enum InputBytes {
 
 /// The bytes of an input's file: all of a census, and of a picture as many as are read of one; or the file of an inventory, or
 /// all its bytes, where it can be read only once.
-pub fn read_input_file(rt: &HostRuntime, path: &str) -> Result<InputBytes, RunFault> {
+pub fn read_input_file(rt: &HostRuntime, path: &str) -> Result<InputBytes, RunFault>
+    ensures begins { IfOk result (IsInputFrom INVENTORY_BEGINS.now) }
+    ensures fault { IfErr result (TellsUnreadFile path.now) }
+{
     let begins = INVENTORY_BEGINS.as_bytes();
     let mut bytes = Vec::new(rt.alloc());
     let file = read_on(
@@ -88,12 +96,10 @@ pub fn read_input_file(rt: &HostRuntime, path: &str) -> Result<InputBytes, RunFa
 }
 
 /// An inventory of whose file this was read: the file at its beginning, or all bytes of one that can't be set back to it.
-fn rewound(
-    rt: &HostRuntime,
-    path: &str,
-    file: File,
-    start: Vec<u8>,
-) -> Result<InputBytes, RunFault> {
+fn rewound(rt: &HostRuntime, path: &str, file: File, start: Vec<u8>) -> Result<InputBytes, RunFault>
+    ensures begins { IfOk result (IsInventoryFrom start.items) }
+    ensures fault { IfErr result (TellsUnread (codes "read") path.now) }
+{
     let (mut file, mut bytes) = (file, start);
     if file.rewind().is_ok() {
         return Ok(InputBytes::Inventory(file));
@@ -105,7 +111,9 @@ fn rewound(
 }
 
 /// The bytes of a script's file, and of a longer one a byte more than a script may have.
-pub fn read_script(rt: &HostRuntime, path: &str) -> Result<Vec<u8>, RunFault> {
+pub fn read_script(rt: &HostRuntime, path: &str) -> Result<Vec<u8>, RunFault>
+    ensures { IfErr result (TellsUnreadFile path.now) }
+{
     let mut bytes = Vec::new(rt.alloc());
     read_on(
         rt,
@@ -186,7 +194,9 @@ fn push_script(scripts: &mut Vec<Vec<u8>>, script: Vec<u8>) -> Result<(), AllocE
 }
 
 /// Writes bytes to standard output.
-pub fn write_out(rt: &HostRuntime, bytes: &[u8]) -> Result<(), RunFault> {
+pub fn write_out(rt: &HostRuntime, bytes: &[u8]) -> Result<(), RunFault>
+    ensures { IfErr result (λ fault. fault ≡ RunFault.WriteFault) }
+{
     let mut writer = io::writer(rt);
     if writer.write_all(bytes).is_ok() && writer.flush().is_ok() {
         Ok(())

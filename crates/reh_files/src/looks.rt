@@ -1,5 +1,5 @@
 // How the program shows what it says: in colour or not, and with more than faults on standard error or not.
-ghost use Rattle.std.specs.Prelude.{◌≡◌};
+ghost use Rattle.std.specs.Prelude.{◌≡◌, false, IfErr};
 ghost use Rattle.reh_files.specs.Colors as model;
 
 use crate::faults::RunFault;
@@ -23,7 +23,9 @@ pub struct Looks {
 
 impl Looks {
     /// Of a program whose words weren't read.
-    pub fn plain() -> Looks {
+    pub fn plain() -> Looks
+        ensures { result ≡ record { is_quiet = false; colors_answers = false; colors_faults = false } }
+    {
         Looks {
             is_quiet: false,
             colors_answers: false,
@@ -32,7 +34,11 @@ impl Looks {
     }
 
     /// As it is asked for.
-    pub fn of(rt: &HostRuntime, style: Style) -> Looks {
+    pub fn of(rt: &HostRuntime, style: Style) -> Looks
+        ensures quiet { result.is_quiet ≡ style.quiet }
+        ensures answers { model.MayShow style.color result.colors_answers }
+        ensures faults { model.MayShow style.color result.colors_faults }
+    {
         Looks {
             is_quiet: style.quiet,
             colors_answers: is_colored(rt, style.color, rt.stdout().is_terminal()),
@@ -52,7 +58,9 @@ impl Looks {
 }
 
 /// Whether colours are shown where it is a terminal or not. The environment is asked for a terminal alone.
-fn is_colored(rt: &HostRuntime, color: Color, is_terminal: bool) -> bool {
+fn is_colored(rt: &HostRuntime, color: Color, is_terminal: bool) -> bool
+    ensures { model.MayShow color result }
+{
     let is_unwanted = is_terminal && (is_set(rt, "NO_COLOR") || is_dumb(rt));
     color.is_shown(is_terminal, is_unwanted)
 }
@@ -75,7 +83,9 @@ fn is_dumb(rt: &HostRuntime) -> bool {
 }
 
 /// Writes an answer to standard output, in colour where that is shown. Where there is no memory for colours, it has none.
-pub fn show_answer(rt: &HostRuntime, looks: Looks, answer: &[u8]) -> Result<(), RunFault> {
+pub fn show_answer(rt: &HostRuntime, looks: Looks, answer: &[u8]) -> Result<(), RunFault>
+    ensures { IfErr result (λ fault. fault ≡ RunFault.WriteFault) }
+{
     if looks.colors_answers
         && let Ok(shown) = colored(rt.alloc(), answer)
     {

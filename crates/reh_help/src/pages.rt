@@ -1,6 +1,7 @@
 // The pages of help.
-ghost use Rattle.std.specs.Prelude.{IfOk, string_bytes};
-ghost use Rattle.reh_help.specs.Pages.{IsCommandPageOf, IsPageOf};
+ghost use Rattle.std.specs.Prelude.{IfOk, OnOk, string_bytes};
+ghost use Rattle.reh_help.specs.Pages.{BeginsWith, HasTitle, IsCommandPageOf, IsCommandPart, IsRefusalLine};
+ghost use Rattle.reh_help.specs.Pages.{IsRefusalsPage, IsScriptPage};
 
 use crate::advice::advice;
 use crate::commands::effect;
@@ -23,72 +24,83 @@ applies is the answer, and nothing is changed. rehearse help 26 says what to loo
 ";
 
 /// The commands of a script: each with its words, and what happens by it.
-pub fn script_page(alloc: Global) -> Result<String, AllocError> {
+pub fn script_page(alloc: Global) -> Result<String, AllocError>
+    ensures { IfOk result (λ text. IsScriptPage (string_bytes text)) }
+{
     let mut text = String::from_str(alloc, SCRIPT)?;
     for verb in Verb::all() {
-        let page = command_page(alloc, verb)?;
-        write!(text, "\n{page}")?;
+        let part = command_part(alloc, verb)?;
+        text.push_str(part.as_str())?;
     }
     Ok(text)
+}
+
+/// The page of a command, after an empty line.
+fn command_part(alloc: Global, verb: Verb) -> Result<String, AllocError>
+    ensures { IfOk result (λ part. IsCommandPart verb (string_bytes part)) }
+{
+    let page = command_page(alloc, verb)?;
+    let part = format!(in alloc; "\n{page}")?;
+    Ok(part)
 }
 
 /// The page of a command of a script: its words, and what happens by it.
 pub fn command_page(alloc: Global, verb: Verb) -> Result<String, AllocError>
     ensures { IfOk result (λ text. IsCommandPageOf verb (string_bytes text)) }
 {
-    let mut text = String::from_str(alloc, verb.name())?;
-    let rest = after_name(alloc, verb)?;
-    text.push_str(rest.as_str())?;
-    Ok(text)
-}
-
-/// What is said of a command, after its name.
-fn after_name(alloc: Global, verb: Verb) -> Result<String, AllocError> {
-    let mut text = String::new(alloc);
-    for role in verb.roles() {
-        write!(text, " {role}")?;
-    }
     let effect = effect(verb);
-    write!(text, "\n    {effect}\n")?;
+    let text = format!(in alloc; "{verb}\n    {effect}\n")?;
     Ok(text)
 }
 
 /// The refusals, by their numbers: each with its name, and when it is the answer.
-pub fn refusals_page(alloc: Global) -> Result<String, AllocError> {
+pub fn refusals_page(alloc: Global) -> Result<String, AllocError>
+    ensures { IfOk result (λ text. IsRefusalsPage (string_bytes text)) }
+{
     let mut text = String::from_str(alloc, REFUSALS)?;
     for topic in topics() {
-        let name = named(alloc, &topic)?;
-        let meaning = meaning(&topic);
-        write!(text, "{name:<25}{meaning}\n")?;
+        let line = refusal_line(alloc, &topic)?;
+        text.push_str(line.as_str())?;
     }
     Ok(text)
 }
 
+/// The line of a refusal.
+fn refusal_line(alloc: Global, topic: &Topic) -> Result<String, AllocError>
+    ensures { IfOk result (λ line. IsRefusalLine topic.now (string_bytes line)) }
+{
+    let name = named(alloc, topic)?;
+    let meaning = meaning(topic);
+    let line = format!(in alloc; "{name:<25}{meaning}\n")?;
+    Ok(line)
+}
+
 /// A refusal's number and name, and what its value is.
-fn named(alloc: Global, topic: &Topic) -> Result<String, AllocError> {
+fn named(alloc: Global, topic: &Topic) -> Result<String, AllocError>
+    ensures { IfOk result (λ text. HasTitle topic.now (string_bytes text)) }
+{
     let (number, name) = (topic.number(), topic.name());
-    match value_word(topic) {
-        Some(word) => format!(in alloc; "{number} {name} ({word})"),
-        None => format!(in alloc; "{number} {name}"),
+    let mut text = format!(in alloc; "{number} {name}")?;
+    push_value(&mut text, topic)?;
+    Ok(text)
+}
+
+/// Adds what a refusal's value is, if it has one.
+fn push_value(text: &mut String, topic: &Topic) -> Result<(), AllocError>
+    ensures { OnOk result (BeginsWith (string_bytes text.old) (string_bytes text.new)) }
+{
+    if let Some(word) = value_word(topic) {
+        write!(text, " ({word})")?;
     }
+    Ok(())
 }
 
 /// The page of a refusal: what it means, and what to look at next.
 pub fn refusal_page(alloc: Global, topic: &Topic) -> Result<String, AllocError>
-    ensures { IfOk result (λ text. IsPageOf topic.now (string_bytes text)) }
+    ensures { IfOk result (λ text. HasTitle topic.now (string_bytes text)) }
 {
-    let (number, name) = (topic.number(), topic.name());
-    let mut text = format!(in alloc; "{number} {name}")?;
-    let told = told(alloc, topic)?;
-    text.push_str(told.as_str())?;
-    Ok(text)
-}
-
-/// What is said of a refusal, after its number and name.
-fn told(alloc: Global, topic: &Topic) -> Result<String, AllocError> {
+    let mut text = named(alloc, topic)?;
     let (meaning, advice) = (meaning(topic), advice(topic));
-    match value_word(topic) {
-        Some(word) => format!(in alloc; " ({word})\n\n    {meaning}\n\n{advice}\n"),
-        None => format!(in alloc; "\n\n    {meaning}\n\n{advice}\n"),
-    }
+    write!(text, "\n\n    {meaning}\n\n{advice}\n")?;
+    Ok(text)
 }

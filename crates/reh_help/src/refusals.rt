@@ -1,8 +1,9 @@
 // Refusals by their numbers and names, and what is said of each.
-ghost use Rattle.std.specs.Prelude.{◌≡◌, ◌==◌, true, find, is_some, IfSome};
+ghost use Rattle.std.specs.Prelude.{◌≡◌, ◌==◌, true, find, is_some, length, map, IfSome};
+ghost use Rattle.std.specs.List.{range_with_len};
 ghost use Rattle.std.specs.Str.{bytes_eq};
 ghost use Rattle.reh_types.specs.Texts.{refusal_name, refusal_number};
-ghost use Rattle.reh_help.specs.Pages.{IsNamedBy, topic_name, topic_number, topic_value};
+ghost use Rattle.reh_help.specs.Pages.{IsNamedBy, SaysNumber, topic_name, topic_number, topic_value};
 
 use reh_types::{BookieIx, Refusal};
 
@@ -39,6 +40,7 @@ impl Topic {
 
 /// All refusals that something is said of, in the order of their numbers: for each refusal, one that has its number.
 pub(crate) fn topics() -> [Topic; 44]
+    ensures numbers { map topic_number result ≡ range_with_len 1 (length result) }
     ensures each { (refusal : Refusal)
         → is_some (find (λ topic. topic_number topic == refusal_number refusal) result) ≡ true }
     ensures named { (refusal : Refusal)
@@ -110,10 +112,12 @@ fn first_numbered(topics: &[Topic], number: u8) -> Option<Topic>
         .find(|topic| topic.number() == number)
 }
 
-/// The refusal that a word names, by its name or its number. Each name that is printed of a refusal is found.
+/// The refusal that a word names, by its name or its number. Each name and each number of a refusal is found.
 pub fn topic_named(word: &str) -> Option<Topic>
     ensures named { IfSome result (IsNamedBy word.now) }
     ensures each { (refusal : Refusal) → refusal_name refusal ≡ word.now → is_some result ≡ true }
+    ensures numbered { (refusal : Refusal)
+        → SaysNumber word.now (refusal_number refusal) → is_some result ≡ true }
 {
     match topic_by_name(&topics(), word) {
         Some(topic) => Some(topic),
@@ -131,7 +135,9 @@ fn topic_by_name(topics: &[Topic], word: &str) -> Option<Topic>
 
 /// The refusal whose number a word says.
 fn topic_by_number(word: &str) -> Option<Topic>
-    ensures { IfSome result (IsNamedBy word.now) }
+    ensures named { IfSome result (λ topic. SaysNumber word.now (topic_number topic)) }
+    ensures each { (refusal : Refusal)
+        → SaysNumber word.now (refusal_number refusal) → is_some result ≡ true }
 {
     match word.parse::<u8>() {
         Ok(number) => topic_of(number),

@@ -1,5 +1,5 @@
 -- What is said of an inventory that is checked, and why one isn't read or counted.
-use Rattle.std.specs.Prelude.{◌≡◌, ℕ, Bool, true, false, List, ◌++◌, codes, length, string_bytes}
+use Rattle.std.specs.Prelude.{◌≡◌, ℕ, Bool, true, false, List, ◌++◌, codes}
 use Rattle.std.specs.Fmt.{decimal}
 use Rattle.reh_inventory.specs.Inventories.{Inventory, fault_text}
 use Rattle.reh_inventory.specs.declared.inventories.InventoryFault.{InventoryFault}
@@ -66,3 +66,8 @@ TellsUnreadInventory path read_fault.TooLong run =
     IsUnfit (told path (codes "a line has more than " ++ (decimal MAX_LINE_BYTES ++ codes " bytes"))) run
 TellsUnreadInventory path (read_fault.Line line fault) run = TellsUncounted path line fault run
 TellsUnreadInventory path read_fault.NoMemory run = run ≡ NoMemory
+
+-- a fault tells why a line isn't read: it is that of some reading
+pub record TellsUnreadLine (path : List ℕ) (run : RunFault) : Type 0 where
+  pub fault : ReadFault
+  pub tells : TellsUnreadInventory path fault run

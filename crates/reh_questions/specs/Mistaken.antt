@@ -1,12 +1,20 @@
 -- A file that is no picture, but an inventory.
-use Rattle.std.specs.Prelude.{◌≡◌, ℕ, Bool, true, false, ◌&&◌, List, ◌++◌, codes, eqb, Option, None, Some, Result, Ok, Err}
+use Rattle.std.specs.Prelude.{◌≡◌, ◌⊎◌, ⊤, ℕ, ◌==◌, Bool, true, false, ◌&&◌, List, ◌++◌, codes, eqb, Option, None, Some, Result, Ok, Err}
 use Rattle.std.specs.Borrow.{Bor}
-use Rattle.std.specs.List.{starts_with}
-use Rattle.reh_files.specs.Faults.{run_fault_text}
-use Rattle.reh_questions.specs.Inputs.{IsUnfit}
+use Rattle.std.specs.List.{before_first, starts_with}
+use Rattle.reh_files.specs.Faults.{refused_by, run_fault_text}
+use Rattle.reh_inventory.specs.Inventories.{added_bytes, no_lines}
+use Rattle.reh_inventory.specs.declared.inventories.InventoryFault.TheVariants.{NoHead}
+use Rattle.reh_picture.specs.declared.places.LocatedFault.{LocatedFault}
+use Rattle.reh_questions.specs.Inputs.{IsUnfit, TellsUnreadable}
+use Rattle.reh_questions.specs.Inventories.{TellsLine}
 use Rattle.reh_files.specs.declared.faults.RunFault.{RunFault}
 use Rattle.reh_files.specs.declared.faults.RunFault.TheVariants.{Picture, Refused}
 use Rattle.reh_files.specs.declared.files.TheConstants.{INVENTORY_BEGINS}
+use Rattle.reh_inputs.specs.declared.inputs.InputFault.{InputFault}
+use Rattle.reh_words.specs.declared.tasks.PlayWords.TheVariants.{Files, Talk}
+use Rattle.reh_words.specs.declared.tasks.Task.{Task}
+use Rattle.reh_words.specs.declared.tasks.Task.TheVariants as task
 
 -- whether bytes begin as an inventory
 abbrev pub begins_as_inventory : List ℕ → Bool
@@ -39,3 +47,35 @@ ExplainsOn (Some path) fault run = (begins : Bool) × Explains path.now (is_refu
 abbrev pub EndsOn : Option (Bor (List ℕ)) → Result ℕ RunFault → Result ℕ RunFault → Type 0
 EndsOn picture (Ok status) end = end ≡ Ok status
 EndsOn picture (Err fault) end = (told : RunFault) × (end ≡ Err told) × ExplainsOn picture fault told
+
+-- An inventory without its first line
+
+-- the first line of these bytes, without its end
+abbrev pub first_line : List ℕ → List ℕ
+first_line bytes = before_first (λ b. b == 10) bytes
+
+-- the bytes begin with another line of an inventory than its first one, and the fault says so
+pub record TellsHeadless (path bytes : List ℕ) (run : RunFault) : Type 0 where
+  pub is_so : added_bytes no_lines (first_line bytes) ≡ Err NoHead
+  pub says : TellsLine path 1 NoHead run
+
+-- what is told of bytes is so; where nothing is told, they may be such an inventory if there is no memory
+abbrev pub IsHeadless : List ℕ → List ℕ → Option RunFault → Type 0
+IsHeadless path bytes (Some run) = TellsHeadless path bytes run
+IsHeadless path bytes None = ⊤
+
+-- why a file is no picture: it lacks the first line of an inventory, or its picture has this fault
+abbrev pub TellsNoPicture : List ℕ → List ℕ → LocatedFault → RunFault → Type 0
+TellsNoPicture path bytes located run = TellsHeadless path bytes run ⊎ (run ≡ refused_by located.fault located)
+
+-- and why it is no input
+abbrev pub TellsNoInput : List ℕ → List ℕ → InputFault → RunFault → Type 0
+TellsNoInput path bytes fault run = TellsHeadless path bytes run ⊎ TellsUnreadable path fault run
+
+-- the file of the picture on which a rehearsal is played, if it is in one
+abbrev pub played_picture : Task → Option (List ℕ)
+played_picture (task.Play (Talk picture prints)) = Some picture.now
+played_picture (task.Play (Files picture script crew prints)) = Some picture.now
+played_picture (task.PlayOut words) = Some words.picture.now
+played_picture (task.Drill files) = Some files.picture.now
+played_picture other = None

@@ -8,6 +8,7 @@ ghost use Rattle.reh_inputs.specs.Named.{named_of as model_named, taken_of as mo
 ghost use Rattle.reh_questions.specs.Against.{cut_notes, is_cut, is_stream};
 ghost use Rattle.reh_questions.specs.Endings.{EndsCensus};
 ghost use Rattle.reh_questions.specs.Inputs as model;
+ghost use Rattle.reh_questions.specs.Mistaken.{TellsNoInput};
 
 use crate::afters::text_after;
 use crate::inventories::{Source, count_bytes, count_inventory};
@@ -434,7 +435,9 @@ fn read_whole(alloc: Global, path: &str, bytes: &[u8]) -> Result<FileInput, RunF
 }
 
 /// The fault of a run whose file is no input: of an inventory without its first line, that this isn't there.
-fn no_input(alloc: Global, path: &str, bytes: &[u8], fault: InputFault) -> RunFault {
+fn no_input(alloc: Global, path: &str, bytes: &[u8], fault: InputFault) -> RunFault
+    ensures { TellsNoInput path.now bytes.now fault result }
+{
     if let InputFault::Picture(_) = &fault
         && let Some(headless) = headless(alloc, path, bytes)
     {

@@ -1,5 +1,6 @@
 // Inventories, read line by line: one that is checked, and one whose ledgers are counted.
-ghost use Rattle.std.specs.Prelude.{◌≡◌, None, Some, IfOk, length, string_bytes};
+ghost use Rattle.std.specs.Prelude.{◌≡◌, ◌++◌, None, Some, IfErr, IfOk, IfSome, OnOk, length, string_bytes};
+ghost use Rattle.std.specs.Io.BufRead.{DropsThrough, take_through};
 ghost use Rattle.reh_inventory.specs.Inventories.{fault_text};
 ghost use Rattle.reh_inventory_read.specs.declared.faults.ReadFault.TheVariants.{TooLong};
 ghost use Rattle.reh_questions.specs.Inputs.{IsCountedOf, IsUnfit};
@@ -93,7 +94,12 @@ pub fn read_line<B: BufRead>(
     path: &str,
     reader: &mut B,
     line: &mut Vec<u8>,
-) -> Result<(), RunFault> {
+) -> Result<(), RunFault>
+    ensures line { OnOk result (IfSome (B.remaining reader.old)
+        (λ bytes. line.new.items ≡ line.old.items ++ take_through 10 bytes)) }
+    ensures rest { OnOk result (DropsThrough (B.remaining reader.old) (B.remaining reader.new) 10) }
+    ensures fault { IfErr result (model.TellsUnreadLine path.now) }
+{
     match read_next(reader, line) {
         Ok(()) => Ok(()),
         Err(fault) => Err(uncounted_file(alloc, path, fault)),

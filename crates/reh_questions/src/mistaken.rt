@@ -1,5 +1,5 @@
 // A file that is no picture, but an inventory, or one without its first line.
-ghost use Rattle.std.specs.Prelude.{◌≡◌, ◌&&◌, IfOk};
+ghost use Rattle.std.specs.Prelude.{◌≡◌, ◌==◌, ◌&&◌, IfOk, option_map, position};
 ghost use Rattle.reh_picture.specs.Pictures.{located_picture_of};
 ghost use Rattle.reh_questions.specs.Mistaken as model;
 
@@ -54,7 +54,9 @@ pub(crate) fn explained(alloc: Global, path: &str, bytes: &[u8], fault: RunFault
 }
 
 /// The fault of an inventory without its first line, if bytes begin with another line of one.
-pub(crate) fn headless(alloc: Global, path: &str, bytes: &[u8]) -> Option<RunFault> {
+pub(crate) fn headless(alloc: Global, path: &str, bytes: &[u8]) -> Option<RunFault>
+    ensures { model.IsHeadless path.now bytes.now result }
+{
     match Inventory::new(alloc).add(alloc, first_line(bytes)) {
         Err(InventoryFault::NoHead) => Some(refused_line(alloc, path, 1, InventoryFault::NoHead)),
         _ => None,
@@ -62,15 +64,26 @@ pub(crate) fn headless(alloc: Global, path: &str, bytes: &[u8]) -> Option<RunFau
 }
 
 /// The first line, without its end.
-fn first_line(bytes: &[u8]) -> &[u8] {
-    match bytes.iter().position(|byte| *byte == b'\n') {
+fn first_line(bytes: &[u8]) -> &[u8]
+    ensures { result.now ≡ model.first_line bytes.now }
+{
+    match first_lf(bytes) {
         Some(end) => &bytes[..end],
         None => bytes,
     }
 }
 
+/// Where the first LF stands, if there is one.
+fn first_lf(bytes: &[u8]) -> Option<usize>
+    ensures { result ≡ position (λ b. b == 10) bytes.now }
+{
+    bytes.iter().position(|byte| *byte == b'\n')
+}
+
 /// The fault of a file that is checked, and is no picture.
-pub fn no_picture(alloc: Global, path: &str, bytes: &[u8], located: LocatedFault) -> RunFault {
+pub fn no_picture(alloc: Global, path: &str, bytes: &[u8], located: LocatedFault) -> RunFault
+    ensures { model.TellsNoPicture path.now bytes.now located result }
+{
     match headless(alloc, path, bytes) {
         Some(fault) => fault,
         None => RunFault::from(located),
@@ -78,7 +91,9 @@ pub fn no_picture(alloc: Global, path: &str, bytes: &[u8], located: LocatedFault
 }
 
 /// The file of the picture on which a rehearsal is played, if it is in one.
-pub fn picture_of<'a>(task: &Task<'a>) -> Option<&'a str> {
+pub fn picture_of<'a>(task: &Task<'a>) -> Option<&'a str>
+    ensures { option_map (λ picture. picture.now) result ≡ model.played_picture task.now }
+{
     match task {
         Task::Play(PlayWords::Talk { picture, .. } | PlayWords::Files { picture, .. }) => {
             Some(*picture)

@@ -1,5 +1,5 @@
 // Answers with notes on the files by which they are given.
-ghost use Rattle.std.specs.Prelude.{◌≡◌, IfOk, map, string_bytes};
+ghost use Rattle.std.specs.Prelude.{◌≡◌, IfErr, IfOk, map, string_bytes};
 ghost use Rattle.reh_questions.specs.Against as model;
 
 use crate::against::cut_notes;
@@ -29,7 +29,9 @@ pub(crate) fn with_notes(
 }
 
 /// Writes an answer to standard output; and before it the notes to standard error, unless that is to have nothing but faults.
-pub(crate) fn write_noted(rt: &HostRuntime, looks: Looks, noted: &Noted) -> Result<(), RunFault> {
+pub(crate) fn write_noted(rt: &HostRuntime, looks: Looks, noted: &Noted) -> Result<(), RunFault>
+    ensures { IfErr result (λ fault. fault ≡ RunFault.WriteFault) }
+{
     if !looks.is_quiet {
         say_notes(rt, &noted.notes);
     }

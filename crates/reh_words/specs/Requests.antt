@@ -1,10 +1,10 @@
 -- What the program is asked, by all that is given.
 use Rattle.std.specs.Prelude.{◌≡◌, ◌≢◌, ◌⊎◌, ℕ, List, None, Some, codes}
 use Rattle.clap.specs.declared.parser.matches.ArgMatches.{ArgMatches}
-use Rattle.reh_types.specs.Texts.{refusal_name}
+use Rattle.reh_types.specs.Texts.{refusal_name, refusal_number}
 use Rattle.reh_types.specs.declared.refusals.Refusal.{Refusal}
 use Rattle.reh_commands.specs.Script.{verb_of}
-use Rattle.reh_help.specs.Pages.{IsNamedBy}
+use Rattle.reh_help.specs.Pages.{IsNamedBy, SaysNumber}
 use Rattle.reh_words.specs.Asked.{IsGiven, IsTask, word_of}
 use Rattle.reh_words.specs.Styles.{IsStyle}
 use Rattle.reh_words.specs.declared.tasks.HelpTopic.{HelpTopic}
@@ -13,10 +13,11 @@ use Rattle.reh_words.specs.declared.requests.Request.{Request}
 use Rattle.reh_words.specs.declared.tasks.Task.{Task}
 use Rattle.reh_words.specs.declared.tasks.Task.TheVariants as task
 
--- the word is no command of a script, and no name of a refusal
+-- the word is no command of a script, and no name or number of a refusal
 pub record IsUnknown (word : List ℕ) : Type 0 where
   pub no_verb : verb_of word ≡ None
   pub no_name : (refusal : Refusal) → refusal_name refusal ≢ word
+  pub no_number : (refusal : Refusal) → SaysNumber word (refusal_number refusal) → ⊥
 
 -- the word names what help is asked on
 abbrev pub IsTopic : List ℕ → HelpTopic → Type 0

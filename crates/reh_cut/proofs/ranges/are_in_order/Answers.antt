@@ -1,7 +1,6 @@
-use Rattle.std.proofs.Common.{◌≡◌, ◌∙◌, true, rules, of_calls, ap, sym, subst, Bool}
+use Rattle.std.proofs.Common.{◌≡◌, rules, of_calls, subst, Bool}
 use Rattle.std.specs.List.{IsAllAdjacentAnswer}
 use Rattle.std.proofs.lemmas.Fn.{always_returns_same}
-use Rattle.std.specs.Prelude.{ℕ}
 use Rattle.reh_cut.proofs.RangeLaws.{are_next, in-order}
 use Rattle.reh_cut.proofs.ranges.are_in_order.Goals as goal
 

@@ -1,5 +1,5 @@
 -- A word that no topic has as its name is no refusal's.
-use Rattle.std.proofs.Common.{◌≡◌, ◌∙◌, ℕ, List, Option, None, ap, false, find, is_some, sym, true}
+use Rattle.std.proofs.Common.{◌≡◌, ◌∙◌, ℕ, List, Option, ap, find, is_some, sym, true}
 use Rattle.std.proofs.lemmas.Bool.{true≢false}
 use Rattle.std.specs.Str.{bytes_eq}
 use Rattle.reh_help.specs.declared.refusals.Topic.{Topic}

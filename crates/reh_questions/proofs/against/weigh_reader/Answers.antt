@@ -1,5 +1,5 @@
 -- All lines were read once more.
-use Rattle.std.proofs.Common.{[], sym, rules}
+use Rattle.std.proofs.Common.{[]}
 use Rattle.reh_inventory_against.proofs.RereadLaws.{weighs-first}
 use Rattle.reh_questions.proofs.against.weigh_reader.Goals as goal
 
