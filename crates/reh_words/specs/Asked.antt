@@ -208,6 +208,7 @@ pub record IsPlan (given : ArgMatches) (words : PlanWords) : Type 0 where
   pub held : IsFlag given (codes "assume-held") words.assume_held
   pub empty : IsFlag given (codes "assume-empty") words.assume_empty
   pub crew_is : IsCrew given words.crew
+  pub out_is : option_map (λ folder. folder.now) words.output ≡ word_of given (codes "output")
 
 -- what one of these commands asks of a picture
 abbrev pub IsAskedOfPicture : List ℕ → ArgMatches → Task → Type 0

@@ -284,6 +284,11 @@ static PLAN: CommandRow = CommandRow {
             help: "Of an inventory: how many workers plan, 1 to 8; by default 1",
         },
         ArgRow {
+            name: "output",
+            takes: Takes::Value("FOLDER"),
+            help: "Of an inventory: a new folder for each ledger's picture and script",
+        },
+        ArgRow {
             name: "PICTURE",
             takes: Takes::File,
             help: "A file with the picture, or with --summary an inventory",

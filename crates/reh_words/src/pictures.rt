@@ -142,5 +142,6 @@ fn asked_plan<'a>(alloc: Global, given: &ArgMatches<'a>) -> Result<Option<Task<'
         assume_held: is_given(given, "assume-held"),
         assume_empty: is_given(given, "assume-empty"),
         crew,
+        output: given.get_str("output"),
     })))
 }

@@ -197,4 +197,6 @@ pub struct PlanWords<'a> {
     pub assume_empty: bool,
     /// Of an inventory: who plans for its ledgers.
     pub crew: Crew,
+    /// Of an inventory: the folder for the pictures and scripts of its ledgers.
+    pub output: Option<&'a str>,
 }

@@ -1,8 +1,10 @@
 -- The plans for the ledgers of an inventory that the command line asks for, and what is printed of them.
 use Rattle.std.specs.Prelude.{◌≡◌, ℕ, Bool, true, false, List, Option, map}
+use Rattle.std.specs.Option.{is_some}
 use Rattle.reh_cut.specs.declared.said.Assume.{Assume}
 use Rattle.reh_cut.specs.declared.said.Assume.TheVariants.{Nothing, Held, Empty}
 use Rattle.reh_inventory_plan.specs.Lines.{IsInventoryPlan}
+use Rattle.reh_inventory_plan.specs.Objects.{json_of}
 use Rattle.reh_inventory_plan.specs.Texts.{plans_text}
 use Rattle.reh_inventory_plan.specs.declared.asked.Asked.{Asked}
 use Rattle.reh_inventory_plan.specs.declared.inventories.InventoryPlan.{InventoryPlan}
@@ -21,6 +23,7 @@ pub record IsAskedBy (words : PlanWords) (asked : Asked) : Type 0 where
   pub racks : asked.min_racks ≡ words.min_racks
   pub assume : asked.assume ≡ assume_by words.assume_held words.assume_empty
   pub writers : asked.writers_roll ≡ words.writers_roll
+  pub files : asked.keeps_files ≡ is_some words.output
 
 -- plans as the words ask, for the ledgers of some whole inventory
 pub record ArePlans (words : PlanWords) (plan : InventoryPlan) : Type 0 where
@@ -28,3 +31,8 @@ pub record ArePlans (words : PlanWords) (plan : InventoryPlan) : Type 0 where
   pub is_asked : IsAskedBy words asked
   pub left : Option (List ℕ)
   pub are_plans : IsInventoryPlan asked left plan
+
+-- what is printed of them: JSON, where it is asked for, else text
+abbrev pub plans_printed : Bool → InventoryPlan → List ℕ
+plans_printed true plan = json_of plan
+plans_printed false plan = plans_text plan

@@ -2,16 +2,19 @@
 ghost use Rattle.std.specs.Prelude.{◌≡◌, map, IfOk, None, Option, Some};
 ghost use Rattle.rehearse.specs.InventoryPlans as model;
 
+use crate::outs::write_whole;
 use reh_census_file::{MAX_NAMES, NameList};
 use reh_cut::Assume;
-use reh_files::RunFault;
-use reh_inventory_plan::{Asked, InventoryPlan, plan_lines, plans_text};
+use reh_files::{RunFault, unwritten};
+use reh_inventory_plan::{
+    Asked, InventoryPlan, Outcome, PlannedLedger, plan_lines, plans_json, plans_text,
+};
 use reh_inventory_read::names_in;
 use reh_questions::{from_start, named_again, reader_of, uncounted_file, unfit, unknown_among};
 use reh_words::PlanWords;
 use std::alloc::{AllocError, Global};
 use std::fs::File;
-use std::thread;
+use std::{fs, thread};
 
 /// An inventory's file, or its bytes, where they can be read only once.
 #[derive(Drop)]
@@ -29,7 +32,7 @@ pub(crate) fn plan_inventory<T: thread::Threads + Sync>(
 ) -> Result<InventoryPlan, RunFault>
     ensures { IfOk result (model.ArePlans words.now) }
 {
-    if !words.only_sums && !words.as_json {
+    if !words.only_sums && !words.as_json && words.output.is_none() {
         return Err(scriptless(alloc, words.picture));
     }
     let plan = match input {
@@ -100,6 +103,7 @@ fn asked_of(alloc: Global, words: &PlanWords<'_>, names: &NameList) -> Result<As
         min_racks: words.min_racks,
         assume: assumed(words),
         writers_roll: words.writers_roll,
+        keeps_files: words.output.is_some(),
     })
 }
 
@@ -154,7 +158,7 @@ fn texts_of<'a>(alloc: Global, names: &'a NameList) -> Result<Vec<&'a str>, Allo
 /// That there is no one script of an inventory.
 fn scriptless(alloc: Global, path: &str) -> RunFault {
     unfit(format!(in alloc;
-        "{path} is an inventory: --summary says what plans for its ledgers come to; cut --ledgers ID,.. makes a picture of some"
+        "{path} is an inventory: --summary says what plans for its ledgers come to, --output FOLDER writes them; cut --ledgers ID,.. makes a picture of some"
     ))
 }
 
@@ -165,7 +169,7 @@ fn cut_off(alloc: Global, path: &str, ledgers: u64) -> RunFault {
     ))
 }
 
-/// What is printed of the plans.
+/// What is printed of the plans: text, or JSON.
 pub(crate) fn plans_said(
     alloc: Global,
     words: &PlanWords<'_>,
@@ -173,6 +177,39 @@ pub(crate) fn plans_said(
 ) -> Result<Vec<u8>, RunFault>
     ensures { IfOk result (λ text. text.items ≡ model.plans_printed words.now.as_json plan.now) }
 {
-    let text = plans_text(alloc, plan)?;
+    let text = if words.as_json {
+        plans_json(alloc, plan)?
+    } else {
+        plans_text(alloc, plan)?
+    };
     Ok(text.into_bytes())
+}
+
+/// Writes the picture of each ledger that has a plan, and its script, to files of a new folder.
+pub(crate) fn write_files(
+    rt: &HostRuntime,
+    folder: &str,
+    plan: &InventoryPlan,
+) -> Result<(), RunFault> {
+    if let Err(error) = fs::create_dir(rt, folder) {
+        return Err(unwritten(rt.alloc(), folder, error));
+    }
+    for outcome in &plan.outcomes {
+        if let Outcome::Planned(planned) = outcome {
+            write_planned(rt, folder, planned)?;
+        }
+    }
+    Ok(())
+}
+
+/// Writes the picture of a ledger that has a plan, and its script, if they are kept.
+fn write_planned(rt: &HostRuntime, folder: &str, planned: &PlannedLedger) -> Result<(), RunFault> {
+    let Some(files) = &planned.files else {
+        return Ok(());
+    };
+    let id = planned.ledger;
+    let picture = format!(in rt.alloc(); "{folder}/ledger-{id}.json")?;
+    let script = format!(in rt.alloc(); "{folder}/ledger-{id}.script")?;
+    write_whole(rt, picture.as_str(), files.picture.as_bytes())?;
+    write_whole(rt, script.as_str(), &files.script)
 }

@@ -81,7 +81,7 @@ fn write_end(
 ) -> Result<(), RunFault> {
     let state = session.state();
     let text = text_of(rt.alloc(), words.out, state, began)?;
-    write_whole(rt, words.out, text.as_str())?;
+    write_whole(rt, words.out, text.as_bytes())?;
     if !looks.is_quiet {
         say_unshown(rt, words.out, Unshown::of(state));
         say_marks(rt, words, state, began);
@@ -156,7 +156,7 @@ fn unheld_text(alloc: Global, out: &str, fault: &PictureFault) -> Result<String,
 
 /// Writes a file whole, or leaves it as it was: the text is written to a file beside it, `.part` after its name, which
 /// takes its place once all of it is on the disk. What is no file, as a device, and a link stay as they are, too.
-fn write_whole(rt: &HostRuntime, path: &str, text: &str) -> Result<(), RunFault> {
+pub(crate) fn write_whole(rt: &HostRuntime, path: &str, text: &[u8]) -> Result<(), RunFault> {
     if is_other(rt, path) {
         let reason = format!(in rt.alloc(); "cannot write {path}: it is no file")?;
         return Err(RunFault::Unwritten(reason));
@@ -186,9 +186,9 @@ fn is_other(rt: &HostRuntime, path: &str) -> bool {
 }
 
 /// Writes a text to a new file, and to the disk.
-fn fill(file: File, text: &str) -> io::Result<()> {
+fn fill(file: File, text: &[u8]) -> io::Result<()> {
     let mut file = file;
-    file.write_all(text.as_bytes())?;
+    file.write_all(text)?;
     file.sync_all()
 }
 

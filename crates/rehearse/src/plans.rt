@@ -6,7 +6,7 @@ ghost use Rattle.reh_types.specs.Sets as set;
 ghost use Rattle.reh_plan.specs.Named.{AreNamed};
 ghost use Rattle.rehearse.specs.Plans as model;
 
-use crate::inventory_plans::{InventoryInput, plan_inventory, plans_said};
+use crate::inventory_plans::{InventoryInput, plan_inventory, plans_said, write_files};
 use reh_cluster::{Names, State};
 use reh_files::{InputBytes, Looks, Progress, RunFault, Teller, read_input_file, write_out};
 use reh_inventory_plan::{InventoryPlan, Tails, add_unclosed, tails_of};
@@ -77,6 +77,9 @@ fn write_inventory(
 ) -> Result<u8, RunFault>
     ensures { IfOk result (λ status. status ≡ model.status_of_inventory plan.now) }
 {
+    if let Some(folder) = words.output {
+        write_files(rt, folder, plan)?;
+    }
     let text = plans_said(rt.alloc(), words, plan)?;
     write_out(rt, &text)?;
     Ok(plan.status())
@@ -126,9 +129,19 @@ fn plan_picture(alloc: Global, bytes: &[u8], words: &PlanWords<'_>) -> Result<Pl
     requires { model.IsPictureFor words.now bytes.now }
     ensures { IfOk result (model.ArePlanned words.now) }
 {
+    if words.output.is_some() || words.assume_held || words.assume_empty {
+        return Err(no_inventory(alloc, words.picture));
+    }
     let mut open = Vec::new(alloc);
     let planned = plan_of(alloc, bytes, words, &mut open)?;
     Ok(Plans::Picture(planned, open))
+}
+
+/// That a file is no inventory, though what is asked is for one.
+fn no_inventory(alloc: Global, path: &str) -> RunFault {
+    unfit(format!(in alloc;
+        "{path} is no inventory: --output, --assume-held and --assume-empty are for one"
+    ))
 }
 
 /// Says on standard error how many of these ledgers a plan closes so that entries may be missing, unless faults alone are to
