@@ -6,31 +6,26 @@ use reh_inventory::{Bookie, Head, LedgerLine, Name};
 use reh_types::MAX_BOOKIES;
 use std::alloc::{AllocError, Global};
 
-/// The bookies of the first line that may take places, by their numbers there, and about how many entries each was given so
-/// far.
+/// The bookies of the first line that may take places, by their numbers there.
 #[derive(Drop)]
 pub(crate) struct Takers {
     numbers: Vec<usize>,
-    given: Vec<u64>,
 }
 
 impl Takers {
-    /// Those of this first line, of which none was given anything yet.
+    /// Those of this first line.
     pub(crate) fn of(alloc: Global, head: &Head, asked: &Asked) -> Result<Takers, AllocError> {
         let mut numbers = Vec::new(alloc);
-        let mut given = Vec::new(alloc);
         for (number, bookie) in head.bookies.as_slice().iter().enumerate() {
-            given.push(0)?;
             if may_take(bookie, asked) {
                 numbers.push(number)?;
             }
         }
-        Ok(Takers { numbers, given })
+        Ok(Takers { numbers })
     }
 
-    /// The bookies that are offered the places of this ledger, by their numbers, the one that takes a place first coming first:
-    /// as many as there are missing members of one ensemble, of each rack. They follow one another from one on that the
-    /// ledger's id gives: of two the one that was given less.
+    /// The bookies that are offered the places of this ledger, by their numbers: as many as there are missing members of one
+    /// ensemble, of each rack. They come in an order that the ledger's id mixes, so that work is shared out over many ledgers.
     pub(crate) fn others_for(
         &self,
         alloc: Global,
@@ -39,11 +34,10 @@ impl Takers {
         line: &LedgerLine,
     ) -> Result<Vec<usize>, AllocError> {
         let most = most_missing(head, lost, line);
-        let start = self.start_for(line.id);
         let mut others = Vec::new(alloc);
         let mut racks = Vec::new(alloc);
-        for step in 0..self.numbers.len() {
-            let Some((number, bookie)) = self.taker(head, start, step) else {
+        for (_, number) in self.order_for(alloc, line.id)? {
+            let Some(bookie) = head.bookies.as_slice().get(number) else {
                 continue;
             };
             if others.len() < MAX_BOOKIES
@@ -57,50 +51,25 @@ impl Takers {
         Ok(others)
     }
 
-    /// From which of them on a ledger of this id is offered to them: of two, the one that was given less so far.
-    fn start_for(&self, id: u64) -> usize {
-        let count = self.numbers.len() as u64;
-        if count == 0 {
-            return 0;
+    /// All of them in the order that an id mixes.
+    fn order_for(&self, alloc: Global, id: u64) -> Result<Vec<(u64, usize)>, AllocError> {
+        let mut order = Vec::new(alloc);
+        for number in &self.numbers {
+            order.push((mixed(id, *number as u64), *number))?;
         }
-        let one = (id % count) as usize;
-        let other = (id % 4294967296 * 7919 % count) as usize;
-        if self.given_at(other) < self.given_at(one) {
-            other
-        } else {
-            one
-        }
+        order.sort()?;
+        Ok(order)
     }
+}
 
-    /// About how many entries the one at this place was given.
-    fn given_at(&self, place: usize) -> u64 {
-        match self.numbers.get(place) {
-            Some(number) => self.given.get(*number).copied().unwrap_or(0),
-            None => 0,
-        }
-    }
-
-    /// The one so many steps after that place, round and round, with its number.
-    fn taker<'a>(&self, head: &'a Head, start: usize, step: usize) -> Option<(usize, &'a Bookie)> {
-        let count = self.numbers.len();
-        if count == 0 {
-            return None;
-        }
-        let number = *self.numbers.get(start.wrapping_add(step) % count)?;
-        Some((number, head.bookies.as_slice().get(number)?))
-    }
-
-    /// Notes that the bookie of this name was given so many entries.
-    pub(crate) fn note(&mut self, head: &Head, name: &str, entries: usize) {
-        for number in 0..head.bookies.as_slice().len() {
-            if head.bookies.as_slice()[number].name.as_str() == name {
-                if let Some(given) = self.given.get_mut(number) {
-                    *given = given.saturating_add(entries as u64);
-                }
-                return;
-            }
-        }
-    }
+/// A number that an id and a bookie's number mix, by the steps of SplitMix64.
+fn mixed(id: u64, number: u64) -> u64 {
+    let both = id
+        .wrapping_mul(0x9e3779b97f4a7c15)
+        .wrapping_add(number.wrapping_mul(0xd1b54a32d192ed03));
+    let both = (both ^ (both >> 30)).wrapping_mul(0xbf58476d1ce4e5b9);
+    let both = (both ^ (both >> 27)).wrapping_mul(0x94d049bb133111eb);
+    both ^ (both >> 31)
 }
 
 /// Whether a bookie may take places.

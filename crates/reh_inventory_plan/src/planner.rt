@@ -6,7 +6,7 @@ ghost use Rattle.reh_inventory_plan.specs.Lines as model;
 
 use crate::asked::{Asked, misses_member};
 use crate::faults::Unplanned;
-use crate::ledgers::{NamedShare, Outcome, plan_ledger};
+use crate::ledgers::{Outcome, plan_ledger};
 use crate::others::Takers;
 use reh_inventory::{Head, Inventory, InventoryFault, LedgerLine, Line, read_line};
 use reh_inventory_census::{CountFault, line_fault};
@@ -80,21 +80,10 @@ impl Planner {
         ensures outcomes { OnOk result (self.new.outcomes.items
             ≡ self.old.outcomes.items ++ option_map_or (λ outcome. outcome ∷ []) outcome []) }
     {
-        let Some(outcome) = outcome else {
-            return Ok(());
-        };
-        if let Outcome::Planned(planned) = &outcome {
-            note_shares(&mut self.takers, &self.head, &planned.shares);
+        if let Some(outcome) = outcome {
+            self.outcomes.push(outcome)?;
         }
-        self.outcomes.push(outcome)?;
         Ok(())
-    }
-}
-
-/// Notes what bookies were given.
-fn note_shares(takers: &mut Takers, head: &Head, shares: &[NamedShare]) {
-    for share in shares {
-        takers.note(head, share.bookie.as_str(), share.entries);
     }
 }
 
