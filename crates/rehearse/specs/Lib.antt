@@ -1,6 +1,7 @@
 pub mod Checks
 pub mod Colors
 pub mod Endings
+pub mod Helps
 pub mod Plans
 pub mod Runs
 pub mod Tails

@@ -1,4 +1,8 @@
 // Help on scripts and refusals.
+ghost use Rattle.std.specs.Prelude.{IfOk, string_bytes};
+ghost use Rattle.reh_words.specs.Requests.{IsTopic};
+ghost use Rattle.rehearse.specs.Helps.{IsPageOn};
+
 use reh_commands::Verb;
 use reh_files::{RunFault, write_out};
 use reh_help::{command_page, refusal_page, refusals_page, script_page, topic_named};
@@ -49,7 +53,9 @@ fn topic_in(line: &[u8]) -> Option<HelpTopic<'_>> {
 }
 
 /// What a word asks for: it names a table, a refusal or a command, or nothing.
-fn topic_of(word: &str) -> HelpTopic<'_> {
+fn topic_of(word: &str) -> HelpTopic<'_>
+    ensures { IsTopic word.now result }
+{
     match word {
         "script" => return HelpTopic::Script,
         "refusals" => return HelpTopic::Refusals,
@@ -65,7 +71,9 @@ fn topic_of(word: &str) -> HelpTopic<'_> {
 }
 
 /// The page of a topic, or that there is none.
-fn page_on(alloc: Global, topic: &HelpTopic<'_>) -> Result<String, RunFault> {
+fn page_on(alloc: Global, topic: &HelpTopic<'_>) -> Result<String, RunFault>
+    ensures { IfOk result (λ page. IsPageOn topic.now (string_bytes page)) }
+{
     match topic {
         HelpTopic::Script => Ok(script_page(alloc)?),
         HelpTopic::Refusals => Ok(refusals_page(alloc)?),

@@ -13,5 +13,5 @@ returns-in-Ok c =
     let Q : Assume → Type 0 = λ assume. IsCutOf ids chosen.lines assume c.args.words.now.window (string_bytes c.in-Ok.text) in
     record {
       lines = chosen.lines;
-      cut = subst Q c.assumed.ensures (c.in-Ok.ensures ids chosen.lines chosen.are_chosen);
+      cut = subst Q c.assumed.ensures (c.in-Ok.ensures.cut ids chosen.lines chosen.are_chosen);
     }
