@@ -14,7 +14,7 @@ TESTS = Path(TOP, "tests", "calls")
 USES = (
     "reh_census reh_tally reh_rules reh_answer reh_against reh_waves reh_census_file reh_types reh_stripe reh_held reh_cluster"
     " reh_audit reh_scan reh_step reh_picture reh_session reh_desk reh_crew reh_lines reh_commands"
-    " reh_transcript reh_play reh_script reh_drill reh_inventory reh_inventory_census"
+    " reh_transcript reh_play reh_script reh_drill reh_inputs reh_inventory reh_inventory_census"
 ).split()
 
 
