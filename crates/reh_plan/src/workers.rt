@@ -20,7 +20,8 @@ use std::alloc::{AllocError, Global};
 use std::marker::Model;
 
 /// The bookies that may take places, which are those that are allowed to and can be written to, whether writers put them into
-/// their ensembles, in which racks bookies stand, and how much each one holds.
+/// their ensembles, in which racks bookies stand, and how much each one holds. Contracts see the rules for this, the racks and
+/// the loads.
 #[derive(Drop)]
 pub(crate) struct Workers {
     allowed: BookieSet,
