@@ -63,10 +63,11 @@ struct Told {
 /// are registered are lost, and after that there is nothing but AutoRecovery's work, by which no registration changes, and
 /// in which none but allowed bookies that aren't read-only lock tasks, recover ledgers, copy or take places; writers take
 /// part only with `writers_roll`, and then no ledger gets a grace or is fenced (`order`). Each bookie that copies entries or
-/// takes a place is registered, too (`filled`). Each place goes to a bookie with which no more write sets of the fragment lack
-/// racks than with any other that may work, is registered and is no member then (`places`). In the end the lost bookies aren't registered, and all others are as they
-/// were (`lost`). Each ledger that has a task then, or a member that isn't registered, is named in a comment (`named`), and
-/// no other is, and for a reason that is so in the end; a comment says that the script is full only where it is (`only`).
+/// takes a place is registered, too (`filled`). Each place goes to a bookie with which no more write sets of the fragment
+/// lack racks than with any other that may work, is registered and is no member then (`places`). In the end the lost bookies
+/// aren't registered, and all others are as they were (`lost`). Each ledger that has a task then, or a member that isn't
+/// registered, is named in a comment (`named`), and no other is, and for a reason that is so in the end; a comment says that
+/// the script is full only where it is (`only`).
 /// [`Planned::left`] lists exactly these ledgers, in picture order, each with the reason that its comment gives; there is one
 /// comment for each, and these are the last lines before those on racks (`left`). The summary has their number (`counted`).
 /// Where no comment says that the script is full, no place is left in the end that could be filled, no ledger that could be
