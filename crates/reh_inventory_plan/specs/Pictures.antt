@@ -14,7 +14,8 @@ use Rattle.reh_plan.specs.Ends.{Ends, IsHarmless}
 use Rattle.reh_plan.specs.Plans.{AreLeft, GoesOnBy, IsWithout, losses_of}
 use Rattle.reh_plan.specs.Racks.{Racks, fewer_racks, lines_before, racks_named}
 use Rattle.reh_plan.specs.Summaries.{IsSum}
-use Rattle.reh_plan.specs.Workers.{rules_by}
+use Rattle.reh_plan.specs.Takers.{AreWellTaken}
+use Rattle.reh_plan.specs.Workers.{may_work, rules_by}
 use Rattle.reh_plan.specs.declared.planning.Planned.{Planned}
 use Rattle.reh_inventory_plan.specs.Asked.{passes}
 use Rattle.reh_inventory_plan.specs.declared.asked.Asked.{Asked}
@@ -50,6 +51,7 @@ pub record IsPlan (state : Cluster) (part : Part) (writers_roll : Bool) (p : Pla
   pub without : IsWithout state (set.contains part.lost) p.plan.state
   pub order : GoesOnBy (rules_by part.allowed part.read_only writers_roll)
       (losses_of state (set.contains part.lost) (length state.names)) p.plan.events
+  pub places : AreWellTaken (may_work (rules_by part.allowed part.read_only writers_roll)) part.racks state p.plan.events
   pub left : AreLeft (rules_by part.allowed part.read_only writers_roll) state.names p.plan.state
       (lines_before p.fewer.items p.plan.lines) p.left.items
   pub ends : Ends (rules_by part.allowed part.read_only writers_roll) p.plan.state (lines_before p.fewer.items p.plan.lines)
