@@ -1,7 +1,8 @@
 // The plan for a picture, whose bookies are asked for by name.
-ghost use Rattle.std.specs.Prelude.{◌≡◌, IfOk, Ok};
+ghost use Rattle.std.specs.Prelude.{◌≡◌, ℕ, map, IfOk, Ok};
 ghost use Rattle.reh_picture.specs.Listings.{Lists};
 ghost use Rattle.reh_picture.specs.Pictures.{picture_of};
+ghost use Rattle.reh_types.specs.Sets as set;
 ghost use Rattle.reh_inventory_plan.specs.Pictures as model;
 
 use crate::asked::Asked;
@@ -68,17 +69,25 @@ fn part_of(
 {
     let lost = named_flags(alloc, names, &asked.lost, false)?;
     let allowed = named_flags(alloc, names, &asked.allowed, true)?;
-    let read_only = read_only_flags(alloc, marks)?;
     Ok(Part {
         lost: set_of(&lost),
         allowed: set_of(&allowed),
-        read_only: set_of(&read_only),
+        read_only: read_only_of(alloc, marks)?,
         racks: racks_of(alloc, marks, asked.min_racks)?,
     })
 }
 
+/// The bookies that are marked as read-only, of as many as there can be.
+pub fn read_only_of(alloc: Global, marks: &[BookieMarks]) -> Result<BookieSet, AllocError>
+    ensures { IfOk result (λ bookies. (b : ℕ) → set.contains bookies b
+        ≡ model.is_set (map (λ m. m.is_read_only) marks.now) b) }
+{
+    let flags = read_only_flags(alloc, marks)?;
+    Ok(set_of(&flags))
+}
+
 /// In which racks the bookies stand, as far as the picture says.
-fn racks_of(alloc: Global, marks: &[BookieMarks], least: usize) -> Result<Racks, AllocError>
+pub fn racks_of(alloc: Global, marks: &[BookieMarks], least: usize) -> Result<Racks, AllocError>
     ensures { IfOk result (λ racks. racks ≡ model.racks_of marks.now least) }
 {
     let mut names = Vec::new(alloc);

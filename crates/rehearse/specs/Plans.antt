@@ -1,7 +1,6 @@
 -- The plan that the command line asks for, and what is printed of it.
-use Rattle.std.specs.Prelude.{◌≡◌, ℕ, ◌&&◌, Bool, true, false, List, [], ◌∷◌, Some, Ok, IfSome, if◌then◌else◌, length, map, nat_lt, slice_get, take}
+use Rattle.std.specs.Prelude.{◌≡◌, ℕ, Bool, true, false, List, [], ◌∷◌, Some, Ok, IfSome, if◌then◌else◌, length, map, nat_lt}
 use Rattle.std.specs.Borrow.{Bor}
-use Rattle.std.specs.Option.{option_map_or}
 use Rattle.reh_types.specs.declared.limits.TheConstants.{MAX_BOOKIES}
 use Rattle.reh_types.specs.Sets as set
 use Rattle.reh_types.specs.Sets.{Set, numbers}
@@ -10,14 +9,13 @@ use Rattle.reh_model.specs.Session.{replay}
 use Rattle.reh_lines.specs.Lines.{lines_of}
 use Rattle.reh_commands.specs.Texts.{text_of}
 use Rattle.reh_picture.specs.Listings.{Lists}
-use Rattle.reh_picture.specs.Marks.{BookieMarks}
 use Rattle.reh_picture.specs.Pictures.{located_picture_of}
 use Rattle.reh_picture.specs.declared.listings.Listed.{Listed}
 use Rattle.reh_plan.specs.Faults.{plan_fault_text}
 use Rattle.reh_plan.specs.Named.{AreNamed}
 use Rattle.reh_plan.specs.Objects.{json_of}
 use Rattle.reh_plan.specs.Plans.{AreLeft, GoesOnBy, IsWithout, losses_of}
-use Rattle.reh_plan.specs.Racks.{Racks, fewer_racks, lines_before, racks_named}
+use Rattle.reh_plan.specs.Racks.{fewer_racks, lines_before}
 use Rattle.reh_plan.specs.Runbooks.{runbook_lines}
 use Rattle.reh_plan.specs.Summaries.{IsSum, is_whole, plan_text}
 use Rattle.reh_plan.specs.Takers.{AreWellTaken}
@@ -35,16 +33,9 @@ use Rattle.rehearse.specs.declared.plans.Plans.TheVariants as plans
 use Rattle.rehearse.specs.InventoryPlans.{ArePlans}
 use Rattle.reh_files.specs.declared.files.InputBytes.{InputBytes}
 use Rattle.reh_files.specs.declared.files.InputBytes.TheVariants as input
+use Rattle.reh_inventory_plan.specs.Pictures.{is_set, racks_of}
 use Rattle.reh_inventory_plan.specs.Totals.{is_done}
 use Rattle.reh_inventory_plan.specs.declared.inventories.InventoryPlan.{InventoryPlan}
-
--- in which racks the bookies stand, by the marks of as many as there can be
-abbrev pub racks_of : List BookieMarks → ℕ → Racks
-racks_of marks least = racks_named (map (λ m. m.rack) (take MAX_BOOKIES marks)) least
-
--- whether a bookie is marked as read-only
-abbrev pub is_read_only : List BookieMarks → ℕ → Bool
-is_read_only marks b = nat_lt b MAX_BOOKIES && option_map_or (λ m. m.is_read_only) (slice_get marks b) false
 
 -- who may work: the bookies that the words name, or all that there can be, where there are no words
 abbrev pub AreAllowed : List (List ℕ) → List (Bor (List ℕ)) → Set numbers → Type 0
@@ -57,7 +48,7 @@ pub record IsAsked (bytes : List ℕ) (names : List (List ℕ)) (words : PlanWor
   pub lists : Lists bytes listed
   pub lost : AreNamed names words.lost.items asked.lost
   pub allowed : AreAllowed names words.allowed.items asked.allowed
-  pub read_only : (b : ℕ) → set.contains asked.read_only b ≡ is_read_only listed.marks.items b
+  pub read_only : (b : ℕ) → set.contains asked.read_only b ≡ is_set (map (λ m. m.is_read_only) listed.marks.items) b
   pub racks : asked.racks ≡ racks_of listed.marks.items words.min_racks
   pub writers : asked.writers_roll ≡ words.writers_roll
 

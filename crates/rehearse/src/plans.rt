@@ -1,6 +1,5 @@
 // What is to be done without some bookies, planned from the file of a picture.
-ghost use Rattle.std.specs.Prelude.{◌≡◌, ◌&&◌, ℕ, nat_lt, false, slice_get, IfOk};
-ghost use Rattle.std.specs.Option.{option_map_or};
+ghost use Rattle.std.specs.Prelude.{◌≡◌, ℕ, nat_lt, IfOk};
 ghost use Rattle.reh_types.specs.declared.limits.TheConstants.{MAX_BOOKIES};
 ghost use Rattle.reh_types.specs.Sets as set;
 ghost use Rattle.reh_plan.specs.Named.{AreNamed};
@@ -9,15 +8,17 @@ ghost use Rattle.rehearse.specs.Plans as model;
 use crate::inventory_plans::{InventoryInput, plan_inventory, plans_said, write_files};
 use reh_cluster::{Names, State};
 use reh_files::{InputBytes, Looks, Progress, RunFault, Teller, read_input_file, write_out};
-use reh_inventory_plan::{InventoryPlan, Tails, add_unclosed, tails_of};
-use reh_picture::{BookieMarks, list_picture};
+use reh_inventory_plan::{
+    InventoryPlan, Tails, add_unclosed, racks_of, read_only_of, tails_of,
+};
+use reh_picture::list_picture;
 use reh_plan::{
     PlanFault, Planned, Racks, find_bookies, first_unknown, plan, plan_json, plan_summary, runbook,
 };
 use reh_questions::{named_twice, state_in, text_after, unfit, unknown};
 use reh_types::{BookieIx, BookieSet, LedgerId, MAX_BOOKIES};
 use reh_words::PlanWords;
-use std::alloc::{AllocError, Global};
+use std::alloc::Global;
 use std::sync::Wait;
 use std::thread;
 
@@ -259,11 +260,12 @@ fn asked_of(
     ensures { IfOk result (model.IsAsked bytes.now names.now words.now) }
 {
     let marks = list_picture(alloc, bytes)?.marks;
+    let read_only = read_only_of(alloc, &marks)?;
     let racks = racks_of(alloc, &marks, words.min_racks)?;
     Ok(Asked {
         lost: bookies_of(alloc, words.picture, names, &words.lost)?,
         allowed: allowed_of(alloc, words.picture, names, &words.allowed)?,
-        read_only: read_only_of(&marks),
+        read_only,
         racks,
         writers_roll: words.writers_roll,
     })
@@ -294,41 +296,6 @@ fn unplanned(alloc: Global, fault: PlanFault) -> RunFault
         PlanFault::NoMemory => RunFault::NoMemory,
         PlanFault::NoRoom | PlanFault::Unfinished => unfit(format!(in alloc; "{fault}")),
     }
-}
-
-/// The bookies that are read-only.
-fn read_only_of(marks: &[BookieMarks]) -> BookieSet
-    ensures { (b : ℕ) → set.contains result b
-        ≡ (nat_lt b MAX_BOOKIES && option_map_or (λ m. m.is_read_only) (slice_get marks.now b) false) }
-{
-    let mut read_only = BookieSet::new();
-    for number in 0..MAX_BOOKIES {
-        if is_read_only(marks, number) {
-            read_only.insert(BookieIx(number as u8));
-        }
-    }
-    read_only
-}
-
-/// Whether the bookie of that number is read-only.
-fn is_read_only(marks: &[BookieMarks], number: usize) -> bool
-    ensures { result ≡ option_map_or (λ m. m.is_read_only) (slice_get marks.now number) false }
-{
-    match marks.get(number) {
-        Some(mark) => mark.is_read_only(),
-        None => false,
-    }
-}
-
-/// In which racks the bookies stand, as far as the picture says.
-fn racks_of(alloc: Global, marks: &[BookieMarks], least: usize) -> Result<Racks, AllocError>
-    ensures { IfOk result (λ racks. racks ≡ model.racks_of marks.now least) }
-{
-    let mut names = Vec::new(alloc);
-    for number in 0..marks.len().min(MAX_BOOKIES) {
-        names.push(marks[number].rack())?;
-    }
-    Racks::of(alloc, &names, least)
 }
 
 /// The bookies of a picture that may work: those that these words name, or all, where there are no words.
