@@ -12,19 +12,26 @@ use Rattle.reh_inventory_read.specs.Lines.{Reads, ReadsAll}
 use Rattle.reh_inventory_plan.specs.Asked.{misses_member}
 use Rattle.reh_inventory_plan.specs.Ledgers.{IsLedgerPlan}
 use Rattle.reh_inventory_plan.specs.declared.asked.Asked.{Asked}
+use Rattle.reh_inventory_plan.specs.declared.faults.Unplanned.{Unplanned}
+use Rattle.reh_inventory_plan.specs.declared.faults.Unplanned.TheVariants as reason
 use Rattle.reh_inventory_plan.specs.declared.inventories.InventoryPlan.{InventoryPlan}
 use Rattle.reh_inventory_plan.specs.declared.ledgers.Outcome.{Outcome}
-use Rattle.reh_inventory_plan.specs.declared.ledgers.Outcome.TheVariants.{Planned, Unplanned}
+use Rattle.reh_inventory_plan.specs.declared.ledgers.Outcome.TheVariants as outcome
 use Rattle.reh_inventory_plan.specs.declared.planner.PlannedLine.{PlannedLine}
 use Rattle.reh_inventory_plan.specs.declared.planner.PlannedLine.TheVariants as planned_line
 use Rattle.reh_inventory_plan.specs.declared.planner.Planner.{Planner}
 
 -- One ledger
 
+-- want of memory ends the run, and is no reason why one ledger has no plan
+abbrev pub IsReason : Unplanned → Type 0
+IsReason reason.NoMemory = ⊥
+IsReason why = Unit {0}
+
 -- what comes of a ledger that misses a member: a plan for it, or that there is none
 abbrev pub IsOutcome : Head → Asked → LedgerLine → Outcome → Type 0
-IsOutcome head asked ledger (Planned planned) = IsLedgerPlan head asked ledger planned
-IsOutcome head asked ledger (Unplanned id reason) = id ≡ ledger.id
+IsOutcome head asked ledger (outcome.Planned planned) = IsLedgerPlan head asked ledger planned
+IsOutcome head asked ledger (outcome.Unplanned id why) = (id ≡ ledger.id) × IsReason why
 
 -- what comes of a ledger, if it misses a member
 abbrev pub IsOutcomeOf : Head → Asked → LedgerLine → Option Outcome → Type 0

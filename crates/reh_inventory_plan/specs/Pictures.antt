@@ -11,7 +11,8 @@ use Rattle.reh_picture.specs.Marks.{BookieMarks}
 use Rattle.reh_picture.specs.Pictures.{picture_of}
 use Rattle.reh_picture.specs.declared.listings.Listed.{Listed}
 use Rattle.reh_plan.specs.Ends.{Ends, IsHarmless}
-use Rattle.reh_plan.specs.Plans.{AreLeft, GoesOnBy, IsWithout, losses_of}
+use Rattle.reh_plan.specs.Needed.{AreNeeded}
+use Rattle.reh_plan.specs.Plans.{AreLeft, Asks, GoesOnBy, IsWithout, losses_of}
 use Rattle.reh_plan.specs.Racks.{Racks, fewer_racks, lines_before, racks_named}
 use Rattle.reh_plan.specs.Summaries.{IsSum}
 use Rattle.reh_plan.specs.Takers.{AreWellTaken}
@@ -47,6 +48,7 @@ pub record IsPartOf (asked : Asked) (names : List (List ℕ)) (marks : List Book
 -- the promises of a plan for the cluster, as far as an account of it needs them
 pub record IsPlan (state : Cluster) (part : Part) (writers_roll : Bool) (p : Planned) : Type 0 where
   pub opening : p.plan.opening ≡ state
+  pub asks : Asks state.names p.plan.lines p.plan.events
   pub accepted : replay state p.plan.events ≡ Some p.plan.state
   pub without : IsWithout state (set.contains part.lost) p.plan.state
   pub order : GoesOnBy (rules_by part.allowed part.read_only writers_roll)
@@ -56,6 +58,7 @@ pub record IsPlan (state : Cluster) (part : Part) (writers_roll : Bool) (p : Pla
       (lines_before p.fewer.items p.plan.lines) p.left.items
   pub ends : Ends (rules_by part.allowed part.read_only writers_roll) p.plan.state (lines_before p.fewer.items p.plan.lines)
   pub harmless : IsHarmless state p.plan.state
+  pub needed : AreNeeded (lines_before p.fewer.items p.plan.lines) p.plan.events
   pub racks : p.fewer.items ≡ fewer_racks part.racks state p.plan.state
   pub sum : IsSum p.plan p.summary
 

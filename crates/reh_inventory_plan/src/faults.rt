@@ -32,12 +32,22 @@ impl fmt::Display for Unplanned {
 }
 
 impl From<AllocError> for Unplanned {
+    ghost use Rattle.std.specs.Prelude.{◌≡◌};
+    ghost use Rattle.reh_inventory_plan.specs.declared.faults.Unplanned.TheVariants.{NoMemory};
+
+    ghost from_gives = { λ _ reason. reason ≡ NoMemory };
+
     fn from(_want: AllocError) -> Unplanned {
         Unplanned::NoMemory
     }
 }
 
 impl From<CutFault> for Unplanned {
+    ghost use Rattle.std.specs.Prelude.{◌≡◌};
+    ghost use Rattle.reh_inventory_plan.specs.Faults.{uncut};
+
+    ghost from_gives = { λ fault reason. reason ≡ uncut fault };
+
     fn from(fault: CutFault) -> Unplanned {
         match fault {
             CutFault::NoMemory => Unplanned::NoMemory,
@@ -48,6 +58,11 @@ impl From<CutFault> for Unplanned {
 
 /// A picture that was cut is refused as a picture.
 impl From<LocatedFault> for Unplanned {
+    ghost use Rattle.std.specs.Prelude.{◌≡◌};
+    ghost use Rattle.reh_inventory_plan.specs.Faults.{refused_by};
+
+    ghost from_gives = { λ located reason. reason ≡ refused_by located.fault located };
+
     fn from(fault: LocatedFault) -> Unplanned {
         match fault.fault {
             PictureFault::NoMemory => Unplanned::NoMemory,
@@ -57,6 +72,11 @@ impl From<LocatedFault> for Unplanned {
 }
 
 impl From<PlanFault> for Unplanned {
+    ghost use Rattle.std.specs.Prelude.{◌≡◌};
+    ghost use Rattle.reh_inventory_plan.specs.Faults.{unplanned};
+
+    ghost from_gives = { λ fault reason. reason ≡ unplanned fault };
+
     fn from(fault: PlanFault) -> Unplanned {
         match fault {
             PlanFault::NoMemory => Unplanned::NoMemory,

@@ -35,7 +35,7 @@ pub struct PlannedLedger {
     pub shares: Vec<NamedShare>,
     /// The ledger, if something is left to do for it in the end, and why.
     pub left: Vec<Left>,
-    /// How many of its entries can't be read in the end.
+    /// How many of its entries can't be read in the end, of all fragments whose entries are known.
     pub unreadable: u64,
     /// Whether the script says that it is full.
     pub is_full: bool,

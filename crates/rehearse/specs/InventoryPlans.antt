@@ -25,12 +25,16 @@ pub record IsAskedBy (words : PlanWords) (asked : Asked) : Type 0 where
   pub writers : asked.writers_roll ≡ words.writers_roll
   pub files : asked.keeps_files ≡ is_some words.output
 
--- plans as the words ask, for the ledgers of some whole inventory
-pub record ArePlans (words : PlanWords) (plan : InventoryPlan) : Type 0 where
+-- plans as the words ask, for the ledgers of some lines of an inventory
+pub record AreRead (words : PlanWords) (plan : InventoryPlan) : Type 0 where
   pub asked : Asked
   pub is_asked : IsAskedBy words asked
   pub left : Option (List ℕ)
   pub are_plans : IsInventoryPlan asked left plan
+
+-- the same of an inventory that has its last line
+abbrev pub ArePlans : PlanWords → InventoryPlan → Type 0
+ArePlans words plan = AreRead words plan × (plan.is_whole ≡ true)
 
 -- what is printed of them: JSON, where it is asked for, else text
 abbrev pub plans_printed : Bool → InventoryPlan → List ℕ

@@ -53,7 +53,7 @@ fn plan_of_file<T: thread::Threads + Sync>(
     words: &PlanWords<'_>,
     file: File,
 ) -> Result<InventoryPlan, RunFault>
-    ensures { IfOk result (model.ArePlans words.now) }
+    ensures { IfOk result (model.AreRead words.now) }
 {
     let path = words.picture;
     let workers = words.crew.workers;
@@ -77,7 +77,7 @@ fn plan_of_bytes<T: thread::Threads + Sync>(
     words: &PlanWords<'_>,
     bytes: &[u8],
 ) -> Result<InventoryPlan, RunFault>
-    ensures { IfOk result (model.ArePlans words.now) }
+    ensures { IfOk result (model.AreRead words.now) }
 {
     let path = words.picture;
     let workers = words.crew.workers;

@@ -8,9 +8,7 @@ ghost use Rattle.rehearse.specs.Plans as model;
 use crate::inventory_plans::{InventoryInput, plan_inventory, plans_said, write_files};
 use reh_cluster::{Names, State};
 use reh_files::{InputBytes, Looks, Progress, RunFault, Teller, read_input_file, write_out};
-use reh_inventory_plan::{
-    InventoryPlan, Tails, add_unclosed, racks_of, read_only_of, tails_of,
-};
+use reh_inventory_plan::{InventoryPlan, Tails, add_unclosed, racks_of, read_only_of, tails_of};
 use reh_picture::list_picture;
 use reh_plan::{
     PlanFault, Planned, Racks, find_bookies, first_unknown, plan, plan_json, plan_summary, runbook,

@@ -9,6 +9,6 @@ pub returns : goal.returns
 returns c =
     let texts : List (Bor (List ℕ)) → List (List ℕ) = map (λ name. name.now) in
     subst (λ (known : List (List ℕ)). IfOk c.unknown_among_text.result
-        (λ text. string_bytes text ≡ model.unknown_text c.args.path.now known c.args.name.now))
+    (λ text. string_bytes text ≡ model.unknown_text c.args.path.now known c.args.name.now))
     (ap texts c.deref.ensures.value ∙ c.in_ok-known.ensures)
     c.unknown_among_text.ensures
