@@ -1,5 +1,5 @@
 -- The bookies of an inventory that take part in the plan for one of its ledgers.
-use Rattle.std.specs.Prelude.{◌≡◌, ℕ, Bool, All, Contains, List, ◌++◌}
+use Rattle.std.specs.Prelude.{◌≡◌, All, Contains, List, ◌++◌}
 use Rattle.std.specs.List.{filter}
 use Rattle.reh_cut.specs.Cuts.{names_bookie}
 use Rattle.reh_inventory.specs.declared.heads.Bookie.{Bookie}

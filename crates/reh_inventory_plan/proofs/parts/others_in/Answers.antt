@@ -1,5 +1,5 @@
 -- One more, if there is one of that number.
-use Rattle.std.proofs.Common.{◌≡◌, ◌∙◌, ap, subst, sym, List, Vec, Global}
+use Rattle.std.proofs.Common.{◌∙◌, ap, subst, sym, List, Vec, Global}
 use Rattle.std.specs.Prelude.{All, Contains, IfSome, Option}
 use Rattle.std.proofs.lemmas.List.Elements.{All-push}
 use Rattle.reh_inventory.specs.declared.heads.Bookie.{Bookie}
