@@ -98,7 +98,8 @@ impl Worst {
         Ok(())
     }
 
-    /// The worst of these ledgers, which have these ids, and each of which a census counts as one.
+    /// The worst of these ledgers, which have these ids, and each of which a census counts as one. Where one alone has more
+    /// entries than a census counts, it fails.
     pub fn of(
         alloc: Global,
         ids: &[u64],
@@ -106,7 +107,9 @@ impl Worst {
         stop: &Stop<'_>,
     ) -> Result<Worst, TallyFault>
         requires { length ids.now ≡ length ledgers.items }
-        ensures { IfOk result (model.WeighsBy stop.now ids.now (map alone_of ledgers.items)) }
+        ensures weighed { IfOk result (model.WeighsBy stop.now ids.now (map alone_of ledgers.items)) }
+        ensures too_many { result ≡ Err TooMany → All (λ g. AreFew (holders (bookies_of stop.now.bookies.now))
+            (alone_of g)) ledgers.items → ⊥ }
     {
         let mut worst = Worst::new(alloc);
         for ledger in ledgers {

@@ -1,7 +1,7 @@
 -- How a drill ends.
 use Rattle.std.proofs.Common.{◌≡◌, inl, inr, ℕ, suc, ◌+◌, List, [], ◌∷◌, ◌++◌, map, length, refl, sym, ap, ◌∙◌, subst}
 use Rattle.std.proofs.Common.{Option, None, Some, Result, Ok, Err, Bool, true, false}
-use Rattle.std.specs.Prelude.{◌≢◌, ◌↔◌, ◌⊎◌, IsErrAnd, is_some, is_err}
+use Rattle.std.specs.Prelude.{◌≢◌, ◌↔◌, ◌⊎◌, IfErr, IfOk, IsErrAnd, is_some, is_err}
 use Rattle.std.specs.List.{flat_map}
 use Rattle.std.specs.Io.KnownBytes.{Appends}
 use Rattle.reh_drill.proofs.Writing.{appends_kept}
@@ -15,6 +15,8 @@ use Rattle.reh_desk.specs.Desks.{DeskView, AreNewFrom, AreSeated, AreSeats, AllA
 use Rattle.reh_desk.specs.Seats.{SeatView, new_seat}
 use Rattle.reh_desk.specs.declared.desks.CloseCause.{CloseCause}
 use Rattle.reh_desk.specs.declared.desks.CloseCause.TheVariants.{Seats}
+use Rattle.reh_desk.specs.declared.desks.CloseFault.{CloseFault}
+use Rattle.reh_desk.specs.declared.desks.Closed.{Closed}
 use Rattle.reh_fields.specs.declared.faults.PictureFault.{PictureFault}
 use Rattle.reh_fields.specs.declared.faults.PictureFault.TheVariants as picture_fault
 use Rattle.reh_play.specs.DeskPlays.{at_desk, sitting, PlaysAtDesk}
@@ -26,7 +28,7 @@ use Rattle.reh_lines.specs.declared.streams.StreamFault.{StreamFault}
 use Rattle.reh_play.proofs.Sitting.{number_at_desk}
 use Rattle.reh_drill.specs.Drills.{end_text, Writes, desk_of, IsRoom, OpensDesk, fault_in_memory, IsOutcome}
 use Rattle.reh_drill.specs.Drills.{OnePlayed, AllPlayed, transcript_of, fault_of, or_else, first_fault, seat_of}
-use Rattle.reh_drill.specs.Drills.{IsOperated, AreOperated, IsDrilled, AreOutcomes, transcripts_of, ClosesWith, Closes}
+use Rattle.reh_drill.specs.Drills.{IsOperated, AreOperated, IsDrilled, AreOutcomes, transcripts_of, ClosesWith, Closes, EndsClosed, closed_text}
 use Rattle.reh_drill.specs.Drills.{IsCauseOf, IsUnclosed, EndsFor, EndsWith, Ends, Drills, is_lost, is_lost_play}
 use Rattle.reh_drill.specs.Faults.{drill_fault_of, refusal_of}
 use Rattle.reh_drill.specs.declared.faults.DrillFault.{DrillFault}
@@ -330,32 +332,38 @@ pub cause_is : (desk : DeskView) (seats : List SeatView) (cause : CloseCause)
 cause_is desk seats cause own (inl is) = inl (is, own.0 is)
 cause_is desk seats cause own (inr unsettled) = inr unsettled
 
--- where it doesn't close, or there is no memory for its text
-pub closes_not : (desk : DeskView) (seats : List SeatView) (fault : DrillFault) (result : Result (Unit {0}) DrillFault)
-    (old : Option (List ℕ)) → IsUnclosed desk seats fault → IsErrAnd result (λ e. e ≡ fault)
-    → Closes desk seats result old old
-closes_not desk seats fault (Ok done) old unclosed is = absurd is
-closes_not desk seats fault (Err e) old unclosed is = inl (subst (IsUnclosed desk seats) (sym is) unclosed, Keeps-refl old)
+closes_with : (desk : DeskView) (seats : List SeatView) (closed : Closed) → IsClosed desk seats closed.session closed.tape.items
+    → ClosesWith desk seats (closed_text closed)
+closes_with desk seats closed is = record { tape = closed.tape.items; end = closed.session; closed = is; is = refl }
 
-closes_with : (desk : DeskView) (seats : List SeatView) (tape : List Line) (end : Session) (text : List ℕ)
-    → IsClosed desk seats end tape → text ≡ end_text (length tape) (state_of end) → ClosesWith desk seats text
-closes_with desk seats tape end text closed is = record { tape = tape; end = end; closed = closed; is = is }
+-- by what it answered
+pub closes_as : (desk : DeskView) (seats : List SeatView) (closed : Result Closed CloseFault)
+    (result : Result (Unit {0}) DrillFault) (old new : Option (List ℕ))
+    → IfOk closed (λ c. IsClosed desk seats c.session c.tape.items)
+    → IfErr closed (λ f. (f.cause ≡ Seats) ↔ (AreSeats desk.seats seats → ⊥))
+    → IfErr closed (λ f. (f.cause ≡ Seats) ⊎ IsUnsettled desk.opening seats f.cause)
+    → EndsClosed closed result old new → Closes desk seats result old new
+closes_as desk seats (Ok c) (Ok done) old new is own book ends = (closed_text c, closes_with desk seats c is, ends)
+closes_as desk seats (Ok c) (Err e) old new is own book (inl want) = inl (inr want.0, want.1)
+closes_as desk seats (Ok c) (Err e) old new is own book (inr lost) =
+    inr (lost.0, closed_text c, closes_with desk seats c is, lost.1)
+closes_as desk seats (Err f) (Ok done) old new is own book ends = absurd ends
+closes_as desk seats (Err f) (Err e) old new is own book ends =
+    inl (inl (f.cause, cause_is desk seats f.cause own book, ends.0), ends.1)
+
+-- where there is no memory for its text
+pub closed_untold : (closed : Closed) (result : Result (Unit {0}) DrillFault) (old : Option (List ℕ))
+    → IsErrAnd result (λ e. e ≡ NoMemory) → EndsClosed (Ok closed) result old old
+closed_untold closed (Ok done) old is = absurd is
+closed_untold closed (Err e) old is = inl (is, Keeps-refl old)
 
 -- where a write fails
-pub closes_short : (desk : DeskView) (seats : List SeatView) (tape : List Line) (end : Session) (text : List ℕ)
-    (lost : StreamFault) (result : Result (Unit {0}) DrillFault) (old new : Option (List ℕ))
-    → IsClosed desk seats end tape → text ≡ end_text (length tape) (state_of end)
-    → Writes (Err lost) text old new → IsErrAnd result (λ e. e ≡ WriteFault) → Closes desk seats result old new
-closes_short desk seats tape end text lost (Ok done) old new closed text_is part is = absurd is
-closes_short desk seats tape end text lost (Err e) old new closed text_is part is =
-    inr (is, text, closes_with desk seats tape end text closed text_is, part)
-
--- where all is written
-pub closes_whole : (desk : DeskView) (seats : List SeatView) (tape : List Line) (end : Session) (text : List ℕ)
-    (old new : Option (List ℕ)) → IsClosed desk seats end tape → text ≡ end_text (length tape) (state_of end)
-    → Appends old new text → Closes desk seats (Ok tt) old new
-closes_whole desk seats tape end text old new closed text_is written =
-    (text, closes_with desk seats tape end text closed text_is, written)
+pub closed_short : (closed : Closed) (text : List ℕ) (lost : StreamFault) (result : Result (Unit {0}) DrillFault)
+    (old new : Option (List ℕ)) → text ≡ closed_text closed → Writes (Err lost) text old new
+    → IsErrAnd result (λ e. e ≡ WriteFault) → EndsClosed (Ok closed) result old new
+closed_short closed text lost (Ok done) old new told part is = absurd is
+closed_short closed text lost (Err e) old new told part is =
+    inr (is, subst (λ (t : List ℕ). Writes (Err lost) t old new) told part)
 
 -- Ends of a drill
 

@@ -12,6 +12,8 @@ use Rattle.reh_desk.specs.Desks.{DeskView, AreNew, AreNewFrom, AreSeated, AreSea
 use Rattle.reh_desk.specs.Seats.{SeatView, new_seat}
 use Rattle.reh_desk.specs.declared.desks.CloseCause.{CloseCause}
 use Rattle.reh_desk.specs.declared.desks.CloseCause.TheVariants.{Seats}
+use Rattle.reh_desk.specs.declared.desks.CloseFault.{CloseFault}
+use Rattle.reh_desk.specs.declared.desks.Closed.{Closed}
 use Rattle.reh_fields.specs.declared.faults.PictureFault.{PictureFault}
 use Rattle.reh_play.specs.DeskPlays.{at_desk, sitting, PlaysAtDesk}
 use Rattle.reh_lines.specs.Lines.{answered_lines}
@@ -188,6 +190,20 @@ Closes desk seats (Ok done) old new = (text : List ℕ) × ClosesWith desk seats
 Closes desk seats (Err fault) old new =
     (IsUnclosed desk seats fault × Keeps old new)
     ⊎ ((fault ≡ WriteFault) × (text : List ℕ) × ClosesWith desk seats text × Writes (Err fault) text old new)
+
+-- the text of a desk that closed
+abbrev pub closed_text : Closed → List ℕ
+closed_text closed = end_text (length closed.tape.items) (state_of closed.session)
+
+-- What a desk answered that was to be closed is written: the text of one that closed, or a part of it, where a write failed. Of
+-- one that doesn't close nothing is written, and the fault has the cause that it gave.
+abbrev pub EndsClosed : Result Closed CloseFault → Result (Unit {0}) DrillFault → Option (List ℕ) → Option (List ℕ) → Type 0
+EndsClosed (Ok closed) (Ok done) old new = Appends old new (closed_text closed)
+EndsClosed (Ok closed) (Err fault) old new =
+    ((fault ≡ NoMemory) × Keeps old new)
+    ⊎ ((fault ≡ WriteFault) × Writes (Err fault) (closed_text closed) old new)
+EndsClosed (Err refused) (Ok done) old new = ⊥
+EndsClosed (Err refused) (Err fault) old new = (fault ≡ Close refused.cause) × Keeps old new
 
 -- Why a drill ends early whose operators ended so: the lowest one's fault, where one has any, or what the desk answers
 -- that doesn't close, or out of memory for what comes after the transcripts. All of these are written.

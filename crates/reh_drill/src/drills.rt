@@ -5,7 +5,7 @@ ghost use Rattle.std.specs.List.{flat_map};
 ghost use Rattle.reh_model.specs.Session.{state_of};
 ghost use Rattle.reh_crew.specs.declared.threads.TheConstants.{MAX_OPERATORS};
 ghost use Rattle.reh_picture.specs.Pictures.{picture_of};
-ghost use Rattle.reh_drill.specs.Drills.{Drills, Ends, Closes, Writes, is_lost, is_lost_play};
+ghost use Rattle.reh_drill.specs.Drills.{Drills, Ends, EndsClosed, Closes, Writes, is_lost, is_lost_play};
 ghost use Rattle.reh_drill.specs.Drills.{first_fault as first_fault_of, transcript_of, seat_of, transcripts_from, end_text};
 
 use crate::faults::DrillFault;
@@ -101,7 +101,20 @@ fn close_desk<W: TextOut>(
     ensures closes { Closes desk seats.items result (W.contents writer.old) (W.contents writer.new) }
     ensures write { W.has_failed writer.new ≡ is_lost result }
 {
-    match desk.close(seats) {
+    end_closed(alloc, desk.close(seats), writer)
+}
+
+/// Writes the text of a desk that closed, or says what it answered that doesn't close.
+fn end_closed<W: TextOut>(
+    alloc: Global,
+    closed: Result<Closed, CloseFault>,
+    writer: &mut W,
+) -> Result<(), DrillFault>
+    requires { W.has_failed writer.old ≡ false }
+    ensures ends { EndsClosed closed result (W.contents writer.old) (W.contents writer.new) }
+    ensures write { W.has_failed writer.new ≡ is_lost result }
+{
+    match closed {
         Ok(closed) => {
             let text = closing_text(alloc, &closed);
             give_up(closed);

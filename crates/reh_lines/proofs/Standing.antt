@@ -103,17 +103,20 @@ pub whole_part : (done end : ℕ) (script : List ℕ) → done ≤ end → take 
 whole_part done end script order all = sym (joined done end script order) ∙ all
 
 -- where the script ends
+pub end_is : (p : Progress) → ((end : ℕ) → p ≡ progress.Lines end → ⊥)
+    → ((end : ℕ) × (p ≡ progress.Lines end)) ⊎ (p ≡ progress.End) → p ≡ progress.End
+end_is p not (inl lines) = absurd (not lines.0 lines.1)
+end_is p not (inr is) = is
+
 pub end_stands : (p : Progress) (done : ℕ) (script : List ℕ) (left_old left : Option (List ℕ)) (failed : Bool)
     → ((end : ℕ) → p ≡ progress.Lines end → ⊥) → ((end : ℕ) × (p ≡ progress.Lines end)) ⊎ (p ≡ progress.End)
     → Stands p done script left_old left failed → Stands progress.End done script left_old left failed
-end_stands p done script left_old left failed not (inl lines) stands = absurd (not lines.0 lines.1)
-end_stands p done script left_old left failed not (inr is) stands =
-    subst (λ (q : Progress). Stands q done script left_old left failed) is stands
+end_stands p done script left_old left failed not lines stands =
+    subst (λ (q : Progress). Stands q done script left_old left failed) (end_is p not lines) stands
 
 pub end_calls : (p : Progress) → ((end : ℕ) → p ≡ progress.Lines end → ⊥)
     → ((end : ℕ) × (p ≡ progress.Lines end)) ⊎ (p ≡ progress.End) → reads_past p ≡ 1
-end_calls p not (inl lines) = absurd (not lines.0 lines.1)
-end_calls p not (inr is) = ap reads_past is
+end_calls p not lines = ap reads_past (end_is p not lines)
 
 pub all_parts : (done : ℕ) (script : List ℕ) → take done script ++ take (length script - done) (drop done script) ≡ script
 all_parts done script =

@@ -1,8 +1,13 @@
--- What the other end of a writer can see.
-use Rattle.std.specs.Prelude.{◌≡◌, refl, ℕ, List, [], ◌∷◌, ◌++◌, Option, None, Some}
+-- What a reader found, and what the other end of a writer can see.
+use Rattle.std.specs.Prelude.{◌≡◌, refl, ℕ, ◌==◌, Bool, false, not, ◌&&◌, List, [], ◌∷◌, ◌++◌, Option, None, Some, Result, Ok, Err}
 use Rattle.std.specs.Io.KnownBytes.{Appends, append_known}
 use mathlib.Core.List.{append_assoc}
 use mathlib.Core.Path.{◌∙◌, ap}
+
+-- whether a call with room for so many bytes was at the end: it took none, though there was room
+abbrev pub found_end : {E : Type 0} → Result ℕ E → ℕ → Bool
+found_end (Ok count) room = (count == 0) && not (room == 0)
+found_end (Err fault) room = false
 
 -- known bytes stay at the front
 abbrev pub Grows : Option (List ℕ) → Option (List ℕ) → Type 0

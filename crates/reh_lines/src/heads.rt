@@ -1,5 +1,5 @@
 // Reading an input up to its script.
-ghost use Rattle.std.specs.Prelude.{◌≡◌, ◌⊎◌, ◌+◌, ◌-◌, ◌≤◌, ◌<◌, [], None, false, take, drop, length, IfSome, IfOk};
+ghost use Rattle.std.specs.Prelude.{◌≡◌, ◌⊎◌, ◌+◌, ◌-◌, ◌≤◌, ◌<◌, [], None, false, true, take, drop, length, IfSome, IfOk};
 ghost use Rattle.std.specs.Prelude.{OnErr, MatchResult};
 ghost use Rattle.reh_lines.specs.Heads.{is_percent as names_percent, IsHead, IsPicture, IsUntoldUntil, ReadsHead};
 ghost use Rattle.reh_lines.specs.Heads.{last_read};
@@ -41,6 +41,7 @@ pub fn read_head<R: TextIn>(reader: &mut R, input: &mut Vec<u8>) -> Result<Head,
     ensures failed { OnErr result (R.has_failed reader.new ≡ false) }
     ensures few { length input.new.items ≤ MAX_HEAD }
     ensures until { (reader.new ≡ reader.old) ⊎ IsUntoldUntil (R.remaining reader.old) (R.before reader.new) }
+    ensures end { IfOk result (λ head. head ≡ Head.Whole → R.at_end reader.new ≡ true) }
     ensures calls { MatchResult result
         (λ head. R.calls reader.new ≤ R.calls reader.old + length input.new.items + last_read head)
         (λ _. R.calls reader.new ≤ R.calls reader.old + MAX_HEAD) }

@@ -1,5 +1,5 @@
 // Reading a text to its end, or as far as it can matter.
-ghost use Rattle.std.specs.Prelude.{◌≡◌, ◌+◌, ◌≤◌, false, length, IfOk, OnErr, MatchResult};
+ghost use Rattle.std.specs.Prelude.{◌≡◌, ◌+◌, ◌≤◌, false, true, length, IfOk, OnErr, MatchResult};
 ghost use Rattle.reh_lines.specs.Readings.{Reads, ReadsOn, ReadsPast, IsQuietUntil, reads_past};
 
 use crate::inputs::whole_lines;
@@ -75,6 +75,7 @@ pub fn read_on<R: TextIn>(reader: &mut R, script: &mut Vec<u8>) -> Result<Progre
     ensures read { IfOk result (λ progress. ReadsOn progress script.old.items script.new.items
         (R.remaining reader.old) (R.remaining reader.new) (R.has_failed reader.new)) }
     ensures quiet { IsQuietUntil (R.remaining reader.old) (R.before reader.new) }
+    ensures end { IfOk result (λ progress. progress ≡ Progress.End → R.at_end reader.new ≡ true) }
     ensures failed { OnErr result (R.has_failed reader.new ≡ false) }
     ensures few { length script.new.items ≤ MAX_SCRIPT_BYTES }
     ensures calls { MatchResult result
@@ -107,6 +108,7 @@ fn read_past<R: TextIn>(reader: &mut R) -> Progress
     requires { R.has_failed reader.old ≡ false }
     ensures past { ReadsPast result (R.remaining reader.old) (R.remaining reader.new) (R.has_failed reader.new) }
     ensures last { R.before reader.new ≡ R.remaining reader.old }
+    ensures end { result ≡ Progress.End → R.at_end reader.new ≡ true }
     ensures calls { R.calls reader.new ≤ R.calls reader.old + 1 }
 {
     let mut byte = [0u8];

@@ -3,7 +3,7 @@ ghost use Rattle.std.specs.Prelude.{◌≡◌, ℕ, Bool, true, false, ◌||◌,
 ghost use Rattle.std.specs.Prelude.{Option, is_err, IfOk, OnOk, OnErr, Ok};
 ghost use Rattle.std.specs.Io.{ReadsAtMost};
 ghost use Rattle.std.specs.Io.KnownBytes.{Appends, ReadConsumes, WriteAppends, Keeps};
-ghost use Rattle.reh_lines.specs.Streams.{Grows};
+ghost use Rattle.reh_lines.specs.Streams.{Grows, found_end};
 
 use std::io::{Read, Write};
 use std::snapshot::Snapshot;
@@ -26,13 +26,17 @@ pub trait TextIn {
     // What was still to come before the last call.
     ghost before: { Self → Option (List ℕ) };
 
+    // Whether the last call was at the end: it took no byte, though there was room.
+    ghost at_end: { Self → Bool };
+
     /// Takes some bytes into the buffer and says how many: none only at the end, or where the buffer has no room.
     fn take(&mut self, buffer: &mut [u8]) -> Result<usize, StreamFault>
         ensures bound { ReadsAtMost result buffer.new }
         ensures bytes { ReadConsumes (remaining self.old) (remaining self.new) result buffer.new }
         ensures failed { has_failed self.new ≡ (has_failed self.old || is_err result) }
         ensures counted { calls self.new ≡ min (calls self.old + 1) (2 ^ 64 - 1) }
-        ensures last { before self.new ≡ remaining self.old };
+        ensures last { before self.new ≡ remaining self.old }
+        ensures end { at_end self.new ≡ found_end result (length buffer.new) };
 }
 
 /// A writer, like std's `Write`. It may keep back what it took, until a flush hands it on.
@@ -77,6 +81,7 @@ pub struct FromRead<R: Read> {
     has_failed: bool,
     calls: u64,
     before: Snapshot<R>,
+    at_end: bool,
 }
 
 impl<R: Read> FromRead<R> {
@@ -91,6 +96,7 @@ impl<R: Read> FromRead<R> {
             has_failed: false,
             calls: 0,
             before,
+            at_end: false,
         }
     }
 }
@@ -104,13 +110,19 @@ impl<R: Read> TextIn for FromRead<R> {
 
     ghost before = { λ s. R.remaining s.before.value };
 
+    ghost at_end = { λ s. s.at_end };
+
     fn take(&mut self, buffer: &mut [u8]) -> Result<usize, StreamFault> {
         self.calls = self.calls.saturating_add(1);
         self.before = Snapshot::of(&self.inner);
         match self.inner.read(buffer) {
-            Ok(count) => Ok(count),
+            Ok(count) => {
+                self.at_end = count == 0 && !buffer.is_empty();
+                Ok(count)
+            }
             Err(_) => {
                 self.has_failed = true;
+                self.at_end = false;
                 Err(StreamFault)
             }
         }

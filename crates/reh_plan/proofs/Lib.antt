@@ -9,6 +9,7 @@ pub mod NamesLaws
 pub mod FilledLaws
 pub mod TakerLaws
 pub mod ChoiceLaws
+pub mod FillLaws
 pub mod MemberLaws
 pub mod SummaryLaws
 pub mod EndLaws

@@ -3,6 +3,7 @@ pub mod Replies
 pub mod Workers
 pub mod Takers
 pub mod Choices
+pub mod Fills
 pub mod Ends
 pub mod Faults
 pub mod Needed

@@ -49,6 +49,11 @@ impl fmt::Debug for PlanFault {
 impl Error for PlanFault {}
 
 impl From<AllocError> for PlanFault {
+    ghost use Rattle.std.specs.Prelude.{◌≡◌};
+    ghost use Rattle.reh_plan.specs.declared.faults.PlanFault.TheVariants.{NoMemory};
+
+    ghost from_gives = { λ _ fault. fault ≡ NoMemory };
+
     fn from(_want: AllocError) -> PlanFault {
         PlanFault::NoMemory
     }
@@ -64,18 +69,34 @@ pub(crate) enum StepFault {
 }
 
 impl From<PlanFault> for StepFault {
+    ghost use Rattle.std.specs.Prelude.{◌≡◌};
+    ghost use Rattle.reh_plan.specs.declared.faults.StepFault.TheVariants.{Fault};
+
+    ghost from_gives = { λ fault step. step ≡ Fault fault };
+
     fn from(fault: PlanFault) -> StepFault {
         StepFault::Fault(fault)
     }
 }
 
 impl From<AllocError> for StepFault {
+    ghost use Rattle.std.specs.Prelude.{◌≡◌};
+    ghost use Rattle.reh_plan.specs.declared.faults.PlanFault.TheVariants.{NoMemory};
+    ghost use Rattle.reh_plan.specs.declared.faults.StepFault.TheVariants.{Fault};
+
+    ghost from_gives = { λ _ step. step ≡ Fault NoMemory };
+
     fn from(want: AllocError) -> StepFault {
         StepFault::Fault(PlanFault::from(want))
     }
 }
 
 impl From<Refusal> for StepFault {
+    ghost use Rattle.std.specs.Prelude.{◌≡◌};
+    ghost use Rattle.reh_plan.specs.Faults.{step_fault_of};
+
+    ghost from_gives = { λ refusal step. step ≡ step_fault_of refusal };
+
     fn from(refusal: Refusal) -> StepFault {
         match refusal {
             Refusal::NoMemory => StepFault::Fault(PlanFault::NoMemory),

@@ -1,7 +1,10 @@
 // What is done for one ledger, as AutoRecovery does it: its lock, the recovery of an open one, and the places of missing
 // members.
-ghost use Rattle.std.specs.Prelude.{◌≡◌, IfOk, IfSome, false, true};
+ghost use Rattle.std.specs.Prelude.{◌≡◌, ◌⊎◌, IfOk, IfSome, OnOk, false, slice_get, true};
+ghost use Rattle.std.specs.Option.{option_copied};
 ghost use Rattle.reh_plan.specs.Plans.{Works};
+ghost use Rattle.reh_plan.specs.Fills.{Fills, IsChosen, IsSame, Rolls};
+ghost use Rattle.reh_plan.specs.Workers as model;
 ghost use Rattle.reh_plan.specs.Workers.{Rules, can_work, may_work};
 
 use crate::ends::{aim_at, is_fill_accepted};
@@ -10,6 +13,7 @@ use crate::plans::Plan;
 use crate::reasons::first_missing;
 use crate::workers::{Workers, owner_of};
 use reh_cluster::{Ledger, State};
+use reh_meta::LedgerMeta;
 use reh_scan::{last_fragment, next_entry};
 use reh_types::{BookieIx, CLOCK_END, Event, LedgerId, LedgerState, MAX_ENSEMBLE_SIZE};
 use std::alloc::{AllocError, Global};
@@ -21,19 +25,20 @@ pub(crate) struct Repair {
     pub ledger: LedgerId,
 }
 
-/// The place of a missing member, in an ensemble whose entries are known, and about how many of them it has.
+/// The place of a missing member, in an ensemble whose entries are known.
 #[derive(Clone, Copy)]
 struct Gap {
     fragment: usize,
     index: usize,
-    entries: u64,
 }
 
 impl Repair {
     // What there is to do
 
     /// The ledger as it stands.
-    fn ledger_in<'a>(&self, state: &'a State) -> Option<&'a Ledger> {
+    fn ledger_in<'a>(&self, state: &'a State) -> Option<&'a Ledger>
+        ensures { option_copied result ≡ slice_get state.now.parts.ledgers self.now.place }
+    {
         state.ledgers().get(self.place)
     }
 
@@ -58,25 +63,40 @@ impl Repair {
         Some((unclosed, last, index))
     }
 
-    /// The place at the index of the last ensemble, if the ledger is open and the member there isn't registered; with about as
-    /// many entries as that member has of the last fragment.
-    fn gap_to_roll(&self, state: &State, index: usize) -> Option<Gap> {
+    /// The number of the last fragment, if the ledger is open and the member at the index of its ensemble isn't registered.
+    fn fragment_to_roll(&self, state: &State, index: usize) -> Option<usize>
+        ensures { IfSome result (λ last. last ≡ model.last_in state.now self.now.place) }
+    {
         let ledger = self.ledger_in(state)?;
         let metadata = ledger.metadata();
-        let last = last_fragment(ledger);
-        let member = last.ensemble.get(index)?;
+        let member = last_fragment(ledger).ensemble.get(index)?;
         if metadata.state() != LedgerState::Open || state.is_up(*member) {
             return None;
         }
-        Some(Gap {
-            fragment: metadata.fragments().len().checked_sub(1)?,
-            index,
-            entries: share(
-                next_entry(state, ledger).saturating_sub(last.first),
-                metadata.write_quorum(),
-                metadata.size(),
+        metadata.fragments().len().checked_sub(1)
+    }
+
+    /// About how many entries a member of the ledger's fragment has, 0 if the fragment's entries aren't known.
+    fn share(&self, state: &State, fragment: usize) -> u64
+        ensures { result ≡ model.share_in state.now self.now.place fragment }
+    {
+        match self.ledger_in(state) {
+            Some(ledger) => share_at(ledger.metadata(), fragment),
+            None => 0,
+        }
+    }
+
+    /// About how many entries a member of the ledger's last fragment has, if its writer goes on now.
+    fn share_to_roll(&self, state: &State) -> u64
+        ensures { result ≡ model.share_to_roll state.now self.now.place }
+    {
+        match self.ledger_in(state) {
+            Some(ledger) => share(
+                ledger.metadata(),
+                next_entry(state, ledger).saturating_sub(last_fragment(ledger).first),
             ),
-        })
+            None => 0,
+        }
     }
 
     /// The places of missing members.
@@ -181,7 +201,8 @@ impl Repair {
         fragment: usize,
         index: usize,
     ) -> Result<BookieIx, StepFault>
-        ensures { IfOk result (λ worker. may_work workers.now.rules worker ≡ true) }
+        ensures may { IfOk result (λ worker. may_work workers.now.rules worker ≡ true) }
+        ensures chosen { IfOk result (IsChosen workers.now state.now self.now.place fragment index) }
     {
         match self.worker(state, workers, fragment, index) {
             Some(worker) => Ok(worker),
@@ -197,7 +218,8 @@ impl Repair {
         fragment: usize,
         index: usize,
     ) -> Option<BookieIx>
-        ensures { IfSome result (λ worker. can_work (may_work workers.now.rules) state.now worker ≡ true) }
+        ensures can { IfSome result (λ worker. can_work (may_work workers.now.rules) state.now worker ≡ true) }
+        ensures chosen { IfSome result (IsChosen workers.now state.now self.now.place fragment index) }
     {
         workers.choose(state, self.ledger_in(state)?, fragment, index)
     }
@@ -293,17 +315,19 @@ impl Repair {
     }
 
     /// Has the writer put another bookie at the index of the last ensemble, if the ledger is open and that member isn't
-    /// registered.
+    /// registered: the one that is chosen for that place, and of which it is noted that it has its share of the entries.
     fn roll_at(&self, plan: &mut Plan, workers: &mut Workers, index: usize) -> Result<(), StepFault>
         requires { workers.old.rules.writers_roll ≡ true }
         ensures works { Works workers.old.rules plan.old plan.new }
         ensures rules { workers.new.rules ≡ workers.old.rules }
+        ensures rolled { OnOk result (IsSame workers.old plan.old workers.new plan.new
+            ⊎ Rolls workers.old plan.old self.now.place self.now.ledger index workers.new plan.new) }
     {
-        let Some(gap) = self.gap_to_roll(plan.state(), index) else {
+        let Some(last) = self.fragment_to_roll(plan.state(), index) else {
             return Ok(());
         };
-        let bookie = self.chosen(plan.state(), workers, gap.fragment, index)?;
-        workers.add(bookie, gap.entries);
+        let bookie = self.chosen(plan.state(), workers, last, index)?;
+        workers.add(bookie, self.share_to_roll(plan.state()));
         plan.work(&Event::Roll {
             ledger: self.ledger,
             index: index as u64,
@@ -311,13 +335,17 @@ impl Repair {
         })
     }
 
-    /// Has a worker copy the entries of a missing member's place, and take it, where both are accepted.
+    /// Has a worker copy the entries of a missing member's place, and take it, where both are accepted: the one that is
+    /// chosen for that place, and of which it is noted that it has its share of the entries.
     fn fill(&self, plan: &mut Plan, workers: &mut Workers, gap: &Gap) -> Result<(), StepFault>
         ensures works { Works workers.old.rules plan.old plan.new }
         ensures rules { workers.new.rules ≡ workers.old.rules }
+        ensures filled { OnOk result (Fills workers.old plan.old self.now.place self.now.ledger gap.now.fragment
+            gap.now.index workers.new plan.new) }
     {
         let worker = self.chosen(plan.state(), workers, gap.fragment, gap.index)?;
         self.check_fill(plan.state(), worker, gap)?;
+        let entries = self.share(plan.state(), gap.fragment);
         let version = self.version(plan.state());
         let ledger = self.ledger;
         let fragment = gap.fragment as u64;
@@ -338,7 +366,7 @@ impl Repair {
         };
         self.lock(plan, worker)?;
         plan.work(&copy)?;
-        workers.add(worker, gap.entries);
+        workers.add(worker, entries);
         plan.work(&swap)
     }
 
@@ -386,31 +414,34 @@ fn push_gaps(
     number: usize,
 ) -> Result<(), AllocError> {
     let metadata = ledger.metadata();
-    let (Some(fragment), Some(end)) = (metadata.fragments().get(number), metadata.end_of(number))
+    let (Some(fragment), Some(_)) = (metadata.fragments().get(number), metadata.end_of(number))
     else {
         return Ok(());
     };
-    let entries = share(
-        end.saturating_sub(fragment.first),
-        metadata.write_quorum(),
-        metadata.size(),
-    );
     for (index, member) in fragment.ensemble.iter().enumerate() {
         if !state.is_up(*member) {
             gaps.push(Gap {
                 fragment: number,
                 index,
-                entries,
             })?;
         }
     }
     Ok(())
 }
 
-/// About how many of so many entries one of `size` members has, where each entry is written to `quorum` of them.
-fn share(entries: u32, quorum: u32, size: u32) -> u64 {
-    if size == 0 {
-        return 0;
+/// About how many entries a member of the fragment of that number has, 0 if the fragment's entries aren't known.
+fn share_at(metadata: &LedgerMeta, number: usize) -> u64
+    ensures { result ≡ model.share_at metadata.now number }
+{
+    match (metadata.fragments().get(number), metadata.end_of(number)) {
+        (Some(fragment), Some(end)) => share(metadata, end.saturating_sub(fragment.first)),
+        _ => 0,
     }
-    entries as u64 * quorum as u64 / size as u64
+}
+
+/// About how many of so many entries a member has, as each is written to a write quorum of them.
+fn share(metadata: &LedgerMeta, entries: u32) -> u64
+    ensures { result ≡ model.share metadata.now entries }
+{
+    entries as u64 * metadata.write_quorum() as u64 / metadata.size() as u64
 }

@@ -92,6 +92,7 @@ pub fn play<C: Counter, V: Surveyor, R: TextIn, W: TextOut>(
         (R.remaining reader.old) (R.before reader.new) (seated counter.old seat.old)
         (W.contents writer.old) (W.seen writer.new) }
     ensures ended { OnOk result (IsAtEnd (R.remaining reader.new)) }
+    ensures finished { OnOk result (R.at_end reader.new ≡ true) }
     ensures seen { OnOk result (W.seen writer.new ≡ W.contents writer.new) }
     ensures write { W.has_failed writer.new ≡ is_write_fault result }
     ensures calls { R.calls reader.new ≤ R.calls reader.old + (MAX_SCRIPT_BYTES + 1) }
@@ -133,6 +134,7 @@ pub fn play_on<C: Counter, V: Surveyor, R: TextIn, W: TextOut>(
         (prepend_known script.items (R.remaining reader.old)) (R.before reader.new)
         (seated counter.old seat.old) (W.contents writer.old) (W.seen writer.new) }
     ensures ended { OnOk result (IsAtEnd (R.remaining reader.new)) }
+    ensures finished { OnOk result (R.at_end reader.new ≡ true) }
     ensures seen { OnOk result (W.seen writer.new ≡ W.contents writer.new) }
     ensures write { W.has_failed writer.new ≡ is_write_fault result }
     ensures calls { R.calls reader.new ≤ R.calls reader.old + (MAX_SCRIPT_BYTES + 1) }
@@ -174,6 +176,7 @@ pub fn play_by<C: Counter, V: Surveyor, P: Printer<C>, R: TextIn, W: TextOut>(
         (R.remaining reader.old) (R.before reader.new) (seated counter.old seat.old)
         (W.contents writer.old) (W.seen writer.new) }
     ensures ended { OnOk result (IsAtEnd (R.remaining reader.new)) }
+    ensures finished { OnOk result (R.at_end reader.new ≡ true) }
     ensures seen { OnOk result (W.seen writer.new ≡ W.contents writer.new) }
     ensures write { W.has_failed writer.new ≡ is_write_fault result }
     ensures calls { R.calls reader.new ≤ R.calls reader.old + (MAX_SCRIPT_BYTES + 1) }
@@ -210,6 +213,7 @@ fn play_on_by<C: Counter, V: Surveyor, P: Printer<C>, R: TextIn, W: TextOut>(
         (prepend_known script.items (R.remaining reader.old)) (R.before reader.new)
         (seated counter.old seat.old) (W.contents writer.old) (W.seen writer.new) }
     ensures ended { OnOk result (IsAtEnd (R.remaining reader.new)) }
+    ensures finished { OnOk result (R.at_end reader.new ≡ true) }
     ensures seen { OnOk result (W.seen writer.new ≡ W.contents writer.new) }
     ensures write { W.has_failed writer.new ≡ is_write_fault result }
     ensures calls { R.calls reader.new ≤ R.calls reader.old + (MAX_SCRIPT_BYTES + 1) }
@@ -263,6 +267,7 @@ fn answer_reads<C: Counter, V: Surveyor, P: Printer<C>, R: TextIn, W: TextOut>(
         (player counter.old seat.old hand.old)
         (W.contents writer.old) (W.seen writer.new) }
     ensures ended { OnOk result (IsAtEnd (R.remaining reader.new)) }
+    ensures finished { OnOk result (R.at_end reader.new ≡ true) }
     ensures seen { OnOk result (W.seen writer.new ≡ W.contents writer.new) }
     ensures write { MatchResult result
         (λ _. W.has_failed writer.new ≡ false)

@@ -333,16 +333,24 @@ holds_anyhow : (holds : Type 0) (result : Result (Unit {0}) PipeFault) → holds
 holds_anyhow holds (Ok x) so = so
 holds_anyhow holds (Err fault) so = tt
 
+-- what holds where it was read to its end
+pub alone_finished : (head : Head) (input : List ℕ) (left_old left_new : Option (List ℕ)) (failed : Bool) (holds : Type 0)
+    (result : Result (Unit {0}) PipeFault) (held : Option (List ℕ)) → (head ≡ Whole) ⊎ (head ≡ TooLong)
+    → ReadsHead head input left_old left_new failed → (head ≡ Whole → holds)
+    → IsPiped false (rehearsal_of false input) result held held → OnOk result holds
+alone_finished head input left_old left_new failed holds result held (inl is) reads so ends =
+    holds_anyhow holds result (so is)
+alone_finished head input left_old left_new failed holds result held (inr is) reads so ends =
+    let read = subst (λ (h : Head). ReadsHead h input left_old left_new failed) is reads in
+    ends_long input result held holds read.2 read.3 ends
+
 pub alone_ended : (head : Head) (input : List ℕ) (left_old left_new : Option (List ℕ)) (failed : Bool)
     (result : Result (Unit {0}) PipeFault) (held : Option (List ℕ)) → (head ≡ Whole) ⊎ (head ≡ TooLong)
     → ReadsHead head input left_old left_new failed → IsPiped false (rehearsal_of false input) result held held
     → OnOk result (IsAtEnd left_new)
-alone_ended head input left_old left_new failed result held (inl is) reads ends =
-    let read = subst (λ (h : Head). ReadsHead h input left_old left_new failed) is reads in
-    holds_anyhow (IsAtEnd left_new) result read.3
-alone_ended head input left_old left_new failed result held (inr is) reads ends =
-    let read = subst (λ (h : Head). ReadsHead h input left_old left_new failed) is reads in
-    ends_long input result held (IsAtEnd left_new) read.2 read.3 ends
+alone_ended head input left_old left_new failed result held which reads ends =
+    alone_finished head input left_old left_new failed (IsAtEnd left_new) result held which reads
+    (λ is. (subst (λ (h : Head). ReadsHead h input left_old left_new failed) is reads).3) ends
 
 pub pipes_unread : (head : Head) (input : List ℕ) (left_old left_new : Option (List ℕ)) (failed : Bool)
     (held : Option (List ℕ)) → head ≡ Failed → ReadsHead head input left_old left_new failed

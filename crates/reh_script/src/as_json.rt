@@ -1,5 +1,5 @@
 // Runs as a stream of JSON.
-ghost use Rattle.std.specs.Prelude.{◌≡◌, ◌⊎◌, ◌+◌, ◌≤◌, false, is_err, OnOk, OnErr, IfOk, option_map, string_bytes};
+ghost use Rattle.std.specs.Prelude.{◌≡◌, ◌⊎◌, ◌+◌, ◌≤◌, false, true, is_err, OnOk, OnErr, IfOk, option_map, string_bytes};
 ghost use Rattle.std.specs.Io.KnownBytes.{Appends, IsAtEnd};
 ghost use Rattle.std.specs.Option.{option_copied};
 ghost use Rattle.reh_commands.specs.Answers.{asked};
@@ -87,6 +87,7 @@ pub fn run_as_json<V: Surveyor, P: TextIn, R: TextIn, W: TextOut>(
         (P.has_failed picture.new) (P.remaining picture.old) (P.remaining picture.new)
         (R.remaining script.old) (R.before script.new) (W.contents writer.old) (W.seen writer.new) }
     ensures ended { OnOk result (IsAtEnd (R.remaining script.new)) }
+    ensures finished { OnOk result (R.at_end script.new ≡ true) }
     ensures seen { OnOk result (W.seen writer.new ≡ W.contents writer.new) }
     ensures whole { loses_output result ≡ false → W.seen writer.new ≡ W.contents writer.new }
     ensures write { W.has_failed writer.new ≡ loses_output result }

@@ -1,5 +1,5 @@
 // Plays by a seat of a book that it has for itself.
-ghost use Rattle.std.specs.Prelude.{◌≡◌, ◌⊎◌, ◌+◌, ◌≤◌, false, length, OnOk};
+ghost use Rattle.std.specs.Prelude.{◌≡◌, ◌⊎◌, ◌+◌, ◌≤◌, false, length, true, OnOk};
 ghost use Rattle.std.specs.Io.KnownBytes.{IsAtEnd};
 ghost use Rattle.reh_script.specs.BookPlays.{Transcribes, at_book};
 ghost use Rattle.reh_play.specs.Players.{seated};
@@ -42,6 +42,7 @@ pub fn play_book<V: Surveyor, R: TextIn, W: TextOut>(
         (R.remaining reader.old) (R.before reader.new) (seated book.old seat.old)
         (W.contents writer.old) (W.seen writer.new) }
     ensures ended { OnOk result (IsAtEnd (R.remaining reader.new)) }
+    ensures finished { OnOk result (R.at_end reader.new ≡ true) }
     ensures seen { OnOk result (W.seen writer.new ≡ W.contents writer.new) }
     ensures write { W.has_failed writer.new ≡ is_write_fault result }
     ensures calls { R.calls reader.new ≤ R.calls reader.old + (MAX_SCRIPT_BYTES + 1) }

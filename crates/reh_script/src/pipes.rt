@@ -1,5 +1,5 @@
 // From the bytes of the input to the bytes of the transcript.
-ghost use Rattle.std.specs.Prelude.{◌≡◌, ◌⊎◌, ◌+◌, ◌≤◌, ◌<◌, [], false, take, drop, length, List, ℕ, Option, OnOk};
+ghost use Rattle.std.specs.Prelude.{◌≡◌, ◌⊎◌, ◌+◌, ◌≤◌, ◌<◌, [], false, true, take, drop, length, List, ℕ, Option, OnOk};
 ghost use Rattle.std.specs.Io.KnownBytes.{IsAtEnd, prepend_known};
 ghost use Rattle.reh_picture.specs.Pictures.{picture_of};
 ghost use Rattle.reh_lines.specs.Lines.{cut_of};
@@ -40,6 +40,7 @@ pub fn pipe<V: Surveyor, R: TextIn, W: TextOut>(
     ensures prompt { (reader.new ≡ reader.old) ⊎ AnswersGoOut (R.remaining reader.old) (R.before reader.new)
         (W.contents writer.old) (W.seen writer.new) }
     ensures ended { OnOk result (IsAtEnd (R.remaining reader.new)) }
+    ensures finished { OnOk result (R.at_end reader.new ≡ true) }
     ensures seen { OnOk result ((writer.new ≡ writer.old) ⊎ (W.seen writer.new ≡ W.contents writer.new)) }
     ensures write { W.has_failed writer.new ≡ loses_output result }
     ensures calls { R.calls reader.new ≤ R.calls reader.old + MAX_READS }
@@ -85,6 +86,7 @@ fn play_behind<V: Surveyor, R: TextIn, W: TextOut>(
         (prepend_known (drop percent.script input.items) (R.remaining reader.old)) (R.before reader.new)
         (W.contents writer.old) (W.seen writer.new) }
     ensures ended { OnOk result (IsAtEnd (R.remaining reader.new)) }
+    ensures finished { OnOk result (R.at_end reader.new ≡ true) }
     ensures seen { OnOk result (W.seen writer.new ≡ W.contents writer.new) }
     ensures write { W.has_failed writer.new ≡ loses_output result }
     ensures calls { R.calls reader.new ≤ R.calls reader.old + (MAX_SCRIPT_BYTES + 1) }

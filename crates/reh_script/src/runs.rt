@@ -1,5 +1,5 @@
 // From a picture and a script, each of its own reader, to the bytes of the transcript.
-ghost use Rattle.std.specs.Prelude.{◌≡◌, ◌⊎◌, ◌+◌, ◌≤◌, false, OnOk};
+ghost use Rattle.std.specs.Prelude.{◌≡◌, ◌⊎◌, ◌+◌, ◌≤◌, false, true, OnOk};
 ghost use Rattle.std.specs.Io.KnownBytes.{IsAtEnd};
 ghost use Rattle.reh_script.specs.Pipes.{loses_output};
 ghost use Rattle.reh_script.specs.Runs.{Runs, RunsOut};
@@ -36,6 +36,7 @@ pub fn run<V: Surveyor, P: TextIn, R: TextIn, W: TextOut>(
         (P.has_failed picture.new) (P.remaining picture.old) (P.remaining picture.new)
         (R.remaining script.old) (R.before script.new) (W.contents writer.old) (W.seen writer.new) }
     ensures ended { OnOk result (IsAtEnd (R.remaining script.new)) }
+    ensures finished { OnOk result (R.at_end script.new ≡ true) }
     ensures seen { OnOk result (W.seen writer.new ≡ W.contents writer.new) }
     ensures write { W.has_failed writer.new ≡ loses_output result }
     ensures picture_calls { P.calls picture.new ≤ P.calls picture.old + (MAX_PICTURE_BYTES + 1) }

@@ -1,5 +1,6 @@
 // A picture, an inventory or a script that is checked, and nothing played.
-ghost use Rattle.std.specs.Prelude.{◌≡◌, ◌++◌, IfOk, List, string_bytes, ℕ};
+ghost use Rattle.std.specs.Prelude.{◌≡◌, ◌≤◌, ◌++◌, IfOk, List, length, string_bytes, ℕ};
+ghost use Rattle.reh_types.specs.declared.limits.TheConstants.{MAX_SCRIPT_BYTES};
 ghost use Rattle.rehearse.specs.Checks as model;
 
 use reh_check_json::{CheckedScript, picture_json, script_json};
@@ -38,7 +39,22 @@ fn check_lines(rt: &HostRuntime, state: &State, path: &str, as_json: bool) -> Re
     ensures { IfOk result (λ status. (script : List ℕ) × (status ≡ model.check_status state.now.names script)) }
 {
     let script = read_script(rt, path)?;
-    let checked = checked_script(rt.alloc(), state, path, &script, as_json)?;
+    let status = say_checked(rt, state, path, &script, as_json)?;
+    Ok(status)
+}
+
+/// The same of this script, which stands in that file. One that is too long has no status, but what is found is said first.
+fn say_checked(
+    rt: &HostRuntime,
+    state: &State,
+    path: &str,
+    script: &[u8],
+    as_json: bool,
+) -> Result<u8, RunFault>
+    ensures status { IfOk result (λ status. status ≡ model.check_status state.now.names script.now) }
+    ensures few { IfOk result (λ status. length script.now ≤ MAX_SCRIPT_BYTES) }
+{
+    let checked = checked_script(rt.alloc(), state, path, script, as_json)?;
     write_out(rt, checked.text.as_bytes())?;
     if script.len() > MAX_SCRIPT_BYTES {
         return Err(RunFault::TooLong);

@@ -1,6 +1,8 @@
 // A file that is opened late.
-ghost use Rattle.std.specs.Prelude.{◌≡◌, false, None};
+ghost use Rattle.std.specs.Prelude.{◌≡◌, ◌||◌, false, is_err, is_some, length, None};
 ghost use Rattle.std.specs.Io.{ReadsAtMost};
+ghost use Rattle.std.specs.Option.{option_map_or};
+ghost use Rattle.reh_lines.specs.Streams.{found_end};
 
 use reh_files::{RunFault, open_file};
 use reh_script::{FromRead, StreamFault, TextIn};
@@ -13,14 +15,13 @@ pub(crate) struct LateFile<'a> {
     path: &'a str,
     file: Option<FromRead<File>>,
     unopened: Option<RunFault>,
-    has_failed: bool,
     calls: u64,
 }
 
 impl<'a> LateFile<'a> {
     /// The file of this path, of which no read was made yet.
     pub(crate) fn new(rt: &'a HostRuntime, path: &'a str) -> Self
-        ensures fresh { result.has_failed ≡ false }
+        ensures fresh { result.file ≡ None }
         ensures closed { result.unopened ≡ None }
     {
         LateFile {
@@ -28,7 +29,6 @@ impl<'a> LateFile<'a> {
             path,
             file: None,
             unopened: None,
-            has_failed: false,
             calls: 0,
         }
     }
@@ -40,10 +40,13 @@ impl<'a> LateFile<'a> {
         self.unopened
     }
 
-    /// Takes some bytes of the file, which is opened first where it isn't open yet.
+    /// Takes some bytes of the file, which is opened first where it isn't open yet. It fails where that can't be opened, or the
+    /// read fails.
     fn take_opened(&mut self, buffer: &mut [u8]) -> Result<usize, StreamFault>
         ensures bound { ReadsAtMost result buffer.new }
-        ensures failed { self.new.has_failed ≡ self.old.has_failed }
+        ensures failed { (is_some self.new.unopened || option_map_or (λ file. file.has_failed) self.new.file false)
+            ≡ ((is_some self.old.unopened || option_map_or (λ file. file.has_failed) self.old.file false) || is_err result) }
+        ensures end { option_map_or (λ file. file.at_end) self.new.file false ≡ found_end result (length buffer.new) }
         ensures counted { self.new.calls ≡ self.old.calls }
     {
         if let Some(file) = &mut self.file {
@@ -67,18 +70,16 @@ impl<'a> LateFile<'a> {
 impl TextIn for LateFile<'_> {
     ghost remaining = { λ _. None };
 
-    ghost has_failed = { λ s. s.has_failed };
+    ghost has_failed = { λ s. is_some s.unopened || option_map_or (λ file. file.has_failed) s.file false };
 
     ghost calls = { λ s. s.calls };
 
     ghost before = { λ _. None };
 
+    ghost at_end = { λ s. option_map_or (λ file. file.at_end) s.file false };
+
     fn take(&mut self, buffer: &mut [u8]) -> Result<usize, StreamFault> {
         self.calls = self.calls.saturating_add(1);
-        let taken = self.take_opened(buffer);
-        if taken.is_err() {
-            self.has_failed = true;
-        }
-        taken
+        self.take_opened(buffer)
     }
 }

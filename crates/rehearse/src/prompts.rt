@@ -64,6 +64,8 @@ impl<R: TextIn> TextIn for Typed<'_, R> {
 
     ghost before = { λ s. R.before s.inner };
 
+    ghost at_end = { λ s. R.at_end s.inner };
+
     fn take(&mut self, buffer: &mut [u8]) -> Result<usize, StreamFault> {
         self.prompt();
         let taken = self.inner.take(buffer);

@@ -1,5 +1,5 @@
 // Runs whose surveys may be made by several workers.
-ghost use Rattle.std.specs.Prelude.{◌≡◌, ◌⊎◌, false, length, IfOk, OnOk, Some, Err};
+ghost use Rattle.std.specs.Prelude.{◌≡◌, ◌⊎◌, false, true, length, IfOk, OnOk, Some, Err};
 ghost use Rattle.reh_model.specs.Survey as model;
 ghost use Rattle.reh_crew.specs.Surveys.{FindsSurvey};
 ghost use Rattle.reh_script.specs.Pipes.{loses_output};
@@ -40,6 +40,7 @@ pub(crate) fn run_by<T: thread::Threads + Wait + Sync, P: TextIn, R: TextIn, W: 
         (P.has_failed picture.new) (P.remaining picture.old) (P.remaining picture.new)
         (R.remaining script.old) (R.before script.new) (W.contents writer.old) (W.seen writer.new) }
     ensures seen { OnOk result (W.seen writer.new ≡ W.contents writer.new) }
+    ensures finished { OnOk result (R.at_end script.new ≡ true) }
     ensures write { W.has_failed writer.new ≡ loses_output result }
 {
     if crew.workers == 1 {
@@ -72,6 +73,7 @@ fn run_as<V: Surveyor, P: TextIn, R: TextIn, W: TextOut>(
         (P.has_failed picture.new) (P.remaining picture.old) (P.remaining picture.new)
         (R.remaining script.old) (R.before script.new) (W.contents writer.old) (W.seen writer.new) }
     ensures seen { OnOk result (W.seen writer.new ≡ W.contents writer.new) }
+    ensures finished { OnOk result (R.at_end script.new ≡ true) }
     ensures write { W.has_failed writer.new ≡ loses_output result }
 {
     match prints {
@@ -99,6 +101,7 @@ pub(crate) fn play_opened<T: thread::Threads + Wait + Sync, R: TextIn, W: TextOu
         (R.has_failed script.new) (R.remaining script.old) (R.remaining script.new)
         (W.contents writer.old) (W.contents writer.new) }
     ensures seen { OnOk result (W.seen writer.new ≡ W.contents writer.new) }
+    ensures finished { OnOk result (R.at_end script.new ≡ true) }
     ensures write { W.has_failed writer.new ≡ loses_output result }
 {
     if crew.workers == 1 {
@@ -127,6 +130,7 @@ fn play_as<V: Surveyor, R: TextIn, W: TextOut>(
         (R.has_failed script.new) (R.remaining script.old) (R.remaining script.new)
         (W.contents writer.old) (W.contents writer.new) }
     ensures seen { OnOk result (W.seen writer.new ≡ W.contents writer.new) }
+    ensures finished { OnOk result (R.at_end script.new ≡ true) }
     ensures write { W.has_failed writer.new ≡ loses_output result }
 {
     let Opened { book, seat, names } = rehearsal;

@@ -10,7 +10,7 @@ use Rattle.reh_lines.specs.Readings.{reads_past}
 use Rattle.reh_lines.specs.declared.readings.Progress.{Progress}
 use Rattle.reh_play.proofs.Steps.{is_at_start, is_at_kept}
 use Rattle.reh_play.proofs.Turns.{if_err}
-use Rattle.reh_lines.proofs.Standing.{Stands, count_within, end_calls, end_stands, lines_stand, stands_first, stands_on, still_whole, still_within}
+use Rattle.reh_lines.proofs.Standing.{Stands, count_within, end_calls, end_is, end_stands, lines_stand, stands_first, stands_on, still_whole, still_within}
 use Rattle.reh_play.proofs.plays.answer_reads.Goals as goal
 
 pub loop-read-init : goal.loop-read-init
@@ -25,6 +25,7 @@ loop-read-init g c = record {
   within = omega arith;
   count = omega arith;
   fine = c.requires.writes;
+  end = λ is. cc;
   calls = omega arith;
 }
 
@@ -107,6 +108,7 @@ loop-read-preserved g c =
       count = count_within c.loop-read.done c.in-Lines.end c.loop-read.number _ c.loop-read.script.items lines.0 lines.1
           c.loop-read.invariant.count (rw c.deref-in-Lines.ensures.value at c.in_ok-number.ensures.few);
       fine = search rules;
+      end = c.in_ok-read.ensures.end;
       calls = omega (arith, c.loop-read.invariant.calls, ap reads_past c.in-Lines.is, c.in_ok-read.ensures.calls);
     }
 
@@ -193,6 +195,9 @@ returns-clause-ended g c =
     let ends = end_stands c.loop-read.read c.loop-read.done c.loop-read.script.items _ _ _ c.in_default.not-Lines
     c.in-Lines-read.is c.loop-read.invariant.stands in
     ends.2
+
+pub returns-clause-finished : goal.returns-clause-finished
+returns-clause-finished g c = c.loop-read.invariant.end (end_is c.loop-read.read c.in_default.not-Lines c.in-Lines-read.is)
 
 pub returns-clause-prompt : goal.returns-clause-prompt
 returns-clause-prompt g c =

@@ -1,4 +1,4 @@
-use Rattle.std.proofs.Common.{◌≡◌, ℕ, ◌+◌, ◌-◌, ◌≤◌, ◌⊎◌, [], length, take, false}
+use Rattle.std.proofs.Common.{◌≡◌, ℕ, ◌+◌, ◌-◌, ◌≤◌, ◌⊎◌, [], length, take, false, true}
 use Rattle.std.specs.Io.KnownBytes.{prepend_known}
 use Rattle.reh_types.specs.declared.limits.TheConstants.{MAX_SCRIPT_BYTES}
 use Rattle.reh_lines.specs.Lines.{lines_of, ended}
@@ -29,6 +29,7 @@ invariant-loop-read g l = record {
   within : l.done ≤ length l.script.items;
   count : l.number ≤ l.done;
   fine : g.W.TextOut.has_failed l.writer ≡ false;
+  end : l.read ≡ End → g.R.TextIn.at_end l.reader ≡ true;
   calls : g.R.TextIn.calls l.reader ≤ g.R.TextIn.calls l.fn.reader + length l.script.items + reads_past l.read;
 }
 

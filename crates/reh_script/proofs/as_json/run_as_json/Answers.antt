@@ -1,3 +1,4 @@
+use Rattle.std.proofs.Common.{◌≡◌, true}
 use Rattle.std.specs.Io.KnownBytes.{IsAtEnd}
 use Rattle.reh_script.specs.AsJson.{end_text, lines_as_json}
 use Rattle.reh_script.proofs.JsonRuns.{told_well}
@@ -13,3 +14,9 @@ returns-clause-ended g c =
     told_well (IsAtEnd (g.R.TextIn.remaining c.run_printing-end.new.script)) (end_text c.run_printing-end.result)
     c.run_printing-end.result c.tell_end.result (g.W.TextOut.contents c.run_printing-end.new.writer)
     (g.W.TextOut.contents c.tell_end.new.writer) c.tell_end.ensures.told c.run_printing-end.ensures.ended
+
+pub returns-clause-finished : goal.returns-clause-finished
+returns-clause-finished g c =
+    told_well (g.R.TextIn.at_end c.run_printing-end.new.script ≡ true) (end_text c.run_printing-end.result)
+    c.run_printing-end.result c.tell_end.result (g.W.TextOut.contents c.run_printing-end.new.writer)
+    (g.W.TextOut.contents c.tell_end.new.writer) c.tell_end.ensures.told c.run_printing-end.ensures.finished

@@ -1,5 +1,6 @@
 use Rattle.reh_script.proofs.Piped.{pipes_none, pipes_ended, pipes_alone, pipes_unread, alone_has_none}
-use Rattle.reh_script.proofs.Piped.{alone_ended, out_of_head, out_ended}
+use Rattle.std.proofs.Common.{◌≡◌, true}
+use Rattle.reh_script.proofs.Piped.{alone_ended, alone_finished, out_of_head, out_ended}
 use Rattle.reh_script.proofs.pipes.pipe.Goals as goal
 
 pub returns-in_err-percent-clause-pipes : goal.returns-in_err-percent-clause-pipes
@@ -38,6 +39,14 @@ returns-in-Whole-clause-ended g c =
     alone_ended c.in_ok-percent.field-0 c.read_head.new.input.items (g.R.TextIn.remaining c.args.reader.now)
     (g.R.TextIn.remaining c.read_head.new.reader) (g.R.TextIn.has_failed c.read_head.new.reader) c.open_whole.result
     (g.W.TextOut.contents c.args.writer.now) c.in-Whole.is c.in_ok-percent.ensures.head
+    (rw c.deref.ensures.value at (c.open_whole.ensures.piped (g.W.TextOut.contents c.args.writer.now)))
+
+pub returns-in-Whole-clause-finished : goal.returns-in-Whole-clause-finished
+returns-in-Whole-clause-finished g c =
+    alone_finished c.in_ok-percent.field-0 c.read_head.new.input.items (g.R.TextIn.remaining c.args.reader.now)
+    (g.R.TextIn.remaining c.read_head.new.reader) (g.R.TextIn.has_failed c.read_head.new.reader)
+    (g.R.TextIn.at_end c.read_head.new.reader ≡ true) c.open_whole.result (g.W.TextOut.contents c.args.writer.now) c.in-Whole.is
+    c.in_ok-percent.ensures.head c.in_ok-percent.ensures.end
     (rw c.deref.ensures.value at (c.open_whole.ensures.piped (g.W.TextOut.contents c.args.writer.now)))
 
 pub returns-in-Failed-clause-pipes : goal.returns-in-Failed-clause-pipes

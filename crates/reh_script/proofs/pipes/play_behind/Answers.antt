@@ -28,5 +28,8 @@ returns-clause-prompt g c =
 pub returns-clause-ended : goal.returns-clause-ended
 returns-clause-ended g c = piped_well _ c.play_on-end.result _ c.pipe_end.ensures.end c.play_on-end.ensures.ended
 
+pub returns-clause-finished : goal.returns-clause-finished
+returns-clause-finished g c = piped_well _ c.play_on-end.result _ c.pipe_end.ensures.end c.play_on-end.ensures.finished
+
 pub returns-clause-seen : goal.returns-clause-seen
 returns-clause-seen g c = piped_well _ c.play_on-end.result _ c.pipe_end.ensures.end c.play_on-end.ensures.seen

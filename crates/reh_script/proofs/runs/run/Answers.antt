@@ -25,5 +25,8 @@ returns-clause-prompt g c =
 pub returns-clause-ended : goal.returns-clause-ended
 returns-clause-ended g c = piped_well _ c.play_book-end.result _ c.pipe_end.ensures.end c.play_book-end.ensures.ended
 
+pub returns-clause-finished : goal.returns-clause-finished
+returns-clause-finished g c = piped_well _ c.play_book-end.result _ c.pipe_end.ensures.end c.play_book-end.ensures.finished
+
 pub returns-clause-seen : goal.returns-clause-seen
 returns-clause-seen g c = piped_well _ c.play_book-end.result _ c.pipe_end.ensures.end c.play_book-end.ensures.seen

@@ -42,8 +42,8 @@ loop-ledger-preserved c =
     (c.in_ok-add.ensures.added (take (length c.loop-ledger.yielded) c.args.ids.now) (map alone c.loop-ledger.yielded)
     c.loop-ledger.invariant)
 
-pub returns : goal.returns
-returns c =
+pub returns-clause-weighed : goal.returns-clause-weighed
+returns-clause-weighed c =
     let given = c.into_iter-ledger-iterator.ensures.into_iter_gives in
     let all =
     YieldsList-end

@@ -9,7 +9,7 @@ pub returns : goal.returns
 returns c =
     let rules : Rules = c.args.workers.now.rules in
     let d : Draft = c.args.plan.now in
-    let may = c.in_ok-worker.ensures in
+    let may = c.in_ok-worker.ensures.may in
     let tried : Works rules d c.check_grant.new.plan =
     works_tried rules d c.check_grant.new.plan c.check_grant.ensures in
     works_done rules d c.lock.new.plan c.work.new.self _ c.work.result c.work.ensures.ok c.work.ensures.err
