@@ -79,7 +79,7 @@ opens_count (Err fault) count room opened = absurd opened
 
 -- Outcomes
 
--- a play that ended for lack of memory for its transcript, or for any other fault
+-- a play that ended because there was no memory for its transcript, or for any other fault
 pub ended_wanting : (fault : PlayFault) → is_write_fault (Err fault) ≡ true
     → fault_in_memory (Err fault) ≡ Some play_fault.NoMemory
 ended_wanting play_fault.ReadFault is = absurd (false≢true is)

@@ -16,7 +16,8 @@ pub enum RunFault {
     Picture(PictureFault),
     /// The picture is refused, and where: the one that is checked or planned for, or the one of several in this file.
     Refused(Option<String>, LocatedFault),
-    /// Inputs can't be judged together, for the reason that this says.
+    /// What was read can't be used, alone or together, for the reason that this says: files of a question, a script that is played
+    /// first, what is to be cut or planned for.
     Unfit(String),
     /// Bookies of the command line are misnamed, as this says.
     Misnamed(String),
@@ -28,7 +29,7 @@ pub enum RunFault {
     TooLong,
     /// A write failed, or took no byte.
     WriteFault,
-    /// The picture of the state at the end can't be written, for the reason that this says.
+    /// A file can't be written, for the reason that this says: the picture of the state at the end, or one of a plan's.
     Unwritten(String),
     /// There is no memory.
     NoMemory,

@@ -23,7 +23,7 @@ use Rattle.reh_inventory_plan.specs.declared.planner.Planner.{Planner}
 
 -- One ledger
 
--- want of memory ends the run, and is no reason why one ledger has no plan
+-- a run that is out of memory ends: that is no reason why one ledger has no plan
 abbrev pub IsReason : Unplanned → Type 0
 IsReason reason.NoMemory = ⊥
 IsReason why = Unit {0}

@@ -68,8 +68,8 @@ impl From<AllocError> for Stopped {
 ///
 /// All lines that are complete are answered, and their answers handed on, before more is read. A script that is too
 /// long, and one after which a read fails, have the lines answered that end in time. Whatever ends the play, it gives
-/// back what it has neither spent nor given back. Where it ends for lack of memory or of a thread, the answers of the
-/// last lines are written, and not yet handed on.
+/// back what it has neither spent nor given back. Where it ends out of memory, or without a thread, the answers of the last
+/// lines are written, and not yet handed on.
 pub fn play<C: Counter, V: Surveyor, R: TextIn, W: TextOut>(
     alloc: Global,
     counter: &mut C,

@@ -39,7 +39,7 @@ pub record TranscribesPart (names : List (List ℕ)) (seat : ℕ) (lines : List 
   pub taken : b ≡ end_of seat (after_line names seat (after_lines names seat p done) line)
   pub written : Appends old new (transcript names seat p 1 done ++ part)
 
--- The command makes this call, which may want memory.
+-- The command makes this call, for which there may be no memory.
 abbrev pub CallMayWant : ℕ → BookPlayer → Option Call → Type 0
 CallMayWant seat p None = ⊥
 CallMayWant seat p (Some call) = model.MayWantMemory call (answer_to p.book seat call)
@@ -50,7 +50,7 @@ MayWantMemory seat p None = ⊥
 MayWantMemory seat p (Some (Ok command)) = CallMayWant seat p (call_of command p.hand)
 MayWantMemory seat p (Some (Err fault)) = ⊥
 
--- A line that has an answer was not answered: it was taken or, where its call may want memory, was not.
+-- A line that has an answer was not answered: it was taken or, where there may be no memory for its call, was not.
 abbrev pub LacksAnswer : List (List ℕ) → ℕ → BookPlayer → List ℕ → Book → Type 0
 LacksAnswer names seat p line b =
     IsSome (asked names line)

@@ -124,7 +124,7 @@ How an answer reads:
     ],
     zero: "the answer is yes",
     words: "the words of the command line are wrong, or name a bookie or rack that is unknown, or one twice",
-    read: "a file can't be read",
+    read: "a file can't be read, or a script is longer than 1 MiB",
     write: "an answer can't be written",
     more: ["8  the answer is no", "9  the answer is unknown"]
 );
@@ -137,7 +137,7 @@ pub(crate) const WAVES: &str = after!(
     uses: ["waves examples/racks.json", "waves --racks examples/racks.json"],
     zero: "the answer is printed",
     words: "the words of the command line are wrong",
-    read: "a file can't be read",
+    read: "a file can't be read, or a script is longer than 1 MiB",
     write: "an answer can't be written",
     more: []
 );
@@ -150,7 +150,7 @@ pub(crate) const RISK: &str = after!(
     uses: ["risk examples/cluster.json", "risk --pairs examples/racks.json"],
     zero: "the answer is printed",
     words: "the words of the command line are wrong",
-    read: "a file can't be read",
+    read: "a file can't be read, or a script is longer than 1 MiB",
     write: "an answer can't be written",
     more: []
 );
@@ -166,7 +166,7 @@ pub(crate) const CENSUS: &str = after!(
     ],
     zero: "the answer is printed",
     words: "the words of the command line are wrong",
-    read: "a file can't be read",
+    read: "a file can't be read, or a script is longer than 1 MiB",
     write: "an answer can't be written",
     more: []
 );
@@ -195,11 +195,11 @@ pub(crate) const PLAN: &str = after!(
         "plan --lose b2:3181 examples/cluster.json",
         "plan --lose b2:3181 --to b4:3181,b5:3181 examples/cluster.json"
     ],
-    zero: "nothing is left to do, and each entry of a fragment whose entries are known can be read",
+    zero: "nothing is left to do, each entry of a fragment whose entries are known can be read, and each ledger of an inventory was read",
     words: "the words of the command line are wrong, or name a bookie or rack that is unknown, or one twice",
     read: "a file can't be read, or a script is longer than 1 MiB",
     write: "an answer can't be written",
-    more: ["8  something is left to do, or an entry can't be read"]
+    more: ["8  something is left to do, an entry can't be read, or a ledger of an inventory wasn't read"]
 );
 
 /// Of `help`.

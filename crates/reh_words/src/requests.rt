@@ -116,12 +116,7 @@ fn all_ways(alloc: Global) -> Result<String, AllocError> {
     Ok(ways)
 }
 
-/// The command line: no word, `run PICTURE SCRIPT --changes --json --workers N --picture-out FILE`,
-/// `talk PICTURE --changes --json`, `check --format json PICTURE SCRIPT`, `drill PICTURE SCRIPT..`,
-/// `ok-to-stop --lose BOOKIE,.. FILE..`, `waves FILE..`, `risk FILE..`, `census FILE..`,
-/// `cut --ledgers ID,.. --window K INVENTORY`,
-/// `plan --lose BOOKIE,.. --to BOOKIE,.. --min-racks R --writers-roll --expect --summary --format json --after SCRIPT PICTURE`,
-/// or `help TOPIC`.
+/// The command line: the program without a command, its commands, each with the words of its table in `commands.rt`, and `help`.
 fn command<'a>(alloc: Global, ways: &'a str) -> Result<Command<'a>, AllocError> {
     let commands = subcommands(alloc)?;
     let program = with_style(alloc, program(alloc, ways))?;

@@ -52,7 +52,7 @@ pub(crate) fn after_flush(
     }
 }
 
-/// Whether a command line wasn't read for lack of memory.
+/// Whether a command line wasn't read because memory ran out.
 pub(crate) fn want_of_memory(error: &Error) -> Result<(), RunFault> {
     match error.kind() {
         ErrorKind::OutOfMemory => Err(RunFault::NoMemory),
