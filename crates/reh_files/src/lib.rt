@@ -3,6 +3,7 @@
 
 mod faults;
 mod files;
+mod late;
 mod looks;
 mod progress;
 
@@ -11,5 +12,6 @@ pub use files::{
     INVENTORY_BEGINS, InputBytes, PICTURE_BYTES, open_file, read_input_file, read_on, read_picture,
     read_script, read_scripts, unread, unwritten, write_out,
 };
+pub use late::LateFile;
 pub use looks::{Looks, say_fault, show_answer};
 pub use progress::{Progress, Teller};

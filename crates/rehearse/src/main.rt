@@ -13,7 +13,6 @@ mod cuts;
 mod endings;
 mod helps;
 mod inventory_plans;
-mod late;
 mod outs;
 mod plans;
 mod prompts;
@@ -25,13 +24,14 @@ use colors::Colored;
 use cuts::cut_over;
 use endings::{after_flush, of_drill, of_pipe, want_of_memory};
 use helps::help_on;
-use late::LateFile;
 use outs::run_out;
 use plans::plan_file;
 use prompts::{Typed, tell_input};
 use reh_crew::{OpenGate, Plain};
 use reh_drill::drill_over;
-use reh_files::{Looks, RunFault, open_file, read_picture, read_scripts, say_fault, status_of};
+use reh_files::{
+    LateFile, Looks, RunFault, open_file, read_picture, read_scripts, say_fault, status_of,
+};
 use reh_questions::{census_over, end_on, picture_of, risk_over, stop_over, waves_over};
 use reh_script::{FromRead, Gathered, TextOut, ToWrite, pipe};
 use reh_words::{Crew, DrillFiles, PlayWords, Prints, Request, Task, request_of};

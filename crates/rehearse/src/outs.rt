@@ -6,10 +6,9 @@ ghost use Rattle.reh_picture_out.specs.Marks.{KeepsMarksIn};
 
 use crate::colors::Colored;
 use crate::endings::{after_flush, of_pipe};
-use crate::late::LateFile;
 use crate::runs::{play_opened, tell_unbegun};
 use reh_cluster::State;
-use reh_files::{Looks, RunFault, read_picture, unwritten};
+use reh_files::{LateFile, Looks, RunFault, read_picture, unwritten};
 use reh_known::{doubt_text, first_doubt};
 use reh_picture::{Holding, Listed, PictureFault, list_picture};
 use reh_picture_out::{Unshown, picture_text};

@@ -4,13 +4,14 @@ ghost use Rattle.std.specs.Io.{ReadsAtMost};
 ghost use Rattle.std.specs.Option.{option_map_or};
 ghost use Rattle.reh_lines.specs.Streams.{found_end};
 
-use reh_files::{RunFault, open_file};
-use reh_script::{FromRead, StreamFault, TextIn};
+use crate::faults::RunFault;
+use crate::files::open_file;
+use reh_lines::{FromRead, StreamFault, TextIn};
 use std::fs::File;
 
 /// A file that is opened at its first read, so that what is read before it is judged before it.
 #[derive(Drop)]
-pub(crate) struct LateFile<'a> {
+pub struct LateFile<'a> {
     rt: &'a HostRuntime,
     path: &'a str,
     file: Option<FromRead<File>>,
@@ -20,7 +21,7 @@ pub(crate) struct LateFile<'a> {
 
 impl<'a> LateFile<'a> {
     /// The file of this path, of which no read was made yet.
-    pub(crate) fn new(rt: &'a HostRuntime, path: &'a str) -> Self
+    pub fn new(rt: &'a HostRuntime, path: &'a str) -> Self
         ensures fresh { result.file ≡ None }
         ensures closed { result.unopened ≡ None }
     {
@@ -34,7 +35,7 @@ impl<'a> LateFile<'a> {
     }
 
     /// Why it could not be opened, if it could not.
-    pub(crate) fn into_unopened(self) -> Option<RunFault>
+    pub fn into_unopened(self) -> Option<RunFault>
         ensures { result ≡ self.entry.unopened }
     {
         self.unopened
