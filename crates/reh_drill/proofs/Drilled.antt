@@ -351,19 +351,28 @@ closes_as desk seats (Err f) (Ok done) old new is own book ends = absurd ends
 closes_as desk seats (Err f) (Err e) old new is own book ends =
     inl (inl (f.cause, cause_is desk seats f.cause own book, ends.0), ends.1)
 
--- where there is no memory for its text
-pub closed_untold : (closed : Closed) (result : Result (Unit {0}) DrillFault) (old : Option (List ℕ))
-    → IsErrAnd result (λ e. e ≡ NoMemory) → EndsClosed (Ok closed) result old old
-closed_untold closed (Ok done) old is = absurd is
-closed_untold closed (Err e) old is = inl (is, Keeps-refl old)
+-- of one that closed: where there is no memory for its text
+pub closed_untold : (answer : Result Closed CloseFault) (closed : Closed) (result : Result (Unit {0}) DrillFault)
+    (old : Option (List ℕ)) → answer ≡ Ok closed → IsErrAnd result (λ e. e ≡ NoMemory) → EndsClosed answer result old old
+closed_untold answer closed (Ok done) old closes is = absurd is
+closed_untold answer closed (Err e) old closes is =
+    subst (λ (a : Result Closed CloseFault). EndsClosed a (Err e) old old) (sym closes) (inl (is, Keeps-refl old))
 
 -- where a write fails
-pub closed_short : (closed : Closed) (text : List ℕ) (lost : StreamFault) (result : Result (Unit {0}) DrillFault)
-    (old new : Option (List ℕ)) → text ≡ closed_text closed → Writes (Err lost) text old new
-    → IsErrAnd result (λ e. e ≡ WriteFault) → EndsClosed (Ok closed) result old new
-closed_short closed text lost (Ok done) old new told part is = absurd is
-closed_short closed text lost (Err e) old new told part is =
-    inr (is, subst (λ (t : List ℕ). Writes (Err lost) t old new) told part)
+pub closed_short : (answer : Result Closed CloseFault) (closed : Closed) (text : List ℕ) (lost : StreamFault)
+    (result : Result (Unit {0}) DrillFault) (old new : Option (List ℕ)) → answer ≡ Ok closed → text ≡ closed_text closed
+    → Writes (Err lost) text old new → IsErrAnd result (λ e. e ≡ WriteFault) → EndsClosed answer result old new
+closed_short answer closed text lost (Ok done) old new closes told part is = absurd is
+closed_short answer closed text lost (Err e) old new closes told part is =
+    subst (λ (a : Result Closed CloseFault). EndsClosed a (Err e) old new) (sym closes)
+    (inr (is, subst (λ (t : List ℕ). Writes (Err lost) t old new) told part))
+
+-- where all is written
+pub closed_whole : (answer : Result Closed CloseFault) (closed : Closed) (text : List ℕ) (old new : Option (List ℕ))
+    → answer ≡ Ok closed → text ≡ closed_text closed → Appends old new text → EndsClosed answer (Ok tt) old new
+closed_whole answer closed text old new closes told written =
+    subst (λ (a : Result Closed CloseFault). EndsClosed a (Ok tt) old new) (sym closes)
+    (subst (λ (t : List ℕ). Appends old new t) told written)
 
 -- Ends of a drill
 
