@@ -195,11 +195,11 @@ pub(crate) const PLAN: &str = after!(
         "plan --lose b2:3181 examples/cluster.json",
         "plan --lose b2:3181 --to b4:3181,b5:3181 examples/cluster.json"
     ],
-    zero: "nothing is left to do, each entry of a fragment whose entries are known can be read, and each ledger of an inventory was read",
+    zero: "nothing is left to do, no known entry is lost, and of an inventory no ledger is unread",
     words: "the words of the command line are wrong, or name a bookie or rack that is unknown, or one twice",
     read: "a file can't be read, or a script is longer than 1 MiB",
     write: "an answer can't be written",
-    more: ["8  something is left to do, an entry can't be read, or a ledger of an inventory wasn't read"]
+    more: ["8  something is left to do, a known entry is lost, or a ledger of an inventory is unread"]
 );
 
 /// Of `help`.
